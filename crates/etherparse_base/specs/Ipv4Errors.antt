@@ -1,0 +1,29 @@
+-- The texts of the errors of IPv4 headers and their options.
+use Rattle.std.specs.Prelude.{ℕ, List, ◌++◌, codes}
+use Rattle.std.specs.Fmt.{decimal}
+use Rattle.etherparse_base.specs.declared.err.ipv4.bad_options_len.BadOptionsLen.{BadOptionsLen}
+use Rattle.etherparse_base.specs.declared.err.ipv4.header_error.HeaderError.{HeaderError}
+use Rattle.etherparse_base.specs.declared.err.ipv4.header_error.HeaderError.TheVariants.{UnexpectedVersion, HeaderLengthSmallerThanHeader}
+use Rattle.etherparse_base.specs.declared.err.ipv4.header_slice_error.HeaderSliceError.{HeaderSliceError}
+use Rattle.etherparse_base.specs.declared.err.ipv4.header_slice_error.HeaderSliceError.TheVariants.{Len, Content}
+use Rattle.etherparse_base.specs.LenError.{len_error_text}
+
+-- the text of the error of options that have no fitting length
+abbrev pub bad_options_len_text : BadOptionsLen → List ℕ
+bad_options_len_text e =
+    codes "Slice of length " ++ (decimal e.bad_len
+    ++ codes " cannot be set as IPv4 header options. The length must be a multiple of 4 and at maximum 40.")
+
+-- the text of a header's error
+abbrev pub ipv4_header_error_text : HeaderError → List ℕ
+ipv4_header_error_text (UnexpectedVersion version_number) =
+    codes "IPv4 Header Error: Encountered '" ++ (decimal version_number
+    ++ codes "' as IP version number in the IPv4 header (must be '4' in an IPv4 header).")
+ipv4_header_error_text (HeaderLengthSmallerThanHeader ihl) =
+    codes "IPv4 Header Error: The 'internet header length' value '" ++ (decimal ihl
+    ++ codes "' present in the IPv4 header is smaller than the minimum size of an IPv4 header. The minimum allowed value is '5'.")
+
+-- the text of a slice's error is that of what it holds
+abbrev pub ipv4_header_slice_error_text : HeaderSliceError → List ℕ
+ipv4_header_slice_error_text (Len e) = len_error_text e
+ipv4_header_slice_error_text (Content e) = ipv4_header_error_text e

@@ -1,0 +1,23 @@
+-- The values that a header has room for: their names.
+use Rattle.std.specs.Prelude.{ℕ, List, codes}
+use Rattle.etherparse_base.specs.declared.err.value_type.ValueType.{ValueType}
+use Rattle.etherparse_base.specs.declared.err.value_type.ValueType.TheVariants.{VlanId, VlanPcp, MacsecAn, MacsecShortLen, IpFragmentOffset, IpDscp, IpEcn, Ipv6FlowLabel, Ipv4PayloadLength, Ipv6PayloadLength, UdpPayloadLengthIpv4, UdpPayloadLengthIpv6, TcpPayloadLengthIpv4, TcpPayloadLengthIpv6, Icmpv6PayloadLength, LinuxSllType}
+
+-- the name of a value, as an error's text has it
+abbrev pub value_type_text : ValueType → List ℕ
+value_type_text VlanId = codes "VLAN ID"
+value_type_text VlanPcp = codes "VLAN PCP (Priority Code Point)"
+value_type_text MacsecAn = codes "MACsec AN (Association Number)"
+value_type_text MacsecShortLen = codes "MACsec SL (Short Length)"
+value_type_text IpFragmentOffset = codes "IP Fragment Offset"
+value_type_text IpDscp = codes "IPv4 DSCP (Differentiated Services Code Point)"
+value_type_text IpEcn = codes "IPv4 ECN (Explicit Congestion Notification)"
+value_type_text Ipv6FlowLabel = codes "IPv6 Flow Label"
+value_type_text Ipv4PayloadLength = codes "IPv4 Header 'Payload Length' (sets 'Total Length')"
+value_type_text Ipv6PayloadLength = codes "IPv6 Header 'Payload Length'"
+value_type_text UdpPayloadLengthIpv4 = codes "UDP Payload Length (in IPv4 checksum calculation)"
+value_type_text UdpPayloadLengthIpv6 = codes "UDP Payload Length (in IPv6 checksum calculation)"
+value_type_text TcpPayloadLengthIpv4 = codes "TCP Payload Length (in IPv4 checksum calculation)"
+value_type_text TcpPayloadLengthIpv6 = codes "TCP Payload Length (in IPv6 checksum calculation)"
+value_type_text Icmpv6PayloadLength = codes "ICMPv6 Payload Length"
+value_type_text LinuxSllType = codes "Linux Cooked Capture v1 (SLL)"

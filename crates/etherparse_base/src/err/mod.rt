@@ -1,0 +1,13 @@
+//! The errors of the header crates.
+
+pub mod ipv4;
+pub mod ipv6;
+mod layer;
+mod len_error;
+mod value_too_big_error;
+mod value_type;
+
+pub use layer::Layer;
+pub use len_error::LenError;
+pub use value_too_big_error::ValueTooBigError;
+pub use value_type::ValueType;
