@@ -1,0 +1,13 @@
+-- What the room for options ends as, where its front is lent. No public clause cites this module.
+use Rattle.std.specs.Prelude.{ℕ, List, ◌++◌, length, drop}
+use Rattle.std.specs.Borrow.{Lends, MutBor, Fml, Array, u8}
+use Rattle.etherparse_fields.specs.declared.net.ipv4_options.buffer.Buffer.{Buffer}
+use Rattle.etherparse_fields.specs.contracts.net.ipv4_options.buffer.Buffer.{the_row}
+
+-- the room once it begins with these bytes
+abbrev pub with_front : Buffer → List ℕ → Buffer
+with_front buffer front = record { bytes = front ++ drop (length front) buffer.bytes }
+
+-- once the borrow ends, the room begins with the bytes that were left behind it
+abbrev pub LendsFront : MutBor Buffer → MutBor (List ℕ) → Fml
+LendsFront buffer front = Lends the_row (Array u8 0) buffer front (with_front buffer.now)

@@ -1,0 +1,13 @@
+//! The fields of IP headers that have fewer values than their machine number, and the protocol numbers.
+#![tactic(auto)]
+
+mod net;
+#[cfg(test)]
+mod testing;
+
+pub use net::ip_dscp::IpDscp;
+pub use net::ip_ecn::IpEcn;
+pub use net::ip_frag_offset::IpFragOffset;
+pub use net::ip_number_impl::IpNumber;
+pub use net::ipv4_options::Ipv4Options;
+pub use net::ipv6_flow_label::Ipv6FlowLabel;

@@ -1,0 +1,104 @@
+ghost use Rattle.std.specs.Prelude.{ℕ, ◌≡◌, ◌≤◌, Some};
+ghost use Rattle.std.specs.Fmt.{decimal};
+ghost use Rattle.etherparse_base.specs.ValueTooBigError.{NumberOrTooBig};
+ghost use Rattle.etherparse_base.specs.declared.err.value_type.ValueType.TheVariants as value_type;
+
+use etherparse_base::err::{ValueTooBigError, ValueType};
+use std::fmt;
+use std::marker::Model;
+
+/// The flow label of an IPv6 header, a number of 20 bits (RFC 8200 sections 3 and 6).
+#[derive(Clone, Copy, Debug, PartialEq, Eq, PartialOrd, Ord, Hash)]
+pub struct Ipv6FlowLabel(u32);
+
+/// A contract sees the number itself.
+impl Model for Ipv6FlowLabel {
+    ghost Value = { ℕ };
+
+    ghost view = { λ label. label.0 };
+
+    ghost invariant = { λ label. label.0 ≤ 1048575 };
+
+    ghost inverse = { λ number. record { 0 = number } };
+}
+
+impl Ipv6FlowLabel {
+    /// The flow label 0, of a packet that belongs to no flow.
+    pub const ZERO: Ipv6FlowLabel = Ipv6FlowLabel(0);
+
+    /// The greatest flow label, as a number: 1048575.
+    pub const MAX_U32: u32 = 0xf_ffff;
+
+    /// The flow label of a number.
+    ///
+    /// # Errors
+    ///
+    /// A `ValueTooBigError` where the number needs more than 20 bits, which is above [`Ipv6FlowLabel::MAX_U32`].
+    #[inline]
+    pub const fn try_new(value: u32) -> Result<Ipv6FlowLabel, ValueTooBigError<u32>>
+        ensures { NumberOrTooBig (λ label. label) 1048575 value_type.Ipv6FlowLabel value result }
+    {
+        if value <= Ipv6FlowLabel::MAX_U32 {
+            Ok(Ipv6FlowLabel(value))
+        } else {
+            Err(ValueTooBigError {
+                actual: value,
+                max_allowed: Ipv6FlowLabel::MAX_U32,
+                value_type: ValueType::Ipv6FlowLabel,
+            })
+        }
+    }
+
+    /// The number, of at most 20 bits.
+    #[inline]
+    pub const fn value(self) -> u32
+        ensures value { result ≡ self }
+        ensures within { self ≤ 1048575 }
+    {
+        self.0
+    }
+}
+
+/// The flow label 0.
+impl Default for Ipv6FlowLabel {
+    ghost is_default = { λ label. label ≡ 0 };
+
+    #[inline]
+    fn default() -> Ipv6FlowLabel {
+        Ipv6FlowLabel::ZERO
+    }
+}
+
+/// Writes the number in decimal digits.
+impl fmt::Display for Ipv6FlowLabel {
+    ghost output = { λ label. Some (decimal label) };
+
+    #[inline]
+    fn fmt<W: fmt::Write>(&self, f: &mut fmt::Formatter<W>) -> fmt::Result {
+        self.0.fmt(f)
+    }
+}
+
+impl From<Ipv6FlowLabel> for u32 {
+    ghost from_gives = { λ label number. number ≡ label };
+
+    #[inline]
+    fn from(value: Ipv6FlowLabel) -> u32 {
+        value.0
+    }
+}
+
+/// Refuses what [`Ipv6FlowLabel::try_new`] refuses.
+impl TryFrom<u32> for Ipv6FlowLabel {
+    type Error = ValueTooBigError<u32>;
+
+    ghost try_from_gives = { NumberOrTooBig (λ label. label) 1048575 value_type.Ipv6FlowLabel };
+
+    #[inline]
+    fn try_from(value: u32) -> Result<Ipv6FlowLabel, ValueTooBigError<u32>> {
+        Ipv6FlowLabel::try_new(value)
+    }
+}
+
+#[cfg(test)]
+mod tests;

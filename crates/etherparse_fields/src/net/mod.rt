@@ -1,0 +1,8 @@
+//! One module for each field.
+
+pub mod ip_dscp;
+pub mod ip_ecn;
+pub mod ip_frag_offset;
+pub mod ip_number_impl;
+pub mod ipv4_options;
+pub mod ipv6_flow_label;
