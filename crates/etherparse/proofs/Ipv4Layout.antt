@@ -1,0 +1,382 @@
+-- Laws of the IPv4 layout.
+use Rattle.std.proofs.Common.{ℕ, zero, suc, ◌≡◌, ◌+◌, ◌-◌, ◌*◌, ◌/◌, ◌%◌, ◌^◌, ◌<◌, ◌≤◌, List, [], ◌∷◌, ◌++◌, length, get_or, get_or-set_other, take, drop, refl, sym, subst, ap, ◌∙◌, inl, inr, arith, append_assoc, length-append, length-drop, Bool, true, false}
+use Rattle.std.specs.Prelude.{◌↔◌, bit_and, not, nat_eq}
+use Rattle.std.specs.List.{slice_range}
+use Rattle.std.specs.Int.{from_be_bytes, from_bool, to_be_bytes, w16}
+use Rattle.std.proofs.lemmas.Bool.{cases_eq, eq-eqb, ne_eqb}
+use Rattle.std.proofs.lemmas.List.{drop_at, take_at}
+use Rattle.std.proofs.lemmas.Grind.{get_or-set_at}
+use Rattle.std.proofs.lemmas.List.Folds.{drop_split}
+use Rattle.std.proofs.lemmas.Nat.{be_bytes_2, from_be_bytes-to_be_bytes_2}
+use Rattle.std.proofs.lemmas.Nat.Bits.{and_pow}
+use Rattle.etherparse_base.specs.Bytes.{IsBytes}
+use Rattle.etherparse_fields.specs.IpEcn.{ecn_value}
+use Rattle.etherparse_fields.specs.Ipv4Options.{IsOptionsLen}
+use Rattle.etherparse_fields.specs.declared.net.ip_ecn.IpEcn.{IpEcn}
+use Rattle.etherparse_fields.specs.declared.net.ip_ecn.IpEcn.TheVariants.{CongestionExperienced, Ect0, Ect1, NotEct}
+use Rattle.etherparse.proofs.Parts.{get_or-slice_range, length-part, listed, part_is_bytes}
+use Rattle.etherparse.specs.FirstByte.{ihl_of, version_of}
+use Rattle.etherparse.specs.Ipv4Header.{HasFieldRanges, IsIpv4Layout, ipv4_ihl, with_reserved_bit_cleared}
+use Rattle.etherparse.specs.declared.net.ipv4_header.Ipv4Header.{Ipv4Header}
+
+-- a bool as a number
+pub from_bool-lt : (b : Bool) → from_bool b < 2
+from_bool-lt true = omega arith
+from_bool-lt false = omega arith
+
+same_bool : (a b : Bool) → from_bool a ≡ from_bool b → a ≡ b
+same_bool true true e = refl
+same_bool true false e = absurd (omega (arith, e))
+same_bool false true e = absurd (omega (arith, e))
+same_bool false false e = refl
+
+-- a code point as a number
+pub ecn_value-lt : (e : IpEcn) → ecn_value e < 4
+ecn_value-lt NotEct = omega arith
+ecn_value-lt Ect1 = omega arith
+ecn_value-lt Ect0 = omega arith
+ecn_value-lt CongestionExperienced = omega arith
+
+-- the length and the first byte of a header
+pub version_of-layout : (h : Ipv4Header) (r : ℕ) (p : List ℕ) → IsIpv4Layout h r p → version_of p ≡ 4
+version_of-layout h r p l = omega (arith, l.version_ihl, l.options_len.fits)
+
+pub ihl_of-layout : (h : Ipv4Header) (r : ℕ) (p : List ℕ) → IsIpv4Layout h r p → ihl_of p ≡ ipv4_ihl h
+ihl_of-layout h r p l = omega (arith, l.version_ihl, l.options_len.fits)
+
+pub length-layout : (h : Ipv4Header) (r : ℕ) (p : List ℕ) → IsIpv4Layout h r p → length p ≡ 4 * ihl_of p
+length-layout h r p l = let i = ihl_of-layout h r p l in omega (arith, l.len, l.options_len.in_words)
+
+-- the flags and the fragment offset as a number
+flags_of : (h : Ipv4Header) (r : ℕ) (p : List ℕ) → IsIpv4Layout h r p
+    → get_or p 6 0 * 2 ^ 8 + get_or p 7 0 ≡ r * 2 ^ 15 + from_bool h.dont_fragment * 2 ^ 14 + from_bool h.more_fragments * 2 ^ 13 + h.fragment_offset
+flags_of h r p l =
+    let e = l.flags_fragment_offset in
+    let e0 = get_or-slice_range p 6 8 0 (omega arith) in
+    let e1 = get_or-slice_range p 6 8 1 (omega arith) in
+    omega arith
+
+-- a bit of byte 6, which has the flags in front of the offset
+dont_fragment_of : (b c r df mf off : ℕ) → c < 256 → df < 2 → mf < 2 → off < 8192
+    → b * 2 ^ 8 + c ≡ r * 2 ^ 15 + df * 2 ^ 14 + mf * 2 ^ 13 + off → b / 64 % 2 ≡ df
+dont_fragment_of b c r df mf off hc hd hm ho e = omega arith
+
+more_fragments_of : (b c r df mf off : ℕ) → c < 256 → df < 2 → mf < 2 → off < 8192
+    → b * 2 ^ 8 + c ≡ r * 2 ^ 15 + df * 2 ^ 14 + mf * 2 ^ 13 + off → b / 32 % 2 ≡ mf
+more_fragments_of b c r df mf off hc hd hm ho e = omega arith
+
+fragment_offset_of : (b c r df mf off : ℕ) → c < 256 → df < 2 → mf < 2 → off < 8192
+    → b * 2 ^ 8 + c ≡ r * 2 ^ 15 + df * 2 ^ 14 + mf * 2 ^ 13 + off → b % 32 * 2 ^ 8 + c ≡ off
+fragment_offset_of b c r df mf off hc hd hm ho e = omega arith
+
+pub dont_fragment_of-layout : (h : Ipv4Header) (r : ℕ) (p : List ℕ) → IsIpv4Layout h r p → get_or p 6 0 / 64 % 2 ≡ from_bool h.dont_fragment
+dont_fragment_of-layout h r p l = dont_fragment_of _ _ _ _ _ _ (l.are_bytes 7) (from_bool-lt h.dont_fragment) (from_bool-lt h.more_fragments)
+    l.fragment_offset_fits (flags_of h r p l)
+
+pub more_fragments_of-layout : (h : Ipv4Header) (r : ℕ) (p : List ℕ) → IsIpv4Layout h r p → get_or p 6 0 / 32 % 2 ≡ from_bool h.more_fragments
+more_fragments_of-layout h r p l = more_fragments_of _ _ _ _ _ _ (l.are_bytes 7) (from_bool-lt h.dont_fragment) (from_bool-lt h.more_fragments)
+    l.fragment_offset_fits (flags_of h r p l)
+
+pub fragment_offset_of-layout : (h : Ipv4Header) (r : ℕ) (p : List ℕ) → IsIpv4Layout h r p → get_or p 6 0 % 32 * 2 ^ 8 + get_or p 7 0 ≡ h.fragment_offset
+fragment_offset_of-layout h r p l = fragment_offset_of _ _ _ _ _ _ (l.are_bytes 7) (from_bool-lt h.dont_fragment) (from_bool-lt h.more_fragments)
+    l.fragment_offset_fits (flags_of h r p l)
+
+-- a test of one bit
+pub tests_bit : (n k : ℕ) (b : Bool) → n / 2 ^ k % 2 ≡ from_bool b → 0 < 2 ^ k → not (nat_eq (bit_and n (2 ^ k)) 0) ≡ b
+tests_bit n k true e pos = ap (λ m. not (nat_eq m 0)) (and_pow n k ∙ ap (λ bit. bit * 2 ^ k) e) ∙ ap not (ne_eqb (1 * 2 ^ k) 0 (λ z. absurd (omega (arith, z, pos))))
+tests_bit n k false e pos = ap (λ m. not (nat_eq m 0)) (and_pow n k ∙ ap (λ bit. bit * 2 ^ k) e) ∙ ap not (eq-eqb (0 * 2 ^ k) 0 (omega arith))
+
+-- headers with equal fields
+pub same_fields : (g h : Ipv4Header) → g.dscp ≡ h.dscp → g.ecn ≡ h.ecn → g.total_len ≡ h.total_len → g.identification ≡ h.identification
+    → g.dont_fragment ≡ h.dont_fragment → g.more_fragments ≡ h.more_fragments → g.fragment_offset ≡ h.fragment_offset
+    → g.time_to_live ≡ h.time_to_live → g.protocol.0 ≡ h.protocol.0 → g.header_checksum ≡ h.header_checksum
+    → g.source ≡ h.source → g.destination ≡ h.destination → g.options ≡ h.options → g ≡ h
+same_fields g h a b c d e f i j k l m n o =
+    let same : record { dscp = g.dscp; ecn = g.ecn; total_len = g.total_len; identification = g.identification; dont_fragment = g.dont_fragment; more_fragments = g.more_fragments; fragment_offset = g.fragment_offset; time_to_live = g.time_to_live; protocol = record { 0 = g.protocol.0 }; header_checksum = g.header_checksum; source = g.source; destination = g.destination; options = g.options }
+    ≡ record { dscp = h.dscp; ecn = h.ecn; total_len = h.total_len; identification = h.identification; dont_fragment = h.dont_fragment; more_fragments = h.more_fragments; fragment_offset = h.fragment_offset; time_to_live = h.time_to_live; protocol = record { 0 = h.protocol.0 }; header_checksum = h.header_checksum; source = h.source; destination = h.destination; options = h.options } = cc in same
+
+-- the halves of byte 1
+dscp_of : (h : Ipv4Header) (r : ℕ) (p : List ℕ) → IsIpv4Layout h r p → get_or p 1 0 / 4 ≡ h.dscp
+dscp_of h r p l = omega (arith, l.dscp_ecn, ecn_value-lt h.ecn)
+
+ecn_of : (h : Ipv4Header) (r : ℕ) (p : List ℕ) → IsIpv4Layout h r p → get_or p 1 0 % 4 ≡ ecn_value h.ecn
+ecn_of h r p l = omega (arith, l.dscp_ecn, ecn_value-lt h.ecn)
+
+same_ecn : (a b : IpEcn) → ecn_value a ≡ ecn_value b → a ≡ b
+same_ecn NotEct NotEct e = refl
+same_ecn NotEct Ect1 e = absurd (omega (arith, e))
+same_ecn NotEct Ect0 e = absurd (omega (arith, e))
+same_ecn NotEct CongestionExperienced e = absurd (omega (arith, e))
+same_ecn Ect1 NotEct e = absurd (omega (arith, e))
+same_ecn Ect1 Ect1 e = refl
+same_ecn Ect1 Ect0 e = absurd (omega (arith, e))
+same_ecn Ect1 CongestionExperienced e = absurd (omega (arith, e))
+same_ecn Ect0 NotEct e = absurd (omega (arith, e))
+same_ecn Ect0 Ect1 e = absurd (omega (arith, e))
+same_ecn Ect0 Ect0 e = refl
+same_ecn Ect0 CongestionExperienced e = absurd (omega (arith, e))
+same_ecn CongestionExperienced NotEct e = absurd (omega (arith, e))
+same_ecn CongestionExperienced Ect1 e = absurd (omega (arith, e))
+same_ecn CongestionExperienced Ect0 e = absurd (omega (arith, e))
+same_ecn CongestionExperienced CongestionExperienced e = refl
+
+-- bytes have one header
+pub same_header : (g h : Ipv4Header) (q r : ℕ) (p : List ℕ) → IsIpv4Layout g q p → IsIpv4Layout h r p → g ≡ h
+same_header g h q r p k l =
+    same_fields g h
+    (sym (dscp_of g q p k) ∙ dscp_of h r p l)
+    (same_ecn g.ecn h.ecn (sym (ecn_of g q p k) ∙ ecn_of h r p l))
+    (sym k.total_len ∙ l.total_len)
+    (sym k.identification ∙ l.identification)
+    (same_bool g.dont_fragment h.dont_fragment (sym (dont_fragment_of-layout g q p k) ∙ dont_fragment_of-layout h r p l))
+    (same_bool g.more_fragments h.more_fragments (sym (more_fragments_of-layout g q p k) ∙ more_fragments_of-layout h r p l))
+    (sym (fragment_offset_of-layout g q p k) ∙ fragment_offset_of-layout h r p l)
+    (sym k.time_to_live ∙ l.time_to_live)
+    (sym k.protocol ∙ l.protocol)
+    (sym k.header_checksum ∙ l.header_checksum)
+    (sym k.source ∙ l.source)
+    (sym k.destination ∙ l.destination)
+    (sym k.options ∙ l.options)
+
+-- the flags and the fragment offset
+abbrev pub flags_word : Ipv4Header → ℕ → ℕ
+flags_word h r = r * 2 ^ 15 + from_bool h.dont_fragment * 2 ^ 14 + from_bool h.more_fragments * 2 ^ 13 + h.fragment_offset
+
+-- the bytes of a header, part by part
+abbrev pub spelling : Ipv4Header → ℕ → List ℕ
+spelling h flags = (4 * 2 ^ 4 + ipv4_ihl h) ∷ (h.dscp * 2 ^ 2 + ecn_value h.ecn) ∷ (to_be_bytes w16 h.total_len
+    ++ (to_be_bytes w16 h.identification ++ (to_be_bytes w16 flags ++ (h.time_to_live ∷ h.protocol.0
+    ∷ (to_be_bytes w16 h.header_checksum ++ (h.source ++ (h.destination ++ h.options)))))))
+
+-- the bytes of a header in its parts
+parts_of : (p : List ℕ)
+    → p ≡ slice_range p 0 2 ++ (slice_range p 2 4 ++ (slice_range p 4 6 ++ (slice_range p 6 8 ++ (slice_range p 8 10
+    ++ (slice_range p 10 12 ++ (slice_range p 12 16 ++ (slice_range p 16 20 ++ drop 20 p)))))))
+parts_of p =
+    drop_split p 0 2 (omega arith) ∙ ap (λ x. slice_range p 0 2 ++ x) (
+    drop_split p 2 4 (omega arith) ∙ ap (λ x. slice_range p 2 4 ++ x) (
+    drop_split p 4 6 (omega arith) ∙ ap (λ x. slice_range p 4 6 ++ x) (
+    drop_split p 6 8 (omega arith) ∙ ap (λ x. slice_range p 6 8 ++ x) (
+    drop_split p 8 10 (omega arith) ∙ ap (λ x. slice_range p 8 10 ++ x) (
+    drop_split p 10 12 (omega arith) ∙ ap (λ x. slice_range p 10 12 ++ x) (
+    drop_split p 12 16 (omega arith) ∙ ap (λ x. slice_range p 12 16 ++ x) (
+    drop_split p 16 20 (omega arith))))))))
+
+-- nine parts, each with its equation
+same_joined : (a a' b b' c c' d d' e e' f f' g g' h h' i i' : List ℕ) → a ≡ a' → b ≡ b' → c ≡ c' → d ≡ d' → e ≡ e' → f ≡ f'
+    → g ≡ g' → h ≡ h' → i ≡ i' → a ++ (b ++ (c ++ (d ++ (e ++ (f ++ (g ++ (h ++ i)))))))
+    ≡ a' ++ (b' ++ (c' ++ (d' ++ (e' ++ (f' ++ (g' ++ (h' ++ i')))))))
+same_joined a a' b b' c c' d d' e e' f f' g g' h h' i i' m n o p q r s t u = cc
+
+-- two bytes in network byte order
+word_at : (p : List ℕ) (a n : ℕ) → a + 2 ≤ length p → IsBytes p → from_be_bytes w16 (slice_range p a (a + 2)) ≡ n
+    → slice_range p a (a + 2) ≡ to_be_bytes w16 n
+word_at p a n h bytes e = sym (be_bytes_2 (slice_range p a (a + 2)) n (length-part p a (a + 2) h ∙ omega arith) (λ i. part_is_bytes p a (a + 2) i bytes) (sym e))
+
+-- a byte list in the layout is the header's spelling
+pub spelled : (h : Ipv4Header) (r : ℕ) (p : List ℕ) → IsIpv4Layout h r p → p ≡ spelling h (flags_word h r)
+spelled h r p l =
+    let long : 20 ≤ length p = omega (arith, l.len) in
+    parts_of p ∙ same_joined
+    (slice_range p 0 2) ((4 * 2 ^ 4 + ipv4_ihl h) ∷ (h.dscp * 2 ^ 2 + ecn_value h.ecn) ∷ [])
+    (slice_range p 2 4) (to_be_bytes w16 h.total_len)
+    (slice_range p 4 6) (to_be_bytes w16 h.identification)
+    (slice_range p 6 8) (to_be_bytes w16 (flags_word h r))
+    (slice_range p 8 10) (h.time_to_live ∷ h.protocol.0 ∷ [])
+    (slice_range p 10 12) (to_be_bytes w16 h.header_checksum)
+    (slice_range p 12 16) h.source
+    (slice_range p 16 20) h.destination
+    (drop 20 p) h.options
+    (listed p 0 2 (omega arith) ∙ (let a = l.version_ihl in let b = l.dscp_ecn in cc))
+    (word_at p 2 _ (omega arith) l.are_bytes l.total_len)
+    (word_at p 4 _ (omega arith) l.are_bytes l.identification)
+    (word_at p 6 _ (omega arith) l.are_bytes l.flags_fragment_offset)
+    (listed p 8 2 (omega arith) ∙ (let a = l.time_to_live in let b = l.protocol in cc))
+    (word_at p 10 _ (omega arith) l.are_bytes l.header_checksum)
+    l.source
+    l.destination
+    l.options
+
+-- a header has one list of bytes for each reserved bit
+pub same_bytes : (h : Ipv4Header) (r : ℕ) (p q : List ℕ) → IsIpv4Layout h r p → IsIpv4Layout h r q → p ≡ q
+same_bytes h r p q k l = spelled h r p k ∙ sym (spelled h r q l)
+
+-- the spelling of a header is in its layout
+pub spells : (h : Ipv4Header) (r : ℕ) (p : List ℕ) → HasFieldRanges h → IsOptionsLen (length h.options) → r < 2 → IsBytes p
+    → p ≡ spelling h (flags_word h r) → IsIpv4Layout h r p
+spells h r p f o b bytes e =
+    let behind = h.source ++ (h.destination ++ h.options) in
+    let len : length (spelling h (flags_word h r)) ≡ 20 + length h.options =
+    omega (arith, f.source, f.destination, length-append h.source (h.destination ++ h.options), length-append h.destination h.options) in
+    let rest : drop 4 behind ≡ h.destination ++ h.options = drop_at h.source (h.destination ++ h.options) 4 f.source in
+    record {
+      len = ap length e ∙ len;
+      are_bytes = bytes;
+      version_ihl = rw e refl;
+      dscp_ecn = rw e refl;
+      total_len = rw e (from_be_bytes-to_be_bytes_2 h.total_len f.total_len);
+      identification = rw e (from_be_bytes-to_be_bytes_2 h.identification f.identification);
+      flags_fragment_offset = rw e (from_be_bytes-to_be_bytes_2 (flags_word h r)
+          (omega (arith, f.fragment_offset, from_bool-lt h.dont_fragment, from_bool-lt h.more_fragments)));
+      time_to_live = rw e refl;
+      protocol = rw e refl;
+      header_checksum = rw e (from_be_bytes-to_be_bytes_2 h.header_checksum f.header_checksum);
+      source = rw e (take_at h.source (h.destination ++ h.options) 4 f.source);
+      destination = rw e (ap (λ xs. take 4 xs) rest ∙ take_at h.destination h.options 4 f.destination);
+      options = rw e (ap (λ xs. drop 8 xs) (sym (append_assoc h.source h.destination h.options))
+          ∙ drop_at (h.source ++ h.destination) h.options 8 (omega (arith, f.source, f.destination, length-append h.source h.destination)));
+      options_len = o;
+      dscp_fits = f.dscp;
+      fragment_offset_fits = f.fragment_offset;
+      reserved_fits = b;
+    }
+
+-- the bytes of the flags with the reserved bit cleared are those with the reserved bit 0
+cleared_byte : (r df mf off : ℕ) → r < 2 → df < 2 → mf < 2 → off < 2 ^ 13
+    → (r * 2 ^ 15 + df * 2 ^ 14 + mf * 2 ^ 13 + off) / 256 % 256 % 2 ^ 7 ≡ (0 * 2 ^ 15 + df * 2 ^ 14 + mf * 2 ^ 13 + off) / 256 % 256
+cleared_byte r df mf off hr hd hm ho = omega arith
+
+kept_byte : (r df mf off : ℕ) → (r * 2 ^ 15 + df * 2 ^ 14 + mf * 2 ^ 13 + off) % 256 ≡ (0 * 2 ^ 15 + df * 2 ^ 14 + mf * 2 ^ 13 + off) % 256
+kept_byte r df mf off = omega arith
+
+-- the spelling of a header with the reserved bit cleared
+pub cleared_spells : (h : Ipv4Header) (r : ℕ) (p : List ℕ) → IsIpv4Layout h r p
+    → with_reserved_bit_cleared p ≡ spelling h (flags_word h 0)
+cleared_spells h r p l =
+    let high = cleared_byte r (from_bool h.dont_fragment) (from_bool h.more_fragments) h.fragment_offset l.reserved_fits
+    (from_bool-lt h.dont_fragment) (from_bool-lt h.more_fragments) l.fragment_offset_fits in
+    let low = kept_byte r (from_bool h.dont_fragment) (from_bool h.more_fragments) h.fragment_offset in
+    ap (λ xs. with_reserved_bit_cleared xs) (spelled h r p l)
+    ∙ ap (λ b. (4 * 2 ^ 4 + ipv4_ihl h) ∷ (h.dscp * 2 ^ 2 + ecn_value h.ecn) ∷ (to_be_bytes w16 h.total_len
+    ++ (to_be_bytes w16 h.identification ++ (b ∷ (flags_word h r % 256) ∷ (h.time_to_live ∷ h.protocol.0
+    ∷ (to_be_bytes w16 h.header_checksum ++ (h.source ++ (h.destination ++ h.options)))))))) high
+    ∙ ap (λ b. (4 * 2 ^ 4 + ipv4_ihl h) ∷ (h.dscp * 2 ^ 2 + ecn_value h.ecn) ∷ (to_be_bytes w16 h.total_len
+    ++ (to_be_bytes w16 h.identification ++ ((flags_word h 0 / 256 % 256) ∷ b ∷ (h.time_to_live ∷ h.protocol.0
+    ∷ (to_be_bytes w16 h.header_checksum ++ (h.source ++ (h.destination ++ h.options)))))))) low
+
+-- the ranges of a header's fields are in its layout
+ranges_of : (h : Ipv4Header) (r : ℕ) (p : List ℕ) → IsIpv4Layout h r p → HasFieldRanges h
+ranges_of h r p l =
+    let long : 20 ≤ length p = omega (arith, l.len) in
+    let word_fits = λ (a n : ℕ) (e : from_be_bytes w16 (slice_range p a (a + 2)) ≡ n). word_lt p a n l.are_bytes e in
+    record {
+      dscp = l.dscp_fits;
+      fragment_offset = l.fragment_offset_fits;
+      total_len = word_fits 2 _ l.total_len;
+      identification = word_fits 4 _ l.identification;
+      header_checksum = word_fits 10 _ l.header_checksum;
+      source = ap length (sym l.source) ∙ length-part p 12 16 (omega arith);
+      destination = ap length (sym l.destination) ∙ length-part p 16 20 (omega arith);
+    }
+  where
+    word_lt : (xs : List ℕ) (a n : ℕ) → IsBytes xs → from_be_bytes w16 (slice_range xs a (a + 2)) ≡ n → n < 2 ^ 16
+    word_lt xs a n bytes e =
+        let b0 = part_is_bytes xs a (a + 2) 0 bytes in
+        let b1 = part_is_bytes xs a (a + 2) 1 bytes in
+        omega arith
+
+-- with the reserved bit cleared the bytes are in the layout of the same header
+pub cleared_layout : (h : Ipv4Header) (r : ℕ) (p : List ℕ) → IsIpv4Layout h r p → IsIpv4Layout h 0 (with_reserved_bit_cleared p)
+cleared_layout h r p l =
+    spells h 0 (with_reserved_bit_cleared p) (ranges_of h r p l) l.options_len (omega arith) cleared_are_bytes (cleared_spells h r p l)
+  where
+    cleared_are_bytes : IsBytes (with_reserved_bit_cleared p)
+    cleared_are_bytes i =
+        let byte = l.are_bytes 6 in
+        let v : ℕ = get_or p 6 0 % 2 ^ 7 in
+        elim (cases_eq i 6) [
+          | inl here ↦ rw (get_or-set_at p 6 i v 0 here (omega (arith, l.len))) (omega arith)
+          | inr other ↦ rw (get_or-set_other p 6 i v 0 other) (l.are_bytes i)
+        ]
+
+-- headers are the same exactly where their bytes are, but for the reserved bit
+pub same_header_cleared : (g h : Ipv4Header) (q r : ℕ) (o p : List ℕ) → IsIpv4Layout g q o → IsIpv4Layout h r p
+    → (g ≡ h) ↔ (with_reserved_bit_cleared o ≡ with_reserved_bit_cleared p)
+same_header_cleared g h q r o p k l = (
+  λ e. cleared_spells g q o k ∙ ap (λ x. spelling x (flags_word x 0)) e ∙ sym (cleared_spells h r p l),
+  λ e. same_header g h 0 0 (with_reserved_bit_cleared p)
+      (subst (λ x. IsIpv4Layout g 0 x) e (cleared_layout g q o k)) (cleared_layout h r p l),
+)
+
+-- each number in range is one of a bool, or of a code point
+bool_with : (n : ℕ) → n < 2 → (b : Bool) × (from_bool b ≡ n)
+bool_with zero h = (false, refl)
+bool_with (suc zero) h = (true, refl)
+bool_with (suc (suc n)) h = absurd (omega arith)
+
+ecn_with : (n : ℕ) → n < 4 → (e : IpEcn) × (ecn_value e ≡ n)
+ecn_with zero h = (NotEct, refl)
+ecn_with (suc zero) h = (Ect1, refl)
+ecn_with (suc (suc zero)) h = (Ect0, refl)
+ecn_with (suc (suc (suc zero))) h = (CongestionExperienced, refl)
+ecn_with (suc (suc (suc (suc n)))) h = absurd (omega arith)
+
+-- a word is its fields
+flags_split : (b c : ℕ) → b < 256 → c < 256
+    → b * 2 ^ 8 + c ≡ b / 128 * 2 ^ 15 + b / 64 % 2 * 2 ^ 14 + b / 32 % 2 * 2 ^ 13 + (b % 32 * 2 ^ 8 + c)
+flags_split b c hb hc = omega arith
+
+-- what starts with version 4, has an IHL of 5 or more and the length that it says is in the layout of a header
+pub header_at : (p : List ℕ) → version_of p ≡ 4 → 5 ≤ ihl_of p → length p ≡ 4 * ihl_of p → IsBytes p
+    → (h : Ipv4Header) × (r : ℕ) × IsIpv4Layout h r p
+header_at p version ihl len bytes =
+    let b6 = bytes 6 in
+    let b7 = bytes 7 in
+    let ecn = ecn_with (get_or p 1 0 % 4) (omega arith) in
+    let df = bool_with (get_or p 6 0 / 64 % 2) (omega arith) in
+    let mf = bool_with (get_or p 6 0 / 32 % 2) (omega arith) in
+    let header : Ipv4Header = record {
+      dscp = get_or p 1 0 / 4;
+      ecn = ecn.0;
+      total_len = from_be_bytes w16 (slice_range p 2 4);
+      identification = from_be_bytes w16 (slice_range p 4 6);
+      dont_fragment = df.0;
+      more_fragments = mf.0;
+      fragment_offset = get_or p 6 0 % 32 * 2 ^ 8 + get_or p 7 0;
+      time_to_live = get_or p 8 0;
+      protocol = record { 0 = get_or p 9 0 };
+      header_checksum = from_be_bytes w16 (slice_range p 10 12);
+      source = slice_range p 12 16;
+      destination = slice_range p 16 20;
+      options = drop 20 p;
+    } in
+    let options : length (drop 20 p) ≡ length p - 20 = length-drop 20 p in
+    let e0 = get_or-slice_range p 6 8 0 (omega arith) in
+    let e1 = get_or-slice_range p 6 8 1 (omega arith) in
+    let split = flags_split (get_or p 6 0) (get_or p 7 0) b6 b7 in (
+      header,
+      get_or p 6 0 / 128,
+      record {
+        len = omega arith;
+        are_bytes = bytes;
+        version_ihl = omega arith;
+        dscp_ecn = omega (arith, ecn.1);
+        total_len = refl;
+        identification = refl;
+        flags_fragment_offset = omega (arith, df.1, mf.1);
+        time_to_live = refl;
+        protocol = refl;
+        header_checksum = refl;
+        source = refl;
+        destination = refl;
+        options = refl;
+        options_len = record { fits = omega arith; in_words = omega arith };
+        dscp_fits = let b1 = bytes 1 in omega arith;
+        fragment_offset_fits = omega arith;
+        reserved_fits = omega arith;
+      },
+    )
+
+-- the fixed fields of a header, with the options behind them, are its spelling
+abbrev pub front_spelling : Ipv4Header → ℕ → List ℕ → List ℕ
+front_spelling h flags behind = (4 * 2 ^ 4 + ipv4_ihl h) ∷ (h.dscp * 2 ^ 2 + ecn_value h.ecn) ∷ (to_be_bytes w16 h.total_len
+    ++ (to_be_bytes w16 h.identification ++ (to_be_bytes w16 flags ++ (h.time_to_live ∷ h.protocol.0
+    ∷ (to_be_bytes w16 h.header_checksum ++ behind)))))
+
+pub front_spells : (h : Ipv4Header) (front options p : List ℕ) → p ≡ front ++ options → options ≡ h.options
+    → front ≡ front_spelling h (from_bool h.dont_fragment * 2 ^ 14 + from_bool h.more_fragments * 2 ^ 13 + h.fragment_offset) (h.source ++ h.destination)
+    → p ≡ spelling h (flags_word h 0)
+front_spells h front options p e o f =
+    let flags : from_bool h.dont_fragment * 2 ^ 14 + from_bool h.more_fragments * 2 ^ 13 + h.fragment_offset ≡ flags_word h 0 = omega arith in
+    e ∙ ap (λ xs. xs ++ options) (f ∙ ap (λ w. front_spelling h w (h.source ++ h.destination)) flags)
+    ∙ ap (λ xs. front_spelling h (flags_word h 0) xs) (append_assoc h.source h.destination options ∙ ap (λ xs. h.source ++ (h.destination ++ xs)) o)

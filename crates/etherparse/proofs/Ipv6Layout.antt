@@ -1,0 +1,168 @@
+-- Laws of the IPv6 layout.
+use Rattle.std.proofs.Common.{ℕ, ◌≡◌, ◌+◌, ◌*◌, ◌/◌, ◌%◌, ◌^◌, ◌<◌, List, [], ◌∷◌, ◌++◌, length, get_or, take, drop, refl, sym, ap, ◌∙◌, arith, length-append}
+use Rattle.std.specs.List.{slice_range}
+use Rattle.std.proofs.lemmas.List.{length-drop, take_all, take_at, drop_at}
+use Rattle.std.specs.Int.{from_be_bytes, to_be_bytes, w16, w32}
+use Rattle.std.proofs.lemmas.Nat.{be_bytes_2, be_bytes_4, from_be_bytes-to_be_bytes_2, from_be_bytes-to_be_bytes_4}
+use Rattle.std.proofs.lemmas.List.Folds.{drop_split}
+use Rattle.etherparse_base.specs.Bytes.{IsBytes}
+use Rattle.etherparse.proofs.Parts.{get_or-slice_range, length-part, listed, part_is_bytes}
+use Rattle.etherparse.specs.Ipv6Header.{IsIpv6Layout}
+use Rattle.etherparse.specs.FirstByte.{version_of}
+use Rattle.etherparse.specs.declared.net.ipv6_header.Ipv6Header.{Ipv6Header}
+
+-- headers with equal fields
+pub same_fields : (g h : Ipv6Header) → g.traffic_class ≡ h.traffic_class → g.flow_label ≡ h.flow_label
+    → g.payload_length ≡ h.payload_length → g.next_header.0 ≡ h.next_header.0 → g.hop_limit ≡ h.hop_limit
+    → g.source ≡ h.source → g.destination ≡ h.destination → g ≡ h
+same_fields g h t f n x m s d =
+    let e : record { traffic_class = g.traffic_class; flow_label = g.flow_label; payload_length = g.payload_length; next_header = record { 0 = g.next_header.0 }; hop_limit = g.hop_limit; source = g.source; destination = g.destination }
+    ≡ record { traffic_class = h.traffic_class; flow_label = h.flow_label; payload_length = h.payload_length; next_header = record { 0 = h.next_header.0 }; hop_limit = h.hop_limit; source = h.source; destination = h.destination } = cc in e
+
+-- five parts, each with its equation
+same_joined : (a a' b b' c c' d d' e e' : List ℕ) → a ≡ a' → b ≡ b' → c ≡ c' → d ≡ d' → e ≡ e'
+    → a ++ (b ++ (c ++ (d ++ e))) ≡ a' ++ (b' ++ (c' ++ (d' ++ e')))
+same_joined a a' b b' c c' d d' e e' p q r s t = cc
+
+-- the parts of a word are those of the number that it stands for
+pub version_of_word : (a b c d t f : ℕ) → b < 256 → c < 256 → d < 256 → t < 256 → f < 1048576
+    → a * 2 ^ 24 + b * 2 ^ 16 + c * 2 ^ 8 + d ≡ 6 * 2 ^ 28 + t * 2 ^ 20 + f → a / 16 ≡ 6
+version_of_word a b c d t f hb hc hd ht hf e = omega arith
+
+pub traffic_class_of_word : (a b c d t f : ℕ) → b < 256 → c < 256 → d < 256 → t < 256 → f < 1048576
+    → a * 2 ^ 24 + b * 2 ^ 16 + c * 2 ^ 8 + d ≡ 6 * 2 ^ 28 + t * 2 ^ 20 + f → (a * 256 + b) / 16 % 256 ≡ t
+traffic_class_of_word a b c d t f hb hc hd ht hf e = omega arith
+
+pub flow_label_of_word : (a b c d t f : ℕ) → b < 256 → c < 256 → d < 256 → t < 256 → f < 1048576
+    → a * 2 ^ 24 + b * 2 ^ 16 + c * 2 ^ 8 + d ≡ 6 * 2 ^ 28 + t * 2 ^ 20 + f → b % 16 * 2 ^ 16 + c * 2 ^ 8 + d ≡ f
+flow_label_of_word a b c d t f hb hc hd ht hf e = omega arith
+
+-- the first word of a header as a number
+pub word_of : (h : Ipv6Header) (p : List ℕ) → IsIpv6Layout h p
+    → get_or p 0 0 * 2 ^ 24 + get_or p 1 0 * 2 ^ 16 + get_or p 2 0 * 2 ^ 8 + get_or p 3 0 ≡ 6 * 2 ^ 28 + h.traffic_class * 2 ^ 20 + h.flow_label
+word_of h p l =
+    let e = l.version_traffic_class_flow_label in
+    let e0 = get_or-slice_range p 0 4 0 (omega arith) in
+    let e1 = get_or-slice_range p 0 4 1 (omega arith) in
+    let e2 = get_or-slice_range p 0 4 2 (omega arith) in
+    let e3 = get_or-slice_range p 0 4 3 (omega arith) in
+    omega arith
+
+-- a header in the layout has version 6
+pub version_of-layout : (h : Ipv6Header) (p : List ℕ) → IsIpv6Layout h p → version_of p ≡ 6
+version_of-layout h p l = version_of_word (get_or p 0 0) (get_or p 1 0) (get_or p 2 0) (get_or p 3 0) h.traffic_class h.flow_label
+    (l.are_bytes 1) (l.are_bytes 2) (l.are_bytes 3) l.traffic_class_fits l.flow_label_fits (word_of h p l)
+
+-- the fields of the first word, read from its bytes
+pub traffic_class_of-layout : (h : Ipv6Header) (p : List ℕ) → IsIpv6Layout h p
+    → (get_or p 0 0 * 256 + get_or p 1 0) / 16 % 256 ≡ h.traffic_class
+traffic_class_of-layout h p l = traffic_class_of_word (get_or p 0 0) (get_or p 1 0) (get_or p 2 0) (get_or p 3 0) h.traffic_class h.flow_label
+    (l.are_bytes 1) (l.are_bytes 2) (l.are_bytes 3) l.traffic_class_fits l.flow_label_fits (word_of h p l)
+
+pub flow_label_of-layout : (h : Ipv6Header) (p : List ℕ) → IsIpv6Layout h p
+    → get_or p 1 0 % 16 * 2 ^ 16 + get_or p 2 0 * 2 ^ 8 + get_or p 3 0 ≡ h.flow_label
+flow_label_of-layout h p l = flow_label_of_word (get_or p 0 0) (get_or p 1 0) (get_or p 2 0) (get_or p 3 0) h.traffic_class h.flow_label
+    (l.are_bytes 1) (l.are_bytes 2) (l.are_bytes 3) l.traffic_class_fits l.flow_label_fits (word_of h p l)
+
+-- bytes have one header
+pub same_header : (g h : Ipv6Header) (p : List ℕ) → IsIpv6Layout g p → IsIpv6Layout h p → g ≡ h
+same_header g h p k l =
+    same_fields g h
+    (sym (traffic_class_of-layout g p k) ∙ traffic_class_of-layout h p l)
+    (sym (flow_label_of-layout g p k) ∙ flow_label_of-layout h p l)
+    (sym k.payload_length ∙ l.payload_length)
+    (sym k.next_header ∙ l.next_header)
+    (sym k.hop_limit ∙ l.hop_limit)
+    (sym k.source ∙ l.source)
+    (sym k.destination ∙ l.destination)
+
+-- the bytes of a header, part by part
+abbrev pub spelling : Ipv6Header → List ℕ
+spelling h = to_be_bytes w32 (6 * 2 ^ 28 + h.traffic_class * 2 ^ 20 + h.flow_label)
+    ++ (to_be_bytes w16 h.payload_length ++ (h.next_header.0 ∷ h.hop_limit ∷ (h.source ++ h.destination)))
+
+-- 40 bytes in the parts of a header
+pub parts_of : (p : List ℕ) → length p ≡ 40
+    → p ≡ slice_range p 0 4 ++ (slice_range p 4 6 ++ (slice_range p 6 8 ++ (slice_range p 8 24 ++ slice_range p 24 40)))
+parts_of p e =
+    drop_split p 0 4 (omega arith) ∙ ap (λ x. slice_range p 0 4 ++ x) (
+    drop_split p 4 6 (omega arith) ∙ ap (λ x. slice_range p 4 6 ++ x) (
+    drop_split p 6 8 (omega arith) ∙ ap (λ x. slice_range p 6 8 ++ x) (
+    drop_split p 8 24 (omega arith) ∙ ap (λ x. slice_range p 8 24 ++ x) (
+    sym (take_all 16 (drop 24 p) (omega (arith, length-drop 24 p)))))))
+
+-- a byte list in the layout is the header's spelling
+pub spelled : (h : Ipv6Header) (p : List ℕ) → IsIpv6Layout h p → p ≡ spelling h
+spelled h p l = parts_of p l.len ∙ same_joined
+    (slice_range p 0 4) (to_be_bytes w32 (6 * 2 ^ 28 + h.traffic_class * 2 ^ 20 + h.flow_label))
+    (slice_range p 4 6) (to_be_bytes w16 h.payload_length)
+    (slice_range p 6 8) (h.next_header.0 ∷ h.hop_limit ∷ [])
+    (slice_range p 8 24) h.source
+    (slice_range p 24 40) h.destination
+    (sym (be_bytes_4 (slice_range p 0 4) _ (length-part p 0 4 (omega (arith, l.len))) (λ i. part_is_bytes p 0 4 i l.are_bytes) (sym l.version_traffic_class_flow_label)))
+    (sym (be_bytes_2 (slice_range p 4 6) _ (length-part p 4 6 (omega (arith, l.len))) (λ i. part_is_bytes p 4 6 i l.are_bytes) (sym l.payload_length)))
+    (listed p 6 2 (omega (arith, l.len)) ∙ (let nh = l.next_header in let hl = l.hop_limit in cc))
+    l.source
+    l.destination
+
+-- a header has one list of bytes
+pub same_bytes : (h : Ipv6Header) (p q : List ℕ) → IsIpv6Layout h p → IsIpv6Layout h q → p ≡ q
+same_bytes h p q k l = spelled h p k ∙ sym (spelled h q l)
+
+-- the word of a header is that of its fields
+word_splits : (a b c d : ℕ) → a / 16 ≡ 6 → b < 256 → c < 256 → d < 256
+    → a * 2 ^ 24 + b * 2 ^ 16 + c * 2 ^ 8 + d ≡ 6 * 2 ^ 28 + (a * 256 + b) / 16 % 256 * 2 ^ 20 + (b % 16 * 2 ^ 16 + c * 2 ^ 8 + d)
+word_splits a b c d e hb hc hd = omega arith
+
+-- 40 bytes of version 6 are in the layout of a header
+pub header_at : (p : List ℕ) → length p ≡ 40 → IsBytes p → version_of p ≡ 6 → (h : Ipv6Header) × IsIpv6Layout h p
+header_at p e bytes version =
+    let header : Ipv6Header = record {
+      traffic_class = (get_or p 0 0 * 256 + get_or p 1 0) / 16 % 256;
+      flow_label = get_or p 1 0 % 16 * 2 ^ 16 + get_or p 2 0 * 2 ^ 8 + get_or p 3 0;
+      payload_length = from_be_bytes w16 (slice_range p 4 6);
+      next_header = record { 0 = get_or p 6 0 };
+      hop_limit = get_or p 7 0;
+      source = slice_range p 8 24;
+      destination = slice_range p 24 40;
+    } in
+    let e0 = get_or-slice_range p 0 4 0 (omega arith) in
+    let e1 = get_or-slice_range p 0 4 1 (omega arith) in
+    let e2 = get_or-slice_range p 0 4 2 (omega arith) in
+    let e3 = get_or-slice_range p 0 4 3 (omega arith) in
+    let b1 = bytes 1 in
+    let b2 = bytes 2 in
+    let b3 = bytes 3 in
+    let word = word_splits (get_or p 0 0) (get_or p 1 0) (get_or p 2 0) (get_or p 3 0) version b1 b2 b3 in (
+      header,
+      record {
+        len = e;
+        are_bytes = bytes;
+        version_traffic_class_flow_label = omega arith;
+        payload_length = refl;
+        next_header = refl;
+        hop_limit = refl;
+        source = refl;
+        destination = refl;
+        traffic_class_fits = omega arith;
+        flow_label_fits = omega arith;
+      },
+    )
+
+-- the spelling of a header is in its layout
+pub spells : (h : Ipv6Header) (p : List ℕ) → h.traffic_class < 2 ^ 8 → h.flow_label < 2 ^ 20 → h.payload_length < 2 ^ 16
+    → length h.source ≡ 16 → length h.destination ≡ 16 → IsBytes p → p ≡ spelling h → IsIpv6Layout h p
+spells h p t f n s d bytes e =
+    let len : length (spelling h) ≡ 40 = omega (arith, length-append h.source h.destination) in
+    record {
+      len = ap length e ∙ len;
+      are_bytes = bytes;
+      version_traffic_class_flow_label = rw e (from_be_bytes-to_be_bytes_4 (6 * 2 ^ 28 + h.traffic_class * 2 ^ 20 + h.flow_label) (omega arith));
+      payload_length = rw e (from_be_bytes-to_be_bytes_2 h.payload_length n);
+      next_header = rw e refl;
+      hop_limit = rw e refl;
+      source = rw e (take_at h.source h.destination 16 s);
+      destination = rw e (ap (λ xs. take 16 xs) (drop_at h.source h.destination 16 s) ∙ take_all 16 h.destination (omega arith));
+      traffic_class_fits = t;
+      flow_label_fits = f;
+    }

@@ -1,0 +1,57 @@
+-- Some bytes have one answer of an IPv6 reader.
+use Rattle.std.proofs.Common.{ℕ, ◌≡◌, List, ◌++◌, ◌-◌, ◌/◌, ◌≤◌, length, take, drop, sym, ap, subst, ◌∙◌, arith, length-append, get_or, Ok, Err, Result}
+use Rattle.std.proofs.lemmas.List.{drop_at, get_or_append_left, take-append-drop, take_rest}
+use Rattle.etherparse_base.specs.Bytes.{IsBytes}
+use Rattle.etherparse_base.specs.declared.err.ipv6.header_error.HeaderError.TheVariants.{UnexpectedVersion}
+use Rattle.etherparse_base.specs.declared.err.ipv6.header_slice_error.HeaderSliceError.{HeaderSliceError}
+use Rattle.etherparse_base.specs.declared.err.ipv6.header_slice_error.HeaderSliceError.TheVariants.{Len, Content}
+use Rattle.etherparse.proofs.Parts.{get_or-slice_range, length-part, part_is_bytes, same_back, same_front}
+use Rattle.etherparse.proofs.Ipv6Layout.{header_at, same_header, version_of-layout}
+use Rattle.etherparse.specs.Ipv6Header.{Ipv6Reading, IsIpv6Layout, ReadsIpv6, RefusesIpv6, ViewsIpv6}
+use Rattle.etherparse.specs.FirstByte.{version_of}
+use Rattle.etherparse.specs.declared.net.ipv6_header.Ipv6Header.{Ipv6Header}
+
+-- some bytes are refused for one reason
+refused_once : (s : List ℕ) (e f : HeaderSliceError) → RefusesIpv6 s e → RefusesIpv6 s f → e ≡ f
+refused_once s (Len a) (Len b) p q = ap Len (p.1 ∙ sym q.1)
+refused_once s (Len a) (Content (UnexpectedVersion w)) p q = absurd (omega (arith, p.0, q.0))
+refused_once s (Content (UnexpectedVersion v)) (Len b) p q = absurd (omega (arith, p.0, q.0))
+refused_once s (Content (UnexpectedVersion v)) (Content (UnexpectedVersion w)) p q =
+    ap (λ x. Content (UnexpectedVersion x)) (p.2 ∙ sym q.2)
+
+-- what begins with a header is not refused
+not_refused : (h : Ipv6Header) (p r s : List ℕ) → s ≡ p ++ r → IsIpv6Layout h p → (e : HeaderSliceError) → RefusesIpv6 s e → ⊥
+not_refused h p r s e l (Len a) q = omega (arith, q.0, ap length e, length-append p r, l.len)
+not_refused h p r s e l (Content (UnexpectedVersion v)) q =
+    let first = get_or_append_left p r 0 0 (omega (arith, l.len)) in
+    q.1 (ap version_of e ∙ (rw first (version_of-layout h p l)))
+
+pub read_once : (s : List ℕ) (a b : Ipv6Reading) → ReadsIpv6 s a → ReadsIpv6 s b → a ≡ b
+read_once s (Ok x) (Ok y) p q =
+    let whole : p.0 ++ x.1 ≡ q.0 ++ y.1 = sym p.1 ∙ q.1 in
+    let len : length p.0 ≡ length q.0 = p.2.len ∙ sym q.2.len in
+    let header : x.0 ≡ y.0 = same_header x.0 y.0 q.0 (subst (λ s. IsIpv6Layout x.0 s) (same_front p.0 q.0 x.1 y.1 len whole) p.2) q.2 in
+    let rest : x.1 ≡ y.1 = same_back p.0 q.0 x.1 y.1 len whole in
+    let pair : (x.0, x.1) ≡ (y.0, y.1) = cc in ap Ok pair
+read_once s (Ok x) (Err f) p q = absurd (not_refused x.0 p.0 x.1 s p.1 p.2 f q)
+read_once s (Err e) (Ok y) p q = absurd (not_refused y.0 q.0 y.1 s q.1 q.2 e p)
+read_once s (Err e) (Err f) p q = ap Err (refused_once s e f p q)
+
+pub viewed_once : (s : List ℕ) (a b : Result (List ℕ) HeaderSliceError) → ViewsIpv6 s a → ViewsIpv6 s b → a ≡ b
+viewed_once s (Ok x) (Ok y) p q = ap Ok (same_front x y p.0 q.0 (p.3.len ∙ sym q.3.len) (sym p.1 ∙ q.1))
+viewed_once s (Ok x) (Err f) p q = absurd (not_refused p.2 x p.0 s p.1 p.3 f q)
+viewed_once s (Err e) (Ok y) p q = absurd (not_refused q.2 y q.0 s q.1 q.3 e p)
+viewed_once s (Err e) (Err f) p q = ap Err (refused_once s e f p q)
+
+-- the front of some bytes is seen where they are enough and of version 6
+pub front_viewed : (s : List ℕ) → 40 ≤ length s → IsBytes s → version_of s ≡ 6 → ViewsIpv6 s (Ok (take 40 s))
+front_viewed s long bytes version =
+    let first : get_or (take 40 s) 0 0 ≡ get_or s 0 0 = get_or-slice_range s 0 40 0 (omega arith) in
+    let header = header_at (take 40 s) (length-part s 0 40 long) (λ i. part_is_bytes s 0 40 i bytes) (ap (λ n. n / 16) first ∙ version) in
+    (drop 40 s, sym (take-append-drop 40 s), header.0, header.1)
+
+-- what begins with a header is read
+pub read_front : (s p r : List ℕ) (h : Ipv6Header) → s ≡ p ++ r → IsIpv6Layout h p → ReadsIpv6 s (Ok (h, take (length s - 40) (drop 40 s)))
+read_front s p r h e l =
+    let rest : r ≡ drop 40 s = sym (ap (λ x. drop 40 x) e ∙ drop_at p r 40 l.len) in
+    (p, e ∙ ap (λ x. p ++ x) (rest ∙ sym (take_rest s 40)), l)

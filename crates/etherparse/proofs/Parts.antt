@@ -1,0 +1,51 @@
+-- Parts of a list: fronts, ranges, and what is behind them.
+use Rattle.std.proofs.Common.{ℕ, ◌≡◌, ◌+◌, ◌-◌, ◌<◌, ◌≤◌, List, map, ◌++◌, length, get_or, take, drop, refl, sym, ap, ◌∙◌, inl, inr, lit<, arith}
+use Rattle.std.specs.List.{slice_range, range_with_len}
+use Rattle.std.proofs.lemmas.Bool.{cases_lt}
+use Rattle.std.proofs.lemmas.Grind.{common_steps}
+use Rattle.std.proofs.lemmas.List.{drop_at, get_or-append_right, get_or_append_left, get_or_past, length-take, take_at}
+use Rattle.std.proofs.lemmas.List.FromFn.{fill_by_all}
+use Rattle.etherparse_base.specs.Bytes.{IsBytes}
+
+-- an item of a part
+pub get_or-slice_range : (xs : List ℕ) (a b i : ℕ) → a + i < b → get_or (slice_range xs a b) i 0 ≡ get_or xs (a + i) 0
+get_or-slice_range xs a b i h = grind (arith, common_steps)
+
+-- how long a part is
+pub length-part : (xs : List ℕ) (a b : ℕ) → b ≤ length xs → length (slice_range xs a b) ≡ b - a
+length-part xs a b h = grind (arith, common_steps)
+
+-- a part of bytes has bytes
+pub part_is_bytes : (xs : List ℕ) (a b i : ℕ) → IsBytes xs → get_or (slice_range xs a b) i 0 < 256
+part_is_bytes xs a b i h = elim (cases_lt (a + i) b) [
+  | inl below ↦ rw (get_or-slice_range xs a b i below) (h (a + i))
+  | inr past ↦ rw (get_or_past (slice_range xs a b) i 0 (omega (arith, length-take (b - a) (drop a xs)))) (lit< tt)
+]
+
+-- the items of a part, one by one
+pub listed : (xs : List ℕ) (a n : ℕ) → a + n ≤ length xs → slice_range xs a (a + n) ≡ map (λ i. get_or xs (a + i) 0) (range_with_len 0 n)
+listed xs a n h = fill_by_all (λ i. get_or xs (a + i) 0) (slice_range xs a (a + n)) n 0 (grind (arith, common_steps))
+    (λ k below. get_or-slice_range xs a (a + n) k (omega arith))
+
+-- two fronts of one length are one
+pub same_front : (p q x y : List ℕ) → length p ≡ length q → p ++ x ≡ q ++ y → p ≡ q
+same_front p q x y e h = sym (take_at p x (length q) e) ∙ (ap (λ s. take (length q) s) h ∙ take_at q y (length q) refl)
+
+-- and so is what is behind them
+pub same_back : (p q x y : List ℕ) → length p ≡ length q → p ++ x ≡ q ++ y → x ≡ y
+same_back p q x y e h = sym (drop_at p x (length q) e) ∙ (ap (λ s. drop (length q) s) h ∙ drop_at q y (length q) refl)
+
+-- all items of a list, one by one
+pub spread : (xs : List ℕ) (n : ℕ) → length xs ≡ n → xs ≡ map (λ i. get_or xs i 0) (range_with_len 0 n)
+spread xs n e = fill_by_all (λ i. get_or xs i 0) xs n 0 e (λ k below. refl)
+
+-- three parts, each with its equation
+pub same_three : (a a' b b' c c' : List ℕ) → a ≡ a' → b ≡ b' → c ≡ c' → a' ++ (b' ++ c') ≡ a ++ (b ++ c)
+same_three a a' b b' c c' p q r = cc
+
+-- bytes and bytes behind them are bytes
+pub append_is_bytes : (xs ys : List ℕ) → IsBytes xs → IsBytes ys → IsBytes (xs ++ ys)
+append_is_bytes xs ys h k i = elim (cases_lt i (length xs)) [
+  | inl below ↦ rw (get_or_append_left xs ys 0 i below) (h i)
+  | inr past ↦ rw (get_or-append_right xs ys (length xs) i 0 refl past) (k (i - length xs))
+]

@@ -1,0 +1,41 @@
+use Rattle.std.proofs.Common.{ap, subst, sym, ◌∙◌}
+use Rattle.etherparse.proofs.Fields.{options_kept, options_taken}
+use Rattle.etherparse.proofs.Ipv4Layout.{header_at, same_fields}
+use Rattle.etherparse.specs.Ipv4Header.{IsIpv4Layout}
+use Rattle.etherparse.proofs.net.ipv4_header_slice.Ipv4HeaderSlice.to_header.Goals as goal
+
+pub unwrap-requires : goal.unwrap-requires
+unwrap-requires c =
+    let v = c.args.self.now in
+    let found = header_at v.slice.now v.version v.ihl v.len v.bytes in
+    let options = c.options.ensures.value found.0 found.1 found.2 in
+    options_taken _ _ c.try_from.ensures (rw options found.2.options_len)
+
+pub returns : goal.returns
+returns c =
+    let v = c.args.self.now in
+    let found = header_at v.slice.now v.version v.ihl v.len v.bytes in
+    let h = found.0 in
+    let r = found.1 in
+    let l = found.2 in
+    record {
+      layout = (
+        r,
+        subst (λ x. IsIpv4Layout x r v.slice.now)
+            (same_fields h _
+            (sym (c.dcp.ensures h r l))
+            (sym (c.ecn.ensures h r l))
+            (sym (c.total_len.ensures h r l))
+            (sym (c.identification.ensures h r l))
+            (sym (c.dont_fragment.ensures h r l))
+            (sym (c.more_fragments.ensures h r l))
+            (sym (c.fragments_offset.ensures h r l))
+            (sym (c.ttl.ensures h r l))
+            (ap (λ n. n.0) (sym (c.protocol.ensures h r l)))
+            (sym (c.header_checksum.ensures h r l))
+            (sym (c.source.ensures h r l))
+            (sym (c.destination.ensures h r l))
+            (sym (options_kept _ _ _ c.try_from.ensures c.unwrap.ensures ∙ c.options.ensures.value h r l)))
+            l,
+      );
+    }

@@ -1,0 +1,17 @@
+use Rattle.std.proofs.Common.{arith, refl, subst, sym, ◌∙◌}
+use Rattle.etherparse_base.specs.Bytes.{IsBytes}
+use Rattle.etherparse.proofs.Ipv6Layout.{same_bytes, spells}
+use Rattle.etherparse.proofs.net.ipv6_header.Ipv6Header.to_bytes.Goals as goal
+
+pub returns : goal.returns
+returns c =
+    let h = c.args.self.now in
+    let layout = spells h c.joined.result c.front.ensures.traffic_class c.front.ensures.flow_label
+    c.front.ensures.payload_length (omega arith) (omega arith)
+    (subst IsBytes (sym c.joined.ensures.parts) c.joined.ensures.are_bytes)
+    (c.joined.ensures.parts ∙ rw c.front.ensures.value refl) in
+    record {
+      layout = layout;
+      only = λ bytes other. same_bytes h bytes c.joined.result other layout;
+      read_again = λ rest. (c.joined.result, refl, layout);
+    }

@@ -1,0 +1,15 @@
+use Rattle.std.proofs.Common.{arith}
+use Rattle.etherparse.proofs.Parts.{append_is_bytes, same_three, spread}
+use Rattle.etherparse.proofs.net.ipv6_header.joined.Goals as goal
+
+pub returns-clause-parts : goal.returns-clause-parts
+returns-clause-parts c = same_three _ _ _ _ _ _
+    (spread c.args.front.now 8 c.requires.front_len)
+    (spread c.args.source.now 16 c.requires.source_len)
+    (spread c.args.destination.now 16 c.requires.destination_len)
+
+pub returns-clause-are_bytes : goal.returns-clause-are_bytes
+returns-clause-are_bytes c =
+    append_is_bytes c.args.front.now _ (λ i. omega (arith, c.type_inv.front i))
+    (append_is_bytes c.args.source.now c.args.destination.now
+    (λ i. omega (arith, c.type_inv.source i)) (λ i. omega (arith, c.type_inv.destination i)))

@@ -1,0 +1,20 @@
+use Rattle.std.proofs.Common.{arith, ap, refl, ◌∙◌, ◌/◌}
+use Rattle.etherparse.proofs.Ipv6Reading.{front_viewed, viewed_once}
+use Rattle.etherparse.proofs.Parts.{get_or-slice_range, length-part, part_is_bytes}
+use Rattle.etherparse.proofs.net.ipv6_header_slice.Ipv6HeaderSlice.from_slice.Goals as goal
+
+pub returns-then-version_number-ne6-clause-only : goal.returns-then-version_number-ne6-clause-only
+returns-then-version_number-ne6-clause-only c = λ other o. viewed_once _ other _ o (c.if-slice-lt-LEN.false, c.if-version_number-ne6.true, refl)
+
+pub invariant_of-result : goal.invariant_of-result
+invariant_of-result c = record {
+  len = length-part c.args.slice.now 0 40 c.if-slice-lt-LEN.false;
+  version = ap (λ n. n / 16) (get_or-slice_range c.args.slice.now 0 40 0 (omega arith)) ∙ c.if-version_number-ne6.false;
+  bytes = λ i. part_is_bytes c.args.slice.now 0 40 i (λ k. omega (arith, c.type_inv.slice k));
+}
+
+pub returns-clause-views : goal.returns-clause-views
+returns-clause-views c = front_viewed _ c.if-slice-lt-LEN.false (λ i. omega (arith, c.type_inv.slice i)) c.if-version_number-ne6.false
+
+pub returns-clause-only : goal.returns-clause-only
+returns-clause-only c = λ other o. viewed_once _ other _ o (front_viewed _ c.if-slice-lt-LEN.false (λ i. omega (arith, c.type_inv.slice i)) c.if-version_number-ne6.false)

@@ -1,0 +1,14 @@
+pub mod EqualityLaws
+pub mod Ipv4Header
+pub mod Ipv4HeaderSlice
+pub mod Ipv6Header
+pub mod Ipv6HeaderSlice
+pub mod PayloadLen
+pub mod Reading
+pub mod TrafficClass
+pub mod FirstByte
+pub use Rattle.etherparse_base.specs.Bytes
+pub use Rattle.etherparse_base.specs.Ipv4Errors
+pub use Rattle.etherparse_base.specs.Ipv6Errors
+pub use Rattle.etherparse_fields.specs.IpEcn
+pub use Rattle.etherparse_fields.specs.Ipv4Options

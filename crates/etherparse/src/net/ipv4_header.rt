@@ -1,0 +1,386 @@
+ghost use Rattle.std.specs.Prelude.{◌≡◌, ◌≤◌, ◌++◌, length};
+ghost use Rattle.etherparse_base.specs.Bytes.{IsBytes};
+ghost use Rattle.etherparse.specs.PayloadLen.{PayloadLen};
+
+use crate::err::ipv4::{BadOptionsLen, HeaderSliceError};
+use crate::err::{Layer, LenError, ValueTooBigError, ValueType};
+use crate::{IpDscp, IpEcn, IpFragOffset, IpNumber, Ipv4HeaderSlice, Ipv4Options, LenSource};
+use arrayvec::ArrayVec;
+
+/// An IPv4 header with its options (RFC 791 section 3.1).
+///
+/// The reserved bit of the flags is no field: it is read as 0 or 1, and written as 0.
+#[derive(Clone, Debug, Hash, Drop)]
+pub struct Ipv4Header {
+    /// The differentiated services code point (RFC 2474).
+    pub dscp: IpDscp,
+    /// The explicit congestion notification (RFC 3168).
+    pub ecn: IpEcn,
+    /// The length of the header and what follows it, in bytes.
+    pub total_len: u16,
+    /// What the fragments of one packet have in common.
+    pub identification: u16,
+    /// Whether the packet must not be cut into fragments.
+    pub dont_fragment: bool,
+    /// Whether more fragments follow this one.
+    pub more_fragments: bool,
+    /// Where the fragment stands in the packet, in units of 8 bytes.
+    pub fragment_offset: IpFragOffset,
+    /// How many more nodes may forward the packet.
+    pub time_to_live: u8,
+    /// The protocol of what follows the header.
+    pub protocol: IpNumber,
+    /// The checksum over the header, as it was read or is to be written.
+    pub header_checksum: u16,
+    /// The address of the sender.
+    pub source: [u8; 4],
+    /// The address of the receiver.
+    pub destination: [u8; 4],
+    /// What follows the fixed fields, 0 to 40 bytes in words of 4.
+    pub options: Ipv4Options,
+}
+
+impl Ipv4Header {
+    ghost use Rattle.std.specs.Prelude.{ℕ, ◌≡◌, ◌+◌, ◌*◌, ◌/◌, ◌^◌, ◌<◌, ◌≤◌, ◌↔◌, List, [], ◌∷◌, ◌++◌, Ok, IsOk, IfOk, OnOk, OnErr, IfErr, IsTrue, length};
+    ghost use Rattle.std.specs.Int.{from_bool, to_be_bytes, w16};
+    ghost use Rattle.etherparse_fields.specs.IpEcn.{ecn_value};
+    ghost use Rattle.etherparse_fields.specs.Ipv4Options.{IsOptionsLen};
+    ghost use Rattle.etherparse.specs.Ipv4Header.{HasFieldRanges, IsFragment, IsIpv4Layout, Ipv4PayloadLen, Ipv4Reading, ReadsIpv4, default_ipv4_header, ipv4_header_len, ipv4_ihl, ipv4_max_payload_len, with_reserved_bit_cleared};
+    ghost use Rattle.etherparse_base.specs.declared.err.value_type.ValueType.TheVariants as value_type;
+    ghost use Rattle.etherparse.specs.Reading.{header_and_rest};
+    ghost use Rattle.etherparse.specs.declared.net.ipv4_header.Ipv4Header.{Ipv4Header};
+
+    /// The length of a header with no options, in bytes.
+    pub const MIN_LEN: usize = 20;
+
+    /// The length of a header with no options, in bytes.
+    pub const MIN_LEN_U16: u16 = 20;
+
+    /// The length of a header with all the options that it has room for, in bytes.
+    pub const MAX_LEN: usize = 60;
+
+    /// An older name of [`Ipv4Header::MIN_LEN`].
+    pub const SERIALIZED_SIZE: usize = 20;
+
+    /// The header of a payload of this length in bytes, with no options and the checksum 0.
+    ///
+    /// # Errors
+    ///
+    /// A `ValueTooBigError` where the payload is above 65515 bytes, which with the header are more than `total_len` has
+    /// room for.
+    pub fn new(
+        payload_len: u16,
+        time_to_live: u8,
+        protocol: IpNumber,
+        source: [u8; 4],
+        destination: [u8; 4],
+    ) -> Result<Ipv4Header, ValueTooBigError<u16>>
+        ensures accepted { IsOk result ↔ (payload_len ≤ 65515) }
+        ensures refused { IfErr result (λ e. e ≡ record {
+          actual = payload_len;
+          max_allowed = 65515;
+          value_type = value_type.Ipv4PayloadLength;
+        }) }
+        ensures made { IfOk result (λ header. header ≡ record default_ipv4_header {
+          total_len = 20 + payload_len;
+          time_to_live = time_to_live;
+          protocol = protocol;
+          source = source;
+          destination = destination;
+        }) }
+    {
+        const MAX_PAYLOAD_LEN: u16 = 65515;
+        if payload_len > MAX_PAYLOAD_LEN {
+            return Err(ValueTooBigError {
+                actual: payload_len,
+                max_allowed: MAX_PAYLOAD_LEN,
+                value_type: ValueType::Ipv4PayloadLength,
+            });
+        }
+        Ok(Ipv4Header {
+            dscp: IpDscp::ZERO,
+            ecn: IpEcn::ZERO,
+            total_len: Ipv4Header::MIN_LEN_U16 + payload_len,
+            identification: 0,
+            dont_fragment: true,
+            more_fragments: false,
+            fragment_offset: IpFragOffset::ZERO,
+            time_to_live,
+            protocol,
+            header_checksum: 0,
+            source,
+            destination,
+            options: Ipv4Options::new(),
+        })
+    }
+
+    /// The length of the header in words of 4 bytes, 5 to 15, as the IHL field has it.
+    #[inline]
+    pub fn ihl(&self) -> u8
+        ensures value { result ≡ ipv4_ihl self.now }
+        ensures within { result ≤ 15 }
+    {
+        self.options.len_u8() / 4 + 5
+    }
+
+    /// The length of the header with its options, in bytes.
+    #[inline]
+    pub fn header_len(&self) -> usize
+        ensures value { result ≡ ipv4_header_len self.now }
+        ensures within { result ≤ 60 }
+    {
+        Ipv4Header::MIN_LEN + self.options.len()
+    }
+
+    /// The length of what follows the header, in bytes, as the total length tells of it.
+    ///
+    /// # Errors
+    ///
+    /// A `LenError` where the total length is below the length of the header: the first is its `len`, the second its
+    /// `required_len`.
+    #[inline]
+    pub fn payload_len(&self) -> Result<u16, LenError>
+        ensures { Ipv4PayloadLen self.now result }
+    {
+        payload_len_of(self.header_len() as u16, self.total_len)
+    }
+
+    /// The length of the longest payload that fits behind the header, in bytes: 65515, less the options.
+    #[inline]
+    pub fn max_payload_len(&self) -> u16
+        ensures { result ≡ ipv4_max_payload_len self.now }
+    {
+        u16::MAX - Ipv4Header::MIN_LEN_U16 - u16::from(self.options.len_u8())
+    }
+
+    /// Sets the total length to that of the header and a payload of this length, in bytes.
+    ///
+    /// # Errors
+    ///
+    /// A `ValueTooBigError` where the payload is above [`Ipv4Header::max_payload_len`]. The header is then as it was.
+    pub fn set_payload_len(&mut self, value: usize) -> Result<(), ValueTooBigError<usize>>
+        ensures accepted { IsOk result ↔ (value ≤ ipv4_max_payload_len self.old) }
+        ensures refused { IfErr result (λ e. e ≡ record {
+          actual = value;
+          max_allowed = ipv4_max_payload_len self.old;
+          value_type = value_type.Ipv4PayloadLength;
+        }) }
+        ensures set { OnOk result (self.new ≡ record self.old { total_len = ipv4_header_len self.old + value }) }
+        ensures unchanged { OnErr result (self.new ≡ self.old) }
+    {
+        let max_allowed = usize::from(self.max_payload_len());
+        if value > max_allowed {
+            return Err(ValueTooBigError {
+                actual: value,
+                max_allowed,
+                value_type: ValueType::Ipv4PayloadLength,
+            });
+        }
+        self.total_len = (self.header_len() + value) as u16;
+        Ok(())
+    }
+
+    /// The bytes of the options.
+    pub fn options(&self) -> &[u8]
+        ensures { result.now ≡ self.now.options }
+    {
+        self.options.as_slice()
+    }
+
+    /// Puts these bytes in the place of the options. The total length stays what it was.
+    ///
+    /// # Errors
+    ///
+    /// A `BadOptionsLen` where there are more than 40 bytes, or not whole words of 4 bytes. The header is then as it was.
+    pub fn set_options(&mut self, data: &[u8]) -> Result<(), BadOptionsLen>
+        ensures accepted { IsOk result ↔ IsOptionsLen (length «data».now) }
+        ensures refused { IfErr result (λ e. e ≡ record { bad_len = length «data».now }) }
+        ensures set { OnOk result (self.new ≡ record self.old { options = «data».now }) }
+        ensures unchanged { OnErr result (self.new ≡ self.old) }
+    {
+        self.options = Ipv4Options::try_from(data)?;
+        Ok(())
+    }
+
+    /// Whether the payload is a part of one that was cut: more fragments follow it, or its offset is not 0.
+    #[inline]
+    pub fn is_fragmenting_payload(&self) -> bool
+        ensures { IsTrue result ↔ IsFragment self.now }
+    {
+        self.more_fragments || self.fragment_offset.value() != 0
+    }
+
+    /// An older name of [`Ipv4Header::from_slice`], with its answers.
+    ///
+    /// # Errors
+    ///
+    /// Those of [`Ipv4Header::from_slice`].
+    #[inline]
+    pub fn read_from_slice(slice: &[u8]) -> Result<(Ipv4Header, &[u8]), HeaderSliceError>
+        ensures reads { ReadsIpv4 slice.now (header_and_rest result) }
+        ensures only { (other : Ipv4Reading) → ReadsIpv4 slice.now other → other ≡ header_and_rest result }
+    {
+        Ipv4Header::from_slice(slice)
+    }
+
+    /// The header at the front of a slice, and all the bytes behind it, however many `total_len` tells of.
+    ///
+    /// # Errors
+    ///
+    /// In this order: `Len` where the slice has fewer than 20 bytes; `Content` where the version is not 4, or the IHL is
+    /// below 5; `Len` where the slice has fewer bytes than the IHL says.
+    pub fn from_slice(slice: &[u8]) -> Result<(Ipv4Header, &[u8]), HeaderSliceError>
+        ensures reads { ReadsIpv4 slice.now (header_and_rest result) }
+        ensures only { (other : Ipv4Reading) → ReadsIpv4 slice.now other → other ≡ header_and_rest result }
+
+        // What was read is written again, with the reserved bit 0.
+        ensures cleared { IfOk result (λ x. (bytes : List ℕ) × (slice.now ≡ bytes ++ x.1.now)
+            × IsIpv4Layout x.0 0 (with_reserved_bit_cleared bytes)) }
+
+        // Bytes have the same header where they agree in all but the reserved bit.
+        ensures same_header { IfOk result (λ x. (bytes : List ℕ) → slice.now ≡ bytes ++ x.1.now →
+            (other : Ipv4Header) (reserved : ℕ) (others : List ℕ) → IsIpv4Layout other reserved others →
+            (other ≡ x.0) ↔ (with_reserved_bit_cleared others ≡ with_reserved_bit_cleared bytes)) }
+    {
+        let view = Ipv4HeaderSlice::from_slice(slice)?;
+        Ok((view.to_header(), &slice[view.slice.len()..]))
+    }
+
+    /// The bytes of the header, in network byte order, with the reserved bit 0 and the checksum that the header has.
+    pub fn to_bytes(&self) -> ArrayVec<u8, 60>
+        ensures layout { IsIpv4Layout self.now 0 result.items }
+        ensures only { (bytes : List ℕ) → IsIpv4Layout self.now 0 bytes → bytes ≡ result.items }
+        ensures read_again { (rest : List ℕ) → ReadsIpv4 (result.items ++ rest) (Ok (self.now, rest)) }
+    {
+        joined(&self.front(), self.options.as_slice())
+    }
+
+    // What stands before the options.
+    #[inline(always)]
+    #[rattlefmt::skip]
+    fn front(&self) -> [u8; 20]
+        ensures value { result ≡ (4 * 2 ^ 4 + ipv4_ihl self.now) ∷ (self.now.dscp * 2 ^ 2 + ecn_value self.now.ecn)
+            ∷ (to_be_bytes w16 self.now.total_len ++ (to_be_bytes w16 self.now.identification
+            ++ (to_be_bytes w16 (from_bool self.now.dont_fragment * 2 ^ 14 + from_bool self.now.more_fragments * 2 ^ 13 + self.now.fragment_offset)
+            ++ (self.now.time_to_live ∷ self.now.protocol.0 ∷ (to_be_bytes w16 self.now.header_checksum
+            ++ (self.now.source ++ self.now.destination)))))) }
+        ensures ranges { HasFieldRanges self.now }
+    {
+        let dscp = self.dscp.value();
+        let ecn = self.ecn.value();
+        let (total_len, identification, header_checksum) = (self.total_len, self.identification, self.header_checksum);
+        let flags = (u16::from(self.dont_fragment) << 14) + (u16::from(self.more_fragments) << 13);
+        let [t, u] = total_len.to_be_bytes();
+        let [i, j] = identification.to_be_bytes();
+        let [f, g] = (flags + self.fragment_offset.value()).to_be_bytes();
+        let [c, k] = header_checksum.to_be_bytes();
+        let (s, d) = (&self.source, &self.destination);
+        [
+            (4 << 4) + self.ihl(), (dscp << 2) + ecn, t, u,
+            i, j, f, g,
+            self.time_to_live, self.protocol.0, c, k,
+            s[0], s[1], s[2], s[3],
+            d[0], d[1], d[2], d[3],
+        ]
+    }
+}
+
+/// The length of a payload by the lengths of the header and of the packet, or the error that the second is below the first.
+#[inline]
+pub(crate) fn payload_len_of(header_len: u16, total_len: u16) -> Result<u16, LenError>
+    ensures { PayloadLen header_len total_len result }
+{
+    if header_len <= total_len {
+        Ok(total_len - header_len)
+    } else {
+        Err(LenError {
+            required_len: usize::from(header_len),
+            len: usize::from(total_len),
+            len_source: LenSource::Ipv4HeaderTotalLen,
+            layer: Layer::Ipv4Packet,
+            layer_start_offset: 0,
+        })
+    }
+}
+
+// The fixed fields, and the options behind them.
+#[inline(always)]
+fn joined(front: &[u8], options: &[u8]) -> ArrayVec<u8, 60>
+    requires front_len { length front.now ≡ 20 }
+    requires options_len { length options.now ≤ 40 }
+    ensures parts { result.items ≡ front.now ++ options.now }
+    ensures are_bytes { IsBytes (front.now ++ options.now) }
+{
+    let mut bytes = ArrayVec::new();
+    bytes.try_extend_from_slice(front).unwrap();
+    if !options.is_empty() {
+        bytes.try_extend_from_slice(options).unwrap();
+    }
+    bytes
+}
+
+/// Headers are equal where all fields are.
+impl PartialEq for Ipv4Header {
+    ghost use Rattle.std.specs.Prelude.{◌≡◌, ◌↔◌, IsTrue};
+    ghost use Rattle.std.specs.Cmp.{partial_equiv_from_equiv};
+    ghost use Rattle.etherparse.specs.EqualityLaws.{is_same_ipv4_header-equiv};
+    ghost use Rattle.etherparse.specs.Ipv4Header.{is_same_ipv4_header};
+
+    ghost eq = { is_same_ipv4_header };
+
+    ghost laws = { partial_equiv_from_equiv is_same_ipv4_header-equiv };
+
+    fn eq(&self, other: &Self) -> bool
+        ensures member { result ≡ is_same_ipv4_header self.now other.now }
+        ensures all_fields { IsTrue result ↔ (self.now ≡ other.now) }
+    {
+        self.dscp == other.dscp
+            && self.ecn == other.ecn
+            && self.total_len == other.total_len
+            && self.identification == other.identification
+            && self.dont_fragment == other.dont_fragment
+            && self.more_fragments == other.more_fragments
+            && self.fragment_offset == other.fragment_offset
+            && self.time_to_live == other.time_to_live
+            && self.protocol == other.protocol
+            && self.header_checksum == other.header_checksum
+            && self.source == other.source
+            && self.destination == other.destination
+            && self.options == other.options
+    }
+}
+
+impl Eq for Ipv4Header {
+    ghost use Rattle.etherparse.specs.EqualityLaws.{is_same_ipv4_header-equiv};
+
+    ghost laws = { is_same_ipv4_header-equiv };
+}
+
+/// The packet must not be fragmented and its protocol is 255. All else is 0, false or empty.
+impl Default for Ipv4Header {
+    ghost use Rattle.std.specs.Prelude.{◌≡◌};
+    ghost use Rattle.etherparse.specs.Ipv4Header.{default_ipv4_header};
+
+    ghost is_default = { λ header. header ≡ default_ipv4_header };
+
+    fn default() -> Ipv4Header {
+        Ipv4Header {
+            dscp: IpDscp::ZERO,
+            ecn: IpEcn::ZERO,
+            total_len: 0,
+            identification: 0,
+            dont_fragment: true,
+            more_fragments: false,
+            fragment_offset: IpFragOffset::ZERO,
+            time_to_live: 0,
+            protocol: IpNumber(255),
+            header_checksum: 0,
+            source: [0; 4],
+            destination: [0; 4],
+            options: Ipv4Options::new(),
+        }
+    }
+}
+
+#[cfg(test)]
+mod tests;

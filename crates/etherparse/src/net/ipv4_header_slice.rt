@@ -1,0 +1,278 @@
+ghost use Rattle.std.specs.Prelude.{◌≡◌, ◌*◌, ◌≤◌, length};
+ghost use Rattle.etherparse_base.specs.Bytes.{IsBytes};
+ghost use Rattle.etherparse.specs.FirstByte.{ihl_of, version_of};
+ghost use Rattle.etherparse.specs.Ipv4Header.{ipv4_too_short};
+
+use crate::err::ipv4::{HeaderError, HeaderSliceError};
+use crate::err::{Layer, LenError};
+use crate::net::ipv4_header::payload_len_of;
+use crate::{IpDscp, IpEcn, IpFragOffset, IpNumber, Ipv4Header, Ipv4Options, LenSource};
+
+/// A view of the bytes of an IPv4 header with its options (RFC 791 section 3.1).
+///
+/// It keeps the reserved bit, which an [`Ipv4Header`] has no field for.
+#[derive(Clone, Copy, Debug)]
+pub struct Ipv4HeaderSlice<'a> {
+    /// The bytes of the header: 20, and those of the options.
+    pub slice: &'a [u8],
+    pub ghost version: { version_of slice.now ≡ 4 },
+    pub ghost ihl: { 5 ≤ ihl_of slice.now },
+    pub ghost len: { length slice.now ≡ 4 * ihl_of slice.now },
+    pub ghost bytes: { IsBytes slice.now },
+}
+
+impl<'a> Ipv4HeaderSlice<'a> {
+    ghost use Rattle.std.specs.Prelude.{ℕ, ◌≡◌, ◌%◌, ◌≤◌, ◌↔◌, List, Result, IsTrue, length};
+    ghost use Rattle.etherparse_base.specs.declared.err.ipv4.header_slice_error.HeaderSliceError.{HeaderSliceError};
+    ghost use Rattle.etherparse.specs.Ipv4Header.{IsFragment, IsIpv4Layout, Ipv4PayloadLen, ViewsIpv4, ipv4_ihl};
+    ghost use Rattle.etherparse.specs.Ipv4HeaderSlice.{view_bytes};
+    ghost use Rattle.etherparse.specs.declared.net.ipv4_header.Ipv4Header.{Ipv4Header};
+
+    /// A view of the header at the front of a slice.
+    ///
+    /// # Errors
+    ///
+    /// In this order: `Len` where the slice has fewer than 20 bytes; `Content` where the version is not 4, or the IHL is
+    /// below 5; `Len` where the slice has fewer bytes than the IHL says.
+    pub fn from_slice(slice: &'a [u8]) -> Result<Ipv4HeaderSlice<'a>, HeaderSliceError>
+        ensures views { ViewsIpv4 slice.now (view_bytes result) }
+        ensures only { (other : Result (List ℕ) HeaderSliceError) → ViewsIpv4 slice.now other → other ≡ view_bytes result }
+    {
+        if slice.len() < Ipv4Header::MIN_LEN {
+            return Err(too_short(Ipv4Header::MIN_LEN, slice.len()));
+        }
+        let version_number = slice[0] >> 4;
+        if version_number != 4 {
+            return Err(HeaderSliceError::Content(HeaderError::UnexpectedVersion {
+                version_number,
+            }));
+        }
+        let ihl = slice[0] & 0xf;
+        if ihl < 5 {
+            return Err(HeaderSliceError::Content(HeaderError::HeaderLengthSmallerThanHeader {
+                ihl,
+            }));
+        }
+        let header_len = 4 * usize::from(ihl);
+        if slice.len() < header_len {
+            return Err(too_short(header_len, slice.len()));
+        }
+        Ok(Ipv4HeaderSlice {
+            slice: &slice[..header_len],
+        })
+    }
+
+    /// The bytes of the header, which live as long as the slice that was read.
+    #[inline]
+    pub fn slice(&self) -> &'a [u8]
+        ensures { result.now ≡ self.now.slice.now }
+    {
+        self.slice
+    }
+
+    /// The version, which is 4: the upper half of byte 0.
+    #[inline]
+    pub fn version(&self) -> u8
+        ensures { result ≡ 4 }
+    {
+        self.slice[0] >> 4
+    }
+
+    /// The length of the header in words of 4 bytes, 5 to 15: the lower half of byte 0.
+    #[inline]
+    pub fn ihl(&self) -> u8
+        ensures { (header : Ipv4Header) (reserved : ℕ) → IsIpv4Layout header reserved self.now.slice.now → result ≡ ipv4_ihl header }
+    {
+        self.slice[0] & 0xf
+    }
+
+    /// The differentiated services code point: the upper 6 bits of byte 1.
+    #[inline]
+    pub fn dcp(&self) -> IpDscp
+        ensures { (header : Ipv4Header) (reserved : ℕ) → IsIpv4Layout header reserved self.now.slice.now → result ≡ header.dscp }
+    {
+        IpDscp::try_new(self.slice[1] >> 2).unwrap()
+    }
+
+    /// The explicit congestion notification: the lower 2 bits of byte 1.
+    #[inline]
+    pub fn ecn(&self) -> IpEcn
+        ensures { (header : Ipv4Header) (reserved : ℕ) → IsIpv4Layout header reserved self.now.slice.now → result ≡ header.ecn }
+    {
+        IpEcn::try_new(self.slice[1] & 0b11).unwrap()
+    }
+
+    /// The length of the header and what follows it, in bytes: bytes 2 and 3.
+    #[inline]
+    pub fn total_len(&self) -> u16
+        ensures { (header : Ipv4Header) (reserved : ℕ) → IsIpv4Layout header reserved self.now.slice.now → result ≡ header.total_len }
+    {
+        u16::from_be_bytes([self.slice[2], self.slice[3]])
+    }
+
+    /// The length of what follows the header, in bytes, as the total length tells of it.
+    ///
+    /// # Errors
+    ///
+    /// A `LenError` where the total length is below the length of the header: the first is its `len`, the second its
+    /// `required_len`.
+    #[inline]
+    pub fn payload_len(&self) -> Result<u16, LenError>
+        ensures { (header : Ipv4Header) (reserved : ℕ) → IsIpv4Layout header reserved self.now.slice.now → Ipv4PayloadLen header result }
+    {
+        payload_len_of(self.slice.len() as u16, self.total_len())
+    }
+
+    /// What the fragments of one packet have in common: bytes 4 and 5.
+    #[inline]
+    pub fn identification(&self) -> u16
+        ensures { (header : Ipv4Header) (reserved : ℕ) → IsIpv4Layout header reserved self.now.slice.now → result ≡ header.identification }
+    {
+        u16::from_be_bytes([self.slice[4], self.slice[5]])
+    }
+
+    /// Whether the packet must not be cut into fragments: a bit of byte 6.
+    #[inline]
+    pub fn dont_fragment(&self) -> bool
+        ensures { (header : Ipv4Header) (reserved : ℕ) → IsIpv4Layout header reserved self.now.slice.now → result ≡ header.dont_fragment }
+    {
+        self.slice[6] & 0x40 != 0
+    }
+
+    /// Whether more fragments follow this one: a bit of byte 6.
+    #[inline]
+    pub fn more_fragments(&self) -> bool
+        ensures { (header : Ipv4Header) (reserved : ℕ) → IsIpv4Layout header reserved self.now.slice.now → result ≡ header.more_fragments }
+    {
+        self.slice[6] & 0x20 != 0
+    }
+
+    /// Where the fragment stands in the packet, in units of 8 bytes: the lower 5 bits of byte 6, and byte 7.
+    #[inline]
+    pub fn fragments_offset(&self) -> IpFragOffset
+        ensures { (header : Ipv4Header) (reserved : ℕ) → IsIpv4Layout header reserved self.now.slice.now → result ≡ header.fragment_offset }
+    {
+        let bytes = [self.slice[6] & 0x1f, self.slice[7]];
+        IpFragOffset::try_new(u16::from_be_bytes(bytes)).unwrap()
+    }
+
+    /// Whether the payload is a part of one that was cut: more fragments follow it, or its offset is not 0.
+    #[inline]
+    pub fn is_fragmenting_payload(&self) -> bool
+        ensures { (header : Ipv4Header) (reserved : ℕ) → IsIpv4Layout header reserved self.now.slice.now → IsTrue result ↔ IsFragment header }
+    {
+        self.more_fragments() || self.fragments_offset().value() != 0
+    }
+
+    /// How many more nodes may forward the packet: byte 8.
+    #[inline]
+    pub fn ttl(&self) -> u8
+        ensures { (header : Ipv4Header) (reserved : ℕ) → IsIpv4Layout header reserved self.now.slice.now → result ≡ header.time_to_live }
+    {
+        self.slice[8]
+    }
+
+    /// The protocol of what follows the header: byte 9.
+    #[inline]
+    pub fn protocol(&self) -> IpNumber
+        ensures { (header : Ipv4Header) (reserved : ℕ) → IsIpv4Layout header reserved self.now.slice.now → result ≡ header.protocol }
+    {
+        IpNumber(self.slice[9])
+    }
+
+    /// The checksum that the header has, right or wrong: bytes 10 and 11.
+    #[inline]
+    pub fn header_checksum(&self) -> u16
+        ensures { (header : Ipv4Header) (reserved : ℕ) → IsIpv4Layout header reserved self.now.slice.now → result ≡ header.header_checksum }
+    {
+        u16::from_be_bytes([self.slice[10], self.slice[11]])
+    }
+
+    /// The source address: bytes 12 to 15.
+    #[inline]
+    pub fn source(&self) -> [u8; 4]
+        ensures { (header : Ipv4Header) (reserved : ℕ) → IsIpv4Layout header reserved self.now.slice.now → result ≡ header.source }
+    {
+        *self.slice[12..16].first_chunk::<4>().unwrap()
+    }
+
+    /// The destination address: bytes 16 to 19.
+    #[inline]
+    pub fn destination(&self) -> [u8; 4]
+        ensures { (header : Ipv4Header) (reserved : ℕ) → IsIpv4Layout header reserved self.now.slice.now → result ≡ header.destination }
+    {
+        *self.slice[16..20].first_chunk::<4>().unwrap()
+    }
+
+    /// The bytes of the options, from byte 20 on, which live as long as the slice that was read.
+    #[inline]
+    pub fn options(&self) -> &'a [u8]
+        ensures value { (header : Ipv4Header) (reserved : ℕ) → IsIpv4Layout header reserved self.now.slice.now → result.now ≡ header.options }
+        ensures fits { length result.now ≤ 40 }
+        ensures in_words { length result.now % 4 ≡ 0 }
+    {
+        &self.slice[Ipv4Header::MIN_LEN..]
+    }
+
+    /// The header that the bytes are in the layout of, with either reserved bit.
+    pub fn to_header(&self) -> Ipv4Header
+        ensures layout { (reserved : ℕ) × IsIpv4Layout result reserved self.now.slice.now }
+    {
+        Ipv4Header {
+            dscp: self.dcp(),
+            ecn: self.ecn(),
+            total_len: self.total_len(),
+            identification: self.identification(),
+            dont_fragment: self.dont_fragment(),
+            more_fragments: self.more_fragments(),
+            fragment_offset: self.fragments_offset(),
+            time_to_live: self.ttl(),
+            protocol: self.protocol(),
+            header_checksum: self.header_checksum(),
+            source: self.source(),
+            destination: self.destination(),
+            options: Ipv4Options::try_from(self.options()).unwrap(),
+        }
+    }
+}
+
+// The error of a slice that is too short for its header.
+fn too_short(required_len: usize, len: usize) -> HeaderSliceError
+    ensures { result ≡ HeaderSliceError.Len (ipv4_too_short required_len len) }
+{
+    HeaderSliceError::Len(LenError {
+        required_len,
+        len,
+        len_source: LenSource::Slice,
+        layer: Layer::Ipv4Header,
+        layer_start_offset: 0,
+    })
+}
+
+/// Views are equal where they show the same bytes, the reserved bit included.
+impl PartialEq for Ipv4HeaderSlice<'_> {
+    ghost use Rattle.std.specs.Prelude.{◌≡◌, ◌↔◌, IsTrue, nat_eq};
+    ghost use Rattle.std.specs.Cmp.{on_per, partial_equiv_from_equiv};
+    ghost use Rattle.std.specs.Cmp.Lexicographic.{nat_list_eq_equiv, pointwise};
+
+    ghost eq = { λ a b. pointwise nat_eq a.slice.now b.slice.now };
+
+    ghost laws = { on_per (λ view. view.slice.now) (partial_equiv_from_equiv nat_list_eq_equiv) };
+
+    fn eq(&self, other: &Self) -> bool
+        ensures member { result ≡ pointwise nat_eq self.now.slice.now other.now.slice.now }
+        ensures same_bytes { IsTrue result ↔ (self.now.slice.now ≡ other.now.slice.now) }
+    {
+        self.slice == other.slice
+    }
+}
+
+impl Eq for Ipv4HeaderSlice<'_> {
+    ghost use Rattle.std.specs.Cmp.{on_equiv};
+    ghost use Rattle.std.specs.Cmp.Lexicographic.{nat_list_eq_equiv};
+
+    ghost laws = { on_equiv (λ view. view.slice.now) nat_list_eq_equiv };
+}
+
+#[cfg(test)]
+mod tests;

@@ -1,0 +1,239 @@
+ghost use Rattle.std.specs.Prelude.{◌≡◌, ◌++◌, length};
+ghost use Rattle.etherparse_base.specs.Bytes.{IsBytes};
+
+use crate::err::ipv6::HeaderSliceError;
+use crate::err::{ValueTooBigError, ValueType};
+use crate::{IpDscp, IpEcn, IpNumber, Ipv6FlowLabel, Ipv6HeaderSlice};
+
+/// An IPv6 header without its extension headers (RFC 8200 section 3).
+#[derive(Clone, Debug, Drop)]
+pub struct Ipv6Header {
+    /// The traffic class: the DSCP in the upper 6 bits, the ECN in the lower 2 (RFC 2474, RFC 3168).
+    pub traffic_class: u8,
+    /// The flow label, which marks packets that routers should treat alike.
+    pub flow_label: Ipv6FlowLabel,
+    /// The length in bytes of all that follows the header, extension headers included; 0 for a jumbogram.
+    pub payload_length: u16,
+    /// What follows the header: an extension header or an upper-layer protocol.
+    pub next_header: IpNumber,
+    /// How many more nodes may forward the packet.
+    pub hop_limit: u8,
+    /// The address of the sender.
+    pub source: [u8; 16],
+    /// The address of the receiver.
+    pub destination: [u8; 16],
+}
+
+impl Ipv6Header {
+    ghost use Rattle.std.specs.Prelude.{ℕ, ◌≡◌, ◌+◌, ◌*◌, ◌^◌, ◌<◌, ◌≤◌, ◌↔◌, List, [], ◌∷◌, ◌++◌, Ok, IsOk, OnOk, OnErr, IfErr};
+    ghost use Rattle.std.specs.Int.{to_be_bytes, w16, w32};
+    ghost use Rattle.etherparse.specs.Ipv6Header.{Ipv6Reading, IsIpv6Layout, ReadsIpv6};
+    ghost use Rattle.etherparse.specs.Reading.{header_and_rest};
+    ghost use Rattle.etherparse.specs.TrafficClass.{traffic_class_dscp, traffic_class_ecn, traffic_class_of};
+    ghost use Rattle.etherparse_base.specs.declared.err.value_type.ValueType.TheVariants as value_type;
+    ghost use Rattle.etherparse_fields.specs.IpEcn.{ecn_value};
+
+    /// The length of every header, in bytes.
+    pub const LEN: usize = 40;
+
+    /// An older name of [`Ipv6Header::LEN`].
+    pub const SERIALIZED_SIZE: usize = 40;
+
+    /// The length of the header, which is 40 bytes for every header.
+    #[inline]
+    pub fn header_len(&self) -> usize
+        ensures { result ≡ 40 }
+    {
+        Ipv6Header::LEN
+    }
+
+    /// The header at the front of a slice, and all the bytes behind it, however many `payload_length` tells of.
+    ///
+    /// # Errors
+    ///
+    /// `Len` where the slice has fewer than 40 bytes; else `Content` where the version is not 6.
+    #[inline]
+    pub fn from_slice(slice: &[u8]) -> Result<(Ipv6Header, &[u8]), HeaderSliceError>
+        ensures reads { ReadsIpv6 slice.now (header_and_rest result) }
+        ensures only { (other : Ipv6Reading) → ReadsIpv6 slice.now other → other ≡ header_and_rest result }
+    {
+        let header = Ipv6HeaderSlice::from_slice(slice)?.to_header();
+        Ok((header, &slice[Ipv6Header::LEN..]))
+    }
+
+    /// An older name of [`Ipv6Header::from_slice`], with its answers.
+    ///
+    /// # Errors
+    ///
+    /// Those of [`Ipv6Header::from_slice`].
+    #[inline]
+    pub fn read_from_slice(slice: &[u8]) -> Result<(Ipv6Header, &[u8]), HeaderSliceError>
+        ensures reads { ReadsIpv6 slice.now (header_and_rest result) }
+        ensures only { (other : Ipv6Reading) → ReadsIpv6 slice.now other → other ≡ header_and_rest result }
+    {
+        Ipv6Header::from_slice(slice)
+    }
+
+    /// Sets the payload length, in bytes.
+    ///
+    /// # Errors
+    ///
+    /// A `ValueTooBigError` where the length is above 65535. The header is then as it was.
+    pub fn set_payload_length(&mut self, size: usize) -> Result<(), ValueTooBigError<usize>>
+        ensures accepted { IsOk result ↔ (size ≤ 65535) }
+        ensures refused { IfErr result (λ e. e ≡ record {
+          actual = size;
+          max_allowed = 65535;
+          value_type = value_type.Ipv6PayloadLength;
+        }) }
+        ensures set { OnOk result (self.new ≡ record self.old { payload_length = size }) }
+        ensures unchanged { OnErr result (self.new ≡ self.old) }
+    {
+        const MAX_PAYLOAD_LENGTH: usize = 65535;
+        if size > MAX_PAYLOAD_LENGTH {
+            return Err(ValueTooBigError {
+                actual: size,
+                max_allowed: MAX_PAYLOAD_LENGTH,
+                value_type: ValueType::Ipv6PayloadLength,
+            });
+        }
+        self.payload_length = size as u16;
+        Ok(())
+    }
+
+    /// The explicit congestion notification: the lower 2 bits of the traffic class.
+    #[inline]
+    pub fn ecn(&self) -> IpEcn
+        ensures { ecn_value result ≡ traffic_class_ecn self.now.traffic_class }
+    {
+        IpEcn::try_new(self.traffic_class & 0b11).unwrap()
+    }
+
+    /// Sets the explicit congestion notification, and keeps the differentiated services code point.
+    #[inline]
+    pub fn set_ecn(&mut self, ecn: IpEcn)
+        ensures { self.new ≡ record self.old {
+          traffic_class = traffic_class_of (traffic_class_dscp self.old.traffic_class) (ecn_value ecn);
+        } }
+    {
+        self.traffic_class = (self.traffic_class & 0b1111_1100) | ecn.value();
+    }
+
+    /// The differentiated services code point: the upper 6 bits of the traffic class.
+    #[inline]
+    pub fn dscp(&self) -> IpDscp
+        ensures { result ≡ traffic_class_dscp self.now.traffic_class }
+    {
+        IpDscp::try_new(self.traffic_class >> 2).unwrap()
+    }
+
+    /// Sets the differentiated services code point, and keeps the explicit congestion notification.
+    #[inline]
+    pub fn set_dscp(&mut self, dscp: IpDscp)
+        ensures { self.new ≡ record self.old {
+          traffic_class = traffic_class_of dscp (traffic_class_ecn self.old.traffic_class);
+        } }
+    {
+        self.traffic_class = (self.traffic_class & 0b11) | (dscp.value() << 2);
+    }
+
+    /// The 40 bytes of the header, in network byte order.
+    pub fn to_bytes(&self) -> [u8; 40]
+        ensures layout { IsIpv6Layout self.now result }
+        ensures only { (bytes : List ℕ) → IsIpv6Layout self.now bytes → bytes ≡ result }
+        ensures read_again { (rest : List ℕ) → ReadsIpv6 (result ++ rest) (Ok (self.now, rest)) }
+    {
+        joined(&self.front(), &self.source, &self.destination)
+    }
+
+    // What stands before the addresses.
+    #[inline(always)]
+    fn front(&self) -> [u8; 8]
+        ensures value { result ≡ to_be_bytes w32 (6 * 2 ^ 28 + self.now.traffic_class * 2 ^ 20 + self.now.flow_label)
+            ++ (to_be_bytes w16 self.now.payload_length ++ self.now.next_header.0 ∷ self.now.hop_limit ∷ []) }
+        ensures traffic_class { self.now.traffic_class < 2 ^ 8 }
+        ensures flow_label { self.now.flow_label < 2 ^ 20 }
+        ensures payload_length { self.now.payload_length < 2 ^ 16 }
+    {
+        let traffic_class = self.traffic_class;
+        let flow_label = self.flow_label.value();
+        let payload_length = self.payload_length;
+        let [a, b, c, d] = ((6 << 28)
+            + (u32::from(traffic_class) << 20)
+            + flow_label).to_be_bytes();
+        let [e, f] = payload_length.to_be_bytes();
+        [a, b, c, d, e, f, self.next_header.0, self.hop_limit]
+    }
+}
+
+/// Headers are equal where all fields are.
+impl PartialEq for Ipv6Header {
+    ghost use Rattle.std.specs.Prelude.{◌≡◌, ◌↔◌, IsTrue};
+    ghost use Rattle.std.specs.Cmp.{partial_equiv_from_equiv};
+    ghost use Rattle.etherparse.specs.EqualityLaws.{is_same_ipv6_header-equiv};
+    ghost use Rattle.etherparse.specs.Ipv6Header.{is_same_ipv6_header};
+
+    ghost eq = { is_same_ipv6_header };
+
+    ghost laws = { partial_equiv_from_equiv is_same_ipv6_header-equiv };
+
+    fn eq(&self, other: &Self) -> bool
+        ensures member { result ≡ is_same_ipv6_header self.now other.now }
+        ensures all_fields { IsTrue result ↔ (self.now ≡ other.now) }
+    {
+        self.traffic_class == other.traffic_class
+            && self.flow_label == other.flow_label
+            && self.payload_length == other.payload_length
+            && self.next_header == other.next_header
+            && self.hop_limit == other.hop_limit
+            && self.source == other.source
+            && self.destination == other.destination
+    }
+}
+
+impl Eq for Ipv6Header {
+    ghost use Rattle.etherparse.specs.EqualityLaws.{is_same_ipv6_header-equiv};
+
+    ghost laws = { is_same_ipv6_header-equiv };
+}
+
+/// All fields are 0, but for the next header, which is 255.
+impl Default for Ipv6Header {
+    ghost use Rattle.std.specs.Prelude.{◌≡◌};
+    ghost use Rattle.etherparse.specs.Ipv6Header.{default_ipv6_header};
+
+    ghost is_default = { λ header. header ≡ default_ipv6_header };
+
+    fn default() -> Ipv6Header {
+        Ipv6Header {
+            traffic_class: 0,
+            flow_label: Ipv6FlowLabel::ZERO,
+            payload_length: 0,
+            next_header: IpNumber(255),
+            hop_limit: 0,
+            source: [0; 16],
+            destination: [0; 16],
+        }
+    }
+}
+
+// Three parts, one behind the other, as one literal: it is stored without a copy between.
+#[inline(always)]
+#[rattlefmt::skip]
+fn joined(front: &[u8], source: &[u8], destination: &[u8]) -> [u8; 40]
+    requires front_len { length front.now ≡ 8 }
+    requires source_len { length source.now ≡ 16 }
+    requires destination_len { length destination.now ≡ 16 }
+    ensures parts { result ≡ front.now ++ (source.now ++ destination.now) }
+    ensures are_bytes { IsBytes (front.now ++ (source.now ++ destination.now)) }
+{
+    let (f, s, d) = (front, source, destination);
+    [
+        f[0], f[1], f[2], f[3], f[4], f[5], f[6], f[7],
+        s[0], s[1], s[2], s[3], s[4], s[5], s[6], s[7], s[8], s[9], s[10], s[11], s[12], s[13], s[14], s[15],
+        d[0], d[1], d[2], d[3], d[4], d[5], d[6], d[7], d[8], d[9], d[10], d[11], d[12], d[13], d[14], d[15],
+    ]
+}
+
+#[cfg(test)]
+mod tests;

@@ -1,0 +1,198 @@
+ghost use Rattle.std.specs.Prelude.{◌≡◌, length};
+ghost use Rattle.etherparse_base.specs.Bytes.{IsBytes};
+ghost use Rattle.etherparse.specs.FirstByte.{version_of};
+
+use crate::err::ipv6::{HeaderError, HeaderSliceError};
+use crate::err::{Layer, LenError};
+use crate::{IpDscp, IpEcn, IpNumber, Ipv6FlowLabel, Ipv6Header, LenSource};
+
+/// A view of the bytes of an IPv6 header without its extension headers (RFC 8200 section 3).
+#[derive(Clone, Copy, Debug)]
+pub struct Ipv6HeaderSlice<'a> {
+    /// The 40 bytes of the header.
+    pub slice: &'a [u8],
+    pub ghost len: { length slice.now ≡ 40 },
+    pub ghost version: { version_of slice.now ≡ 6 },
+    pub ghost bytes: { IsBytes slice.now },
+}
+
+impl<'a> Ipv6HeaderSlice<'a> {
+    ghost use Rattle.std.specs.Prelude.{ℕ, ◌≡◌, List, Result};
+    ghost use Rattle.etherparse_base.specs.declared.err.ipv6.header_slice_error.HeaderSliceError.{HeaderSliceError};
+    ghost use Rattle.etherparse.specs.Ipv6Header.{IsIpv6Layout, ViewsIpv6};
+    ghost use Rattle.etherparse.specs.Ipv6HeaderSlice.{view_bytes};
+    ghost use Rattle.etherparse.specs.TrafficClass.{traffic_class_dscp, traffic_class_ecn};
+    ghost use Rattle.etherparse_fields.specs.IpEcn.{ecn_value};
+    ghost use Rattle.etherparse.specs.declared.net.ipv6_header.Ipv6Header.{Ipv6Header};
+
+    /// A view of the header at the front of a slice.
+    ///
+    /// # Errors
+    ///
+    /// `Len` where the slice has fewer than 40 bytes; else `Content` where the version is not 6.
+    pub fn from_slice(slice: &'a [u8]) -> Result<Ipv6HeaderSlice<'a>, HeaderSliceError>
+        ensures views { ViewsIpv6 slice.now (view_bytes result) }
+        ensures only { (other : Result (List ℕ) HeaderSliceError) → ViewsIpv6 slice.now other → other ≡ view_bytes result }
+    {
+        if slice.len() < Ipv6Header::LEN {
+            return Err(HeaderSliceError::Len(LenError {
+                required_len: Ipv6Header::LEN,
+                len: slice.len(),
+                len_source: LenSource::Slice,
+                layer: Layer::Ipv6Header,
+                layer_start_offset: 0,
+            }));
+        }
+        let version_number = slice[0] >> 4;
+        if version_number != 6 {
+            return Err(HeaderSliceError::Content(HeaderError::UnexpectedVersion {
+                version_number,
+            }));
+        }
+        Ok(Ipv6HeaderSlice {
+            slice: &slice[..Ipv6Header::LEN],
+        })
+    }
+
+    /// The bytes of the header, which live as long as the slice that was read.
+    #[inline]
+    pub fn slice(&self) -> &'a [u8]
+        ensures { result.now ≡ self.now.slice.now }
+    {
+        self.slice
+    }
+
+    /// The version, which is 6: the upper half of byte 0.
+    #[inline]
+    pub fn version(&self) -> u8
+        ensures { result ≡ 6 }
+    {
+        self.slice[0] >> 4
+    }
+
+    /// The traffic class: the lower half of byte 0 and the upper half of byte 1.
+    #[inline]
+    pub fn traffic_class(&self) -> u8
+        ensures { (header : Ipv6Header) → IsIpv6Layout header self.now.slice.now → result ≡ header.traffic_class }
+    {
+        ((u16::from_be_bytes([self.slice[0], self.slice[1]]) >> 4) & 0xff) as u8
+    }
+
+    /// The explicit congestion notification: the lower 2 bits of the traffic class.
+    #[inline]
+    pub fn ecn(&self) -> IpEcn
+        ensures { (header : Ipv6Header) → IsIpv6Layout header self.now.slice.now →
+            ecn_value result ≡ traffic_class_ecn header.traffic_class }
+    {
+        IpEcn::try_new(self.traffic_class() & 0b11).unwrap()
+    }
+
+    /// The differentiated services code point: the upper 6 bits of the traffic class.
+    #[inline]
+    pub fn dscp(&self) -> IpDscp
+        ensures { (header : Ipv6Header) → IsIpv6Layout header self.now.slice.now →
+            result ≡ traffic_class_dscp header.traffic_class }
+    {
+        IpDscp::try_new(self.traffic_class() >> 2).unwrap()
+    }
+
+    /// The flow label: the lower half of byte 1, and bytes 2 and 3.
+    #[inline]
+    pub fn flow_label(&self) -> Ipv6FlowLabel
+        ensures { (header : Ipv6Header) → IsIpv6Layout header self.now.slice.now → result ≡ header.flow_label }
+    {
+        let bytes = [0, self.slice[1] & 0xf, self.slice[2], self.slice[3]];
+        Ipv6FlowLabel::try_new(u32::from_be_bytes(bytes)).unwrap()
+    }
+
+    /// The payload length in bytes: bytes 4 and 5.
+    #[inline]
+    pub fn payload_length(&self) -> u16
+        ensures { (header : Ipv6Header) → IsIpv6Layout header self.now.slice.now → result ≡ header.payload_length }
+    {
+        u16::from_be_bytes([self.slice[4], self.slice[5]])
+    }
+
+    /// What follows the header: byte 6.
+    #[inline]
+    pub fn next_header(&self) -> IpNumber
+        ensures { (header : Ipv6Header) → IsIpv6Layout header self.now.slice.now → result ≡ header.next_header }
+    {
+        IpNumber(self.slice[6])
+    }
+
+    /// The hop limit: byte 7.
+    #[inline]
+    pub fn hop_limit(&self) -> u8
+        ensures { (header : Ipv6Header) → IsIpv6Layout header self.now.slice.now → result ≡ header.hop_limit }
+    {
+        self.slice[7]
+    }
+
+    /// The source address: bytes 8 to 23.
+    #[inline]
+    pub fn source(&self) -> [u8; 16]
+        ensures { (header : Ipv6Header) → IsIpv6Layout header self.now.slice.now → result ≡ header.source }
+    {
+        *self.slice[8..24].first_chunk::<16>().unwrap()
+    }
+
+    /// The destination address: bytes 24 to 39.
+    #[inline]
+    pub fn destination(&self) -> [u8; 16]
+        ensures { (header : Ipv6Header) → IsIpv6Layout header self.now.slice.now → result ≡ header.destination }
+    {
+        *self.slice[24..].first_chunk::<16>().unwrap()
+    }
+
+    /// The header that the bytes are in the layout of.
+    pub fn to_header(&self) -> Ipv6Header
+        ensures layout { IsIpv6Layout result self.now.slice.now }
+    {
+        Ipv6Header {
+            traffic_class: self.traffic_class(),
+            flow_label: self.flow_label(),
+            payload_length: self.payload_length(),
+            next_header: self.next_header(),
+            hop_limit: self.hop_limit(),
+            source: self.source(),
+            destination: self.destination(),
+        }
+    }
+
+    /// The length of the header, which is 40 bytes for every header.
+    #[inline]
+    pub fn header_len(&self) -> usize
+        ensures { result ≡ 40 }
+    {
+        Ipv6Header::LEN
+    }
+}
+
+/// Views are equal where they show the same bytes.
+impl PartialEq for Ipv6HeaderSlice<'_> {
+    ghost use Rattle.std.specs.Prelude.{◌≡◌, ◌↔◌, IsTrue, nat_eq};
+    ghost use Rattle.std.specs.Cmp.{on_per, partial_equiv_from_equiv};
+    ghost use Rattle.std.specs.Cmp.Lexicographic.{nat_list_eq_equiv, pointwise};
+
+    ghost eq = { λ a b. pointwise nat_eq a.slice.now b.slice.now };
+
+    ghost laws = { on_per (λ view. view.slice.now) (partial_equiv_from_equiv nat_list_eq_equiv) };
+
+    fn eq(&self, other: &Self) -> bool
+        ensures member { result ≡ pointwise nat_eq self.now.slice.now other.now.slice.now }
+        ensures same_bytes { IsTrue result ↔ (self.now.slice.now ≡ other.now.slice.now) }
+    {
+        self.slice == other.slice
+    }
+}
+
+impl Eq for Ipv6HeaderSlice<'_> {
+    ghost use Rattle.std.specs.Cmp.{on_equiv};
+    ghost use Rattle.std.specs.Cmp.Lexicographic.{nat_list_eq_equiv};
+
+    ghost laws = { on_equiv (λ view. view.slice.now) nat_list_eq_equiv };
+}
+
+#[cfg(test)]
+mod tests;
