@@ -1,0 +1,3 @@
+mod Appended
+mod Decoded
+mod ReadSoFar

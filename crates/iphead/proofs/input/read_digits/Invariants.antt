@@ -1,0 +1,10 @@
+use Rattle.std.proofs.Common.{◌-◌}
+use Rattle.iphead.proofs.ReadSoFar.{ReadSoFar}
+use Rattle.iphead.proofs.input.read_digits.Given as goal
+
+abbrev pub invariant-loop-n : goal.invariant-loop-n
+invariant-loop-n g l =
+    ReadSoFar (g.R.Read.remaining l.fn.reader) (g.R.Read.remaining l.reader) l.input.digits.items l.input.len
+
+abbrev pub decreases-loop-n : goal.decreases-loop-n
+decreases-loop-n g l = 65536 - l.input.len

@@ -1,0 +1,21 @@
+use Rattle.iphead.proofs.Appended.{appended}
+use Rattle.iphead.proofs.lines.write_ipv6.Goals as goal
+
+pub returns : goal.returns
+returns g c = λ header layout.
+    rw (
+      ← c.traffic_class.ensures header layout,
+      ← c.flow_label.ensures header layout,
+      ← c.payload_length.ensures header layout,
+      ← c.next_header.ensures header layout,
+      ← c.hop_limit.ensures header layout,
+      ← c.source.ensures header layout,
+      ← c.destination.ensures header layout,
+    )
+    (appended _ _ _ _ _ (rw c.version.ensures at c.in_ok-write_field.ensures)
+    (appended _ _ _ _ _ c.in_ok-write_field-2.ensures
+    (appended _ _ _ _ _ c.in_ok-write_field-3.ensures
+    (appended _ _ _ _ _ c.in_ok-write_field-4.ensures
+    (appended _ _ _ _ _ c.in_ok-write_field-5.ensures
+    (appended _ _ _ _ _ c.in_ok-write_field-6.ensures
+    (appended _ _ _ _ _ c.in_ok-write_hex_field.ensures c.in_ok-write_hex_field-2.ensures)))))))

@@ -1,0 +1,107 @@
+-- What the program prints.
+use Rattle.std.specs.Prelude.{ℕ, ◌≡◌, ◌==◌, Bool, List, [], ◌∷◌, ◌++◌, length, slice_index, codes, if◌then◌else◌, MatchBool, Option, Result, Ok, Err}
+use Rattle.std.specs.Io.KnownBytes.{Appends}
+use Rattle.std.specs.Fmt.{decimal}
+use Rattle.std.specs.Int.{to_be_bytes, w16}
+use Rattle.hex.specs.Hex.{decode_of, encode_lower}
+use Rattle.hex.specs.declared.error.FromHexError.{FromHexError}
+use Rattle.etherparse.specs.FirstByte.{version_of}
+use Rattle.etherparse.specs.IpEcn.{ecn_value}
+use Rattle.etherparse.specs.Ipv4Errors.{ipv4_header_slice_error_text}
+use Rattle.etherparse.specs.Ipv4Header.{Ipv4Reading, ReadsIpv4, ipv4_ihl}
+use Rattle.etherparse.specs.Ipv6Errors.{ipv6_header_slice_error_text}
+use Rattle.etherparse.specs.Ipv6Header.{Ipv6Reading, ReadsIpv6}
+use Rattle.etherparse.specs.declared.net.ipv4_header.Ipv4Header.{Ipv4Header}
+use Rattle.etherparse.specs.declared.net.ipv6_header.Ipv6Header.{Ipv6Header}
+use Rattle.iphead.specs.Input.{digits_of, IsTooLong}
+use Rattle.iphead.specs.declared.status.Status.{Status}
+use Rattle.iphead.specs.declared.status.Status.TheVariants.{Done, Refused, BadInput}
+
+-- a line of a name and a value
+unfoldable pub line : List ℕ → List ℕ → List ℕ
+line name value = name ++ (codes " " ++ (value ++ codes "\n"))
+
+-- the one line of an input that is turned away
+abbrev pub error_line : List ℕ → List ℕ
+error_line reason = line (codes "error:") reason
+
+-- the fields of an IPv6 header: numbers in decimal, addresses in hex digits
+abbrev pub ipv6_lines : Ipv6Header → List ℕ
+ipv6_lines h =
+    line (codes "version") (decimal 6)
+    ++ (line (codes "traffic_class") (decimal h.traffic_class)
+    ++ (line (codes "flow_label") (decimal h.flow_label)
+    ++ (line (codes "payload_length") (decimal h.payload_length)
+    ++ (line (codes "next_header") (decimal h.next_header.0)
+    ++ (line (codes "hop_limit") (decimal h.hop_limit)
+    ++ (line (codes "source") (encode_lower h.source)
+    ++ line (codes "destination") (encode_lower h.destination)))))))
+
+-- a flag in words
+abbrev pub true_or_false : Bool → List ℕ
+true_or_false flag = if flag then codes "true" else codes "false"
+
+-- an IPv4 address: its four bytes in decimal, with dots between
+abbrev pub dotted : List ℕ → List ℕ
+dotted address = decimal (slice_index address 0) ++ (codes "." ++ (decimal (slice_index address 1) ++ (codes "."
+    ++ (decimal (slice_index address 2) ++ (codes "." ++ decimal (slice_index address 3))))))
+
+-- options in hex digits, or a dash where there are none
+abbrev pub options_text : List ℕ → List ℕ
+options_text [] = codes "-"
+options_text (b ∷ bytes) = encode_lower (b ∷ bytes)
+
+-- the fields of an IPv4 header, and the number of bytes behind it
+abbrev pub ipv4_lines : Ipv4Header → ℕ → List ℕ
+ipv4_lines h rest_len =
+    line (codes "version") (decimal 4)
+    ++ (line (codes "ihl") (decimal (ipv4_ihl h))
+    ++ (line (codes "dscp") (decimal h.dscp)
+    ++ (line (codes "ecn") (decimal (ecn_value h.ecn))
+    ++ (line (codes "total_len") (decimal h.total_len)
+    ++ (line (codes "identification") (decimal h.identification)
+    ++ (line (codes "dont_fragment") (true_or_false h.dont_fragment)
+    ++ (line (codes "more_fragments") (true_or_false h.more_fragments)
+    ++ (line (codes "fragment_offset") (decimal h.fragment_offset)
+    ++ (line (codes "time_to_live") (decimal h.time_to_live)
+    ++ (line (codes "protocol") (decimal h.protocol.0)
+    ++ (line (codes "header_checksum") (encode_lower (to_be_bytes w16 h.header_checksum))
+    ++ (line (codes "source") (dotted h.source)
+    ++ (line (codes "destination") (dotted h.destination)
+    ++ (line (codes "options") (options_text h.options)
+    ++ line (codes "rest") (decimal rest_len)))))))))))))))
+
+-- what is printed of a reading, and how the run ends
+abbrev pub PrintsIpv6 : Ipv6Reading → Status → List ℕ → Type 0
+PrintsIpv6 (Ok x) status text = (status ≡ Done) × (text ≡ ipv6_lines x.0)
+PrintsIpv6 (Err e) status text = (status ≡ Refused) × (text ≡ error_line (ipv6_header_slice_error_text e))
+
+abbrev pub PrintsIpv4 : Ipv4Reading → Status → List ℕ → Type 0
+PrintsIpv4 (Ok x) status text = (status ≡ Done) × (text ≡ ipv4_lines x.0 (length x.1))
+PrintsIpv4 (Err e) status text = (status ≡ Refused) × (text ≡ error_line (ipv4_header_slice_error_text e))
+
+-- what is printed of bytes that are read as a header of either version
+abbrev pub ReportsIpv6 : List ℕ → Status → List ℕ → Type 0
+ReportsIpv6 bytes status text = (reading : Ipv6Reading) × ReadsIpv6 bytes reading × PrintsIpv6 reading status text
+
+abbrev pub ReportsIpv4 : List ℕ → Status → List ℕ → Type 0
+ReportsIpv4 bytes status text = (reading : Ipv4Reading) × ReadsIpv4 bytes reading × PrintsIpv4 reading status text
+
+-- what is printed of the bytes that the digits stand for: they are read as IPv6 where their version is 6, and else, also
+-- where there are none, as IPv4
+abbrev pub ReportsBytes : Result (List ℕ) FromHexError → Status → List ℕ → Type 0
+ReportsBytes (Ok bytes) status text = MatchBool (version_of bytes == 6) (ReportsIpv6 bytes status text) (ReportsIpv4 bytes status text)
+ReportsBytes (Err e) status text = (status ≡ BadInput) × (text ≡ error_line (codes "input is not hex"))
+
+-- what is printed of too long an input
+abbrev pub ReportsTooLong : Status → List ℕ → Type 0
+ReportsTooLong status text = (status ≡ BadInput) × (text ≡ error_line (codes "input is too long"))
+
+-- The output for an input: how the run ends, and all that is printed.
+pub record IsOutput (input : List ℕ) (status : Status) (text : List ℕ) : Type 0 where
+  pub too_long : IsTooLong input → ReportsTooLong status text
+  pub short : (IsTooLong input → ⊥) → ReportsBytes (decode_of (digits_of input)) status text
+
+-- a text with this property is written behind what was written before
+abbrev pub Writes : (List ℕ → Type 0) → Option (List ℕ) → Option (List ℕ) → Type 0
+Writes P old new = (text : List ℕ) × P text × Appends old new text

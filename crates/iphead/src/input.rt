@@ -1,0 +1,81 @@
+ghost use Rattle.std.specs.Prelude.{◌≡◌, ◌+◌, ◌≤◌, ◌<◌, ◌⊎◌, ◌↔◌, ◌++◌, [], ◌∷◌, Some, IsTrue, MatchOption, IfOk, IfSome, List, length};
+ghost use Rattle.std.specs.Bool.{OnTrue, OnFalse};
+ghost use Rattle.arrayvec.specs.ArrayVec.{array_vec_len};
+ghost use Rattle.iphead.specs.Input.{digits_of, is_blank, IsTooLong};
+
+use arrayvec::ArrayVec;
+use std::io;
+use std::io::Read;
+
+// The greatest number of bytes that are read, of any kind.
+const MAX_LEN: usize = 65536;
+
+// The digits so far, and how many bytes they stand among.
+#[derive(Drop)]
+struct Input {
+    digits: ArrayVec<u8, 4096>,
+    len: usize,
+    ghost few: { length digits.items ≤ 4096 },
+    ghost short: { len ≤ 65536 },
+}
+
+impl Input {
+    // Takes the next piece of the input, unless that makes it too long.
+    fn take(&mut self, piece: &[u8]) -> bool
+        ensures digits { OnTrue result (self.new.digits.items ≡ self.old.digits.items ++ digits_of piece.now) }
+        ensures len { OnTrue result (self.new.len ≡ self.old.len + length piece.now) }
+        ensures too_long { OnFalse result ((4096 < length (self.old.digits.items ++ digits_of piece.now))
+            ⊎ (65536 < self.old.len + length piece.now)) }
+    {
+        if MAX_LEN - self.len < piece.len() {
+            return false;
+        }
+        self.len += piece.len();
+        push_digits(&mut self.digits, piece)
+    }
+}
+
+// Adds the digits of a piece, unless they are too many.
+fn push_digits(digits: &mut ArrayVec<u8, 4096>, piece: &[u8]) -> bool
+    ensures ok { OnTrue result (digits.new.items ≡ digits.old.items ++ digits_of piece.now) }
+    ensures too_many { OnFalse result (4096 < length (digits.old.items ++ digits_of piece.now)) }
+    ensures few { length digits.old.items ≤ 4096 → length digits.new.items ≤ 4096 }
+{
+    for byte in piece {
+        if !push_digit(digits, *byte) {
+            return false;
+        }
+    }
+    true
+}
+
+// Adds a byte that is no blank, unless there are too many.
+fn push_digit(digits: &mut ArrayVec<u8, 4096>, byte: u8) -> bool
+    ensures ok { OnTrue result (digits.new.items ≡ digits.old.items ++ digits_of (byte ∷ [])) }
+    ensures too_many { OnFalse result (4096 < length (digits.old.items ++ digits_of (byte ∷ []))) }
+    ensures few { length digits.old.items ≤ 4096 → length digits.new.items ≤ 4096 }
+{
+    matches!(byte, b' ' | b'\t' | b'\r' | b'\n') || digits.try_push(byte).is_ok()
+}
+
+/// The digits of all that a reader holds, or `None` where they are above 4096 or the bytes are above 65536: it then reads
+/// no further.
+pub fn read_digits<R: Read>(reader: &mut R) -> io::Result<Option<ArrayVec<u8, 4096>>>
+    ensures { IfOk result (λ digits. IfSome (R.remaining reader.old) (λ input.
+        MatchOption digits (IsTooLong input) (λ d. (IsTooLong input → ⊥) × (d.items ≡ digits_of input)))) }
+{
+    let mut input = Input {
+        digits: ArrayVec::new(),
+        len: 0,
+    };
+    let mut piece = [0; 512];
+    loop {
+        let n = reader.read(&mut piece)?;
+        if n == 0 {
+            return Ok(Some(input.digits));
+        }
+        if !input.take(&piece[..n]) {
+            return Ok(None);
+        }
+    }
+}

@@ -1,0 +1,118 @@
+ghost use Rattle.std.specs.Prelude.{ℕ, Some, codes, ◌≡◌, ◌≤◌, OnOk, IfSome, length};
+ghost use Rattle.std.specs.Io.KnownBytes.{Appends};
+ghost use Rattle.hex.specs.Hex.{encode_lower};
+ghost use Rattle.etherparse.specs.Ipv4Header.{IsIpv4Layout};
+ghost use Rattle.etherparse.specs.Ipv6Header.{IsIpv6Layout};
+ghost use Rattle.etherparse.specs.declared.net.ipv4_header.Ipv4Header.{Ipv4Header};
+ghost use Rattle.etherparse.specs.declared.net.ipv6_header.Ipv6Header.{Ipv6Header};
+ghost use Rattle.iphead.specs.Output.{dotted, error_line, ipv4_lines, ipv6_lines, line, options_text};
+
+use etherparse::{Ipv4HeaderSlice, Ipv6HeaderSlice};
+use std::fmt::Display;
+use std::io::Write;
+use std::{fmt, io};
+
+/// Writes the one line that says why there is no header.
+#[tactic(auto, unfolding(crate::specs::Output::line))]
+pub fn write_error<W: Write, D: Display + Drop>(writer: &mut W, reason: D) -> io::Result<()>
+    ensures { OnOk result (IfSome (D.output reason) (λ text.
+        Appends (W.contents writer.old) (W.contents writer.new) (error_line text))) }
+{
+    writeln!(writer, "error: {reason}")
+}
+
+/// Writes the fields of an IPv6 header, one a line.
+pub fn write_ipv6<W: Write>(writer: &mut W, view: &Ipv6HeaderSlice) -> io::Result<()>
+    ensures { OnOk result ((header : Ipv6Header) → IsIpv6Layout header view.now.slice.now →
+        Appends (W.contents writer.old) (W.contents writer.new) (ipv6_lines header)) }
+{
+    write_field(writer, "version", view.version())?;
+    write_field(writer, "traffic_class", view.traffic_class())?;
+    write_field(writer, "flow_label", view.flow_label())?;
+    write_field(writer, "payload_length", view.payload_length())?;
+    write_field(writer, "next_header", view.next_header().0)?;
+    write_field(writer, "hop_limit", view.hop_limit())?;
+    write_hex_field(writer, "source", &view.source())?;
+    write_hex_field(writer, "destination", &view.destination())?;
+    Ok(())
+}
+
+/// Writes the fields of an IPv4 header, one a line, and the number of bytes behind it.
+pub fn write_ipv4<W: Write>(
+    writer: &mut W,
+    view: &Ipv4HeaderSlice,
+    rest_len: usize,
+) -> io::Result<()>
+    ensures { OnOk result ((header : Ipv4Header) (reserved : ℕ) → IsIpv4Layout header reserved view.now.slice.now →
+        Appends (W.contents writer.old) (W.contents writer.new) (ipv4_lines header rest_len)) }
+{
+    write_field(writer, "version", view.version())?;
+    write_field(writer, "ihl", view.ihl())?;
+    write_field(writer, "dscp", view.dcp())?;
+    write_field(writer, "ecn", view.ecn())?;
+    write_field(writer, "total_len", view.total_len())?;
+    write_field(writer, "identification", view.identification())?;
+    write_field(writer, "dont_fragment", view.dont_fragment())?;
+    write_field(writer, "more_fragments", view.more_fragments())?;
+    write_field(writer, "fragment_offset", view.fragments_offset())?;
+    write_field(writer, "time_to_live", view.ttl())?;
+    write_field(writer, "protocol", view.protocol().0)?;
+    write_hex_field(
+        writer,
+        "header_checksum",
+        &view.header_checksum().to_be_bytes(),
+    )?;
+    write_field(writer, "source", Dotted(view.source()))?;
+    write_field(writer, "destination", Dotted(view.destination()))?;
+    write_options(writer, view.options())?;
+    write_field(writer, "rest", rest_len)?;
+    Ok(())
+}
+
+// An IPv4 address as it is printed.
+#[derive(Clone, Copy, Debug)]
+struct Dotted([u8; 4]);
+
+impl fmt::Display for Dotted {
+    ghost output = { λ address. Some (dotted address.0) };
+
+    fn fmt<W: fmt::Write>(&self, f: &mut fmt::Formatter<W>) -> fmt::Result {
+        let [a, b, c, d] = self.0;
+        write!(f, "{a}.{b}.{c}.{d}")
+    }
+}
+
+// Writes the line with the options.
+fn write_options<W: Write>(writer: &mut W, options: &[u8]) -> io::Result<()>
+    requires { length options.now ≤ 40 }
+    ensures { OnOk result (Appends (W.contents writer.old) (W.contents writer.new) (line (codes "options") (options_text options.now))) }
+{
+    if options.is_empty() {
+        write_field(writer, "options", "-")
+    } else {
+        write_hex_field(writer, "options", options)
+    }
+}
+
+// Writes a line with a value.
+#[tactic(auto, unfolding(crate::specs::Output::line))]
+fn write_field<W: Write, T: Display + Drop>(writer: &mut W, name: &str, value: T) -> io::Result<()>
+    ensures { OnOk result (IfSome (T.output value) (λ text.
+        Appends (W.contents writer.old) (W.contents writer.new) (line name.now text))) }
+{
+    writeln!(writer, "{name} {value}")
+}
+
+// Writes a line with at most 40 bytes in hex digits.
+#[tactic(auto, unfolding(crate::specs::Output::line))]
+fn write_hex_field<W: Write>(writer: &mut W, name: &str, bytes: &[u8]) -> io::Result<()>
+    requires { length bytes.now ≤ 40 }
+    ensures { OnOk result (Appends (W.contents writer.old) (W.contents writer.new) (line name.now (encode_lower bytes.now))) }
+{
+    let mut digits = [0; 80];
+    let len = 2 * bytes.len();
+    hex::encode_to_slice(bytes, &mut digits[..len]).unwrap();
+    write!(writer, "{name} ")?;
+    writer.write_all(&digits[..len])?;
+    writer.write_all(b"\n")
+}

@@ -1,0 +1,91 @@
+ghost use Rattle.std.specs.Prelude.{◌≡◌, ◌≢◌, ◌≤◌, IfOk, IfSome, List, length};
+ghost use Rattle.hex.specs.Hex.{decode_of};
+ghost use Rattle.iphead.specs.Output.{IsOutput, ReportsBytes, ReportsIpv4, ReportsIpv6, ReportsTooLong, Writes};
+
+use crate::decode::decode_input;
+use crate::input::read_digits;
+use crate::lines::{write_error, write_ipv4, write_ipv6};
+use crate::status::Status;
+use etherparse::{Ipv4HeaderSlice, Ipv6HeaderSlice};
+use std::io;
+use std::io::{Read, Write};
+
+/// Reads the hex digits of a header and prints its fields, one a line, or one line that says why not.
+///
+/// Blanks between the digits are dropped. It reads at most 4096 digits among at most 65536 bytes, in pieces of 512 bytes,
+/// and takes no memory. A read or a write that fails ends it at once.
+pub fn run<R: Read, W: Write>(reader: &mut R, writer: &mut W) -> Status
+    ensures output { result ≢ Status.Failed → IfSome (R.remaining reader.old) (λ input.
+        Writes (IsOutput input result) (W.contents writer.old) (W.contents writer.new)) }
+{
+    let reported = match read_digits(reader) {
+        Ok(Some(digits)) => report(digits.as_slice(), writer),
+        Ok(None) => report_too_long(writer),
+        Err(e) => Err(e),
+    };
+    reported.unwrap_or(Status::Failed)
+}
+
+// Prints what is to be said of digits that are too many, or of too long an input.
+fn report_too_long<W: Write>(writer: &mut W) -> io::Result<Status>
+    ensures { IfOk result (λ status. Writes (ReportsTooLong status) (W.contents writer.old) (W.contents writer.new)) }
+{
+    write_error(writer, "input is too long")?;
+    Ok(Status::BadInput)
+}
+
+// Prints what is to be said of the bytes that digits stand for.
+fn report<W: Write>(digits: &[u8], writer: &mut W) -> io::Result<Status>
+    requires { length digits.now ≤ 4096 }
+    ensures { IfOk result (λ status.
+        Writes (ReportsBytes (decode_of digits.now) status) (W.contents writer.old) (W.contents writer.new)) }
+{
+    let mut bytes = [0; 2048];
+    let Some(len) = decode_input(digits, &mut bytes) else {
+        write_error(writer, "input is not hex")?;
+        return Ok(Status::BadInput);
+    };
+    let bytes = &bytes[..len];
+    match bytes.first() {
+        Some(first) if first >> 4 == 6 => report_ipv6(bytes, writer),
+        _ => report_ipv4(bytes, writer),
+    }
+}
+
+// Prints what is to be said of bytes that are read as IPv6.
+fn report_ipv6<W: Write>(bytes: &[u8], writer: &mut W) -> io::Result<Status>
+    ensures { IfOk result (λ status.
+        Writes (ReportsIpv6 bytes.now status) (W.contents writer.old) (W.contents writer.new)) }
+{
+    match Ipv6HeaderSlice::from_slice(bytes) {
+        Ok(view) => {
+            write_ipv6(writer, &view)?;
+            Ok(Status::Done)
+        }
+        Err(e) => {
+            write_error(writer, e)?;
+            Ok(Status::Refused)
+        }
+    }
+}
+
+// Prints what is to be said of bytes that are read as IPv4.
+fn report_ipv4<W: Write>(bytes: &[u8], writer: &mut W) -> io::Result<Status>
+    ensures { IfOk result (λ status.
+        Writes (ReportsIpv4 bytes.now status) (W.contents writer.old) (W.contents writer.new)) }
+{
+    match Ipv4HeaderSlice::from_slice(bytes) {
+        Ok(view) => {
+            let rest_len = bytes.len() - view.slice().len();
+            write_ipv4(writer, &view, rest_len)?;
+            Ok(Status::Done)
+        }
+        Err(e) => {
+            write_error(writer, e)?;
+            Ok(Status::Refused)
+        }
+    }
+}
+
+#[cfg(test)]
+mod tests;

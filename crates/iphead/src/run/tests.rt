@@ -1,0 +1,360 @@
+use super::*;
+use std::alloc::{AllocError, Global};
+use std::io::ErrorKind;
+use std::process::Abort;
+use std::test::Fail;
+
+const IPV6: &str =
+    "60000000 00003b40 00000000 00000000 00000000 00000001 00000000 00000000 00000000 00000002";
+
+const IPV6_DIGITS: &str =
+    "6000000000003b400000000000000000000000000000000100000000000000000000000000000002";
+
+const IPV6_LINES: &str = "version 6
+traffic_class 0
+flow_label 0
+payload_length 0
+next_header 59
+hop_limit 64
+source 00000000000000000000000000000001
+destination 00000000000000000000000000000002
+";
+
+const IPV4: &str = "45000073 00004000 4011b861 c0a80001 c0a800c7";
+
+const IPV4_LINES: &str = "version 4
+ihl 5
+dscp 0
+ecn 0
+total_len 115
+identification 0
+dont_fragment true
+more_fragments false
+fragment_offset 0
+time_to_live 64
+protocol 17
+header_checksum b861
+source 192.168.0.1
+destination 192.168.0.199
+options -
+rest 0
+";
+
+const OPTIONS: &str = "46c00018 0001a000 40060000 0a000001 0a000002 01020304 ff";
+
+const OPTIONS_LINES: &str = "version 4
+ihl 6
+dscp 48
+ecn 0
+total_len 24
+identification 1
+dont_fragment false
+more_fragments true
+fragment_offset 0
+time_to_live 64
+protocol 6
+header_checksum 0000
+source 10.0.0.1
+destination 10.0.0.2
+options 01020304
+rest 1
+";
+
+const LARGEST_LINES: &str = "version 4
+ihl 15
+dscp 63
+ecn 3
+total_len 65535
+identification 65535
+dont_fragment true
+more_fragments true
+fragment_offset 8191
+time_to_live 255
+protocol 255
+header_checksum ffff
+source 255.255.255.255
+destination 255.255.255.255
+options ffffffffffffffffffffffffffffffffffffffffffffffffffffffffffffffffffffffffffffffff
+rest 0
+";
+
+const NO_BYTES: &str =
+    "error: IPv4 Header Error: Not enough data to decode 'IPv4 header'. 20 byte(s) would be required, but only 0 byte(s) are available based on the slice length.
+";
+
+const NOT_HEX: &str = "error: input is not hex\n";
+
+const TOO_LONG: &str = "error: input is too long\n";
+
+// A reader that gives at most so many bytes a call, and fails at the call of a number, counted from 1.
+#[derive(Drop)]
+struct Source<'a> {
+    left: &'a [u8],
+    at_most: usize,
+    calls: u64,
+    fails_at: u64,
+}
+
+impl<'a> Source<'a> {
+    fn new(left: &'a [u8], at_most: usize, fails_at: u64) -> Source<'a> {
+        Source {
+            left,
+            at_most,
+            calls: 0,
+            fails_at,
+        }
+    }
+}
+
+impl Read for Source<'_> {
+    fn read(&mut self, buf: &mut [u8]) -> io::Result<usize> {
+        self.calls = self.calls.saturating_add(1);
+        if self.calls == self.fails_at {
+            return Err(io::Error::from(ErrorKind::Other));
+        }
+        let len = self.left.len().min(buf.len()).min(self.at_most);
+        buf[..len].copy_from_slice(&self.left[..len]);
+        self.left = &self.left[len..];
+        Ok(len)
+    }
+}
+
+// A writer that fails at the call of a number, counted from 1.
+#[derive(Drop)]
+struct Sink {
+    taken: Vec<u8>,
+    calls: u64,
+    fails_at: u64,
+}
+
+impl Sink {
+    fn new(alloc: Global, fails_at: u64) -> Sink {
+        Sink {
+            taken: Vec::new(alloc),
+            calls: 0,
+            fails_at,
+        }
+    }
+}
+
+impl Write for Sink {
+    fn write(&mut self, buf: &[u8]) -> io::Result<usize> {
+        self.calls = self.calls.saturating_add(1);
+        if self.calls == self.fails_at {
+            return Err(io::Error::from(ErrorKind::Other));
+        }
+        self.taken.extend_from_slice(buf)?;
+        Ok(buf.len())
+    }
+
+    fn flush(&mut self) -> io::Result<()> {
+        Ok(())
+    }
+}
+
+// Runs on an input, and holds what comes against a status and a text.
+fn expect(rt: &(impl Abort + AllocGlobal), input: &[u8], status: Status, text: &str) {
+    let mut reader = input;
+    let mut sink = Sink::new(rt.alloc(), 0);
+    let ended = run(&mut reader, &mut sink);
+    assert_eq!(rt; ended, status, "for {text}");
+    assert_eq!(rt; sink.taken.as_slice(), text.as_bytes(), "for {text}");
+}
+
+// The same byte many times.
+fn repeated(alloc: Global, byte: u8, len: usize) -> Result<Vec<u8>, AllocError> {
+    vec![in alloc; byte; len]
+}
+
+#[test]
+fn the_fields_of_an_ipv6_header_are_printed(rt: HostRuntime) {
+    expect(&rt, IPV6.as_bytes(), Status::Done, IPV6_LINES);
+    expect(&rt, IPV6_DIGITS.as_bytes(), Status::Done, IPV6_LINES);
+}
+
+#[test]
+fn the_fields_of_an_ipv4_header_are_printed(rt: HostRuntime) {
+    expect(&rt, IPV4.as_bytes(), Status::Done, IPV4_LINES);
+    expect(&rt, OPTIONS.as_bytes(), Status::Done, OPTIONS_LINES);
+}
+
+#[test]
+fn the_largest_ipv4_header_is_printed(rt: HostRuntime) -> Result<(), Fail> {
+    let mut digits = b"4fffffffffff7f".to_vec(rt.alloc())?;
+    digits.extend_from_slice(repeated(rt.alloc(), b'f', 106)?.as_slice())?;
+    expect(&rt, digits.as_slice(), Status::Done, LARGEST_LINES);
+    Ok(())
+}
+
+#[test]
+fn blanks_stand_anywhere(rt: HostRuntime) {
+    expect(
+        &rt,
+        b" \t\r\n4 5\t0\r0\n0073\r\n00004000\t4011B861  C0a80001 c0A800C7 \n",
+        Status::Done,
+        IPV4_LINES,
+    );
+}
+
+#[test]
+fn refused_headers_print_their_reason_alone(rt: HostRuntime) {
+    expect(&rt, b"", Status::Refused, NO_BYTES);
+    expect(&rt, b" \t\r\n", Status::Refused, NO_BYTES);
+    expect(
+        &rt,
+        b"40000000 00003b40 00000000 00000000 00000000 00000001 00000000 00000000 00000000 00000002",
+        Status::Refused,
+        "error: IPv4 Header Error: The 'internet header length' value '0' present in the IPv4 header is smaller than the minimum size of an IPv4 header. The minimum allowed value is '5'.\n",
+    );
+    expect(
+        &rt,
+        b"5400000000000000000000000000000000000000",
+        Status::Refused,
+        "error: IPv4 Header Error: Encountered '5' as IP version number in the IPv4 header (must be '4' in an IPv4 header).\n",
+    );
+    expect(
+        &rt,
+        b"46000000000000000000000000000000000000000000ff",
+        Status::Refused,
+        "error: IPv4 Header Error: Not enough data to decode 'IPv4 header'. 24 byte(s) would be required, but only 23 byte(s) are available based on the slice length.\n",
+    );
+    expect(
+        &rt,
+        b"60",
+        Status::Refused,
+        "error: IPv6 Header Error: Not enough data to decode 'IPv6 header'. 40 byte(s) would be required, but only 1 byte(s) are available based on the slice length.\n",
+    );
+}
+
+#[test]
+fn input_that_is_not_hex_is_turned_away(rt: HostRuntime) -> Result<(), Fail> {
+    expect(&rt, b"6", Status::BadInput, NOT_HEX);
+    expect(&rt, b"6g", Status::BadInput, NOT_HEX);
+    expect(&rt, b"600", Status::BadInput, NOT_HEX);
+    expect(&rt, b"60\x0b", Status::BadInput, NOT_HEX);
+    expect(
+        &rt,
+        repeated(rt.alloc(), b'g', 4096)?.as_slice(),
+        Status::BadInput,
+        NOT_HEX,
+    );
+    Ok(())
+}
+
+#[test]
+fn input_of_4096_digits_is_taken_and_no_more(rt: HostRuntime) -> Result<(), Fail> {
+    let mut digits = Vec::new(rt.alloc());
+    for _ in 0..52 {
+        digits.extend_from_slice(IPV6_DIGITS.as_bytes())?;
+    }
+    digits.truncate(4096);
+    expect(&rt, digits.as_slice(), Status::Done, IPV6_LINES);
+    digits.push(b'0')?;
+    expect(&rt, digits.as_slice(), Status::BadInput, TOO_LONG);
+    expect(
+        &rt,
+        repeated(rt.alloc(), b'g', 4097)?.as_slice(),
+        Status::BadInput,
+        TOO_LONG,
+    );
+    Ok(())
+}
+
+#[test]
+fn input_of_65536_bytes_is_taken_and_no_more(rt: HostRuntime) -> Result<(), Fail> {
+    expect(
+        &rt,
+        repeated(rt.alloc(), b' ', 65536)?.as_slice(),
+        Status::Refused,
+        NO_BYTES,
+    );
+    expect(
+        &rt,
+        repeated(rt.alloc(), b' ', 65537)?.as_slice(),
+        Status::BadInput,
+        TOO_LONG,
+    );
+    Ok(())
+}
+
+#[test]
+fn reading_stops_where_the_input_is_too_long(rt: HostRuntime) -> Result<(), Fail> {
+    let letters = repeated(rt.alloc(), b'g', 4608)?;
+    let mut source = Source::new(letters.as_slice(), 512, 10);
+    let mut sink = Sink::new(rt.alloc(), 0);
+    assert_eq!(rt; run(&mut source, &mut sink), Status::BadInput);
+    assert_eq!(rt; sink.taken.as_slice(), TOO_LONG.as_bytes());
+    assert_eq!(rt; source.calls, 9);
+    Ok(())
+}
+
+#[test]
+fn a_reader_of_one_byte_a_call_changes_nothing(rt: HostRuntime) {
+    for (input, lines) in [
+        (IPV6, IPV6_LINES),
+        (IPV4, IPV4_LINES),
+        (OPTIONS, OPTIONS_LINES),
+    ] {
+        let mut source = Source::new(input.as_bytes(), 1, 0);
+        let mut sink = Sink::new(rt.alloc(), 0);
+        assert_eq!(rt; run(&mut source, &mut sink), Status::Done);
+        assert_eq!(rt; sink.taken.as_slice(), lines.as_bytes());
+    }
+}
+
+#[test]
+fn a_failing_read_ends_the_run(rt: HostRuntime) {
+    // One read gives all of the input, and one more says that it is at its end.
+    for (fails_at, status, lines) in [
+        (1, Status::Failed, ""),
+        (2, Status::Failed, ""),
+        (3, Status::Done, IPV6_LINES),
+    ] {
+        let mut source = Source::new(IPV6.as_bytes(), 512, fails_at);
+        let mut sink = Sink::new(rt.alloc(), 0);
+        assert_eq!(rt; run(&mut source, &mut sink), status);
+        assert_eq!(rt; sink.taken.as_slice(), lines.as_bytes());
+    }
+}
+
+#[test]
+fn a_failing_write_ends_the_run(rt: HostRuntime) {
+    let mut failed = 0u64;
+    for fails_at in 1..200 {
+        let mut reader = IPV6.as_bytes();
+        let mut sink = Sink::new(rt.alloc(), fails_at);
+        let status = run(&mut reader, &mut sink);
+        if status == Status::Failed {
+            failed = failed.saturating_add(1);
+            assert_eq!(rt;
+                sink.calls,
+                fails_at,
+                "nothing is written after a failed write"
+            );
+            assert!(rt; IPV6_LINES.as_bytes().starts_with(sink.taken.as_slice()));
+        } else {
+            assert_eq!(rt; status, Status::Done);
+            assert_eq!(rt; sink.taken.as_slice(), IPV6_LINES.as_bytes());
+            assert!(rt; sink.calls < fails_at);
+            assert_eq!(rt;
+                failed,
+                fails_at.saturating_sub(1),
+                "each write before was seen to fail"
+            );
+            return;
+        }
+    }
+    assert!(rt; false, "no run met no failure");
+}
+
+#[test]
+fn the_status_is_the_exit_code(rt: HostRuntime) {
+    let codes = [
+        Status::Done,
+        Status::Refused,
+        Status::BadInput,
+        Status::Failed,
+    ]
+    .map(Status::code);
+    assert_eq!(rt; codes, [0, 1, 2, 3]);
+}
