@@ -81,7 +81,7 @@ abbrev pub ViewsIpv4 : List ℕ → Result (List ℕ) HeaderSliceError → Type 
 ViewsIpv4 s (Ok bytes) = (rest : List ℕ) × (s ≡ bytes ++ rest) × (header : Ipv4Header) × (reserved : ℕ) × IsIpv4Layout header reserved bytes
 ViewsIpv4 s (Err e) = RefusesIpv4 s e
 
--- The numbers of a header fit their fields, and its lists have the lengths of theirs: so it is with every header.
+-- What writing the fixed part of a header needs of the types of its fields; every header has it.
 pub record HasFieldRanges (header : Ipv4Header) : Type 0 where
   pub dscp : header.dscp < 2 ^ 6
   pub fragment_offset : header.fragment_offset < 2 ^ 13

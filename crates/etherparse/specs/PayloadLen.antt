@@ -4,7 +4,7 @@ use Rattle.etherparse_base.specs.declared.len_source.LenSource.TheVariants.{Ipv4
 use Rattle.etherparse_base.specs.declared.err.layer.Layer.TheVariants as layer
 use Rattle.etherparse_base.specs.declared.err.len_error.LenError.{LenError}
 
--- What the total length tells of beyond the header. There is no payload where it tells of less.
+-- what the total length counts beyond the header; an error where it counts less than the header
 abbrev pub PayloadLen : ℕ → ℕ → Result ℕ LenError → Type 0
 PayloadLen header_len total_len (Ok len) = total_len ≡ header_len + len
 PayloadLen header_len total_len (Err e) = (total_len < header_len) × (e ≡ record {

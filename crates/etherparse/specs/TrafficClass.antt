@@ -6,9 +6,10 @@ use Rattle.std.specs.Prelude.{ℕ, ◌+◌, ◌*◌, ◌/◌, ◌%◌, ◌^◌}
 abbrev pub traffic_class_of : ℕ → ℕ → ℕ
 traffic_class_of dscp ecn = dscp * 2 ^ 2 + ecn
 
--- the parts of a traffic class
+-- the DSCP of a traffic class: its upper six bits
 abbrev pub traffic_class_dscp : ℕ → ℕ
 traffic_class_dscp traffic_class = traffic_class / 2 ^ 2
 
+-- the ECN of a traffic class: its lower two bits
 abbrev pub traffic_class_ecn : ℕ → ℕ
 traffic_class_ecn traffic_class = traffic_class % 2 ^ 2

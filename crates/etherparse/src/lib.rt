@@ -1,6 +1,6 @@
 //! IP headers: views of received bytes, owned headers, and the bytes that are written.
 //!
-//! The port of the IP base header layer of the Rust crate `etherparse` 0.19.0, under its paths.
+//! What the Rust crate `etherparse` 0.19.0 has for IP headers alone, under the same paths.
 #![tactic(auto)]
 
 mod net;

@@ -1,7 +1,8 @@
 -- The layers of a packet: their names, and the titles of their errors.
-use Rattle.std.specs.Prelude.{ℕ, List, codes}
+use Rattle.std.specs.Prelude.{ℕ, List, Bool, codes}
 use Rattle.etherparse_base.specs.declared.err.layer.Layer.{Layer}
 use Rattle.etherparse_base.specs.declared.err.layer.Layer.TheVariants.{LinuxSllHeader, Ethernet2Header, EtherPayload, VlanHeader, MacsecHeader, MacsecPacket, IpHeader, Ipv4Header, Ipv4Packet, IpAuthHeader, Ipv6Header, Ipv6Packet, Ipv6ExtHeader, Ipv6HopByHopHeader, Ipv6DestOptionsHeader, Ipv6RouteHeader, Ipv6FragHeader, UdpHeader, UdpPayload, TcpHeader, Icmpv4, Icmpv4Timestamp, Icmpv4TimestampReply, Icmpv6, Arp}
+use Rattle.etherparse_base.specs.contracts.err.layer.LayerPartialEq.TheImpl as derived
 
 -- the name of a layer, as an error's text has it
 abbrev pub layer_text : Layer → List ℕ
@@ -58,3 +59,7 @@ layer_title Icmpv4Timestamp = codes "ICMP Timestamp Error"
 layer_title Icmpv4TimestampReply = codes "ICMP Timestamp Reply Error"
 layer_title Icmpv6 = codes "ICMPv6 Packet Error"
 layer_title Arp = codes "Address Resolution Protocol Packet Error"
+
+-- whether two layers are the same variant
+abbrev pub is_same_layer : Layer → Layer → Bool
+is_same_layer = (derived.ghosts).eq

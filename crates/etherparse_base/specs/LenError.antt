@@ -1,11 +1,11 @@
--- The text of a length error.
-use Rattle.std.specs.Prelude.{ℕ, List, [], ◌++◌, codes, nat_lt, if◌then◌else◌}
+-- A length error: its text, and when two are equal.
+use Rattle.std.specs.Prelude.{ℕ, List, [], ◌++◌, Bool, ◌==◌, ◌&&◌, codes, nat_lt, if◌then◌else◌}
 use Rattle.std.specs.Fmt.{decimal}
 use Rattle.etherparse_base.specs.declared.err.len_error.LenError.{LenError}
-use Rattle.etherparse_base.specs.Layer.{layer_text, layer_title}
-use Rattle.etherparse_base.specs.LenSource.{len_source_text}
+use Rattle.etherparse_base.specs.Layer.{layer_text, layer_title, is_same_layer}
+use Rattle.etherparse_base.specs.LenSource.{len_source_text, is_same_len_source}
 
--- the data ends before the header does
+-- there are fewer bytes than the layer needs
 abbrev pub not_enough_text : LenError → List ℕ
 not_enough_text e =
     layer_title e.layer ++ (codes ": Not enough data to decode '" ++ (layer_text e.layer ++ (codes "'. "
@@ -30,3 +30,9 @@ place_text e =
 abbrev pub len_error_text : LenError → List ℕ
 len_error_text e =
     (if nat_lt e.len e.required_len then not_enough_text e else too_long_text e) ++ (place_text e ++ codes ".")
+
+-- whether two length errors have the same fields
+abbrev pub is_same_len_error : LenError → LenError → Bool
+is_same_len_error a b = a.required_len == b.required_len && a.len == b.len
+    && is_same_len_source a.len_source b.len_source && is_same_layer a.layer b.layer
+    && a.layer_start_offset == b.layer_start_offset

@@ -1,4 +1,5 @@
 pub mod Bytes
+pub mod EqualityLaws
 pub mod Ipv4Errors
 pub mod Ipv6Errors
 pub mod Layer

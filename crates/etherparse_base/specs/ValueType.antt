@@ -1,7 +1,8 @@
 -- The values that a header has room for: their names.
-use Rattle.std.specs.Prelude.{ℕ, List, codes}
+use Rattle.std.specs.Prelude.{ℕ, List, Bool, codes}
 use Rattle.etherparse_base.specs.declared.err.value_type.ValueType.{ValueType}
 use Rattle.etherparse_base.specs.declared.err.value_type.ValueType.TheVariants.{VlanId, VlanPcp, MacsecAn, MacsecShortLen, IpFragmentOffset, IpDscp, IpEcn, Ipv6FlowLabel, Ipv4PayloadLength, Ipv6PayloadLength, UdpPayloadLengthIpv4, UdpPayloadLengthIpv6, TcpPayloadLengthIpv4, TcpPayloadLengthIpv6, Icmpv6PayloadLength, LinuxSllType}
+use Rattle.etherparse_base.specs.contracts.err.value_type.ValueTypePartialEq.TheImpl as derived
 
 -- the name of a value, as an error's text has it
 abbrev pub value_type_text : ValueType → List ℕ
@@ -21,3 +22,7 @@ value_type_text TcpPayloadLengthIpv4 = codes "TCP Payload Length (in IPv4 checks
 value_type_text TcpPayloadLengthIpv6 = codes "TCP Payload Length (in IPv6 checksum calculation)"
 value_type_text Icmpv6PayloadLength = codes "ICMPv6 Payload Length"
 value_type_text LinuxSllType = codes "Linux Cooked Capture v1 (SLL)"
+
+-- whether two values are the same variant
+abbrev pub is_same_value_type : ValueType → ValueType → Bool
+is_same_value_type = (derived.ghosts).eq

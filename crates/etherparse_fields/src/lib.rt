@@ -1,4 +1,4 @@
-//! The fields of IP headers that have fewer values than their machine number, and the protocol numbers.
+//! Fields of IP headers with fewer values than their machine number, the numbers of protocols, and IPv4 options.
 #![tactic(auto)]
 
 mod net;

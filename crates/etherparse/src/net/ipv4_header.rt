@@ -62,7 +62,7 @@ impl Ipv4Header {
     /// An older name of [`Ipv4Header::MIN_LEN`].
     pub const SERIALIZED_SIZE: usize = 20;
 
-    /// The header of a payload of this length in bytes, with no options and the checksum 0.
+    /// The header of a payload of this length in bytes. It has no options, and what is not given is as in the default.
     ///
     /// # Errors
     ///
@@ -180,14 +180,14 @@ impl Ipv4Header {
         Ok(())
     }
 
-    /// The bytes of the options.
+    /// The bytes of the options: an older way to read the field `options`.
     pub fn options(&self) -> &[u8]
         ensures { result.now ≡ self.now.options }
     {
         self.options.as_slice()
     }
 
-    /// Puts these bytes in the place of the options. The total length stays what it was.
+    /// Puts these bytes in the place of the options: an older way to set the field. The total length stays what it was.
     ///
     /// # Errors
     ///

@@ -1,4 +1,4 @@
-ghost use Rattle.std.specs.Prelude.{◌≡◌, Some, if◌then◌else◌, nat_lt};
+ghost use Rattle.std.specs.Prelude.{◌≡◌};
 ghost use Rattle.std.specs.Fmt.{DisplaysOnOk};
 ghost use Rattle.etherparse_base.specs.LenSource.{len_source_text};
 
@@ -9,7 +9,7 @@ use std::fmt;
 
 /// A length that does not fit the layer: the data ends too early (`required_len` above `len`), or is longer than what
 /// encloses it.
-#[derive(Clone, Debug, PartialEq, Eq, Hash, Drop)]
+#[derive(Clone, Debug, Hash, Drop)]
 pub struct LenError {
     /// The least length that was needed, or the greatest that was allowed, in bytes.
     pub required_len: usize,
@@ -21,6 +21,35 @@ pub struct LenError {
     pub layer: Layer,
     /// Where the layer starts, in bytes from the start of the parsed data.
     pub layer_start_offset: usize,
+}
+
+/// Equal where all their fields are.
+impl PartialEq for LenError {
+    ghost use Rattle.std.specs.Prelude.{◌≡◌, ◌↔◌, IsTrue};
+    ghost use Rattle.std.specs.Cmp.{partial_equiv_from_equiv};
+    ghost use Rattle.etherparse_base.specs.LenError.{is_same_len_error};
+    ghost use Rattle.etherparse_base.specs.EqualityLaws.{is_same_len_error-equiv};
+
+    ghost eq = { is_same_len_error };
+
+    ghost laws = { partial_equiv_from_equiv is_same_len_error-equiv };
+
+    fn eq(&self, other: &Self) -> bool
+        ensures member { result ≡ is_same_len_error self.now other.now }
+        ensures all_fields { IsTrue result ↔ (self.now ≡ other.now) }
+    {
+        self.required_len == other.required_len
+            && self.len == other.len
+            && self.len_source == other.len_source
+            && self.layer == other.layer
+            && self.layer_start_offset == other.layer_start_offset
+    }
+}
+
+impl Eq for LenError {
+    ghost use Rattle.etherparse_base.specs.EqualityLaws.{is_same_len_error-equiv};
+
+    ghost laws = { is_same_len_error-equiv };
 }
 
 /// Says what was needed, what was there and, behind the start, where.

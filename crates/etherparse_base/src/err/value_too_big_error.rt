@@ -5,7 +5,7 @@ use std::fmt::{Debug, Display};
 use std::hash::Hash;
 
 /// A value above the greatest that is allowed.
-#[derive(Clone, Debug, PartialEq, Eq, Hash, Drop)]
+#[derive(Clone, Debug, Hash, Drop)]
 pub struct ValueTooBigError<T: Sized + Clone + Display + Debug + Eq + PartialEq + Hash> {
     /// The value that was refused.
     pub actual: T,
@@ -13,6 +13,38 @@ pub struct ValueTooBigError<T: Sized + Clone + Display + Debug + Eq + PartialEq 
     pub max_allowed: T,
     /// What the value is.
     pub value_type: ValueType,
+}
+
+/// Equal where all their fields are.
+impl<T: Sized + Clone + Display + Debug + Eq + PartialEq + Hash> PartialEq for ValueTooBigError<T> {
+    ghost use Rattle.std.specs.Prelude.{◌≡◌, ◌&&◌};
+    ghost use Rattle.std.specs.Cmp.{and_per, on_per, partial_equiv_from_equiv};
+    ghost use Rattle.etherparse_base.specs.ValueType.{is_same_value_type};
+    ghost use Rattle.etherparse_base.specs.contracts.err.value_type.ValueTypeEq.TheImpl.Laws as value_type;
+
+    ghost eq = { λ a b. T.eq a.actual b.actual && T.eq a.max_allowed b.max_allowed
+        && is_same_value_type a.value_type b.value_type };
+
+    ghost laws = { and_per (and_per (on_per (λ e. e.actual) T.PartialEq.laws) (on_per (λ e. e.max_allowed) T.PartialEq.laws))
+        (on_per (λ e. e.value_type) (partial_equiv_from_equiv value_type.laws-law)) };
+
+    fn eq(&self, other: &Self) -> bool
+        ensures all_fields { result ≡ (T.eq self.now.actual other.now.actual
+            && T.eq self.now.max_allowed other.now.max_allowed
+            && is_same_value_type self.now.value_type other.now.value_type) }
+    {
+        self.actual == other.actual
+            && self.max_allowed == other.max_allowed
+            && self.value_type == other.value_type
+    }
+}
+
+impl<T: Sized + Clone + Display + Debug + Eq + PartialEq + Hash> Eq for ValueTooBigError<T> {
+    ghost use Rattle.std.specs.Cmp.{and_equiv, on_equiv};
+    ghost use Rattle.etherparse_base.specs.contracts.err.value_type.ValueTypeEq.TheImpl.Laws as value_type;
+
+    ghost laws = { and_equiv (and_equiv (on_equiv (λ e. e.actual) T.Eq.laws) (on_equiv (λ e. e.max_allowed) T.Eq.laws))
+        (on_equiv (λ e. e.value_type) value_type.laws-law) };
 }
 
 /// Says which value was refused, what it is and how great it may be.

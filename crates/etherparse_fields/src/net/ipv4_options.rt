@@ -198,7 +198,7 @@ impl Hash for Ipv4Options {
     }
 }
 
-/// The order of the lists, of which each two have one.
+/// Any two options have an order, that of `cmp`.
 impl PartialOrd for Ipv4Options {
     ghost partial_cmp = { λ options other. Some (slice_cmp nat_cmp options other) };
 

@@ -44,8 +44,8 @@ fn assert_refuses(rt: &impl Abort, slice: &[u8], expected: &HeaderSliceError) {
 }
 
 // Bytes of which only the first matters.
-fn beginning(first: u8) -> [u8; 41] {
-    let mut bytes = [0xa5; 41];
+fn beginning(first: u8) -> [u8; 40] {
+    let mut bytes = [0xa5; 40];
     bytes[0] = first;
     bytes
 }
@@ -124,9 +124,7 @@ fn each_version_but_six_is_refused(rt: HostRuntime) {
             let error = HeaderSliceError::Content(HeaderError::UnexpectedVersion {
                 version_number,
             });
-            let bytes = beginning(first);
-            assert_refuses(&rt, &bytes[..40], &error);
-            assert_refuses(&rt, &bytes, &error);
+            assert_refuses(&rt, &beginning(first), &error);
         }
     }
 }

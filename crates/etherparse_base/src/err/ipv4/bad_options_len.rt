@@ -2,10 +2,34 @@ use std::error::Error;
 use std::fmt;
 
 /// A length that IPv4 options cannot have: above 40 bytes, or no multiple of 4 (RFC 791 section 3.1).
-#[derive(Clone, Debug, PartialEq, Eq, Hash, Drop)]
+#[derive(Clone, Debug, Hash, Drop)]
 pub struct BadOptionsLen {
     /// The length that was refused, in bytes.
     pub bad_len: usize,
+}
+
+/// Equal where their lengths are.
+impl PartialEq for BadOptionsLen {
+    ghost use Rattle.std.specs.Prelude.{◌≡◌, ◌↔◌, IsTrue, ◌==◌};
+    ghost use Rattle.std.specs.Cmp.{on_equiv, nat_eq_equiv, partial_equiv_from_equiv};
+    ghost use Rattle.std.specs.Ordering.{on};
+
+    ghost eq = { on (λ e. e.bad_len) ◌==◌ };
+
+    ghost laws = { partial_equiv_from_equiv (on_equiv (λ e. e.bad_len) nat_eq_equiv) };
+
+    fn eq(&self, other: &Self) -> bool
+        ensures member { result ≡ (self.now.bad_len == other.now.bad_len) }
+        ensures all_fields { IsTrue result ↔ (self.now ≡ other.now) }
+    {
+        self.bad_len == other.bad_len
+    }
+}
+
+impl Eq for BadOptionsLen {
+    ghost use Rattle.std.specs.Cmp.{on_equiv, nat_eq_equiv};
+
+    ghost laws = { on_equiv (λ e. e.bad_len) nat_eq_equiv };
 }
 
 /// Says which length was refused.

@@ -2,7 +2,7 @@ use std::error::Error;
 use std::fmt;
 
 /// Why bytes that are long enough are no IPv4 header (RFC 791 section 3.1).
-#[derive(Clone, Debug, PartialEq, Eq, Hash, Drop)]
+#[derive(Clone, Debug, Hash, Drop)]
 pub enum HeaderError {
     /// The version field is not 4.
     UnexpectedVersion {
@@ -14,6 +14,43 @@ pub enum HeaderError {
         /// The IHL field, the lower half of the first byte, in words of 4 bytes.
         ihl: u8,
     },
+}
+
+/// Equal where their variants and fields are.
+impl PartialEq for HeaderError {
+    ghost use Rattle.std.specs.Prelude.{◌≡◌, ◌↔◌, IsTrue};
+    ghost use Rattle.std.specs.Cmp.{partial_equiv_from_equiv};
+    ghost use Rattle.etherparse_base.specs.Ipv4Errors.{is_same_ipv4_header_error};
+    ghost use Rattle.etherparse_base.specs.EqualityLaws.{is_same_ipv4_header_error-equiv};
+
+    ghost eq = { is_same_ipv4_header_error };
+
+    ghost laws = { partial_equiv_from_equiv is_same_ipv4_header_error-equiv };
+
+    fn eq(&self, other: &Self) -> bool
+        ensures member { result ≡ is_same_ipv4_header_error self.now other.now }
+        ensures all_fields { IsTrue result ↔ (self.now ≡ other.now) }
+    {
+        match (self, other) {
+            (
+                HeaderError::UnexpectedVersion { version_number },
+                HeaderError::UnexpectedVersion {
+                    version_number: other,
+                },
+            ) => version_number == other,
+            (
+                HeaderError::HeaderLengthSmallerThanHeader { ihl },
+                HeaderError::HeaderLengthSmallerThanHeader { ihl: other },
+            ) => ihl == other,
+            _ => false,
+        }
+    }
+}
+
+impl Eq for HeaderError {
+    ghost use Rattle.etherparse_base.specs.EqualityLaws.{is_same_ipv4_header_error-equiv};
+
+    ghost laws = { is_same_ipv4_header_error-equiv };
 }
 
 /// Says which version or which header length there was.

@@ -4,12 +4,41 @@ use std::error::Error;
 use std::fmt;
 
 /// Why the front of a slice is no IPv4 header.
-#[derive(Clone, Debug, PartialEq, Eq, Hash, Drop)]
+#[derive(Clone, Debug, Hash, Drop)]
 pub enum HeaderSliceError {
     /// The slice is shorter than the header.
     Len(LenError),
     /// The bytes are those of no IPv4 header.
     Content(HeaderError),
+}
+
+/// Equal where the errors are that they hold.
+impl PartialEq for HeaderSliceError {
+    ghost use Rattle.std.specs.Prelude.{◌≡◌, ◌↔◌, IsTrue};
+    ghost use Rattle.std.specs.Cmp.{partial_equiv_from_equiv};
+    ghost use Rattle.etherparse_base.specs.Ipv4Errors.{is_same_ipv4_header_slice_error};
+    ghost use Rattle.etherparse_base.specs.EqualityLaws.{is_same_ipv4_header_slice_error-equiv};
+
+    ghost eq = { is_same_ipv4_header_slice_error };
+
+    ghost laws = { partial_equiv_from_equiv is_same_ipv4_header_slice_error-equiv };
+
+    fn eq(&self, other: &Self) -> bool
+        ensures member { result ≡ is_same_ipv4_header_slice_error self.now other.now }
+        ensures all_fields { IsTrue result ↔ (self.now ≡ other.now) }
+    {
+        match (self, other) {
+            (HeaderSliceError::Len(e), HeaderSliceError::Len(other)) => e == other,
+            (HeaderSliceError::Content(e), HeaderSliceError::Content(other)) => e == other,
+            _ => false,
+        }
+    }
+}
+
+impl Eq for HeaderSliceError {
+    ghost use Rattle.etherparse_base.specs.EqualityLaws.{is_same_ipv4_header_slice_error-equiv};
+
+    ghost laws = { is_same_ipv4_header_slice_error-equiv };
 }
 
 /// Says what the error that it holds says.

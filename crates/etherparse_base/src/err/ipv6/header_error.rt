@@ -2,13 +2,42 @@ use std::error::Error;
 use std::fmt;
 
 /// Why bytes that are long enough are no IPv6 header (RFC 8200 section 3).
-#[derive(Clone, Debug, PartialEq, Eq, Hash, Drop)]
+#[derive(Clone, Debug, Hash, Drop)]
 pub enum HeaderError {
     /// The version field is not 6.
     UnexpectedVersion {
         /// The version field, the upper half of the first byte.
         version_number: u8,
     },
+}
+
+/// Equal where their fields are.
+impl PartialEq for HeaderError {
+    ghost use Rattle.std.specs.Prelude.{◌≡◌, ◌↔◌, IsTrue};
+    ghost use Rattle.std.specs.Cmp.{partial_equiv_from_equiv};
+    ghost use Rattle.etherparse_base.specs.Ipv6Errors.{is_same_ipv6_header_error};
+    ghost use Rattle.etherparse_base.specs.EqualityLaws.{is_same_ipv6_header_error-equiv};
+
+    ghost eq = { is_same_ipv6_header_error };
+
+    ghost laws = { partial_equiv_from_equiv is_same_ipv6_header_error-equiv };
+
+    fn eq(&self, other: &Self) -> bool
+        ensures member { result ≡ is_same_ipv6_header_error self.now other.now }
+        ensures all_fields { IsTrue result ↔ (self.now ≡ other.now) }
+    {
+        let HeaderError::UnexpectedVersion { version_number } = self;
+        let HeaderError::UnexpectedVersion {
+            version_number: other,
+        } = other;
+        version_number == other
+    }
+}
+
+impl Eq for HeaderError {
+    ghost use Rattle.etherparse_base.specs.EqualityLaws.{is_same_ipv6_header_error-equiv};
+
+    ghost laws = { is_same_ipv6_header_error-equiv };
 }
 
 /// Says which version there was.

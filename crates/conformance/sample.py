@@ -1,0 +1,181 @@
+"""sample.py ROWS: writes the cases of stdin. ROWS is what `rows.py ORACLE --final --emit ROWS` wrote (SAMPLE.md)."""
+import sys
+
+U8, U16, U32, U64 = 2**8 - 1, 2**16 - 1, 2**32 - 1, 2**64 - 1
+H4 = [1, 2, 100, 3, 1, 0, 4, 5, 6, 7, '01020304', '05060708', '0a0b0c0d']
+H4_MOST = [63, 3, U16, U16, 1, 1, 8191, U8, U8, U16, None, None, None]
+H6 = [171, 5, 6, 7, 8, '00' * 15 + '01', 'ff' * 16]
+H6_MOST = [U8, 2**20 - 1, U16, U8, U8, None, None]
+LEN = [20, 19, 'Slice', 'Ipv4Header', 4]
+LEN_MOST = [U64, U64, None, None, U64]
+BARE4, BARE6 = '45000014' + '00' * 16, '60' + '00' * 39
+LAYERS = '''LinuxSllHeader Ethernet2Header EtherPayload VlanHeader MacsecHeader MacsecPacket IpHeader Ipv4Header
+    Ipv4Packet IpAuthHeader Ipv6Header Ipv6Packet Ipv6ExtHeader Ipv6HopByHopHeader Ipv6DestOptionsHeader
+    Ipv6RouteHeader Ipv6FragHeader UdpHeader UdpPayload TcpHeader Icmpv4 Icmpv4Timestamp Icmpv4TimestampReply
+    Icmpv6 Arp'''.split()
+VALUE_TYPES = '''VlanId VlanPcp MacsecAn MacsecShortLen IpFragmentOffset IpDscp IpEcn Ipv6FlowLabel
+    Ipv4PayloadLength Ipv6PayloadLength UdpPayloadLengthIpv4 UdpPayloadLengthIpv6 TcpPayloadLengthIpv4
+    TcpPayloadLengthIpv6 Icmpv6PayloadLength LinuxSllType'''.split()
+LEN_SOURCES = '''Slice MacsecShortLength Ipv4HeaderTotalLen Ipv6HeaderPayloadLen UdpHeaderLen TcpHeaderLen
+    ArpAddrLengths'''.split()
+lines = {}
+
+
+def say(*words):
+    """one case, unless it is there"""
+    lines[' '.join(str(word) for word in words if word != '')] = None
+
+
+def each_bound(front, arguments, greatest, back=''):
+    """the case with each bounded argument at 0, the greatest and one above"""
+    for i, most in enumerate(greatest):
+        for n in (0, most, most + 1) if most is not None else ():
+            say(front, *arguments[:i], n, *arguments[i + 1:], back)
+
+
+def written(hexed, at, byte):
+    """bytes with one of them written"""
+    return hexed[:2 * at] + '%02x' % byte + hexed[2 * at + 2:]
+
+
+def fields():
+    for field, most, width in ('dscp', 63, U8), ('frag', 8191, U16), ('flow', 2**20 - 1, U32), ('ecn', 3, U8):
+        for way in 'new', 'try':
+            for n in 0, 1, 2, 3, most - 1, most, most + 1, width, width + 1:
+                say(f'{field}.{way}', n)
+        for a, b in (0, 0), (0, most), (most, 0), (most, most), (most + 1, 0), (0, most + 1):
+            say('field.cmp', field, a, b)
+    for a, b in (0, 0), (0, U8), (U8, 0), (U8, U8):
+        say('field.cmp ipnum', a, b)
+
+
+def options():
+    for n in range(46):
+        say('opt', '5a' * n or '-')
+    for n in range(0, 41, 4):
+        say('opt.arr', 'a5' * n or '-')
+    for i in 0, 39, 40:
+        say('opt.set', '11' * 40, i, 7)
+    for value in 0, U8, U8 + 1:
+        say('opt.set', '01020304', 3, value)
+    lists = '-', '00000000', '00000001', 'ff' * 40
+    for a in lists:
+        for b in lists:
+            say('opt.cmp', a, b)
+
+
+def reads():
+    for way in 'view', 'view_header', 'head', 'read':
+        for first in '44', '45', '46', '4f', '35', '55':
+            for n in 0, 1, 18, 19, 20, 21, 23, 24, 25, 58, 59, 60, 61:
+                say(f'v4.{way}', (first + '00' * 60)[:2 * n] or '-')
+        for first in '50', '60', '6f', '70':
+            for n in 0, 1, 38, 39, 40, 41:
+                say(f'v6.{way}', (first + 'a5' * 60)[:2 * n] or '-')
+        for at, bits in (1, (0x01, 0x02, 0x04, 0x80)), (6, (0x10, 0x20, 0x40, 0x80)), (7, (0x01, 0x80)):
+            for bit in bits:
+                say(f'v4.{way}', written(BARE4, at, bit))
+        for at in range(1, 20):
+            say(f'v4.{way}', written(BARE4, at, 0xff))
+        for at in range(1, 40):
+            say(f'v6.{way}', written(BARE6, at, 0xff))
+    for total_len in 0, 19, 20, 21, U16:
+        say('v4.view', '4500%04x' % total_len + '00' * 16)
+
+
+def setters():
+    for n in 0, 1, 65514, 65515, 65516, U16, U16 + 1:
+        say('v4.new', n, 1, 2, '01020304', '05060708')
+    each_bound('v4.new', [100, 64, 17, '01020304', '05060708'], [None, U8, U8, None, None])
+    for room, held in (65515, '-'), (65511, '0a0b0c0d'), (65475, 'ff' * 40):
+        for n in 0, room, room + 1, U64, U64 + 1:
+            say('v4.set_payload_len', n, *H4[:12], held)
+    for n in 0, 1, 3, 4, 5, 39, 40, 41, 44:
+        say('v4.set_options', '77' * n or '-', *H4)
+    for n in 0, U16, U16 + 1, U64, U64 + 1:
+        say('v6.set_payload_length', n, *H6)
+    for n in 0, 1, 2, 3, 4:
+        say('v6.set_ecn', n, *H6)
+    for n in 0, 63, 64:
+        say('v6.set_dscp', n, *H6)
+    for front in 'v4.set_payload_len 80', 'v4.set_options 01020304':
+        each_bound(front, H4, H4_MOST)
+    for front in 'v6.set_payload_length 80', 'v6.set_ecn 1', 'v6.set_dscp 1', 'v6.info':
+        each_bound(front, H6, H6_MOST)
+
+
+def equal_headers():
+    for version, header, most in ('v4', H4, H4_MOST), ('v6', H6, H6_MOST):
+        say(f'{version}.eq', *header, *header)
+        each_bound(f'{version}.eq', header, most, ' '.join(map(str, header)))
+        for i, word in enumerate(header):
+            if most[i] is None:
+                say(f'{version}.eq', *header[:i], '00' * (len(word) // 2), *header[i + 1:], *header)
+    say('v4.eq', *H4, *H4[:12], '-')
+    for other in BARE4, BARE4 + 'ff', written(BARE4, 6, 0x80), '46' + '00' * 23, '44' + '00' * 19:
+        say('v4.view_eq', BARE4, other)
+    for other in BARE6, BARE6 + 'ff', written(BARE6, 39, 1), '50' + '00' * 39:
+        say('v6.view_eq', BARE6, other)
+
+
+def names():
+    for layer in LAYERS:
+        say('layer', layer)
+        say('text.len 2 1 Slice', layer, 0)
+        say('text.len 1 2 Slice', layer, 7)
+        for other in LAYERS:
+            say('layer.cmp', layer, other)
+    for value_type in VALUE_TYPES:
+        say('value_type', value_type)
+        say('text.too_big u8 3 2', value_type)
+        for other in VALUE_TYPES:
+            say('value_type.cmp', value_type, other)
+    for source in LEN_SOURCES:
+        for required, found in (2, 1), (1, 1), (1, 2):
+            for offset in 0, 4:
+                say('text.len', required, found, source, 'Ipv4Packet', offset)
+
+
+def errors():
+    for front in 'text.len', 'text.v4 len', 'text.v6 len':
+        each_bound(front, LEN, LEN_MOST)
+    for name in 'v4.version', 'v4.ihl', 'v6.version':
+        for front in f'text.{name}', 'text.' + name.replace('.', ' '):
+            each_bound(front, [4], [U8])
+    each_bound('text.bad_options', [3], [U64])
+    for operation, kind in ('eq.len', ''), ('eq.v4', 'len'), ('eq.v6', 'len'):
+        back = ' '.join(map(str, ['/', kind, *LEN] if kind else ['/', *LEN]))
+        say(operation, kind, *LEN, back)
+        say(operation, kind, 20, 19, 'TcpHeaderLen', 'Ipv4Header', 4, back)
+        say(operation, kind, 20, 19, 'Slice', 'Ipv6Header', 4, back)
+        each_bound(f'{operation} {kind}'.strip(), LEN, LEN_MOST, back)
+    for width, most in ('u8', U8), ('u16', U16), ('u32', U32), ('usize', U64):
+        each_bound(f'text.too_big {width}', [4, 3, 'IpEcn'], [most, most, None])
+        each_bound(f'eq.too_big {width}', [4, 3, 'IpEcn'], [most, most, None], '/ 4 3 IpEcn')
+        for value_type in 'IpEcn', 'IpDscp':
+            say('eq.too_big', width, '4 3 IpEcn / 4 3', value_type)
+    length = 'len 20 19 Slice Ipv4Header 4'
+    for other in 'version 4', 'version 5', 'ihl 4', length:
+        say('eq.v4 version 4 /', other)
+    for other in 'ihl 4', 'ihl 3', length:
+        say('eq.v4 ihl 4 /', other)
+    for other in 'version 6', 'version 5', length:
+        say('eq.v6 version 6 /', other)
+
+
+for name in 'fields', 'headers', 'dscp', 'layers', 'value_types':
+    say('const.' + name)
+for name in 'fields', 'v4', 'v6':
+    say('default.' + name)
+for part in fields, options, reads, setters, equal_headers, names, errors:
+    part()
+operations = {line.split(' ')[0] for line in lines}
+for no_case in ('', ' ', 'nothing', 'dscp.new', 'dscp.new 1 2', 'dscp.new x', 'dscp.old 1', 'opt', 'opt 4', 'opt 0g',
+                'opt.arr 01', 'layer Nothing', 'layer', 'value_type IpDscp IpDscp', 'text.len 1 2 Slice',
+                'text.too_big u64 1 2 IpDscp', 'v4.eq 1', 'v4.view_eq 45 45', 'v6.view_eq 60 60', 'const.fields 1',
+                'const.nothing', 'default.nothing'):
+    lines[no_case] = None
+for line in open(sys.argv[1]).read().splitlines():
+    if line.split(' ')[0] in operations:
+        lines[line] = None
+print('\n'.join(lines))

@@ -1,0 +1,42 @@
+use crate::arguments::Arguments;
+use crate::case_error::CaseError;
+use crate::{constants, equality, fields, ipv4, ipv6, kinds, options, texts};
+use std::alloc::{AllocError, Global};
+use std::str;
+
+/// Puts the answer to a line in the place of what was answered before: `bad line`, where it is no case.
+pub fn answer_line(alloc: Global, line: &[u8], answer: &mut String) -> Result<(), AllocError> {
+    answer.clear();
+    match answer_case(alloc, line, answer) {
+        Ok(()) => Ok(()),
+        Err(CaseError::BadLine) => {
+            answer.clear();
+            answer.push_str("bad line")
+        }
+        Err(CaseError::OutOfMemory) => Err(AllocError),
+    }
+}
+
+fn answer_case(alloc: Global, line: &[u8], answer: &mut String) -> Result<(), CaseError> {
+    let line = str::from_utf8(line).map_err(|_| CaseError::BadLine)?;
+    let mut arguments = Arguments::new(alloc, line);
+    let operation = arguments.word()?;
+    let (group, name) = operation.split_once('.').unwrap_or((operation, ""));
+    match group {
+        "dscp" => fields::answer_dscp(name, arguments, answer),
+        "frag" => fields::answer_frag(name, arguments, answer),
+        "flow" => fields::answer_flow(name, arguments, answer),
+        "ecn" => fields::answer_ecn(name, arguments, answer),
+        "field" => fields::answer_field(name, arguments, answer),
+        "opt" => options::answer(name, arguments, answer),
+        "v4" => ipv4::answer(name, arguments, answer),
+        "v6" => ipv6::answer(name, arguments, answer),
+        "text" => texts::answer(name, arguments, answer),
+        "layer" => kinds::answer_layer(name, arguments, answer),
+        "value_type" => kinds::answer_value_type(name, arguments, answer),
+        "eq" => equality::answer(name, arguments, answer),
+        "const" => constants::answer_const(name, arguments, answer),
+        "default" => constants::answer_default(name, arguments, answer),
+        _ => Err(CaseError::BadLine),
+    }
+}

@@ -1,0 +1,134 @@
+//! The fields that have fewer values than their machine number.
+
+use crate::arguments::Arguments;
+use crate::case_error::CaseError;
+use crate::shown::{Comparison, TooBig};
+use etherparse::{IpDscp, IpEcn, IpFragOffset, Ipv6FlowLabel};
+
+/// `dscp.new V` and `dscp.try V`: a differentiated services code point from its number.
+pub fn answer_dscp(
+    name: &str,
+    mut arguments: Arguments,
+    answer: &mut String,
+) -> Result<(), CaseError> {
+    let number: u8 = arguments.number()?;
+    arguments.end()?;
+    let made = match name {
+        "new" => IpDscp::try_new(number),
+        "try" => IpDscp::try_from(number),
+        _ => return Err(CaseError::BadLine),
+    };
+    match made {
+        Ok(dscp) => write!(
+            answer,
+            "ok value={} into={} text={dscp}",
+            dscp.value(),
+            u8::from(dscp)
+        )?,
+        Err(e) => write!(answer, "{}", TooBig(&e))?,
+    }
+    Ok(())
+}
+
+/// `frag.new V` and `frag.try V`: a fragment offset from its number.
+pub fn answer_frag(
+    name: &str,
+    mut arguments: Arguments,
+    answer: &mut String,
+) -> Result<(), CaseError> {
+    let number: u16 = arguments.number()?;
+    arguments.end()?;
+    let made = match name {
+        "new" => IpFragOffset::try_new(number),
+        "try" => IpFragOffset::try_from(number),
+        _ => return Err(CaseError::BadLine),
+    };
+    match made {
+        Ok(offset) => {
+            write!(
+                answer,
+                "ok value={} into={} text={offset}",
+                offset.value(),
+                u16::from(offset)
+            )?;
+            write!(answer, " bytes={}", offset.byte_offset())?;
+        }
+        Err(e) => write!(answer, "{}", TooBig(&e))?,
+    }
+    Ok(())
+}
+
+/// `flow.new V` and `flow.try V`: a flow label from its number.
+pub fn answer_flow(
+    name: &str,
+    mut arguments: Arguments,
+    answer: &mut String,
+) -> Result<(), CaseError> {
+    let number: u32 = arguments.number()?;
+    arguments.end()?;
+    let made = match name {
+        "new" => Ipv6FlowLabel::try_new(number),
+        "try" => Ipv6FlowLabel::try_from(number),
+        _ => return Err(CaseError::BadLine),
+    };
+    match made {
+        Ok(label) => write!(
+            answer,
+            "ok value={} into={} text={label}",
+            label.value(),
+            u32::from(label)
+        )?,
+        Err(e) => write!(answer, "{}", TooBig(&e))?,
+    }
+    Ok(())
+}
+
+/// `ecn.new V` and `ecn.try V`: an explicit congestion notification from its number.
+pub fn answer_ecn(
+    name: &str,
+    mut arguments: Arguments,
+    answer: &mut String,
+) -> Result<(), CaseError> {
+    let number: u8 = arguments.number()?;
+    arguments.end()?;
+    let made = match name {
+        "new" => IpEcn::try_new(number),
+        "try" => IpEcn::try_from(number),
+        _ => return Err(CaseError::BadLine),
+    };
+    match made {
+        Ok(ecn) => {
+            write!(
+                answer,
+                "ok value={} into={} text={ecn}",
+                ecn.value(),
+                u8::from(ecn)
+            )?;
+            write!(answer, " variant={ecn:?}")?;
+        }
+        Err(e) => write!(answer, "{}", TooBig(&e))?,
+    }
+    Ok(())
+}
+
+/// `field.cmp FIELD A B`: two values of a field against each other.
+pub fn answer_field(
+    name: &str,
+    mut arguments: Arguments,
+    answer: &mut String,
+) -> Result<(), CaseError> {
+    if name != "cmp" {
+        return Err(CaseError::BadLine);
+    }
+    let comparison = match arguments.word()? {
+        "dscp" => Comparison::of(&arguments.dscp()?, &arguments.dscp()?),
+        "frag" => Comparison::of(&arguments.fragment_offset()?, &arguments.fragment_offset()?),
+        "flow" => Comparison::of(&arguments.flow_label()?, &arguments.flow_label()?),
+        "ecn" => Comparison::of(&arguments.ecn()?, &arguments.ecn()?),
+        "ipnum" => Comparison::of(&arguments.ip_number()?, &arguments.ip_number()?),
+        _ => return Err(CaseError::BadLine),
+    };
+    arguments.end()?;
+    write!(answer, "{comparison}")?;
+    Ok(())
+}

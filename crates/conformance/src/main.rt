@@ -1,0 +1,28 @@
+//! Answers cases, one a line: each is a call of `etherparse`, and its answer is what the call gave.
+#![tactic(auto)]
+
+mod answer;
+mod arguments;
+mod case_error;
+mod constants;
+mod equality;
+mod fields;
+mod ipv4;
+mod ipv6;
+mod kinds;
+mod options;
+mod replay;
+mod shown;
+mod tables;
+mod texts;
+
+use replay::replay;
+use std::io;
+use std::io::{BufReader, BufWriter};
+
+fn main(rt: HostRuntime) -> io::Result<()> {
+    let alloc = rt.alloc();
+    let mut reader = BufReader::new(alloc, rt.reader())?;
+    let mut writer = BufWriter::new(alloc, io::writer(&rt))?;
+    replay(alloc, &mut reader, &mut writer)
+}
