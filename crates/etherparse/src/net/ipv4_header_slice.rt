@@ -215,6 +215,7 @@ impl<'a> Ipv4HeaderSlice<'a> {
     }
 
     /// The header that the bytes are in the layout of, with either reserved bit.
+    #[inline]
     pub fn to_header(&self) -> Ipv4Header
         ensures layout { (reserved : ℕ) × IsIpv4Layout result reserved self.now.slice.now }
     {

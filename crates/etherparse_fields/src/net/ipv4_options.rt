@@ -129,6 +129,7 @@ impl TryFrom<&[u8]> for Ipv4Options {
 
     ghost try_from_gives = { λ bytes result. OptionsOrBadLen bytes.now result };
 
+    #[inline]
     fn try_from(value: &[u8]) -> Result<Ipv4Options, BadOptionsLen> {
         let len = value.len();
         if len <= usize::from(Ipv4Options::MAX_LEN) && len % 4 == 0 {
