@@ -5,11 +5,12 @@ ghost use Rattle.etherparse_base.specs.declared.err.value_type.ValueType.TheVari
 ghost use Rattle.etherparse_fields.specs.IpEcn.{ecn_value};
 
 use etherparse_base::err::{ValueTooBigError, ValueType};
+use std::cmp::Ordering;
 use std::fmt;
 
 /// The explicit congestion notification of an IP header, a number of 2 bits (RFC 3168 section 5). It stands in the lower
 /// bits of byte 1 of an IPv4 header, and of the traffic class of an IPv6 header. The order is that of the numbers.
-#[derive(Clone, Copy, Debug, PartialEq, Eq, PartialOrd, Ord, Hash)]
+#[derive(Clone, Copy, Debug, PartialEq, Eq, Hash)]
 pub enum IpEcn {
     /// The transport does not understand the notification.
     NotEct = 0,
@@ -79,6 +80,43 @@ impl Default for IpEcn {
     #[inline]
     fn default() -> IpEcn {
         IpEcn::ZERO
+    }
+}
+
+/// By the number.
+impl Ord for IpEcn {
+    ghost use Rattle.std.proofs.Common.{rules};
+    ghost use Rattle.std.specs.Cmp.Rules.{comparing};
+    ghost use Rattle.std.specs.Ordering.{nat_cmp, on};
+
+    ghost cmp = { on ecn_value nat_cmp };
+
+    ghost total = { Prim.search (comparing, rules) };
+
+    ghost matches_partial_cmp = { Prim.search (comparing, rules) };
+
+    ghost matches_eq = { Prim.search (comparing, rules) };
+
+    fn cmp(&self, other: &IpEcn) -> Ordering
+        ensures { result ≡ nat_cmp (ecn_value self.now) (ecn_value other.now) }
+    {
+        self.value().cmp(&other.value())
+    }
+}
+
+/// By the number.
+impl PartialOrd for IpEcn {
+    ghost use Rattle.std.proofs.Common.{rules};
+    ghost use Rattle.std.specs.Cmp.{partial_order_from_own_ties};
+    ghost use Rattle.std.specs.Cmp.Rules.{comparing};
+    ghost use Rattle.std.specs.Ordering.{as_partial_cmp, nat_cmp, on};
+
+    ghost partial_cmp = { as_partial_cmp (on ecn_value nat_cmp) };
+
+    ghost laws = { partial_order_from_own_ties (Prim.search (comparing, rules)) (Prim.search (comparing, rules)) };
+
+    fn partial_cmp(&self, other: &IpEcn) -> Option<Ordering> {
+        Some(self.cmp(other))
     }
 }
 
