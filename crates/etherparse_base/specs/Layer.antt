@@ -63,3 +63,31 @@ layer_title Arp = codes "Address Resolution Protocol Packet Error"
 -- whether two layers are the same variant
 abbrev pub is_same_layer : Layer → Layer → Bool
 is_same_layer = (derived.ghosts).eq
+
+-- the place of a layer in the order of the layers
+abbrev pub layer_place : Layer → ℕ
+layer_place LinuxSllHeader = 0
+layer_place Ethernet2Header = 1
+layer_place EtherPayload = 2
+layer_place VlanHeader = 3
+layer_place MacsecHeader = 4
+layer_place MacsecPacket = 5
+layer_place IpHeader = 6
+layer_place Ipv4Header = 7
+layer_place Ipv4Packet = 8
+layer_place IpAuthHeader = 9
+layer_place Ipv6Header = 10
+layer_place Ipv6Packet = 11
+layer_place Ipv6ExtHeader = 12
+layer_place Ipv6HopByHopHeader = 13
+layer_place Ipv6DestOptionsHeader = 14
+layer_place Ipv6RouteHeader = 15
+layer_place Ipv6FragHeader = 16
+layer_place UdpHeader = 17
+layer_place UdpPayload = 18
+layer_place TcpHeader = 19
+layer_place Icmpv4 = 20
+layer_place Icmpv4Timestamp = 21
+layer_place Icmpv4TimestampReply = 22
+layer_place Icmpv6 = 23
+layer_place Arp = 24

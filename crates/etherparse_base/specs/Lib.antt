@@ -5,5 +5,6 @@ pub mod Ipv6Errors
 pub mod Layer
 pub mod LenError
 pub mod LenSource
+pub mod OrderLaws
 pub mod ValueTooBigError
 pub mod ValueType

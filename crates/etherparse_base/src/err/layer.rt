@@ -1,10 +1,11 @@
 ghost use Rattle.std.specs.Prelude.{◌≡◌, Some};
 ghost use Rattle.etherparse_base.specs.Layer.{layer_text, layer_title};
 
+use std::cmp::Ordering;
 use std::fmt;
 
 /// A layer of a packet in which an error can come up, in the order of the layers.
-#[derive(Clone, Copy, Debug, PartialEq, Eq, PartialOrd, Ord, Hash)]
+#[derive(Clone, Copy, Debug, PartialEq, Eq, Hash)]
 pub enum Layer {
     /// The Linux cooked capture header, version 1 (SLL).
     LinuxSllHeader,
@@ -90,6 +91,48 @@ impl Layer {
             Layer::Icmpv6 => "ICMPv6 Packet Error",
             Layer::Arp => "Address Resolution Protocol Packet Error",
         }
+    }
+}
+
+/// By the order of the variants.
+impl Ord for Layer {
+    ghost use Rattle.std.specs.Prelude.{◌≡◌};
+    ghost use Rattle.std.proofs.Common.{rules};
+    ghost use Rattle.std.specs.Cmp.Rules.{comparing};
+    ghost use Rattle.std.specs.Ordering.{nat_cmp, on};
+    ghost use Rattle.etherparse_base.specs.Layer.{layer_place};
+    ghost use Rattle.etherparse_base.specs.OrderLaws.{layer-ties};
+
+    ghost cmp = { on layer_place nat_cmp };
+
+    ghost total = { Prim.search (comparing, rules) };
+
+    ghost matches_partial_cmp = { Prim.search (comparing, rules) };
+
+    ghost matches_eq = { layer-ties };
+
+    fn cmp(&self, other: &Layer) -> Ordering
+        ensures { result ≡ nat_cmp (layer_place self.now) (layer_place other.now) }
+    {
+        (*self as u8).cmp(&(*other as u8))
+    }
+}
+
+/// By the order of the variants.
+impl PartialOrd for Layer {
+    ghost use Rattle.std.proofs.Common.{rules};
+    ghost use Rattle.std.specs.Cmp.{partial_order_from_own_ties};
+    ghost use Rattle.std.specs.Cmp.Rules.{comparing};
+    ghost use Rattle.std.specs.Ordering.{as_partial_cmp, nat_cmp, on};
+    ghost use Rattle.etherparse_base.specs.Layer.{layer_place};
+    ghost use Rattle.etherparse_base.specs.OrderLaws.{layer-ties};
+
+    ghost partial_cmp = { as_partial_cmp (on layer_place nat_cmp) };
+
+    ghost laws = { partial_order_from_own_ties (Prim.search (comparing, rules)) layer-ties };
+
+    fn partial_cmp(&self, other: &Layer) -> Option<Ordering> {
+        Some(self.cmp(other))
     }
 }
 

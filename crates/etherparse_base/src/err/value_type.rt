@@ -1,10 +1,11 @@
 ghost use Rattle.std.specs.Prelude.{Some};
 ghost use Rattle.etherparse_base.specs.ValueType.{value_type_text};
 
+use std::cmp::Ordering;
 use std::fmt;
 
 /// Which value an error is about.
-#[derive(Clone, Copy, Debug, PartialEq, Eq, PartialOrd, Ord, Hash)]
+#[derive(Clone, Copy, Debug, PartialEq, Eq, Hash)]
 pub enum ValueType {
     /// The 12 bit identifier of a VLAN.
     VlanId,
@@ -38,6 +39,48 @@ pub enum ValueType {
     Icmpv6PayloadLength,
     /// The packet type of a Linux cooked capture header, version 1 (SLL).
     LinuxSllType,
+}
+
+/// By the order of the variants.
+impl Ord for ValueType {
+    ghost use Rattle.std.specs.Prelude.{◌≡◌};
+    ghost use Rattle.std.proofs.Common.{rules};
+    ghost use Rattle.std.specs.Cmp.Rules.{comparing};
+    ghost use Rattle.std.specs.Ordering.{nat_cmp, on};
+    ghost use Rattle.etherparse_base.specs.ValueType.{value_type_place};
+    ghost use Rattle.etherparse_base.specs.OrderLaws.{value_type-ties};
+
+    ghost cmp = { on value_type_place nat_cmp };
+
+    ghost total = { Prim.search (comparing, rules) };
+
+    ghost matches_partial_cmp = { Prim.search (comparing, rules) };
+
+    ghost matches_eq = { value_type-ties };
+
+    fn cmp(&self, other: &ValueType) -> Ordering
+        ensures { result ≡ nat_cmp (value_type_place self.now) (value_type_place other.now) }
+    {
+        (*self as u8).cmp(&(*other as u8))
+    }
+}
+
+/// By the order of the variants.
+impl PartialOrd for ValueType {
+    ghost use Rattle.std.proofs.Common.{rules};
+    ghost use Rattle.std.specs.Cmp.{partial_order_from_own_ties};
+    ghost use Rattle.std.specs.Cmp.Rules.{comparing};
+    ghost use Rattle.std.specs.Ordering.{as_partial_cmp, nat_cmp, on};
+    ghost use Rattle.etherparse_base.specs.ValueType.{value_type_place};
+    ghost use Rattle.etherparse_base.specs.OrderLaws.{value_type-ties};
+
+    ghost partial_cmp = { as_partial_cmp (on value_type_place nat_cmp) };
+
+    ghost laws = { partial_order_from_own_ties (Prim.search (comparing, rules)) value_type-ties };
+
+    fn partial_cmp(&self, other: &ValueType) -> Option<Ordering> {
+        Some(self.cmp(other))
+    }
 }
 
 /// Writes the value's name.

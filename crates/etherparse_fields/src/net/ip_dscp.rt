@@ -4,12 +4,13 @@ ghost use Rattle.etherparse_base.specs.ValueTooBigError.{NumberOrTooBig};
 ghost use Rattle.etherparse_base.specs.declared.err.value_type.ValueType.TheVariants as value_type;
 
 use etherparse_base::err::{ValueTooBigError, ValueType};
+use std::cmp::Ordering;
 use std::fmt;
 use std::marker::Model;
 
 /// The differentiated services code point of an IP header, a number of 6 bits (RFC 2474 section 3). It stands in the
 /// upper bits of byte 1 of an IPv4 header, and of the traffic class of an IPv6 header.
-#[derive(Clone, Copy, Debug, PartialEq, Eq, PartialOrd, Ord, Hash)]
+#[derive(Clone, Copy, Debug, PartialEq, Eq, Hash)]
 pub struct IpDscp(u8);
 
 /// A contract sees the number itself.
@@ -139,6 +140,43 @@ impl Default for IpDscp {
     #[inline]
     fn default() -> IpDscp {
         IpDscp::ZERO
+    }
+}
+
+/// By the number.
+impl Ord for IpDscp {
+    ghost use Rattle.std.proofs.Common.{rules};
+    ghost use Rattle.std.specs.Cmp.Rules.{comparing};
+    ghost use Rattle.std.specs.Ordering.{nat_cmp};
+
+    ghost cmp = { nat_cmp };
+
+    ghost total = { Prim.search (comparing, rules) };
+
+    ghost matches_partial_cmp = { Prim.search (comparing, rules) };
+
+    ghost matches_eq = { Prim.search (comparing, rules) };
+
+    fn cmp(&self, other: &IpDscp) -> Ordering
+        ensures { result ≡ nat_cmp self.now other.now }
+    {
+        self.value().cmp(&other.value())
+    }
+}
+
+/// By the number.
+impl PartialOrd for IpDscp {
+    ghost use Rattle.std.proofs.Common.{rules};
+    ghost use Rattle.std.specs.Cmp.{partial_order_from_own_ties};
+    ghost use Rattle.std.specs.Cmp.Rules.{comparing};
+    ghost use Rattle.std.specs.Ordering.{as_partial_cmp, nat_cmp};
+
+    ghost partial_cmp = { as_partial_cmp nat_cmp };
+
+    ghost laws = { partial_order_from_own_ties (Prim.search (comparing, rules)) (Prim.search (comparing, rules)) };
+
+    fn partial_cmp(&self, other: &IpDscp) -> Option<Ordering> {
+        Some(self.cmp(other))
     }
 }
 

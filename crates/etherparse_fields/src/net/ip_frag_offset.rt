@@ -4,12 +4,13 @@ ghost use Rattle.etherparse_base.specs.ValueTooBigError.{NumberOrTooBig};
 ghost use Rattle.etherparse_base.specs.declared.err.value_type.ValueType.TheVariants as value_type;
 
 use etherparse_base::err::{ValueTooBigError, ValueType};
+use std::cmp::Ordering;
 use std::fmt;
 use std::marker::Model;
 
 /// The fragment offset of an IP header, a number of 13 bits: where the payload of a fragment begins in the payload that
 /// was cut, in multiples of 8 bytes (RFC 791 section 3.1, RFC 8200 section 4.5).
-#[derive(Clone, Copy, Debug, PartialEq, Eq, PartialOrd, Ord, Hash)]
+#[derive(Clone, Copy, Debug, PartialEq, Eq, Hash)]
 pub struct IpFragOffset(u16);
 
 /// A contract sees the number itself.
@@ -75,6 +76,43 @@ impl Default for IpFragOffset {
     #[inline]
     fn default() -> IpFragOffset {
         IpFragOffset::ZERO
+    }
+}
+
+/// By the number.
+impl Ord for IpFragOffset {
+    ghost use Rattle.std.proofs.Common.{rules};
+    ghost use Rattle.std.specs.Cmp.Rules.{comparing};
+    ghost use Rattle.std.specs.Ordering.{nat_cmp};
+
+    ghost cmp = { nat_cmp };
+
+    ghost total = { Prim.search (comparing, rules) };
+
+    ghost matches_partial_cmp = { Prim.search (comparing, rules) };
+
+    ghost matches_eq = { Prim.search (comparing, rules) };
+
+    fn cmp(&self, other: &IpFragOffset) -> Ordering
+        ensures { result ≡ nat_cmp self.now other.now }
+    {
+        self.value().cmp(&other.value())
+    }
+}
+
+/// By the number.
+impl PartialOrd for IpFragOffset {
+    ghost use Rattle.std.proofs.Common.{rules};
+    ghost use Rattle.std.specs.Cmp.{partial_order_from_own_ties};
+    ghost use Rattle.std.specs.Cmp.Rules.{comparing};
+    ghost use Rattle.std.specs.Ordering.{as_partial_cmp, nat_cmp};
+
+    ghost partial_cmp = { as_partial_cmp nat_cmp };
+
+    ghost laws = { partial_order_from_own_ties (Prim.search (comparing, rules)) (Prim.search (comparing, rules)) };
+
+    fn partial_cmp(&self, other: &IpFragOffset) -> Option<Ordering> {
+        Some(self.cmp(other))
     }
 }
 

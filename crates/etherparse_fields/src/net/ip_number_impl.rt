@@ -1,8 +1,10 @@
 ghost use Rattle.std.specs.Prelude.{◌≡◌};
 
+use std::cmp::Ordering;
+
 /// The number of the protocol or extension header that follows an IP header, as IANA assigns it: the "protocol" field of
 /// IPv4 (RFC 791 section 3.1), the "next header" field of IPv6 (RFC 8200 section 3).
-#[derive(Clone, Copy, Debug, PartialEq, Eq, PartialOrd, Ord, Hash)]
+#[derive(Clone, Copy, Debug, PartialEq, Eq, Hash)]
 pub struct IpNumber(pub u8);
 
 /// 255, a number that is reserved.
@@ -12,6 +14,43 @@ impl Default for IpNumber {
     #[inline]
     fn default() -> IpNumber {
         IpNumber(255)
+    }
+}
+
+/// By the number.
+impl Ord for IpNumber {
+    ghost use Rattle.std.proofs.Common.{rules};
+    ghost use Rattle.std.specs.Cmp.Rules.{comparing};
+    ghost use Rattle.std.specs.Ordering.{nat_cmp, on};
+
+    ghost cmp = { on (λ ip_number. ip_number.0) nat_cmp };
+
+    ghost total = { Prim.search (comparing, rules) };
+
+    ghost matches_partial_cmp = { Prim.search (comparing, rules) };
+
+    ghost matches_eq = { Prim.search (comparing, rules) };
+
+    fn cmp(&self, other: &IpNumber) -> Ordering
+        ensures { result ≡ nat_cmp self.now.0 other.now.0 }
+    {
+        self.0.cmp(&other.0)
+    }
+}
+
+/// By the number.
+impl PartialOrd for IpNumber {
+    ghost use Rattle.std.proofs.Common.{rules};
+    ghost use Rattle.std.specs.Cmp.{partial_order_from_own_ties};
+    ghost use Rattle.std.specs.Cmp.Rules.{comparing};
+    ghost use Rattle.std.specs.Ordering.{as_partial_cmp, nat_cmp, on};
+
+    ghost partial_cmp = { as_partial_cmp (on (λ ip_number. ip_number.0) nat_cmp) };
+
+    ghost laws = { partial_order_from_own_ties (Prim.search (comparing, rules)) (Prim.search (comparing, rules)) };
+
+    fn partial_cmp(&self, other: &IpNumber) -> Option<Ordering> {
+        Some(self.cmp(other))
     }
 }
 

@@ -4,11 +4,12 @@ ghost use Rattle.etherparse_base.specs.ValueTooBigError.{NumberOrTooBig};
 ghost use Rattle.etherparse_base.specs.declared.err.value_type.ValueType.TheVariants as value_type;
 
 use etherparse_base::err::{ValueTooBigError, ValueType};
+use std::cmp::Ordering;
 use std::fmt;
 use std::marker::Model;
 
 /// The flow label of an IPv6 header, a number of 20 bits (RFC 8200 sections 3 and 6).
-#[derive(Clone, Copy, Debug, PartialEq, Eq, PartialOrd, Ord, Hash)]
+#[derive(Clone, Copy, Debug, PartialEq, Eq, Hash)]
 pub struct Ipv6FlowLabel(u32);
 
 /// A contract sees the number itself.
@@ -66,6 +67,43 @@ impl Default for Ipv6FlowLabel {
     #[inline]
     fn default() -> Ipv6FlowLabel {
         Ipv6FlowLabel::ZERO
+    }
+}
+
+/// By the number.
+impl Ord for Ipv6FlowLabel {
+    ghost use Rattle.std.proofs.Common.{rules};
+    ghost use Rattle.std.specs.Cmp.Rules.{comparing};
+    ghost use Rattle.std.specs.Ordering.{nat_cmp};
+
+    ghost cmp = { nat_cmp };
+
+    ghost total = { Prim.search (comparing, rules) };
+
+    ghost matches_partial_cmp = { Prim.search (comparing, rules) };
+
+    ghost matches_eq = { Prim.search (comparing, rules) };
+
+    fn cmp(&self, other: &Ipv6FlowLabel) -> Ordering
+        ensures { result ≡ nat_cmp self.now other.now }
+    {
+        self.value().cmp(&other.value())
+    }
+}
+
+/// By the number.
+impl PartialOrd for Ipv6FlowLabel {
+    ghost use Rattle.std.proofs.Common.{rules};
+    ghost use Rattle.std.specs.Cmp.{partial_order_from_own_ties};
+    ghost use Rattle.std.specs.Cmp.Rules.{comparing};
+    ghost use Rattle.std.specs.Ordering.{as_partial_cmp, nat_cmp};
+
+    ghost partial_cmp = { as_partial_cmp nat_cmp };
+
+    ghost laws = { partial_order_from_own_ties (Prim.search (comparing, rules)) (Prim.search (comparing, rules)) };
+
+    fn partial_cmp(&self, other: &Ipv6FlowLabel) -> Option<Ordering> {
+        Some(self.cmp(other))
     }
 }
 
