@@ -48,6 +48,10 @@ pub record IsIpv4Layout (header : Ipv4Header) (reserved : ℕ) (bytes : List ℕ
   pub fragment_offset_fits : header.fragment_offset < 2 ^ 13
   pub reserved_fits : reserved < 2
 
+-- what holds of the header that some bytes have
+abbrev pub OfIpv4Header : List ℕ → (Ipv4Header → Type 0) → Type 0
+OfIpv4Header bytes P = (header : Ipv4Header) (reserved : ℕ) → IsIpv4Layout header reserved bytes → P header
+
 -- the same bytes with the reserved bit 0: it is the highest bit of byte 6
 abbrev pub with_reserved_bit_cleared : List ℕ → List ℕ
 with_reserved_bit_cleared bytes = slice_set bytes 6 (slice_index bytes 6 % 2 ^ 7)

@@ -27,6 +27,10 @@ pub record IsIpv6Layout (header : Ipv6Header) (bytes : List ℕ) : Type 0 where
   pub traffic_class_fits : header.traffic_class < 2 ^ 8
   pub flow_label_fits : header.flow_label < 2 ^ 20
 
+-- what holds of the header that some bytes have
+abbrev pub OfIpv6Header : List ℕ → (Ipv6Header → Type 0) → Type 0
+OfIpv6Header bytes P = (header : Ipv6Header) → IsIpv6Layout header bytes → P header
+
 -- the error of bytes that are too few for a header
 abbrev pub ipv6_too_short : ℕ → LenError
 ipv6_too_short len =

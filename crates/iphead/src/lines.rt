@@ -1,10 +1,8 @@
 ghost use Rattle.std.specs.Prelude.{ℕ, Some, codes, ◌≡◌, ◌≤◌, OnOk, IfSome, length};
 ghost use Rattle.std.specs.Io.KnownBytes.{Appends};
 ghost use Rattle.hex.specs.Hex.{encode_lower};
-ghost use Rattle.etherparse.specs.Ipv4Header.{IsIpv4Layout};
-ghost use Rattle.etherparse.specs.Ipv6Header.{IsIpv6Layout};
-ghost use Rattle.etherparse.specs.declared.net.ipv4_header.Ipv4Header.{Ipv4Header};
-ghost use Rattle.etherparse.specs.declared.net.ipv6_header.Ipv6Header.{Ipv6Header};
+ghost use Rattle.etherparse.specs.Ipv4Header.{OfIpv4Header};
+ghost use Rattle.etherparse.specs.Ipv6Header.{OfIpv6Header};
 ghost use Rattle.iphead.specs.Output.{dotted, error_line, ipv4_lines, ipv6_lines, line, options_text};
 
 use etherparse::{Ipv4HeaderSlice, Ipv6HeaderSlice};
@@ -23,8 +21,8 @@ pub fn write_error<W: Write, D: Display + Drop>(writer: &mut W, reason: D) -> io
 
 /// Writes the fields of an IPv6 header, one a line.
 pub fn write_ipv6<W: Write>(writer: &mut W, view: &Ipv6HeaderSlice) -> io::Result<()>
-    ensures { OnOk result ((header : Ipv6Header) → IsIpv6Layout header view.now.slice.now →
-        Appends (W.contents writer.old) (W.contents writer.new) (ipv6_lines header)) }
+    ensures { OnOk result (OfIpv6Header view.now.slice.now (λ header.
+        Appends (W.contents writer.old) (W.contents writer.new) (ipv6_lines header))) }
 {
     write_field(writer, "version", view.version())?;
     write_field(writer, "traffic_class", view.traffic_class())?;
@@ -43,8 +41,8 @@ pub fn write_ipv4<W: Write>(
     view: &Ipv4HeaderSlice,
     rest_len: usize,
 ) -> io::Result<()>
-    ensures { OnOk result ((header : Ipv4Header) (reserved : ℕ) → IsIpv4Layout header reserved view.now.slice.now →
-        Appends (W.contents writer.old) (W.contents writer.new) (ipv4_lines header rest_len)) }
+    ensures { OnOk result (OfIpv4Header view.now.slice.now (λ header.
+        Appends (W.contents writer.old) (W.contents writer.new) (ipv4_lines header rest_len))) }
 {
     write_field(writer, "version", view.version())?;
     write_field(writer, "ihl", view.ihl())?;

@@ -24,9 +24,8 @@ pub struct Ipv4HeaderSlice<'a> {
 impl<'a> Ipv4HeaderSlice<'a> {
     ghost use Rattle.std.specs.Prelude.{ℕ, ◌≡◌, ◌%◌, ◌≤◌, ◌↔◌, List, Result, IsTrue, length};
     ghost use Rattle.etherparse_base.specs.declared.err.ipv4.header_slice_error.HeaderSliceError.{HeaderSliceError};
-    ghost use Rattle.etherparse.specs.Ipv4Header.{IsFragment, IsIpv4Layout, Ipv4PayloadLen, ViewsIpv4, ipv4_ihl};
+    ghost use Rattle.etherparse.specs.Ipv4Header.{IsFragment, IsIpv4Layout, Ipv4PayloadLen, OfIpv4Header, ViewsIpv4, ipv4_ihl};
     ghost use Rattle.etherparse.specs.Ipv4HeaderSlice.{view_bytes};
-    ghost use Rattle.etherparse.specs.declared.net.ipv4_header.Ipv4Header.{Ipv4Header};
 
     /// A view of the header at the front of a slice.
     ///
@@ -81,7 +80,7 @@ impl<'a> Ipv4HeaderSlice<'a> {
     /// The length of the header in words of 4 bytes, 5 to 15: the lower half of byte 0.
     #[inline]
     pub fn ihl(&self) -> u8
-        ensures { (header : Ipv4Header) (reserved : ℕ) → IsIpv4Layout header reserved self.now.slice.now → result ≡ ipv4_ihl header }
+        ensures { OfIpv4Header self.now.slice.now (λ header. result ≡ ipv4_ihl header) }
     {
         self.slice[0] & 0xf
     }
@@ -89,7 +88,7 @@ impl<'a> Ipv4HeaderSlice<'a> {
     /// The differentiated services code point: the upper 6 bits of byte 1.
     #[inline]
     pub fn dcp(&self) -> IpDscp
-        ensures { (header : Ipv4Header) (reserved : ℕ) → IsIpv4Layout header reserved self.now.slice.now → result ≡ header.dscp }
+        ensures { OfIpv4Header self.now.slice.now (λ header. result ≡ header.dscp) }
     {
         IpDscp::try_new(self.slice[1] >> 2).unwrap()
     }
@@ -97,7 +96,7 @@ impl<'a> Ipv4HeaderSlice<'a> {
     /// The explicit congestion notification: the lower 2 bits of byte 1.
     #[inline]
     pub fn ecn(&self) -> IpEcn
-        ensures { (header : Ipv4Header) (reserved : ℕ) → IsIpv4Layout header reserved self.now.slice.now → result ≡ header.ecn }
+        ensures { OfIpv4Header self.now.slice.now (λ header. result ≡ header.ecn) }
     {
         IpEcn::try_new(self.slice[1] & 0b11).unwrap()
     }
@@ -105,7 +104,7 @@ impl<'a> Ipv4HeaderSlice<'a> {
     /// The length of the header and what follows it, in bytes: bytes 2 and 3.
     #[inline]
     pub fn total_len(&self) -> u16
-        ensures { (header : Ipv4Header) (reserved : ℕ) → IsIpv4Layout header reserved self.now.slice.now → result ≡ header.total_len }
+        ensures { OfIpv4Header self.now.slice.now (λ header. result ≡ header.total_len) }
     {
         u16::from_be_bytes([self.slice[2], self.slice[3]])
     }
@@ -118,7 +117,7 @@ impl<'a> Ipv4HeaderSlice<'a> {
     /// `required_len`.
     #[inline]
     pub fn payload_len(&self) -> Result<u16, LenError>
-        ensures { (header : Ipv4Header) (reserved : ℕ) → IsIpv4Layout header reserved self.now.slice.now → Ipv4PayloadLen header result }
+        ensures { OfIpv4Header self.now.slice.now (λ header. Ipv4PayloadLen header result) }
     {
         payload_len_of(self.slice.len() as u16, self.total_len())
     }
@@ -126,7 +125,7 @@ impl<'a> Ipv4HeaderSlice<'a> {
     /// What the fragments of one packet have in common: bytes 4 and 5.
     #[inline]
     pub fn identification(&self) -> u16
-        ensures { (header : Ipv4Header) (reserved : ℕ) → IsIpv4Layout header reserved self.now.slice.now → result ≡ header.identification }
+        ensures { OfIpv4Header self.now.slice.now (λ header. result ≡ header.identification) }
     {
         u16::from_be_bytes([self.slice[4], self.slice[5]])
     }
@@ -134,7 +133,7 @@ impl<'a> Ipv4HeaderSlice<'a> {
     /// Whether the packet must not be cut into fragments: a bit of byte 6.
     #[inline]
     pub fn dont_fragment(&self) -> bool
-        ensures { (header : Ipv4Header) (reserved : ℕ) → IsIpv4Layout header reserved self.now.slice.now → result ≡ header.dont_fragment }
+        ensures { OfIpv4Header self.now.slice.now (λ header. result ≡ header.dont_fragment) }
     {
         self.slice[6] & 0x40 != 0
     }
@@ -142,7 +141,7 @@ impl<'a> Ipv4HeaderSlice<'a> {
     /// Whether more fragments follow this one: a bit of byte 6.
     #[inline]
     pub fn more_fragments(&self) -> bool
-        ensures { (header : Ipv4Header) (reserved : ℕ) → IsIpv4Layout header reserved self.now.slice.now → result ≡ header.more_fragments }
+        ensures { OfIpv4Header self.now.slice.now (λ header. result ≡ header.more_fragments) }
     {
         self.slice[6] & 0x20 != 0
     }
@@ -150,7 +149,7 @@ impl<'a> Ipv4HeaderSlice<'a> {
     /// Where the fragment stands in the packet, in units of 8 bytes: the lower 5 bits of byte 6, and byte 7.
     #[inline]
     pub fn fragments_offset(&self) -> IpFragOffset
-        ensures { (header : Ipv4Header) (reserved : ℕ) → IsIpv4Layout header reserved self.now.slice.now → result ≡ header.fragment_offset }
+        ensures { OfIpv4Header self.now.slice.now (λ header. result ≡ header.fragment_offset) }
     {
         let bytes = [self.slice[6] & 0x1f, self.slice[7]];
         IpFragOffset::try_new(u16::from_be_bytes(bytes)).unwrap()
@@ -159,7 +158,7 @@ impl<'a> Ipv4HeaderSlice<'a> {
     /// Whether the payload is a part of one that was cut: more fragments follow it, or its offset is not 0.
     #[inline]
     pub fn is_fragmenting_payload(&self) -> bool
-        ensures { (header : Ipv4Header) (reserved : ℕ) → IsIpv4Layout header reserved self.now.slice.now → IsTrue result ↔ IsFragment header }
+        ensures { OfIpv4Header self.now.slice.now (λ header. IsTrue result ↔ IsFragment header) }
     {
         self.more_fragments() || self.fragments_offset().value() != 0
     }
@@ -167,7 +166,7 @@ impl<'a> Ipv4HeaderSlice<'a> {
     /// How many more nodes may forward the packet: byte 8.
     #[inline]
     pub fn ttl(&self) -> u8
-        ensures { (header : Ipv4Header) (reserved : ℕ) → IsIpv4Layout header reserved self.now.slice.now → result ≡ header.time_to_live }
+        ensures { OfIpv4Header self.now.slice.now (λ header. result ≡ header.time_to_live) }
     {
         self.slice[8]
     }
@@ -175,7 +174,7 @@ impl<'a> Ipv4HeaderSlice<'a> {
     /// The protocol of what follows the header: byte 9.
     #[inline]
     pub fn protocol(&self) -> IpNumber
-        ensures { (header : Ipv4Header) (reserved : ℕ) → IsIpv4Layout header reserved self.now.slice.now → result ≡ header.protocol }
+        ensures { OfIpv4Header self.now.slice.now (λ header. result ≡ header.protocol) }
     {
         IpNumber(self.slice[9])
     }
@@ -183,7 +182,7 @@ impl<'a> Ipv4HeaderSlice<'a> {
     /// The checksum that the header has, right or wrong: bytes 10 and 11.
     #[inline]
     pub fn header_checksum(&self) -> u16
-        ensures { (header : Ipv4Header) (reserved : ℕ) → IsIpv4Layout header reserved self.now.slice.now → result ≡ header.header_checksum }
+        ensures { OfIpv4Header self.now.slice.now (λ header. result ≡ header.header_checksum) }
     {
         u16::from_be_bytes([self.slice[10], self.slice[11]])
     }
@@ -191,7 +190,7 @@ impl<'a> Ipv4HeaderSlice<'a> {
     /// The source address: bytes 12 to 15.
     #[inline]
     pub fn source(&self) -> [u8; 4]
-        ensures { (header : Ipv4Header) (reserved : ℕ) → IsIpv4Layout header reserved self.now.slice.now → result ≡ header.source }
+        ensures { OfIpv4Header self.now.slice.now (λ header. result ≡ header.source) }
     {
         *self.slice[12..16].first_chunk::<4>().unwrap()
     }
@@ -199,7 +198,7 @@ impl<'a> Ipv4HeaderSlice<'a> {
     /// The destination address: bytes 16 to 19.
     #[inline]
     pub fn destination(&self) -> [u8; 4]
-        ensures { (header : Ipv4Header) (reserved : ℕ) → IsIpv4Layout header reserved self.now.slice.now → result ≡ header.destination }
+        ensures { OfIpv4Header self.now.slice.now (λ header. result ≡ header.destination) }
     {
         *self.slice[16..20].first_chunk::<4>().unwrap()
     }
@@ -207,7 +206,7 @@ impl<'a> Ipv4HeaderSlice<'a> {
     /// The bytes of the options, from byte 20 on, which live as long as the slice that was read.
     #[inline]
     pub fn options(&self) -> &'a [u8]
-        ensures value { (header : Ipv4Header) (reserved : ℕ) → IsIpv4Layout header reserved self.now.slice.now → result.now ≡ header.options }
+        ensures value { OfIpv4Header self.now.slice.now (λ header. result.now ≡ header.options) }
         ensures fits { length result.now ≤ 40 }
         ensures in_words { length result.now % 4 ≡ 0 }
     {

@@ -19,11 +19,10 @@ pub struct Ipv6HeaderSlice<'a> {
 impl<'a> Ipv6HeaderSlice<'a> {
     ghost use Rattle.std.specs.Prelude.{ℕ, ◌≡◌, List, Result};
     ghost use Rattle.etherparse_base.specs.declared.err.ipv6.header_slice_error.HeaderSliceError.{HeaderSliceError};
-    ghost use Rattle.etherparse.specs.Ipv6Header.{IsIpv6Layout, ViewsIpv6};
+    ghost use Rattle.etherparse.specs.Ipv6Header.{IsIpv6Layout, OfIpv6Header, ViewsIpv6};
     ghost use Rattle.etherparse.specs.Ipv6HeaderSlice.{view_bytes};
     ghost use Rattle.etherparse.specs.TrafficClass.{traffic_class_dscp, traffic_class_ecn};
     ghost use Rattle.etherparse_fields.specs.IpEcn.{ecn_value};
-    ghost use Rattle.etherparse.specs.declared.net.ipv6_header.Ipv6Header.{Ipv6Header};
 
     /// A view of the header at the front of a slice.
     ///
@@ -73,7 +72,7 @@ impl<'a> Ipv6HeaderSlice<'a> {
     /// The traffic class: the lower half of byte 0 and the upper half of byte 1.
     #[inline]
     pub fn traffic_class(&self) -> u8
-        ensures { (header : Ipv6Header) → IsIpv6Layout header self.now.slice.now → result ≡ header.traffic_class }
+        ensures { OfIpv6Header self.now.slice.now (λ header. result ≡ header.traffic_class) }
     {
         ((u16::from_be_bytes([self.slice[0], self.slice[1]]) >> 4) & 0xff) as u8
     }
@@ -81,8 +80,7 @@ impl<'a> Ipv6HeaderSlice<'a> {
     /// The explicit congestion notification: the lower 2 bits of the traffic class.
     #[inline]
     pub fn ecn(&self) -> IpEcn
-        ensures { (header : Ipv6Header) → IsIpv6Layout header self.now.slice.now →
-            ecn_value result ≡ traffic_class_ecn header.traffic_class }
+        ensures { OfIpv6Header self.now.slice.now (λ header. ecn_value result ≡ traffic_class_ecn header.traffic_class) }
     {
         IpEcn::try_new(self.traffic_class() & 0b11).unwrap()
     }
@@ -90,8 +88,7 @@ impl<'a> Ipv6HeaderSlice<'a> {
     /// The differentiated services code point: the upper 6 bits of the traffic class.
     #[inline]
     pub fn dscp(&self) -> IpDscp
-        ensures { (header : Ipv6Header) → IsIpv6Layout header self.now.slice.now →
-            result ≡ traffic_class_dscp header.traffic_class }
+        ensures { OfIpv6Header self.now.slice.now (λ header. result ≡ traffic_class_dscp header.traffic_class) }
     {
         IpDscp::try_new(self.traffic_class() >> 2).unwrap()
     }
@@ -99,7 +96,7 @@ impl<'a> Ipv6HeaderSlice<'a> {
     /// The flow label: the lower half of byte 1, and bytes 2 and 3.
     #[inline]
     pub fn flow_label(&self) -> Ipv6FlowLabel
-        ensures { (header : Ipv6Header) → IsIpv6Layout header self.now.slice.now → result ≡ header.flow_label }
+        ensures { OfIpv6Header self.now.slice.now (λ header. result ≡ header.flow_label) }
     {
         let bytes = [0, self.slice[1] & 0xf, self.slice[2], self.slice[3]];
         Ipv6FlowLabel::try_new(u32::from_be_bytes(bytes)).unwrap()
@@ -108,7 +105,7 @@ impl<'a> Ipv6HeaderSlice<'a> {
     /// The payload length in bytes: bytes 4 and 5.
     #[inline]
     pub fn payload_length(&self) -> u16
-        ensures { (header : Ipv6Header) → IsIpv6Layout header self.now.slice.now → result ≡ header.payload_length }
+        ensures { OfIpv6Header self.now.slice.now (λ header. result ≡ header.payload_length) }
     {
         u16::from_be_bytes([self.slice[4], self.slice[5]])
     }
@@ -116,7 +113,7 @@ impl<'a> Ipv6HeaderSlice<'a> {
     /// What follows the header: byte 6.
     #[inline]
     pub fn next_header(&self) -> IpNumber
-        ensures { (header : Ipv6Header) → IsIpv6Layout header self.now.slice.now → result ≡ header.next_header }
+        ensures { OfIpv6Header self.now.slice.now (λ header. result ≡ header.next_header) }
     {
         IpNumber(self.slice[6])
     }
@@ -124,7 +121,7 @@ impl<'a> Ipv6HeaderSlice<'a> {
     /// The hop limit: byte 7.
     #[inline]
     pub fn hop_limit(&self) -> u8
-        ensures { (header : Ipv6Header) → IsIpv6Layout header self.now.slice.now → result ≡ header.hop_limit }
+        ensures { OfIpv6Header self.now.slice.now (λ header. result ≡ header.hop_limit) }
     {
         self.slice[7]
     }
@@ -132,7 +129,7 @@ impl<'a> Ipv6HeaderSlice<'a> {
     /// The source address: bytes 8 to 23.
     #[inline]
     pub fn source(&self) -> [u8; 16]
-        ensures { (header : Ipv6Header) → IsIpv6Layout header self.now.slice.now → result ≡ header.source }
+        ensures { OfIpv6Header self.now.slice.now (λ header. result ≡ header.source) }
     {
         *self.slice[8..24].first_chunk::<16>().unwrap()
     }
@@ -140,7 +137,7 @@ impl<'a> Ipv6HeaderSlice<'a> {
     /// The destination address: bytes 24 to 39.
     #[inline]
     pub fn destination(&self) -> [u8; 16]
-        ensures { (header : Ipv6Header) → IsIpv6Layout header self.now.slice.now → result ≡ header.destination }
+        ensures { OfIpv6Header self.now.slice.now (λ header. result ≡ header.destination) }
     {
         *self.slice[24..].first_chunk::<16>().unwrap()
     }
