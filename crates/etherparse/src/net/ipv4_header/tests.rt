@@ -1,8 +1,8 @@
 use super::*;
 use crate::err::ipv4::HeaderError;
 use crate::testing::{
-    GREATEST, WITH_OPTIONS, WITH_RESERVED_BIT, WITHOUT_RESERVED_BIT, greatest, hash_of, too_short,
-    with_options, with_reserved_bit,
+    GREATEST, WITH_OPTIONS, WITH_RESERVED_BIT, WITHOUT_RESERVED_BIT,
+    assert_each_equals_itself_alone, greatest, hash_of, too_short, with_options, with_reserved_bit,
 };
 use std::process::Abort;
 use std::test::Fail;
@@ -41,26 +41,33 @@ fn beginning(first: u8) -> [u8; 60] {
 }
 
 #[test]
-fn constants_and_the_default_are_those_of_the_crate(rt: HostRuntime) {
+fn constants_are_those_of_the_crate(rt: HostRuntime) {
     assert_eq!(rt; Ipv4Header::MIN_LEN, 20);
     assert_eq!(rt; Ipv4Header::MIN_LEN_U16, 20);
     assert_eq!(rt; Ipv4Header::SERIALIZED_SIZE, 20);
     assert_eq!(rt; Ipv4Header::MAX_LEN, 60);
-    let header = Ipv4Header::default();
-    assert_eq!(rt; header.dscp.value(), 0);
-    assert_eq!(rt; header.ecn, crate::Ipv4Ecn::NotEct);
-    assert_eq!(rt; header.dscp, crate::Ipv4Dscp::ZERO);
-    assert_eq!(rt; header.total_len, 0);
-    assert_eq!(rt; header.identification, 0);
-    assert!(rt; header.dont_fragment);
-    assert!(rt; !header.more_fragments);
-    assert_eq!(rt; header.fragment_offset.value(), 0);
-    assert_eq!(rt; header.time_to_live, 0);
-    assert_eq!(rt; header.protocol.0, 255);
-    assert_eq!(rt; header.header_checksum, 0);
-    assert_eq!(rt; header.source, [0, 0, 0, 0]);
-    assert_eq!(rt; header.destination, [0, 0, 0, 0]);
-    assert!(rt; header.options.is_empty());
+    assert_eq!(rt; crate::Ipv4Dscp::ZERO, IpDscp::ZERO);
+    assert_eq!(rt; crate::Ipv4Ecn::NotEct, IpEcn::NotEct);
+}
+
+#[test]
+fn the_default_is_that_of_the_crate(rt: HostRuntime) {
+    let expected = Ipv4Header {
+        dscp: IpDscp::ZERO,
+        ecn: IpEcn::NotEct,
+        total_len: 0,
+        identification: 0,
+        dont_fragment: true,
+        more_fragments: false,
+        fragment_offset: IpFragOffset::ZERO,
+        time_to_live: 0,
+        protocol: IpNumber(255),
+        header_checksum: 0,
+        source: [0, 0, 0, 0],
+        destination: [0, 0, 0, 0],
+        options: Ipv4Options::new(),
+    };
+    assert_eq!(rt; Ipv4Header::default(), expected);
 }
 
 #[test]
@@ -103,6 +110,17 @@ fn the_rest_is_everything_behind_the_header(rt: HostRuntime) {
     }
 }
 
+// That a header has these options, and the lengths that go with them.
+fn assert_has_options(rt: &impl Abort, header: &Ipv4Header, options: &[u8]) {
+    assert_eq!(rt; header.options(), options);
+    assert_eq!(rt; usize::from(header.ihl()), 5 + options.len() / 4);
+    assert_eq!(rt; header.header_len() - 20, options.len());
+    assert_eq!(rt;
+        65515 - usize::from(header.max_payload_len()),
+        options.len()
+    );
+}
+
 #[test]
 fn options_of_each_length_are_read_and_written(rt: HostRuntime) -> Result<(), Fail> {
     for (first, len) in [
@@ -121,10 +139,7 @@ fn options_of_each_length_are_read_and_written(rt: HostRuntime) -> Result<(), Fa
         assert!(rt; len <= 40);
         let mut header = with_reserved_bit();
         header.set_options(&BYTES[..len])?;
-        assert_eq!(rt; header.options(), &BYTES[..len]);
-        assert_eq!(rt; usize::from(header.ihl()) * 4, 20 + len);
-        assert_eq!(rt; header.header_len(), 20 + len);
-        assert_eq!(rt; usize::from(header.max_payload_len()), 65515 - len);
+        assert_has_options(&rt, &header, &BYTES[..len]);
 
         let mut bytes = [0; 64];
         bytes[..20].copy_from_slice(&WITHOUT_RESERVED_BIT);
@@ -248,6 +263,24 @@ fn a_new_header_has_room_for_65515_bytes(rt: HostRuntime) -> Result<(), Fail> {
     Ok(())
 }
 
+// That a payload length is refused, and the header left as it was.
+fn assert_refuses_payload_len(
+    rt: &impl Abort,
+    header: &mut Ipv4Header,
+    actual: usize,
+    max_allowed: usize,
+) -> Result<(), Fail> {
+    let unchanged = header.clone()?;
+    let error = ValueTooBigError {
+        actual,
+        max_allowed,
+        value_type: ValueType::Ipv4PayloadLength,
+    };
+    assert_eq!(rt; header.set_payload_len(actual), Err(error));
+    assert_eq!(rt; *header, unchanged);
+    Ok(())
+}
+
 #[test]
 fn a_payload_length_is_set_or_refused_with_no_change(rt: HostRuntime) -> Result<(), Fail> {
     for (options, max_payload_len, value, total_len) in [
@@ -259,17 +292,10 @@ fn a_payload_length_is_set_or_refused_with_no_change(rt: HostRuntime) -> Result<
     ] {
         let mut header = with_reserved_bit();
         header.set_options(options)?;
-        assert_eq!(rt; header.max_payload_len(), max_payload_len);
         let max_allowed = usize::from(max_payload_len);
+        assert_eq!(rt; header.max_payload_len(), max_payload_len);
         for actual in [max_allowed + 1, 65536, usize::MAX] {
-            let unchanged = header.clone()?;
-            let error = ValueTooBigError {
-                actual,
-                max_allowed,
-                value_type: ValueType::Ipv4PayloadLength,
-            };
-            assert_eq!(rt; header.set_payload_len(actual), Err(error));
-            assert_eq!(rt; header, unchanged);
+            assert_refuses_payload_len(&rt, &mut header, actual, max_allowed)?;
         }
         let mut expected = header.clone()?;
         expected.total_len = total_len;
@@ -344,17 +370,8 @@ fn headers_are_equal_where_all_fields_are(rt: HostRuntime) -> Result<(), Fail> {
     headers[11].source = [192, 168, 7, 2];
     headers[12].destination = [10, 20, 30, 41];
     headers[13].options = Ipv4Options::from([148, 4, 0, 4]);
-    for (place, header) in headers.iter().enumerate() {
-        let clone = header.clone()?;
-        assert_eq!(rt; clone, *header);
-        assert_eq!(rt; hash_of(&clone), hash_of(header));
-        for (other_place, other) in headers.iter().enumerate() {
-            assert_eq!(rt;
-                *header == *other,
-                place == other_place,
-                "{place} and {other_place}"
-            );
-        }
+    for header in &headers {
+        assert_eq!(rt; hash_of(&header.clone()?), hash_of(header));
     }
-    Ok(())
+    assert_each_equals_itself_alone(&rt, &headers)
 }

@@ -2,8 +2,8 @@ use super::*;
 use crate::err::Layer;
 use crate::err::ipv6::HeaderError;
 use crate::testing::{
-    IPV6_ASCENDING, IPV6_DESCENDING, assert_debug_prints, ipv6_ascending, ipv6_descending,
-    too_short,
+    IPV6_ASCENDING, IPV6_DESCENDING, assert_debug_prints, assert_each_equals_itself_alone,
+    ipv6_ascending, ipv6_descending, too_short,
 };
 use std::process::Abort;
 use std::test::Fail;
@@ -51,18 +51,24 @@ fn beginning(first: u8) -> [u8; 40] {
 }
 
 #[test]
-fn constants_and_the_default_are_those_of_the_crate(rt: HostRuntime) {
+fn constants_are_those_of_the_crate(rt: HostRuntime) {
     assert_eq!(rt; Ipv6Header::LEN, 40);
     assert_eq!(rt; Ipv6Header::SERIALIZED_SIZE, 40);
-    let header = Ipv6Header::default();
-    assert_eq!(rt; header.header_len(), 40);
-    assert_eq!(rt; header.traffic_class, 0);
-    assert_eq!(rt; header.flow_label.value(), 0);
-    assert_eq!(rt; header.payload_length, 0);
-    assert_eq!(rt; header.next_header.0, 255);
-    assert_eq!(rt; header.hop_limit, 0);
-    assert_eq!(rt; header.source, [0; 16]);
-    assert_eq!(rt; header.destination, [0; 16]);
+}
+
+#[test]
+fn the_default_is_that_of_the_crate(rt: HostRuntime) {
+    let expected = Ipv6Header {
+        traffic_class: 0,
+        flow_label: Ipv6FlowLabel::ZERO,
+        payload_length: 0,
+        next_header: IpNumber(255),
+        hop_limit: 0,
+        source: [0; 16],
+        destination: [0; 16],
+    };
+    assert_eq!(rt; Ipv6Header::default(), expected);
+    assert_eq!(rt; expected.header_len(), 40);
 }
 
 #[test]
@@ -150,43 +156,45 @@ fn a_payload_length_is_set_or_refused_with_no_change(rt: HostRuntime) {
     }
 }
 
+// That the DSCP and the ECN of a header are set, and nothing else with them.
+fn assert_sets(rt: &impl Abort, header: &Ipv6Header, dscp: u8, ecn: IpEcn) -> Result<(), Fail> {
+    let mut changed = header.clone()?;
+    changed.set_dscp(IpDscp::try_new(dscp)?);
+    assert_eq!(rt; changed.traffic_class / 4, dscp);
+    assert_eq!(rt; changed.traffic_class % 4, header.traffic_class % 4);
+    changed.traffic_class = header.traffic_class;
+    changed.set_ecn(ecn);
+    assert_eq!(rt; changed.traffic_class / 4, header.traffic_class / 4);
+    assert_eq!(rt; changed.traffic_class % 4, ecn.value());
+    changed.traffic_class = header.traffic_class;
+    assert_eq!(rt; changed, *header);
+    Ok(())
+}
+
 #[test]
 fn the_traffic_class_is_four_times_the_dscp_and_the_ecn(rt: HostRuntime) -> Result<(), Fail> {
-    let ecns = [
-        IpEcn::NotEct,
-        IpEcn::Ect1,
-        IpEcn::Ect0,
-        IpEcn::CongestionExperienced,
-    ];
     for traffic_class in 0..=255_u8 {
         let mut header = ipv6_ascending();
         header.traffic_class = traffic_class;
         assert_eq!(rt; header.dscp().value(), traffic_class / 4);
         assert_eq!(rt; header.ecn().value(), traffic_class % 4);
-        let view_bytes = header.to_bytes();
-        let view = Ipv6HeaderSlice::from_slice(&view_bytes)?;
+        for dscp in 0..64_u8 {
+            let ecn = IpEcn::try_new(dscp % 4)?;
+            assert_sets(&rt, &header, dscp, ecn)?;
+        }
+    }
+    Ok(())
+}
+
+#[test]
+fn a_view_has_the_parts_of_the_header(rt: HostRuntime) -> Result<(), Fail> {
+    for traffic_class in 0..=255_u8 {
+        let mut header = ipv6_ascending();
+        header.traffic_class = traffic_class;
+        let bytes = header.to_bytes();
+        let view = Ipv6HeaderSlice::from_slice(&bytes)?;
         assert_eq!(rt; view.dscp(), header.dscp());
         assert_eq!(rt; view.ecn(), header.ecn());
-        for (place, ecn) in ecns.iter().enumerate() {
-            let mut changed = header.clone()?;
-            changed.set_ecn(*ecn);
-            assert_eq!(rt;
-                usize::from(changed.traffic_class),
-                usize::from(traffic_class) / 4 * 4 + place
-            );
-            changed.traffic_class = traffic_class;
-            assert_eq!(rt; changed, header);
-        }
-        for dscp in 0..64_u8 {
-            let mut changed = header.clone()?;
-            changed.set_dscp(IpDscp::try_new(dscp)?);
-            assert_eq!(rt;
-                u16::from(changed.traffic_class),
-                u16::from(dscp) * 4 + u16::from(traffic_class) % 4
-            );
-            changed.traffic_class = traffic_class;
-            assert_eq!(rt; changed, header);
-        }
     }
     Ok(())
 }
@@ -224,17 +232,7 @@ fn headers_are_equal_where_all_fields_are(rt: HostRuntime) -> Result<(), Fail> {
     headers[7].destination = [
         49, 49, 50, 51, 52, 53, 54, 55, 56, 57, 58, 59, 60, 61, 62, 63,
     ];
-    for (place, header) in headers.iter().enumerate() {
-        assert_eq!(rt; header.clone()?, *header);
-        for (other_place, other) in headers.iter().enumerate() {
-            assert_eq!(rt;
-                *header == *other,
-                place == other_place,
-                "{place} and {other_place}"
-            );
-        }
-    }
-    Ok(())
+    assert_each_equals_itself_alone(&rt, &headers)
 }
 
 #[test]

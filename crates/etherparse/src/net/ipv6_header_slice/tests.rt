@@ -4,6 +4,19 @@ use crate::testing::{
 };
 use std::test::Fail;
 
+// The header whose fields are what the getters answer.
+fn told(view: Ipv6HeaderSlice<'_>) -> Ipv6Header {
+    Ipv6Header {
+        traffic_class: view.traffic_class(),
+        flow_label: view.flow_label(),
+        payload_length: view.payload_length(),
+        next_header: view.next_header(),
+        hop_limit: view.hop_limit(),
+        source: view.source(),
+        destination: view.destination(),
+    }
+}
+
 #[test]
 fn each_getter_answers_its_field(rt: HostRuntime) -> Result<(), Fail> {
     for (bytes, header, dscp, ecn) in [
@@ -19,15 +32,9 @@ fn each_getter_answers_its_field(rt: HostRuntime) -> Result<(), Fail> {
         assert_eq!(rt; view.slice(), bytes.as_slice());
         assert_eq!(rt; view.header_len(), 40);
         assert_eq!(rt; view.version(), 6);
-        assert_eq!(rt; view.traffic_class(), header.traffic_class);
         assert_eq!(rt; view.dscp().value(), dscp);
         assert_eq!(rt; view.ecn(), ecn);
-        assert_eq!(rt; view.flow_label(), header.flow_label);
-        assert_eq!(rt; view.payload_length(), header.payload_length);
-        assert_eq!(rt; view.next_header(), header.next_header);
-        assert_eq!(rt; view.hop_limit(), header.hop_limit);
-        assert_eq!(rt; view.source(), header.source);
-        assert_eq!(rt; view.destination(), header.destination);
+        assert_eq!(rt; told(view), header);
         assert_eq!(rt; view.to_header(), header);
     }
     Ok(())

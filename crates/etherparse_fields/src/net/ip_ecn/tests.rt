@@ -1,5 +1,7 @@
 use super::*;
-use crate::testing::hash_of;
+use crate::testing::{
+    assert_compares, assert_converts, assert_formats, assert_prints, assert_refuses,
+};
 use std::test::Fail;
 
 // numbers in range, with their decimal digits
@@ -10,14 +12,8 @@ fn numbers_in_range_are_kept(rt: HostRuntime) -> Result<(), Fail> {
     for (number, digits) in IN_RANGE {
         let value = IpEcn::try_new(number)?;
         assert_eq!(rt; value.value(), number);
-        assert_eq!(rt; IpEcn::try_from(number)?, value);
-        assert_eq!(rt; u8::from(value), number);
-        let converted: IpEcn = number.try_into()?;
-        assert_eq!(rt; converted, value);
-        let number_again: u8 = value.into();
-        assert_eq!(rt; number_again, number);
-        assert_eq!(rt; value.clone()?, value);
-        assert_eq!(rt; format!(in rt.alloc(); "{value}")?.as_str(), digits);
+        assert_converts(&rt, value, number)?;
+        assert_prints(&rt, rt.alloc(), &value, digits)?;
     }
     Ok(())
 }
@@ -25,31 +21,21 @@ fn numbers_in_range_are_kept(rt: HostRuntime) -> Result<(), Fail> {
 #[test]
 fn numbers_above_are_refused(rt: HostRuntime) -> Result<(), Fail> {
     for number in [4, 5, 128, 255] {
-        let refusal = ValueTooBigError {
-            actual: number,
-            max_allowed: 3,
-            value_type: ValueType::IpEcn,
-        };
-        assert_eq!(rt; IpEcn::try_new(number), Err(refusal.clone()?));
-        assert_eq!(rt; IpEcn::try_from(number), Err(refusal));
+        assert_refuses::<IpEcn, u8>(&rt, number, 3, ValueType::IpEcn);
+        assert_eq!(rt; IpEcn::try_new(number), IpEcn::try_from(number));
     }
     let refusal = IpEcn::try_new(4).expect_err(&rt, "above the greatest number");
     let text =
         "Error '4' is too big to be a 'IPv4 ECN (Explicit Congestion Notification)' (maximum allowed value is '3')";
-    assert_eq!(rt; format!(in rt.alloc(); "{refusal}")?.as_str(), text);
-    Ok(())
+    assert_prints(&rt, rt.alloc(), &refusal, text)
 }
 
 #[test]
 fn equality_order_and_hash_are_those_of_the_number(rt: HostRuntime) -> Result<(), Fail> {
-    for (left, _) in IN_RANGE {
-        for (right, _) in IN_RANGE {
-            let (value, other) = (IpEcn::try_new(left)?, IpEcn::try_new(right)?);
-            assert_eq!(rt; value == other, left == right);
-            assert_eq!(rt; value < other, left < right);
-            assert_eq!(rt; value.cmp(&other), left.cmp(&right));
-            assert_eq!(rt; value.partial_cmp(&other), left.partial_cmp(&right));
-            assert!(rt; left != right || hash_of(&value) == hash_of(&other));
+    for (number, _) in IN_RANGE {
+        for (other, _) in IN_RANGE {
+            let fields = (&IpEcn::try_new(number)?, &IpEcn::try_new(other)?);
+            assert_compares(&rt, fields, (&number, &other));
         }
     }
     Ok(())
@@ -76,8 +62,6 @@ fn code_points_have_their_numbers(rt: HostRuntime) {
 #[test]
 fn formats_honour_their_options(rt: HostRuntime) -> Result<(), Fail> {
     let value = IpEcn::try_new(2)?;
-    assert_eq!(rt; format!(in rt.alloc(); "{value:>8}")?.as_str(), "       2");
-    assert_eq!(rt; format!(in rt.alloc(); "{value:08}")?.as_str(), "00000002");
-    assert_eq!(rt; format!(in rt.alloc(); "{value:?}")?.as_str(), "Ect0");
-    Ok(())
+    let printed = ["       2", "00000002", "Ect0"];
+    assert_formats(&rt, rt.alloc(), &value, printed)
 }

@@ -1,5 +1,7 @@
 use super::*;
-use crate::testing::hash_of;
+use crate::testing::{
+    assert_compares, assert_converts, assert_formats, assert_prints, assert_refuses,
+};
 use std::test::Fail;
 
 // numbers in range, with their decimal digits
@@ -16,14 +18,8 @@ fn numbers_in_range_are_kept(rt: HostRuntime) -> Result<(), Fail> {
     for (number, digits) in IN_RANGE {
         let value = IpFragOffset::try_new(number)?;
         assert_eq!(rt; value.value(), number);
-        assert_eq!(rt; IpFragOffset::try_from(number)?, value);
-        assert_eq!(rt; u16::from(value), number);
-        let converted: IpFragOffset = number.try_into()?;
-        assert_eq!(rt; converted, value);
-        let number_again: u16 = value.into();
-        assert_eq!(rt; number_again, number);
-        assert_eq!(rt; value.clone()?, value);
-        assert_eq!(rt; format!(in rt.alloc(); "{value}")?.as_str(), digits);
+        assert_converts(&rt, value, number)?;
+        assert_prints(&rt, rt.alloc(), &value, digits)?;
     }
     Ok(())
 }
@@ -31,31 +27,27 @@ fn numbers_in_range_are_kept(rt: HostRuntime) -> Result<(), Fail> {
 #[test]
 fn numbers_above_are_refused(rt: HostRuntime) -> Result<(), Fail> {
     for number in [8192, 8193, 16384, 65535] {
-        let refusal = ValueTooBigError {
-            actual: number,
-            max_allowed: 8191,
-            value_type: ValueType::IpFragmentOffset,
-        };
-        assert_eq!(rt; IpFragOffset::try_new(number), Err(refusal.clone()?));
-        assert_eq!(rt; IpFragOffset::try_from(number), Err(refusal));
+        assert_refuses::<IpFragOffset, u16>(&rt, number, 8191, ValueType::IpFragmentOffset);
+        assert_eq!(rt;
+            IpFragOffset::try_new(number),
+            IpFragOffset::try_from(number)
+        );
     }
     let refusal = IpFragOffset::try_new(8192).expect_err(&rt, "above the greatest number");
     let text =
         "Error '8192' is too big to be a 'IP Fragment Offset' (maximum allowed value is '8191')";
-    assert_eq!(rt; format!(in rt.alloc(); "{refusal}")?.as_str(), text);
-    Ok(())
+    assert_prints(&rt, rt.alloc(), &refusal, text)
 }
 
 #[test]
 fn equality_order_and_hash_are_those_of_the_number(rt: HostRuntime) -> Result<(), Fail> {
-    for (left, _) in IN_RANGE {
-        for (right, _) in IN_RANGE {
-            let (value, other) = (IpFragOffset::try_new(left)?, IpFragOffset::try_new(right)?);
-            assert_eq!(rt; value == other, left == right);
-            assert_eq!(rt; value < other, left < right);
-            assert_eq!(rt; value.cmp(&other), left.cmp(&right));
-            assert_eq!(rt; value.partial_cmp(&other), left.partial_cmp(&right));
-            assert!(rt; left != right || hash_of(&value) == hash_of(&other));
+    for (number, _) in IN_RANGE {
+        for (other, _) in IN_RANGE {
+            let fields = (
+                &IpFragOffset::try_new(number)?,
+                &IpFragOffset::try_new(other)?,
+            );
+            assert_compares(&rt, fields, (&number, &other));
         }
     }
     Ok(())
@@ -79,11 +71,6 @@ fn least_and_greatest(rt: HostRuntime) {
 #[test]
 fn formats_honour_their_options(rt: HostRuntime) -> Result<(), Fail> {
     let value = IpFragOffset::try_new(123)?;
-    assert_eq!(rt; format!(in rt.alloc(); "{value:>8}")?.as_str(), "     123");
-    assert_eq!(rt; format!(in rt.alloc(); "{value:08}")?.as_str(), "00000123");
-    assert_eq!(rt;
-        format!(in rt.alloc(); "{value:?}")?.as_str(),
-        "IpFragOffset(123)"
-    );
-    Ok(())
+    let printed = ["     123", "00000123", "IpFragOffset(123)"];
+    assert_formats(&rt, rt.alloc(), &value, printed)
 }

@@ -1,5 +1,5 @@
 use super::*;
-use crate::testing::hash_of;
+use crate::testing::assert_compares;
 use std::test::Fail;
 
 #[test]
@@ -27,12 +27,8 @@ fn the_default_is_reserved(rt: HostRuntime) {
 fn equality_order_and_hash_are_those_of_the_number(rt: HostRuntime) {
     for left in [0u8, 1, 6, 17, 254, 255] {
         for right in [0u8, 1, 6, 17, 254, 255] {
-            let (number, other) = (IpNumber(left), IpNumber(right));
-            assert_eq!(rt; number == other, left == right);
-            assert_eq!(rt; number < other, left < right);
-            assert_eq!(rt; number.cmp(&other), left.cmp(&right));
-            assert_eq!(rt; number.partial_cmp(&other), left.partial_cmp(&right));
-            assert!(rt; left != right || hash_of(&number) == hash_of(&other));
+            let numbers = (&IpNumber(left), &IpNumber(right));
+            assert_compares(&rt, numbers, (&left, &right));
         }
     }
 }

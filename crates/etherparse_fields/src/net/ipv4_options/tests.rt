@@ -2,6 +2,7 @@ ghost use Rattle.std.specs.Prelude.{◌≡◌, length};
 
 use super::*;
 use crate::testing::hash_of;
+use std::process::Abort;
 use std::test::Fail;
 
 // 1, 2, .. 48
@@ -18,6 +19,14 @@ fn overwrite(options: &mut Ipv4Options, bytes: &[u8])
     ensures { options.new ≡ bytes.now }
 {
     options.as_mut_slice().copy_from_slice(bytes);
+}
+
+// Asserts that options of an array are its bytes.
+fn assert_kept<const N: usize>(rt: &impl Abort, bytes: [u8; N])
+where
+    Ipv4Options: From<[u8; N]>,
+{
+    assert_eq!(rt; Ipv4Options::from(bytes).as_slice(), bytes.as_slice());
 }
 
 #[test]
@@ -53,20 +62,17 @@ fn the_refusal_says_the_length(rt: HostRuntime) -> Result<(), Fail> {
 
 #[test]
 fn arrays_are_kept(rt: HostRuntime) {
-    assert_eq!(rt; Ipv4Options::from([0; 0]).as_slice(), [].as_slice());
-    assert_eq!(rt; Ipv4Options::from([1, 2, 3, 4]).as_slice(), &BYTES[..4]);
-    assert_eq!(rt;
-        Ipv4Options::from([1, 2, 3, 4, 5, 6, 7, 8]).as_slice(),
-        &BYTES[..8]
-    );
-    assert_eq!(rt; Ipv4Options::from([12; 12]).as_slice(), [12; 12].as_slice());
-    assert_eq!(rt; Ipv4Options::from([16; 16]).as_slice(), [16; 16].as_slice());
-    assert_eq!(rt; Ipv4Options::from([20; 20]).as_slice(), [20; 20].as_slice());
-    assert_eq!(rt; Ipv4Options::from([24; 24]).as_slice(), [24; 24].as_slice());
-    assert_eq!(rt; Ipv4Options::from([28; 28]).as_slice(), [28; 28].as_slice());
-    assert_eq!(rt; Ipv4Options::from([32; 32]).as_slice(), [32; 32].as_slice());
-    assert_eq!(rt; Ipv4Options::from([36; 36]).as_slice(), [36; 36].as_slice());
-    assert_eq!(rt; Ipv4Options::from([40; 40]).as_slice(), [40; 40].as_slice());
+    assert_kept(&rt, [0; 0]);
+    assert_kept(&rt, [1, 2, 3, 4]);
+    assert_kept(&rt, [1, 2, 3, 4, 5, 6, 7, 8]);
+    assert_kept(&rt, [12; 12]);
+    assert_kept(&rt, [16; 16]);
+    assert_kept(&rt, [20; 20]);
+    assert_kept(&rt, [24; 24]);
+    assert_kept(&rt, [28; 28]);
+    assert_kept(&rt, [32; 32]);
+    assert_kept(&rt, [36; 36]);
+    assert_kept(&rt, [40; 40]);
 }
 
 #[test]

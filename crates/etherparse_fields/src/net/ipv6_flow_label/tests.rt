@@ -1,5 +1,7 @@
 use super::*;
-use crate::testing::hash_of;
+use crate::testing::{
+    assert_compares, assert_converts, assert_formats, assert_prints, assert_refuses,
+};
 use std::test::Fail;
 
 // numbers in range, with their decimal digits
@@ -16,14 +18,8 @@ fn numbers_in_range_are_kept(rt: HostRuntime) -> Result<(), Fail> {
     for (number, digits) in IN_RANGE {
         let value = Ipv6FlowLabel::try_new(number)?;
         assert_eq!(rt; value.value(), number);
-        assert_eq!(rt; Ipv6FlowLabel::try_from(number)?, value);
-        assert_eq!(rt; u32::from(value), number);
-        let converted: Ipv6FlowLabel = number.try_into()?;
-        assert_eq!(rt; converted, value);
-        let number_again: u32 = value.into();
-        assert_eq!(rt; number_again, number);
-        assert_eq!(rt; value.clone()?, value);
-        assert_eq!(rt; format!(in rt.alloc(); "{value}")?.as_str(), digits);
+        assert_converts(&rt, value, number)?;
+        assert_prints(&rt, rt.alloc(), &value, digits)?;
     }
     Ok(())
 }
@@ -31,34 +27,27 @@ fn numbers_in_range_are_kept(rt: HostRuntime) -> Result<(), Fail> {
 #[test]
 fn numbers_above_are_refused(rt: HostRuntime) -> Result<(), Fail> {
     for number in [1048576, 1048577, 2097152, 4294967295] {
-        let refusal = ValueTooBigError {
-            actual: number,
-            max_allowed: 1048575,
-            value_type: ValueType::Ipv6FlowLabel,
-        };
-        assert_eq!(rt; Ipv6FlowLabel::try_new(number), Err(refusal.clone()?));
-        assert_eq!(rt; Ipv6FlowLabel::try_from(number), Err(refusal));
+        assert_refuses::<Ipv6FlowLabel, u32>(&rt, number, 1048575, ValueType::Ipv6FlowLabel);
+        assert_eq!(rt;
+            Ipv6FlowLabel::try_new(number),
+            Ipv6FlowLabel::try_from(number)
+        );
     }
     let refusal = Ipv6FlowLabel::try_new(1048576).expect_err(&rt, "above the greatest number");
     let text =
         "Error '1048576' is too big to be a 'IPv6 Flow Label' (maximum allowed value is '1048575')";
-    assert_eq!(rt; format!(in rt.alloc(); "{refusal}")?.as_str(), text);
-    Ok(())
+    assert_prints(&rt, rt.alloc(), &refusal, text)
 }
 
 #[test]
 fn equality_order_and_hash_are_those_of_the_number(rt: HostRuntime) -> Result<(), Fail> {
-    for (left, _) in IN_RANGE {
-        for (right, _) in IN_RANGE {
-            let (value, other) = (
-                Ipv6FlowLabel::try_new(left)?,
-                Ipv6FlowLabel::try_new(right)?,
+    for (number, _) in IN_RANGE {
+        for (other, _) in IN_RANGE {
+            let fields = (
+                &Ipv6FlowLabel::try_new(number)?,
+                &Ipv6FlowLabel::try_new(other)?,
             );
-            assert_eq!(rt; value == other, left == right);
-            assert_eq!(rt; value < other, left < right);
-            assert_eq!(rt; value.cmp(&other), left.cmp(&right));
-            assert_eq!(rt; value.partial_cmp(&other), left.partial_cmp(&right));
-            assert!(rt; left != right || hash_of(&value) == hash_of(&other));
+            assert_compares(&rt, fields, (&number, &other));
         }
     }
     Ok(())
@@ -74,11 +63,6 @@ fn least_and_greatest(rt: HostRuntime) {
 #[test]
 fn formats_honour_their_options(rt: HostRuntime) -> Result<(), Fail> {
     let value = Ipv6FlowLabel::try_new(123)?;
-    assert_eq!(rt; format!(in rt.alloc(); "{value:>8}")?.as_str(), "     123");
-    assert_eq!(rt; format!(in rt.alloc(); "{value:08}")?.as_str(), "00000123");
-    assert_eq!(rt;
-        format!(in rt.alloc(); "{value:?}")?.as_str(),
-        "Ipv6FlowLabel(123)"
-    );
-    Ok(())
+    let printed = ["     123", "00000123", "Ipv6FlowLabel(123)"];
+    assert_formats(&rt, rt.alloc(), &value, printed)
 }
