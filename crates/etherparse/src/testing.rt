@@ -35,12 +35,13 @@ pub(crate) const GREATEST: [u8; 60] = [
     255, 255, 255, 255,
 ];
 
-/// The bytes of two IPv6 headers whose fields all differ.
+/// The bytes of an IPv6 header whose fields all differ.
 pub(crate) const IPV6_ASCENDING: [u8; 40] = [
     0x6a, 0xbc, 0xde, 0xf0, 0x12, 0x34, 17, 59, 32, 33, 34, 35, 36, 37, 38, 39, 40, 41, 42, 43, 44,
     45, 46, 47, 48, 49, 50, 51, 52, 53, 54, 55, 56, 57, 58, 59, 60, 61, 62, 63,
 ];
 
+/// The bytes of another.
 pub(crate) const IPV6_DESCENDING: [u8; 40] = [
     0x65, 0xe1, 0xab, 0xcd, 0x80, 0x01, 6, 127, 15, 14, 13, 12, 11, 10, 9, 8, 7, 6, 5, 4, 3, 2, 1,
     0, 255, 254, 253, 252, 251, 250, 249, 248, 247, 246, 245, 244, 243, 242, 241, 240,

@@ -51,6 +51,16 @@ pub fn assert_equal_if<T: Debug + Eq + Hash>(rt: &impl Abort, first: &T, second:
     }
 }
 
+/// Asserts that a value ties with itself.
+pub fn assert_ties<T: Debug + Ord>(rt: &impl Abort, value: &T) {
+    assert_eq!(rt; value.cmp(value), Ordering::Equal, "{value:?}");
+    assert_eq!(rt;
+        value.partial_cmp(value),
+        Some(Ordering::Equal),
+        "{value:?}"
+    );
+}
+
 /// Asserts that the first value is less than the second, by each comparison.
 pub fn assert_less<T: Debug + Ord>(rt: &impl Abort, first: &T, second: &T) {
     assert_eq!(rt;

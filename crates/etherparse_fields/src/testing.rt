@@ -40,14 +40,15 @@ pub(crate) fn assert_refuses<F, N>(
 )
 where
     F: Debug + Drop + Eq + TryFrom<N, Error = ValueTooBigError<N>>,
-    N: Number,
+    N: Number + TryInto<F, Error = ValueTooBigError<N>>,
 {
     let refusal = ValueTooBigError {
         actual: number,
         max_allowed,
         value_type,
     };
-    assert_eq!(rt; F::try_from(number), Err(refusal));
+    assert_eq!(rt; number.try_into(), Err::<F, ValueTooBigError<N>>(refusal));
+    assert_eq!(rt; F::try_from(number), number.try_into());
 }
 
 /// Asserts that two fields compare as their numbers do, and hash alike where they are equal.

@@ -26,7 +26,7 @@ pub fn run<R: Read, W: Write>(reader: &mut R, writer: &mut W) -> Status
     reported.unwrap_or(Status::Failed)
 }
 
-// Prints what is to be said of digits that are too many, or of too long an input.
+// Says that the input is too long.
 fn report_too_long<W: Write>(writer: &mut W) -> io::Result<Status>
     ensures { IfOk result (λ status. Writes (ReportsTooLong status) (W.contents writer.old) (W.contents writer.new)) }
 {

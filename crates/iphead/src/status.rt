@@ -1,5 +1,3 @@
-ghost use Rattle.std.specs.Prelude.{◌≡◌};
-
 /// How a run ended.
 #[derive(Clone, Copy, Debug, PartialEq, Eq)]
 pub enum Status {
@@ -19,7 +17,7 @@ impl Status {
 
     /// The exit status of the process: 0 to 3, in the order of the variants.
     pub fn code(self) -> u8
-        ensures { result ≡ code_of self }
+        ensures value { result ≡ code_of self }
     {
         match self {
             Status::Done => 0,

@@ -140,7 +140,7 @@ impl Ipv4Header {
     /// `required_len`.
     #[inline]
     pub fn payload_len(&self) -> Result<u16, LenError>
-        ensures { Ipv4PayloadLen self.now result }
+        ensures value { Ipv4PayloadLen self.now result }
     {
         payload_len_of(self.header_len() as u16, self.total_len)
     }
@@ -148,7 +148,7 @@ impl Ipv4Header {
     /// The length of the longest payload that fits behind the header, in bytes: 65515, less the options.
     #[inline]
     pub fn max_payload_len(&self) -> u16
-        ensures { result ≡ ipv4_max_payload_len self.now }
+        ensures value { result ≡ ipv4_max_payload_len self.now }
     {
         u16::MAX - Ipv4Header::MIN_LEN_U16 - u16::from(self.options.len_u8())
     }
@@ -182,7 +182,7 @@ impl Ipv4Header {
 
     /// The bytes of the options: an older way to read the field `options`.
     pub fn options(&self) -> &[u8]
-        ensures { result.now ≡ self.now.options }
+        ensures value { result.now ≡ self.now.options }
     {
         self.options.as_slice()
     }
@@ -205,7 +205,7 @@ impl Ipv4Header {
     /// Whether the payload is a part of one that was cut: more fragments follow it, or its offset is not 0.
     #[inline]
     pub fn is_fragmenting_payload(&self) -> bool
-        ensures { IsTrue result ↔ IsFragment self.now }
+        ensures value { IsTrue result ↔ IsFragment self.now }
     {
         self.more_fragments || self.fragment_offset.value() != 0
     }

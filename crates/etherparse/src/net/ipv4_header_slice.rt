@@ -35,7 +35,8 @@ impl<'a> Ipv4HeaderSlice<'a> {
     /// below 5; `Len` where the slice has fewer bytes than the IHL says.
     pub fn from_slice(slice: &'a [u8]) -> Result<Ipv4HeaderSlice<'a>, HeaderSliceError>
         ensures views { ViewsIpv4 slice.now (view_bytes result) }
-        ensures only { (other : Result (List ℕ) HeaderSliceError) → ViewsIpv4 slice.now other → other ≡ view_bytes result }
+        ensures only { (other : Result (List ℕ) HeaderSliceError) → ViewsIpv4 slice.now other →
+            other ≡ view_bytes result }
     {
         if slice.len() < Ipv4Header::MIN_LEN {
             return Err(too_short(Ipv4Header::MIN_LEN, slice.len()));
@@ -64,7 +65,7 @@ impl<'a> Ipv4HeaderSlice<'a> {
     /// The bytes of the header, which live as long as the slice that was read.
     #[inline]
     pub fn slice(&self) -> &'a [u8]
-        ensures { result.now ≡ self.now.slice.now }
+        ensures value { result.now ≡ self.now.slice.now }
     {
         self.slice
     }
@@ -72,7 +73,7 @@ impl<'a> Ipv4HeaderSlice<'a> {
     /// The version, which is 4: the upper half of byte 0.
     #[inline]
     pub fn version(&self) -> u8
-        ensures { result ≡ 4 }
+        ensures value { result ≡ 4 }
     {
         self.slice[0] >> 4
     }
@@ -80,7 +81,7 @@ impl<'a> Ipv4HeaderSlice<'a> {
     /// The length of the header in words of 4 bytes, 5 to 15: the lower half of byte 0.
     #[inline]
     pub fn ihl(&self) -> u8
-        ensures { OfIpv4Header self.now.slice.now (λ header. result ≡ ipv4_ihl header) }
+        ensures value { OfIpv4Header self.now.slice.now (λ header. result ≡ ipv4_ihl header) }
     {
         self.slice[0] & 0xf
     }
@@ -88,7 +89,7 @@ impl<'a> Ipv4HeaderSlice<'a> {
     /// The differentiated services code point: the upper 6 bits of byte 1.
     #[inline]
     pub fn dcp(&self) -> IpDscp
-        ensures { OfIpv4Header self.now.slice.now (λ header. result ≡ header.dscp) }
+        ensures value { OfIpv4Header self.now.slice.now (λ header. result ≡ header.dscp) }
     {
         IpDscp::try_new(self.slice[1] >> 2).unwrap()
     }
@@ -96,7 +97,7 @@ impl<'a> Ipv4HeaderSlice<'a> {
     /// The explicit congestion notification: the lower 2 bits of byte 1.
     #[inline]
     pub fn ecn(&self) -> IpEcn
-        ensures { OfIpv4Header self.now.slice.now (λ header. result ≡ header.ecn) }
+        ensures value { OfIpv4Header self.now.slice.now (λ header. result ≡ header.ecn) }
     {
         IpEcn::try_new(self.slice[1] & 0b11).unwrap()
     }
@@ -104,7 +105,7 @@ impl<'a> Ipv4HeaderSlice<'a> {
     /// The length of the header and what follows it, in bytes: bytes 2 and 3.
     #[inline]
     pub fn total_len(&self) -> u16
-        ensures { OfIpv4Header self.now.slice.now (λ header. result ≡ header.total_len) }
+        ensures value { OfIpv4Header self.now.slice.now (λ header. result ≡ header.total_len) }
     {
         u16::from_be_bytes([self.slice[2], self.slice[3]])
     }
@@ -117,7 +118,7 @@ impl<'a> Ipv4HeaderSlice<'a> {
     /// `required_len`.
     #[inline]
     pub fn payload_len(&self) -> Result<u16, LenError>
-        ensures { OfIpv4Header self.now.slice.now (λ header. Ipv4PayloadLen header result) }
+        ensures value { OfIpv4Header self.now.slice.now (λ header. Ipv4PayloadLen header result) }
     {
         payload_len_of(self.slice.len() as u16, self.total_len())
     }
@@ -125,7 +126,7 @@ impl<'a> Ipv4HeaderSlice<'a> {
     /// What the fragments of one packet have in common: bytes 4 and 5.
     #[inline]
     pub fn identification(&self) -> u16
-        ensures { OfIpv4Header self.now.slice.now (λ header. result ≡ header.identification) }
+        ensures value { OfIpv4Header self.now.slice.now (λ header. result ≡ header.identification) }
     {
         u16::from_be_bytes([self.slice[4], self.slice[5]])
     }
@@ -133,7 +134,7 @@ impl<'a> Ipv4HeaderSlice<'a> {
     /// Whether the packet must not be cut into fragments: a bit of byte 6.
     #[inline]
     pub fn dont_fragment(&self) -> bool
-        ensures { OfIpv4Header self.now.slice.now (λ header. result ≡ header.dont_fragment) }
+        ensures value { OfIpv4Header self.now.slice.now (λ header. result ≡ header.dont_fragment) }
     {
         self.slice[6] & 0x40 != 0
     }
@@ -141,7 +142,7 @@ impl<'a> Ipv4HeaderSlice<'a> {
     /// Whether more fragments follow this one: a bit of byte 6.
     #[inline]
     pub fn more_fragments(&self) -> bool
-        ensures { OfIpv4Header self.now.slice.now (λ header. result ≡ header.more_fragments) }
+        ensures value { OfIpv4Header self.now.slice.now (λ header. result ≡ header.more_fragments) }
     {
         self.slice[6] & 0x20 != 0
     }
@@ -149,7 +150,7 @@ impl<'a> Ipv4HeaderSlice<'a> {
     /// Where the fragment stands in the packet, in units of 8 bytes: the lower 5 bits of byte 6, and byte 7.
     #[inline]
     pub fn fragments_offset(&self) -> IpFragOffset
-        ensures { OfIpv4Header self.now.slice.now (λ header. result ≡ header.fragment_offset) }
+        ensures value { OfIpv4Header self.now.slice.now (λ header. result ≡ header.fragment_offset) }
     {
         let bytes = [self.slice[6] & 0x1f, self.slice[7]];
         IpFragOffset::try_new(u16::from_be_bytes(bytes)).unwrap()
@@ -158,7 +159,7 @@ impl<'a> Ipv4HeaderSlice<'a> {
     /// Whether the payload is a part of one that was cut: more fragments follow it, or its offset is not 0.
     #[inline]
     pub fn is_fragmenting_payload(&self) -> bool
-        ensures { OfIpv4Header self.now.slice.now (λ header. IsTrue result ↔ IsFragment header) }
+        ensures value { OfIpv4Header self.now.slice.now (λ header. IsTrue result ↔ IsFragment header) }
     {
         self.more_fragments() || self.fragments_offset().value() != 0
     }
@@ -166,7 +167,7 @@ impl<'a> Ipv4HeaderSlice<'a> {
     /// How many more nodes may forward the packet: byte 8.
     #[inline]
     pub fn ttl(&self) -> u8
-        ensures { OfIpv4Header self.now.slice.now (λ header. result ≡ header.time_to_live) }
+        ensures value { OfIpv4Header self.now.slice.now (λ header. result ≡ header.time_to_live) }
     {
         self.slice[8]
     }
@@ -174,7 +175,7 @@ impl<'a> Ipv4HeaderSlice<'a> {
     /// The protocol of what follows the header: byte 9.
     #[inline]
     pub fn protocol(&self) -> IpNumber
-        ensures { OfIpv4Header self.now.slice.now (λ header. result ≡ header.protocol) }
+        ensures value { OfIpv4Header self.now.slice.now (λ header. result ≡ header.protocol) }
     {
         IpNumber(self.slice[9])
     }
@@ -182,7 +183,7 @@ impl<'a> Ipv4HeaderSlice<'a> {
     /// The checksum that the header has, right or wrong: bytes 10 and 11.
     #[inline]
     pub fn header_checksum(&self) -> u16
-        ensures { OfIpv4Header self.now.slice.now (λ header. result ≡ header.header_checksum) }
+        ensures value { OfIpv4Header self.now.slice.now (λ header. result ≡ header.header_checksum) }
     {
         u16::from_be_bytes([self.slice[10], self.slice[11]])
     }
@@ -190,7 +191,7 @@ impl<'a> Ipv4HeaderSlice<'a> {
     /// The source address: bytes 12 to 15.
     #[inline]
     pub fn source(&self) -> [u8; 4]
-        ensures { OfIpv4Header self.now.slice.now (λ header. result ≡ header.source) }
+        ensures value { OfIpv4Header self.now.slice.now (λ header. result ≡ header.source) }
     {
         *self.slice[12..16].first_chunk::<4>().unwrap()
     }
@@ -198,7 +199,7 @@ impl<'a> Ipv4HeaderSlice<'a> {
     /// The destination address: bytes 16 to 19.
     #[inline]
     pub fn destination(&self) -> [u8; 4]
-        ensures { OfIpv4Header self.now.slice.now (λ header. result ≡ header.destination) }
+        ensures value { OfIpv4Header self.now.slice.now (λ header. result ≡ header.destination) }
     {
         *self.slice[16..20].first_chunk::<4>().unwrap()
     }

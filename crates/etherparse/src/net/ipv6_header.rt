@@ -42,9 +42,22 @@ impl Ipv6Header {
     /// The length of the header, which is 40 bytes for every header.
     #[inline]
     pub fn header_len(&self) -> usize
-        ensures { result ≡ 40 }
+        ensures value { result ≡ 40 }
     {
         Ipv6Header::LEN
+    }
+
+    /// An older name of [`Ipv6Header::from_slice`], with its answers.
+    ///
+    /// # Errors
+    ///
+    /// Those of [`Ipv6Header::from_slice`].
+    #[inline]
+    pub fn read_from_slice(slice: &[u8]) -> Result<(Ipv6Header, &[u8]), HeaderSliceError>
+        ensures reads { ReadsIpv6 slice.now (header_and_rest result) }
+        ensures only { (other : Ipv6Reading) → ReadsIpv6 slice.now other → other ≡ header_and_rest result }
+    {
+        Ipv6Header::from_slice(slice)
     }
 
     /// The header at the front of a slice, and all the bytes behind it, however many `payload_length` tells of.
@@ -59,19 +72,6 @@ impl Ipv6Header {
     {
         let header = Ipv6HeaderSlice::from_slice(slice)?.to_header();
         Ok((header, &slice[Ipv6Header::LEN..]))
-    }
-
-    /// An older name of [`Ipv6Header::from_slice`], with its answers.
-    ///
-    /// # Errors
-    ///
-    /// Those of [`Ipv6Header::from_slice`].
-    #[inline]
-    pub fn read_from_slice(slice: &[u8]) -> Result<(Ipv6Header, &[u8]), HeaderSliceError>
-        ensures reads { ReadsIpv6 slice.now (header_and_rest result) }
-        ensures only { (other : Ipv6Reading) → ReadsIpv6 slice.now other → other ≡ header_and_rest result }
-    {
-        Ipv6Header::from_slice(slice)
     }
 
     /// Sets the payload length, in bytes.
@@ -104,7 +104,7 @@ impl Ipv6Header {
     /// The explicit congestion notification: the lower 2 bits of the traffic class.
     #[inline]
     pub fn ecn(&self) -> IpEcn
-        ensures { ecn_value result ≡ traffic_class_ecn self.now.traffic_class }
+        ensures value { ecn_value result ≡ traffic_class_ecn self.now.traffic_class }
     {
         IpEcn::try_new(self.traffic_class & 0b11).unwrap()
     }
@@ -112,7 +112,7 @@ impl Ipv6Header {
     /// Sets the explicit congestion notification, and keeps the differentiated services code point.
     #[inline]
     pub fn set_ecn(&mut self, ecn: IpEcn)
-        ensures { self.new ≡ record self.old {
+        ensures set { self.new ≡ record self.old {
           traffic_class = traffic_class_of (traffic_class_dscp self.old.traffic_class) (ecn_value ecn);
         } }
     {
@@ -122,7 +122,7 @@ impl Ipv6Header {
     /// The differentiated services code point: the upper 6 bits of the traffic class.
     #[inline]
     pub fn dscp(&self) -> IpDscp
-        ensures { result ≡ traffic_class_dscp self.now.traffic_class }
+        ensures value { result ≡ traffic_class_dscp self.now.traffic_class }
     {
         IpDscp::try_new(self.traffic_class >> 2).unwrap()
     }
@@ -130,7 +130,7 @@ impl Ipv6Header {
     /// Sets the differentiated services code point, and keeps the explicit congestion notification.
     #[inline]
     pub fn set_dscp(&mut self, dscp: IpDscp)
-        ensures { self.new ≡ record self.old {
+        ensures set { self.new ≡ record self.old {
           traffic_class = traffic_class_of dscp (traffic_class_ecn self.old.traffic_class);
         } }
     {

@@ -31,7 +31,8 @@ impl<'a> Ipv6HeaderSlice<'a> {
     /// `Len` where the slice has fewer than 40 bytes; else `Content` where the version is not 6.
     pub fn from_slice(slice: &'a [u8]) -> Result<Ipv6HeaderSlice<'a>, HeaderSliceError>
         ensures views { ViewsIpv6 slice.now (view_bytes result) }
-        ensures only { (other : Result (List ℕ) HeaderSliceError) → ViewsIpv6 slice.now other → other ≡ view_bytes result }
+        ensures only { (other : Result (List ℕ) HeaderSliceError) → ViewsIpv6 slice.now other →
+            other ≡ view_bytes result }
     {
         if slice.len() < Ipv6Header::LEN {
             return Err(HeaderSliceError::Len(LenError {
@@ -56,7 +57,7 @@ impl<'a> Ipv6HeaderSlice<'a> {
     /// The bytes of the header, which live as long as the slice that was read.
     #[inline]
     pub fn slice(&self) -> &'a [u8]
-        ensures { result.now ≡ self.now.slice.now }
+        ensures value { result.now ≡ self.now.slice.now }
     {
         self.slice
     }
@@ -64,7 +65,7 @@ impl<'a> Ipv6HeaderSlice<'a> {
     /// The version, which is 6: the upper half of byte 0.
     #[inline]
     pub fn version(&self) -> u8
-        ensures { result ≡ 6 }
+        ensures value { result ≡ 6 }
     {
         self.slice[0] >> 4
     }
@@ -72,7 +73,7 @@ impl<'a> Ipv6HeaderSlice<'a> {
     /// The traffic class: the lower half of byte 0 and the upper half of byte 1.
     #[inline]
     pub fn traffic_class(&self) -> u8
-        ensures { OfIpv6Header self.now.slice.now (λ header. result ≡ header.traffic_class) }
+        ensures value { OfIpv6Header self.now.slice.now (λ header. result ≡ header.traffic_class) }
     {
         ((u16::from_be_bytes([self.slice[0], self.slice[1]]) >> 4) & 0xff) as u8
     }
@@ -80,7 +81,8 @@ impl<'a> Ipv6HeaderSlice<'a> {
     /// The explicit congestion notification: the lower 2 bits of the traffic class.
     #[inline]
     pub fn ecn(&self) -> IpEcn
-        ensures { OfIpv6Header self.now.slice.now (λ header. ecn_value result ≡ traffic_class_ecn header.traffic_class) }
+        ensures value { OfIpv6Header self.now.slice.now (λ header.
+            ecn_value result ≡ traffic_class_ecn header.traffic_class) }
     {
         IpEcn::try_new(self.traffic_class() & 0b11).unwrap()
     }
@@ -88,7 +90,8 @@ impl<'a> Ipv6HeaderSlice<'a> {
     /// The differentiated services code point: the upper 6 bits of the traffic class.
     #[inline]
     pub fn dscp(&self) -> IpDscp
-        ensures { OfIpv6Header self.now.slice.now (λ header. result ≡ traffic_class_dscp header.traffic_class) }
+        ensures value { OfIpv6Header self.now.slice.now (λ header.
+            result ≡ traffic_class_dscp header.traffic_class) }
     {
         IpDscp::try_new(self.traffic_class() >> 2).unwrap()
     }
@@ -96,7 +99,7 @@ impl<'a> Ipv6HeaderSlice<'a> {
     /// The flow label: the lower half of byte 1, and bytes 2 and 3.
     #[inline]
     pub fn flow_label(&self) -> Ipv6FlowLabel
-        ensures { OfIpv6Header self.now.slice.now (λ header. result ≡ header.flow_label) }
+        ensures value { OfIpv6Header self.now.slice.now (λ header. result ≡ header.flow_label) }
     {
         let bytes = [0, self.slice[1] & 0xf, self.slice[2], self.slice[3]];
         Ipv6FlowLabel::try_new(u32::from_be_bytes(bytes)).unwrap()
@@ -105,7 +108,7 @@ impl<'a> Ipv6HeaderSlice<'a> {
     /// The payload length in bytes: bytes 4 and 5.
     #[inline]
     pub fn payload_length(&self) -> u16
-        ensures { OfIpv6Header self.now.slice.now (λ header. result ≡ header.payload_length) }
+        ensures value { OfIpv6Header self.now.slice.now (λ header. result ≡ header.payload_length) }
     {
         u16::from_be_bytes([self.slice[4], self.slice[5]])
     }
@@ -113,7 +116,7 @@ impl<'a> Ipv6HeaderSlice<'a> {
     /// What follows the header: byte 6.
     #[inline]
     pub fn next_header(&self) -> IpNumber
-        ensures { OfIpv6Header self.now.slice.now (λ header. result ≡ header.next_header) }
+        ensures value { OfIpv6Header self.now.slice.now (λ header. result ≡ header.next_header) }
     {
         IpNumber(self.slice[6])
     }
@@ -121,7 +124,7 @@ impl<'a> Ipv6HeaderSlice<'a> {
     /// The hop limit: byte 7.
     #[inline]
     pub fn hop_limit(&self) -> u8
-        ensures { OfIpv6Header self.now.slice.now (λ header. result ≡ header.hop_limit) }
+        ensures value { OfIpv6Header self.now.slice.now (λ header. result ≡ header.hop_limit) }
     {
         self.slice[7]
     }
@@ -129,7 +132,7 @@ impl<'a> Ipv6HeaderSlice<'a> {
     /// The source address: bytes 8 to 23.
     #[inline]
     pub fn source(&self) -> [u8; 16]
-        ensures { OfIpv6Header self.now.slice.now (λ header. result ≡ header.source) }
+        ensures value { OfIpv6Header self.now.slice.now (λ header. result ≡ header.source) }
     {
         *self.slice[8..24].first_chunk::<16>().unwrap()
     }
@@ -137,7 +140,7 @@ impl<'a> Ipv6HeaderSlice<'a> {
     /// The destination address: bytes 24 to 39.
     #[inline]
     pub fn destination(&self) -> [u8; 16]
-        ensures { OfIpv6Header self.now.slice.now (λ header. result ≡ header.destination) }
+        ensures value { OfIpv6Header self.now.slice.now (λ header. result ≡ header.destination) }
     {
         *self.slice[24..].first_chunk::<16>().unwrap()
     }
@@ -160,7 +163,7 @@ impl<'a> Ipv6HeaderSlice<'a> {
     /// The length of the header, which is 40 bytes for every header.
     #[inline]
     pub fn header_len(&self) -> usize
-        ensures { result ≡ 40 }
+        ensures value { result ≡ 40 }
     {
         Ipv6Header::LEN
     }

@@ -4,7 +4,7 @@ ghost use Rattle.etherparse_base.specs.Layer.{layer_text, layer_title};
 use std::cmp::Ordering;
 use std::fmt;
 
-/// A layer of a packet in which an error can come up, in the order of the layers.
+/// A layer of a packet in which an error can come up. Layers are ordered as they stand here.
 #[derive(Clone, Copy, Debug, PartialEq, Eq, Hash)]
 pub enum Layer {
     /// The Linux cooked capture header, version 1 (SLL).
@@ -62,7 +62,7 @@ pub enum Layer {
 impl Layer {
     /// The title with which the text of an error of this layer begins.
     pub fn error_title(&self) -> &'static str
-        ensures { result.now ≡ layer_title self.now }
+        ensures title { result.now ≡ layer_title self.now }
     {
         match self {
             Layer::LinuxSllHeader => "Linux Cooked Capture v1 Error",
@@ -96,7 +96,6 @@ impl Layer {
 
 /// By the order of the variants.
 impl Ord for Layer {
-    ghost use Rattle.std.specs.Prelude.{◌≡◌};
     ghost use Rattle.std.proofs.Common.{rules};
     ghost use Rattle.std.specs.Cmp.Rules.{comparing};
     ghost use Rattle.std.specs.Ordering.{nat_cmp, on};
@@ -112,7 +111,7 @@ impl Ord for Layer {
     ghost matches_eq = { layer-ties };
 
     fn cmp(&self, other: &Layer) -> Ordering
-        ensures { result ≡ nat_cmp (layer_place self.now) (layer_place other.now) }
+        ensures order { result ≡ nat_cmp (layer_place self.now) (layer_place other.now) }
     {
         (*self as u8).cmp(&(*other as u8))
     }
@@ -174,7 +173,9 @@ impl fmt::Display for Layer {
 #[cfg(test)]
 mod tests {
     use super::Layer;
-    use crate::testing::{assert_clones, assert_less, assert_prints};
+    use crate::testing::{
+        assert_clones, assert_debug_prints, assert_less, assert_prints, assert_ties,
+    };
     use std::test::Fail;
 
     // Each layer with its title and its name, in the order of the layers.
@@ -260,8 +261,14 @@ mod tests {
             assert_eq!(rt; layer.error_title(), *title);
             assert_prints(&rt, rt.alloc(), layer, name)?;
             assert_clones(&rt, layer)?;
+            assert_ties(&rt, layer);
         }
         Ok(())
+    }
+
+    #[test]
+    fn a_layer_is_named_for_programmers(rt: HostRuntime) -> Result<(), Fail> {
+        assert_debug_prints(&rt, rt.alloc(), &Layer::Ethernet2Header, "Ethernet2Header")
     }
 
     #[test]

@@ -1,5 +1,4 @@
 ghost use Rattle.std.specs.Prelude.{◌≡◌};
-ghost use Rattle.std.specs.Fmt.{DisplaysOnOk};
 ghost use Rattle.etherparse_base.specs.LenSource.{len_source_text};
 
 use super::Layer;

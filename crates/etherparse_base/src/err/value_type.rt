@@ -4,7 +4,7 @@ ghost use Rattle.etherparse_base.specs.ValueType.{value_type_text};
 use std::cmp::Ordering;
 use std::fmt;
 
-/// Which value an error is about.
+/// Which value an error is about. Values are ordered as they stand here.
 #[derive(Clone, Copy, Debug, PartialEq, Eq, Hash)]
 pub enum ValueType {
     /// The 12 bit identifier of a VLAN.
@@ -59,7 +59,7 @@ impl Ord for ValueType {
     ghost matches_eq = { value_type-ties };
 
     fn cmp(&self, other: &ValueType) -> Ordering
-        ensures { result ≡ nat_cmp (value_type_place self.now) (value_type_place other.now) }
+        ensures order { result ≡ nat_cmp (value_type_place self.now) (value_type_place other.now) }
     {
         (*self as u8).cmp(&(*other as u8))
     }
@@ -112,7 +112,9 @@ impl fmt::Display for ValueType {
 #[cfg(test)]
 mod tests {
     use super::ValueType;
-    use crate::testing::{assert_clones, assert_less, assert_prints};
+    use crate::testing::{
+        assert_clones, assert_debug_prints, assert_less, assert_prints, assert_ties,
+    };
     use std::test::Fail;
 
     // Each value with its name, in the order of the values.
@@ -161,8 +163,14 @@ mod tests {
         for (value_type, name) in &VALUES {
             assert_prints(&rt, rt.alloc(), value_type, name)?;
             assert_clones(&rt, value_type)?;
+            assert_ties(&rt, value_type);
         }
         Ok(())
+    }
+
+    #[test]
+    fn a_value_is_named_for_programmers(rt: HostRuntime) -> Result<(), Fail> {
+        assert_debug_prints(&rt, rt.alloc(), &ValueType::VlanId, "VlanId")
     }
 
     #[test]

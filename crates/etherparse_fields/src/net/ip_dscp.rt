@@ -110,7 +110,7 @@ impl IpDscp {
     /// A `ValueTooBigError` where the number needs more than 6 bits, which is above [`IpDscp::MAX_U8`].
     #[inline]
     pub const fn try_new(value: u8) -> Result<IpDscp, ValueTooBigError<u8>>
-        ensures { NumberOrTooBig (λ dscp. dscp) 63 value_type.IpDscp value result }
+        ensures answer { NumberOrTooBig (λ dscp. dscp) 63 value_type.IpDscp value result }
     {
         if value <= IpDscp::MAX_U8 {
             Ok(IpDscp(value))
@@ -158,7 +158,7 @@ impl Ord for IpDscp {
     ghost matches_eq = { Prim.search (comparing, rules) };
 
     fn cmp(&self, other: &IpDscp) -> Ordering
-        ensures { result ≡ nat_cmp self.now other.now }
+        ensures order { result ≡ nat_cmp self.now other.now }
     {
         self.value().cmp(&other.value())
     }

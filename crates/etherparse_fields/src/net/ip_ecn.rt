@@ -48,7 +48,7 @@ impl IpEcn {
     /// A `ValueTooBigError` where the number needs more than 2 bits, which is above [`IpEcn::MAX_U8`].
     #[inline]
     pub const fn try_new(value: u8) -> Result<IpEcn, ValueTooBigError<u8>>
-        ensures { NumberOrTooBig ecn_value 3 value_type.IpEcn value result }
+        ensures answer { NumberOrTooBig ecn_value 3 value_type.IpEcn value result }
     {
         match value {
             0 => Ok(IpEcn::NotEct),
@@ -98,7 +98,7 @@ impl Ord for IpEcn {
     ghost matches_eq = { Prim.search (comparing, rules) };
 
     fn cmp(&self, other: &IpEcn) -> Ordering
-        ensures { result ≡ nat_cmp (ecn_value self.now) (ecn_value other.now) }
+        ensures order { result ≡ nat_cmp (ecn_value self.now) (ecn_value other.now) }
     {
         self.value().cmp(&other.value())
     }

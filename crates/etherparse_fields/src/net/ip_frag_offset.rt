@@ -38,7 +38,7 @@ impl IpFragOffset {
     /// A `ValueTooBigError` where the number needs more than 13 bits, which is above [`IpFragOffset::MAX_U16`].
     #[inline]
     pub const fn try_new(value: u16) -> Result<IpFragOffset, ValueTooBigError<u16>>
-        ensures { NumberOrTooBig (λ offset. offset) 8191 value_type.IpFragmentOffset value result }
+        ensures answer { NumberOrTooBig (λ offset. offset) 8191 value_type.IpFragmentOffset value result }
     {
         if value <= IpFragOffset::MAX_U16 {
             Ok(IpFragOffset(value))
@@ -63,7 +63,7 @@ impl IpFragOffset {
     /// The offset in bytes, at most 65528.
     #[inline]
     pub const fn byte_offset(self) -> u16
-        ensures { result ≡ 8 * self }
+        ensures value { result ≡ 8 * self }
     {
         self.0 << 3
     }
@@ -94,7 +94,7 @@ impl Ord for IpFragOffset {
     ghost matches_eq = { Prim.search (comparing, rules) };
 
     fn cmp(&self, other: &IpFragOffset) -> Ordering
-        ensures { result ≡ nat_cmp self.now other.now }
+        ensures order { result ≡ nat_cmp self.now other.now }
     {
         self.value().cmp(&other.value())
     }

@@ -32,7 +32,7 @@ impl Ord for IpNumber {
     ghost matches_eq = { Prim.search (comparing, rules) };
 
     fn cmp(&self, other: &IpNumber) -> Ordering
-        ensures { result ≡ nat_cmp self.now.0 other.now.0 }
+        ensures order { result ≡ nat_cmp self.now.0 other.now.0 }
     {
         self.0.cmp(&other.0)
     }

@@ -47,7 +47,7 @@ impl Ipv4Options {
     /// Options of no byte.
     #[inline]
     pub fn new() -> Ipv4Options
-        ensures { result ≡ [] }
+        ensures empty { result ≡ [] }
     {
         Ipv4Options {
             len: 0,
@@ -99,7 +99,7 @@ impl Ipv4Options {
     /// Whether there is no byte.
     #[inline]
     pub fn is_empty(&self) -> bool
-        ensures { result ≡ (length self.now == 0) }
+        ensures value { result ≡ (length self.now == 0) }
     {
         self.as_slice().is_empty()
     }

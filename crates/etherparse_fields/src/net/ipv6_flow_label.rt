@@ -37,7 +37,7 @@ impl Ipv6FlowLabel {
     /// A `ValueTooBigError` where the number needs more than 20 bits, which is above [`Ipv6FlowLabel::MAX_U32`].
     #[inline]
     pub const fn try_new(value: u32) -> Result<Ipv6FlowLabel, ValueTooBigError<u32>>
-        ensures { NumberOrTooBig (λ label. label) 1048575 value_type.Ipv6FlowLabel value result }
+        ensures answer { NumberOrTooBig (λ label. label) 1048575 value_type.Ipv6FlowLabel value result }
     {
         if value <= Ipv6FlowLabel::MAX_U32 {
             Ok(Ipv6FlowLabel(value))
@@ -85,7 +85,7 @@ impl Ord for Ipv6FlowLabel {
     ghost matches_eq = { Prim.search (comparing, rules) };
 
     fn cmp(&self, other: &Ipv6FlowLabel) -> Ordering
-        ensures { result ≡ nat_cmp self.now other.now }
+        ensures order { result ≡ nat_cmp self.now other.now }
     {
         self.value().cmp(&other.value())
     }

@@ -1,4 +1,4 @@
-//! One module for each field.
+//! One module for each type.
 
 pub mod ip_dscp;
 pub mod ip_ecn;

@@ -82,6 +82,10 @@ const NO_BYTES: &str =
     "error: IPv4 Header Error: Not enough data to decode 'IPv4 header'. 20 byte(s) would be required, but only 0 byte(s) are available based on the slice length.
 ";
 
+const ONE_BYTE_OF_IPV6: &str =
+    "error: IPv6 Header Error: Not enough data to decode 'IPv6 header'. 40 byte(s) would be required, but only 1 byte(s) are available based on the slice length.
+";
+
 const NOT_HEX: &str = "error: input is not hex\n";
 
 const TOO_LONG: &str = "error: input is too long\n";
@@ -218,12 +222,7 @@ fn refused_headers_print_their_reason_alone(rt: HostRuntime) {
         Status::Refused,
         "error: IPv4 Header Error: Not enough data to decode 'IPv4 header'. 24 byte(s) would be required, but only 23 byte(s) are available based on the slice length.\n",
     );
-    expect(
-        &rt,
-        b"60",
-        Status::Refused,
-        "error: IPv6 Header Error: Not enough data to decode 'IPv6 header'. 40 byte(s) would be required, but only 1 byte(s) are available based on the slice length.\n",
-    );
+    expect(&rt, b"60", Status::Refused, ONE_BYTE_OF_IPV6);
 }
 
 #[test]
@@ -280,7 +279,8 @@ fn input_of_65536_bytes_is_taken_and_no_more(rt: HostRuntime) -> Result<(), Fail
 #[test]
 fn reading_stops_where_the_input_is_too_long(rt: HostRuntime) -> Result<(), Fail> {
     let letters = repeated(rt.alloc(), b'g', 4608)?;
-    let mut source = Source::new(letters.as_slice(), 512, 10);
+    // Pieces are of 512 bytes, though the reader would give more.
+    let mut source = Source::new(letters.as_slice(), usize::MAX, 10);
     let mut sink = Sink::new(rt.alloc(), 0);
     assert_eq!(rt; run(&mut source, &mut sink), Status::BadInput);
     assert_eq!(rt; sink.taken.as_slice(), TOO_LONG.as_bytes());
@@ -310,41 +310,50 @@ fn a_failing_read_ends_the_run(rt: HostRuntime) {
         (2, Status::Failed, ""),
         (3, Status::Done, IPV6_LINES),
     ] {
-        let mut source = Source::new(IPV6.as_bytes(), 512, fails_at);
+        let mut source = Source::new(IPV6.as_bytes(), usize::MAX, fails_at);
         let mut sink = Sink::new(rt.alloc(), 0);
         assert_eq!(rt; run(&mut source, &mut sink), status);
         assert_eq!(rt; sink.taken.as_slice(), lines.as_bytes());
     }
 }
 
-#[test]
-fn a_failing_write_ends_the_run(rt: HostRuntime) {
+// Makes each write of a run fail in turn: nothing is written after it, and what was taken by then begins the full text.
+fn expect_each_write_ends_it(
+    rt: &(impl Abort + AllocGlobal),
+    input: &[u8],
+    status: Status,
+    text: &str,
+) {
     let mut failed = 0u64;
     for fails_at in 1..200 {
-        let mut reader = IPV6.as_bytes();
+        let mut reader = input;
         let mut sink = Sink::new(rt.alloc(), fails_at);
-        let status = run(&mut reader, &mut sink);
-        if status == Status::Failed {
-            failed = failed.saturating_add(1);
-            assert_eq!(rt;
-                sink.calls,
-                fails_at,
-                "nothing is written after a failed write"
-            );
-            assert!(rt; IPV6_LINES.as_bytes().starts_with(sink.taken.as_slice()));
-        } else {
-            assert_eq!(rt; status, Status::Done);
-            assert_eq!(rt; sink.taken.as_slice(), IPV6_LINES.as_bytes());
-            assert!(rt; sink.calls < fails_at);
-            assert_eq!(rt;
-                failed,
-                fails_at.saturating_sub(1),
-                "each write before was seen to fail"
-            );
+        let ended = run(&mut reader, &mut sink);
+        if sink.calls < fails_at {
+            assert_eq!(rt; ended, status, "for {text}");
+            assert_eq!(rt; sink.taken.as_slice(), text.as_bytes());
+            assert!(rt; failed > 0, "no write was seen to fail");
             return;
         }
+        failed = fails_at;
+        assert_eq!(rt; ended, Status::Failed, "for {text}");
+        assert_eq!(rt; sink.calls, fails_at, "for {text}");
+        assert!(rt; text.as_bytes().starts_with(sink.taken.as_slice()));
     }
-    assert!(rt; false, "no run met no failure");
+    panic!(rt; "no run met no failure");
+}
+
+#[test]
+fn a_failing_write_ends_the_run(rt: HostRuntime) -> Result<(), Fail> {
+    expect_each_write_ends_it(&rt, IPV6.as_bytes(), Status::Done, IPV6_LINES);
+    expect_each_write_ends_it(&rt, IPV4.as_bytes(), Status::Done, IPV4_LINES);
+    expect_each_write_ends_it(&rt, OPTIONS.as_bytes(), Status::Done, OPTIONS_LINES);
+    expect_each_write_ends_it(&rt, b"", Status::Refused, NO_BYTES);
+    expect_each_write_ends_it(&rt, b"60", Status::Refused, ONE_BYTE_OF_IPV6);
+    expect_each_write_ends_it(&rt, b"6g", Status::BadInput, NOT_HEX);
+    let letters = repeated(rt.alloc(), b'g', 4097)?;
+    expect_each_write_ends_it(&rt, letters.as_slice(), Status::BadInput, TOO_LONG);
+    Ok(())
 }
 
 #[test]

@@ -4,22 +4,22 @@ use Rattle.iphead.proofs.lines.write_ipv4.Goals as goal
 pub returns : goal.returns
 returns g c = λ header reserved layout.
     rw (
-      ← c.ihl.ensures header reserved layout,
-      ← c.dcp.ensures header reserved layout,
-      ← c.ecn.ensures header reserved layout,
-      ← c.total_len.ensures header reserved layout,
-      ← c.identification.ensures header reserved layout,
-      ← c.dont_fragment.ensures header reserved layout,
-      ← c.more_fragments.ensures header reserved layout,
-      ← c.fragments_offset.ensures header reserved layout,
-      ← c.ttl.ensures header reserved layout,
-      ← c.protocol.ensures header reserved layout,
-      ← c.header_checksum.ensures header reserved layout,
-      ← c.source.ensures header reserved layout,
-      ← c.destination.ensures header reserved layout,
+      ← c.ihl.ensures.value header reserved layout,
+      ← c.dcp.ensures.value header reserved layout,
+      ← c.ecn.ensures.value header reserved layout,
+      ← c.total_len.ensures.value header reserved layout,
+      ← c.identification.ensures.value header reserved layout,
+      ← c.dont_fragment.ensures.value header reserved layout,
+      ← c.more_fragments.ensures.value header reserved layout,
+      ← c.fragments_offset.ensures.value header reserved layout,
+      ← c.ttl.ensures.value header reserved layout,
+      ← c.protocol.ensures.value header reserved layout,
+      ← c.header_checksum.ensures.value header reserved layout,
+      ← c.source.ensures.value header reserved layout,
+      ← c.destination.ensures.value header reserved layout,
       ← c.options.ensures.value header reserved layout,
     )
-    (appended _ _ _ _ _ (rw c.version.ensures at c.in_ok-write_field.ensures)
+    (appended _ _ _ _ _ (rw c.version.ensures.value at c.in_ok-write_field.ensures)
     (appended _ _ _ _ _ c.in_ok-write_field-2.ensures
     (appended _ _ _ _ _ c.in_ok-write_field-3.ensures
     (appended _ _ _ _ _ c.in_ok-write_field-4.ensures

@@ -4,15 +4,15 @@ use Rattle.iphead.proofs.lines.write_ipv6.Goals as goal
 pub returns : goal.returns
 returns g c = λ header layout.
     rw (
-      ← c.traffic_class.ensures header layout,
-      ← c.flow_label.ensures header layout,
-      ← c.payload_length.ensures header layout,
-      ← c.next_header.ensures header layout,
-      ← c.hop_limit.ensures header layout,
-      ← c.source.ensures header layout,
-      ← c.destination.ensures header layout,
+      ← c.traffic_class.ensures.value header layout,
+      ← c.flow_label.ensures.value header layout,
+      ← c.payload_length.ensures.value header layout,
+      ← c.next_header.ensures.value header layout,
+      ← c.hop_limit.ensures.value header layout,
+      ← c.source.ensures.value header layout,
+      ← c.destination.ensures.value header layout,
     )
-    (appended _ _ _ _ _ (rw c.version.ensures at c.in_ok-write_field.ensures)
+    (appended _ _ _ _ _ (rw c.version.ensures.value at c.in_ok-write_field.ensures)
     (appended _ _ _ _ _ c.in_ok-write_field-2.ensures
     (appended _ _ _ _ _ c.in_ok-write_field-3.ensures
     (appended _ _ _ _ _ c.in_ok-write_field-4.ensures

@@ -3,4 +3,6 @@ use Rattle.etherparse.proofs.Ipv4Layout.{dont_fragment_of-layout, tests_bit}
 use Rattle.etherparse.proofs.net.ipv4_header_slice.Ipv4HeaderSlice.dont_fragment.Goals as goal
 
 pub returns : goal.returns
-returns c = λ header reserved layout. tests_bit _ 6 header.dont_fragment (dont_fragment_of-layout header reserved _ layout) (omega arith)
+returns c = record {
+  value = λ header reserved layout. tests_bit _ 6 header.dont_fragment (dont_fragment_of-layout header reserved _ layout) (omega arith);
+}

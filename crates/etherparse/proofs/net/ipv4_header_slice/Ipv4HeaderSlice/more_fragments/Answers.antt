@@ -3,4 +3,6 @@ use Rattle.etherparse.proofs.Ipv4Layout.{more_fragments_of-layout, tests_bit}
 use Rattle.etherparse.proofs.net.ipv4_header_slice.Ipv4HeaderSlice.more_fragments.Goals as goal
 
 pub returns : goal.returns
-returns c = λ header reserved layout. tests_bit _ 5 header.more_fragments (more_fragments_of-layout header reserved _ layout) (omega arith)
+returns c = record {
+  value = λ header reserved layout. tests_bit _ 5 header.more_fragments (more_fragments_of-layout header reserved _ layout) (omega arith);
+}

@@ -9,4 +9,5 @@ returns c =
     let parts : bit_or (bit_and old.traffic_class 252) c.value.result ≡ old.traffic_class / 2 ^ 2 * 2 ^ 2 + c.value.result =
     ap (λ n. bit_or n c.value.result) (and_high_mask 8 2 (omega arith) old.traffic_class (omega arith))
     ∙ or_shifted (old.traffic_class / 2 ^ 2) 2 c.value.result (omega arith) in
-    ap (λ n. record old { traffic_class = n }) (parts ∙ ap (λ n. old.traffic_class / 2 ^ 2 * 2 ^ 2 + n) c.value.ensures.value)
+    let joined = parts ∙ ap (λ n. old.traffic_class / 2 ^ 2 * 2 ^ 2 + n) c.value.ensures.value in
+    record { set = ap (λ n. record old { traffic_class = n }) joined }

@@ -9,10 +9,12 @@ unwrap-requires c =
     let low = and_mask (get_or c.args.self.now.slice.now 1 0) 4 in
     let third = c.args.self.now.bytes 2 in
     let fourth = c.args.self.now.bytes 3 in
-    taken _ _ _ _ _ c.try_new.ensures (omega arith)
+    taken _ _ _ _ _ c.try_new.ensures.answer (omega arith)
 
 pub returns : goal.returns
-returns c = λ header layout.
-    let low = and_mask (get_or c.args.self.now.slice.now 1 0) 4 in
-    let label = flow_label_of-layout header c.args.self.now.slice.now layout in
-    kept _ _ _ _ _ _ c.try_new.ensures c.unwrap.ensures ∙ (omega arith)
+returns c = record {
+  value = λ header layout.
+      let low = and_mask (get_or c.args.self.now.slice.now 1 0) 4 in
+      let label = flow_label_of-layout header c.args.self.now.slice.now layout in
+      kept _ _ _ _ _ _ c.try_new.ensures.answer c.unwrap.ensures ∙ (omega arith);
+}

@@ -9,12 +9,12 @@ returns c =
     record {
       layout = subst (λ h. IsIpv6Layout h c.args.self.now.slice.now)
           (same_fields found.0 _
-          (sym (c.traffic_class.ensures found.0 found.1))
-          (sym (c.flow_label.ensures found.0 found.1))
-          (sym (c.payload_length.ensures found.0 found.1))
-          (ap (λ n. n.0) (sym (c.next_header.ensures found.0 found.1)))
-          (sym (c.hop_limit.ensures found.0 found.1))
-          (sym (c.source.ensures found.0 found.1))
-          (sym (c.destination.ensures found.0 found.1)))
+          (sym (c.traffic_class.ensures.value found.0 found.1))
+          (sym (c.flow_label.ensures.value found.0 found.1))
+          (sym (c.payload_length.ensures.value found.0 found.1))
+          (ap (λ n. n.0) (sym (c.next_header.ensures.value found.0 found.1)))
+          (sym (c.hop_limit.ensures.value found.0 found.1))
+          (sym (c.source.ensures.value found.0 found.1))
+          (sym (c.destination.ensures.value found.0 found.1)))
           found.1;
     }
