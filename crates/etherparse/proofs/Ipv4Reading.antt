@@ -1,7 +1,7 @@
 -- Some bytes have one answer of an IPv4 reader.
 use Rattle.std.proofs.Common.{ℕ, ◌≡◌, ◌-◌, ◌*◌, ◌%◌, ◌/◌, ◌≤◌, inl, inr, List, ◌++◌, length, take, drop, get_or, sym, ap, subst, ◌∙◌, arith, length-append, Ok, Err, Result}
 use Rattle.std.specs.List.{slice_range}
-use Rattle.std.proofs.lemmas.List.{drop_at, get_or_append_left, length-take-le, take-append-drop, take_rest}
+use Rattle.std.proofs.lemmas.List.{drop-append-le, drop_at, get_or_append_left, length-drop, length-take-le, take-append-drop, take-take, take_at, take_rest}
 use Rattle.etherparse_base.specs.Bytes.{IsBytes}
 use Rattle.etherparse_base.specs.declared.err.ipv4.header_error.HeaderError.TheVariants.{HeaderLengthSmallerThanHeader, UnexpectedVersion}
 use Rattle.etherparse_base.specs.declared.err.ipv4.header_slice_error.HeaderSliceError.{HeaderSliceError}
@@ -91,3 +91,12 @@ pub read_front : (s p t : List ℕ) (h : Ipv4Header) (r n : ℕ) → s ≡ p ++ 
 read_front s p t h r n e l len =
     let rest : t ≡ drop n s = sym (ap (λ x. drop n x) e ∙ drop_at p t n (sym len)) in
     (p, e ∙ ap (λ x. p ++ x) (rest ∙ sym (take_rest s n)), r, l)
+
+-- the options are at the front of the room that they could have
+pub options_in_room : (s p t room : List ℕ) → s ≡ p ++ t → 20 ≤ length p → length p ≤ 60 → room ≡ take 40 (take 40 (drop 20 s))
+    → take (length p - 20) room ≡ drop 20 p
+options_in_room s p t room e low high is =
+    let behind : drop 20 s ≡ drop 20 p ++ t = ap (λ x. drop 20 x) e ∙ drop-append-le 20 p t low in
+    let shorter : take (length p - 20) room ≡ take (length p - 20) (drop 20 s) = ap (λ x. take (length p - 20) x) is
+    ∙ (take-take (length p - 20) 40 (take 40 (drop 20 s)) (omega arith) ∙ take-take (length p - 20) 40 (drop 20 s) (omega arith)) in
+    shorter ∙ ap (λ x. take (length p - 20) x) behind ∙ take_at (drop 20 p) t (length p - 20) (length-drop 20 p)

@@ -1,4 +1,4 @@
-ghost use Rattle.std.specs.Prelude.{◌≡◌, ◌≤◌, ◌++◌, length};
+ghost use Rattle.std.specs.Prelude.{◌≡◌, ◌≤◌, ◌%◌, ◌++◌, length};
 ghost use Rattle.etherparse_base.specs.Bytes.{IsBytes};
 ghost use Rattle.etherparse.specs.PayloadLen.{PayloadLen};
 
@@ -6,6 +6,7 @@ use crate::err::ipv4::{BadOptionsLen, HeaderSliceError};
 use crate::err::{Layer, LenError, ValueTooBigError, ValueType};
 use crate::{IpDscp, IpEcn, IpFragOffset, IpNumber, Ipv4HeaderSlice, Ipv4Options, LenSource};
 use arrayvec::ArrayVec;
+use etherparse_fields::options_in_front;
 
 /// An IPv4 header with its options (RFC 791 section 3.1).
 ///
@@ -229,6 +230,7 @@ impl Ipv4Header {
     ///
     /// In this order: `Len` where the slice has fewer than 20 bytes; `Content` where the version is not 4, or the IHL is
     /// below 5; `Len` where the slice has fewer bytes than the IHL says.
+    #[inline(always)]
     pub fn from_slice(slice: &[u8]) -> Result<(Ipv4Header, &[u8]), HeaderSliceError>
         ensures reads { ReadsIpv4 slice.now (header_and_rest result) }
         ensures only { (other : Ipv4Reading) → ReadsIpv4 slice.now other → other ≡ header_and_rest result }
@@ -243,10 +245,22 @@ impl Ipv4Header {
             (other ≡ x.0) ↔ (with_reserved_bit_cleared others ≡ with_reserved_bit_cleared bytes)) }
     {
         let view = Ipv4HeaderSlice::from_slice(slice)?;
-        Ok((view.to_header(), &slice[view.slice.len()..]))
+        let len = view.slice.len();
+        let rest = &slice[len..];
+        if len == Ipv4Header::MIN_LEN {
+            return Ok((view.header_with(Ipv4Options::new()), rest));
+        }
+        // A number of bytes that the compiler knows is copied with no call, so 40 are where there are as many.
+        if slice.len() >= Ipv4Header::MAX_LEN {
+            let bytes = slice[20..60].first_chunk::<40>().unwrap();
+            let options = options_in_front(bytes, len - Ipv4Header::MIN_LEN);
+            return Ok((view.header_with(options), rest));
+        }
+        Ok((view.to_header(), rest))
     }
 
     /// The bytes of the header, in network byte order, with the reserved bit 0 and the checksum that the header has.
+    #[inline(always)]
     pub fn to_bytes(&self) -> ArrayVec<u8, 60>
         ensures layout { IsIpv4Layout self.now 0 result.items }
         ensures only { (bytes : List ℕ) → IsIpv4Layout self.now 0 bytes → bytes ≡ result.items }
@@ -307,15 +321,38 @@ pub(crate) fn payload_len_of(header_len: u16, total_len: u16) -> Result<u16, Len
 #[inline(always)]
 fn joined(front: &[u8], options: &[u8]) -> ArrayVec<u8, 60>
     requires front_len { length front.now ≡ 20 }
-    requires options_len { length options.now ≤ 40 }
+    requires fits { length options.now ≤ 40 }
+    requires in_words { length options.now % 4 ≡ 0 }
+    ensures parts { result.items ≡ front.now ++ options.now }
+    ensures are_bytes { IsBytes (front.now ++ options.now) }
+{
+    match options.len() {
+        0 => joined_of::<0>(front, options),
+        4 => joined_of::<4>(front, options),
+        8 => joined_of::<8>(front, options),
+        12 => joined_of::<12>(front, options),
+        16 => joined_of::<16>(front, options),
+        20 => joined_of::<20>(front, options),
+        24 => joined_of::<24>(front, options),
+        28 => joined_of::<28>(front, options),
+        32 => joined_of::<32>(front, options),
+        36 => joined_of::<36>(front, options),
+        _ => joined_of::<40>(front, options),
+    }
+}
+
+// The same for N bytes of options. A number that the compiler knows is copied with no call.
+#[inline(always)]
+fn joined_of<const N: usize>(front: &[u8], options: &[u8]) -> ArrayVec<u8, 60>
+    requires front_len { length front.now ≡ 20 }
+    requires options_len { length options.now ≡ N }
+    requires fits { N ≤ 40 }
     ensures parts { result.items ≡ front.now ++ options.now }
     ensures are_bytes { IsBytes (front.now ++ options.now) }
 {
     let mut bytes = ArrayVec::new();
     bytes.try_extend_from_slice(front).unwrap();
-    if !options.is_empty() {
-        bytes.try_extend_from_slice(options).unwrap();
-    }
+    bytes.try_extend_from_slice(&options[..N]).unwrap();
     bytes
 }
 

@@ -1,7 +1,8 @@
-ghost use Rattle.std.specs.Prelude.{◌≡◌, ◌*◌, ◌≤◌, length};
+ghost use Rattle.std.specs.Prelude.{◌≡◌, ◌*◌, ◌<◌, ◌≤◌, length, OnSome, IfSome, IfNone};
 ghost use Rattle.etherparse_base.specs.Bytes.{IsBytes};
+ghost use Rattle.etherparse_fields.specs.Ipv4Options.{IsOptionsLen};
 ghost use Rattle.etherparse.specs.FirstByte.{ihl_of, version_of};
-ghost use Rattle.etherparse.specs.Ipv4Header.{ipv4_too_short};
+ghost use Rattle.etherparse.specs.Ipv4Header.{RefusesIpv4, ipv4_too_short};
 
 use crate::err::ipv4::{HeaderError, HeaderSliceError};
 use crate::err::{Layer, LenError};
@@ -22,7 +23,7 @@ pub struct Ipv4HeaderSlice<'a> {
 }
 
 impl<'a> Ipv4HeaderSlice<'a> {
-    ghost use Rattle.std.specs.Prelude.{ℕ, ◌≡◌, ◌%◌, ◌≤◌, ◌↔◌, List, Result, IsTrue, length};
+    ghost use Rattle.std.specs.Prelude.{ℕ, ◌≡◌, ◌%◌, ◌≤◌, ◌↔◌, List, Result, IsTrue, drop, length};
     ghost use Rattle.etherparse_base.specs.declared.err.ipv4.header_slice_error.HeaderSliceError.{HeaderSliceError};
     ghost use Rattle.etherparse.specs.Ipv4Header.{IsFragment, IsIpv4Layout, Ipv4PayloadLen, OfIpv4Header, ViewsIpv4, ipv4_ihl};
     ghost use Rattle.etherparse.specs.Ipv4HeaderSlice.{view_bytes};
@@ -33,33 +34,18 @@ impl<'a> Ipv4HeaderSlice<'a> {
     ///
     /// In this order: `Len` where the slice has fewer than 20 bytes; `Content` where the version is not 4, or the IHL is
     /// below 5; `Len` where the slice has fewer bytes than the IHL says.
+    #[inline(always)]
     pub fn from_slice(slice: &'a [u8]) -> Result<Ipv4HeaderSlice<'a>, HeaderSliceError>
         ensures views { ViewsIpv4 slice.now (view_bytes result) }
         ensures only { (other : Result (List ℕ) HeaderSliceError) → ViewsIpv4 slice.now other →
             other ≡ view_bytes result }
     {
-        if slice.len() < Ipv4Header::MIN_LEN {
-            return Err(too_short(Ipv4Header::MIN_LEN, slice.len()));
+        match header_len(slice) {
+            Some(len) => Ok(Ipv4HeaderSlice {
+                slice: &slice[..len],
+            }),
+            None => Err(refusal(slice)),
         }
-        let version_number = slice[0] >> 4;
-        if version_number != 4 {
-            return Err(HeaderSliceError::Content(HeaderError::UnexpectedVersion {
-                version_number,
-            }));
-        }
-        let ihl = slice[0] & 0xf;
-        if ihl < 5 {
-            return Err(HeaderSliceError::Content(HeaderError::HeaderLengthSmallerThanHeader {
-                ihl,
-            }));
-        }
-        let header_len = 4 * usize::from(ihl);
-        if slice.len() < header_len {
-            return Err(too_short(header_len, slice.len()));
-        }
-        Ok(Ipv4HeaderSlice {
-            slice: &slice[..header_len],
-        })
     }
 
     /// The bytes of the header, which live as long as the slice that was read.
@@ -219,6 +205,15 @@ impl<'a> Ipv4HeaderSlice<'a> {
     pub fn to_header(&self) -> Ipv4Header
         ensures layout { (reserved : ℕ) × IsIpv4Layout result reserved self.now.slice.now }
     {
+        self.header_with(options_of(self.options()))
+    }
+
+    // The header that the bytes are in the layout of, of its options.
+    #[inline(always)]
+    pub(super) fn header_with(&self, options: Ipv4Options) -> Ipv4Header
+        requires { options ≡ drop 20 self.now.slice.now }
+        ensures layout { (reserved : ℕ) × IsIpv4Layout result reserved self.now.slice.now }
+    {
         Ipv4Header {
             dscp: self.dcp(),
             ecn: self.ecn(),
@@ -232,9 +227,56 @@ impl<'a> Ipv4HeaderSlice<'a> {
             header_checksum: self.header_checksum(),
             source: self.source(),
             destination: self.destination(),
-            options: Ipv4Options::try_from(self.options()).unwrap(),
+            options,
         }
     }
+}
+
+// The length of the header at the front of a slice, where there is one.
+#[inline(always)]
+fn header_len(slice: &[u8]) -> Option<usize>
+    ensures version { OnSome result (version_of slice.now ≡ 4) }
+    ensures ihl { OnSome result (5 ≤ ihl_of slice.now) }
+    ensures len { IfSome result (λ len. len ≡ 4 * ihl_of slice.now) }
+    ensures fits { IfSome result (λ len. len ≤ length slice.now) }
+    ensures none { IfNone result (20 ≤ length slice.now → version_of slice.now ≡ 4 → 5 ≤ ihl_of slice.now → length slice.now < 4 * ihl_of slice.now) }
+{
+    if slice.len() < Ipv4Header::MIN_LEN {
+        return None;
+    }
+    if slice[0] >> 4 != 4 {
+        return None;
+    }
+    let ihl = slice[0] & 0xf;
+    if ihl < 5 {
+        return None;
+    }
+    let header_len = 4 * usize::from(ihl);
+    if slice.len() < header_len {
+        return None;
+    }
+    Some(header_len)
+}
+
+// Why there is none. It stands apart, so that it does not weigh on the path of those that are read.
+#[cold]
+#[inline(never)]
+fn refusal(slice: &[u8]) -> HeaderSliceError
+    requires none { 20 ≤ length slice.now → version_of slice.now ≡ 4 → 5 ≤ ihl_of slice.now → length slice.now < 4 * ihl_of slice.now }
+    ensures refuses { RefusesIpv4 slice.now result }
+{
+    if slice.len() < Ipv4Header::MIN_LEN {
+        return too_short(Ipv4Header::MIN_LEN, slice.len());
+    }
+    let version_number = slice[0] >> 4;
+    if version_number != 4 {
+        return HeaderSliceError::Content(HeaderError::UnexpectedVersion { version_number });
+    }
+    let ihl = slice[0] & 0xf;
+    if ihl < 5 {
+        return HeaderSliceError::Content(HeaderError::HeaderLengthSmallerThanHeader { ihl });
+    }
+    too_short(4 * usize::from(ihl), slice.len())
 }
 
 // The error of a slice that is too short for its header.
@@ -248,6 +290,35 @@ fn too_short(required_len: usize, len: usize) -> HeaderSliceError
         layer: Layer::Ipv4Header,
         layer_start_offset: 0,
     })
+}
+
+// The options of these bytes. It stands apart, as it has a case for each number of them.
+#[inline(never)]
+fn options_of(bytes: &[u8]) -> Ipv4Options
+    requires { IsOptionsLen (length bytes.now) }
+    ensures { result ≡ bytes.now }
+{
+    match bytes.len() {
+        4 => Ipv4Options::from(whole::<4>(bytes)),
+        8 => Ipv4Options::from(whole::<8>(bytes)),
+        12 => Ipv4Options::from(whole::<12>(bytes)),
+        16 => Ipv4Options::from(whole::<16>(bytes)),
+        20 => Ipv4Options::from(whole::<20>(bytes)),
+        24 => Ipv4Options::from(whole::<24>(bytes)),
+        28 => Ipv4Options::from(whole::<28>(bytes)),
+        32 => Ipv4Options::from(whole::<32>(bytes)),
+        36 => Ipv4Options::from(whole::<36>(bytes)),
+        _ => Ipv4Options::try_from(bytes).unwrap(),
+    }
+}
+
+// Bytes of a number that is known to the compiler.
+#[inline(always)]
+fn whole<const N: usize>(bytes: &[u8]) -> [u8; N]
+    requires { length bytes.now ≡ N }
+    ensures { result ≡ bytes.now }
+{
+    *bytes.first_chunk::<N>().unwrap()
 }
 
 /// Views are equal where they show the same bytes, the reserved bit included.

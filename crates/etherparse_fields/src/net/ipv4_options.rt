@@ -1,4 +1,4 @@
-ghost use Rattle.std.specs.Prelude.{⊤, ◌≡◌, ◌≤◌, ◌%◌, ◌==◌, ◌↔◌, [], length, Some, IsTrue, nat_eq, refl};
+ghost use Rattle.std.specs.Prelude.{⊤, ◌≡◌, ◌≤◌, ◌%◌, ◌==◌, ◌↔◌, [], length, take, Some, IsTrue, nat_eq, refl};
 ghost use Rattle.std.specs.Borrow.{sem};
 ghost use Rattle.std.specs.Ordering.{nat_cmp};
 ghost use Rattle.std.specs.Cmp.{partial_equiv_from_equiv};
@@ -116,6 +116,18 @@ impl Ipv4Options {
             len: bytes.len() as u8,
             buffer,
         }
+    }
+}
+
+/// The options in the first bytes of an array. What follows them in it is not part of them.
+#[inline(always)]
+pub fn options_in_front(bytes: &[u8; 40], len: usize) -> Ipv4Options
+    requires { IsOptionsLen len }
+    ensures value { result ≡ take len bytes.now }
+{
+    Ipv4Options {
+        len: len as u8,
+        buffer: Buffer { bytes: *bytes },
     }
 }
 

@@ -1,41 +1,9 @@
-use Rattle.std.proofs.Common.{ap, subst, sym, ◌∙◌}
-use Rattle.etherparse.proofs.Fields.{options_kept, options_taken}
-use Rattle.etherparse.proofs.Ipv4Layout.{header_at, same_fields}
-use Rattle.etherparse.specs.Ipv4Header.{IsIpv4Layout}
+use Rattle.std.proofs.Common.{sym, ◌∙◌}
+use Rattle.etherparse.proofs.Ipv4Layout.{header_at}
 use Rattle.etherparse.proofs.net.ipv4_header_slice.Ipv4HeaderSlice.to_header.Goals as goal
 
-pub unwrap-requires : goal.unwrap-requires
-unwrap-requires c =
+pub header_with-requires : goal.header_with-requires
+header_with-requires c =
     let v = c.args.self.now in
     let found = header_at v.slice.now v.version v.ihl v.len v.bytes in
-    let options = c.options.ensures.value found.0 found.1 found.2 in
-    options_taken _ _ c.try_from.ensures (rw options found.2.options_len)
-
-pub returns : goal.returns
-returns c =
-    let v = c.args.self.now in
-    let found = header_at v.slice.now v.version v.ihl v.len v.bytes in
-    let h = found.0 in
-    let r = found.1 in
-    let l = found.2 in
-    record {
-      layout = (
-        r,
-        subst (λ x. IsIpv4Layout x r v.slice.now)
-            (same_fields h _
-            (sym (c.dcp.ensures.value h r l))
-            (sym (c.ecn.ensures.value h r l))
-            (sym (c.total_len.ensures.value h r l))
-            (sym (c.identification.ensures.value h r l))
-            (sym (c.dont_fragment.ensures.value h r l))
-            (sym (c.more_fragments.ensures.value h r l))
-            (sym (c.fragments_offset.ensures.value h r l))
-            (sym (c.ttl.ensures.value h r l))
-            (ap (λ n. n.0) (sym (c.protocol.ensures.value h r l)))
-            (sym (c.header_checksum.ensures.value h r l))
-            (sym (c.source.ensures.value h r l))
-            (sym (c.destination.ensures.value h r l))
-            (sym (options_kept _ _ _ c.try_from.ensures c.unwrap.ensures ∙ c.options.ensures.value h r l)))
-            l,
-      );
-    }
+    c.options_of.ensures ∙ c.options.ensures.value found.0 found.1 found.2 ∙ sym found.2.options
