@@ -65,29 +65,29 @@ abbrev pub is_same_layer : Layer → Layer → Bool
 is_same_layer = (derived.ghosts).eq
 
 -- the place of a layer in the order of the layers
-abbrev pub layer_place : Layer → ℕ
-layer_place LinuxSllHeader = 0
-layer_place Ethernet2Header = 1
-layer_place EtherPayload = 2
-layer_place VlanHeader = 3
-layer_place MacsecHeader = 4
-layer_place MacsecPacket = 5
-layer_place IpHeader = 6
-layer_place Ipv4Header = 7
-layer_place Ipv4Packet = 8
-layer_place IpAuthHeader = 9
-layer_place Ipv6Header = 10
-layer_place Ipv6Packet = 11
-layer_place Ipv6ExtHeader = 12
-layer_place Ipv6HopByHopHeader = 13
-layer_place Ipv6DestOptionsHeader = 14
-layer_place Ipv6RouteHeader = 15
-layer_place Ipv6FragHeader = 16
-layer_place UdpHeader = 17
-layer_place UdpPayload = 18
-layer_place TcpHeader = 19
-layer_place Icmpv4 = 20
-layer_place Icmpv4Timestamp = 21
-layer_place Icmpv4TimestampReply = 22
-layer_place Icmpv6 = 23
-layer_place Arp = 24
+abbrev pub layer_index : Layer → ℕ
+layer_index LinuxSllHeader = 0
+layer_index Ethernet2Header = 1
+layer_index EtherPayload = 2
+layer_index VlanHeader = 3
+layer_index MacsecHeader = 4
+layer_index MacsecPacket = 5
+layer_index IpHeader = 6
+layer_index Ipv4Header = 7
+layer_index Ipv4Packet = 8
+layer_index IpAuthHeader = 9
+layer_index Ipv6Header = 10
+layer_index Ipv6Packet = 11
+layer_index Ipv6ExtHeader = 12
+layer_index Ipv6HopByHopHeader = 13
+layer_index Ipv6DestOptionsHeader = 14
+layer_index Ipv6RouteHeader = 15
+layer_index Ipv6FragHeader = 16
+layer_index UdpHeader = 17
+layer_index UdpPayload = 18
+layer_index TcpHeader = 19
+layer_index Icmpv4 = 20
+layer_index Icmpv4Timestamp = 21
+layer_index Icmpv4TimestampReply = 22
+layer_index Icmpv6 = 23
+layer_index Arp = 24

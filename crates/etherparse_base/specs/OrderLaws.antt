@@ -4,8 +4,8 @@ use Rattle.std.specs.Bool.{Decides, one_answer}
 use Rattle.std.specs.Ordering.{nat_cmp, is_eq}
 use Rattle.std.specs.Cmp.{unsigned_Decides}
 use Rattle.std.proofs.Common.{rules, sym, ap, ◌∙◌}
-use Rattle.etherparse_base.specs.Layer.{is_same_layer, layer_place}
-use Rattle.etherparse_base.specs.ValueType.{is_same_value_type, value_type_place}
+use Rattle.etherparse_base.specs.Layer.{is_same_layer, layer_index}
+use Rattle.etherparse_base.specs.ValueType.{is_same_value_type, value_type_index}
 use Rattle.etherparse_base.specs.declared.err.layer.Layer.{Layer}
 use Rattle.etherparse_base.specs.declared.err.layer.Layer.TheVariants.{LinuxSllHeader, Ethernet2Header, EtherPayload, VlanHeader, MacsecHeader, MacsecPacket, IpHeader, Ipv4Header, Ipv4Packet, IpAuthHeader, Ipv6Header, Ipv6Packet, Ipv6ExtHeader, Ipv6HopByHopHeader, Ipv6DestOptionsHeader, Ipv6RouteHeader, Ipv6FragHeader, UdpHeader, UdpPayload, TcpHeader, Icmpv4, Icmpv4Timestamp, Icmpv4TimestampReply, Icmpv6, Arp}
 use Rattle.etherparse_base.specs.declared.err.value_type.ValueType.{ValueType}
@@ -30,7 +30,7 @@ ties same place same-tells tells a b =
 abbrev layers : List Layer
 layers = LinuxSllHeader ∷ Ethernet2Header ∷ EtherPayload ∷ VlanHeader ∷ MacsecHeader ∷ MacsecPacket ∷ IpHeader ∷ Ipv4Header ∷ Ipv4Packet ∷ IpAuthHeader ∷ Ipv6Header ∷ Ipv6Packet ∷ Ipv6ExtHeader ∷ Ipv6HopByHopHeader ∷ Ipv6DestOptionsHeader ∷ Ipv6RouteHeader ∷ Ipv6FragHeader ∷ UdpHeader ∷ UdpPayload ∷ TcpHeader ∷ Icmpv4 ∷ Icmpv4Timestamp ∷ Icmpv4TimestampReply ∷ Icmpv6 ∷ Arp ∷ []
 
-layer-at : (a : Layer) → get_or layers (layer_place a) LinuxSllHeader ≡ a
+layer-at : (a : Layer) → get_or layers (layer_index a) LinuxSllHeader ≡ a
 layer-at LinuxSllHeader = refl
 layer-at Ethernet2Header = refl
 layer-at EtherPayload = refl
@@ -57,13 +57,13 @@ layer-at Icmpv4TimestampReply = refl
 layer-at Icmpv6 = refl
 layer-at Arp = refl
 
-pub layer-ties : (a b : Layer) → is_same_layer a b ≡ is_eq (nat_cmp (layer_place a) (layer_place b))
-layer-ties = ties is_same_layer layer_place (λ a b. Prim.search rules) (place-tells layer_place layers LinuxSllHeader layer-at)
+pub layer-ties : (a b : Layer) → is_same_layer a b ≡ is_eq (nat_cmp (layer_index a) (layer_index b))
+layer-ties = ties is_same_layer layer_index (λ a b. Prim.search rules) (place-tells layer_index layers LinuxSllHeader layer-at)
 
 abbrev value_types : List ValueType
 value_types = VlanId ∷ VlanPcp ∷ MacsecAn ∷ MacsecShortLen ∷ IpFragmentOffset ∷ IpDscp ∷ IpEcn ∷ Ipv6FlowLabel ∷ Ipv4PayloadLength ∷ Ipv6PayloadLength ∷ UdpPayloadLengthIpv4 ∷ UdpPayloadLengthIpv6 ∷ TcpPayloadLengthIpv4 ∷ TcpPayloadLengthIpv6 ∷ Icmpv6PayloadLength ∷ LinuxSllType ∷ []
 
-value_type-at : (a : ValueType) → get_or value_types (value_type_place a) VlanId ≡ a
+value_type-at : (a : ValueType) → get_or value_types (value_type_index a) VlanId ≡ a
 value_type-at VlanId = refl
 value_type-at VlanPcp = refl
 value_type-at MacsecAn = refl
@@ -81,5 +81,5 @@ value_type-at TcpPayloadLengthIpv6 = refl
 value_type-at Icmpv6PayloadLength = refl
 value_type-at LinuxSllType = refl
 
-pub value_type-ties : (a b : ValueType) → is_same_value_type a b ≡ is_eq (nat_cmp (value_type_place a) (value_type_place b))
-value_type-ties = ties is_same_value_type value_type_place (λ a b. Prim.search rules) (place-tells value_type_place value_types VlanId value_type-at)
+pub value_type-ties : (a b : ValueType) → is_same_value_type a b ≡ is_eq (nat_cmp (value_type_index a) (value_type_index b))
+value_type-ties = ties is_same_value_type value_type_index (λ a b. Prim.search rules) (place-tells value_type_index value_types VlanId value_type-at)

@@ -7,9 +7,9 @@ use Rattle.etherparse_base.specs.ValueType.{value_type_text}
 
 -- What is made of a value that may be too big: the number itself up to the greatest that is allowed, and above it the
 -- error, which has both numbers and says what the value is.
-abbrev pub NumberOrTooBig : {T : Type 0} → (T → ℕ) → ℕ → ValueType → ℕ → Result T (ValueTooBigError ℕ) → Type 0
-NumberOrTooBig number_of max value_type value (Ok x) = (value ≤ max) × (number_of x ≡ value)
-NumberOrTooBig number_of max value_type value (Err e) =
+abbrev pub TakesUpTo : {T : Type 0} → (T → ℕ) → ℕ → ValueType → ℕ → Result T (ValueTooBigError ℕ) → Type 0
+TakesUpTo number_of max value_type value (Ok x) = (value ≤ max) × (number_of x ≡ value)
+TakesUpTo number_of max value_type value (Err e) =
     (max < value) × (e ≡ record { actual = value; max_allowed = max; value_type = value_type })
 
 -- the text of the error, at each unsigned type

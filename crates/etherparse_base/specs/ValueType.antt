@@ -28,20 +28,20 @@ abbrev pub is_same_value_type : ValueType → ValueType → Bool
 is_same_value_type = (derived.ghosts).eq
 
 -- the place of a value in the order of the values
-abbrev pub value_type_place : ValueType → ℕ
-value_type_place VlanId = 0
-value_type_place VlanPcp = 1
-value_type_place MacsecAn = 2
-value_type_place MacsecShortLen = 3
-value_type_place IpFragmentOffset = 4
-value_type_place IpDscp = 5
-value_type_place IpEcn = 6
-value_type_place Ipv6FlowLabel = 7
-value_type_place Ipv4PayloadLength = 8
-value_type_place Ipv6PayloadLength = 9
-value_type_place UdpPayloadLengthIpv4 = 10
-value_type_place UdpPayloadLengthIpv6 = 11
-value_type_place TcpPayloadLengthIpv4 = 12
-value_type_place TcpPayloadLengthIpv6 = 13
-value_type_place Icmpv6PayloadLength = 14
-value_type_place LinuxSllType = 15
+abbrev pub value_type_index : ValueType → ℕ
+value_type_index VlanId = 0
+value_type_index VlanPcp = 1
+value_type_index MacsecAn = 2
+value_type_index MacsecShortLen = 3
+value_type_index IpFragmentOffset = 4
+value_type_index IpDscp = 5
+value_type_index IpEcn = 6
+value_type_index Ipv6FlowLabel = 7
+value_type_index Ipv4PayloadLength = 8
+value_type_index Ipv6PayloadLength = 9
+value_type_index UdpPayloadLengthIpv4 = 10
+value_type_index UdpPayloadLengthIpv6 = 11
+value_type_index TcpPayloadLengthIpv4 = 12
+value_type_index TcpPayloadLengthIpv6 = 13
+value_type_index Icmpv6PayloadLength = 14
+value_type_index LinuxSllType = 15

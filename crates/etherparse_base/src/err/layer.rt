@@ -99,10 +99,10 @@ impl Ord for Layer {
     ghost use Rattle.std.proofs.Common.{rules};
     ghost use Rattle.std.specs.Cmp.Rules.{comparing};
     ghost use Rattle.std.specs.Ordering.{nat_cmp, on};
-    ghost use Rattle.etherparse_base.specs.Layer.{layer_place};
+    ghost use Rattle.etherparse_base.specs.Layer.{layer_index};
     ghost use Rattle.etherparse_base.specs.OrderLaws.{layer-ties};
 
-    ghost cmp = { on layer_place nat_cmp };
+    ghost cmp = { on layer_index nat_cmp };
 
     ghost total = { Prim.search (comparing, rules) };
 
@@ -111,7 +111,7 @@ impl Ord for Layer {
     ghost matches_eq = { layer-ties };
 
     fn cmp(&self, other: &Layer) -> Ordering
-        ensures order { result ≡ nat_cmp (layer_place self.now) (layer_place other.now) }
+        ensures order { result ≡ nat_cmp (layer_index self.now) (layer_index other.now) }
     {
         (*self as u8).cmp(&(*other as u8))
     }
@@ -123,10 +123,10 @@ impl PartialOrd for Layer {
     ghost use Rattle.std.specs.Cmp.{partial_order_from_own_ties};
     ghost use Rattle.std.specs.Cmp.Rules.{comparing};
     ghost use Rattle.std.specs.Ordering.{as_partial_cmp, nat_cmp, on};
-    ghost use Rattle.etherparse_base.specs.Layer.{layer_place};
+    ghost use Rattle.etherparse_base.specs.Layer.{layer_index};
     ghost use Rattle.etherparse_base.specs.OrderLaws.{layer-ties};
 
-    ghost partial_cmp = { as_partial_cmp (on layer_place nat_cmp) };
+    ghost partial_cmp = { as_partial_cmp (on layer_index nat_cmp) };
 
     ghost laws = { partial_order_from_own_ties (Prim.search (comparing, rules)) layer-ties };
 

@@ -47,10 +47,10 @@ impl Ord for ValueType {
     ghost use Rattle.std.proofs.Common.{rules};
     ghost use Rattle.std.specs.Cmp.Rules.{comparing};
     ghost use Rattle.std.specs.Ordering.{nat_cmp, on};
-    ghost use Rattle.etherparse_base.specs.ValueType.{value_type_place};
+    ghost use Rattle.etherparse_base.specs.ValueType.{value_type_index};
     ghost use Rattle.etherparse_base.specs.OrderLaws.{value_type-ties};
 
-    ghost cmp = { on value_type_place nat_cmp };
+    ghost cmp = { on value_type_index nat_cmp };
 
     ghost total = { Prim.search (comparing, rules) };
 
@@ -59,7 +59,7 @@ impl Ord for ValueType {
     ghost matches_eq = { value_type-ties };
 
     fn cmp(&self, other: &ValueType) -> Ordering
-        ensures order { result ≡ nat_cmp (value_type_place self.now) (value_type_place other.now) }
+        ensures order { result ≡ nat_cmp (value_type_index self.now) (value_type_index other.now) }
     {
         (*self as u8).cmp(&(*other as u8))
     }
@@ -71,10 +71,10 @@ impl PartialOrd for ValueType {
     ghost use Rattle.std.specs.Cmp.{partial_order_from_own_ties};
     ghost use Rattle.std.specs.Cmp.Rules.{comparing};
     ghost use Rattle.std.specs.Ordering.{as_partial_cmp, nat_cmp, on};
-    ghost use Rattle.etherparse_base.specs.ValueType.{value_type_place};
+    ghost use Rattle.etherparse_base.specs.ValueType.{value_type_index};
     ghost use Rattle.etherparse_base.specs.OrderLaws.{value_type-ties};
 
-    ghost partial_cmp = { as_partial_cmp (on value_type_place nat_cmp) };
+    ghost partial_cmp = { as_partial_cmp (on value_type_index nat_cmp) };
 
     ghost laws = { partial_order_from_own_ties (Prim.search (comparing, rules)) value_type-ties };
 

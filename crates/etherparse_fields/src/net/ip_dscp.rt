@@ -1,6 +1,6 @@
 ghost use Rattle.std.specs.Prelude.{ℕ, ◌≡◌, ◌≤◌, Some};
 ghost use Rattle.std.specs.Fmt.{decimal};
-ghost use Rattle.etherparse_base.specs.ValueTooBigError.{NumberOrTooBig};
+ghost use Rattle.etherparse_base.specs.ValueTooBigError.{TakesUpTo};
 ghost use Rattle.etherparse_base.specs.declared.err.value_type.ValueType.TheVariants as value_type;
 
 use etherparse_base::err::{ValueTooBigError, ValueType};
@@ -110,7 +110,7 @@ impl IpDscp {
     /// A `ValueTooBigError` where the number needs more than 6 bits, which is above [`IpDscp::MAX_U8`].
     #[inline]
     pub const fn try_new(value: u8) -> Result<IpDscp, ValueTooBigError<u8>>
-        ensures answer { NumberOrTooBig (λ dscp. dscp) 63 value_type.IpDscp value result }
+        ensures answer { TakesUpTo (λ dscp. dscp) 63 value_type.IpDscp value result }
     {
         if value <= IpDscp::MAX_U8 {
             Ok(IpDscp(value))
@@ -203,7 +203,7 @@ impl From<IpDscp> for u8 {
 impl TryFrom<u8> for IpDscp {
     type Error = ValueTooBigError<u8>;
 
-    ghost try_from_gives = { NumberOrTooBig (λ dscp. dscp) 63 value_type.IpDscp };
+    ghost try_from_gives = { TakesUpTo (λ dscp. dscp) 63 value_type.IpDscp };
 
     #[inline]
     fn try_from(value: u8) -> Result<IpDscp, ValueTooBigError<u8>> {

@@ -1,6 +1,6 @@
 ghost use Rattle.std.specs.Prelude.{◌≡◌, ◌≤◌, Some};
 ghost use Rattle.std.specs.Fmt.{decimal};
-ghost use Rattle.etherparse_base.specs.ValueTooBigError.{NumberOrTooBig};
+ghost use Rattle.etherparse_base.specs.ValueTooBigError.{TakesUpTo};
 ghost use Rattle.etherparse_base.specs.declared.err.value_type.ValueType.TheVariants as value_type;
 ghost use Rattle.etherparse_fields.specs.IpEcn.{ecn_value};
 
@@ -48,7 +48,7 @@ impl IpEcn {
     /// A `ValueTooBigError` where the number needs more than 2 bits, which is above [`IpEcn::MAX_U8`].
     #[inline]
     pub const fn try_new(value: u8) -> Result<IpEcn, ValueTooBigError<u8>>
-        ensures answer { NumberOrTooBig ecn_value 3 value_type.IpEcn value result }
+        ensures answer { TakesUpTo ecn_value 3 value_type.IpEcn value result }
     {
         match value {
             0 => Ok(IpEcn::NotEct),
@@ -143,7 +143,7 @@ impl From<IpEcn> for u8 {
 impl TryFrom<u8> for IpEcn {
     type Error = ValueTooBigError<u8>;
 
-    ghost try_from_gives = { NumberOrTooBig ecn_value 3 value_type.IpEcn };
+    ghost try_from_gives = { TakesUpTo ecn_value 3 value_type.IpEcn };
 
     #[inline]
     fn try_from(value: u8) -> Result<IpEcn, ValueTooBigError<u8>> {

@@ -1,6 +1,6 @@
 ghost use Rattle.std.specs.Prelude.{ℕ, ◌≡◌, ◌*◌, ◌≤◌, Some};
 ghost use Rattle.std.specs.Fmt.{decimal};
-ghost use Rattle.etherparse_base.specs.ValueTooBigError.{NumberOrTooBig};
+ghost use Rattle.etherparse_base.specs.ValueTooBigError.{TakesUpTo};
 ghost use Rattle.etherparse_base.specs.declared.err.value_type.ValueType.TheVariants as value_type;
 
 use etherparse_base::err::{ValueTooBigError, ValueType};
@@ -38,7 +38,7 @@ impl IpFragOffset {
     /// A `ValueTooBigError` where the number needs more than 13 bits, which is above [`IpFragOffset::MAX_U16`].
     #[inline]
     pub const fn try_new(value: u16) -> Result<IpFragOffset, ValueTooBigError<u16>>
-        ensures answer { NumberOrTooBig (λ offset. offset) 8191 value_type.IpFragmentOffset value result }
+        ensures answer { TakesUpTo (λ offset. offset) 8191 value_type.IpFragmentOffset value result }
     {
         if value <= IpFragOffset::MAX_U16 {
             Ok(IpFragOffset(value))
@@ -139,7 +139,7 @@ impl From<IpFragOffset> for u16 {
 impl TryFrom<u16> for IpFragOffset {
     type Error = ValueTooBigError<u16>;
 
-    ghost try_from_gives = { NumberOrTooBig (λ offset. offset) 8191 value_type.IpFragmentOffset };
+    ghost try_from_gives = { TakesUpTo (λ offset. offset) 8191 value_type.IpFragmentOffset };
 
     #[inline]
     fn try_from(value: u16) -> Result<IpFragOffset, ValueTooBigError<u16>> {

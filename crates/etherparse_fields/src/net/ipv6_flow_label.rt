@@ -1,6 +1,6 @@
 ghost use Rattle.std.specs.Prelude.{ℕ, ◌≡◌, ◌≤◌, Some};
 ghost use Rattle.std.specs.Fmt.{decimal};
-ghost use Rattle.etherparse_base.specs.ValueTooBigError.{NumberOrTooBig};
+ghost use Rattle.etherparse_base.specs.ValueTooBigError.{TakesUpTo};
 ghost use Rattle.etherparse_base.specs.declared.err.value_type.ValueType.TheVariants as value_type;
 
 use etherparse_base::err::{ValueTooBigError, ValueType};
@@ -37,7 +37,7 @@ impl Ipv6FlowLabel {
     /// A `ValueTooBigError` where the number needs more than 20 bits, which is above [`Ipv6FlowLabel::MAX_U32`].
     #[inline]
     pub const fn try_new(value: u32) -> Result<Ipv6FlowLabel, ValueTooBigError<u32>>
-        ensures answer { NumberOrTooBig (λ label. label) 1048575 value_type.Ipv6FlowLabel value result }
+        ensures answer { TakesUpTo (λ label. label) 1048575 value_type.Ipv6FlowLabel value result }
     {
         if value <= Ipv6FlowLabel::MAX_U32 {
             Ok(Ipv6FlowLabel(value))
@@ -130,7 +130,7 @@ impl From<Ipv6FlowLabel> for u32 {
 impl TryFrom<u32> for Ipv6FlowLabel {
     type Error = ValueTooBigError<u32>;
 
-    ghost try_from_gives = { NumberOrTooBig (λ label. label) 1048575 value_type.Ipv6FlowLabel };
+    ghost try_from_gives = { TakesUpTo (λ label. label) 1048575 value_type.Ipv6FlowLabel };
 
     #[inline]
     fn try_from(value: u32) -> Result<Ipv6FlowLabel, ValueTooBigError<u32>> {
