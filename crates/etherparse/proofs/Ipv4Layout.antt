@@ -1,5 +1,5 @@
 -- Laws of the IPv4 layout.
-use Rattle.std.proofs.Common.{ℕ, zero, suc, ◌≡◌, ◌+◌, ◌-◌, ◌*◌, ◌/◌, ◌%◌, ◌^◌, ◌<◌, ◌≤◌, List, [], ◌∷◌, ◌++◌, length, get_or, get_or-set_other, take, drop, refl, sym, subst, ap, ◌∙◌, inl, inr, arith, append_assoc, length-append, length-drop, Bool, true, false}
+use Rattle.std.proofs.Common.{ℕ, zero, suc, ◌≡◌, ◌+◌, ◌-◌, ◌*◌, ◌/◌, ◌%◌, ◌^◌, ◌<◌, ◌≤◌, List, [], ◌∷◌, ◌++◌, length, get_or, get_or-set_other, take, drop, refl, sym, subst, ap, ◌∙◌, inl, inr, arith, rules, append_assoc, length-append, length-drop, Bool, true, false}
 use Rattle.std.specs.Prelude.{◌↔◌, bit_and, not, nat_eq}
 use Rattle.std.specs.List.{slice_range}
 use Rattle.std.specs.Int.{from_be_bytes, from_bool, to_be_bytes, w16}
@@ -16,7 +16,7 @@ use Rattle.etherparse_fields.specs.declared.net.ip_ecn.IpEcn.{IpEcn}
 use Rattle.etherparse_fields.specs.declared.net.ip_ecn.IpEcn.TheVariants.{CongestionExperienced, Ect0, Ect1, NotEct}
 use Rattle.etherparse.proofs.Parts.{get_or-slice_range, length-part, listed, part_is_bytes}
 use Rattle.etherparse.specs.FirstByte.{ihl_of, version_of}
-use Rattle.etherparse.specs.Ipv4Header.{HasFieldRanges, IsIpv4Layout, ipv4_ihl, with_reserved_bit_cleared}
+use Rattle.etherparse.specs.Ipv4Header.{HasIpv4Layout, IsIpv4Layout, ipv4_ihl, with_reserved_bit_cleared}
 use Rattle.etherparse.specs.declared.net.ipv4_header.Ipv4Header.{Ipv4Header}
 
 -- a bool as a number
@@ -38,14 +38,14 @@ ecn_value-lt Ect0 = omega arith
 ecn_value-lt CongestionExperienced = omega arith
 
 -- the length and the first byte of a header
-pub version_of-layout : (h : Ipv4Header) (r : ℕ) (p : List ℕ) → IsIpv4Layout h r p → version_of p ≡ 4
-version_of-layout h r p l = omega (arith, l.version_ihl, l.options_len.fits)
+pub version_of-layout : (h : Ipv4Header) (p : List ℕ) → HasIpv4Layout h p → version_of p ≡ 4
+version_of-layout h p l = omega (arith, l.layout.version_ihl, l.layout.options_len.fits)
 
-pub ihl_of-layout : (h : Ipv4Header) (r : ℕ) (p : List ℕ) → IsIpv4Layout h r p → ihl_of p ≡ ipv4_ihl h
-ihl_of-layout h r p l = omega (arith, l.version_ihl, l.options_len.fits)
+pub ihl_of-layout : (h : Ipv4Header) (p : List ℕ) → HasIpv4Layout h p → ihl_of p ≡ ipv4_ihl h
+ihl_of-layout h p l = omega (arith, l.layout.version_ihl, l.layout.options_len.fits)
 
-pub length-layout : (h : Ipv4Header) (r : ℕ) (p : List ℕ) → IsIpv4Layout h r p → length p ≡ 4 * ihl_of p
-length-layout h r p l = let i = ihl_of-layout h r p l in omega (arith, l.len, l.options_len.in_words)
+pub length-layout : (h : Ipv4Header) (p : List ℕ) → HasIpv4Layout h p → length p ≡ 4 * ihl_of p
+length-layout h p l = let i = ihl_of-layout h p l in omega (arith, l.layout.len, l.layout.options_len.in_words)
 
 -- the flags and the fragment offset as a number
 flags_of : (h : Ipv4Header) (r : ℕ) (p : List ℕ) → IsIpv4Layout h r p
@@ -89,11 +89,11 @@ tests_bit n k false e pos = ap (λ m. not (nat_eq m 0)) (and_pow n k ∙ ap (λ 
 -- headers with equal fields
 pub same_fields : (g h : Ipv4Header) → g.dscp ≡ h.dscp → g.ecn ≡ h.ecn → g.total_len ≡ h.total_len → g.identification ≡ h.identification
     → g.dont_fragment ≡ h.dont_fragment → g.more_fragments ≡ h.more_fragments → g.fragment_offset ≡ h.fragment_offset
-    → g.time_to_live ≡ h.time_to_live → g.protocol.0 ≡ h.protocol.0 → g.header_checksum ≡ h.header_checksum
+    → g.time_to_live ≡ h.time_to_live → g.protocol ≡ h.protocol → g.header_checksum ≡ h.header_checksum
     → g.source ≡ h.source → g.destination ≡ h.destination → g.options ≡ h.options → g ≡ h
 same_fields g h a b c d e f i j k l m n o =
-    let same : record { dscp = g.dscp; ecn = g.ecn; total_len = g.total_len; identification = g.identification; dont_fragment = g.dont_fragment; more_fragments = g.more_fragments; fragment_offset = g.fragment_offset; time_to_live = g.time_to_live; protocol = record { 0 = g.protocol.0 }; header_checksum = g.header_checksum; source = g.source; destination = g.destination; options = g.options }
-    ≡ record { dscp = h.dscp; ecn = h.ecn; total_len = h.total_len; identification = h.identification; dont_fragment = h.dont_fragment; more_fragments = h.more_fragments; fragment_offset = h.fragment_offset; time_to_live = h.time_to_live; protocol = record { 0 = h.protocol.0 }; header_checksum = h.header_checksum; source = h.source; destination = h.destination; options = h.options } = cc in same
+    let same : record { dscp = g.dscp; ecn = g.ecn; total_len = g.total_len; identification = g.identification; dont_fragment = g.dont_fragment; more_fragments = g.more_fragments; fragment_offset = g.fragment_offset; time_to_live = g.time_to_live; protocol = g.protocol; header_checksum = g.header_checksum; source = g.source; destination = g.destination; options = g.options }
+    ≡ record { dscp = h.dscp; ecn = h.ecn; total_len = h.total_len; identification = h.identification; dont_fragment = h.dont_fragment; more_fragments = h.more_fragments; fragment_offset = h.fragment_offset; time_to_live = h.time_to_live; protocol = h.protocol; header_checksum = h.header_checksum; source = h.source; destination = h.destination; options = h.options } = cc in same
 
 -- the halves of byte 1
 dscp_of : (h : Ipv4Header) (r : ℕ) (p : List ℕ) → IsIpv4Layout h r p → get_or p 1 0 / 4 ≡ h.dscp
@@ -103,25 +103,10 @@ ecn_of : (h : Ipv4Header) (r : ℕ) (p : List ℕ) → IsIpv4Layout h r p → ge
 ecn_of h r p l = omega (arith, l.dscp_ecn, ecn_value-lt h.ecn)
 
 same_ecn : (a b : IpEcn) → ecn_value a ≡ ecn_value b → a ≡ b
-same_ecn NotEct NotEct e = refl
-same_ecn NotEct Ect1 e = absurd (omega (arith, e))
-same_ecn NotEct Ect0 e = absurd (omega (arith, e))
-same_ecn NotEct CongestionExperienced e = absurd (omega (arith, e))
-same_ecn Ect1 NotEct e = absurd (omega (arith, e))
-same_ecn Ect1 Ect1 e = refl
-same_ecn Ect1 Ect0 e = absurd (omega (arith, e))
-same_ecn Ect1 CongestionExperienced e = absurd (omega (arith, e))
-same_ecn Ect0 NotEct e = absurd (omega (arith, e))
-same_ecn Ect0 Ect1 e = absurd (omega (arith, e))
-same_ecn Ect0 Ect0 e = refl
-same_ecn Ect0 CongestionExperienced e = absurd (omega (arith, e))
-same_ecn CongestionExperienced NotEct e = absurd (omega (arith, e))
-same_ecn CongestionExperienced Ect1 e = absurd (omega (arith, e))
-same_ecn CongestionExperienced Ect0 e = absurd (omega (arith, e))
-same_ecn CongestionExperienced CongestionExperienced e = refl
+same_ecn a b e = search rules
 
 -- bytes have one header
-pub same_header : (g h : Ipv4Header) (q r : ℕ) (p : List ℕ) → IsIpv4Layout g q p → IsIpv4Layout h r p → g ≡ h
+same_header : (g h : Ipv4Header) (q r : ℕ) (p : List ℕ) → IsIpv4Layout g q p → IsIpv4Layout h r p → g ≡ h
 same_header g h q r p k l =
     same_fields g h
     (sym (dscp_of g q p k) ∙ dscp_of h r p l)
@@ -138,6 +123,9 @@ same_header g h q r p k l =
     (sym k.destination ∙ l.destination)
     (sym k.options ∙ l.options)
 
+pub one_header : (g h : Ipv4Header) (p : List ℕ) → HasIpv4Layout g p → HasIpv4Layout h p → g ≡ h
+one_header g h p k l = same_header g h k.reserved l.reserved p k.layout l.layout
+
 -- the flags and the fragment offset
 abbrev pub flags_word : Ipv4Header → ℕ → ℕ
 flags_word h r = r * 2 ^ 15 + from_bool h.dont_fragment * 2 ^ 14 + from_bool h.more_fragments * 2 ^ 13 + h.fragment_offset
@@ -145,7 +133,7 @@ flags_word h r = r * 2 ^ 15 + from_bool h.dont_fragment * 2 ^ 14 + from_bool h.m
 -- the bytes of a header, part by part
 abbrev pub spelling : Ipv4Header → ℕ → List ℕ
 spelling h flags = (4 * 2 ^ 4 + ipv4_ihl h) ∷ (h.dscp * 2 ^ 2 + ecn_value h.ecn) ∷ (to_be_bytes w16 h.total_len
-    ++ (to_be_bytes w16 h.identification ++ (to_be_bytes w16 flags ++ (h.time_to_live ∷ h.protocol.0
+    ++ (to_be_bytes w16 h.identification ++ (to_be_bytes w16 flags ++ (h.time_to_live ∷ h.protocol
     ∷ (to_be_bytes w16 h.header_checksum ++ (h.source ++ (h.destination ++ h.options)))))))
 
 -- the bytes of a header in its parts
@@ -182,7 +170,7 @@ spelled h r p l =
     (slice_range p 2 4) (to_be_bytes w16 h.total_len)
     (slice_range p 4 6) (to_be_bytes w16 h.identification)
     (slice_range p 6 8) (to_be_bytes w16 (flags_word h r))
-    (slice_range p 8 10) (h.time_to_live ∷ h.protocol.0 ∷ [])
+    (slice_range p 8 10) (h.time_to_live ∷ h.protocol ∷ [])
     (slice_range p 10 12) (to_be_bytes w16 h.header_checksum)
     (slice_range p 12 16) h.source
     (slice_range p 16 20) h.destination
@@ -200,6 +188,16 @@ spelled h r p l =
 -- a header has one list of bytes for each reserved bit
 pub same_bytes : (h : Ipv4Header) (r : ℕ) (p q : List ℕ) → IsIpv4Layout h r p → IsIpv4Layout h r q → p ≡ q
 same_bytes h r p q k l = spelled h r p k ∙ sym (spelled h r q l)
+
+-- what the fields that are written as numbers need to be written back, and the lengths of the addresses
+pub record HasFieldRanges (header : Ipv4Header) : Type 0 where
+  pub dscp : header.dscp < 2 ^ 6
+  pub fragment_offset : header.fragment_offset < 2 ^ 13
+  pub total_len : header.total_len < 2 ^ 16
+  pub identification : header.identification < 2 ^ 16
+  pub header_checksum : header.header_checksum < 2 ^ 16
+  pub source : length header.source ≡ 4
+  pub destination : length header.destination ≡ 4
 
 -- the spelling of a header is in its layout
 pub spells : (h : Ipv4Header) (r : ℕ) (p : List ℕ) → HasFieldRanges h → IsOptionsLen (length h.options) → r < 2 → IsBytes p
@@ -248,10 +246,10 @@ cleared_spells h r p l =
     let low = kept_byte r (from_bool h.dont_fragment) (from_bool h.more_fragments) h.fragment_offset in
     ap (λ xs. with_reserved_bit_cleared xs) (spelled h r p l)
     ∙ ap (λ b. (4 * 2 ^ 4 + ipv4_ihl h) ∷ (h.dscp * 2 ^ 2 + ecn_value h.ecn) ∷ (to_be_bytes w16 h.total_len
-    ++ (to_be_bytes w16 h.identification ++ (b ∷ (flags_word h r % 256) ∷ (h.time_to_live ∷ h.protocol.0
+    ++ (to_be_bytes w16 h.identification ++ (b ∷ (flags_word h r % 256) ∷ (h.time_to_live ∷ h.protocol
     ∷ (to_be_bytes w16 h.header_checksum ++ (h.source ++ (h.destination ++ h.options)))))))) high
     ∙ ap (λ b. (4 * 2 ^ 4 + ipv4_ihl h) ∷ (h.dscp * 2 ^ 2 + ecn_value h.ecn) ∷ (to_be_bytes w16 h.total_len
-    ++ (to_be_bytes w16 h.identification ++ ((flags_word h 0 / 256 % 256) ∷ b ∷ (h.time_to_live ∷ h.protocol.0
+    ++ (to_be_bytes w16 h.identification ++ ((flags_word h 0 / 256 % 256) ∷ b ∷ (h.time_to_live ∷ h.protocol
     ∷ (to_be_bytes w16 h.header_checksum ++ (h.source ++ (h.destination ++ h.options)))))))) low
 
 -- the ranges of a header's fields are in its layout
@@ -290,12 +288,12 @@ cleared_layout h r p l =
         ]
 
 -- headers are the same exactly where their bytes are, but for the reserved bit
-pub same_header_cleared : (g h : Ipv4Header) (q r : ℕ) (o p : List ℕ) → IsIpv4Layout g q o → IsIpv4Layout h r p
+pub same_header_cleared : (g h : Ipv4Header) (o p : List ℕ) → HasIpv4Layout g o → HasIpv4Layout h p
     → (g ≡ h) ↔ (with_reserved_bit_cleared o ≡ with_reserved_bit_cleared p)
-same_header_cleared g h q r o p k l = (
-  λ e. cleared_spells g q o k ∙ ap (λ x. spelling x (flags_word x 0)) e ∙ sym (cleared_spells h r p l),
+same_header_cleared g h o p k l = (
+  λ e. cleared_spells g k.reserved o k.layout ∙ ap (λ x. spelling x (flags_word x 0)) e ∙ sym (cleared_spells h l.reserved p l.layout),
   λ e. same_header g h 0 0 (with_reserved_bit_cleared p)
-      (subst (λ x. IsIpv4Layout g 0 x) e (cleared_layout g q o k)) (cleared_layout h r p l),
+      (subst (λ x. IsIpv4Layout g 0 x) e (cleared_layout g k.reserved o k.layout)) (cleared_layout h l.reserved p l.layout),
 )
 
 -- each number in range is one of a bool, or of a code point
@@ -318,7 +316,7 @@ flags_split b c hb hc = omega arith
 
 -- what starts with version 4, has an IHL of 5 or more and the length that it says is in the layout of a header
 pub header_at : (p : List ℕ) → version_of p ≡ 4 → 5 ≤ ihl_of p → length p ≡ 4 * ihl_of p → IsBytes p
-    → (h : Ipv4Header) × (r : ℕ) × IsIpv4Layout h r p
+    → (h : Ipv4Header) × HasIpv4Layout h p
 header_at p version ihl len bytes =
     let b6 = bytes 6 in
     let b7 = bytes 7 in
@@ -334,7 +332,7 @@ header_at p version ihl len bytes =
       more_fragments = mf.0;
       fragment_offset = get_or p 6 0 % 32 * 2 ^ 8 + get_or p 7 0;
       time_to_live = get_or p 8 0;
-      protocol = record { 0 = get_or p 9 0 };
+      protocol = get_or p 9 0;
       header_checksum = from_be_bytes w16 (slice_range p 10 12);
       source = slice_range p 12 16;
       destination = slice_range p 16 20;
@@ -345,8 +343,7 @@ header_at p version ihl len bytes =
     let e1 = get_or-slice_range p 6 8 1 (omega arith) in
     let split = flags_split (get_or p 6 0) (get_or p 7 0) b6 b7 in (
       header,
-      get_or p 6 0 / 128,
-      record {
+      record { reserved = get_or p 6 0 / 128; layout = record {
         len = omega arith;
         are_bytes = bytes;
         version_ihl = omega arith;
@@ -364,13 +361,13 @@ header_at p version ihl len bytes =
         dscp_fits = let b1 = bytes 1 in omega arith;
         fragment_offset_fits = omega arith;
         reserved_fits = omega arith;
-      },
+      } },
     )
 
 -- the fixed fields of a header, with the options behind them, are its spelling
 abbrev pub front_spelling : Ipv4Header → ℕ → List ℕ → List ℕ
 front_spelling h flags behind = (4 * 2 ^ 4 + ipv4_ihl h) ∷ (h.dscp * 2 ^ 2 + ecn_value h.ecn) ∷ (to_be_bytes w16 h.total_len
-    ++ (to_be_bytes w16 h.identification ++ (to_be_bytes w16 flags ++ (h.time_to_live ∷ h.protocol.0
+    ++ (to_be_bytes w16 h.identification ++ (to_be_bytes w16 flags ++ (h.time_to_live ∷ h.protocol
     ∷ (to_be_bytes w16 h.header_checksum ++ behind)))))
 
 pub front_spells : (h : Ipv4Header) (front options p : List ℕ) → p ≡ front ++ options → options ≡ h.options

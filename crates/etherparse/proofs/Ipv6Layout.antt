@@ -13,11 +13,11 @@ use Rattle.etherparse.specs.declared.net.ipv6_header.Ipv6Header.{Ipv6Header}
 
 -- headers with equal fields
 pub same_fields : (g h : Ipv6Header) → g.traffic_class ≡ h.traffic_class → g.flow_label ≡ h.flow_label
-    → g.payload_length ≡ h.payload_length → g.next_header.0 ≡ h.next_header.0 → g.hop_limit ≡ h.hop_limit
+    → g.payload_length ≡ h.payload_length → g.next_header ≡ h.next_header → g.hop_limit ≡ h.hop_limit
     → g.source ≡ h.source → g.destination ≡ h.destination → g ≡ h
 same_fields g h t f n x m s d =
-    let e : record { traffic_class = g.traffic_class; flow_label = g.flow_label; payload_length = g.payload_length; next_header = record { 0 = g.next_header.0 }; hop_limit = g.hop_limit; source = g.source; destination = g.destination }
-    ≡ record { traffic_class = h.traffic_class; flow_label = h.flow_label; payload_length = h.payload_length; next_header = record { 0 = h.next_header.0 }; hop_limit = h.hop_limit; source = h.source; destination = h.destination } = cc in e
+    let e : record { traffic_class = g.traffic_class; flow_label = g.flow_label; payload_length = g.payload_length; next_header = g.next_header; hop_limit = g.hop_limit; source = g.source; destination = g.destination }
+    ≡ record { traffic_class = h.traffic_class; flow_label = h.flow_label; payload_length = h.payload_length; next_header = h.next_header; hop_limit = h.hop_limit; source = h.source; destination = h.destination } = cc in e
 
 -- five parts, each with its equation
 same_joined : (a a' b b' c c' d d' e e' : List ℕ) → a ≡ a' → b ≡ b' → c ≡ c' → d ≡ d' → e ≡ e'
@@ -79,7 +79,7 @@ same_header g h p k l =
 -- the bytes of a header, part by part
 abbrev pub spelling : Ipv6Header → List ℕ
 spelling h = to_be_bytes w32 (6 * 2 ^ 28 + h.traffic_class * 2 ^ 20 + h.flow_label)
-    ++ (to_be_bytes w16 h.payload_length ++ (h.next_header.0 ∷ h.hop_limit ∷ (h.source ++ h.destination)))
+    ++ (to_be_bytes w16 h.payload_length ++ (h.next_header ∷ h.hop_limit ∷ (h.source ++ h.destination)))
 
 -- 40 bytes in the parts of a header
 pub parts_of : (p : List ℕ) → length p ≡ 40
@@ -96,7 +96,7 @@ pub spelled : (h : Ipv6Header) (p : List ℕ) → IsIpv6Layout h p → p ≡ spe
 spelled h p l = parts_of p l.len ∙ same_joined
     (slice_range p 0 4) (to_be_bytes w32 (6 * 2 ^ 28 + h.traffic_class * 2 ^ 20 + h.flow_label))
     (slice_range p 4 6) (to_be_bytes w16 h.payload_length)
-    (slice_range p 6 8) (h.next_header.0 ∷ h.hop_limit ∷ [])
+    (slice_range p 6 8) (h.next_header ∷ h.hop_limit ∷ [])
     (slice_range p 8 24) h.source
     (slice_range p 24 40) h.destination
     (sym (be_bytes_4 (slice_range p 0 4) _ (length-part p 0 4 (omega (arith, l.len))) (λ i. part_is_bytes p 0 4 i l.are_bytes) (sym l.version_traffic_class_flow_label)))
@@ -121,7 +121,7 @@ header_at p e bytes version =
       traffic_class = (get_or p 0 0 * 256 + get_or p 1 0) / 16 % 256;
       flow_label = get_or p 1 0 % 16 * 2 ^ 16 + get_or p 2 0 * 2 ^ 8 + get_or p 3 0;
       payload_length = from_be_bytes w16 (slice_range p 4 6);
-      next_header = record { 0 = get_or p 6 0 };
+      next_header = get_or p 6 0;
       hop_limit = get_or p 7 0;
       source = slice_range p 8 24;
       destination = slice_range p 24 40;

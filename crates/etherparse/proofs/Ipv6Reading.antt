@@ -13,34 +13,35 @@ use Rattle.etherparse.specs.declared.net.ipv6_header.Ipv6Header.{Ipv6Header}
 
 -- some bytes are refused for one reason
 refused_once : (s : List ℕ) (e f : HeaderSliceError) → RefusesIpv6 s e → RefusesIpv6 s f → e ≡ f
-refused_once s (Len a) (Len b) p q = ap Len (p.1 ∙ sym q.1)
-refused_once s (Len a) (Content (UnexpectedVersion w)) p q = absurd (omega (arith, p.0, q.0))
-refused_once s (Content (UnexpectedVersion v)) (Len b) p q = absurd (omega (arith, p.0, q.0))
+refused_once s (Len a) (Len b) p q = ap Len (p.error ∙ sym q.error)
+refused_once s (Len a) (Content (UnexpectedVersion w)) p q = absurd (omega (arith, p.few, q.enough))
+refused_once s (Content (UnexpectedVersion v)) (Len b) p q = absurd (omega (arith, p.enough, q.few))
 refused_once s (Content (UnexpectedVersion v)) (Content (UnexpectedVersion w)) p q =
-    ap (λ x. Content (UnexpectedVersion x)) (p.2 ∙ sym q.2)
+    ap (λ x. Content (UnexpectedVersion x)) (p.found ∙ sym q.found)
 
 -- what begins with a header is not refused
 not_refused : (h : Ipv6Header) (p r s : List ℕ) → s ≡ p ++ r → IsIpv6Layout h p → (e : HeaderSliceError) → RefusesIpv6 s e → ⊥
-not_refused h p r s e l (Len a) q = omega (arith, q.0, ap length e, length-append p r, l.len)
+not_refused h p r s e l (Len a) q = omega (arith, q.few, ap length e, length-append p r, l.len)
 not_refused h p r s e l (Content (UnexpectedVersion v)) q =
     let first = get_or_append_left p r 0 0 (omega (arith, l.len)) in
-    q.1 (ap version_of e ∙ (rw first (version_of-layout h p l)))
+    q.other (ap version_of e ∙ (rw first (version_of-layout h p l)))
 
 pub read_once : (s : List ℕ) (a b : Ipv6Reading) → ReadsIpv6 s a → ReadsIpv6 s b → a ≡ b
 read_once s (Ok x) (Ok y) p q =
-    let whole : p.0 ++ x.1 ≡ q.0 ++ y.1 = sym p.1 ∙ q.1 in
-    let len : length p.0 ≡ length q.0 = p.2.len ∙ sym q.2.len in
-    let header : x.0 ≡ y.0 = same_header x.0 y.0 q.0 (subst (λ s. IsIpv6Layout x.0 s) (same_front p.0 q.0 x.1 y.1 len whole) p.2) q.2 in
-    let rest : x.1 ≡ y.1 = same_back p.0 q.0 x.1 y.1 len whole in
+    let whole : p.front ++ x.1 ≡ q.front ++ y.1 = sym p.whole ∙ q.whole in
+    let len : length p.front ≡ length q.front = p.layout.len ∙ sym q.layout.len in
+    let header : x.0 ≡ y.0 = same_header x.0 y.0 q.front
+    (subst (λ s. IsIpv6Layout x.0 s) (same_front p.front q.front x.1 y.1 len whole) p.layout) q.layout in
+    let rest : x.1 ≡ y.1 = same_back p.front q.front x.1 y.1 len whole in
     let pair : (x.0, x.1) ≡ (y.0, y.1) = cc in ap Ok pair
-read_once s (Ok x) (Err f) p q = absurd (not_refused x.0 p.0 x.1 s p.1 p.2 f q)
-read_once s (Err e) (Ok y) p q = absurd (not_refused y.0 q.0 y.1 s q.1 q.2 e p)
+read_once s (Ok x) (Err f) p q = absurd (not_refused x.0 p.front x.1 s p.whole p.layout f q)
+read_once s (Err e) (Ok y) p q = absurd (not_refused y.0 q.front y.1 s q.whole q.layout e p)
 read_once s (Err e) (Err f) p q = ap Err (refused_once s e f p q)
 
 pub viewed_once : (s : List ℕ) (a b : Result (List ℕ) HeaderSliceError) → ViewsIpv6 s a → ViewsIpv6 s b → a ≡ b
-viewed_once s (Ok x) (Ok y) p q = ap Ok (same_front x y p.0 q.0 (p.3.len ∙ sym q.3.len) (sym p.1 ∙ q.1))
-viewed_once s (Ok x) (Err f) p q = absurd (not_refused p.2 x p.0 s p.1 p.3 f q)
-viewed_once s (Err e) (Ok y) p q = absurd (not_refused q.2 y q.0 s q.1 q.3 e p)
+viewed_once s (Ok x) (Ok y) p q = ap Ok (same_front x y p.rest q.rest (p.layout.len ∙ sym q.layout.len) (sym p.whole ∙ q.whole))
+viewed_once s (Ok x) (Err f) p q = absurd (not_refused p.header x p.rest s p.whole p.layout f q)
+viewed_once s (Err e) (Ok y) p q = absurd (not_refused q.header y q.rest s q.whole q.layout e p)
 viewed_once s (Err e) (Err f) p q = ap Err (refused_once s e f p q)
 
 -- the front of some bytes is seen where they are enough and of version 6
@@ -48,10 +49,10 @@ pub front_viewed : (s : List ℕ) → 40 ≤ length s → IsBytes s → version_
 front_viewed s long bytes version =
     let first : get_or (take 40 s) 0 0 ≡ get_or s 0 0 = get_or-slice_range s 0 40 0 (omega arith) in
     let header = header_at (take 40 s) (length-part s 0 40 long) (λ i. part_is_bytes s 0 40 i bytes) (ap (λ n. n / 16) first ∙ version) in
-    (drop 40 s, sym (take-append-drop 40 s), header.0, header.1)
+    record { header = header.0; rest = drop 40 s; whole = sym (take-append-drop 40 s); layout = header.1 }
 
 -- what begins with a header is read
 pub read_front : (s p r : List ℕ) (h : Ipv6Header) → s ≡ p ++ r → IsIpv6Layout h p → ReadsIpv6 s (Ok (h, take (length s - 40) (drop 40 s)))
 read_front s p r h e l =
     let rest : r ≡ drop 40 s = sym (ap (λ x. drop 40 x) e ∙ drop_at p r 40 l.len) in
-    (p, e ∙ ap (λ x. p ++ x) (rest ∙ sym (take_rest s 40)), l)
+    record { front = p; whole = e ∙ ap (λ x. p ++ x) (rest ∙ sym (take_rest s 40)); layout = l }

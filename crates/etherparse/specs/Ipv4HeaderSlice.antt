@@ -1,8 +1,8 @@
 -- The view of an IPv4 header.
-use Rattle.std.specs.Prelude.{ℕ, List, Result, Ok, Err}
+use Rattle.std.specs.Prelude.{ℕ, List, Result}
+use Rattle.std.specs.Result.{result_map_both}
 use Rattle.etherparse.specs.declared.net.ipv4_header_slice.Ipv4HeaderSlice.{Ipv4HeaderSlice}
 
 -- the bytes of the view that was answered, or the error
-abbrev pub view_bytes : {E : Type 0} → Result Ipv4HeaderSlice E → Result (List ℕ) E
-view_bytes (Ok view) = Ok view.slice.now
-view_bytes (Err e) = Err e
+abbrev pub ipv4_view_bytes : {E : Type 0} → Result Ipv4HeaderSlice E → Result (List ℕ) E
+ipv4_view_bytes r = result_map_both (λ view. view.slice.now) (λ e. e) r

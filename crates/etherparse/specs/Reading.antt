@@ -1,8 +1,47 @@
--- What a reader's answer says, apart from where its slices lie in memory.
-use Rattle.std.specs.Prelude.{List, Result, Ok, Err}
-use denote.Ref.{Bor}
+-- How a header stands at the front of a slice, and how a slice is refused, for both versions.
+use Rattle.std.specs.Prelude.{ℕ, ◌≡◌, ◌≢◌, ◌<◌, ◌≤◌, List, ◌++◌, length, Result}
+use Rattle.std.specs.Result.{result_map_both}
+use Rattle.std.specs.Borrow.{Bor}
+use Rattle.etherparse_base.specs.declared.err.layer.Layer.{Layer}
+use Rattle.etherparse_base.specs.declared.err.len_error.LenError.{LenError}
+use Rattle.etherparse_base.specs.declared.len_source.LenSource.TheVariants.{Slice}
+use Rattle.etherparse.specs.FirstByte.{version_of}
 
--- a header, and the bytes that follow it
-abbrev pub header_and_rest : {H X E : Type 0} → Result (H × Bor (List X)) E → Result (H × List X) E
-header_and_rest (Ok x) = Ok (x.0, x.1.now)
-header_and_rest (Err e) = Err e
+-- reading: the slice is a front in the layout of the header, and the rest after it
+pub record BeginsWith {H : Type 0} (Layout : H → List ℕ → Type 0) (s : List ℕ) (header : H)
+    (rest : List ℕ) : Type 0 where
+  pub front : List ℕ
+  pub whole : s ≡ front ++ rest
+  pub layout : Layout header front
+
+-- viewing: the slice begins with this front, which is in the layout of a header
+pub record BeginsAs {H : Type 0} (Layout : H → List ℕ → Type 0) (s front : List ℕ) : Type 0 where
+  pub header : H
+  pub rest : List ℕ
+  pub whole : s ≡ front ++ rest
+  pub layout : Layout header front
+
+-- the error of a slice that is shorter than the layer needs
+abbrev pub slice_too_short : Layer → ℕ → ℕ → LenError
+slice_too_short layer required_len len = record {
+  required_len = required_len;
+  len = len;
+  len_source = Slice;
+  layer = layer;
+  layer_start_offset = 0;
+}
+
+-- the slice is refused since it is shorter than the layer needs
+pub record IsTooShort (layer : Layer) (required_len : ℕ) (s : List ℕ) (e : LenError) : Type 0 where
+  pub few : length s < required_len
+  pub error : e ≡ slice_too_short layer required_len (length s)
+
+-- the slice is long enough to tell its version, and refused since that is not the expected one
+pub record HasOtherVersion (expected min_len : ℕ) (s : List ℕ) (version : ℕ) : Type 0 where
+  pub enough : min_len ≤ length s
+  pub other : version_of s ≢ expected
+  pub found : version ≡ version_of s
+
+-- what a reader answers, apart from where the rest lies in memory
+abbrev pub header_and_rest : {H E : Type 0} → Result (H × Bor (List ℕ)) E → Result (H × List ℕ) E
+header_and_rest r = result_map_both (λ x. (x.0, x.1.now)) (λ e. e) r

@@ -3,6 +3,7 @@
 //! What the Rust crate `etherparse` 0.19.0 has for IP headers alone, under the same paths.
 #![tactic(auto)]
 
+mod laws;
 mod net;
 #[cfg(test)]
 mod testing;

@@ -28,7 +28,8 @@ pub fn write_ipv6<W: Write>(writer: &mut W, view: &Ipv6HeaderSlice) -> io::Resul
     write_field(writer, "traffic_class", view.traffic_class())?;
     write_field(writer, "flow_label", view.flow_label())?;
     write_field(writer, "payload_length", view.payload_length())?;
-    write_field(writer, "next_header", view.next_header().0)?;
+    let next_header = view.next_header();
+    write_field(writer, "next_header", next_header.0)?;
     write_field(writer, "hop_limit", view.hop_limit())?;
     write_hex_field(writer, "source", &view.source())?;
     write_hex_field(writer, "destination", &view.destination())?;
@@ -54,7 +55,8 @@ pub fn write_ipv4<W: Write>(
     write_field(writer, "more_fragments", view.more_fragments())?;
     write_field(writer, "fragment_offset", view.fragments_offset())?;
     write_field(writer, "time_to_live", view.ttl())?;
-    write_field(writer, "protocol", view.protocol().0)?;
+    let protocol = view.protocol();
+    write_field(writer, "protocol", protocol.0)?;
     write_hex_field(
         writer,
         "header_checksum",

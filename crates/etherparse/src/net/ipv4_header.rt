@@ -1,6 +1,6 @@
 ghost use Rattle.std.specs.Prelude.{◌≡◌, ◌≤◌, ◌%◌, ◌++◌, length};
 ghost use Rattle.etherparse_base.specs.Bytes.{IsBytes};
-ghost use Rattle.etherparse.specs.PayloadLen.{PayloadLen};
+ghost use Rattle.etherparse.specs.Ipv4Header.{payload_len_of};
 
 use crate::err::ipv4::{BadOptionsLen, HeaderSliceError};
 use crate::err::{Layer, LenError, ValueTooBigError, ValueType};
@@ -11,7 +11,7 @@ use etherparse_fields::options_in_front;
 /// An IPv4 header with its options (RFC 791 section 3.1).
 ///
 /// The reserved bit of the flags is no field: it is read as 0 or 1, and written as 0.
-#[derive(Clone, Debug, Hash, Drop)]
+#[derive(Clone, Debug, PartialEq, Eq, Hash, Drop)]
 pub struct Ipv4Header {
     /// The differentiated services code point (RFC 2474).
     pub dscp: IpDscp,
@@ -46,10 +46,11 @@ impl Ipv4Header {
     ghost use Rattle.std.specs.Int.{from_bool, to_be_bytes, w16};
     ghost use Rattle.etherparse_fields.specs.IpEcn.{ecn_value};
     ghost use Rattle.etherparse_fields.specs.Ipv4Options.{IsOptionsLen};
-    ghost use Rattle.etherparse.specs.Ipv4Header.{HasFieldRanges, IsFragment, IsIpv4Layout, Ipv4PayloadLen, Ipv4Reading, ReadsIpv4, default_ipv4_header, ipv4_header_len, ipv4_ihl, ipv4_max_payload_len, with_reserved_bit_cleared};
-    ghost use Rattle.etherparse_base.specs.declared.err.value_type.ValueType.TheVariants as value_type;
+    ghost use Rattle.etherparse.specs.Ipv4Header.{IsFragment, IsIpv4Layout, Ipv4Reading, OfIpv4Header, ReadsIpv4};
+    ghost use Rattle.etherparse.specs.Ipv4Header.{default_ipv4_header, ipv4_header_len, ipv4_ihl, ipv4_max_payload_len};
+    ghost use Rattle.etherparse.specs.Ipv4Header.{ipv4_payload_len, with_reserved_bit_cleared};
     ghost use Rattle.etherparse.specs.Reading.{header_and_rest};
-    ghost use Rattle.etherparse.specs.declared.net.ipv4_header.Ipv4Header.{Ipv4Header};
+    ghost use Rattle.etherparse_base.specs.declared.err.value_type.ValueType.TheVariants as value_type;
 
     /// The length of a header with no options, in bytes.
     pub const MIN_LEN: usize = 20;
@@ -141,9 +142,9 @@ impl Ipv4Header {
     /// `required_len`.
     #[inline]
     pub fn payload_len(&self) -> Result<u16, LenError>
-        ensures value { Ipv4PayloadLen self.now result }
+        ensures value { result ≡ ipv4_payload_len self.now }
     {
-        payload_len_of(self.header_len() as u16, self.total_len)
+        payload_len_between(self.header_len() as u16, self.total_len)
     }
 
     /// The length of the longest payload that fits behind the header, in bytes: 65515, less the options.
@@ -236,13 +237,13 @@ impl Ipv4Header {
         ensures only { (other : Ipv4Reading) → ReadsIpv4 slice.now other → other ≡ header_and_rest result }
 
         // What was read is written again, with the reserved bit 0.
-        ensures cleared { IfOk result (λ x. (bytes : List ℕ) × (slice.now ≡ bytes ++ x.1.now)
-            × IsIpv4Layout x.0 0 (with_reserved_bit_cleared bytes)) }
+        ensures cleared { IfOk result (λ x. (front : List ℕ) → slice.now ≡ front ++ x.1.now →
+            IsIpv4Layout x.0 0 (with_reserved_bit_cleared front)) }
 
         // Bytes have the same header where they agree in all but the reserved bit.
-        ensures same_header { IfOk result (λ x. (bytes : List ℕ) → slice.now ≡ bytes ++ x.1.now →
-            (other : Ipv4Header) (reserved : ℕ) (others : List ℕ) → IsIpv4Layout other reserved others →
-            (other ≡ x.0) ↔ (with_reserved_bit_cleared others ≡ with_reserved_bit_cleared bytes)) }
+        ensures same_header { IfOk result (λ x. (front : List ℕ) → slice.now ≡ front ++ x.1.now →
+            (others : List ℕ) → OfIpv4Header others (λ other. (other ≡ x.0)
+            ↔ (with_reserved_bit_cleared others ≡ with_reserved_bit_cleared front))) }
     {
         let view = Ipv4HeaderSlice::from_slice(slice)?;
         let len = view.slice.len();
@@ -273,12 +274,18 @@ impl Ipv4Header {
     #[inline(always)]
     #[rattlefmt::skip]
     fn front(&self) -> [u8; 20]
-        ensures value { result ≡ (4 * 2 ^ 4 + ipv4_ihl self.now) ∷ (self.now.dscp * 2 ^ 2 + ecn_value self.now.ecn)
+        ensures value { result ≡ (4 * 2 ^ 4 + ipv4_ihl self.now)
+            ∷ (self.now.dscp * 2 ^ 2 + ecn_value self.now.ecn)
             ∷ (to_be_bytes w16 self.now.total_len ++ (to_be_bytes w16 self.now.identification
-            ++ (to_be_bytes w16 (from_bool self.now.dont_fragment * 2 ^ 14 + from_bool self.now.more_fragments * 2 ^ 13 + self.now.fragment_offset)
-            ++ (self.now.time_to_live ∷ self.now.protocol.0 ∷ (to_be_bytes w16 self.now.header_checksum
+            ++ (to_be_bytes w16 (from_bool self.now.dont_fragment * 2 ^ 14
+            + from_bool self.now.more_fragments * 2 ^ 13 + self.now.fragment_offset)
+            ++ (self.now.time_to_live ∷ self.now.protocol ∷ (to_be_bytes w16 self.now.header_checksum
             ++ (self.now.source ++ self.now.destination)))))) }
-        ensures ranges { HasFieldRanges self.now }
+        ensures dscp { self.now.dscp < 2 ^ 6 }
+        ensures fragment_offset { self.now.fragment_offset < 2 ^ 13 }
+        ensures total_len { self.now.total_len < 2 ^ 16 }
+        ensures identification { self.now.identification < 2 ^ 16 }
+        ensures header_checksum { self.now.header_checksum < 2 ^ 16 }
     {
         let dscp = self.dscp.value();
         let ecn = self.ecn.value();
@@ -299,10 +306,10 @@ impl Ipv4Header {
     }
 }
 
-/// The length of a payload by the lengths of the header and of the packet, or the error that the second is below the first.
+// The length of a payload by the lengths of the header and of the packet.
 #[inline]
-pub(crate) fn payload_len_of(header_len: u16, total_len: u16) -> Result<u16, LenError>
-    ensures { PayloadLen header_len total_len result }
+pub(super) fn payload_len_between(header_len: u16, total_len: u16) -> Result<u16, LenError>
+    ensures value { result ≡ payload_len_of header_len total_len }
 {
     if header_len <= total_len {
         Ok(total_len - header_len)
@@ -354,43 +361,6 @@ fn joined_of<const N: usize>(front: &[u8], options: &[u8]) -> ArrayVec<u8, 60>
     bytes.try_extend_from_slice(front).unwrap();
     bytes.try_extend_from_slice(&options[..N]).unwrap();
     bytes
-}
-
-/// Headers are equal where all fields are.
-impl PartialEq for Ipv4Header {
-    ghost use Rattle.std.specs.Prelude.{◌≡◌, ◌↔◌, IsTrue};
-    ghost use Rattle.std.specs.Cmp.{partial_equiv_from_equiv};
-    ghost use Rattle.etherparse.specs.EqualityLaws.{is_same_ipv4_header-equiv};
-    ghost use Rattle.etherparse.specs.Ipv4Header.{is_same_ipv4_header};
-
-    ghost eq = { is_same_ipv4_header };
-
-    ghost laws = { partial_equiv_from_equiv is_same_ipv4_header-equiv };
-
-    fn eq(&self, other: &Self) -> bool
-        ensures member { result ≡ is_same_ipv4_header self.now other.now }
-        ensures all_fields { IsTrue result ↔ (self.now ≡ other.now) }
-    {
-        self.dscp == other.dscp
-            && self.ecn == other.ecn
-            && self.total_len == other.total_len
-            && self.identification == other.identification
-            && self.dont_fragment == other.dont_fragment
-            && self.more_fragments == other.more_fragments
-            && self.fragment_offset == other.fragment_offset
-            && self.time_to_live == other.time_to_live
-            && self.protocol == other.protocol
-            && self.header_checksum == other.header_checksum
-            && self.source == other.source
-            && self.destination == other.destination
-            && self.options == other.options
-    }
-}
-
-impl Eq for Ipv4Header {
-    ghost use Rattle.etherparse.specs.EqualityLaws.{is_same_ipv4_header-equiv};
-
-    ghost laws = { is_same_ipv4_header-equiv };
 }
 
 /// The packet must not be fragmented and its protocol is 255. All else is 0, false or empty.

@@ -1,18 +1,20 @@
 ghost use Rattle.std.specs.Prelude.{◌≡◌, ◌*◌, ◌<◌, ◌≤◌, length, OnSome, IfSome, IfNone};
 ghost use Rattle.etherparse_base.specs.Bytes.{IsBytes};
+ghost use Rattle.etherparse_base.specs.declared.err.layer.Layer.TheVariants as layer;
 ghost use Rattle.etherparse_fields.specs.Ipv4Options.{IsOptionsLen};
 ghost use Rattle.etherparse.specs.FirstByte.{ihl_of, version_of};
-ghost use Rattle.etherparse.specs.Ipv4Header.{RefusesIpv4, ipv4_too_short};
+ghost use Rattle.etherparse.specs.Ipv4Header.{RefusesIpv4};
+ghost use Rattle.etherparse.specs.Reading.{slice_too_short};
 
 use crate::err::ipv4::{HeaderError, HeaderSliceError};
 use crate::err::{Layer, LenError};
-use crate::net::ipv4_header::payload_len_of;
+use crate::net::ipv4_header::payload_len_between;
 use crate::{IpDscp, IpEcn, IpFragOffset, IpNumber, Ipv4Header, Ipv4Options, LenSource};
 
 /// A view of the bytes of an IPv4 header with its options (RFC 791 section 3.1).
 ///
 /// It keeps the reserved bit, which an [`Ipv4Header`] has no field for.
-#[derive(Clone, Copy, Debug)]
+#[derive(Clone, Copy, Debug, PartialEq, Eq)]
 pub struct Ipv4HeaderSlice<'a> {
     /// The bytes of the header: 20, and those of the options.
     pub slice: &'a [u8],
@@ -25,8 +27,8 @@ pub struct Ipv4HeaderSlice<'a> {
 impl<'a> Ipv4HeaderSlice<'a> {
     ghost use Rattle.std.specs.Prelude.{ℕ, ◌≡◌, ◌%◌, ◌≤◌, ◌↔◌, List, Result, IsTrue, drop, length};
     ghost use Rattle.etherparse_base.specs.declared.err.ipv4.header_slice_error.HeaderSliceError.{HeaderSliceError};
-    ghost use Rattle.etherparse.specs.Ipv4Header.{IsFragment, IsIpv4Layout, Ipv4PayloadLen, OfIpv4Header, ViewsIpv4, ipv4_ihl};
-    ghost use Rattle.etherparse.specs.Ipv4HeaderSlice.{view_bytes};
+    ghost use Rattle.etherparse.specs.Ipv4Header.{HasIpv4Layout, IsFragment, OfIpv4Header, ViewsIpv4, ipv4_ihl, ipv4_payload_len};
+    ghost use Rattle.etherparse.specs.Ipv4HeaderSlice.{ipv4_view_bytes};
 
     /// A view of the header at the front of a slice.
     ///
@@ -36,9 +38,9 @@ impl<'a> Ipv4HeaderSlice<'a> {
     /// below 5; `Len` where the slice has fewer bytes than the IHL says.
     #[inline(always)]
     pub fn from_slice(slice: &'a [u8]) -> Result<Ipv4HeaderSlice<'a>, HeaderSliceError>
-        ensures views { ViewsIpv4 slice.now (view_bytes result) }
+        ensures views { ViewsIpv4 slice.now (ipv4_view_bytes result) }
         ensures only { (other : Result (List ℕ) HeaderSliceError) → ViewsIpv4 slice.now other →
-            other ≡ view_bytes result }
+            other ≡ ipv4_view_bytes result }
     {
         match header_len(slice) {
             Some(len) => Ok(Ipv4HeaderSlice {
@@ -104,9 +106,9 @@ impl<'a> Ipv4HeaderSlice<'a> {
     /// `required_len`.
     #[inline]
     pub fn payload_len(&self) -> Result<u16, LenError>
-        ensures value { OfIpv4Header self.now.slice.now (λ header. Ipv4PayloadLen header result) }
+        ensures value { OfIpv4Header self.now.slice.now (λ header. result ≡ ipv4_payload_len header) }
     {
-        payload_len_of(self.slice.len() as u16, self.total_len())
+        payload_len_between(self.slice.len() as u16, self.total_len())
     }
 
     /// What the fragments of one packet have in common: bytes 4 and 5.
@@ -203,7 +205,8 @@ impl<'a> Ipv4HeaderSlice<'a> {
     /// The header that the bytes are in the layout of, with either reserved bit.
     #[inline]
     pub fn to_header(&self) -> Ipv4Header
-        ensures layout { (reserved : ℕ) × IsIpv4Layout result reserved self.now.slice.now }
+        ensures layout { HasIpv4Layout result self.now.slice.now }
+        ensures only { OfIpv4Header self.now.slice.now (λ header. header ≡ result) }
     {
         self.header_with(options_of(self.options()))
     }
@@ -212,7 +215,8 @@ impl<'a> Ipv4HeaderSlice<'a> {
     #[inline(always)]
     pub(super) fn header_with(&self, options: Ipv4Options) -> Ipv4Header
         requires { options ≡ drop 20 self.now.slice.now }
-        ensures layout { (reserved : ℕ) × IsIpv4Layout result reserved self.now.slice.now }
+        ensures layout { HasIpv4Layout result self.now.slice.now }
+        ensures only { OfIpv4Header self.now.slice.now (λ header. header ≡ result) }
     {
         Ipv4Header {
             dscp: self.dcp(),
@@ -239,7 +243,8 @@ fn header_len(slice: &[u8]) -> Option<usize>
     ensures ihl { OnSome result (5 ≤ ihl_of slice.now) }
     ensures len { IfSome result (λ len. len ≡ 4 * ihl_of slice.now) }
     ensures fits { IfSome result (λ len. len ≤ length slice.now) }
-    ensures none { IfNone result (20 ≤ length slice.now → version_of slice.now ≡ 4 → 5 ≤ ihl_of slice.now → length slice.now < 4 * ihl_of slice.now) }
+    ensures none { IfNone result (20 ≤ length slice.now → version_of slice.now ≡ 4
+        → 5 ≤ ihl_of slice.now → length slice.now < 4 * ihl_of slice.now) }
 {
     if slice.len() < Ipv4Header::MIN_LEN {
         return None;
@@ -262,7 +267,8 @@ fn header_len(slice: &[u8]) -> Option<usize>
 #[cold]
 #[inline(never)]
 fn refusal(slice: &[u8]) -> HeaderSliceError
-    requires none { 20 ≤ length slice.now → version_of slice.now ≡ 4 → 5 ≤ ihl_of slice.now → length slice.now < 4 * ihl_of slice.now }
+    requires none { 20 ≤ length slice.now → version_of slice.now ≡ 4
+        → 5 ≤ ihl_of slice.now → length slice.now < 4 * ihl_of slice.now }
     ensures refuses { RefusesIpv4 slice.now result }
 {
     if slice.len() < Ipv4Header::MIN_LEN {
@@ -281,7 +287,7 @@ fn refusal(slice: &[u8]) -> HeaderSliceError
 
 // The error of a slice that is too short for its header.
 fn too_short(required_len: usize, len: usize) -> HeaderSliceError
-    ensures { result ≡ HeaderSliceError.Len (ipv4_too_short required_len len) }
+    ensures { result ≡ HeaderSliceError.Len (slice_too_short layer.Ipv4Header required_len len) }
 {
     HeaderSliceError::Len(LenError {
         required_len,
@@ -319,31 +325,6 @@ fn whole<const N: usize>(bytes: &[u8]) -> [u8; N]
     ensures { result ≡ bytes.now }
 {
     *bytes.first_chunk::<N>().unwrap()
-}
-
-/// Views are equal where they show the same bytes, the reserved bit included.
-impl PartialEq for Ipv4HeaderSlice<'_> {
-    ghost use Rattle.std.specs.Prelude.{◌≡◌, ◌↔◌, IsTrue, nat_eq};
-    ghost use Rattle.std.specs.Cmp.{on_per, partial_equiv_from_equiv};
-    ghost use Rattle.std.specs.Cmp.Lexicographic.{nat_list_eq_equiv, pointwise};
-
-    ghost eq = { λ a b. pointwise nat_eq a.slice.now b.slice.now };
-
-    ghost laws = { on_per (λ view. view.slice.now) (partial_equiv_from_equiv nat_list_eq_equiv) };
-
-    fn eq(&self, other: &Self) -> bool
-        ensures member { result ≡ pointwise nat_eq self.now.slice.now other.now.slice.now }
-        ensures same_bytes { IsTrue result ↔ (self.now.slice.now ≡ other.now.slice.now) }
-    {
-        self.slice == other.slice
-    }
-}
-
-impl Eq for Ipv4HeaderSlice<'_> {
-    ghost use Rattle.std.specs.Cmp.{on_equiv};
-    ghost use Rattle.std.specs.Cmp.Lexicographic.{nat_list_eq_equiv};
-
-    ghost laws = { on_equiv (λ view. view.slice.now) nat_list_eq_equiv };
 }
 
 #[cfg(test)]

@@ -6,7 +6,7 @@ use crate::err::{ValueTooBigError, ValueType};
 use crate::{IpDscp, IpEcn, IpNumber, Ipv6FlowLabel, Ipv6HeaderSlice};
 
 /// An IPv6 header without its extension headers (RFC 8200 section 3).
-#[derive(Clone, Debug, Drop)]
+#[derive(Clone, Debug, PartialEq, Eq, Drop)]
 pub struct Ipv6Header {
     /// The traffic class: the DSCP in the upper 6 bits, the ECN in the lower 2 (RFC 2474, RFC 3168).
     pub traffic_class: u8,
@@ -150,7 +150,7 @@ impl Ipv6Header {
     #[inline(always)]
     fn front(&self) -> [u8; 8]
         ensures value { result ≡ to_be_bytes w32 (6 * 2 ^ 28 + self.now.traffic_class * 2 ^ 20 + self.now.flow_label)
-            ++ (to_be_bytes w16 self.now.payload_length ++ self.now.next_header.0 ∷ self.now.hop_limit ∷ []) }
+            ++ (to_be_bytes w16 self.now.payload_length ++ self.now.next_header ∷ self.now.hop_limit ∷ []) }
         ensures traffic_class { self.now.traffic_class < 2 ^ 8 }
         ensures flow_label { self.now.flow_label < 2 ^ 20 }
         ensures payload_length { self.now.payload_length < 2 ^ 16 }
@@ -164,37 +164,6 @@ impl Ipv6Header {
         let [e, f] = payload_length.to_be_bytes();
         [a, b, c, d, e, f, self.next_header.0, self.hop_limit]
     }
-}
-
-/// Headers are equal where all fields are.
-impl PartialEq for Ipv6Header {
-    ghost use Rattle.std.specs.Prelude.{◌≡◌, ◌↔◌, IsTrue};
-    ghost use Rattle.std.specs.Cmp.{partial_equiv_from_equiv};
-    ghost use Rattle.etherparse.specs.EqualityLaws.{is_same_ipv6_header-equiv};
-    ghost use Rattle.etherparse.specs.Ipv6Header.{is_same_ipv6_header};
-
-    ghost eq = { is_same_ipv6_header };
-
-    ghost laws = { partial_equiv_from_equiv is_same_ipv6_header-equiv };
-
-    fn eq(&self, other: &Self) -> bool
-        ensures member { result ≡ is_same_ipv6_header self.now other.now }
-        ensures all_fields { IsTrue result ↔ (self.now ≡ other.now) }
-    {
-        self.traffic_class == other.traffic_class
-            && self.flow_label == other.flow_label
-            && self.payload_length == other.payload_length
-            && self.next_header == other.next_header
-            && self.hop_limit == other.hop_limit
-            && self.source == other.source
-            && self.destination == other.destination
-    }
-}
-
-impl Eq for Ipv6Header {
-    ghost use Rattle.etherparse.specs.EqualityLaws.{is_same_ipv6_header-equiv};
-
-    ghost laws = { is_same_ipv6_header-equiv };
 }
 
 /// All fields are 0, but for the next header, which is 255.

@@ -7,7 +7,7 @@ use crate::err::{Layer, LenError};
 use crate::{IpDscp, IpEcn, IpNumber, Ipv6FlowLabel, Ipv6Header, LenSource};
 
 /// A view of the bytes of an IPv6 header without its extension headers (RFC 8200 section 3).
-#[derive(Clone, Copy, Debug)]
+#[derive(Clone, Copy, Debug, PartialEq, Eq)]
 pub struct Ipv6HeaderSlice<'a> {
     /// The 40 bytes of the header.
     pub slice: &'a [u8],
@@ -20,7 +20,7 @@ impl<'a> Ipv6HeaderSlice<'a> {
     ghost use Rattle.std.specs.Prelude.{ℕ, ◌≡◌, List, Result};
     ghost use Rattle.etherparse_base.specs.declared.err.ipv6.header_slice_error.HeaderSliceError.{HeaderSliceError};
     ghost use Rattle.etherparse.specs.Ipv6Header.{IsIpv6Layout, OfIpv6Header, ViewsIpv6};
-    ghost use Rattle.etherparse.specs.Ipv6HeaderSlice.{view_bytes};
+    ghost use Rattle.etherparse.specs.Ipv6HeaderSlice.{ipv6_view_bytes};
     ghost use Rattle.etherparse.specs.TrafficClass.{traffic_class_dscp, traffic_class_ecn};
     ghost use Rattle.etherparse_fields.specs.IpEcn.{ecn_value};
 
@@ -30,9 +30,9 @@ impl<'a> Ipv6HeaderSlice<'a> {
     ///
     /// `Len` where the slice has fewer than 40 bytes; else `Content` where the version is not 6.
     pub fn from_slice(slice: &'a [u8]) -> Result<Ipv6HeaderSlice<'a>, HeaderSliceError>
-        ensures views { ViewsIpv6 slice.now (view_bytes result) }
+        ensures views { ViewsIpv6 slice.now (ipv6_view_bytes result) }
         ensures only { (other : Result (List ℕ) HeaderSliceError) → ViewsIpv6 slice.now other →
-            other ≡ view_bytes result }
+            other ≡ ipv6_view_bytes result }
     {
         if slice.len() < Ipv6Header::LEN {
             return Err(HeaderSliceError::Len(LenError {
@@ -148,6 +148,7 @@ impl<'a> Ipv6HeaderSlice<'a> {
     /// The header that the bytes are in the layout of.
     pub fn to_header(&self) -> Ipv6Header
         ensures layout { IsIpv6Layout result self.now.slice.now }
+        ensures only { OfIpv6Header self.now.slice.now (λ header. header ≡ result) }
     {
         Ipv6Header {
             traffic_class: self.traffic_class(),
@@ -167,31 +168,6 @@ impl<'a> Ipv6HeaderSlice<'a> {
     {
         Ipv6Header::LEN
     }
-}
-
-/// Views are equal where they show the same bytes.
-impl PartialEq for Ipv6HeaderSlice<'_> {
-    ghost use Rattle.std.specs.Prelude.{◌≡◌, ◌↔◌, IsTrue, nat_eq};
-    ghost use Rattle.std.specs.Cmp.{on_per, partial_equiv_from_equiv};
-    ghost use Rattle.std.specs.Cmp.Lexicographic.{nat_list_eq_equiv, pointwise};
-
-    ghost eq = { λ a b. pointwise nat_eq a.slice.now b.slice.now };
-
-    ghost laws = { on_per (λ view. view.slice.now) (partial_equiv_from_equiv nat_list_eq_equiv) };
-
-    fn eq(&self, other: &Self) -> bool
-        ensures member { result ≡ pointwise nat_eq self.now.slice.now other.now.slice.now }
-        ensures same_bytes { IsTrue result ↔ (self.now.slice.now ≡ other.now.slice.now) }
-    {
-        self.slice == other.slice
-    }
-}
-
-impl Eq for Ipv6HeaderSlice<'_> {
-    ghost use Rattle.std.specs.Cmp.{on_equiv};
-    ghost use Rattle.std.specs.Cmp.Lexicographic.{nat_list_eq_equiv};
-
-    ghost laws = { on_equiv (λ view. view.slice.now) nat_list_eq_equiv };
 }
 
 #[cfg(test)]

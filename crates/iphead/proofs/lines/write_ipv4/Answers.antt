@@ -1,23 +1,24 @@
+use Rattle.std.proofs.Common.{◌∙◌}
 use Rattle.iphead.proofs.Appended.{appended}
 use Rattle.iphead.proofs.lines.write_ipv4.Goals as goal
 
 pub returns : goal.returns
-returns g c = λ header reserved layout.
+returns g c = λ header layout.
     rw (
-      ← c.ihl.ensures.value header reserved layout,
-      ← c.dcp.ensures.value header reserved layout,
-      ← c.ecn.ensures.value header reserved layout,
-      ← c.total_len.ensures.value header reserved layout,
-      ← c.identification.ensures.value header reserved layout,
-      ← c.dont_fragment.ensures.value header reserved layout,
-      ← c.more_fragments.ensures.value header reserved layout,
-      ← c.fragments_offset.ensures.value header reserved layout,
-      ← c.ttl.ensures.value header reserved layout,
-      ← c.protocol.ensures.value header reserved layout,
-      ← c.header_checksum.ensures.value header reserved layout,
-      ← c.source.ensures.value header reserved layout,
-      ← c.destination.ensures.value header reserved layout,
-      ← c.options.ensures.value header reserved layout,
+      ← c.ihl.ensures.value header layout,
+      ← c.dcp.ensures.value header layout,
+      ← c.ecn.ensures.value header layout,
+      ← c.total_len.ensures.value header layout,
+      ← c.identification.ensures.value header layout,
+      ← c.dont_fragment.ensures.value header layout,
+      ← c.more_fragments.ensures.value header layout,
+      ← c.fragments_offset.ensures.value header layout,
+      ← c.ttl.ensures.value header layout,
+      ← (c.protocol.view_is ∙ c.protocol-protocol.ensures.value header layout),
+      ← c.header_checksum.ensures.value header layout,
+      ← c.source.ensures.value header layout,
+      ← c.destination.ensures.value header layout,
+      ← c.options.ensures.value header layout,
     )
     (appended _ _ _ _ _ (rw c.version.ensures.value at c.in_ok-write_field.ensures)
     (appended _ _ _ _ _ c.in_ok-write_field-2.ensures

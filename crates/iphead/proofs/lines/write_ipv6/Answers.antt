@@ -1,3 +1,4 @@
+use Rattle.std.proofs.Common.{◌∙◌}
 use Rattle.iphead.proofs.Appended.{appended}
 use Rattle.iphead.proofs.lines.write_ipv6.Goals as goal
 
@@ -7,7 +8,7 @@ returns g c = λ header layout.
       ← c.traffic_class.ensures.value header layout,
       ← c.flow_label.ensures.value header layout,
       ← c.payload_length.ensures.value header layout,
-      ← c.next_header.ensures.value header layout,
+      ← (c.next_header.view_is ∙ c.next_header-next_header.ensures.value header layout),
       ← c.hop_limit.ensures.value header layout,
       ← c.source.ensures.value header layout,
       ← c.destination.ensures.value header layout,

@@ -4,12 +4,16 @@ use Rattle.iphead.proofs.run.report_ipv4.Goals as goal
 
 pub returns-in_ok-write_ipv4-in-Ok : goal.returns-in_ok-write_ipv4-in-Ok
 returns-in_ok-write_ipv4-in-Ok g c =
-    let views = c.in-Ok.ensures.views in
-    let behind : length c.args.bytes.now - length c.slice.result.now ≡ length views.0 =
-    omega (arith, ap length c.slice.ensures.value, ap length views.1, length-append c.in-Ok.view.slice.now views.0) in (
+    let v = c.in-Ok.ensures.views in
+    let behind : length c.args.bytes.now - length c.slice.result.now ≡ length v.rest =
+    omega (arith, ap length c.slice.ensures.value, ap length v.whole, length-append c.in-Ok.view.slice.now v.rest) in (
       _,
-      (Ok (views.2, views.0), (c.in-Ok.view.slice.now, views.1, views.3, views.4), (refl, ap (λ n. ipv4_lines views.2 n) behind)),
-      c.in_ok-write_ipv4-in-Ok.ensures views.2 views.3 views.4,
+      (
+        Ok (v.header, v.rest),
+        record { front = c.in-Ok.view.slice.now; whole = v.whole; layout = v.layout },
+        (refl, ap (λ n. ipv4_lines v.header n) behind),
+      ),
+      c.in_ok-write_ipv4-in-Ok.ensures v.header v.layout,
     )
 
 pub returns-in_ok-write_error-in-Err : goal.returns-in_ok-write_error-in-Err

@@ -3,10 +3,14 @@ use Rattle.iphead.proofs.run.report_ipv6.Goals as goal
 
 pub returns-in_ok-write_ipv6-in-Ok : goal.returns-in_ok-write_ipv6-in-Ok
 returns-in_ok-write_ipv6-in-Ok g c =
-    let views = c.in-Ok.ensures.views in (
+    let v = c.in-Ok.ensures.views in (
       _,
-      (Ok (views.2, views.0), (c.in-Ok.view.slice.now, views.1, views.3), (refl, refl)),
-      c.in_ok-write_ipv6-in-Ok.ensures views.2 views.3,
+      (
+        Ok (v.header, v.rest),
+        record { front = c.in-Ok.view.slice.now; whole = v.whole; layout = v.layout },
+        (refl, refl),
+      ),
+      c.in_ok-write_ipv6-in-Ok.ensures v.header v.layout,
     )
 
 pub returns-in_ok-write_error-in-Err : goal.returns-in_ok-write_error-in-Err

@@ -1,17 +1,31 @@
 use Rattle.std.proofs.Common.{ap, arith, length, refl, subst, sym}
 use Rattle.etherparse_base.specs.Bytes.{IsBytes}
-use Rattle.etherparse.proofs.Ipv4Layout.{front_spells, same_bytes, spells}
+use Rattle.etherparse.proofs.Ipv4Layout.{HasFieldRanges, front_spells, same_bytes, spells}
 use Rattle.etherparse.proofs.net.ipv4_header.Ipv4Header.to_bytes.Goals as goal
 
 pub returns : goal.returns
 returns c =
     let h = c.args.self.now in
+    let front = c.front.ensures in
+    let ranges : HasFieldRanges h = record {
+      dscp = front.dscp;
+      fragment_offset = front.fragment_offset;
+      total_len = front.total_len;
+      identification = front.identification;
+      header_checksum = front.header_checksum;
+      source = omega arith;
+      destination = omega arith;
+    } in
     let options = ap length c.as_slice.ensures.value in
-    let layout = spells h 0 c.joined.result.items c.front.ensures.ranges (record { fits = omega arith; in_words = omega arith }) (omega arith)
+    let layout = spells h 0 c.joined.result.items ranges (record { fits = omega arith; in_words = omega arith }) (omega arith)
     (subst IsBytes (sym c.joined.ensures.parts) c.joined.ensures.are_bytes)
-    (front_spells h _ _ _ c.joined.ensures.parts c.as_slice.ensures.value c.front.ensures.value) in
+    (front_spells h _ _ _ c.joined.ensures.parts c.as_slice.ensures.value front.value) in
     record {
       layout = layout;
       only = λ bytes other. same_bytes h 0 bytes c.joined.result.items other layout;
-      read_again = λ rest. (c.joined.result.items, refl, 0, layout);
+      read_again = λ rest. record {
+        front = c.joined.result.items;
+        whole = refl;
+        layout = record { reserved = 0; layout = layout };
+      };
     }

@@ -4,5 +4,5 @@ use Rattle.etherparse.proofs.net.ipv4_header_slice.Ipv4HeaderSlice.dont_fragment
 
 pub returns : goal.returns
 returns c = record {
-  value = λ header reserved layout. tests_bit _ 6 header.dont_fragment (dont_fragment_of-layout header reserved _ layout) (omega arith);
+  value = λ header k. tests_bit _ 6 header.dont_fragment (dont_fragment_of-layout header k.reserved _ k.layout) (omega arith);
 }

@@ -2,6 +2,5 @@ use Rattle.etherparse.proofs.net.ipv4_header_slice.Ipv4HeaderSlice.payload_len.G
 
 pub returns : goal.returns
 returns c = record {
-  value = λ header reserved layout.
-      rw (← layout.len, ← c.total_len.ensures.value header reserved layout) c.payload_len_of.ensures;
+  value = λ header k. rw (← k.layout.len, ← c.total_len.ensures.value header k) c.payload_len_between.ensures.value;
 }

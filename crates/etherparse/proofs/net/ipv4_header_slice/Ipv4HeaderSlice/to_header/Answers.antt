@@ -6,4 +6,4 @@ pub header_with-requires : goal.header_with-requires
 header_with-requires c =
     let v = c.args.self.now in
     let found = header_at v.slice.now v.version v.ihl v.len v.bytes in
-    c.options_of.ensures ∙ c.options.ensures.value found.0 found.1 found.2 ∙ sym found.2.options
+    c.options_of.ensures ∙ c.options.ensures.value found.0 found.1 ∙ sym found.1.layout.options

@@ -8,8 +8,8 @@ returns-in_err-from_slice-clause-only c =
     rw (p.1, p.2) (λ other o. read_once c.args.slice.now other _ o c.in_err-from_slice.ensures.views)
 
 pub returns-clause-reads : goal.returns-clause-reads
-returns-clause-reads c = read_front _ _ _ _ c.in_ok-from_slice.ensures.views.1 c.to_header-header.ensures.layout
+returns-clause-reads c = read_front _ _ _ _ c.in_ok-from_slice.ensures.views.whole c.to_header-header.ensures.layout
 
 pub returns-clause-only : goal.returns-clause-only
 returns-clause-only c = λ other o. read_once _ other _ o
-    (read_front _ _ _ _ c.in_ok-from_slice.ensures.views.1 c.to_header-header.ensures.layout)
+    (read_front _ _ _ _ c.in_ok-from_slice.ensures.views.whole c.to_header-header.ensures.layout)

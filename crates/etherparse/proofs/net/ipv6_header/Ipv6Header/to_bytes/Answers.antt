@@ -13,5 +13,5 @@ returns c =
     record {
       layout = layout;
       only = λ bytes other. same_bytes h bytes c.joined.result other layout;
-      read_again = λ rest. (c.joined.result, refl, layout);
+      read_again = λ rest. record { front = c.joined.result; whole = refl; layout = layout };
     }

@@ -4,7 +4,7 @@ use Rattle.etherparse.proofs.Parts.{get_or-slice_range, length-part, part_is_byt
 use Rattle.etherparse.proofs.net.ipv6_header_slice.Ipv6HeaderSlice.from_slice.Goals as goal
 
 pub returns-then-version_number-ne6-clause-only : goal.returns-then-version_number-ne6-clause-only
-returns-then-version_number-ne6-clause-only c = λ other o. viewed_once _ other _ o (c.if-slice-lt-LEN.false, c.if-version_number-ne6.true, refl)
+returns-then-version_number-ne6-clause-only c = λ other o. viewed_once _ other _ o (record { enough = c.if-slice-lt-LEN.false; other = c.if-version_number-ne6.true; found = refl })
 
 pub invariant_of-result : goal.invariant_of-result
 invariant_of-result c = record {

@@ -1,20 +1,20 @@
-use Rattle.std.proofs.Common.{ap, subst, sym}
+use Rattle.std.proofs.Common.{subst, sym}
 use Rattle.etherparse.proofs.Ipv6Layout.{header_at, same_fields}
 use Rattle.etherparse.specs.Ipv6Header.{IsIpv6Layout}
 use Rattle.etherparse.proofs.net.ipv6_header_slice.Ipv6HeaderSlice.to_header.Goals as goal
 
-pub returns : goal.returns
-returns c =
-    let found = header_at c.args.self.now.slice.now c.args.self.now.len c.args.self.now.bytes c.args.self.now.version in
-    record {
-      layout = subst (λ h. IsIpv6Layout h c.args.self.now.slice.now)
-          (same_fields found.0 _
-          (sym (c.traffic_class.ensures.value found.0 found.1))
-          (sym (c.flow_label.ensures.value found.0 found.1))
-          (sym (c.payload_length.ensures.value found.0 found.1))
-          (ap (λ n. n.0) (sym (c.next_header.ensures.value found.0 found.1)))
-          (sym (c.hop_limit.ensures.value found.0 found.1))
-          (sym (c.source.ensures.value found.0 found.1))
-          (sym (c.destination.ensures.value found.0 found.1)))
-          found.1;
-    }
+pub returns-clause-only : goal.returns-clause-only
+returns-clause-only c = λ h k. same_fields h _
+    (sym (c.traffic_class.ensures.value h k))
+    (sym (c.flow_label.ensures.value h k))
+    (sym (c.payload_length.ensures.value h k))
+    (sym (c.next_header.ensures.value h k))
+    (sym (c.hop_limit.ensures.value h k))
+    (sym (c.source.ensures.value h k))
+    (sym (c.destination.ensures.value h k))
+
+pub returns-clause-layout : goal.returns-clause-layout
+returns-clause-layout c =
+    let v = c.args.self.now in
+    let found = header_at v.slice.now v.len v.bytes v.version in
+    subst (λ h. IsIpv6Layout h v.slice.now) (returns-clause-only c found.0 found.1) found.1
