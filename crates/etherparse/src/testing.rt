@@ -147,24 +147,6 @@ pub(crate) fn too_short(layer: Layer, required_len: usize, len: usize) -> LenErr
     }
 }
 
-/// Asserts that each value equals its clone, and no other of the values.
-pub(crate) fn assert_each_equals_itself_alone<T: Clone + Debug + Drop + Eq>(
-    rt: &impl Abort,
-    values: &[T],
-) -> Result<(), Fail> {
-    for (place, value) in values.iter().enumerate() {
-        assert_eq!(rt; value.clone()?, *value);
-        for (other_place, other) in values.iter().enumerate() {
-            assert_eq!(rt;
-                *value == *other,
-                place == other_place,
-                "{place} and {other_place}"
-            );
-        }
-    }
-    Ok(())
-}
-
 /// What the default hasher makes of a value.
 pub(crate) fn hash_of<T: Hash>(value: &T) -> u64 {
     let mut state = DefaultHasher::new();

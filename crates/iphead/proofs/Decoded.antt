@@ -28,6 +28,6 @@ decodes digits n r P half h =
 
 -- what does not decode is reported as no hex
 pub reports_not_hex : (d : Result (List ℕ) FromHexError) → ((bytes : List ℕ) → d ≡ Ok bytes → ⊥)
-    → ReportsBytes d BadInput (error_line (codes "input is not hex"))
+    → ReportsBytes d (BadInput, error_line (codes "input is not hex"))
 reports_not_hex (Ok bytes) h = absurd (h bytes refl)
-reports_not_hex (Err e) h = (refl, refl)
+reports_not_hex (Err e) h = refl

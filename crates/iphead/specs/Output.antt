@@ -1,5 +1,6 @@
 -- What the program prints.
-use Rattle.std.specs.Prelude.{ℕ, ◌≡◌, ◌==◌, Bool, List, [], ◌∷◌, ◌++◌, length, slice_index, codes, if◌then◌else◌, MatchBool, Option, Result, Ok, Err}
+use Rattle.std.specs.Prelude.{ℕ, ◌≡◌, ◌==◌, Bool, List, [], ◌∷◌, ◌++◌, length, slice_index, codes}
+use Rattle.std.specs.Prelude.{if◌then◌else◌, MatchBool, Option, Result, Ok, Err}
 use Rattle.std.specs.Io.KnownBytes.{Appends}
 use Rattle.std.specs.Fmt.{decimal}
 use Rattle.std.specs.Int.{to_be_bytes, w16}
@@ -43,15 +44,17 @@ true_or_false flag = if flag then codes "true" else codes "false"
 
 -- an IPv4 address: its four bytes in decimal, with dots between
 abbrev pub dotted : List ℕ → List ℕ
-dotted address = decimal (slice_index address 0) ++ (codes "." ++ (decimal (slice_index address 1) ++ (codes "."
-    ++ (decimal (slice_index address 2) ++ (codes "." ++ decimal (slice_index address 3))))))
+dotted address =
+    decimal (slice_index address 0) ++ (codes "." ++ (decimal (slice_index address 1)
+    ++ (codes "." ++ (decimal (slice_index address 2)
+    ++ (codes "." ++ decimal (slice_index address 3))))))
 
 -- options in hex digits, or a dash where there are none
 abbrev pub options_text : List ℕ → List ℕ
 options_text [] = codes "-"
 options_text (b ∷ bytes) = encode_lower (b ∷ bytes)
 
--- the fields of an IPv4 header, and the number of bytes behind it
+-- the fields of an IPv4 header, and the number of bytes after it
 abbrev pub ipv4_lines : Ipv4Header → ℕ → List ℕ
 ipv4_lines h rest_len =
     line (codes "version") (decimal 4)
@@ -71,37 +74,50 @@ ipv4_lines h rest_len =
     ++ (line (codes "options") (options_text h.options)
     ++ line (codes "rest") (decimal rest_len)))))))))))))))
 
--- what is printed of a reading, and how the run ends
-abbrev pub PrintsIpv6 : Ipv6Reading → Status → List ℕ → Type 0
-PrintsIpv6 (Ok x) status text = (status ≡ Done) × (text ≡ ipv6_lines x.0)
-PrintsIpv6 (Err e) status text = (status ≡ Refused) × (text ≡ error_line (ipv6_header_slice_error_text e))
+-- the status of a run, and all that it prints
+abbrev pub Outcome : Type 0
+Outcome = Status × List ℕ
 
-abbrev pub PrintsIpv4 : Ipv4Reading → Status → List ℕ → Type 0
-PrintsIpv4 (Ok x) status text = (status ≡ Done) × (text ≡ ipv4_lines x.0 (length x.1))
-PrintsIpv4 (Err e) status text = (status ≡ Refused) × (text ≡ error_line (ipv4_header_slice_error_text e))
+-- the outcome of a reading
+abbrev pub ipv6_outcome : Ipv6Reading → Outcome
+ipv6_outcome (Ok x) = (Done, ipv6_lines x.0)
+ipv6_outcome (Err e) = (Refused, error_line (ipv6_header_slice_error_text e))
 
--- what is printed of bytes that are read as a header of either version
-abbrev pub ReportsIpv6 : List ℕ → Status → List ℕ → Type 0
-ReportsIpv6 bytes status text = (reading : Ipv6Reading) × ReadsIpv6 bytes reading × PrintsIpv6 reading status text
+abbrev pub ipv4_outcome : Ipv4Reading → Outcome
+ipv4_outcome (Ok x) = (Done, ipv4_lines x.0 (length x.1))
+ipv4_outcome (Err e) = (Refused, error_line (ipv4_header_slice_error_text e))
 
-abbrev pub ReportsIpv4 : List ℕ → Status → List ℕ → Type 0
-ReportsIpv4 bytes status text = (reading : Ipv4Reading) × ReadsIpv4 bytes reading × PrintsIpv4 reading status text
+-- the outcome is that of the reading that the bytes have
+pub record Reports {R : Type 0} (Reads : R → Type 0) (outcome_of : R → Outcome)
+    (outcome : Outcome) : Type 0 where
+  pub reading : R
+  pub reads : Reads reading
+  pub outcome_is : outcome ≡ outcome_of reading
 
--- what is printed of the bytes that the digits stand for: they are read as IPv6 where their version is 6, and else, also
--- where there are none, as IPv4
-abbrev pub ReportsBytes : Result (List ℕ) FromHexError → Status → List ℕ → Type 0
-ReportsBytes (Ok bytes) status text = MatchBool (version_of bytes == 6) (ReportsIpv6 bytes status text) (ReportsIpv4 bytes status text)
-ReportsBytes (Err e) status text = (status ≡ BadInput) × (text ≡ error_line (codes "input is not hex"))
+abbrev pub ReportsIpv6 : List ℕ → Outcome → Type 0
+ReportsIpv6 bytes = Reports (ReadsIpv6 bytes) ipv6_outcome
 
--- what is printed of too long an input
-abbrev pub ReportsTooLong : Status → List ℕ → Type 0
-ReportsTooLong status text = (status ≡ BadInput) × (text ≡ error_line (codes "input is too long"))
+abbrev pub ReportsIpv4 : List ℕ → Outcome → Type 0
+ReportsIpv4 bytes = Reports (ReadsIpv4 bytes) ipv4_outcome
 
--- The output for an input: how the run ends, and all that is printed.
-pub record IsOutput (input : List ℕ) (status : Status) (text : List ℕ) : Type 0 where
-  pub too_long : IsTooLong input → ReportsTooLong status text
-  pub short : (IsTooLong input → ⊥) → ReportsBytes (decode_of (digits_of input)) status text
+-- The bytes that the digits stand for are read as IPv6 where their version is 6, and else, also where
+-- there are none, as IPv4.
+abbrev pub ReportsBytes : Result (List ℕ) FromHexError → Outcome → Type 0
+ReportsBytes (Ok bytes) outcome =
+    MatchBool (version_of bytes == 6) (ReportsIpv6 bytes outcome) (ReportsIpv4 bytes outcome)
+ReportsBytes (Err e) outcome = outcome ≡ (BadInput, error_line (codes "input is not hex"))
 
--- a text with this property is written behind what was written before
-abbrev pub Writes : (List ℕ → Type 0) → Option (List ℕ) → Option (List ℕ) → Type 0
-Writes P old new = (text : List ℕ) × P text × Appends old new text
+-- the outcome of too long an input
+abbrev pub too_long_outcome : Outcome
+too_long_outcome = (BadInput, error_line (codes "input is too long"))
+
+-- the outcome for an input
+pub record IsOutput (input : List ℕ) (outcome : Outcome) : Type 0 where
+  pub too_long : IsTooLong input → outcome ≡ too_long_outcome
+  pub short : (IsTooLong input → ⊥) → ReportsBytes (decode_of (digits_of input)) outcome
+
+-- what the writer holds is what it held before, and after that the text of such an outcome
+pub record Writes (P : Outcome → Type 0) (status : Status) (old new : Option (List ℕ)) : Type 0 where
+  pub text : List ℕ
+  pub outcome : P (status, text)
+  pub appended : Appends old new text

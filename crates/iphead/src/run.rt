@@ -1,6 +1,6 @@
 ghost use Rattle.std.specs.Prelude.{◌≡◌, ◌≢◌, ◌≤◌, IfOk, IfSome, List, length};
 ghost use Rattle.hex.specs.Hex.{decode_of};
-ghost use Rattle.iphead.specs.Output.{IsOutput, ReportsBytes, ReportsIpv4, ReportsIpv6, ReportsTooLong, Writes};
+ghost use Rattle.iphead.specs.Output.{IsOutput, ReportsBytes, ReportsIpv4, ReportsIpv6, Writes, too_long_outcome};
 
 use crate::decode::decode_input;
 use crate::input::read_digits;
@@ -16,7 +16,7 @@ use std::io::{Read, Write};
 /// and takes no memory. A read or a write that fails ends it at once.
 pub fn run<R: Read, W: Write>(reader: &mut R, writer: &mut W) -> Status
     ensures output { result ≢ Status.Failed → IfSome (R.remaining reader.old) (λ input.
-        Writes (IsOutput input result) (W.contents writer.old) (W.contents writer.new)) }
+        Writes (IsOutput input) result (W.contents writer.old) (W.contents writer.new)) }
 {
     let reported = match read_digits(reader) {
         Ok(Some(digits)) => report(digits.as_slice(), writer),
@@ -28,7 +28,8 @@ pub fn run<R: Read, W: Write>(reader: &mut R, writer: &mut W) -> Status
 
 // Says that the input is too long.
 fn report_too_long<W: Write>(writer: &mut W) -> io::Result<Status>
-    ensures { IfOk result (λ status. Writes (ReportsTooLong status) (W.contents writer.old) (W.contents writer.new)) }
+    ensures { IfOk result (λ status. Writes (λ outcome. outcome ≡ too_long_outcome) status
+        (W.contents writer.old) (W.contents writer.new)) }
 {
     write_error(writer, "input is too long")?;
     Ok(Status::BadInput)
@@ -37,8 +38,8 @@ fn report_too_long<W: Write>(writer: &mut W) -> io::Result<Status>
 // Prints what is to be said of the bytes that digits stand for.
 fn report<W: Write>(digits: &[u8], writer: &mut W) -> io::Result<Status>
     requires { length digits.now ≤ 4096 }
-    ensures { IfOk result (λ status.
-        Writes (ReportsBytes (decode_of digits.now) status) (W.contents writer.old) (W.contents writer.new)) }
+    ensures { IfOk result (λ status. Writes (ReportsBytes (decode_of digits.now)) status
+        (W.contents writer.old) (W.contents writer.new)) }
 {
     let mut bytes = [0; 2048];
     let Some(len) = decode_input(digits, &mut bytes) else {
@@ -54,8 +55,8 @@ fn report<W: Write>(digits: &[u8], writer: &mut W) -> io::Result<Status>
 
 // Prints what is to be said of bytes that are read as IPv6.
 fn report_ipv6<W: Write>(bytes: &[u8], writer: &mut W) -> io::Result<Status>
-    ensures { IfOk result (λ status.
-        Writes (ReportsIpv6 bytes.now status) (W.contents writer.old) (W.contents writer.new)) }
+    ensures { IfOk result (λ status. Writes (ReportsIpv6 bytes.now) status
+        (W.contents writer.old) (W.contents writer.new)) }
 {
     match Ipv6HeaderSlice::from_slice(bytes) {
         Ok(view) => {
@@ -71,8 +72,8 @@ fn report_ipv6<W: Write>(bytes: &[u8], writer: &mut W) -> io::Result<Status>
 
 // Prints what is to be said of bytes that are read as IPv4.
 fn report_ipv4<W: Write>(bytes: &[u8], writer: &mut W) -> io::Result<Status>
-    ensures { IfOk result (λ status.
-        Writes (ReportsIpv4 bytes.now status) (W.contents writer.old) (W.contents writer.new)) }
+    ensures { IfOk result (λ status. Writes (ReportsIpv4 bytes.now) status
+        (W.contents writer.old) (W.contents writer.new)) }
 {
     match Ipv4HeaderSlice::from_slice(bytes) {
         Ok(view) => {

@@ -306,6 +306,9 @@ impl Ipv4Header {
     }
 }
 
+const _: () = prove!(Ipv4Header::MIN_LEN == 20 && Ipv4Header::MIN_LEN_U16 == 20);
+const _: () = prove!(Ipv4Header::MAX_LEN == 60 && Ipv4Header::SERIALIZED_SIZE == 20);
+
 // The length of a payload by the lengths of the header and of the packet.
 #[inline]
 pub(super) fn payload_len_between(header_len: u16, total_len: u16) -> Result<u16, LenError>

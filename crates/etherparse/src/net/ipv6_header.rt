@@ -166,6 +166,8 @@ impl Ipv6Header {
     }
 }
 
+const _: () = prove!(Ipv6Header::LEN == 40 && Ipv6Header::SERIALIZED_SIZE == 40);
+
 /// All fields are 0, but for the next header, which is 255.
 impl Default for Ipv6Header {
     ghost use Rattle.std.specs.Prelude.{◌≡◌};

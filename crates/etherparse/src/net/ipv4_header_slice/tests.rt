@@ -3,6 +3,7 @@ use crate::testing::{
     GREATEST, WITH_OPTIONS, WITH_RESERVED_BIT, assert_debug_prints, greatest, with_options,
     with_reserved_bit,
 };
+use std::fmt::Debug;
 use std::test::Fail;
 
 // The header whose fields are what the getters answer.
@@ -59,80 +60,28 @@ fn the_view_keeps_the_reserved_bit(rt: HostRuntime) -> Result<(), Fail> {
     Ok(())
 }
 
+// What a view shows, for as long as the bytes live that it was read from.
+fn shown(packet: &[u8]) -> Option<(&[u8], &[u8])> {
+    let view = Ipv4HeaderSlice::from_slice(packet).ok()?;
+    Some((view.slice(), view.options()))
+}
+
 #[test]
-fn views_are_equal_where_all_bytes_are(rt: HostRuntime) -> Result<(), Fail> {
-    let view = Ipv4HeaderSlice::from_slice(&GREATEST)?;
-    let copy = view;
+fn what_a_view_shows_outlives_it(rt: HostRuntime) {
+    let expected = Some((WITH_OPTIONS.as_slice(), [148, 4, 0, 5].as_slice()));
+    assert!(rt; shown(&WITH_OPTIONS) == expected);
+}
+
+// The traits that a view has, which is passed by value.
+fn both<T: Copy + Debug + Eq>(view: T) -> (T, T) {
+    (view, view)
+}
+
+#[test]
+fn a_view_is_copied(rt: HostRuntime) -> Result<(), Fail> {
+    let (view, copy) = both(Ipv4HeaderSlice::from_slice(&GREATEST)?);
     assert_eq!(rt; copy, view);
-    assert_eq!(rt; view.clone()?, view);
-    let mut longer = [0xa5; 61];
-    longer[..60].copy_from_slice(&GREATEST);
-    assert_eq!(rt; Ipv4HeaderSlice::from_slice(&longer)?, view);
-    for place in 1..60 {
-        for bit in [0x01, 0x80] {
-            let mut bytes = GREATEST;
-            bytes[place] ^= bit;
-            assert_ne!(rt; Ipv4HeaderSlice::from_slice(&bytes)?, view, "at {place}");
-        }
-    }
-    let mut shorter = GREATEST;
-    shorter[0] = 0x4e;
-    assert_ne!(rt; Ipv4HeaderSlice::from_slice(&shorter)?, view);
-    Ok(())
-}
-
-#[test]
-fn the_payload_is_what_the_total_length_has_beyond_the_header(rt: HostRuntime) -> Result<(), Fail> {
-    for (first, bytes_2_3, required_len, payload_len) in [
-        (0x45, [0, 20], 20, Ok(0)),
-        (0x45, [0, 21], 20, Ok(1)),
-        (0x45, [255, 255], 20, Ok(65515)),
-        (0x45, [0, 19], 20, Err(19)),
-        (0x45, [0, 0], 20, Err(0)),
-        (0x46, [0, 24], 24, Ok(0)),
-        (0x46, [0, 23], 24, Err(23)),
-        (0x4f, [0, 60], 60, Ok(0)),
-        (0x4f, [1, 2], 60, Ok(198)),
-        (0x4f, [255, 255], 60, Ok(65475)),
-        (0x4f, [0, 59], 60, Err(59)),
-    ] {
-        let mut bytes = GREATEST;
-        bytes[0] = first;
-        [bytes[2], bytes[3]] = bytes_2_3;
-        let view = Ipv4HeaderSlice::from_slice(&bytes)?;
-        let expected = payload_len.map_err(|len| LenError {
-            required_len,
-            len,
-            len_source: LenSource::Ipv4HeaderTotalLen,
-            layer: Layer::Ipv4Packet,
-            layer_start_offset: 0,
-        });
-        assert_eq!(rt; view.payload_len(), expected);
-        assert_eq!(rt; view.to_header().payload_len(), expected);
-    }
-    Ok(())
-}
-
-#[test]
-fn a_fragment_has_more_behind_it_or_an_offset(rt: HostRuntime) -> Result<(), Fail> {
-    for (bytes_6_7, expected) in [
-        ([0x00, 0x00], false),
-        ([0x40, 0x00], false),
-        ([0x80, 0x00], false),
-        ([0xc0, 0x00], false),
-        ([0x20, 0x00], true),
-        ([0x00, 0x01], true),
-        ([0x01, 0x00], true),
-        ([0x10, 0x00], true),
-        ([0x00, 0x80], true),
-        ([0x3f, 0xff], true),
-    ] {
-        let mut bytes = GREATEST;
-        [bytes[6], bytes[7]] = bytes_6_7;
-        let view = Ipv4HeaderSlice::from_slice(&bytes)?;
-        assert_eq!(rt; view.is_fragmenting_payload(), expected);
-        assert_eq!(rt; view.to_header().is_fragmenting_payload(), expected);
-    }
+    assert_eq!(rt; copy.clone()?, view);
     Ok(())
 }
 

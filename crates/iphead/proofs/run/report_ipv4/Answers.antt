@@ -1,21 +1,26 @@
 use Rattle.std.proofs.Common.{Err, Ok, ap, arith, length, length-append, refl, ◌≡◌, ◌-◌}
 use Rattle.iphead.specs.Output.{ipv4_lines}
+use Rattle.iphead.specs.declared.status.Status.TheVariants.{Done}
 use Rattle.iphead.proofs.run.report_ipv4.Goals as goal
 
 pub returns-in_ok-write_ipv4-in-Ok : goal.returns-in_ok-write_ipv4-in-Ok
 returns-in_ok-write_ipv4-in-Ok g c =
     let v = c.in-Ok.ensures.views in
     let behind : length c.args.bytes.now - length c.slice.result.now ≡ length v.rest =
-    omega (arith, ap length c.slice.ensures.value, ap length v.whole, length-append c.in-Ok.view.slice.now v.rest) in (
-      _,
-      (
-        Ok (v.header, v.rest),
-        record { front = c.in-Ok.view.slice.now; whole = v.whole; layout = v.layout },
-        (refl, ap (λ n. ipv4_lines v.header n) behind),
-      ),
-      c.in_ok-write_ipv4-in-Ok.ensures v.header v.layout,
-    )
+    omega (arith, ap length c.slice.ensures.value, ap length v.whole, length-append c.in-Ok.view.slice.now v.rest) in
+    record {
+      text = _;
+      outcome = record {
+        reading = Ok (v.header, v.rest);
+        reads = record { front = c.in-Ok.view.slice.now; whole = v.whole; layout = v.layout };
+        outcome_is = ap (λ n. (Done, ipv4_lines v.header n)) behind;
+      };
+      appended = c.in_ok-write_ipv4-in-Ok.ensures v.header v.layout;
+    }
 
 pub returns-in_ok-write_error-in-Err : goal.returns-in_ok-write_error-in-Err
-returns-in_ok-write_error-in-Err g c =
-    (_, (Err c.in-Err.e, c.in-Err.ensures.views, (refl, refl)), c.in_ok-write_error-in-Err.ensures)
+returns-in_ok-write_error-in-Err g c = record {
+  text = _;
+  outcome = record { reading = Err c.in-Err.e; reads = c.in-Err.ensures.views; outcome_is = refl };
+  appended = c.in_ok-write_error-in-Err.ensures;
+}
