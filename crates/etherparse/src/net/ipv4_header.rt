@@ -46,7 +46,7 @@ impl Ipv4Header {
     ghost use Rattle.std.specs.Int.{from_bool, to_be_bytes, w16};
     ghost use Rattle.etherparse_fields.specs.IpEcn.{ecn_value};
     ghost use Rattle.etherparse_fields.specs.Ipv4Options.{IsOptionsLen};
-    ghost use Rattle.etherparse.specs.Ipv4Header.{IsFragment, IsIpv4Layout, Ipv4Reading, OfIpv4Header, ReadsIpv4};
+    ghost use Rattle.etherparse.specs.Ipv4Header.{IsFragment, IsIpv4Layout, Ipv4Reading, OfIpv4Header, ReadsIpv4, ViewsIpv4};
     ghost use Rattle.etherparse.specs.Ipv4Header.{default_ipv4_header, ipv4_header_len, ipv4_ihl, ipv4_max_payload_len};
     ghost use Rattle.etherparse.specs.Ipv4Header.{ipv4_payload_len, with_reserved_bit_cleared};
     ghost use Rattle.etherparse.specs.Reading.{header_and_rest};
@@ -147,10 +147,12 @@ impl Ipv4Header {
         payload_len_between(self.header_len() as u16, self.total_len)
     }
 
-    /// The length of the longest payload that fits behind the header, in bytes: 65515, less the options.
+    /// The length of the longest payload that fits after the header, in bytes: 65515, less the options.
     #[inline]
     pub fn max_payload_len(&self) -> u16
         ensures value { result ≡ ipv4_max_payload_len self.now }
+        ensures least { 65475 ≤ result }
+        ensures greatest { result ≤ 65515 }
     {
         u16::MAX - Ipv4Header::MIN_LEN_U16 - u16::from(self.options.len_u8())
     }
@@ -162,6 +164,7 @@ impl Ipv4Header {
     /// A `ValueTooBigError` where the payload is above [`Ipv4Header::max_payload_len`]. The header is then as it was.
     pub fn set_payload_len(&mut self, value: usize) -> Result<(), ValueTooBigError<usize>>
         ensures accepted { IsOk result ↔ (value ≤ ipv4_max_payload_len self.old) }
+        ensures always { value ≤ 65475 → IsOk result }
         ensures refused { IfErr result (λ e. e ≡ record {
           actual = value;
           max_allowed = ipv4_max_payload_len self.old;
@@ -221,11 +224,20 @@ impl Ipv4Header {
     pub fn read_from_slice(slice: &[u8]) -> Result<(Ipv4Header, &[u8]), HeaderSliceError>
         ensures reads { ReadsIpv4 slice.now (header_and_rest result) }
         ensures only { (other : Ipv4Reading) → ReadsIpv4 slice.now other → other ≡ header_and_rest result }
+
+        // What was read is written again, with the reserved bit 0.
+        ensures cleared { IfOk result (λ x. (front : List ℕ) → slice.now ≡ front ++ x.1.now →
+            IsIpv4Layout x.0 0 (with_reserved_bit_cleared front)) }
+
+        // Bytes have the same header where they agree in all but the reserved bit.
+        ensures same_header { IfOk result (λ x. (front : List ℕ) → slice.now ≡ front ++ x.1.now →
+            (others : List ℕ) → OfIpv4Header others (λ other. (other ≡ x.0)
+            ↔ (with_reserved_bit_cleared others ≡ with_reserved_bit_cleared front))) }
     {
         Ipv4Header::from_slice(slice)
     }
 
-    /// The header at the front of a slice, and all the bytes behind it, however many `total_len` tells of.
+    /// The header at the front of a slice, and all the bytes after it, however many `total_len` tells of.
     ///
     /// # Errors
     ///
@@ -265,7 +277,10 @@ impl Ipv4Header {
     pub fn to_bytes(&self) -> ArrayVec<u8, 60>
         ensures layout { IsIpv4Layout self.now 0 result.items }
         ensures only { (bytes : List ℕ) → IsIpv4Layout self.now 0 bytes → bytes ≡ result.items }
-        ensures read_again { (rest : List ℕ) → ReadsIpv4 (result.items ++ rest) (Ok (self.now, rest)) }
+        ensures read_again { (rest : List ℕ) →
+            ReadsIpv4 (result.items ++ rest) (Ok (self.now, rest)) }
+        ensures viewed_again { (rest : List ℕ) →
+            ViewsIpv4 (result.items ++ rest) (Ok result.items) }
     {
         joined(&self.front(), self.options.as_slice())
     }

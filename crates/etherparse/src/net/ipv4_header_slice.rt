@@ -70,6 +70,7 @@ impl<'a> Ipv4HeaderSlice<'a> {
     #[inline]
     pub fn ihl(&self) -> u8
         ensures value { OfIpv4Header self.now.slice.now (λ header. result ≡ ipv4_ihl header) }
+        ensures byte { result ≡ ihl_of self.now.slice.now }
     {
         self.slice[0] & 0xf
     }

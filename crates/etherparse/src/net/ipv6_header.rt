@@ -27,7 +27,7 @@ pub struct Ipv6Header {
 impl Ipv6Header {
     ghost use Rattle.std.specs.Prelude.{ℕ, ◌≡◌, ◌+◌, ◌*◌, ◌^◌, ◌<◌, ◌≤◌, ◌↔◌, List, [], ◌∷◌, ◌++◌, Ok, IsOk, OnOk, OnErr, IfErr};
     ghost use Rattle.std.specs.Int.{to_be_bytes, w16, w32};
-    ghost use Rattle.etherparse.specs.Ipv6Header.{Ipv6Reading, IsIpv6Layout, ReadsIpv6};
+    ghost use Rattle.etherparse.specs.Ipv6Header.{Ipv6Reading, IsIpv6Layout, ReadsIpv6, ViewsIpv6};
     ghost use Rattle.etherparse.specs.Reading.{header_and_rest};
     ghost use Rattle.etherparse.specs.TrafficClass.{traffic_class_dscp, traffic_class_ecn, traffic_class_of};
     ghost use Rattle.etherparse_base.specs.declared.err.value_type.ValueType.TheVariants as value_type;
@@ -60,7 +60,7 @@ impl Ipv6Header {
         Ipv6Header::from_slice(slice)
     }
 
-    /// The header at the front of a slice, and all the bytes behind it, however many `payload_length` tells of.
+    /// The header at the front of a slice, and all the bytes after it, however many `payload_length` tells of.
     ///
     /// # Errors
     ///
@@ -142,6 +142,7 @@ impl Ipv6Header {
         ensures layout { IsIpv6Layout self.now result }
         ensures only { (bytes : List ℕ) → IsIpv6Layout self.now bytes → bytes ≡ result }
         ensures read_again { (rest : List ℕ) → ReadsIpv6 (result ++ rest) (Ok (self.now, rest)) }
+        ensures viewed_again { (rest : List ℕ) → ViewsIpv6 (result ++ rest) (Ok result) }
     {
         joined(&self.front(), &self.source, &self.destination)
     }

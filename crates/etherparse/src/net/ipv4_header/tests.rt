@@ -84,6 +84,7 @@ fn length_version_ihl_and_length_again_are_tested_in_turn(rt: HostRuntime) {
             HeaderSliceError::Len(too_short(Layer::Ipv4Header, 24, 23)),
         ),
     ] {
+        assert!(rt; len <= 23);
         let mut bytes = [0; 23];
         bytes[0] = first;
         let slice = &bytes[..len];

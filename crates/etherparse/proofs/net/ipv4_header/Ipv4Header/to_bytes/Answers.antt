@@ -28,4 +28,10 @@ returns c =
         whole = refl;
         layout = record { reserved = 0; layout = layout };
       };
+      viewed_again = λ rest. record {
+        header = h;
+        rest = rest;
+        whole = refl;
+        layout = record { reserved = 0; layout = layout };
+      };
     }

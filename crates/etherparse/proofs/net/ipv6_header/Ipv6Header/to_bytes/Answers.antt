@@ -14,4 +14,5 @@ returns c =
       layout = layout;
       only = λ bytes other. same_bytes h bytes c.joined.result other layout;
       read_again = λ rest. record { front = c.joined.result; whole = refl; layout = layout };
+      viewed_again = λ rest. record { header = h; rest = rest; whole = refl; layout = layout };
     }
