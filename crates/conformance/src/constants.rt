@@ -8,6 +8,7 @@ use etherparse::{
     IpDscp, IpEcn, IpFragOffset, IpNumber, Ipv4Header, Ipv4Options, Ipv6FlowLabel, Ipv6Header,
 };
 use std::alloc::AllocError;
+use std::fmt::Debug;
 
 /// The cases `const.NAME`, which have no arguments.
 pub fn answer_const(
@@ -94,11 +95,11 @@ fn write_code_points(answer: &mut String) -> Result<(), AllocError> {
     Ok(())
 }
 
-// The names of a table, in its order.
-fn write_names<T>(table: &[(&str, T)], answer: &mut String) -> Result<(), AllocError> {
+// The values of a table, in its order, by the names that their `Debug` has for them.
+fn write_names<T: Debug>(table: &[(&str, T)], answer: &mut String) -> Result<(), AllocError> {
     let mut gap = "";
-    for (name, _) in table {
-        write!(answer, "{gap}{name}")?;
+    for (_, value) in table {
+        write!(answer, "{gap}{value:?}")?;
         gap = " ";
     }
     Ok(())

@@ -1,6 +1,7 @@
 -- The IPv4 header (RFC 791 section 3.1, RFC 2474 for the DSCP, RFC 3168 for the ECN).
 use Rattle.std.specs.Prelude.{ℕ, ◌≡◌, ◌≢◌, ◌+◌, ◌-◌, ◌*◌, ◌/◌, ◌%◌, ◌^◌, ◌<◌, ◌≤◌, ◌⊎◌}
-use Rattle.std.specs.Prelude.{List, [], length, drop, slice_index, slice_range, slice_set, replicate}
+use Rattle.std.specs.Prelude.{List, [], length, drop, slice_index, slice_range, slice_set}
+use Rattle.std.specs.Prelude.{replicate}
 use Rattle.std.specs.Prelude.{Result, Ok, Err, true, false, IsTrue, if◌then◌else◌, nat_le}
 use Rattle.std.specs.Int.{from_be_bytes, from_bool, w16}
 use Rattle.etherparse_base.specs.Bytes.{IsBytes}
@@ -9,7 +10,8 @@ use Rattle.etherparse_base.specs.declared.err.layer.Layer.TheVariants as layer
 use Rattle.etherparse_base.specs.declared.err.len_error.LenError.{LenError}
 use Rattle.etherparse_base.specs.declared.err.ipv4.header_error.HeaderError.TheVariants as content
 use Rattle.etherparse_base.specs.declared.err.ipv4.header_slice_error.HeaderSliceError as error
-use Rattle.etherparse_base.specs.declared.err.ipv4.header_slice_error.HeaderSliceError.TheVariants.{Len, Content}
+use Rattle.etherparse_base.specs.declared.err.ipv4.header_slice_error.HeaderSliceError.TheVariants
+    as slice
 use Rattle.etherparse_fields.specs.IpEcn.{ecn_value}
 use Rattle.etherparse_fields.specs.Ipv4Options.{IsOptionsLen}
 use Rattle.etherparse_fields.specs.declared.net.ip_ecn.IpEcn.TheVariants.{NotEct}
@@ -25,8 +27,8 @@ ipv4_header_len header = 20 + length header.options
 abbrev pub ipv4_ihl : Ipv4Header → ℕ
 ipv4_ihl header = 5 + length header.options / 4
 
--- The bytes of a header, in network byte order: the version, which is 4, with the IHL; the DSCP with
--- the ECN; the total length; the identification; the flags (a reserved bit, don't fragment, more
+-- The bytes of a header, in network byte order: the version, which is 4, with the IHL; the DSCP
+-- with the ECN; the total length; the identification; the flags (a reserved bit, don't fragment, more
 -- fragments) with the fragment offset; the time to live; the protocol; the header checksum; the
 -- source address; the destination address; the options. The reserved bit is no field of the header.
 pub record IsIpv4Layout (header : Ipv4Header) (reserved : ℕ) (bytes : List ℕ) : Type 0 where
@@ -80,9 +82,9 @@ pub record EndsBeforeIhl (s : List ℕ) (e : LenError) : Type 0 where
 -- Why the front of a slice is no header: it is shorter than any header; or else its version is not
 -- 4; or else its IHL is too small; or else it is shorter than the IHL says.
 abbrev pub RefusesIpv4 : List ℕ → error.HeaderSliceError → Type 0
-RefusesIpv4 s (Len e) = IsTooShort layer.Ipv4Header 20 s e ⊎ EndsBeforeIhl s e
-RefusesIpv4 s (Content (content.UnexpectedVersion version)) = HasOtherVersion 4 20 s version
-RefusesIpv4 s (Content (content.HeaderLengthSmallerThanHeader ihl)) = HasSmallIhl s ihl
+RefusesIpv4 s (slice.Len e) = IsTooShort layer.Ipv4Header 20 s e ⊎ EndsBeforeIhl s e
+RefusesIpv4 s (slice.Content (content.UnexpectedVersion version)) = HasOtherVersion 4 20 s version
+RefusesIpv4 s (slice.Content (content.HeaderLengthSmallerThanHeader ihl)) = HasSmallIhl s ihl
 
 -- a header and the bytes after it, or why there is no header
 abbrev pub Ipv4Reading : Type 0

@@ -6,7 +6,8 @@ use Rattle.etherparse_base.specs.Bytes.{IsBytes}
 use Rattle.etherparse_base.specs.declared.err.layer.Layer.TheVariants as layer
 use Rattle.etherparse_base.specs.declared.err.ipv6.header_error.HeaderError.TheVariants as content
 use Rattle.etherparse_base.specs.declared.err.ipv6.header_slice_error.HeaderSliceError as error
-use Rattle.etherparse_base.specs.declared.err.ipv6.header_slice_error.HeaderSliceError.TheVariants.{Len, Content}
+use Rattle.etherparse_base.specs.declared.err.ipv6.header_slice_error.HeaderSliceError.TheVariants
+    as slice
 use Rattle.etherparse.specs.Reading.{BeginsAs, BeginsWith, HasOtherVersion, IsTooShort}
 use Rattle.etherparse.specs.declared.net.ipv6_header.Ipv6Header.{Ipv6Header}
 
@@ -32,8 +33,8 @@ OfIpv6Header bytes P = (header : Ipv6Header) → IsIpv6Layout header bytes → P
 
 -- Why the front of a slice is no header: it is shorter than a header; or else its version is not 6.
 abbrev pub RefusesIpv6 : List ℕ → error.HeaderSliceError → Type 0
-RefusesIpv6 s (Len e) = IsTooShort layer.Ipv6Header 40 s e
-RefusesIpv6 s (Content (content.UnexpectedVersion version)) = HasOtherVersion 6 40 s version
+RefusesIpv6 s (slice.Len e) = IsTooShort layer.Ipv6Header 40 s e
+RefusesIpv6 s (slice.Content (content.UnexpectedVersion version)) = HasOtherVersion 6 40 s version
 
 -- a header and the bytes after it, or why there is no header
 abbrev pub Ipv6Reading : Type 0

@@ -1,5 +1,5 @@
--- The traffic class of an IPv6 header: the DSCP in its upper six bits, the ECN in its lower two (RFC 2474 section 3,
--- RFC 3168 section 5).
+-- The traffic class of an IPv6 header: the DSCP in its upper six bits, the ECN in its lower two
+-- (RFC 2474 section 3, RFC 3168 section 5).
 use Rattle.std.specs.Prelude.{ℕ, ◌+◌, ◌*◌, ◌/◌, ◌%◌, ◌^◌}
 
 -- a traffic class from its parts

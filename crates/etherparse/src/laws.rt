@@ -8,13 +8,13 @@ use std::alloc::AllocError;
 
 // Headers are equal where all their fields are.
 fn ipv4_header_equality(header: &Ipv4Header, other: &Ipv4Header) -> bool
-    ensures all_fields { IsTrue result ↔ (header.now ≡ other.now) }
+    ensures same_value { IsTrue result ↔ (header.now ≡ other.now) }
 {
     header == other
 }
 
 fn ipv6_header_equality(header: &Ipv6Header, other: &Ipv6Header) -> bool
-    ensures all_fields { IsTrue result ↔ (header.now ≡ other.now) }
+    ensures same_value { IsTrue result ↔ (header.now ≡ other.now) }
 {
     header == other
 }
@@ -34,13 +34,13 @@ fn ipv6_view_equality(view: &Ipv6HeaderSlice, other: &Ipv6HeaderSlice) -> bool
 
 // A clone is equal, and nothing fails.
 fn ipv4_header_clone(header: &Ipv4Header) -> Result<Ipv4Header, AllocError>
-    ensures equal { result ≡ Ok header.now }
+    ensures same_value { result ≡ Ok header.now }
 {
     header.clone()
 }
 
 fn ipv6_header_clone(header: &Ipv6Header) -> Result<Ipv6Header, AllocError>
-    ensures equal { result ≡ Ok header.now }
+    ensures same_value { result ≡ Ok header.now }
 {
     header.clone()
 }

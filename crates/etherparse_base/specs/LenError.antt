@@ -1,38 +1,38 @@
--- A length error: its text, and when two are equal.
-use Rattle.std.specs.Prelude.{ℕ, List, [], ◌++◌, Bool, ◌==◌, ◌&&◌, codes, nat_lt, if◌then◌else◌}
+-- The text of a length error.
+use Rattle.std.specs.Prelude.{ℕ, List, [], ◌∷◌, ◌++◌, codes, nat_lt, if◌then◌else◌}
 use Rattle.std.specs.Fmt.{decimal}
+use Rattle.std.specs.List.{concat}
 use Rattle.etherparse_base.specs.declared.err.len_error.LenError.{LenError}
-use Rattle.etherparse_base.specs.Layer.{layer_text, layer_title, is_same_layer}
-use Rattle.etherparse_base.specs.LenSource.{len_source_text, is_same_len_source}
+use Rattle.etherparse_base.specs.Layer.{layer_text, layer_title}
+use Rattle.etherparse_base.specs.LenSource.{len_source_text}
 
 -- there are fewer bytes than the layer needs
 abbrev pub not_enough_text : LenError → List ℕ
-not_enough_text e =
-    layer_title e.layer ++ (codes ": Not enough data to decode '" ++ (layer_text e.layer ++ (codes "'. "
-    ++ (decimal e.required_len ++ (codes " byte(s) would be required, but only " ++ (decimal e.len
-    ++ (codes " byte(s) are available based on the " ++ len_source_text e.len_source)))))))
+not_enough_text e = concat (
+    layer_title e.layer ∷ codes ": Not enough data to decode '" ∷ layer_text e.layer ∷ codes "'. "
+    ∷ decimal e.required_len ∷ codes " byte(s) would be required, but only " ∷ decimal e.len
+    ∷ codes " byte(s) are available based on the " ∷ len_source_text e.len_source ∷ [])
 
 -- the data is longer than what holds it
 abbrev pub too_long_text : LenError → List ℕ
-too_long_text e =
-    layer_title e.layer ++ (codes ": Length of " ++ (decimal e.len ++ (codes " byte(s) is too big for an '"
-    ++ (layer_text e.layer ++ (codes "' (maximum is " ++ (decimal e.required_len ++ (codes " bytes). The "
-    ++ (len_source_text e.len_source ++ codes " was used to determine the length"))))))))
+too_long_text e = concat (
+    layer_title e.layer ∷ codes ": Length of " ∷ decimal e.len
+    ∷ codes " byte(s) is too big for an '" ∷ layer_text e.layer ∷ codes "' (maximum is "
+    ∷ decimal e.required_len ∷ codes " bytes). The " ∷ len_source_text e.len_source
+    ∷ codes " was used to determine the length" ∷ [])
 
--- the place of the layer in the data, which is left out at the start
+-- what was needed or allowed, and what was there
+abbrev pub lengths_text : LenError → List ℕ
+lengths_text e = if nat_lt e.len e.required_len then not_enough_text e else too_long_text e
+
+-- where the layer starts in the data, which is left out at byte 0
 abbrev pub place_text : LenError → List ℕ
 place_text e =
     if nat_lt 0 e.layer_start_offset
-    then codes " ('" ++ (layer_text e.layer ++ (codes "' starts at overall parsed byte " ++ (decimal e.layer_start_offset ++ codes ")")))
+    then codes " ('" ++ layer_text e.layer ++ codes "' starts at overall parsed byte "
+    ++ decimal e.layer_start_offset ++ codes ")"
     else []
 
 -- the text of a length error
 abbrev pub len_error_text : LenError → List ℕ
-len_error_text e =
-    (if nat_lt e.len e.required_len then not_enough_text e else too_long_text e) ++ (place_text e ++ codes ".")
-
--- whether two length errors have the same fields
-abbrev pub is_same_len_error : LenError → LenError → Bool
-is_same_len_error a b = a.required_len == b.required_len && a.len == b.len
-    && is_same_len_source a.len_source b.len_source && is_same_layer a.layer b.layer
-    && a.layer_start_offset == b.layer_start_offset
+len_error_text e = lengths_text e ++ place_text e ++ codes "."

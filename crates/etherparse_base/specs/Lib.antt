@@ -1,10 +1,8 @@
 pub mod Bytes
-pub mod EqualityLaws
 pub mod Ipv4Errors
 pub mod Ipv6Errors
 pub mod Layer
 pub mod LenError
 pub mod LenSource
-pub mod OrderLaws
 pub mod ValueTooBigError
 pub mod ValueType

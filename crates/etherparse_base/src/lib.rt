@@ -2,8 +2,9 @@
 #![tactic(auto)]
 
 pub mod err;
+mod laws;
 mod len_source;
 #[cfg(test)]
-mod testing;
+mod tests;
 
 pub use len_source::LenSource;

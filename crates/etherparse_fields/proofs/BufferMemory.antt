@@ -1,9 +1,9 @@
--- The room for options in memory is its 40 bytes one after another, and back; its front can be lent as a slice.
+-- The room for options in memory is its 40 bytes in a row, and back; its front can be lent as a slice.
 use mathlib.Core.Path.{◌≡◌, refl, sym, ◌∙◌}
 use Prim.Native.Nat.{ℕ, zero, ◌+◌, ◌≤◌}
 use native.Mathlib.Omega.{arith}
 use mathlib.Core.List.{List, [], ◌∷◌, ◌++◌}
-use lib.ListN.{length, take, drop as behind, take-append-drop, length-append, length-drop}
+use lib.ListN.{length, take, drop as after, take-append-drop, length-append, length-drop}
 use borrow.Table.Elements.{at, cut_app, join_app, length-take-le}
 use seplogic.Ra.Ura.{Ura}
 use base.Fraction.{full_share}
@@ -101,25 +101,25 @@ module _ {M : Type 1} {𝓤 : Ura M} (𝓛 : Logic 𝓤) (κ : Lft) (q : Share)
   front = take len v.bytes
 
   abbrev back : List ℕ
-  back = behind len v.bytes
+  back = after len v.bytes
 
-  -- the bytes behind a front of n
-  abbrev Behind : ℕ → Fml
-  Behind n = cells (mem u8) back b (at (first o) (mem u8).size n)
+  -- the bytes after a front of n
+  abbrev After : ℕ → Fml
+  After n = cells (mem u8) back b (at (first o) (mem u8).size n)
 
   abbrev Rest : SProp 𝓤
-  Rest = sep 𝓤 (sem 𝓛 (Behind (length front))) (Husk 𝓛 b o)
+  Rest = sep 𝓤 (sem 𝓛 (After (length front))) (Husk 𝓛 b o)
 
   whole : len ≤ 40 → length v.bytes ≡ 40 → (ws : List ℕ) → length ws ≡ length front
       → ent 𝓤 (sep 𝓤 (sem 𝓛 (Bytes 𝓛 b o ws)) Rest) (sem 𝓛 ((mem the_row).own_at (with_front v ws) b o))
   whole within long ws same =
       let count : length front ≡ len = length-take-le len v.bytes (omega arith) in
-      let joined = length-append ws (behind (length ws) v.bytes) in
+      let joined = length-append ws (after (length ws) v.bytes) in
       let left = length-drop (length ws) v.bytes in
-      qed 𝓛 (‵ (Bytes 𝓛 b o ws) ∷ ‵ (Behind (length front)) ∷ raw (Husk 𝓛 b o) ∷ []) ∵
-      rewrite ! 1 (λ (n : ℕ). ‵ (Behind n)) (sym same) refl $
+      qed 𝓛 (‵ (Bytes 𝓛 b o ws) ∷ ‵ (After (length front)) ∷ raw (Husk 𝓛 b o) ∷ []) ∵
+      rewrite ! 1 (λ (n : ℕ). ‵ (After n)) (sym same) refl $
       use2 𝓛 (‵ (Bytes 𝓛 b o (ws ++ back))) (join_app 𝓛 (mem u8) ws back b (first o)) $
-      rewrite ! 0 (λ (n : ℕ). ‵ (Bytes 𝓛 b o (ws ++ behind n v.bytes))) (sym (same ∙ count)) refl $
+      rewrite ! 0 (λ (n : ℕ). ‵ (Bytes 𝓛 b o (ws ++ after n v.bytes))) (sym (same ∙ count)) refl $
       by ! (bytes_in 𝓛 b o (with_front v ws) (omega arith))
 
   -- the room as it is passed, and its front as it is returned under the name δ
@@ -147,7 +147,7 @@ module _ {M : Type 1} {𝓤 : Ura M} (𝓛 : Logic 𝓤) (κ : Lft) (q : Share)
       let fits : Room u8 (length front) = (omega arith, omega arith) in
       let code = the_row.coded.code v in
       rewrite ! 0 (λ (xs : List ℕ). ‵ (Bytes 𝓛 b o xs)) (sym (take-append-drop len v.bytes)) refl $
-      use1 𝓛 (‵ (Bytes 𝓛 b o front) ⊛ ‵ (Behind (length front)))
+      use1 𝓛 (‵ (Bytes 𝓛 b o front) ⊛ ‵ (After (length front)))
       (cut_app 𝓛 (mem u8) front back b (first o)) $
       split ! $ move ! (1 ∷ 2 ∷ []) $ join ! $ move ! (2 ∷ 3 ∷ 4 ∷ 1 ∷ 0 ∷ []) $ group ! 5 $
       use1 𝓛 (later (some (lent (length front))))

@@ -8,6 +8,6 @@ use Rattle.etherparse_fields.specs.contracts.net.ipv4_options.buffer.Buffer.{the
 abbrev pub with_front : Buffer → List ℕ → Buffer
 with_front buffer front = record { bytes = front ++ drop (length front) buffer.bytes }
 
--- once the borrow ends, the room begins with the bytes that were left behind it
+-- once the slice is given back, the room begins with what was left in it
 abbrev pub LendsFront : MutBor Buffer → MutBor (List ℕ) → Fml
-LendsFront buffer front = Lends the_row (Array u8 0) buffer front (with_front buffer.now)
+LendsFront buffer slice = Lends the_row (Array u8 0) buffer slice (with_front buffer.now)

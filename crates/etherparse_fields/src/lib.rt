@@ -1,6 +1,7 @@
 //! Fields of IP headers with fewer values than their machine number, the numbers of protocols, and IPv4 options.
 #![tactic(auto)]
 
+mod laws;
 mod net;
 #[cfg(test)]
 mod testing;
@@ -9,5 +10,5 @@ pub use net::ip_dscp::IpDscp;
 pub use net::ip_ecn::IpEcn;
 pub use net::ip_frag_offset::IpFragOffset;
 pub use net::ip_number_impl::IpNumber;
-pub use net::ipv4_options::{Ipv4Options, options_in_front};
+pub use net::ipv4_options::Ipv4Options;
 pub use net::ipv6_flow_label::Ipv6FlowLabel;

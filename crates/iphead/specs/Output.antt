@@ -100,8 +100,8 @@ ReportsIpv6 bytes = Reports (ReadsIpv6 bytes) ipv6_outcome
 abbrev pub ReportsIpv4 : List ℕ → Outcome → Type 0
 ReportsIpv4 bytes = Reports (ReadsIpv4 bytes) ipv4_outcome
 
--- The bytes that the digits stand for are read as IPv6 where their version is 6, and else, also where
--- there are none, as IPv4.
+-- The bytes that the digits stand for are read as IPv6 where their version is 6, and else, also
+-- where there are none, as IPv4.
 abbrev pub ReportsBytes : Result (List ℕ) FromHexError → Outcome → Type 0
 ReportsBytes (Ok bytes) outcome =
     MatchBool (version_of bytes == 6) (ReportsIpv6 bytes outcome) (ReportsIpv4 bytes outcome)
@@ -117,7 +117,8 @@ pub record IsOutput (input : List ℕ) (outcome : Outcome) : Type 0 where
   pub short : (IsTooLong input → ⊥) → ReportsBytes (decode_of (digits_of input)) outcome
 
 -- what the writer holds is what it held before, and after that the text of such an outcome
-pub record Writes (P : Outcome → Type 0) (status : Status) (old new : Option (List ℕ)) : Type 0 where
+pub record Writes (P : Outcome → Type 0) (status : Status) (old new : Option (List ℕ))
+    : Type 0 where
   pub text : List ℕ
   pub outcome : P (status, text)
   pub appended : Appends old new text

@@ -1,12 +1,12 @@
 ghost use Rattle.std.specs.Prelude.{◌≡◌, ◌≤◌, ◌%◌, ◌++◌, length};
 ghost use Rattle.etherparse_base.specs.Bytes.{IsBytes};
+ghost use Rattle.etherparse_fields.specs.Ipv4Options.{IsOptionsLen};
 ghost use Rattle.etherparse.specs.Ipv4Header.{payload_len_of};
 
 use crate::err::ipv4::{BadOptionsLen, HeaderSliceError};
 use crate::err::{Layer, LenError, ValueTooBigError, ValueType};
 use crate::{IpDscp, IpEcn, IpFragOffset, IpNumber, Ipv4HeaderSlice, Ipv4Options, LenSource};
 use arrayvec::ArrayVec;
-use etherparse_fields::options_in_front;
 
 /// An IPv4 header with its options (RFC 791 section 3.1).
 ///
@@ -266,7 +266,7 @@ impl Ipv4Header {
         // A number of bytes that the compiler knows is copied with no call, so 40 are where there are as many.
         if slice.len() >= Ipv4Header::MAX_LEN {
             let bytes = slice[20..60].first_chunk::<40>().unwrap();
-            let options = options_in_front(bytes, len - Ipv4Header::MIN_LEN);
+            let options = Ipv4Options::from_front(bytes, len - Ipv4Header::MIN_LEN);
             return Ok((view.header_with(options), rest));
         }
         Ok((view.to_header(), rest))
@@ -346,8 +346,7 @@ pub(super) fn payload_len_between(header_len: u16, total_len: u16) -> Result<u16
 #[inline(always)]
 fn joined(front: &[u8], options: &[u8]) -> ArrayVec<u8, 60>
     requires front_len { length front.now ≡ 20 }
-    requires fits { length options.now ≤ 40 }
-    requires in_words { length options.now % 4 ≡ 0 }
+    requires options_len { IsOptionsLen (length options.now) }
     ensures parts { result.items ≡ front.now ++ options.now }
     ensures are_bytes { IsBytes (front.now ++ options.now) }
 {

@@ -197,8 +197,7 @@ impl<'a> Ipv4HeaderSlice<'a> {
     #[inline]
     pub fn options(&self) -> &'a [u8]
         ensures value { OfIpv4Header self.now.slice.now (λ header. result.now ≡ header.options) }
-        ensures fits { length result.now ≤ 40 }
-        ensures in_words { length result.now % 4 ≡ 0 }
+        ensures options_len { IsOptionsLen (length result.now) }
     {
         &self.slice[Ipv4Header::MIN_LEN..]
     }

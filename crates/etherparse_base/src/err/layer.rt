@@ -1,11 +1,10 @@
 ghost use Rattle.std.specs.Prelude.{◌≡◌, Some};
 ghost use Rattle.etherparse_base.specs.Layer.{layer_text, layer_title};
 
-use std::cmp::Ordering;
 use std::fmt;
 
 /// A layer of a packet in which an error can come up. Layers are ordered as they stand here.
-#[derive(Clone, Copy, Debug, PartialEq, Eq, Hash)]
+#[derive(Clone, Copy, Debug, PartialEq, Eq, PartialOrd, Ord, Hash)]
 pub enum Layer {
     /// The Linux cooked capture header, version 1 (SLL).
     LinuxSllHeader,
@@ -94,47 +93,6 @@ impl Layer {
     }
 }
 
-/// By the order of the variants.
-impl Ord for Layer {
-    ghost use Rattle.std.proofs.Common.{rules};
-    ghost use Rattle.std.specs.Cmp.Rules.{comparing};
-    ghost use Rattle.std.specs.Ordering.{nat_cmp, on};
-    ghost use Rattle.etherparse_base.specs.Layer.{layer_index};
-    ghost use Rattle.etherparse_base.specs.OrderLaws.{layer-ties};
-
-    ghost cmp = { on layer_index nat_cmp };
-
-    ghost total = { Prim.search (comparing, rules) };
-
-    ghost matches_partial_cmp = { Prim.search (comparing, rules) };
-
-    ghost matches_eq = { layer-ties };
-
-    fn cmp(&self, other: &Layer) -> Ordering
-        ensures order { result ≡ nat_cmp (layer_index self.now) (layer_index other.now) }
-    {
-        (*self as u8).cmp(&(*other as u8))
-    }
-}
-
-/// By the order of the variants.
-impl PartialOrd for Layer {
-    ghost use Rattle.std.proofs.Common.{rules};
-    ghost use Rattle.std.specs.Cmp.{partial_order_from_own_ties};
-    ghost use Rattle.std.specs.Cmp.Rules.{comparing};
-    ghost use Rattle.std.specs.Ordering.{as_partial_cmp, nat_cmp, on};
-    ghost use Rattle.etherparse_base.specs.Layer.{layer_index};
-    ghost use Rattle.etherparse_base.specs.OrderLaws.{layer-ties};
-
-    ghost partial_cmp = { as_partial_cmp (on layer_index nat_cmp) };
-
-    ghost laws = { partial_order_from_own_ties (Prim.search (comparing, rules)) layer-ties };
-
-    fn partial_cmp(&self, other: &Layer) -> Option<Ordering> {
-        Some(self.cmp(other))
-    }
-}
-
 /// Writes the layer's name.
 impl fmt::Display for Layer {
     ghost output = { λ layer. Some (layer_text layer) };
@@ -167,114 +125,5 @@ impl fmt::Display for Layer {
             Layer::Icmpv6 => "ICMPv6 packet",
             Layer::Arp => "Address Resolution Protocol packet",
         })
-    }
-}
-
-#[cfg(test)]
-mod tests {
-    use super::Layer;
-    use crate::testing::{
-        assert_clones, assert_debug_prints, assert_less, assert_prints, assert_ties,
-    };
-    use std::test::Fail;
-
-    // Each layer with its title and its name, in the order of the layers.
-    const LAYERS: [(Layer, &'static str, &'static str); 25] = [
-        (
-            Layer::LinuxSllHeader,
-            "Linux Cooked Capture v1 Error",
-            "Linux Cooked Capture v1 header",
-        ),
-        (
-            Layer::Ethernet2Header,
-            "Ethernet 2 Header Error",
-            "Ethernet 2 header",
-        ),
-        (
-            Layer::EtherPayload,
-            "Payload with Ether Type Error",
-            "Ether type payload",
-        ),
-        (Layer::VlanHeader, "VLAN Header Error", "VLAN header"),
-        (Layer::MacsecHeader, "MACsec Header Error", "MACsec header"),
-        (Layer::MacsecPacket, "MACsec Packet Error", "MACsec packet"),
-        (Layer::IpHeader, "IP Header Error", "IP header"),
-        (Layer::Ipv4Header, "IPv4 Header Error", "IPv4 header"),
-        (Layer::Ipv4Packet, "IPv4 Packet Error", "IPv4 packet"),
-        (
-            Layer::IpAuthHeader,
-            "IP Authentication Header Error",
-            "IP Authentication header",
-        ),
-        (Layer::Ipv6Header, "IPv6 Header Error", "IPv6 header"),
-        (Layer::Ipv6Packet, "IPv6 Packet Error", "IPv6 packet"),
-        (
-            Layer::Ipv6ExtHeader,
-            "IPv6 Extension Header Error",
-            "IPv6 extension header",
-        ),
-        (
-            Layer::Ipv6HopByHopHeader,
-            "IPv6 Hop-by-Hop Option Header Error",
-            "IPv6 hop-by-hop option header",
-        ),
-        (
-            Layer::Ipv6DestOptionsHeader,
-            "IPv6 Destination Options Header Error",
-            "IPv6 destination options header",
-        ),
-        (
-            Layer::Ipv6RouteHeader,
-            "IPv6 Routing Header Error",
-            "IPv6 routing header",
-        ),
-        (
-            Layer::Ipv6FragHeader,
-            "IPv6 Fragment Header Error",
-            "IPv6 fragment header",
-        ),
-        (Layer::UdpHeader, "UDP Header Error", "UDP header"),
-        (Layer::UdpPayload, "UDP Payload Error", "UDP payload"),
-        (Layer::TcpHeader, "TCP Header Error", "TCP header"),
-        (Layer::Icmpv4, "ICMP Packet Error", "ICMP packet"),
-        (
-            Layer::Icmpv4Timestamp,
-            "ICMP Timestamp Error",
-            "ICMP timestamp message",
-        ),
-        (
-            Layer::Icmpv4TimestampReply,
-            "ICMP Timestamp Reply Error",
-            "ICMP timestamp reply message",
-        ),
-        (Layer::Icmpv6, "ICMPv6 Packet Error", "ICMPv6 packet"),
-        (
-            Layer::Arp,
-            "Address Resolution Protocol Packet Error",
-            "Address Resolution Protocol packet",
-        ),
-    ];
-
-    #[test]
-    fn each_layer_has_its_title_and_its_name(rt: HostRuntime) -> Result<(), Fail> {
-        for (layer, title, name) in &LAYERS {
-            assert_eq!(rt; layer.error_title(), *title);
-            assert_prints(&rt, rt.alloc(), layer, name)?;
-            assert_clones(&rt, layer)?;
-            assert_ties(&rt, layer);
-        }
-        Ok(())
-    }
-
-    #[test]
-    fn a_layer_is_named_for_programmers(rt: HostRuntime) -> Result<(), Fail> {
-        assert_debug_prints(&rt, rt.alloc(), &Layer::Ethernet2Header, "Ethernet2Header")
-    }
-
-    #[test]
-    fn each_layer_is_less_than_the_next(rt: HostRuntime) {
-        for ((layer, _, _), (next, _, _)) in LAYERS.iter().zip(LAYERS.iter().skip(1)) {
-            assert_less(&rt, layer, next);
-        }
     }
 }

@@ -4,13 +4,14 @@ ghost use Rattle.etherparse_base.specs.ValueTooBigError.{TakesUpTo};
 ghost use Rattle.etherparse_base.specs.declared.err.value_type.ValueType.TheVariants as value_type;
 
 use etherparse_base::err::{ValueTooBigError, ValueType};
-use std::cmp::Ordering;
 use std::fmt;
 use std::marker::Model;
 
 /// The differentiated services code point of an IP header, a number of 6 bits (RFC 2474 section 3). It stands in the
 /// upper bits of byte 1 of an IPv4 header, and of the traffic class of an IPv6 header.
-#[derive(Clone, Copy, Debug, PartialEq, Eq, Hash)]
+///
+/// Equality, order and hash are those of the number.
+#[derive(Clone, Copy, Debug, PartialEq, Eq, PartialOrd, Ord, Hash)]
 pub struct IpDscp(u8);
 
 /// A contract sees the number itself.
@@ -143,43 +144,6 @@ impl Default for IpDscp {
     }
 }
 
-/// By the number.
-impl Ord for IpDscp {
-    ghost use Rattle.std.proofs.Common.{rules};
-    ghost use Rattle.std.specs.Cmp.Rules.{comparing};
-    ghost use Rattle.std.specs.Ordering.{nat_cmp};
-
-    ghost cmp = { nat_cmp };
-
-    ghost total = { Prim.search (comparing, rules) };
-
-    ghost matches_partial_cmp = { Prim.search (comparing, rules) };
-
-    ghost matches_eq = { Prim.search (comparing, rules) };
-
-    fn cmp(&self, other: &IpDscp) -> Ordering
-        ensures order { result ≡ nat_cmp self.now other.now }
-    {
-        self.value().cmp(&other.value())
-    }
-}
-
-/// By the number.
-impl PartialOrd for IpDscp {
-    ghost use Rattle.std.proofs.Common.{rules};
-    ghost use Rattle.std.specs.Cmp.{partial_order_from_own_ties};
-    ghost use Rattle.std.specs.Cmp.Rules.{comparing};
-    ghost use Rattle.std.specs.Ordering.{as_partial_cmp, nat_cmp};
-
-    ghost partial_cmp = { as_partial_cmp nat_cmp };
-
-    ghost laws = { partial_order_from_own_ties (Prim.search (comparing, rules)) (Prim.search (comparing, rules)) };
-
-    fn partial_cmp(&self, other: &IpDscp) -> Option<Ordering> {
-        Some(self.cmp(other))
-    }
-}
-
 /// Writes the number in decimal digits.
 impl fmt::Display for IpDscp {
     ghost output = { λ dscp. Some (decimal dscp) };
@@ -212,4 +176,25 @@ impl TryFrom<u8> for IpDscp {
 }
 
 #[cfg(test)]
-mod tests;
+mod tests {
+    use super::*;
+    use crate::testing::assert_field;
+    use std::test::Fail;
+
+    #[test]
+    fn least_greatest_and_the_number_above(rt: HostRuntime) -> Result<(), Fail> {
+        let (least, greatest) = (IpDscp::try_new(0)?, IpDscp::try_new(63)?);
+        assert_eq!(rt; (least.value(), greatest.value()), (0, 63));
+        let ends = [
+            (least, 0, "0", "IpDscp(0)"),
+            (greatest, 63, "63", "IpDscp(63)"),
+        ];
+        assert_field(&rt, rt.alloc(), ends, (64, ValueType::IpDscp))?;
+
+        let refusal = IpDscp::try_new(64).expect_err(&rt, "above the greatest number");
+        let text =
+            "Error '64' is too big to be a 'IPv4 DSCP (Differentiated Services Code Point)' (maximum allowed value is '63')";
+        assert_eq!(rt; format!(in rt.alloc(); "{refusal}")?.as_str(), text);
+        Ok(())
+    }
+}

@@ -5,12 +5,13 @@ ghost use Rattle.etherparse_base.specs.declared.err.value_type.ValueType.TheVari
 ghost use Rattle.etherparse_fields.specs.IpEcn.{ecn_value};
 
 use etherparse_base::err::{ValueTooBigError, ValueType};
-use std::cmp::Ordering;
 use std::fmt;
 
 /// The explicit congestion notification of an IP header, a number of 2 bits (RFC 3168 section 5). It stands in the lower
-/// bits of byte 1 of an IPv4 header, and of the traffic class of an IPv6 header. The order is that of the numbers.
-#[derive(Clone, Copy, Debug, PartialEq, Eq, Hash)]
+/// bits of byte 1 of an IPv4 header, and of the traffic class of an IPv6 header.
+///
+/// Equality, order and hash are those of the number.
+#[derive(Clone, Copy, Debug, PartialEq, Eq, PartialOrd, Ord, Hash)]
 pub enum IpEcn {
     /// The transport does not understand the notification.
     NotEct = 0,
@@ -83,43 +84,6 @@ impl Default for IpEcn {
     }
 }
 
-/// By the number.
-impl Ord for IpEcn {
-    ghost use Rattle.std.proofs.Common.{rules};
-    ghost use Rattle.std.specs.Cmp.Rules.{comparing};
-    ghost use Rattle.std.specs.Ordering.{nat_cmp, on};
-
-    ghost cmp = { on ecn_value nat_cmp };
-
-    ghost total = { Prim.search (comparing, rules) };
-
-    ghost matches_partial_cmp = { Prim.search (comparing, rules) };
-
-    ghost matches_eq = { Prim.search (comparing, rules) };
-
-    fn cmp(&self, other: &IpEcn) -> Ordering
-        ensures order { result ≡ nat_cmp (ecn_value self.now) (ecn_value other.now) }
-    {
-        self.value().cmp(&other.value())
-    }
-}
-
-/// By the number.
-impl PartialOrd for IpEcn {
-    ghost use Rattle.std.proofs.Common.{rules};
-    ghost use Rattle.std.specs.Cmp.{partial_order_from_own_ties};
-    ghost use Rattle.std.specs.Cmp.Rules.{comparing};
-    ghost use Rattle.std.specs.Ordering.{as_partial_cmp, nat_cmp, on};
-
-    ghost partial_cmp = { as_partial_cmp (on ecn_value nat_cmp) };
-
-    ghost laws = { partial_order_from_own_ties (Prim.search (comparing, rules)) (Prim.search (comparing, rules)) };
-
-    fn partial_cmp(&self, other: &IpEcn) -> Option<Ordering> {
-        Some(self.cmp(other))
-    }
-}
-
 /// Writes the number in decimal digits.
 impl fmt::Display for IpEcn {
     ghost output = { λ ecn. Some (decimal (ecn_value ecn)) };
@@ -152,4 +116,26 @@ impl TryFrom<u8> for IpEcn {
 }
 
 #[cfg(test)]
-mod tests;
+mod tests {
+    use super::*;
+    use crate::testing::assert_field;
+    use std::test::Fail;
+
+    #[test]
+    fn least_greatest_and_the_number_above(rt: HostRuntime) -> Result<(), Fail> {
+        let (least, greatest) = (IpEcn::try_new(0)?, IpEcn::try_new(3)?);
+        assert_eq!(rt; (least.value(), greatest.value()), (0, 3));
+        assert_eq!(rt; IpEcn::try_new(4), IpEcn::try_from(4));
+        let ends = [
+            (least, 0, "0", "NotEct"),
+            (greatest, 3, "3", "CongestionExperienced"),
+        ];
+        assert_field(&rt, rt.alloc(), ends, (4, ValueType::IpEcn))
+    }
+
+    #[test]
+    fn capable_transports_have_one_and_two(rt: HostRuntime) {
+        assert_eq!(rt; IpEcn::try_new(1), Ok(IpEcn::Ect1));
+        assert_eq!(rt; IpEcn::try_new(2), Ok(IpEcn::Ect0));
+    }
+}

@@ -4,13 +4,14 @@ ghost use Rattle.etherparse_base.specs.ValueTooBigError.{TakesUpTo};
 ghost use Rattle.etherparse_base.specs.declared.err.value_type.ValueType.TheVariants as value_type;
 
 use etherparse_base::err::{ValueTooBigError, ValueType};
-use std::cmp::Ordering;
 use std::fmt;
 use std::marker::Model;
 
 /// The fragment offset of an IP header, a number of 13 bits: where the payload of a fragment begins in the payload that
 /// was cut, in multiples of 8 bytes (RFC 791 section 3.1, RFC 8200 section 4.5).
-#[derive(Clone, Copy, Debug, PartialEq, Eq, Hash)]
+///
+/// Equality, order and hash are those of the number.
+#[derive(Clone, Copy, Debug, PartialEq, Eq, PartialOrd, Ord, Hash)]
 pub struct IpFragOffset(u16);
 
 /// A contract sees the number itself.
@@ -79,43 +80,6 @@ impl Default for IpFragOffset {
     }
 }
 
-/// By the number.
-impl Ord for IpFragOffset {
-    ghost use Rattle.std.proofs.Common.{rules};
-    ghost use Rattle.std.specs.Cmp.Rules.{comparing};
-    ghost use Rattle.std.specs.Ordering.{nat_cmp};
-
-    ghost cmp = { nat_cmp };
-
-    ghost total = { Prim.search (comparing, rules) };
-
-    ghost matches_partial_cmp = { Prim.search (comparing, rules) };
-
-    ghost matches_eq = { Prim.search (comparing, rules) };
-
-    fn cmp(&self, other: &IpFragOffset) -> Ordering
-        ensures order { result ≡ nat_cmp self.now other.now }
-    {
-        self.value().cmp(&other.value())
-    }
-}
-
-/// By the number.
-impl PartialOrd for IpFragOffset {
-    ghost use Rattle.std.proofs.Common.{rules};
-    ghost use Rattle.std.specs.Cmp.{partial_order_from_own_ties};
-    ghost use Rattle.std.specs.Cmp.Rules.{comparing};
-    ghost use Rattle.std.specs.Ordering.{as_partial_cmp, nat_cmp};
-
-    ghost partial_cmp = { as_partial_cmp nat_cmp };
-
-    ghost laws = { partial_order_from_own_ties (Prim.search (comparing, rules)) (Prim.search (comparing, rules)) };
-
-    fn partial_cmp(&self, other: &IpFragOffset) -> Option<Ordering> {
-        Some(self.cmp(other))
-    }
-}
-
 /// Writes the number of 8 byte units in decimal digits.
 impl fmt::Display for IpFragOffset {
     ghost output = { λ offset. Some (decimal offset) };
@@ -148,4 +112,21 @@ impl TryFrom<u16> for IpFragOffset {
 }
 
 #[cfg(test)]
-mod tests;
+mod tests {
+    use super::*;
+    use crate::testing::assert_field;
+    use std::test::Fail;
+
+    #[test]
+    fn least_greatest_and_the_number_above(rt: HostRuntime) -> Result<(), Fail> {
+        let (least, greatest) = (IpFragOffset::try_new(0)?, IpFragOffset::try_new(8191)?);
+        assert_eq!(rt; (least.value(), greatest.value()), (0, 8191));
+        assert_eq!(rt; (least.byte_offset(), greatest.byte_offset()), (0, 65528));
+        assert_eq!(rt; IpFragOffset::try_new(8192), IpFragOffset::try_from(8192));
+        let ends = [
+            (least, 0, "0", "IpFragOffset(0)"),
+            (greatest, 8191, "8191", "IpFragOffset(8191)"),
+        ];
+        assert_field(&rt, rt.alloc(), ends, (8192, ValueType::IpFragmentOffset))
+    }
+}

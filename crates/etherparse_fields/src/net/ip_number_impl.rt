@@ -1,17 +1,16 @@
-ghost use Rattle.std.specs.Prelude.{◌≡◌};
+ghost use Rattle.std.specs.Prelude.{ℕ, ◌≡◌};
 
-use std::cmp::Ordering;
 use std::marker::Model;
 
 /// The number of the protocol or extension header that follows an IP header, as IANA assigns it: the "protocol" field of
 /// IPv4 (RFC 791 section 3.1), the "next header" field of IPv6 (RFC 8200 section 3).
-#[derive(Clone, Copy, Debug, PartialEq, Eq, Hash)]
+///
+/// Equality, order and hash are those of the number.
+#[derive(Clone, Copy, Debug, PartialEq, Eq, PartialOrd, Ord, Hash)]
 pub struct IpNumber(pub u8);
 
 /// A contract sees the number itself.
 impl Model for IpNumber {
-    ghost use Rattle.std.specs.Prelude.{ℕ};
-
     ghost Value = { ℕ };
 
     ghost view = { λ ip_number. ip_number.0 };
@@ -21,7 +20,7 @@ impl Model for IpNumber {
 
 /// 255, a number that is reserved.
 impl Default for IpNumber {
-    ghost is_default = { λ ip_number. ip_number ≡ 255 };
+    ghost is_default = { λ number. number ≡ 255 };
 
     #[inline]
     fn default() -> IpNumber {
@@ -29,45 +28,8 @@ impl Default for IpNumber {
     }
 }
 
-/// By the number.
-impl Ord for IpNumber {
-    ghost use Rattle.std.proofs.Common.{rules};
-    ghost use Rattle.std.specs.Cmp.Rules.{comparing};
-    ghost use Rattle.std.specs.Ordering.{nat_cmp};
-
-    ghost cmp = { nat_cmp };
-
-    ghost total = { Prim.search (comparing, rules) };
-
-    ghost matches_partial_cmp = { Prim.search (comparing, rules) };
-
-    ghost matches_eq = { Prim.search (comparing, rules) };
-
-    fn cmp(&self, other: &IpNumber) -> Ordering
-        ensures order { result ≡ nat_cmp self.now other.now }
-    {
-        self.0.cmp(&other.0)
-    }
-}
-
-/// By the number.
-impl PartialOrd for IpNumber {
-    ghost use Rattle.std.proofs.Common.{rules};
-    ghost use Rattle.std.specs.Cmp.{partial_order_from_own_ties};
-    ghost use Rattle.std.specs.Cmp.Rules.{comparing};
-    ghost use Rattle.std.specs.Ordering.{as_partial_cmp, nat_cmp};
-
-    ghost partial_cmp = { as_partial_cmp (nat_cmp) };
-
-    ghost laws = { partial_order_from_own_ties (Prim.search (comparing, rules)) (Prim.search (comparing, rules)) };
-
-    fn partial_cmp(&self, other: &IpNumber) -> Option<Ordering> {
-        Some(self.cmp(other))
-    }
-}
-
 impl From<u8> for IpNumber {
-    ghost from_gives = { λ value ip_number. ip_number ≡ value };
+    ghost from_gives = { λ value number. number ≡ value };
 
     #[inline]
     fn from(value: u8) -> IpNumber {
@@ -76,7 +38,7 @@ impl From<u8> for IpNumber {
 }
 
 impl From<IpNumber> for u8 {
-    ghost from_gives = { λ ip_number value. value ≡ ip_number };
+    ghost from_gives = { λ number value. value ≡ number };
 
     #[inline]
     fn from(value: IpNumber) -> u8 {
@@ -85,4 +47,28 @@ impl From<IpNumber> for u8 {
 }
 
 #[cfg(test)]
-mod tests;
+mod tests {
+    use super::*;
+    use crate::testing::hash_of;
+    use std::test::Fail;
+
+    #[test]
+    fn the_number_is_kept(rt: HostRuntime) -> Result<(), Fail> {
+        assert_eq!(rt; IpNumber::default(), IpNumber(255));
+        for number in [0u8, 17, 255] {
+            let ip_number = IpNumber::from(number);
+            assert_eq!(rt; (ip_number.0, u8::from(ip_number)), (number, number));
+            assert_eq!(rt; ip_number.clone()?, IpNumber(number));
+            for other in [0u8, 17, 255] {
+                let compared = IpNumber(other);
+                assert_eq!(rt; ip_number.cmp(&compared), number.cmp(&other));
+                assert_eq!(rt; hash_of(&ip_number) == hash_of(&compared), number == other);
+            }
+        }
+        assert_eq!(rt;
+            format!(in rt.alloc(); "{:?}", IpNumber(17))?.as_str(),
+            "IpNumber(17)"
+        );
+        Ok(())
+    }
+}

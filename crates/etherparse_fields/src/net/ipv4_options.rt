@@ -1,15 +1,14 @@
-ghost use Rattle.std.specs.Prelude.{⊤, ◌≡◌, ◌≤◌, ◌%◌, ◌==◌, ◌↔◌, [], length, take, Some, IsTrue, nat_eq, refl};
-ghost use Rattle.std.specs.Borrow.{sem};
+ghost use Rattle.std.specs.Prelude.{ℕ, List, [], ⊤, ◌≡◌, ◌↔◌, Ok, Some, IsTrue};
+ghost use Rattle.std.specs.Prelude.{length, nat_eq, refl, take};
 ghost use Rattle.std.specs.Ordering.{nat_cmp};
 ghost use Rattle.std.specs.Cmp.{partial_equiv_from_equiv};
 ghost use Rattle.std.specs.Cmp.Lexicographic.{pointwise, slice_cmp};
-ghost use Rattle.std.specs.Cmp.Lexicographic.{nat_list_eq_equiv, nat_list_cmp_total, texts_po, texts_ties};
+ghost use Rattle.std.specs.Cmp.Lexicographic.{nat_list_cmp_total, nat_list_eq_equiv, texts_po, texts_ties};
 ghost use Rattle.std.specs.Cmp.Rules.{hashing};
 ghost use Rattle.std.specs.Hash as fed;
 ghost use Rattle.std.proofs.Common.{rules};
 ghost use Rattle.etherparse_base.specs.Bytes.{IsBytes};
-ghost use Rattle.etherparse_fields.specs.Ipv4Options.{IsOptionsLen, OptionsOrBadLen};
-ghost use Rattle.etherparse_fields.specs.Ipv4OptionsLends.{LendsBytes};
+ghost use Rattle.etherparse_fields.specs.Ipv4Options.{IsOptionsLen, TakesOptions};
 
 mod buffer;
 
@@ -30,9 +29,6 @@ pub struct Ipv4Options {
 
 /// A contract sees the list of the bytes.
 impl Model for Ipv4Options {
-    ghost use Rattle.std.specs.Prelude.{ℕ, List, take};
-    ghost use Rattle.etherparse_fields.specs.Ipv4Options.{IsOptionsLen};
-
     ghost Value = { List ℕ };
 
     ghost view = { λ options. take options.len options.buffer.bytes };
@@ -41,6 +37,9 @@ impl Model for Ipv4Options {
 }
 
 impl Ipv4Options {
+    ghost use Rattle.std.specs.Borrow.{sem};
+    ghost use Rattle.etherparse_fields.specs.Ipv4OptionsLends.{LendsBytes};
+
     /// The greatest number of bytes: 40.
     pub const MAX_LEN: u8 = 40;
 
@@ -55,12 +54,26 @@ impl Ipv4Options {
         }
     }
 
+    /// The options in the first `len` bytes of an array, where options can have `len` bytes. What follows them in the
+    /// array is no part of them.
+    ///
+    /// The Rust crate has no such call. Copying 40 bytes, a number that the compiler knows, is faster than copying `len`.
+    #[inline(always)]
+    pub fn from_front(bytes: &[u8; 40], len: usize) -> Ipv4Options
+        requires { IsOptionsLen len }
+        ensures value { result ≡ take len bytes.now }
+    {
+        Ipv4Options {
+            len: len as u8,
+            buffer: Buffer { bytes: *bytes },
+        }
+    }
+
     /// The bytes.
     #[inline]
     pub fn as_slice(&self) -> &[u8]
         ensures value { result.now ≡ self.now }
-        ensures fits { length result.now ≤ 40 }
-        ensures in_words { length result.now % 4 ≡ 0 }
+        ensures options_len { IsOptionsLen (length result.now) }
         ensures bytes { IsBytes result.now }
     {
         front(&self.buffer.bytes, usize::from(self.len))
@@ -80,8 +93,7 @@ impl Ipv4Options {
     #[inline]
     pub fn len(&self) -> usize
         ensures value { result ≡ length self.now }
-        ensures fits { result ≤ 40 }
-        ensures in_words { result % 4 ≡ 0 }
+        ensures options_len { IsOptionsLen result }
     {
         self.as_slice().len()
     }
@@ -90,8 +102,7 @@ impl Ipv4Options {
     #[inline]
     pub fn len_u8(&self) -> u8
         ensures value { result ≡ length self.now }
-        ensures fits { result ≤ 40 }
-        ensures in_words { result % 4 ≡ 0 }
+        ensures options_len { IsOptionsLen result }
     {
         self.len() as u8
     }
@@ -99,7 +110,7 @@ impl Ipv4Options {
     /// Whether there is no byte.
     #[inline]
     pub fn is_empty(&self) -> bool
-        ensures value { result ≡ (length self.now == 0) }
+        ensures empty { IsTrue result ↔ (self.now ≡ []) }
     {
         self.as_slice().is_empty()
     }
@@ -108,7 +119,7 @@ impl Ipv4Options {
     #[inline]
     fn copy_of(bytes: &[u8]) -> Ipv4Options
         requires { IsOptionsLen (length bytes.now) }
-        ensures { result ≡ bytes.now }
+        ensures value { result ≡ bytes.now }
     {
         let mut buffer = Buffer { bytes: [0; 40] };
         buffer.front_mut(bytes.len()).copy_from_slice(bytes);
@@ -116,18 +127,6 @@ impl Ipv4Options {
             len: bytes.len() as u8,
             buffer,
         }
-    }
-}
-
-/// The options in the first bytes of an array. What follows them in it is not part of them.
-#[inline(always)]
-pub fn options_in_front(bytes: &[u8; 40], len: usize) -> Ipv4Options
-    requires { IsOptionsLen len }
-    ensures value { result ≡ take len bytes.now }
-{
-    Ipv4Options {
-        len: len as u8,
-        buffer: Buffer { bytes: *bytes },
     }
 }
 
@@ -139,7 +138,7 @@ pub fn options_in_front(bytes: &[u8; 40], len: usize) -> Ipv4Options
 impl TryFrom<&[u8]> for Ipv4Options {
     type Error = BadOptionsLen;
 
-    ghost try_from_gives = { λ bytes result. OptionsOrBadLen bytes.now result };
+    ghost try_from_gives = { λ bytes result. TakesOptions bytes.now result };
 
     #[inline]
     fn try_from(value: &[u8]) -> Result<Ipv4Options, BadOptionsLen> {
@@ -168,7 +167,9 @@ impl Clone for Ipv4Options {
     ghost is_infallible = { λ _. ⊤ };
 
     #[inline]
-    fn clone(&self) -> Result<Ipv4Options, AllocError> {
+    fn clone(&self) -> Result<Ipv4Options, AllocError>
+        ensures same_bytes { result ≡ Ok self.now }
+    {
         Ok(Ipv4Options {
             len: self.len,
             buffer: self.buffer,
@@ -190,7 +191,6 @@ impl PartialEq for Ipv4Options {
     ghost laws = { partial_equiv_from_equiv nat_list_eq_equiv };
 
     fn eq(&self, other: &Ipv4Options) -> bool
-        ensures member { result ≡ pointwise nat_eq self.now other.now }
         ensures same_bytes { IsTrue result ↔ (self.now ≡ other.now) }
     {
         self.as_slice() == other.as_slice()
@@ -232,7 +232,9 @@ impl Ord for Ipv4Options {
 
     ghost matches_eq = { texts_ties };
 
-    fn cmp(&self, other: &Ipv4Options) -> Ordering {
+    fn cmp(&self, other: &Ipv4Options) -> Ordering
+        ensures order { result ≡ slice_cmp nat_cmp self.now other.now }
+    {
         self.as_slice().cmp(&other.as_slice())
     }
 }

@@ -4,12 +4,13 @@ ghost use Rattle.etherparse_base.specs.ValueTooBigError.{TakesUpTo};
 ghost use Rattle.etherparse_base.specs.declared.err.value_type.ValueType.TheVariants as value_type;
 
 use etherparse_base::err::{ValueTooBigError, ValueType};
-use std::cmp::Ordering;
 use std::fmt;
 use std::marker::Model;
 
 /// The flow label of an IPv6 header, a number of 20 bits (RFC 8200 sections 3 and 6).
-#[derive(Clone, Copy, Debug, PartialEq, Eq, Hash)]
+///
+/// Equality, order and hash are those of the number.
+#[derive(Clone, Copy, Debug, PartialEq, Eq, PartialOrd, Ord, Hash)]
 pub struct Ipv6FlowLabel(u32);
 
 /// A contract sees the number itself.
@@ -70,43 +71,6 @@ impl Default for Ipv6FlowLabel {
     }
 }
 
-/// By the number.
-impl Ord for Ipv6FlowLabel {
-    ghost use Rattle.std.proofs.Common.{rules};
-    ghost use Rattle.std.specs.Cmp.Rules.{comparing};
-    ghost use Rattle.std.specs.Ordering.{nat_cmp};
-
-    ghost cmp = { nat_cmp };
-
-    ghost total = { Prim.search (comparing, rules) };
-
-    ghost matches_partial_cmp = { Prim.search (comparing, rules) };
-
-    ghost matches_eq = { Prim.search (comparing, rules) };
-
-    fn cmp(&self, other: &Ipv6FlowLabel) -> Ordering
-        ensures order { result ≡ nat_cmp self.now other.now }
-    {
-        self.value().cmp(&other.value())
-    }
-}
-
-/// By the number.
-impl PartialOrd for Ipv6FlowLabel {
-    ghost use Rattle.std.proofs.Common.{rules};
-    ghost use Rattle.std.specs.Cmp.{partial_order_from_own_ties};
-    ghost use Rattle.std.specs.Cmp.Rules.{comparing};
-    ghost use Rattle.std.specs.Ordering.{as_partial_cmp, nat_cmp};
-
-    ghost partial_cmp = { as_partial_cmp nat_cmp };
-
-    ghost laws = { partial_order_from_own_ties (Prim.search (comparing, rules)) (Prim.search (comparing, rules)) };
-
-    fn partial_cmp(&self, other: &Ipv6FlowLabel) -> Option<Ordering> {
-        Some(self.cmp(other))
-    }
-}
-
 /// Writes the number in decimal digits.
 impl fmt::Display for Ipv6FlowLabel {
     ghost output = { λ label. Some (decimal label) };
@@ -139,4 +103,23 @@ impl TryFrom<u32> for Ipv6FlowLabel {
 }
 
 #[cfg(test)]
-mod tests;
+mod tests {
+    use super::*;
+    use crate::testing::assert_field;
+    use std::test::Fail;
+
+    #[test]
+    fn least_greatest_and_the_number_above(rt: HostRuntime) -> Result<(), Fail> {
+        let (least, greatest) = (Ipv6FlowLabel::try_new(0)?, Ipv6FlowLabel::try_new(1048575)?);
+        assert_eq!(rt; (least.value(), greatest.value()), (0, 1048575));
+        assert_eq!(rt;
+            Ipv6FlowLabel::try_new(1048576),
+            Ipv6FlowLabel::try_from(1048576)
+        );
+        let ends = [
+            (least, 0, "0", "Ipv6FlowLabel(0)"),
+            (greatest, 1048575, "1048575", "Ipv6FlowLabel(1048575)"),
+        ];
+        assert_field(&rt, rt.alloc(), ends, (1048576, ValueType::Ipv6FlowLabel))
+    }
+}

@@ -12,7 +12,7 @@ pub header_with-requires-then-slice-ge-MAX_LEN : goal.header_with-requires-then-
 header_with-requires-then-slice-ge-MAX_LEN c =
     let view = c.in_ok-view.view in
     let room = (rw c.unwrap-bytes.ensures at c.first_chunk.ensures.cases).same in
-    c.options_in_front-options.ensures.value
+    c.from_front-options.ensures.value
     ∙ options_in_room c.args.slice.now view.slice.now _ _ c.in_ok-view.ensures.views.whole (omega (arith, view.ihl, view.len)) (omega (arith, view.len)) room
 
 pub returns : goal.returns
