@@ -175,7 +175,15 @@ for no_case in ('', ' ', 'nothing', 'dscp.new', 'dscp.new 1 2', 'dscp.new x', 'd
                 'text.too_big u64 1 2 IpDscp', 'v4.eq 1', 'v4.view_eq 45 45', 'v6.view_eq 60 60', 'const.fields 1',
                 'const.nothing', 'default.nothing'):
     lines[no_case] = None
+# operations of worked rows that the program does not answer, or that the program `iphead` tests by itself
+LEFT_OUT = '''known known.cmp ipnum text.unknown text.swse text.chain off.len off.v4 off.v6 off.chain eq.swse eq.chain
+    const.known const.ipnum const.ip_number c32.add2 c32.add4 c32.fold c32.slice c32.slices c64.add2 c64.add4 c64.add8
+    c64.fold c64.slice c64.slices sum sum.eq upd v4.info v4.set_ttl skip walk walk.counted walk.limit
+    decode iphead'''.split()
 for line in open(sys.argv[1]).read().splitlines():
-    if line.split(' ')[0] in operations:
+    operation = line.split(' ')[0]
+    if operation in operations:
         lines[line] = None
+    elif operation not in LEFT_OUT:
+        sys.exit(f'a worked row of {operation}, which is neither answered nor left out: {line}')
 print('\n'.join(lines))

@@ -364,7 +364,7 @@ header_at p version ihl len bytes =
       } },
     )
 
--- the fixed fields of a header, with the options behind them, are its spelling
+-- the fixed fields of a header, with the options after them, are its spelling
 abbrev pub front_spelling : Ipv4Header → ℕ → List ℕ → List ℕ
 front_spelling h flags behind = (4 * 2 ^ 4 + ipv4_ihl h) ∷ (h.dscp * 2 ^ 2 + ecn_value h.ecn) ∷ (to_be_bytes w16 h.total_len
     ++ (to_be_bytes w16 h.identification ++ (to_be_bytes w16 flags ++ (h.time_to_live ∷ h.protocol

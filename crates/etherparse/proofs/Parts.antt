@@ -1,4 +1,4 @@
--- Parts of a list: fronts, ranges, and what is behind them.
+-- Parts of a list: fronts, ranges, and what follows them.
 use Rattle.std.proofs.Common.{ℕ, ◌≡◌, ◌+◌, ◌-◌, ◌<◌, ◌≤◌, List, map, ◌++◌, length, get_or, take, drop, refl, sym, ap, ◌∙◌, inl, inr, lit<, arith}
 use Rattle.std.specs.List.{slice_range, range_with_len}
 use Rattle.std.proofs.lemmas.Bool.{cases_lt}
@@ -31,7 +31,7 @@ listed xs a n h = fill_by_all (λ i. get_or xs (a + i) 0) (slice_range xs a (a +
 pub same_front : (p q x y : List ℕ) → length p ≡ length q → p ++ x ≡ q ++ y → p ≡ q
 same_front p q x y e h = sym (take_at p x (length q) e) ∙ (ap (λ s. take (length q) s) h ∙ take_at q y (length q) refl)
 
--- and so is what is behind them
+-- and so is what follows them
 pub same_back : (p q x y : List ℕ) → length p ≡ length q → p ++ x ≡ q ++ y → x ≡ y
 same_back p q x y e h = sym (drop_at p x (length q) e) ∙ (ap (λ s. drop (length q) s) h ∙ drop_at q y (length q) refl)
 
@@ -43,7 +43,7 @@ spread xs n e = fill_by_all (λ i. get_or xs i 0) xs n 0 e (λ k below. refl)
 pub same_three : (a a' b b' c c' : List ℕ) → a ≡ a' → b ≡ b' → c ≡ c' → a' ++ (b' ++ c') ≡ a ++ (b ++ c)
 same_three a a' b b' c c' p q r = cc
 
--- bytes and bytes behind them are bytes
+-- bytes and bytes after them are bytes
 pub append_is_bytes : (xs ys : List ℕ) → IsBytes xs → IsBytes ys → IsBytes (xs ++ ys)
 append_is_bytes xs ys h k i = elim (cases_lt i (length xs)) [
   | inl below ↦ rw (get_or_append_left xs ys 0 i below) (h i)

@@ -1,6 +1,6 @@
-//! What no clause says where it is written: what each derived call answers, the values of the constants, and that a write
-//! through a lent slice stays. Each function here says one such law, and nothing calls it.
-ghost use Rattle.std.specs.Prelude.{[], ◌∷◌, ◌≡◌, ◌<◌, ◌↔◌, IsTrue, Ok, fold, length, map};
+//! What a caller has of a call that has no clause of its own, as each derived one, or whose clause speaks of memory. Each
+//! function says one such law, and nothing calls it.
+ghost use Rattle.std.specs.Prelude.{◌≡◌, ◌<◌, ◌↔◌, IsTrue, Ok, fold, length};
 ghost use Rattle.std.specs.Ordering.{nat_cmp};
 ghost use Rattle.std.specs.Hash as fed;
 ghost use Rattle.etherparse_fields.specs.IpEcn.{ecn_value};
@@ -166,60 +166,3 @@ fn options_written(options: &mut Ipv4Options, bytes: &[u8])
 {
     options.as_mut_slice().copy_from_slice(bytes);
 }
-
-fn dscp_ends() -> (IpDscp, IpDscp)
-    ensures numbers { result ≡ (0, 63) }
-{
-    (IpDscp::ZERO, IpDscp::MAX)
-}
-
-// Class selectors (RFC 2474 section 4.2.2), assured forwarding (RFC 2597 section 6), expedited forwarding (RFC 3246),
-// voice admit (RFC 5865), lower effort (RFC 8622).
-#[rattlefmt::skip]
-fn dscp_code_points() -> [IpDscp; 23]
-    ensures numbers { result ≡ 0 ∷ 8 ∷ 16 ∷ 24 ∷ 32 ∷ 40 ∷ 48 ∷ 56
-        ∷ 10 ∷ 12 ∷ 14 ∷ 18 ∷ 20 ∷ 22
-        ∷ 26 ∷ 28 ∷ 30 ∷ 34 ∷ 36 ∷ 38
-        ∷ 46 ∷ 44 ∷ 1 ∷ [] }
-{
-    [
-        IpDscp::CS0, IpDscp::CS1, IpDscp::CS2, IpDscp::CS3, IpDscp::CS4, IpDscp::CS5, IpDscp::CS6, IpDscp::CS7,
-        IpDscp::AF11, IpDscp::AF12, IpDscp::AF13, IpDscp::AF21, IpDscp::AF22, IpDscp::AF23,
-        IpDscp::AF31, IpDscp::AF32, IpDscp::AF33, IpDscp::AF41, IpDscp::AF42, IpDscp::AF43,
-        IpDscp::EF, IpDscp::VOICE_ADMIT, IpDscp::LOWER_EFFORT,
-    ]
-}
-
-fn ecn_code_points() -> [IpEcn; 5]
-    ensures numbers { map ecn_value result ≡ 0 ∷ 1 ∷ 2 ∷ 3 ∷ 3 ∷ [] }
-{
-    [
-        IpEcn::ZERO,
-        IpEcn::ONE,
-        IpEcn::TWO,
-        IpEcn::THREE,
-        IpEcn::TRHEE,
-    ]
-}
-
-fn fragment_offset_zero() -> IpFragOffset
-    ensures number { result ≡ 0 }
-{
-    IpFragOffset::ZERO
-}
-
-fn flow_label_zero() -> Ipv6FlowLabel
-    ensures number { result ≡ 0 }
-{
-    Ipv6FlowLabel::ZERO
-}
-
-const _: () = prove!(IpDscp::MAX_U8 == 63u8);
-
-const _: () = prove!(IpEcn::MAX_U8 == 3u8);
-
-const _: () = prove!(IpFragOffset::MAX_U16 == 8191u16);
-
-const _: () = prove!(Ipv6FlowLabel::MAX_U32 == 1048575u32);
-
-const _: () = prove!(Ipv4Options::MAX_LEN == 40u8);

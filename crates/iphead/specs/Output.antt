@@ -114,7 +114,7 @@ too_long_outcome = (BadInput, error_line (codes "input is too long"))
 -- the outcome for an input
 pub record IsOutput (input : List ℕ) (outcome : Outcome) : Type 0 where
   pub too_long : IsTooLong input → outcome ≡ too_long_outcome
-  pub short : (IsTooLong input → ⊥) → ReportsBytes (decode_of (digits_of input)) outcome
+  pub short : ¬ IsTooLong input → ReportsBytes (decode_of (digits_of input)) outcome
 
 -- what the writer holds is what it held before, and after that the text of such an outcome
 pub record Writes (P : Outcome → Type 0) (status : Status) (old new : Option (List ℕ))

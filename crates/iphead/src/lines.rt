@@ -36,7 +36,7 @@ pub fn write_ipv6<W: Write>(writer: &mut W, view: &Ipv6HeaderSlice) -> io::Resul
     Ok(())
 }
 
-/// Writes the fields of an IPv4 header, one a line, and the number of bytes behind it.
+/// Writes the fields of an IPv4 header, one a line, and the number of bytes after it.
 pub fn write_ipv4<W: Write>(
     writer: &mut W,
     view: &Ipv4HeaderSlice,

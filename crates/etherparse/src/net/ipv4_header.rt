@@ -151,8 +151,8 @@ impl Ipv4Header {
     #[inline]
     pub fn max_payload_len(&self) -> u16
         ensures value { result ≡ ipv4_max_payload_len self.now }
-        ensures least { 65475 ≤ result }
-        ensures greatest { result ≤ 65515 }
+        ensures at_least { 65475 ≤ result }
+        ensures within { result ≤ 65515 }
     {
         u16::MAX - Ipv4Header::MIN_LEN_U16 - u16::from(self.options.len_u8())
     }
@@ -342,7 +342,7 @@ pub(super) fn payload_len_between(header_len: u16, total_len: u16) -> Result<u16
     }
 }
 
-// The fixed fields, and the options behind them.
+// The fixed fields, and the options after them.
 #[inline(always)]
 fn joined(front: &[u8], options: &[u8]) -> ArrayVec<u8, 60>
     requires front_len { length front.now ≡ 20 }

@@ -21,7 +21,7 @@ pub struct Ipv4HeaderSlice<'a> {
     pub ghost version: { version_of slice.now ≡ 4 },
     pub ghost ihl: { 5 ≤ ihl_of slice.now },
     pub ghost len: { length slice.now ≡ 4 * ihl_of slice.now },
-    pub ghost bytes: { IsBytes slice.now },
+    pub ghost are_bytes: { IsBytes slice.now },
 }
 
 impl<'a> Ipv4HeaderSlice<'a> {

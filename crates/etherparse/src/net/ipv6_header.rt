@@ -189,7 +189,7 @@ impl Default for Ipv6Header {
     }
 }
 
-// Three parts, one behind the other, as one literal: it is stored without a copy between.
+// Three parts, one after the other, as one literal: it is stored without a copy between.
 #[inline(always)]
 #[rattlefmt::skip]
 fn joined(front: &[u8], source: &[u8], destination: &[u8]) -> [u8; 40]

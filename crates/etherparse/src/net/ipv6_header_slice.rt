@@ -13,7 +13,7 @@ pub struct Ipv6HeaderSlice<'a> {
     pub slice: &'a [u8],
     pub ghost len: { length slice.now ≡ 40 },
     pub ghost version: { version_of slice.now ≡ 6 },
-    pub ghost bytes: { IsBytes slice.now },
+    pub ghost are_bytes: { IsBytes slice.now },
 }
 
 impl<'a> Ipv6HeaderSlice<'a> {

@@ -134,6 +134,41 @@ impl IpDscp {
     }
 }
 
+const _: () = prove!(IpDscp::ZERO.0 == 0 && IpDscp::MAX.0 == 63 && IpDscp::MAX_U8 == 63u8);
+
+// Class selectors (RFC 2474 section 4.2.2)
+const _: () = prove!(
+    IpDscp::CS0.0 == 0
+        && IpDscp::CS1.0 == 8
+        && IpDscp::CS2.0 == 16
+        && IpDscp::CS3.0 == 24
+        && IpDscp::CS4.0 == 32
+        && IpDscp::CS5.0 == 40
+        && IpDscp::CS6.0 == 48
+        && IpDscp::CS7.0 == 56
+);
+
+// Assured forwarding (RFC 2597 section 6)
+const _: () = prove!(
+    IpDscp::AF11.0 == 10
+        && IpDscp::AF12.0 == 12
+        && IpDscp::AF13.0 == 14
+        && IpDscp::AF21.0 == 18
+        && IpDscp::AF22.0 == 20
+        && IpDscp::AF23.0 == 22
+        && IpDscp::AF31.0 == 26
+        && IpDscp::AF32.0 == 28
+        && IpDscp::AF33.0 == 30
+        && IpDscp::AF41.0 == 34
+        && IpDscp::AF42.0 == 36
+        && IpDscp::AF43.0 == 38
+);
+
+// Expedited forwarding (RFC 3246), voice admit (RFC 5865), lower effort (RFC 8622)
+const _: () = prove!(
+    IpDscp::EF.0 == 46 && IpDscp::VOICE_ADMIT.0 == 44 && IpDscp::LOWER_EFFORT.0 == 1
+);
+
 /// The code point 0.
 impl Default for IpDscp {
     ghost is_default = { λ dscp. dscp ≡ 0 };
@@ -178,18 +213,20 @@ impl TryFrom<u8> for IpDscp {
 #[cfg(test)]
 mod tests {
     use super::*;
-    use crate::testing::assert_field;
+    use crate::testing::{assert_field, assert_refuses};
     use std::test::Fail;
 
     #[test]
     fn least_greatest_and_the_number_above(rt: HostRuntime) -> Result<(), Fail> {
         let (least, greatest) = (IpDscp::try_new(0)?, IpDscp::try_new(63)?);
         assert_eq!(rt; (least.value(), greatest.value()), (0, 63));
+        assert_eq!(rt; least, IpDscp::default());
         let ends = [
             (least, 0, "0", "IpDscp(0)"),
             (greatest, 63, "63", "IpDscp(63)"),
         ];
-        assert_field(&rt, rt.alloc(), ends, (64, ValueType::IpDscp))?;
+        assert_field(&rt, rt.alloc(), &ends)?;
+        assert_refuses::<IpDscp, u8>(&rt, 64, 63, ValueType::IpDscp);
 
         let refusal = IpDscp::try_new(64).expect_err(&rt, "above the greatest number");
         let text =

@@ -74,6 +74,10 @@ impl IpEcn {
     }
 }
 
+const _: () = prove!(IpEcn::ZERO as u8 == 0 && IpEcn::ONE as u8 == 1 && IpEcn::TWO as u8 == 2);
+
+const _: () = prove!(IpEcn::THREE as u8 == 3 && IpEcn::TRHEE as u8 == 3 && IpEcn::MAX_U8 == 3u8);
+
 /// The code point of the number 0.
 impl Default for IpEcn {
     ghost is_default = { λ ecn. ecn_value ecn ≡ 0 };
@@ -118,19 +122,21 @@ impl TryFrom<u8> for IpEcn {
 #[cfg(test)]
 mod tests {
     use super::*;
-    use crate::testing::assert_field;
+    use crate::testing::{assert_field, assert_refuses};
     use std::test::Fail;
 
     #[test]
     fn least_greatest_and_the_number_above(rt: HostRuntime) -> Result<(), Fail> {
         let (least, greatest) = (IpEcn::try_new(0)?, IpEcn::try_new(3)?);
         assert_eq!(rt; (least.value(), greatest.value()), (0, 3));
+        assert_eq!(rt; least, IpEcn::default());
         assert_eq!(rt; IpEcn::try_new(4), IpEcn::try_from(4));
         let ends = [
             (least, 0, "0", "NotEct"),
             (greatest, 3, "3", "CongestionExperienced"),
         ];
-        assert_field(&rt, rt.alloc(), ends, (4, ValueType::IpEcn))
+        assert_refuses::<IpEcn, u8>(&rt, 4, 3, ValueType::IpEcn);
+        assert_field(&rt, rt.alloc(), &ends)
     }
 
     #[test]

@@ -70,6 +70,8 @@ impl IpFragOffset {
     }
 }
 
+const _: () = prove!(IpFragOffset::ZERO.0 == 0 && IpFragOffset::MAX_U16 == 8191u16);
+
 /// The offset 0.
 impl Default for IpFragOffset {
     ghost is_default = { λ offset. offset ≡ 0 };
@@ -114,19 +116,21 @@ impl TryFrom<u16> for IpFragOffset {
 #[cfg(test)]
 mod tests {
     use super::*;
-    use crate::testing::assert_field;
+    use crate::testing::{assert_field, assert_refuses};
     use std::test::Fail;
 
     #[test]
     fn least_greatest_and_the_number_above(rt: HostRuntime) -> Result<(), Fail> {
         let (least, greatest) = (IpFragOffset::try_new(0)?, IpFragOffset::try_new(8191)?);
         assert_eq!(rt; (least.value(), greatest.value()), (0, 8191));
+        assert_eq!(rt; least, IpFragOffset::default());
         assert_eq!(rt; (least.byte_offset(), greatest.byte_offset()), (0, 65528));
         assert_eq!(rt; IpFragOffset::try_new(8192), IpFragOffset::try_from(8192));
         let ends = [
             (least, 0, "0", "IpFragOffset(0)"),
             (greatest, 8191, "8191", "IpFragOffset(8191)"),
         ];
-        assert_field(&rt, rt.alloc(), ends, (8192, ValueType::IpFragmentOffset))
+        assert_refuses::<IpFragOffset, u16>(&rt, 8192, 8191, ValueType::IpFragmentOffset);
+        assert_field(&rt, rt.alloc(), &ends)
     }
 }

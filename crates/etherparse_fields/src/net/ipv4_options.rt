@@ -74,7 +74,7 @@ impl Ipv4Options {
     pub fn as_slice(&self) -> &[u8]
         ensures value { result.now ≡ self.now }
         ensures options_len { IsOptionsLen (length result.now) }
-        ensures bytes { IsBytes result.now }
+        ensures are_bytes { IsBytes result.now }
     {
         front(&self.buffer.bytes, usize::from(self.len))
     }
@@ -129,6 +129,8 @@ impl Ipv4Options {
         }
     }
 }
+
+const _: () = prove!(Ipv4Options::MAX_LEN == 40u8);
 
 /// The bytes of the slice.
 ///

@@ -61,6 +61,8 @@ impl Ipv6FlowLabel {
     }
 }
 
+const _: () = prove!(Ipv6FlowLabel::ZERO.0 == 0 && Ipv6FlowLabel::MAX_U32 == 1048575u32);
+
 /// The flow label 0.
 impl Default for Ipv6FlowLabel {
     ghost is_default = { λ label. label ≡ 0 };
@@ -105,13 +107,14 @@ impl TryFrom<u32> for Ipv6FlowLabel {
 #[cfg(test)]
 mod tests {
     use super::*;
-    use crate::testing::assert_field;
+    use crate::testing::{assert_field, assert_refuses};
     use std::test::Fail;
 
     #[test]
     fn least_greatest_and_the_number_above(rt: HostRuntime) -> Result<(), Fail> {
         let (least, greatest) = (Ipv6FlowLabel::try_new(0)?, Ipv6FlowLabel::try_new(1048575)?);
         assert_eq!(rt; (least.value(), greatest.value()), (0, 1048575));
+        assert_eq!(rt; least, Ipv6FlowLabel::default());
         assert_eq!(rt;
             Ipv6FlowLabel::try_new(1048576),
             Ipv6FlowLabel::try_from(1048576)
@@ -120,6 +123,7 @@ mod tests {
             (least, 0, "0", "Ipv6FlowLabel(0)"),
             (greatest, 1048575, "1048575", "Ipv6FlowLabel(1048575)"),
         ];
-        assert_field(&rt, rt.alloc(), ends, (1048576, ValueType::Ipv6FlowLabel))
+        assert_refuses::<Ipv6FlowLabel, u32>(&rt, 1048576, 1048575, ValueType::Ipv6FlowLabel);
+        assert_field(&rt, rt.alloc(), &ends)
     }
 }

@@ -26,7 +26,7 @@ impl Buffer {
 pub(super) fn front(bytes: &[u8], len: usize) -> &[u8]
     requires { len ≤ length bytes.now }
     ensures value { result.now ≡ take len bytes.now }
-    ensures bytes { IsBytes result.now }
+    ensures are_bytes { IsBytes result.now }
 {
     &bytes[..len]
 }

@@ -22,5 +22,5 @@ returns-clause-only c = λ h k. same_fields h _
 pub returns-clause-layout : goal.returns-clause-layout
 returns-clause-layout c =
     let v = c.args.self.now in
-    let found = header_at v.slice.now v.version v.ihl v.len v.bytes in
+    let found = header_at v.slice.now v.version v.ihl v.len v.are_bytes in
     subst (λ h. HasIpv4Layout h v.slice.now) (returns-clause-only c found.0 found.1) found.1

@@ -7,8 +7,8 @@ use Rattle.etherparse.proofs.net.ipv6_header_slice.Ipv6HeaderSlice.flow_label.Go
 pub unwrap-requires : goal.unwrap-requires
 unwrap-requires c =
     let low = and_mask (get_or c.args.self.now.slice.now 1 0) 4 in
-    let third = c.args.self.now.bytes 2 in
-    let fourth = c.args.self.now.bytes 3 in
+    let third = c.args.self.now.are_bytes 2 in
+    let fourth = c.args.self.now.are_bytes 3 in
     taken _ _ _ _ _ c.try_new.ensures.answer (omega arith)
 
 pub returns : goal.returns

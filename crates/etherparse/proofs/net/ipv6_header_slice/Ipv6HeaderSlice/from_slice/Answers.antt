@@ -10,7 +10,7 @@ pub invariant_of-result : goal.invariant_of-result
 invariant_of-result c = record {
   len = length-part c.args.slice.now 0 40 c.if-slice-lt-LEN.false;
   version = ap (λ n. n / 16) (get_or-slice_range c.args.slice.now 0 40 0 (omega arith)) ∙ c.if-version_number-ne6.false;
-  bytes = λ i. part_is_bytes c.args.slice.now 0 40 i (λ k. omega (arith, c.type_inv.slice k));
+  are_bytes = λ i. part_is_bytes c.args.slice.now 0 40 i (λ k. omega (arith, c.type_inv.slice k));
 }
 
 pub returns-clause-views : goal.returns-clause-views

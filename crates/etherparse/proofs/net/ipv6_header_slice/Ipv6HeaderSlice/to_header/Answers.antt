@@ -16,5 +16,5 @@ returns-clause-only c = λ h k. same_fields h _
 pub returns-clause-layout : goal.returns-clause-layout
 returns-clause-layout c =
     let v = c.args.self.now in
-    let found = header_at v.slice.now v.len v.bytes v.version in
+    let found = header_at v.slice.now v.len v.are_bytes v.version in
     subst (λ h. IsIpv6Layout h v.slice.now) (returns-clause-only c found.0 found.1) found.1
