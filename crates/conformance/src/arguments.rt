@@ -32,7 +32,8 @@ impl<'a> Arguments<'a> {
     /// The next word, which may be empty.
     pub fn word(&mut self) -> Result<&'a str, CaseError>
         ensures left { IsOk result ↔ IsSome self.old.rest }
-        ensures first { IfOk result (λ word. IfSome self.old.rest (λ text. word.now ≡ before_first (λ b. b == 32) text.now)) }
+        ensures first { IfOk result (λ word. IfSome self.old.rest (λ text.
+            word.now ≡ before_first (λ b. b == 32) text.now)) }
         ensures others { IfSome self.old.rest (λ text. MatchOption self.new.rest
             (position_or_len (λ b. b == 32) text.now ≡ length text.now)
             (λ others. others.now ≡ after_first (λ b. b == 32) text.now)) }

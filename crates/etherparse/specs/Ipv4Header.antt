@@ -1,4 +1,5 @@
--- The IPv4 header (RFC 791 section 3.1, RFC 2474 for the DSCP, RFC 3168 for the ECN).
+-- The IPv4 header (RFC 791 section 3.1; RFC 2474 section 3 for the DSCP, RFC 3168 section 5 for the
+-- ECN).
 use Rattle.std.specs.Prelude.{ℕ, ◌≡◌, ◌≢◌, ◌+◌, ◌-◌, ◌*◌, ◌/◌, ◌%◌, ◌^◌, ◌<◌, ◌≤◌, ◌⊎◌}
 use Rattle.std.specs.Prelude.{List, [], length, drop, slice_index, slice_range, slice_set}
 use Rattle.std.specs.Prelude.{replicate}
@@ -28,9 +29,9 @@ abbrev pub ipv4_ihl : Ipv4Header → ℕ
 ipv4_ihl header = 5 + length header.options / 4
 
 -- The bytes of a header, in network byte order: the version, which is 4, with the IHL; the DSCP
--- with the ECN; the total length; the identification; the flags (a reserved bit, don't fragment, more
--- fragments) with the fragment offset; the time to live; the protocol; the header checksum; the
--- source address; the destination address; the options. The reserved bit is no field of the header.
+-- with the ECN; the total length; the identification; the flags (a reserved bit, don't fragment,
+-- more fragments) with the fragment offset; the time to live; the protocol; the header checksum;
+-- the source address; the destination address; the options. The reserved bit is no field of it.
 pub record IsIpv4Layout (header : Ipv4Header) (reserved : ℕ) (bytes : List ℕ) : Type 0 where
   pub len : length bytes ≡ ipv4_header_len header
   pub are_bytes : IsBytes bytes
@@ -57,13 +58,17 @@ pub record HasIpv4Layout (header : Ipv4Header) (bytes : List ℕ) : Type 0 where
   pub reserved : ℕ
   pub layout : IsIpv4Layout header reserved bytes
 
--- what holds of the header that some bytes have
+-- the fact holds of each header whose layout the bytes are in; there is at most one
 abbrev pub OfIpv4Header : List ℕ → (Ipv4Header → Type 0) → Type 0
 OfIpv4Header bytes P = (header : Ipv4Header) → HasIpv4Layout header bytes → P header
 
 -- the same bytes with the reserved bit 0: it is the highest bit of byte 6
 abbrev pub with_reserved_bit_cleared : List ℕ → List ℕ
 with_reserved_bit_cleared bytes = slice_set bytes 6 (slice_index bytes 6 % 2 ^ 7)
+
+-- bytes that agree in all but the reserved bit
+abbrev pub AgreeButForReservedBit : List ℕ → List ℕ → Type 0
+AgreeButForReservedBit p q = with_reserved_bit_cleared p ≡ with_reserved_bit_cleared q
 
 -- the IHL is below that of a header with no options
 pub record HasSmallIhl (s : List ℕ) (ihl : ℕ) : Type 0 where
@@ -83,25 +88,25 @@ pub record EndsBeforeIhl (s : List ℕ) (e : LenError) : Type 0 where
 -- 4; or else its IHL is too small; or else it is shorter than the IHL says.
 abbrev pub RefusesIpv4 : List ℕ → error.HeaderSliceError → Type 0
 RefusesIpv4 s (slice.Len e) = IsTooShort layer.Ipv4Header 20 s e ⊎ EndsBeforeIhl s e
-RefusesIpv4 s (slice.Content (content.UnexpectedVersion version)) = HasOtherVersion 4 20 s version
+RefusesIpv4 s (slice.Content (content.UnexpectedVersion version)) = HasOtherVersion 20 4 s version
 RefusesIpv4 s (slice.Content (content.HeaderLengthSmallerThanHeader ihl)) = HasSmallIhl s ihl
 
 -- a header and the bytes after it, or why there is no header
 abbrev pub Ipv4Reading : Type 0
 Ipv4Reading = Result (Ipv4Header × List ℕ) error.HeaderSliceError
 
--- Reading a header: it is the front of the slice, and the rest follows it; or why there is none.
+-- Reading: the front of the slice is this header, and the rest follows; or why there is none.
 abbrev pub ReadsIpv4 : List ℕ → Ipv4Reading → Type 0
 ReadsIpv4 s (Ok x) = BeginsWith HasIpv4Layout s x.0 x.1
 ReadsIpv4 s (Err e) = RefusesIpv4 s e
 
--- Viewing a header: the front of the slice that is a header's; or why there is none.
+-- Viewing: this front of the slice is a header; or why there is none.
 abbrev pub ViewsIpv4 : List ℕ → Result (List ℕ) error.HeaderSliceError → Type 0
 ViewsIpv4 s (Ok front) = BeginsAs HasIpv4Layout s front
 ViewsIpv4 s (Err e) = RefusesIpv4 s e
 
--- The header that is made with no field given. It must not be fragmented and its protocol is
--- reserved; all else is 0, false or empty.
+-- The header that is made with no field given. Don't fragment is set, and the protocol is 255,
+-- which is reserved; all else is 0, false or empty.
 abbrev pub default_ipv4_header : Ipv4Header
 default_ipv4_header = record {
   dscp = 0;
@@ -140,6 +145,6 @@ payload_len_of header_len total_len =
 abbrev pub ipv4_payload_len : Ipv4Header → Result ℕ LenError
 ipv4_payload_len header = payload_len_of (ipv4_header_len header) header.total_len
 
--- the payload is a fragment: more fragments follow it, or it does not stand at the start
+-- the payload is a fragment: more fragments follow it, or its offset is not 0
 abbrev pub IsFragment : Ipv4Header → Type 0
 IsFragment header = IsTrue header.more_fragments ⊎ (header.fragment_offset ≢ 0)

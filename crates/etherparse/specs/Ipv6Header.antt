@@ -27,25 +27,25 @@ pub record IsIpv6Layout (header : Ipv6Header) (bytes : List ℕ) : Type 0 where
   pub traffic_class_fits : header.traffic_class < 2 ^ 8
   pub flow_label_fits : header.flow_label < 2 ^ 20
 
--- what holds of the header that some bytes have
+-- the fact holds of each header whose layout the bytes are in; there is at most one
 abbrev pub OfIpv6Header : List ℕ → (Ipv6Header → Type 0) → Type 0
 OfIpv6Header bytes P = (header : Ipv6Header) → IsIpv6Layout header bytes → P header
 
 -- Why the front of a slice is no header: it is shorter than a header; or else its version is not 6.
 abbrev pub RefusesIpv6 : List ℕ → error.HeaderSliceError → Type 0
 RefusesIpv6 s (slice.Len e) = IsTooShort layer.Ipv6Header 40 s e
-RefusesIpv6 s (slice.Content (content.UnexpectedVersion version)) = HasOtherVersion 6 40 s version
+RefusesIpv6 s (slice.Content (content.UnexpectedVersion version)) = HasOtherVersion 40 6 s version
 
 -- a header and the bytes after it, or why there is no header
 abbrev pub Ipv6Reading : Type 0
 Ipv6Reading = Result (Ipv6Header × List ℕ) error.HeaderSliceError
 
--- Reading a header: it is the front of the slice, and the rest follows it; or why there is none.
+-- Reading: the front of the slice is this header, and the rest follows; or why there is none.
 abbrev pub ReadsIpv6 : List ℕ → Ipv6Reading → Type 0
 ReadsIpv6 s (Ok x) = BeginsWith IsIpv6Layout s x.0 x.1
 ReadsIpv6 s (Err e) = RefusesIpv6 s e
 
--- Viewing a header: the front of the slice that is a header's; or why there is none.
+-- Viewing: this front of the slice is a header; or why there is none.
 abbrev pub ViewsIpv6 : List ℕ → Result (List ℕ) error.HeaderSliceError → Type 0
 ViewsIpv6 s (Ok front) = BeginsAs IsIpv6Layout s front
 ViewsIpv6 s (Err e) = RefusesIpv6 s e

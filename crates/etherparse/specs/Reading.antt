@@ -22,8 +22,8 @@ pub record BeginsAs {H : Type 0} (Layout : H → List ℕ → Type 0) (s front :
   pub layout : Layout header front
 
 -- the error of a slice that is shorter than the layer needs
-abbrev pub slice_too_short : Layer → ℕ → ℕ → LenError
-slice_too_short layer required_len len = record {
+abbrev pub too_short_error : Layer → ℕ → ℕ → LenError
+too_short_error layer required_len len = record {
   required_len = required_len;
   len = len;
   len_source = Slice;
@@ -34,10 +34,10 @@ slice_too_short layer required_len len = record {
 -- the slice is refused since it is shorter than the layer needs
 pub record IsTooShort (layer : Layer) (required_len : ℕ) (s : List ℕ) (e : LenError) : Type 0 where
   pub few : length s < required_len
-  pub error : e ≡ slice_too_short layer required_len (length s)
+  pub error : e ≡ too_short_error layer required_len (length s)
 
--- the slice is long enough to tell its version, and refused since that is not the expected one
-pub record HasOtherVersion (expected min_len : ℕ) (s : List ℕ) (version : ℕ) : Type 0 where
+-- the slice has the least length of a header, and is refused since its version is another one
+pub record HasOtherVersion (min_len expected : ℕ) (s : List ℕ) (version : ℕ) : Type 0 where
   pub enough : min_len ≤ length s
   pub other : version_of s ≢ expected
   pub found : version ≡ version_of s

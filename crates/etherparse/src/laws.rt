@@ -1,9 +1,11 @@
-//! What the derived equality and the clones of headers and views are, each as the contract of a function that no one
-//! calls: a derive has no clause of its own.
+//! Laws of the derived equality and clones of headers and views, and of the parts of the traffic class, which no clause of
+//! one call alone says. Nothing calls them: they are there to be proved.
 
 ghost use Rattle.std.specs.Prelude.{◌≡◌, ◌↔◌, IsTrue, Ok};
+ghost use Rattle.etherparse_fields.specs.IpEcn.{ecn_value};
+ghost use Rattle.etherparse.specs.TrafficClass.{traffic_class_dscp, traffic_class_ecn, traffic_class_of};
 
-use crate::{Ipv4Header, Ipv4HeaderSlice, Ipv6Header, Ipv6HeaderSlice};
+use crate::{IpDscp, IpEcn, Ipv4Header, Ipv4HeaderSlice, Ipv6Header, Ipv6HeaderSlice};
 use std::alloc::AllocError;
 
 // Headers are equal where all their fields are.
@@ -32,7 +34,42 @@ fn ipv6_view_equality(view: &Ipv6HeaderSlice, other: &Ipv6HeaderSlice) -> bool
     view == other
 }
 
+// The traffic class is put together of its parts, and setting one part keeps the other.
+fn traffic_class_parts(header: &Ipv6Header) -> (IpDscp, IpEcn)
+    ensures sum { header.now.traffic_class ≡ traffic_class_of result.0 (ecn_value result.1) }
+{
+    (header.dscp(), header.ecn())
+}
+
+fn ecn_set(header: &mut Ipv6Header, ecn: IpEcn) -> (IpDscp, IpEcn)
+    ensures kept { result.0 ≡ traffic_class_dscp header.old.traffic_class }
+    ensures set { result.1 ≡ ecn }
+{
+    header.set_ecn(ecn);
+    (header.dscp(), header.ecn())
+}
+
+fn dscp_set(header: &mut Ipv6Header, dscp: IpDscp) -> (IpDscp, IpEcn)
+    ensures set { result.0 ≡ dscp }
+    ensures kept { ecn_value result.1 ≡ traffic_class_ecn header.old.traffic_class }
+{
+    header.set_dscp(dscp);
+    (header.dscp(), header.ecn())
+}
+
 // A clone is equal, and nothing fails.
+fn ipv4_view_clone<'a>(view: &Ipv4HeaderSlice<'a>) -> Result<Ipv4HeaderSlice<'a>, AllocError>
+    ensures same_value { result ≡ Ok view.now }
+{
+    view.clone()
+}
+
+fn ipv6_view_clone<'a>(view: &Ipv6HeaderSlice<'a>) -> Result<Ipv6HeaderSlice<'a>, AllocError>
+    ensures same_value { result ≡ Ok view.now }
+{
+    view.clone()
+}
+
 fn ipv4_header_clone(header: &Ipv4Header) -> Result<Ipv4Header, AllocError>
     ensures same_value { result ≡ Ok header.now }
 {

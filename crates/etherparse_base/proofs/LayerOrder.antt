@@ -1,4 +1,4 @@
--- That the derived order of the layers is that of their indices.
+-- The derived order of the layers is that of their indices.
 use Rattle.std.proofs.Common.{◌≡◌, rules}
 use Rattle.std.specs.Ordering.{nat_cmp}
 use Rattle.etherparse_base.specs.Layer.{layer_index}
@@ -6,7 +6,7 @@ use Rattle.etherparse_base.specs.contracts.err.layer.LayerOrd.TheImpl as derived
 use Rattle.etherparse_base.specs.declared.err.layer.Layer.{Layer}
 use Rattle.etherparse_base.specs.declared.err.layer.Layer.TheVariants as layer
 
--- by the first layer
+-- what `cmp` answers, for each first layer
 pub layer_cmp : (a b : Layer) → (derived.ghosts).cmp a b ≡ nat_cmp (layer_index a) (layer_index b)
 layer_cmp layer.LinuxSllHeader b = search rules
 layer_cmp layer.Ethernet2Header b = search rules

@@ -1,1 +1,1 @@
-mod LayerOrder
+pub mod LayerOrder

@@ -11,7 +11,7 @@ use Rattle.etherparse_base.specs.declared.err.ipv4.header_slice_error.HeaderSlic
     as slice
 use Rattle.etherparse_base.specs.LenError.{len_error_text}
 
--- the text of the error of options that have no fitting length
+-- the text for options whose length cannot be
 abbrev pub bad_options_len_text : BadOptionsLen → List ℕ
 bad_options_len_text e =
     codes "Slice of length " ++ decimal e.bad_len
@@ -28,7 +28,7 @@ ipv4_header_error_text (header.HeaderLengthSmallerThanHeader ihl) =
     ++ (codes "' present in the IPv4 header is smaller than the minimum size of an IPv4 header."
     ++ codes " The minimum allowed value is '5'.")
 
--- the text of a slice's error is that of what it holds
+-- a `HeaderSliceError` has the text of the error that it holds
 abbrev pub ipv4_header_slice_error_text : HeaderSliceError → List ℕ
 ipv4_header_slice_error_text (slice.Len e) = len_error_text e
 ipv4_header_slice_error_text (slice.Content e) = ipv4_header_error_text e

@@ -16,7 +16,7 @@ ipv6_header_error_text (header.UnexpectedVersion version_number) =
     codes "IPv6 Header Error: Encountered '" ++ decimal version_number
     ++ codes "' as IP version number in the IPv6 header (must be '6' in an IPv6 header)."
 
--- the text of a slice's error is that of what it holds
+-- a `HeaderSliceError` has the text of the error that it holds
 abbrev pub ipv6_header_slice_error_text : HeaderSliceError → List ℕ
 ipv6_header_slice_error_text (slice.Len e) = len_error_text e
 ipv6_header_slice_error_text (slice.Content e) = ipv6_header_error_text e

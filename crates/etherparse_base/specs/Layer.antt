@@ -43,6 +43,7 @@ layer_row layer.Arp =
     (24, codes "Address Resolution Protocol Packet Error",
     codes "Address Resolution Protocol packet")
 
+-- the columns of the table
 abbrev pub layer_index : Layer → ℕ
 layer_index l = (layer_row l).0
 

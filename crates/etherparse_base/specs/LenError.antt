@@ -13,7 +13,7 @@ not_enough_text e = concat (
     ∷ decimal e.required_len ∷ codes " byte(s) would be required, but only " ∷ decimal e.len
     ∷ codes " byte(s) are available based on the " ∷ len_source_text e.len_source ∷ [])
 
--- the data is longer than what holds it
+-- the length is not below the bound
 abbrev pub too_long_text : LenError → List ℕ
 too_long_text e = concat (
     layer_title e.layer ∷ codes ": Length of " ∷ decimal e.len

@@ -27,6 +27,7 @@ value_type_row value.TcpPayloadLengthIpv6 =
 value_type_row value.Icmpv6PayloadLength = (14, codes "ICMPv6 Payload Length")
 value_type_row value.LinuxSllType = (15, codes "Linux Cooked Capture v1 (SLL)")
 
+-- the columns of the table
 abbrev pub value_type_index : ValueType → ℕ
 value_type_index v = (value_type_row v).0
 

@@ -4,7 +4,8 @@ use Rattle.std.specs.List.{refill}
 use Rattle.std.specs.Borrow.{Lends, MutBor, Fml, Array, u8}
 use Rattle.etherparse_fields.specs.contracts.net.ipv4_options.Ipv4Options.{the_row}
 
--- once the slice is given back, the options are what was left in it, as many bytes as before
+-- once the slice is given back, the options are what was left in it; `refill` would cut or fill
+-- that to as many bytes as before, and a slice keeps its length
 abbrev pub LendsBytes : MutBor (List ℕ) → MutBor (List ℕ) → Fml
 LendsBytes options slice =
     Lends the_row (Array u8 0) options slice (λ left. refill (length options.now) options.now left)

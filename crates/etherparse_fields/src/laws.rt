@@ -1,5 +1,5 @@
-//! What a caller has of a call that has no clause of its own, as each derived one, or whose clause speaks of memory. Each
-//! function says one such law, and nothing calls it.
+//! Laws of derived calls, and of a write through a lent slice, which no clause of theirs says. Nothing calls them: they are
+//! there to be proved.
 ghost use Rattle.std.specs.Prelude.{◌≡◌, ◌<◌, ◌↔◌, IsTrue, Ok, fold, length};
 ghost use Rattle.std.specs.Ordering.{nat_cmp};
 ghost use Rattle.std.specs.Hash as fed;
@@ -102,6 +102,7 @@ fn flow_label_clone(a: &Ipv6FlowLabel) -> Result<Ipv6FlowLabel, AllocError>
 
 fn ecn_equality(a: &IpEcn, b: &IpEcn) -> bool
     ensures same_value { IsTrue result ↔ (a.now ≡ b.now) }
+    ensures by_number { IsTrue result ↔ (ecn_value a.now ≡ ecn_value b.now) }
 {
     a == b
 }

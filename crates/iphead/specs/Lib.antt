@@ -1,4 +1,3 @@
 pub mod Input
 pub mod Output
 pub mod Status
-pub use Rattle.etherparse.specs.Ipv6Header

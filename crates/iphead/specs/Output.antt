@@ -22,7 +22,7 @@ use Rattle.iphead.specs.declared.status.Status.TheVariants.{Done, Refused, BadIn
 unfoldable pub line : List ℕ → List ℕ → List ℕ
 line name value = name ++ (codes " " ++ (value ++ codes "\n"))
 
--- the one line of an input that is turned away
+-- the one line of an input that is refused
 abbrev pub error_line : List ℕ → List ℕ
 error_line reason = line (codes "error:") reason
 
@@ -83,28 +83,24 @@ abbrev pub ipv6_outcome : Ipv6Reading → Outcome
 ipv6_outcome (Ok x) = (Done, ipv6_lines x.0)
 ipv6_outcome (Err e) = (Refused, error_line (ipv6_header_slice_error_text e))
 
+-- the same for IPv4
 abbrev pub ipv4_outcome : Ipv4Reading → Outcome
 ipv4_outcome (Ok x) = (Done, ipv4_lines x.0 (length x.1))
 ipv4_outcome (Err e) = (Refused, error_line (ipv4_header_slice_error_text e))
 
--- the outcome is that of the reading that the bytes have
+-- the outcome is that of a reading that the bytes have; there is one
 pub record Reports {R : Type 0} (Reads : R → Type 0) (outcome_of : R → Outcome)
     (outcome : Outcome) : Type 0 where
   pub reading : R
   pub reads : Reads reading
-  pub outcome_is : outcome ≡ outcome_of reading
-
-abbrev pub ReportsIpv6 : List ℕ → Outcome → Type 0
-ReportsIpv6 bytes = Reports (ReadsIpv6 bytes) ipv6_outcome
-
-abbrev pub ReportsIpv4 : List ℕ → Outcome → Type 0
-ReportsIpv4 bytes = Reports (ReadsIpv4 bytes) ipv4_outcome
+  pub outcome_of_it : outcome ≡ outcome_of reading
 
 -- The bytes that the digits stand for are read as IPv6 where their version is 6, and else, also
 -- where there are none, as IPv4.
 abbrev pub ReportsBytes : Result (List ℕ) FromHexError → Outcome → Type 0
-ReportsBytes (Ok bytes) outcome =
-    MatchBool (version_of bytes == 6) (ReportsIpv6 bytes outcome) (ReportsIpv4 bytes outcome)
+ReportsBytes (Ok bytes) outcome = MatchBool (version_of bytes == 6)
+    (Reports (ReadsIpv6 bytes) ipv6_outcome outcome)
+    (Reports (ReadsIpv4 bytes) ipv4_outcome outcome)
 ReportsBytes (Err e) outcome = outcome ≡ (BadInput, error_line (codes "input is not hex"))
 
 -- the outcome of too long an input

@@ -7,8 +7,10 @@ ghost use Rattle.hex.specs.Hex.{decode_of, is_hex_digit};
 /// or one of them is no hex digit.
 pub fn decode_input(digits: &[u8], out: &mut [u8; 2048]) -> Option<usize>
     requires { length digits.now ≤ 4096 }
-    ensures found { IsSome result ↔ ((length digits.now % 2 ≡ 0) × AllPass is_hex_digit digits.now) }
-    ensures value { IfSome result (λ n. (2 * n ≡ length digits.now) × (decode_of digits.now ≡ Ok (take n out.new))) }
+    ensures found { IsSome result
+        ↔ ((length digits.now % 2 ≡ 0) × AllPass is_hex_digit digits.now) }
+    ensures value { IfSome result (λ n. (2 * n ≡ length digits.now)
+        × (decode_of digits.now ≡ Ok (take n out.new))) }
 {
     let n = digits.len() / 2;
     hex::decode_to_slice(digits, &mut out[..n]).ok()?;

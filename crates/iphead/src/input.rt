@@ -22,9 +22,11 @@ struct Input {
 impl Input {
     // Takes the next piece of the input, unless that makes it too long.
     fn take(&mut self, piece: &[u8]) -> bool
-        ensures digits { OnTrue result (self.new.digits.items ≡ self.old.digits.items ++ digits_of piece.now) }
+        ensures digits { OnTrue result
+            (self.new.digits.items ≡ self.old.digits.items ++ digits_of piece.now) }
         ensures len { OnTrue result (self.new.len ≡ self.old.len + length piece.now) }
-        ensures too_long { OnFalse result ((4096 < length (self.old.digits.items ++ digits_of piece.now))
+        ensures too_long { OnFalse result
+            ((4096 < length (self.old.digits.items ++ digits_of piece.now))
             ⊎ (65536 < self.old.len + length piece.now)) }
     {
         if MAX_LEN - self.len < piece.len() {
@@ -62,7 +64,8 @@ fn push_digit(digits: &mut ArrayVec<u8, 4096>, byte: u8) -> bool
 /// no further.
 pub fn read_digits<R: Read>(reader: &mut R) -> io::Result<Option<ArrayVec<u8, 4096>>>
     ensures { IfOk result (λ digits. IfSome (R.remaining reader.old) (λ input.
-        MatchOption digits (IsTooLong input) (λ d. (¬ IsTooLong input) × (d.items ≡ digits_of input)))) }
+        MatchOption digits (IsTooLong input)
+            (λ d. (¬ IsTooLong input) × (d.items ≡ digits_of input)))) }
 {
     let mut input = Input {
         digits: ArrayVec::new(),

@@ -85,7 +85,8 @@ impl fmt::Display for Dotted {
 // Writes the line with the options.
 fn write_options<W: Write>(writer: &mut W, options: &[u8]) -> io::Result<()>
     requires { length options.now ≤ 40 }
-    ensures { OnOk result (Appends (W.contents writer.old) (W.contents writer.new) (line (codes "options") (options_text options.now))) }
+    ensures { OnOk result (Appends (W.contents writer.old) (W.contents writer.new)
+        (line (codes "options") (options_text options.now))) }
 {
     if options.is_empty() {
         write_field(writer, "options", "-")
@@ -107,7 +108,8 @@ fn write_field<W: Write, T: Display + Drop>(writer: &mut W, name: &str, value: T
 #[tactic(auto, unfolding(crate::specs::Output::line))]
 fn write_hex_field<W: Write>(writer: &mut W, name: &str, bytes: &[u8]) -> io::Result<()>
     requires { length bytes.now ≤ 40 }
-    ensures { OnOk result (Appends (W.contents writer.old) (W.contents writer.new) (line name.now (encode_lower bytes.now))) }
+    ensures { OnOk result (Appends (W.contents writer.old) (W.contents writer.new)
+        (line name.now (encode_lower bytes.now))) }
 {
     let mut digits = [0; 80];
     let len = 2 * bytes.len();

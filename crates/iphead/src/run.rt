@@ -1,6 +1,8 @@
 ghost use Rattle.std.specs.Prelude.{◌≡◌, ◌≢◌, ◌≤◌, IfOk, IfSome, List, length};
 ghost use Rattle.hex.specs.Hex.{decode_of};
-ghost use Rattle.iphead.specs.Output.{IsOutput, ReportsBytes, ReportsIpv4, ReportsIpv6, Writes, too_long_outcome};
+ghost use Rattle.etherparse.specs.Ipv4Header.{ReadsIpv4};
+ghost use Rattle.etherparse.specs.Ipv6Header.{ReadsIpv6};
+ghost use Rattle.iphead.specs.Output.{IsOutput, Reports, ReportsBytes, Writes, ipv4_outcome, ipv6_outcome, too_long_outcome};
 
 use crate::decode::decode_input;
 use crate::input::read_digits;
@@ -55,7 +57,7 @@ fn report<W: Write>(digits: &[u8], writer: &mut W) -> io::Result<Status>
 
 // Prints what is to be said of bytes that are read as IPv6.
 fn report_ipv6<W: Write>(bytes: &[u8], writer: &mut W) -> io::Result<Status>
-    ensures { IfOk result (λ status. Writes (ReportsIpv6 bytes.now) status
+    ensures { IfOk result (λ status. Writes (Reports (ReadsIpv6 bytes.now) ipv6_outcome) status
         (W.contents writer.old) (W.contents writer.new)) }
 {
     match Ipv6HeaderSlice::from_slice(bytes) {
@@ -72,7 +74,7 @@ fn report_ipv6<W: Write>(bytes: &[u8], writer: &mut W) -> io::Result<Status>
 
 // Prints what is to be said of bytes that are read as IPv4.
 fn report_ipv4<W: Write>(bytes: &[u8], writer: &mut W) -> io::Result<Status>
-    ensures { IfOk result (λ status. Writes (ReportsIpv4 bytes.now) status
+    ensures { IfOk result (λ status. Writes (Reports (ReadsIpv4 bytes.now) ipv4_outcome) status
         (W.contents writer.old) (W.contents writer.new)) }
 {
     match Ipv4HeaderSlice::from_slice(bytes) {

@@ -27,7 +27,7 @@ pub struct Ipv4Header {
     pub more_fragments: bool,
     /// Where the fragment stands in the packet, in units of 8 bytes.
     pub fragment_offset: IpFragOffset,
-    /// How many more nodes may forward the packet.
+    /// Lowered by one by each node that forwards the packet, which discards it at 0.
     pub time_to_live: u8,
     /// The protocol of what follows the header.
     pub protocol: IpNumber,
@@ -46,7 +46,7 @@ impl Ipv4Header {
     ghost use Rattle.std.specs.Int.{from_bool, to_be_bytes, w16};
     ghost use Rattle.etherparse_fields.specs.IpEcn.{ecn_value};
     ghost use Rattle.etherparse_fields.specs.Ipv4Options.{IsOptionsLen};
-    ghost use Rattle.etherparse.specs.Ipv4Header.{IsFragment, IsIpv4Layout, Ipv4Reading, OfIpv4Header, ReadsIpv4, ViewsIpv4};
+    ghost use Rattle.etherparse.specs.Ipv4Header.{AgreeButForReservedBit, IsFragment, IsIpv4Layout, Ipv4Reading, OfIpv4Header, ReadsIpv4, ViewsIpv4};
     ghost use Rattle.etherparse.specs.Ipv4Header.{default_ipv4_header, ipv4_header_len, ipv4_ihl, ipv4_max_payload_len};
     ghost use Rattle.etherparse.specs.Ipv4Header.{ipv4_payload_len, with_reserved_bit_cleared};
     ghost use Rattle.etherparse.specs.Reading.{header_and_rest};
@@ -164,13 +164,15 @@ impl Ipv4Header {
     /// A `ValueTooBigError` where the payload is above [`Ipv4Header::max_payload_len`]. The header is then as it was.
     pub fn set_payload_len(&mut self, value: usize) -> Result<(), ValueTooBigError<usize>>
         ensures accepted { IsOk result ↔ (value ≤ ipv4_max_payload_len self.old) }
-        ensures always { value ≤ 65475 → IsOk result }
+        ensures fits_any_options { value ≤ 65475 → IsOk result }
         ensures refused { IfErr result (λ e. e ≡ record {
           actual = value;
           max_allowed = ipv4_max_payload_len self.old;
           value_type = value_type.Ipv4PayloadLength;
         }) }
-        ensures set { OnOk result (self.new ≡ record self.old { total_len = ipv4_header_len self.old + value }) }
+        ensures set { OnOk result (self.new ≡ record self.old {
+          total_len = ipv4_header_len self.old + value;
+        }) }
         ensures unchanged { OnErr result (self.new ≡ self.old) }
     {
         let max_allowed = usize::from(self.max_payload_len());
@@ -223,7 +225,8 @@ impl Ipv4Header {
     #[inline]
     pub fn read_from_slice(slice: &[u8]) -> Result<(Ipv4Header, &[u8]), HeaderSliceError>
         ensures reads { ReadsIpv4 slice.now (header_and_rest result) }
-        ensures only { (other : Ipv4Reading) → ReadsIpv4 slice.now other → other ≡ header_and_rest result }
+        ensures only { (other : Ipv4Reading) → ReadsIpv4 slice.now other →
+            other ≡ header_and_rest result }
 
         // What was read is written again, with the reserved bit 0.
         ensures cleared { IfOk result (λ x. (front : List ℕ) → slice.now ≡ front ++ x.1.now →
@@ -231,8 +234,8 @@ impl Ipv4Header {
 
         // Bytes have the same header where they agree in all but the reserved bit.
         ensures same_header { IfOk result (λ x. (front : List ℕ) → slice.now ≡ front ++ x.1.now →
-            (others : List ℕ) → OfIpv4Header others (λ other. (other ≡ x.0)
-            ↔ (with_reserved_bit_cleared others ≡ with_reserved_bit_cleared front))) }
+            (bytes : List ℕ) → OfIpv4Header bytes (λ header. (header ≡ x.0)
+            ↔ AgreeButForReservedBit bytes front)) }
     {
         Ipv4Header::from_slice(slice)
     }
@@ -246,7 +249,8 @@ impl Ipv4Header {
     #[inline(always)]
     pub fn from_slice(slice: &[u8]) -> Result<(Ipv4Header, &[u8]), HeaderSliceError>
         ensures reads { ReadsIpv4 slice.now (header_and_rest result) }
-        ensures only { (other : Ipv4Reading) → ReadsIpv4 slice.now other → other ≡ header_and_rest result }
+        ensures only { (other : Ipv4Reading) → ReadsIpv4 slice.now other →
+            other ≡ header_and_rest result }
 
         // What was read is written again, with the reserved bit 0.
         ensures cleared { IfOk result (λ x. (front : List ℕ) → slice.now ≡ front ++ x.1.now →
@@ -254,8 +258,8 @@ impl Ipv4Header {
 
         // Bytes have the same header where they agree in all but the reserved bit.
         ensures same_header { IfOk result (λ x. (front : List ℕ) → slice.now ≡ front ++ x.1.now →
-            (others : List ℕ) → OfIpv4Header others (λ other. (other ≡ x.0)
-            ↔ (with_reserved_bit_cleared others ≡ with_reserved_bit_cleared front))) }
+            (bytes : List ℕ) → OfIpv4Header bytes (λ header. (header ≡ x.0)
+            ↔ AgreeButForReservedBit bytes front)) }
     {
         let view = Ipv4HeaderSlice::from_slice(slice)?;
         let len = view.slice.len();

@@ -4,7 +4,7 @@ ghost use Rattle.etherparse_base.specs.declared.err.layer.Layer.TheVariants as l
 ghost use Rattle.etherparse_fields.specs.Ipv4Options.{IsOptionsLen};
 ghost use Rattle.etherparse.specs.FirstByte.{ihl_of, version_of};
 ghost use Rattle.etherparse.specs.Ipv4Header.{RefusesIpv4};
-ghost use Rattle.etherparse.specs.Reading.{slice_too_short};
+ghost use Rattle.etherparse.specs.Reading.{too_short_error};
 
 use crate::err::ipv4::{HeaderError, HeaderSliceError};
 use crate::err::{Layer, LenError};
@@ -70,7 +70,7 @@ impl<'a> Ipv4HeaderSlice<'a> {
     #[inline]
     pub fn ihl(&self) -> u8
         ensures value { OfIpv4Header self.now.slice.now (λ header. result ≡ ipv4_ihl header) }
-        ensures byte { result ≡ ihl_of self.now.slice.now }
+        ensures lower_half_of_byte_0 { result ≡ ihl_of self.now.slice.now }
     {
         self.slice[0] & 0xf
     }
@@ -107,7 +107,8 @@ impl<'a> Ipv4HeaderSlice<'a> {
     /// `required_len`.
     #[inline]
     pub fn payload_len(&self) -> Result<u16, LenError>
-        ensures value { OfIpv4Header self.now.slice.now (λ header. result ≡ ipv4_payload_len header) }
+        ensures value { OfIpv4Header self.now.slice.now (λ header.
+            result ≡ ipv4_payload_len header) }
     {
         payload_len_between(self.slice.len() as u16, self.total_len())
     }
@@ -139,7 +140,8 @@ impl<'a> Ipv4HeaderSlice<'a> {
     /// Where the fragment stands in the packet, in units of 8 bytes: the lower 5 bits of byte 6, and byte 7.
     #[inline]
     pub fn fragments_offset(&self) -> IpFragOffset
-        ensures value { OfIpv4Header self.now.slice.now (λ header. result ≡ header.fragment_offset) }
+        ensures value { OfIpv4Header self.now.slice.now (λ header.
+            result ≡ header.fragment_offset) }
     {
         let bytes = [self.slice[6] & 0x1f, self.slice[7]];
         IpFragOffset::try_new(u16::from_be_bytes(bytes)).unwrap()
@@ -148,12 +150,13 @@ impl<'a> Ipv4HeaderSlice<'a> {
     /// Whether the payload is a part of one that was cut: more fragments follow it, or its offset is not 0.
     #[inline]
     pub fn is_fragmenting_payload(&self) -> bool
-        ensures value { OfIpv4Header self.now.slice.now (λ header. IsTrue result ↔ IsFragment header) }
+        ensures value { OfIpv4Header self.now.slice.now (λ header.
+            IsTrue result ↔ IsFragment header) }
     {
         self.more_fragments() || self.fragments_offset().value() != 0
     }
 
-    /// How many more nodes may forward the packet: byte 8.
+    /// The time to live: byte 8. Each node that forwards the packet lowers it by one, and discards the packet at 0.
     #[inline]
     pub fn ttl(&self) -> u8
         ensures value { OfIpv4Header self.now.slice.now (λ header. result ≡ header.time_to_live) }
@@ -172,7 +175,8 @@ impl<'a> Ipv4HeaderSlice<'a> {
     /// The checksum that the header has, right or wrong: bytes 10 and 11.
     #[inline]
     pub fn header_checksum(&self) -> u16
-        ensures value { OfIpv4Header self.now.slice.now (λ header. result ≡ header.header_checksum) }
+        ensures value { OfIpv4Header self.now.slice.now (λ header.
+            result ≡ header.header_checksum) }
     {
         u16::from_be_bytes([self.slice[10], self.slice[11]])
     }
@@ -211,7 +215,7 @@ impl<'a> Ipv4HeaderSlice<'a> {
         self.header_with(options_of(self.options()))
     }
 
-    // The header that the bytes are in the layout of, of its options.
+    // The header that the bytes are in the layout of, with these options.
     #[inline(always)]
     pub(super) fn header_with(&self, options: Ipv4Options) -> Ipv4Header
         requires { options ≡ drop 20 self.now.slice.now }
@@ -263,7 +267,7 @@ fn header_len(slice: &[u8]) -> Option<usize>
     Some(header_len)
 }
 
-// Why there is none. It stands apart, so that it does not weigh on the path of those that are read.
+// Why the slice has no header at its front. It stands apart, so that it does not weigh on the path of those that are read.
 #[cold]
 #[inline(never)]
 fn refusal(slice: &[u8]) -> HeaderSliceError
@@ -272,7 +276,7 @@ fn refusal(slice: &[u8]) -> HeaderSliceError
     ensures refuses { RefusesIpv4 slice.now result }
 {
     if slice.len() < Ipv4Header::MIN_LEN {
-        return too_short(Ipv4Header::MIN_LEN, slice.len());
+        return length_error(Ipv4Header::MIN_LEN, slice.len());
     }
     let version_number = slice[0] >> 4;
     if version_number != 4 {
@@ -282,12 +286,12 @@ fn refusal(slice: &[u8]) -> HeaderSliceError
     if ihl < 5 {
         return HeaderSliceError::Content(HeaderError::HeaderLengthSmallerThanHeader { ihl });
     }
-    too_short(4 * usize::from(ihl), slice.len())
+    length_error(4 * usize::from(ihl), slice.len())
 }
 
 // The error of a slice that is too short for its header.
-fn too_short(required_len: usize, len: usize) -> HeaderSliceError
-    ensures { result ≡ HeaderSliceError.Len (slice_too_short layer.Ipv4Header required_len len) }
+fn length_error(required_len: usize, len: usize) -> HeaderSliceError
+    ensures { result ≡ HeaderSliceError.Len (too_short_error layer.Ipv4Header required_len len) }
 {
     HeaderSliceError::Len(LenError {
         required_len,

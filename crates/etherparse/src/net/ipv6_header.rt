@@ -16,7 +16,7 @@ pub struct Ipv6Header {
     pub payload_length: u16,
     /// What follows the header: an extension header or an upper-layer protocol.
     pub next_header: IpNumber,
-    /// How many more nodes may forward the packet.
+    /// Lowered by one by each node that forwards the packet, which discards it at 0.
     pub hop_limit: u8,
     /// The address of the sender.
     pub source: [u8; 16],
@@ -55,7 +55,8 @@ impl Ipv6Header {
     #[inline]
     pub fn read_from_slice(slice: &[u8]) -> Result<(Ipv6Header, &[u8]), HeaderSliceError>
         ensures reads { ReadsIpv6 slice.now (header_and_rest result) }
-        ensures only { (other : Ipv6Reading) → ReadsIpv6 slice.now other → other ≡ header_and_rest result }
+        ensures only { (other : Ipv6Reading) → ReadsIpv6 slice.now other →
+            other ≡ header_and_rest result }
     {
         Ipv6Header::from_slice(slice)
     }
@@ -68,7 +69,8 @@ impl Ipv6Header {
     #[inline]
     pub fn from_slice(slice: &[u8]) -> Result<(Ipv6Header, &[u8]), HeaderSliceError>
         ensures reads { ReadsIpv6 slice.now (header_and_rest result) }
-        ensures only { (other : Ipv6Reading) → ReadsIpv6 slice.now other → other ≡ header_and_rest result }
+        ensures only { (other : Ipv6Reading) → ReadsIpv6 slice.now other →
+            other ≡ header_and_rest result }
     {
         let header = Ipv6HeaderSlice::from_slice(slice)?.to_header();
         Ok((header, &slice[Ipv6Header::LEN..]))
@@ -150,7 +152,8 @@ impl Ipv6Header {
     // What stands before the addresses.
     #[inline(always)]
     fn front(&self) -> [u8; 8]
-        ensures value { result ≡ to_be_bytes w32 (6 * 2 ^ 28 + self.now.traffic_class * 2 ^ 20 + self.now.flow_label)
+        ensures value { result ≡ to_be_bytes w32
+            (6 * 2 ^ 28 + self.now.traffic_class * 2 ^ 20 + self.now.flow_label)
             ++ (to_be_bytes w16 self.now.payload_length ++ self.now.next_header ∷ self.now.hop_limit ∷ []) }
         ensures traffic_class { self.now.traffic_class < 2 ^ 8 }
         ensures flow_label { self.now.flow_label < 2 ^ 20 }

@@ -13,11 +13,11 @@ use std::fmt;
 /// Equality, order and hash are those of the number.
 #[derive(Clone, Copy, Debug, PartialEq, Eq, PartialOrd, Ord, Hash)]
 pub enum IpEcn {
-    /// The transport does not understand the notification.
+    /// The packet does not use the notification.
     NotEct = 0,
-    /// The transport understands the notification. Routers treat this code point as [`IpEcn::Ect0`].
+    /// The transport of the sender is capable of it. Routers treat this code point as [`IpEcn::Ect0`].
     Ect1 = 1,
-    /// The transport understands the notification.
+    /// The transport of the sender is capable of it.
     Ect0 = 2,
     /// A router on the way met congestion.
     CongestionExperienced = 3,

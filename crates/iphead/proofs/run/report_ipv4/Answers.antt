@@ -13,7 +13,7 @@ returns-in_ok-write_ipv4-in-Ok g c =
       outcome = record {
         reading = Ok (v.header, v.rest);
         reads = record { front = c.in-Ok.view.slice.now; whole = v.whole; layout = v.layout };
-        outcome_is = ap (λ n. (Done, ipv4_lines v.header n)) behind;
+        outcome_of_it = ap (λ n. (Done, ipv4_lines v.header n)) behind;
       };
       appended = c.in_ok-write_ipv4-in-Ok.ensures v.header v.layout;
     }
@@ -21,6 +21,6 @@ returns-in_ok-write_ipv4-in-Ok g c =
 pub returns-in_ok-write_error-in-Err : goal.returns-in_ok-write_error-in-Err
 returns-in_ok-write_error-in-Err g c = record {
   text = _;
-  outcome = record { reading = Err c.in-Err.e; reads = c.in-Err.ensures.views; outcome_is = refl };
+  outcome = record { reading = Err c.in-Err.e; reads = c.in-Err.ensures.views; outcome_of_it = refl };
   appended = c.in_ok-write_error-in-Err.ensures;
 }

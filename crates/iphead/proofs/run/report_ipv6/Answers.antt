@@ -9,7 +9,7 @@ returns-in_ok-write_ipv6-in-Ok g c =
       outcome = record {
         reading = Ok (v.header, v.rest);
         reads = record { front = c.in-Ok.view.slice.now; whole = v.whole; layout = v.layout };
-        outcome_is = refl;
+        outcome_of_it = refl;
       };
       appended = c.in_ok-write_ipv6-in-Ok.ensures v.header v.layout;
     }
@@ -17,6 +17,6 @@ returns-in_ok-write_ipv6-in-Ok g c =
 pub returns-in_ok-write_error-in-Err : goal.returns-in_ok-write_error-in-Err
 returns-in_ok-write_error-in-Err g c = record {
   text = _;
-  outcome = record { reading = Err c.in-Err.e; reads = c.in-Err.ensures.views; outcome_is = refl };
+  outcome = record { reading = Err c.in-Err.e; reads = c.in-Err.ensures.views; outcome_of_it = refl };
   appended = c.in_ok-write_error-in-Err.ensures;
 }
