@@ -343,25 +343,28 @@ header_at p version ihl len bytes =
     let e1 = get_or-slice_range p 6 8 1 (omega arith) in
     let split = flags_split (get_or p 6 0) (get_or p 7 0) b6 b7 in (
       header,
-      record { reserved = get_or p 6 0 / 128; layout = record {
-        len = omega arith;
-        are_bytes = bytes;
-        version_ihl = omega arith;
-        dscp_ecn = omega (arith, ecn.1);
-        total_len = refl;
-        identification = refl;
-        flags_fragment_offset = omega (arith, df.1, mf.1);
-        time_to_live = refl;
-        protocol = refl;
-        header_checksum = refl;
-        source = refl;
-        destination = refl;
-        options = refl;
-        options_len = record { fits = omega arith; in_words = omega arith };
-        dscp_fits = let b1 = bytes 1 in omega arith;
-        fragment_offset_fits = omega arith;
-        reserved_fits = omega arith;
-      } },
+      record {
+        reserved = get_or p 6 0 / 128;
+        layout = record {
+          len = omega arith;
+          are_bytes = bytes;
+          version_ihl = omega arith;
+          dscp_ecn = omega (arith, ecn.1);
+          total_len = refl;
+          identification = refl;
+          flags_fragment_offset = omega (arith, df.1, mf.1);
+          time_to_live = refl;
+          protocol = refl;
+          header_checksum = refl;
+          source = refl;
+          destination = refl;
+          options = refl;
+          options_len = record { fits = omega arith; in_words = omega arith };
+          dscp_fits = let b1 = bytes 1 in omega arith;
+          fragment_offset_fits = omega arith;
+          reserved_fits = omega arith;
+        };
+      },
     )
 
 -- the fixed fields of a header, with the options after them, are its spelling

@@ -11,7 +11,7 @@ use Rattle.etherparse.proofs.Ipv4Layout.{cleared_layout, header_at, ihl_of-layou
 use Rattle.etherparse.proofs.Parts.{get_or-slice_range, part_is_bytes, same_back, same_front}
 use Rattle.etherparse.specs.FirstByte.{ihl_of, version_of}
 use Rattle.etherparse.specs.Ipv4Header.{HasIpv4Layout, IsIpv4Layout, Ipv4Reading, OfIpv4Header, ReadsIpv4, RefusesIpv4, ViewsIpv4, with_reserved_bit_cleared}
-use Rattle.etherparse.specs.Reading.{BeginsAs, BeginsWith}
+use Rattle.etherparse.specs.Reading.{BeginsWith}
 use Rattle.etherparse.specs.declared.net.ipv4_header.Ipv4Header.{Ipv4Header}
 
 -- some bytes are refused for one reason

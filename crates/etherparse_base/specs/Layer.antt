@@ -39,9 +39,11 @@ layer_row layer.Icmpv4Timestamp = (21, codes "ICMP Timestamp Error", codes "ICMP
 layer_row layer.Icmpv4TimestampReply =
     (22, codes "ICMP Timestamp Reply Error", codes "ICMP timestamp reply message")
 layer_row layer.Icmpv6 = (23, codes "ICMPv6 Packet Error", codes "ICMPv6 packet")
-layer_row layer.Arp =
-    (24, codes "Address Resolution Protocol Packet Error",
-    codes "Address Resolution Protocol packet")
+layer_row layer.Arp = (
+  24,
+  codes "Address Resolution Protocol Packet Error",
+  codes "Address Resolution Protocol packet",
+)
 
 -- the columns of the table
 abbrev pub layer_index : Layer → ℕ

@@ -65,7 +65,7 @@ fn push_digit(digits: &mut ArrayVec<u8, 4096>, byte: u8) -> bool
 pub fn read_digits<R: Read>(reader: &mut R) -> io::Result<Option<ArrayVec<u8, 4096>>>
     ensures { IfOk result (λ digits. IfSome (R.remaining reader.old) (λ input.
         MatchOption digits (IsTooLong input)
-            (λ d. (¬ IsTooLong input) × (d.items ≡ digits_of input)))) }
+        (λ d. (¬ IsTooLong input) × (d.items ≡ digits_of input)))) }
 {
     let mut input = Input {
         digits: ArrayVec::new(),

@@ -1,4 +1,4 @@
-ghost use Rattle.std.specs.Prelude.{◌≡◌, ◌≤◌, ◌%◌, ◌++◌, length};
+ghost use Rattle.std.specs.Prelude.{◌≡◌, ◌≤◌, ◌++◌, length};
 ghost use Rattle.etherparse_base.specs.Bytes.{IsBytes};
 ghost use Rattle.etherparse_fields.specs.Ipv4Options.{IsOptionsLen};
 ghost use Rattle.etherparse.specs.Ipv4Header.{payload_len_of};
@@ -326,6 +326,7 @@ impl Ipv4Header {
 }
 
 const _: () = prove!(Ipv4Header::MIN_LEN == 20 && Ipv4Header::MIN_LEN_U16 == 20);
+
 const _: () = prove!(Ipv4Header::MAX_LEN == 60 && Ipv4Header::SERIALIZED_SIZE == 20);
 
 // The length of a payload by the lengths of the header and of the packet.

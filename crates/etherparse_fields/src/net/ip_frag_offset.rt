@@ -39,9 +39,7 @@ impl IpFragOffset {
     /// A `ValueTooBigError` where the number needs more than 13 bits, which is above [`IpFragOffset::MAX_U16`].
     #[inline]
     pub const fn try_new(value: u16) -> Result<IpFragOffset, ValueTooBigError<u16>>
-        ensures answer {
-            TakesUpTo (λ offset. offset) 8191 value_type.IpFragmentOffset value result
-        }
+        ensures answer { TakesUpTo (λ offset. offset) 8191 value_type.IpFragmentOffset value result }
     {
         if value <= IpFragOffset::MAX_U16 {
             Ok(IpFragOffset(value))

@@ -88,16 +88,31 @@ fn length_version_ihl_and_length_again_are_tested_in_turn(rt: HostRuntime) {
         let mut bytes = [0; 23];
         bytes[0] = first;
         let slice = &bytes[..len];
-        assert_eq!(rt; Ipv4HeaderSlice::from_slice(slice).expect_err(&rt, "no header"), expected);
-        assert_eq!(rt; Ipv4Header::from_slice(slice).expect_err(&rt, "no header"), expected);
-        assert_eq!(rt; Ipv4Header::read_from_slice(slice).expect_err(&rt, "no header"), expected);
+        assert_eq!(rt;
+            Ipv4HeaderSlice::from_slice(slice).expect_err(&rt, "no header"),
+            expected
+        );
+        assert_eq!(rt;
+            Ipv4Header::from_slice(slice).expect_err(&rt, "no header"),
+            expected
+        );
+        assert_eq!(rt;
+            Ipv4Header::read_from_slice(slice).expect_err(&rt, "no header"),
+            expected
+        );
     }
 }
 
 #[test]
 fn a_new_header_has_room_for_65515_bytes(rt: HostRuntime) {
     let made = |payload_len: u16| {
-        Ipv4Header::new(payload_len, 64, IpNumber(17), [192, 168, 0, 1], [192, 168, 0, 199])
+        Ipv4Header::new(
+            payload_len,
+            64,
+            IpNumber(17),
+            [192, 168, 0, 1],
+            [192, 168, 0, 199],
+        )
     };
     let mut expected = Ipv4Header::default();
     expected.total_len = 65535;
@@ -140,7 +155,10 @@ fn options_are_set_or_refused_with_no_change(rt: HostRuntime) -> Result<(), Fail
     let mut header = with_options();
     header.total_len = 100;
     let unchanged = header.clone()?;
-    assert_eq!(rt; header.set_options(&[1, 2, 3]), Err(BadOptionsLen { bad_len: 3 }));
+    assert_eq!(rt;
+        header.set_options(&[1, 2, 3]),
+        Err(BadOptionsLen { bad_len: 3 })
+    );
     assert_eq!(rt; header, unchanged);
     assert_eq!(rt; header.set_options(&[8, 7, 6, 5, 4, 3, 2, 1]), Ok(()));
     assert_eq!(rt; header.options(), [8, 7, 6, 5, 4, 3, 2, 1].as_slice());
