@@ -1,0 +1,23 @@
+-- What a packet filter asks of a packet.
+use Rattle.std.specs.Prelude.{ℕ, ◌≡◌, ◌≢◌, ◌<◌, ◌≤◌, ◌⊎◌, List, length, slice_range}
+use Rattle.std.specs.Int.{from_be_bytes, w16}
+use Rattle.etherparse.specs.Ipv4Header.{HasIpv4Layout, IsFragment}
+use Rattle.etherparse.specs.Reading.{BeginsWith}
+use Rattle.etherparse.specs.declared.net.ipv4_header.Ipv4Header.{Ipv4Header}
+
+-- a UDP packet over IPv4 that is no fragment, with this destination port (RFC 768)
+pub record HasUdpPort (packet : List ℕ) (port : ℕ) : Type 0 where
+  pub header : Ipv4Header
+  pub rest : List ℕ
+  pub begins : BeginsWith HasIpv4Layout packet header rest
+  pub is_udp : header.protocol ≡ 17
+  pub is_whole : ¬ IsFragment header
+  pub enough : 4 ≤ length rest
+  pub found : from_be_bytes w16 (slice_range rest 2 4) ≡ port
+
+-- an IPv4 packet of another protocol, a fragment, or one that ends before its ports
+pub record HasNoUdpPort (packet : List ℕ) : Type 0 where
+  pub header : Ipv4Header
+  pub rest : List ℕ
+  pub begins : BeginsWith HasIpv4Layout packet header rest
+  pub why : (header.protocol ≢ 17) ⊎ (IsFragment header ⊎ (length rest < 4))

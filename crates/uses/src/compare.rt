@@ -1,0 +1,91 @@
+//! A monitor: what was seen is compared, ordered and kept.
+
+ghost use Rattle.std.specs.Prelude.{◌≡◌, ◌<◌, ◌↔◌, Ok, IsTrue};
+
+use etherparse::err::{LenError, ValueTooBigError, ipv4, ipv6};
+use etherparse::{IpDscp, Ipv4Header, Ipv4HeaderSlice, Ipv6Header, Ipv6HeaderSlice};
+use std::alloc::AllocError;
+
+/// Whether two IPv4 packets were refused for the same reason.
+pub fn is_same_ipv4_error(first: &ipv4::HeaderSliceError, other: &ipv4::HeaderSliceError) -> bool
+    ensures same { IsTrue result ↔ (first.now ≡ other.now) }
+{
+    first == other
+}
+
+/// Whether two IPv6 packets were refused for the same reason.
+pub fn is_same_ipv6_error(first: &ipv6::HeaderSliceError, other: &ipv6::HeaderSliceError) -> bool
+    ensures same { IsTrue result ↔ (first.now ≡ other.now) }
+{
+    first == other
+}
+
+/// Whether two lengths were refused for the same reason.
+pub fn is_same_len_error(first: &LenError, other: &LenError) -> bool
+    ensures same { IsTrue result ↔ (first.now ≡ other.now) }
+{
+    first == other
+}
+
+/// Whether two values were refused for the same reason.
+pub fn is_same_value_error(first: &ValueTooBigError<u16>, other: &ValueTooBigError<u16>) -> bool
+    ensures same { IsTrue result ↔ (first.now ≡ other.now) }
+{
+    first == other
+}
+
+/// Whether an IPv4 header was received as it was sent.
+pub fn is_same_ipv4_header(sent: &Ipv4Header, received: &Ipv4Header) -> bool
+    ensures same { IsTrue result ↔ (sent.now ≡ received.now) }
+{
+    sent == received
+}
+
+/// Whether an IPv6 header was received as it was sent.
+pub fn is_same_ipv6_header(sent: &Ipv6Header, received: &Ipv6Header) -> bool
+    ensures same { IsTrue result ↔ (sent.now ≡ received.now) }
+{
+    sent == received
+}
+
+/// Whether two packets have the same bytes of an IPv4 header.
+pub fn is_same_ipv4_view(first: &Ipv4HeaderSlice, other: &Ipv4HeaderSlice) -> bool
+    ensures same { IsTrue result ↔ (first.now.slice.now ≡ other.now.slice.now) }
+{
+    first == other
+}
+
+/// Whether two packets have the same bytes of an IPv6 header.
+pub fn is_same_ipv6_view(first: &Ipv6HeaderSlice, other: &Ipv6HeaderSlice) -> bool
+    ensures same { IsTrue result ↔ (first.now.slice.now ≡ other.now.slice.now) }
+{
+    first == other
+}
+
+/// Whether a fragment stands before another one in the payload that was cut.
+pub fn is_earlier(first: &Ipv4Header, other: &Ipv4Header) -> bool
+    ensures order { IsTrue result ↔ (first.now.fragment_offset < other.now.fragment_offset) }
+{
+    first.fragment_offset < other.fragment_offset
+}
+
+/// Whether a class is below another, by its number.
+pub fn is_lower(first: IpDscp, other: IpDscp) -> bool
+    ensures order { IsTrue result ↔ (first < other) }
+{
+    first < other
+}
+
+/// The header that was seen, to be kept.
+pub fn kept_ipv4(header: &Ipv4Header) -> Result<Ipv4Header, AllocError>
+    ensures equal { result ≡ Ok header.now }
+{
+    header.clone()
+}
+
+/// The header that was seen, to be kept.
+pub fn kept_ipv6(header: &Ipv6Header) -> Result<Ipv6Header, AllocError>
+    ensures equal { result ≡ Ok header.now }
+{
+    header.clone()
+}

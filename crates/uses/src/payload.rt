@@ -1,0 +1,38 @@
+//! A capture reader: the payloads of packets, cut as their headers say.
+
+ghost use Rattle.std.specs.Prelude.{ℕ, ◌≡◌, ◌*◌, Err, IfErr, IfOk};
+ghost use Rattle.etherparse.specs.Ipv4Header.{OfIpv4Header};
+ghost use Rattle.etherparse.specs.Ipv6Header.{RefusesIpv6};
+ghost use Rattle.uses.specs.Payload.{HasIpv4Payload, HasIpv6Payload, RefusesIpv4Payload};
+
+use etherparse::err::{ipv4, ipv6};
+use etherparse::{Ipv4Header, Ipv4HeaderSlice, Ipv6Header};
+
+/// What follows an IPv6 header, as far as its payload length says and the capture has.
+pub fn ipv6_payload(packet: &[u8]) -> Result<&[u8], ipv6::HeaderSliceError>
+    ensures cut { IfOk result (λ payload. HasIpv6Payload packet.now payload.now) }
+    ensures refused { IfErr result (RefusesIpv6 packet.now) }
+{
+    match Ipv6Header::from_slice(packet) {
+        Ok((header, rest)) => Ok(&rest[..usize::from(header.payload_length).min(rest.len())]),
+        Err(e) => Err(e),
+    }
+}
+
+/// What follows an IPv4 header, as far as its total length says and the capture has. A total length below that of the
+/// header is refused as a length error.
+pub fn ipv4_payload(packet: &[u8]) -> Result<&[u8], ipv4::HeaderSliceError>
+    ensures cut { IfOk result (λ payload. HasIpv4Payload packet.now payload.now) }
+    ensures refused { IfErr result (RefusesIpv4Payload packet.now) }
+{
+    let (header, rest) = Ipv4Header::from_slice(packet)?;
+    let len = usize::from(header.payload_len().map_err(ipv4::HeaderSliceError::Len)?);
+    Ok(&rest[..len.min(rest.len())])
+}
+
+/// Where the payload of a fragment stands in the payload that was cut, in bytes.
+pub fn fragment_start(view: &Ipv4HeaderSlice) -> usize
+    ensures value { OfIpv4Header view.now.slice.now (λ header. result ≡ 8 * header.fragment_offset) }
+{
+    usize::from(view.fragments_offset().byte_offset())
+}
