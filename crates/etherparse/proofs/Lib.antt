@@ -1,6 +1,6 @@
 mod Fields
-mod Ipv4Layout
+pub mod Ipv4Layout
 mod Ipv4Reading
-mod Ipv6Layout
+pub mod Ipv6Layout
 mod Ipv6Reading
 mod Parts

@@ -1,5 +1,5 @@
 -- What a forwarder does to a packet.
-use Rattle.std.specs.Prelude.{ℕ, ◌≡◌, ◌-◌, ◌<◌, ◌≤◌, List, Ok, ◌++◌}
+use Rattle.std.specs.Prelude.{ℕ, ◌-◌, ◌<◌, ◌≤◌, List, Ok, ◌++◌}
 use Rattle.etherparse.specs.Ipv4Header.{HasIpv4Layout, ReadsIpv4}
 use Rattle.etherparse.specs.Ipv6Header.{IsIpv6Layout, ReadsIpv6}
 use Rattle.etherparse.specs.Reading.{BeginsWith}

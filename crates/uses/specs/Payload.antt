@@ -1,5 +1,5 @@
 -- What a capture reader asks of a packet.
-use Rattle.std.specs.Prelude.{ℕ, ◌≡◌, ◌⊎◌, List, length, Ok, Err, min, take}
+use Rattle.std.specs.Prelude.{ℕ, ◌≡◌, ◌+◌, ◌<◌, ◌⊎◌, List, length, Ok, Err, min, take}
 use Rattle.etherparse.specs.Ipv4Header.{HasIpv4Layout, RefusesIpv4, ipv4_payload_len}
 use Rattle.etherparse.specs.Ipv6Header.{IsIpv6Layout}
 use Rattle.etherparse.specs.Reading.{BeginsWith}
@@ -36,3 +36,10 @@ pub record HasIpv6Payload (packet payload : List ℕ) : Type 0 where
   pub rest : List ℕ
   pub begins : BeginsWith IsIpv6Layout packet header rest
   pub cut : payload ≡ take (min header.payload_length (length rest)) rest
+
+-- a packet with this many bytes more is as long as its IPv4 header needs, as far as it tells by now
+pub record IsShortBy (count : ℕ) (packet : List ℕ) : Type 0 where
+  pub error : LenError
+  pub refused : RefusesIpv4 packet (Len error)
+  pub short : length packet + count ≡ error.required_len
+  pub some : 0 < count

@@ -1,10 +1,21 @@
-//! A monitor: what was seen is compared, ordered and kept.
+//! A monitor: what was seen is compared, ordered, kept and told.
 
-ghost use Rattle.std.specs.Prelude.{◌≡◌, ◌<◌, ◌↔◌, Ok, IsTrue};
+ghost use Rattle.std.specs.Prelude.{◌≡◌, ◌<◌, ◌↔◌, IfOk, IsTrue, Ok};
+ghost use Rattle.std.specs.String.{string_bytes};
+ghost use Rattle.etherparse.specs.Ipv4Errors.{ipv4_header_slice_error_text};
+ghost use Rattle.etherparse.specs.Ipv4Header.{OfIpv4Header};
+ghost use Rattle.etherparse.specs.Layer.{layer_index};
 
-use etherparse::err::{LenError, ValueTooBigError, ipv4, ipv6};
+use etherparse::err::{Layer, LenError, ValueTooBigError, ipv4, ipv6};
 use etherparse::{IpDscp, Ipv4Header, Ipv4HeaderSlice, Ipv6Header, Ipv6HeaderSlice};
-use std::alloc::AllocError;
+use std::alloc::{AllocError, Global};
+
+/// Whether two lengths were refused for the same reason.
+pub fn is_same_len_error(first: &LenError, other: &LenError) -> bool
+    ensures same { IsTrue result ↔ (first.now ≡ other.now) }
+{
+    first == other
+}
 
 /// Whether two IPv4 packets were refused for the same reason.
 pub fn is_same_ipv4_error(first: &ipv4::HeaderSliceError, other: &ipv4::HeaderSliceError) -> bool
@@ -15,13 +26,6 @@ pub fn is_same_ipv4_error(first: &ipv4::HeaderSliceError, other: &ipv4::HeaderSl
 
 /// Whether two IPv6 packets were refused for the same reason.
 pub fn is_same_ipv6_error(first: &ipv6::HeaderSliceError, other: &ipv6::HeaderSliceError) -> bool
-    ensures same { IsTrue result ↔ (first.now ≡ other.now) }
-{
-    first == other
-}
-
-/// Whether two lengths were refused for the same reason.
-pub fn is_same_len_error(first: &LenError, other: &LenError) -> bool
     ensures same { IsTrue result ↔ (first.now ≡ other.now) }
 {
     first == other
@@ -88,4 +92,33 @@ pub fn kept_ipv6(header: &Ipv6Header) -> Result<Ipv6Header, AllocError>
     ensures equal { result ≡ Ok header.now }
 {
     header.clone()
+}
+
+/// The bytes of a packet as its IPv4 header counts them, for a counter.
+pub fn counted_bytes(view: &Ipv4HeaderSlice) -> u32
+    ensures count { OfIpv4Header view.now.slice.now (λ header. result ≡ header.total_len) }
+{
+    u32::from(view.total_len())
+}
+
+/// The reason of a refusal, to be kept.
+pub fn kept_error(error: &ipv4::HeaderSliceError) -> Result<ipv4::HeaderSliceError, AllocError>
+    ensures equal { result ≡ Ok error.now }
+{
+    error.clone()
+}
+
+/// The reason of a refusal in words. Only memory can stop it.
+pub fn reason(alloc: Global, error: &ipv4::HeaderSliceError) -> Result<String, AllocError>
+    ensures text { IfOk result (λ text.
+        string_bytes text ≡ ipv4_header_slice_error_text error.now) }
+{
+    format!(in alloc; "{error}")
+}
+
+/// Whether a layer stands before another.
+pub fn is_lower_layer(first: Layer, other: Layer) -> bool
+    ensures order { IsTrue result ↔ (layer_index first < layer_index other) }
+{
+    first < other
 }

@@ -1,11 +1,11 @@
 //! A packet filter: what a packet is, told from its bytes.
 
-ghost use Rattle.std.specs.Prelude.{IfErr, IfNone, IfOk, IfSome};
+ghost use Rattle.std.specs.Prelude.{◌↔◌, IfErr, IfNone, IfOk, IfSome, IsTrue};
 ghost use Rattle.etherparse.specs.Ipv4Header.{RefusesIpv4};
-ghost use Rattle.uses.specs.Filter.{HasNoUdpPort, HasUdpPort};
+ghost use Rattle.uses.specs.Filter.{HasNoUdpPort, HasUdpPort, IsMarkedIpv4For, IsMarkedIpv6For};
 
 use etherparse::err::ipv4::HeaderSliceError;
-use etherparse::{IpNumber, Ipv4Header};
+use etherparse::{IpDscp, IpNumber, Ipv4Header, Ipv4HeaderSlice, Ipv6HeaderSlice};
 
 /// The destination port of a UDP packet that is no fragment.
 pub fn udp_port(packet: &[u8]) -> Result<Option<u16>, HeaderSliceError>
@@ -18,4 +18,24 @@ pub fn udp_port(packet: &[u8]) -> Result<Option<u16>, HeaderSliceError>
         return Ok(None);
     }
     Ok(Some(u16::from_be_bytes([rest[2], rest[3]])))
+}
+
+/// Whether a packet begins with an IPv4 header of this DSCP and destination.
+pub fn is_ipv4_marked_for(packet: &[u8], dscp: IpDscp, destination: [u8; 4]) -> bool
+    ensures exact { IsTrue result ↔ IsMarkedIpv4For dscp destination packet.now }
+{
+    match Ipv4HeaderSlice::from_slice(packet) {
+        Ok(view) => (view.dcp(), view.destination()) == (dscp, destination),
+        Err(_) => false,
+    }
+}
+
+/// Whether a packet begins with an IPv6 header of this DSCP and destination.
+pub fn is_ipv6_marked_for(packet: &[u8], dscp: IpDscp, destination: [u8; 16]) -> bool
+    ensures exact { IsTrue result ↔ IsMarkedIpv6For dscp destination packet.now }
+{
+    match Ipv6HeaderSlice::from_slice(packet) {
+        Ok(view) => (view.dscp(), view.destination()) == (dscp, destination),
+        Err(_) => false,
+    }
 }

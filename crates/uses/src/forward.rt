@@ -1,9 +1,11 @@
 //! A forwarder: headers that are read, changed and written.
 
 ghost use Rattle.std.specs.Prelude.{ℕ, ◌≡◌, ◌+◌, List, ◌++◌, length, IfErr, IfNone, IfOk, IfSome};
-ghost use Rattle.etherparse.specs.Ipv4Header.{RefusesIpv4, with_reserved_bit_cleared};
+ghost use Rattle.etherparse.specs.Ipv4Header.{HasIpv4Layout, RefusesIpv4, with_reserved_bit_cleared};
 ghost use Rattle.etherparse.specs.Ipv6Header.{RefusesIpv6};
-ghost use Rattle.etherparse.specs.TrafficClass.{traffic_class_dscp, traffic_class_ecn};
+ghost use Rattle.etherparse.specs.Reading.{BeginsWith};
+ghost use Rattle.etherparse.specs.TrafficClass.{traffic_class_dscp, traffic_class_of};
+ghost use Rattle.etherparse.specs.declared.net.ipv4_header.Ipv4Header.{Ipv4Header as Header};
 ghost use Rattle.uses.specs.Forward.{IsLastIpv4Hop, IsLastIpv6Hop, IsNextIpv4Hop, IsNextIpv6Hop};
 
 use arrayvec::ArrayVec;
@@ -41,18 +43,22 @@ pub fn ipv6_next_hop(packet: &[u8]) -> Result<Option<[u8; 40]>, ipv6::HeaderSlic
     Ok(Some(header.to_bytes()))
 }
 
-/// An IPv4 packet taken apart and its header written again.
+/// The bytes of an IPv4 header that was read and is written again, and what follows it.
 pub fn ipv4_rewritten(packet: &[u8]) -> Result<(ArrayVec<u8, 60>, &[u8]), ipv4::HeaderSliceError>
+    ensures rest { IfOk result (λ x. (header : Header) ×
+        BeginsWith HasIpv4Layout packet.now header x.1.now) }
     ensures cleared { IfOk result (λ x. (front : List ℕ) → packet.now ≡ front ++ x.1.now →
         x.0.items ≡ with_reserved_bit_cleared front) }
+    ensures refused { IfErr result (RefusesIpv4 packet.now) }
 {
     let (header, rest) = Ipv4Header::read_from_slice(packet)?;
     Ok((header.to_bytes(), rest))
 }
 
-/// An IPv6 packet taken apart and its header written again.
+/// The bytes of an IPv6 header that was read and is written again, and what follows it: together the packet.
 pub fn ipv6_rewritten(packet: &[u8]) -> Result<([u8; 40], &[u8]), ipv6::HeaderSliceError>
     ensures whole { IfOk result (λ x. packet.now ≡ x.0 ++ x.1.now) }
+    ensures refused { IfErr result (RefusesIpv6 packet.now) }
 {
     match Ipv6Header::from_slice(packet) {
         Ok((header, rest)) => Ok((header.to_bytes(), rest)),
@@ -60,17 +66,21 @@ pub fn ipv6_rewritten(packet: &[u8]) -> Result<([u8; 40], &[u8]), ipv6::HeaderSl
     }
 }
 
-/// Lets an IPv4 header announce a payload of 100 bytes. There is room for them, whatever its options.
+/// Lets an IPv4 header announce a payload of 100 bytes. There is room for them, whatever its options, which stay.
 pub fn announce_hundred_bytes(header: &mut Ipv4Header)
-    ensures set { header.new ≡ record header.old { total_len = 120 + length header.old.options } }
+    ensures set { header.new ≡ record header.old {
+      total_len = 120 + length header.old.options;
+    } }
 {
     header.set_payload_len(100).unwrap();
 }
 
-/// Marks that an IPv6 packet met congestion, and answers its class, which stays.
+/// Marks that an IPv6 packet met congestion. It answers the class of the packet, which stays.
 pub fn mark_congestion(header: &mut Ipv6Header) -> IpDscp
-    ensures dscp { result ≡ traffic_class_dscp header.old.traffic_class }
-    ensures ecn { traffic_class_ecn header.new.traffic_class ≡ 3 }
+    ensures class { result ≡ traffic_class_dscp header.old.traffic_class }
+    ensures set { header.new ≡ record header.old {
+      traffic_class = traffic_class_of result 3;
+    } }
 {
     header.set_ecn(IpEcn::CongestionExperienced);
     header.dscp()

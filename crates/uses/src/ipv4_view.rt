@@ -1,136 +1,158 @@
-//! A user of views of IPv4 headers: each getter is the field of the view's header.
+//! A reader of IPv4 headers by their views: each getter answers the field of the view's header.
 
-ghost use Rattle.std.specs.Prelude.{◌≡◌};
+ghost use Rattle.std.specs.Prelude.{◌≡◌, ◌↔◌, IsTrue, length, slice_index};
+ghost use Rattle.etherparse.specs.Ipv4Header.{HasIpv4Layout, IsFragment, ipv4_ihl, ipv4_payload_len};
 
 use etherparse::err::LenError;
-use etherparse::{IpDscp, IpEcn, IpFragOffset, IpNumber, Ipv4HeaderSlice, Ipv4Options};
+use etherparse::{IpDscp, IpEcn, IpFragOffset, IpNumber, Ipv4Header, Ipv4HeaderSlice};
 
-/// The length in words of 4 bytes.
-pub fn ihl(view: &Ipv4HeaderSlice) -> (u8, u8)
-    ensures same { result.0 ≡ result.1 }
+/// The length of the header in words of 4 bytes, beside the header.
+pub fn ihl(view: &Ipv4HeaderSlice) -> (u8, Ipv4Header)
+    ensures field { result.0 ≡ ipv4_ihl result.1 }
+    ensures header { HasIpv4Layout result.1 view.now.slice.now }
 {
-    let header = view.to_header();
-    (view.ihl(), header.ihl())
+    (view.ihl(), view.to_header())
 }
 
-/// The differentiated services code point.
-pub fn dcp(view: &Ipv4HeaderSlice) -> (IpDscp, IpDscp)
-    ensures same { result.0 ≡ result.1 }
+/// The differentiated services code point, beside the header.
+pub fn dcp(view: &Ipv4HeaderSlice) -> (IpDscp, Ipv4Header)
+    ensures field { result.0 ≡ result.1.dscp }
+    ensures header { HasIpv4Layout result.1 view.now.slice.now }
 {
-    let header = view.to_header();
-    (view.dcp(), header.dscp)
+    (view.dcp(), view.to_header())
 }
 
-/// The explicit congestion notification.
-pub fn ecn(view: &Ipv4HeaderSlice) -> (IpEcn, IpEcn)
-    ensures same { result.0 ≡ result.1 }
+/// The explicit congestion notification, beside the header.
+pub fn ecn(view: &Ipv4HeaderSlice) -> (IpEcn, Ipv4Header)
+    ensures field { result.0 ≡ result.1.ecn }
+    ensures header { HasIpv4Layout result.1 view.now.slice.now }
 {
-    let header = view.to_header();
-    (view.ecn(), header.ecn)
+    (view.ecn(), view.to_header())
 }
 
-/// The length of header and payload, in bytes.
-pub fn total_len(view: &Ipv4HeaderSlice) -> (u16, u16)
-    ensures same { result.0 ≡ result.1 }
+/// The length of the header and what follows it, in bytes, beside the header.
+pub fn total_len(view: &Ipv4HeaderSlice) -> (u16, Ipv4Header)
+    ensures field { result.0 ≡ result.1.total_len }
+    ensures header { HasIpv4Layout result.1 view.now.slice.now }
 {
-    let header = view.to_header();
-    (view.total_len(), header.total_len)
+    (view.total_len(), view.to_header())
 }
 
-/// The length of the payload, in bytes, or why there is none.
-pub fn payload_len(view: &Ipv4HeaderSlice) -> (Result<u16, LenError>, Result<u16, LenError>)
-    ensures same { result.0 ≡ result.1 }
+/// The length of the payload in bytes, or why there is none, beside the header.
+pub fn payload_len(view: &Ipv4HeaderSlice) -> (Result<u16, LenError>, Ipv4Header)
+    ensures field { result.0 ≡ ipv4_payload_len result.1 }
+    ensures header { HasIpv4Layout result.1 view.now.slice.now }
 {
-    let header = view.to_header();
-    (view.payload_len(), header.payload_len())
+    (view.payload_len(), view.to_header())
 }
 
-/// The identification.
-pub fn identification(view: &Ipv4HeaderSlice) -> (u16, u16)
-    ensures same { result.0 ≡ result.1 }
+/// What the fragments of one packet have in common, beside the header.
+pub fn identification(view: &Ipv4HeaderSlice) -> (u16, Ipv4Header)
+    ensures field { result.0 ≡ result.1.identification }
+    ensures header { HasIpv4Layout result.1 view.now.slice.now }
 {
-    let header = view.to_header();
-    (view.identification(), header.identification)
+    (view.identification(), view.to_header())
 }
 
-/// The flag that forbids to cut the packet.
-pub fn dont_fragment(view: &Ipv4HeaderSlice) -> (bool, bool)
-    ensures same { result.0 ≡ result.1 }
+/// Whether the packet must not be cut, beside the header.
+pub fn dont_fragment(view: &Ipv4HeaderSlice) -> (bool, Ipv4Header)
+    ensures field { result.0 ≡ result.1.dont_fragment }
+    ensures header { HasIpv4Layout result.1 view.now.slice.now }
 {
-    let header = view.to_header();
-    (view.dont_fragment(), header.dont_fragment)
+    (view.dont_fragment(), view.to_header())
 }
 
-/// The flag that more fragments follow.
-pub fn more_fragments(view: &Ipv4HeaderSlice) -> (bool, bool)
-    ensures same { result.0 ≡ result.1 }
+/// Whether more fragments follow, beside the header.
+pub fn more_fragments(view: &Ipv4HeaderSlice) -> (bool, Ipv4Header)
+    ensures field { result.0 ≡ result.1.more_fragments }
+    ensures header { HasIpv4Layout result.1 view.now.slice.now }
 {
-    let header = view.to_header();
-    (view.more_fragments(), header.more_fragments)
+    (view.more_fragments(), view.to_header())
 }
 
-/// The fragment offset.
-pub fn fragments_offset(view: &Ipv4HeaderSlice) -> (IpFragOffset, IpFragOffset)
-    ensures same { result.0 ≡ result.1 }
+/// Where the fragment stands, beside the header.
+pub fn fragments_offset(view: &Ipv4HeaderSlice) -> (IpFragOffset, Ipv4Header)
+    ensures field { result.0 ≡ result.1.fragment_offset }
+    ensures header { HasIpv4Layout result.1 view.now.slice.now }
 {
-    let header = view.to_header();
-    (view.fragments_offset(), header.fragment_offset)
+    (view.fragments_offset(), view.to_header())
 }
 
-/// Whether the payload is a fragment.
-pub fn is_fragmenting_payload(view: &Ipv4HeaderSlice) -> (bool, bool)
-    ensures same { result.0 ≡ result.1 }
+/// Whether the payload is a fragment, beside the header.
+pub fn is_fragmenting_payload(view: &Ipv4HeaderSlice) -> (bool, Ipv4Header)
+    ensures field { IsTrue result.0 ↔ IsFragment result.1 }
+    ensures header { HasIpv4Layout result.1 view.now.slice.now }
 {
-    let header = view.to_header();
-    (
-        view.is_fragmenting_payload(),
-        header.is_fragmenting_payload(),
-    )
+    (view.is_fragmenting_payload(), view.to_header())
 }
 
-/// The time to live.
-pub fn ttl(view: &Ipv4HeaderSlice) -> (u8, u8)
-    ensures same { result.0 ≡ result.1 }
+/// The time to live, beside the header.
+pub fn ttl(view: &Ipv4HeaderSlice) -> (u8, Ipv4Header)
+    ensures field { result.0 ≡ result.1.time_to_live }
+    ensures header { HasIpv4Layout result.1 view.now.slice.now }
 {
-    let header = view.to_header();
-    (view.ttl(), header.time_to_live)
+    (view.ttl(), view.to_header())
 }
 
-/// The protocol.
-pub fn protocol(view: &Ipv4HeaderSlice) -> (IpNumber, IpNumber)
-    ensures same { result.0 ≡ result.1 }
+/// The protocol of what follows, beside the header.
+pub fn protocol(view: &Ipv4HeaderSlice) -> (IpNumber, Ipv4Header)
+    ensures field { result.0 ≡ result.1.protocol }
+    ensures header { HasIpv4Layout result.1 view.now.slice.now }
 {
-    let header = view.to_header();
-    (view.protocol(), header.protocol)
+    (view.protocol(), view.to_header())
 }
 
-/// The checksum that the header has.
-pub fn header_checksum(view: &Ipv4HeaderSlice) -> (u16, u16)
-    ensures same { result.0 ≡ result.1 }
+/// The checksum that the header has, beside the header.
+pub fn header_checksum(view: &Ipv4HeaderSlice) -> (u16, Ipv4Header)
+    ensures field { result.0 ≡ result.1.header_checksum }
+    ensures header { HasIpv4Layout result.1 view.now.slice.now }
 {
-    let header = view.to_header();
-    (view.header_checksum(), header.header_checksum)
+    (view.header_checksum(), view.to_header())
 }
 
-/// The source address.
-pub fn source(view: &Ipv4HeaderSlice) -> ([u8; 4], [u8; 4])
-    ensures same { result.0 ≡ result.1 }
+/// The source address, beside the header.
+pub fn source(view: &Ipv4HeaderSlice) -> ([u8; 4], Ipv4Header)
+    ensures field { result.0 ≡ result.1.source }
+    ensures header { HasIpv4Layout result.1 view.now.slice.now }
 {
-    let source = view.to_header().source;
-    (view.source(), source)
+    (view.source(), view.to_header())
 }
 
-/// The destination address.
-pub fn destination(view: &Ipv4HeaderSlice) -> ([u8; 4], [u8; 4])
-    ensures same { result.0 ≡ result.1 }
+/// The destination address, beside the header.
+pub fn destination(view: &Ipv4HeaderSlice) -> ([u8; 4], Ipv4Header)
+    ensures field { result.0 ≡ result.1.destination }
+    ensures header { HasIpv4Layout result.1 view.now.slice.now }
 {
-    let destination = view.to_header().destination;
-    (view.destination(), destination)
+    (view.destination(), view.to_header())
 }
 
-/// The options, as bytes of the packet and as those of the header.
-pub fn options<'a>(view: &Ipv4HeaderSlice<'a>) -> (&'a [u8], Ipv4Options)
-    ensures same { result.0.now ≡ result.1 }
+/// The options, as bytes of the packet, beside the header.
+pub fn options<'a>(view: &Ipv4HeaderSlice<'a>) -> (&'a [u8], Ipv4Header)
+    ensures field { result.0.now ≡ result.1.options }
+    ensures header { HasIpv4Layout result.1 view.now.slice.now }
 {
-    (view.options(), view.to_header().options)
+    (view.options(), view.to_header())
+}
+
+/// The headers of two views. They are the same where the bytes are.
+pub fn headers(view: &Ipv4HeaderSlice, other: &Ipv4HeaderSlice) -> (Ipv4Header, Ipv4Header)
+    ensures same { view.now.slice.now ≡ other.now.slice.now → result.0 ≡ result.1 }
+    ensures first { HasIpv4Layout result.0 view.now.slice.now }
+    ensures second { HasIpv4Layout result.1 other.now.slice.now }
+{
+    (view.to_header(), other.to_header())
+}
+
+/// The time to live of a view that was made elsewhere: its byte 8.
+pub fn ttl_by_byte(view: &Ipv4HeaderSlice) -> u8
+    ensures byte { result ≡ slice_index view.now.slice.now 8 }
+{
+    view.ttl()
+}
+
+/// The length in bytes of a view that was made elsewhere, by its IHL.
+pub fn len_by_ihl(view: &Ipv4HeaderSlice) -> usize
+    ensures len { result ≡ length view.now.slice.now }
+{
+    4 * usize::from(view.ihl())
 }

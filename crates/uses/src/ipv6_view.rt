@@ -1,85 +1,103 @@
-//! A user of views of IPv6 headers: each getter is the field of the view's header.
+//! A reader of IPv6 headers by their views: each getter answers the field of the view's header.
 
-ghost use Rattle.std.specs.Prelude.{◌≡◌};
+ghost use Rattle.std.specs.Prelude.{◌≡◌, length, slice_index};
+ghost use Rattle.etherparse.specs.IpEcn.{ecn_value};
+ghost use Rattle.etherparse.specs.Ipv6Header.{IsIpv6Layout};
+ghost use Rattle.etherparse.specs.TrafficClass.{traffic_class_dscp, traffic_class_ecn};
 
-use etherparse::{IpDscp, IpEcn, IpNumber, Ipv6FlowLabel, Ipv6HeaderSlice};
+use etherparse::{IpDscp, IpEcn, IpNumber, Ipv6FlowLabel, Ipv6Header, Ipv6HeaderSlice};
 
-/// The traffic class.
-pub fn traffic_class(view: &Ipv6HeaderSlice) -> (u8, u8)
-    ensures same { result.0 ≡ result.1 }
+/// The traffic class, beside the header.
+pub fn traffic_class(view: &Ipv6HeaderSlice) -> (u8, Ipv6Header)
+    ensures field { result.0 ≡ result.1.traffic_class }
+    ensures header { IsIpv6Layout result.1 view.now.slice.now }
 {
-    let header = view.to_header();
-    (view.traffic_class(), header.traffic_class)
+    (view.traffic_class(), view.to_header())
 }
 
-/// The explicit congestion notification.
-pub fn ecn(view: &Ipv6HeaderSlice) -> (IpEcn, IpEcn)
-    ensures same { result.0 ≡ result.1 }
+/// The explicit congestion notification, beside the header.
+pub fn ecn(view: &Ipv6HeaderSlice) -> (IpEcn, Ipv6Header)
+    ensures field { ecn_value result.0 ≡ traffic_class_ecn result.1.traffic_class }
+    ensures header { IsIpv6Layout result.1 view.now.slice.now }
 {
-    let header = view.to_header();
-    (view.ecn(), header.ecn())
+    (view.ecn(), view.to_header())
 }
 
-/// The differentiated services code point.
-pub fn dscp(view: &Ipv6HeaderSlice) -> (IpDscp, IpDscp)
-    ensures same { result.0 ≡ result.1 }
+/// The differentiated services code point, beside the header.
+pub fn dscp(view: &Ipv6HeaderSlice) -> (IpDscp, Ipv6Header)
+    ensures field { result.0 ≡ traffic_class_dscp result.1.traffic_class }
+    ensures header { IsIpv6Layout result.1 view.now.slice.now }
 {
-    let header = view.to_header();
-    (view.dscp(), header.dscp())
+    (view.dscp(), view.to_header())
 }
 
-/// The flow label.
-pub fn flow_label(view: &Ipv6HeaderSlice) -> (Ipv6FlowLabel, Ipv6FlowLabel)
-    ensures same { result.0 ≡ result.1 }
+/// The flow label, beside the header.
+pub fn flow_label(view: &Ipv6HeaderSlice) -> (Ipv6FlowLabel, Ipv6Header)
+    ensures field { result.0 ≡ result.1.flow_label }
+    ensures header { IsIpv6Layout result.1 view.now.slice.now }
 {
-    let header = view.to_header();
-    (view.flow_label(), header.flow_label)
+    (view.flow_label(), view.to_header())
 }
 
-/// The payload length, in bytes.
-pub fn payload_length(view: &Ipv6HeaderSlice) -> (u16, u16)
-    ensures same { result.0 ≡ result.1 }
+/// The length in bytes of what follows the header, beside the header.
+pub fn payload_length(view: &Ipv6HeaderSlice) -> (u16, Ipv6Header)
+    ensures field { result.0 ≡ result.1.payload_length }
+    ensures header { IsIpv6Layout result.1 view.now.slice.now }
 {
-    let header = view.to_header();
-    (view.payload_length(), header.payload_length)
+    (view.payload_length(), view.to_header())
 }
 
-/// What follows the header.
-pub fn next_header(view: &Ipv6HeaderSlice) -> (IpNumber, IpNumber)
-    ensures same { result.0 ≡ result.1 }
+/// What follows the header, beside the header.
+pub fn next_header(view: &Ipv6HeaderSlice) -> (IpNumber, Ipv6Header)
+    ensures field { result.0 ≡ result.1.next_header }
+    ensures header { IsIpv6Layout result.1 view.now.slice.now }
 {
-    let header = view.to_header();
-    (view.next_header(), header.next_header)
+    (view.next_header(), view.to_header())
 }
 
-/// The hop limit.
-pub fn hop_limit(view: &Ipv6HeaderSlice) -> (u8, u8)
-    ensures same { result.0 ≡ result.1 }
+/// The hop limit, beside the header.
+pub fn hop_limit(view: &Ipv6HeaderSlice) -> (u8, Ipv6Header)
+    ensures field { result.0 ≡ result.1.hop_limit }
+    ensures header { IsIpv6Layout result.1 view.now.slice.now }
 {
-    let header = view.to_header();
-    (view.hop_limit(), header.hop_limit)
+    (view.hop_limit(), view.to_header())
 }
 
-/// The source address.
-pub fn source(view: &Ipv6HeaderSlice) -> ([u8; 16], [u8; 16])
-    ensures same { result.0 ≡ result.1 }
+/// The source address, beside the header.
+pub fn source(view: &Ipv6HeaderSlice) -> ([u8; 16], Ipv6Header)
+    ensures field { result.0 ≡ result.1.source }
+    ensures header { IsIpv6Layout result.1 view.now.slice.now }
 {
-    let source = view.to_header().source;
-    (view.source(), source)
+    (view.source(), view.to_header())
 }
 
-/// The destination address.
-pub fn destination(view: &Ipv6HeaderSlice) -> ([u8; 16], [u8; 16])
-    ensures same { result.0 ≡ result.1 }
+/// The destination address, beside the header.
+pub fn destination(view: &Ipv6HeaderSlice) -> ([u8; 16], Ipv6Header)
+    ensures field { result.0 ≡ result.1.destination }
+    ensures header { IsIpv6Layout result.1 view.now.slice.now }
 {
-    let destination = view.to_header().destination;
-    (view.destination(), destination)
+    (view.destination(), view.to_header())
 }
 
-/// The length of the header, in bytes.
-pub fn header_len(view: &Ipv6HeaderSlice) -> (usize, usize)
-    ensures same { result.0 ≡ result.1 }
+/// The headers of two views. They are the same where the bytes are.
+pub fn headers(view: &Ipv6HeaderSlice, other: &Ipv6HeaderSlice) -> (Ipv6Header, Ipv6Header)
+    ensures same { view.now.slice.now ≡ other.now.slice.now → result.0 ≡ result.1 }
+    ensures first { IsIpv6Layout result.0 view.now.slice.now }
+    ensures second { IsIpv6Layout result.1 other.now.slice.now }
 {
-    let header = view.to_header();
-    (view.header_len(), header.header_len())
+    (view.to_header(), other.to_header())
+}
+
+/// The hop limit of a view that was made elsewhere: its byte 7.
+pub fn hop_limit_by_byte(view: &Ipv6HeaderSlice) -> u8
+    ensures byte { result ≡ slice_index view.now.slice.now 7 }
+{
+    view.hop_limit()
+}
+
+/// The length in bytes of a view that was made elsewhere.
+pub fn header_len(view: &Ipv6HeaderSlice) -> usize
+    ensures len { result ≡ length view.now.slice.now }
+{
+    view.header_len()
 }

@@ -2,6 +2,7 @@
 #![tactic(auto)]
 
 pub mod compare;
+pub mod configure;
 pub mod filter;
 pub mod forward;
 pub mod ipv4_view;

@@ -1,9 +1,11 @@
 //! A capture reader: the payloads of packets, cut as their headers say.
 
-ghost use Rattle.std.specs.Prelude.{ℕ, ◌≡◌, ◌*◌, Err, IfErr, IfOk};
-ghost use Rattle.etherparse.specs.Ipv4Header.{OfIpv4Header};
+ghost use Rattle.std.specs.Prelude.{◌≡◌, ◌*◌, IfErr, IfOk, IfSome, IsSome};
+ghost use Rattle.etherparse.specs.Ipv4Header.{OfIpv4Header, RefusesIpv4};
+ghost use Rattle.etherparse.specs.declared.err.LenError.{LenError as LengthError};
+ghost use Rattle.etherparse.specs.declared.err.ipv4.HeaderSliceError.TheVariants.{Len};
 ghost use Rattle.etherparse.specs.Ipv6Header.{RefusesIpv6};
-ghost use Rattle.uses.specs.Payload.{HasIpv4Payload, HasIpv6Payload, RefusesIpv4Payload};
+ghost use Rattle.uses.specs.Payload.{HasIpv4Payload, HasIpv6Payload, IsShortBy, RefusesIpv4Payload};
 
 use etherparse::err::{ipv4, ipv6};
 use etherparse::{Ipv4Header, Ipv4HeaderSlice, Ipv6Header};
@@ -35,4 +37,15 @@ pub fn fragment_start(view: &Ipv4HeaderSlice) -> usize
     ensures value { OfIpv4Header view.now.slice.now (λ header. result ≡ 8 * header.fragment_offset) }
 {
     usize::from(view.fragments_offset().byte_offset())
+}
+
+/// How many bytes a reader has to wait for before it can tell more of an IPv4 header than it can now.
+pub fn missing(packet: &[u8]) -> Option<usize>
+    ensures more { IfSome result (λ count. IsShortBy count packet.now) }
+    ensures none { (e : LengthError) → RefusesIpv4 packet.now (Len e) → IsSome result }
+{
+    match Ipv4Header::from_slice(packet) {
+        Err(ipv4::HeaderSliceError::Len(e)) => Some(e.required_len - e.len),
+        _ => None,
+    }
 }

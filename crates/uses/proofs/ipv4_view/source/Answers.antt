@@ -1,4 +1,4 @@
 use Rattle.uses.proofs.ipv4_view.source.Goals as goal
 
-pub returns : goal.returns
-returns c = record { same = c.source.ensures.value _ c.to_header.ensures.layout }
+pub returns-clause-field : goal.returns-clause-field
+returns-clause-field c = c.source.ensures.value _ c.to_header.ensures.layout
