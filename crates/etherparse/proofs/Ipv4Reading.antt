@@ -40,7 +40,7 @@ first_of : (h : Ipv4Header) (p t s : List ℕ) → s ≡ p ++ t → HasIpv4Layou
 first_of h p t s e l = ap (λ x. get_or x 0 0) e ∙ get_or_append_left p t 0 0 (omega (arith, l.layout.len))
 
 -- what begins with a header is not refused
-not_refused : (h : Ipv4Header) (p t s : List ℕ) → s ≡ p ++ t → HasIpv4Layout h p → (e : HeaderSliceError) → RefusesIpv4 s e → ⊥
+pub not_refused : (h : Ipv4Header) (p t s : List ℕ) → s ≡ p ++ t → HasIpv4Layout h p → (e : HeaderSliceError) → RefusesIpv4 s e → ⊥
 not_refused h p t s e l (Len a) (inl q) = omega (arith, q.few, ap length e, length-append p t, l.layout.len)
 not_refused h p t s e l (Len a) (inr q) =
     omega (arith, q.short.few, ap length e, length-append p t, length-layout h p l, ap (λ x. x % 16) (first_of h p t s e l))
@@ -77,6 +77,12 @@ viewed_once s (Ok x) (Ok y) p q =
 viewed_once s (Ok x) (Err f) p q = absurd (not_refused p.header x p.rest s p.whole p.layout f q)
 viewed_once s (Err e) (Ok y) p q = absurd (not_refused q.header y q.rest s q.whole q.layout e p)
 viewed_once s (Err e) (Err f) p q = ap Err (refused_once s e f p q)
+
+-- the front that is seen is in the layout of each header at the front
+pub shown : (s front rest : List ℕ) (h : Ipv4Header) → ViewsIpv4 s (Ok front) → BeginsWith HasIpv4Layout s h rest → HasIpv4Layout h front
+shown s front rest h v b =
+    let len = same_length h v.header b.front front rest v.rest s b.whole v.whole b.layout v.layout in
+    subst (λ p. HasIpv4Layout h p) (same_front b.front front rest v.rest len (sym b.whole ∙ v.whole)) b.layout
 
 -- the front of some bytes is seen where they are of version 4, and as many as their IHL says
 pub front_viewed : (s : List ℕ) (n : ℕ) → version_of s ≡ 4 → 5 ≤ ihl_of s → n ≡ 4 * ihl_of s → n ≤ length s → IsBytes s → ViewsIpv4 s (Ok (take n s))

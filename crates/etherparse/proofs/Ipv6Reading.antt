@@ -8,6 +8,7 @@ use Rattle.etherparse_base.specs.declared.err.ipv6.header_slice_error.HeaderSlic
 use Rattle.etherparse.proofs.Parts.{get_or-slice_range, length-part, part_is_bytes, same_back, same_front}
 use Rattle.etherparse.proofs.Ipv6Layout.{header_at, same_header, version_of-layout}
 use Rattle.etherparse.specs.Ipv6Header.{Ipv6Reading, IsIpv6Layout, ReadsIpv6, RefusesIpv6, ViewsIpv6}
+use Rattle.etherparse.specs.Reading.{BeginsWith}
 use Rattle.etherparse.specs.FirstByte.{version_of}
 use Rattle.etherparse.specs.declared.net.ipv6_header.Ipv6Header.{Ipv6Header}
 
@@ -20,7 +21,7 @@ refused_once s (Content (UnexpectedVersion v)) (Content (UnexpectedVersion w)) p
     ap (λ x. Content (UnexpectedVersion x)) (p.found ∙ sym q.found)
 
 -- what begins with a header is not refused
-not_refused : (h : Ipv6Header) (p r s : List ℕ) → s ≡ p ++ r → IsIpv6Layout h p → (e : HeaderSliceError) → RefusesIpv6 s e → ⊥
+pub not_refused : (h : Ipv6Header) (p r s : List ℕ) → s ≡ p ++ r → IsIpv6Layout h p → (e : HeaderSliceError) → RefusesIpv6 s e → ⊥
 not_refused h p r s e l (Len a) q = omega (arith, q.few, ap length e, length-append p r, l.len)
 not_refused h p r s e l (Content (UnexpectedVersion v)) q =
     let first = get_or_append_left p r 0 0 (omega (arith, l.len)) in
@@ -43,6 +44,11 @@ viewed_once s (Ok x) (Ok y) p q = ap Ok (same_front x y p.rest q.rest (p.layout.
 viewed_once s (Ok x) (Err f) p q = absurd (not_refused p.header x p.rest s p.whole p.layout f q)
 viewed_once s (Err e) (Ok y) p q = absurd (not_refused q.header y q.rest s q.whole q.layout e p)
 viewed_once s (Err e) (Err f) p q = ap Err (refused_once s e f p q)
+
+-- the front that is seen is in the layout of each header at the front
+pub shown : (s front rest : List ℕ) (h : Ipv6Header) → ViewsIpv6 s (Ok front) → BeginsWith IsIpv6Layout s h rest → IsIpv6Layout h front
+shown s front rest h v b =
+    subst (λ p. IsIpv6Layout h p) (same_front b.front front rest v.rest (b.layout.len ∙ sym v.layout.len) (sym b.whole ∙ v.whole)) b.layout
 
 -- the front of some bytes is seen where they are enough and of version 6
 pub front_viewed : (s : List ℕ) → 40 ≤ length s → IsBytes s → version_of s ≡ 6 → ViewsIpv6 s (Ok (take 40 s))

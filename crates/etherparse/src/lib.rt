@@ -1,6 +1,20 @@
 //! IP headers: views of received bytes, owned headers, and the bytes that are written.
 //!
 //! What the Rust crate `etherparse` 0.19.0 has for IP headers alone, under the same paths.
+//!
+//! ```
+//! use etherparse::err::ipv4::HeaderSliceError;
+//! use etherparse::{IpNumber, Ipv4Header};
+//!
+//! /// The destination port of a UDP packet that is no fragment.
+//! pub fn udp_port(packet: &[u8]) -> Result<Option<u16>, HeaderSliceError> {
+//!     let (header, rest) = Ipv4Header::from_slice(packet)?;
+//!     if header.protocol != IpNumber(17) || header.is_fragmenting_payload() || rest.len() < 4 {
+//!         return Ok(None);
+//!     }
+//!     Ok(Some(u16::from_be_bytes([rest[2], rest[3]])))
+//! }
+//! ```
 #![tactic(auto)]
 
 mod laws;

@@ -14,8 +14,8 @@ use std::io::{Read, Write};
 
 /// Reads the hex digits of a header and prints its fields, one a line, or one line that says why not.
 ///
-/// Blanks between the digits are dropped. It reads at most 4096 digits among at most 65536 bytes, in pieces of 512 bytes,
-/// and takes no memory. A read or a write that fails ends it at once.
+/// Blanks between the digits are dropped. It takes at most 4096 digits among at most 65536 bytes, reads in pieces of 512
+/// bytes, and takes no memory. A read or a write that fails ends it at once.
 pub fn run<R: Read, W: Write>(reader: &mut R, writer: &mut W) -> Status
     ensures output { result ≢ Status.Failed → IfSome (R.remaining reader.old) (λ input.
         Writes (IsOutput input) result (W.contents writer.old) (W.contents writer.new)) }

@@ -3,9 +3,10 @@ use Rattle.std.specs.Prelude.{ℕ, ◌≡◌, ◌≢◌, ◌<◌, ◌≤◌, ◌
 use Rattle.std.specs.Int.{from_be_bytes, w16}
 use Rattle.etherparse.specs.Ipv4Header.{HasIpv4Layout, IsFragment}
 use Rattle.etherparse.specs.Ipv6Header.{IsIpv6Layout}
-use Rattle.etherparse.specs.Reading.{BeginsAs, BeginsWith}
+use Rattle.etherparse.specs.Reading.{BeginsWith}
 use Rattle.etherparse.specs.TrafficClass.{traffic_class_dscp}
 use Rattle.etherparse.specs.declared.net.ipv4_header.Ipv4Header.{Ipv4Header}
+use Rattle.etherparse.specs.declared.net.ipv6_header.Ipv6Header.{Ipv6Header}
 
 -- a UDP packet over IPv4 that is no fragment, with this destination port (RFC 768)
 pub record HasUdpPort (packet : List ℕ) (port : ℕ) : Type 0 where
@@ -26,14 +27,16 @@ pub record HasNoUdpPort (packet : List ℕ) : Type 0 where
 
 -- a packet that begins with an IPv4 header of this DSCP and destination
 pub record IsMarkedIpv4For (class : ℕ) (address packet : List ℕ) : Type 0 where
-  pub front : List ℕ
-  pub begins : BeginsAs HasIpv4Layout packet front
-  pub dscp : begins.header.dscp ≡ class
-  pub destination : begins.header.destination ≡ address
+  pub header : Ipv4Header
+  pub rest : List ℕ
+  pub begins : BeginsWith HasIpv4Layout packet header rest
+  pub dscp : header.dscp ≡ class
+  pub destination : header.destination ≡ address
 
 -- a packet that begins with an IPv6 header of this DSCP and destination
 pub record IsMarkedIpv6For (class : ℕ) (address packet : List ℕ) : Type 0 where
-  pub front : List ℕ
-  pub begins : BeginsAs IsIpv6Layout packet front
-  pub dscp : traffic_class_dscp begins.header.traffic_class ≡ class
-  pub destination : begins.header.destination ≡ address
+  pub header : Ipv6Header
+  pub rest : List ℕ
+  pub begins : BeginsWith IsIpv6Layout packet header rest
+  pub dscp : traffic_class_dscp header.traffic_class ≡ class
+  pub destination : header.destination ≡ address

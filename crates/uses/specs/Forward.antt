@@ -1,17 +1,19 @@
 -- What a forwarder does to a packet.
 use Rattle.std.specs.Prelude.{ℕ, ◌-◌, ◌<◌, ◌≤◌, List, Ok, ◌++◌}
-use Rattle.etherparse.specs.Ipv4Header.{HasIpv4Layout, ReadsIpv4}
+use Rattle.etherparse.specs.Ipv4Header.{HasIpv4Layout, IsIpv4Layout, ReadsIpv4}
 use Rattle.etherparse.specs.Ipv6Header.{IsIpv6Layout, ReadsIpv6}
 use Rattle.etherparse.specs.Reading.{BeginsWith}
 use Rattle.etherparse.specs.declared.net.ipv4_header.Ipv4Header.{Ipv4Header}
 use Rattle.etherparse.specs.declared.net.ipv6_header.Ipv6Header.{Ipv6Header}
 
--- The bytes that are sent are read as the header of the packet with one hop less, whatever follows.
+-- The bytes that are sent are the header of the packet with one hop less, and all else as it was, the
+-- checksum too; they are read as that header, whatever follows.
 pub record IsNextIpv4Hop (packet sent : List ℕ) : Type 0 where
   pub header : Ipv4Header
   pub rest : List ℕ
   pub begins : BeginsWith HasIpv4Layout packet header rest
   pub may_go_on : 1 < header.time_to_live
+  pub written : IsIpv4Layout (record header { time_to_live = header.time_to_live - 1 }) 0 sent
   pub read_back : (after : List ℕ) → ReadsIpv4 (sent ++ after)
       (Ok (record header { time_to_live = header.time_to_live - 1 }, after))
 

@@ -108,7 +108,7 @@ pub fn kept_error(error: &ipv4::HeaderSliceError) -> Result<ipv4::HeaderSliceErr
     error.clone()
 }
 
-/// The reason of a refusal in words. Only memory can stop it.
+/// The reason of a refusal in words.
 pub fn reason(alloc: Global, error: &ipv4::HeaderSliceError) -> Result<String, AllocError>
     ensures text { IfOk result (λ text.
         string_bytes text ≡ ipv4_header_slice_error_text error.now) }

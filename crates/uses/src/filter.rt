@@ -7,7 +7,8 @@ ghost use Rattle.uses.specs.Filter.{HasNoUdpPort, HasUdpPort, IsMarkedIpv4For, I
 use etherparse::err::ipv4::HeaderSliceError;
 use etherparse::{IpDscp, IpNumber, Ipv4Header, Ipv4HeaderSlice, Ipv6HeaderSlice};
 
-/// The destination port of a UDP packet that is no fragment.
+/// The destination port of a UDP packet that is no fragment; `None` for another protocol, a fragment, or fewer than 4 bytes
+/// behind the header; the reader's error where there is no header.
 pub fn udp_port(packet: &[u8]) -> Result<Option<u16>, HeaderSliceError>
     ensures found { IfOk result (λ found. IfSome found (HasUdpPort packet.now)) }
     ensures none { IfOk result (λ found. IfNone found (HasNoUdpPort packet.now)) }

@@ -39,7 +39,8 @@ pub fn fragment_start(view: &Ipv4HeaderSlice) -> usize
     usize::from(view.fragments_offset().byte_offset())
 }
 
-/// How many bytes a reader has to wait for before it can tell more of an IPv4 header than it can now.
+/// How many bytes a reader has to wait for before it can tell more of an IPv4 header than it can now; `None` where the
+/// header is whole, or the bytes are none.
 pub fn missing(packet: &[u8]) -> Option<usize>
     ensures more { IfSome result (λ count. IsShortBy count packet.now) }
     ensures none { (e : LengthError) → RefusesIpv4 packet.now (Len e) → IsSome result }

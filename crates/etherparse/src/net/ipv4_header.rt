@@ -64,7 +64,8 @@ impl Ipv4Header {
     /// An older name of [`Ipv4Header::MIN_LEN`].
     pub const SERIALIZED_SIZE: usize = 20;
 
-    /// The header of a payload of this length in bytes. It has no options, and what is not given is as in the default.
+    /// The header of a payload of this length in bytes. It has no options, and what is not given is as in the default, so the
+    /// checksum is 0.
     ///
     /// # Errors
     ///

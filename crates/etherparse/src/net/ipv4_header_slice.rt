@@ -18,6 +18,7 @@ use crate::{IpDscp, IpEcn, IpFragOffset, IpNumber, Ipv4Header, Ipv4Options, LenS
 pub struct Ipv4HeaderSlice<'a> {
     /// The bytes of the header: 20, and those of the options.
     pub slice: &'a [u8],
+    // What each view keeps, and each literal of one has to prove.
     pub ghost version: { version_of slice.now ≡ 4 },
     pub ghost ihl: { 5 ≤ ihl_of slice.now },
     pub ghost len: { length slice.now ≡ 4 * ihl_of slice.now },
@@ -25,10 +26,12 @@ pub struct Ipv4HeaderSlice<'a> {
 }
 
 impl<'a> Ipv4HeaderSlice<'a> {
-    ghost use Rattle.std.specs.Prelude.{ℕ, ◌≡◌, ◌%◌, ◌≤◌, ◌↔◌, List, Result, IsTrue, drop, length};
+    ghost use Rattle.std.specs.Prelude.{ℕ, ◌≡◌, ◌%◌, ◌≤◌, ◌↔◌, List, Result, IsOkAnd, IsTrue, drop, length, slice_index};
     ghost use Rattle.etherparse_base.specs.declared.err.ipv4.header_slice_error.HeaderSliceError.{HeaderSliceError};
     ghost use Rattle.etherparse.specs.Ipv4Header.{HasIpv4Layout, IsFragment, OfIpv4Header, ViewsIpv4, ipv4_ihl, ipv4_payload_len};
     ghost use Rattle.etherparse.specs.Ipv4HeaderSlice.{ipv4_view_bytes};
+    ghost use Rattle.etherparse.specs.Reading.{BeginsWith};
+    ghost use Rattle.etherparse.specs.declared.net.ipv4_header.Ipv4Header.{Ipv4Header as Header};
 
     /// A view of the header at the front of a slice.
     ///
@@ -41,6 +44,9 @@ impl<'a> Ipv4HeaderSlice<'a> {
         ensures views { ViewsIpv4 slice.now (ipv4_view_bytes result) }
         ensures only { (other : Result (List ℕ) HeaderSliceError) → ViewsIpv4 slice.now other →
             other ≡ ipv4_view_bytes result }
+        ensures shows { (header : Header) → (rest : List ℕ) →
+            BeginsWith HasIpv4Layout slice.now header rest →
+            IsOkAnd result (λ view. HasIpv4Layout header view.slice.now) }
     {
         match header_len(slice) {
             Some(len) => Ok(Ipv4HeaderSlice {
@@ -121,7 +127,7 @@ impl<'a> Ipv4HeaderSlice<'a> {
         u16::from_be_bytes([self.slice[4], self.slice[5]])
     }
 
-    /// Whether the packet must not be cut into fragments: a bit of byte 6.
+    /// Whether the packet must not be cut into fragments: the second highest bit of byte 6.
     #[inline]
     pub fn dont_fragment(&self) -> bool
         ensures value { OfIpv4Header self.now.slice.now (λ header. result ≡ header.dont_fragment) }
@@ -129,7 +135,7 @@ impl<'a> Ipv4HeaderSlice<'a> {
         self.slice[6] & 0x40 != 0
     }
 
-    /// Whether more fragments follow this one: a bit of byte 6.
+    /// Whether more fragments follow this one: the third highest bit of byte 6.
     #[inline]
     pub fn more_fragments(&self) -> bool
         ensures value { OfIpv4Header self.now.slice.now (λ header. result ≡ header.more_fragments) }
@@ -160,6 +166,7 @@ impl<'a> Ipv4HeaderSlice<'a> {
     #[inline]
     pub fn ttl(&self) -> u8
         ensures value { OfIpv4Header self.now.slice.now (λ header. result ≡ header.time_to_live) }
+        ensures byte_8 { result ≡ slice_index self.now.slice.now 8 }
     {
         self.slice[8]
     }
@@ -168,6 +175,7 @@ impl<'a> Ipv4HeaderSlice<'a> {
     #[inline]
     pub fn protocol(&self) -> IpNumber
         ensures value { OfIpv4Header self.now.slice.now (λ header. result ≡ header.protocol) }
+        ensures byte_9 { result ≡ slice_index self.now.slice.now 9 }
     {
         IpNumber(self.slice[9])
     }

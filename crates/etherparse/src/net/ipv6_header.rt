@@ -12,7 +12,8 @@ pub struct Ipv6Header {
     pub traffic_class: u8,
     /// The flow label, which marks packets that routers should treat alike.
     pub flow_label: Ipv6FlowLabel,
-    /// The length in bytes of all that follows the header, extension headers included; 0 for a jumbogram.
+    /// The length in bytes of all that follows the header, extension headers included; 0 for a jumbogram
+    /// (RFC 2675 section 3).
     pub payload_length: u16,
     /// What follows the header: an extension header or an upper-layer protocol.
     pub next_header: IpNumber,

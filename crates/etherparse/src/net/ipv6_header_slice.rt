@@ -11,16 +11,19 @@ use crate::{IpDscp, IpEcn, IpNumber, Ipv6FlowLabel, Ipv6Header, LenSource};
 pub struct Ipv6HeaderSlice<'a> {
     /// The 40 bytes of the header.
     pub slice: &'a [u8],
+    // What each view keeps, and each literal of one has to prove.
     pub ghost len: { length slice.now ≡ 40 },
     pub ghost version: { version_of slice.now ≡ 6 },
     pub ghost are_bytes: { IsBytes slice.now },
 }
 
 impl<'a> Ipv6HeaderSlice<'a> {
-    ghost use Rattle.std.specs.Prelude.{ℕ, ◌≡◌, List, Result};
+    ghost use Rattle.std.specs.Prelude.{ℕ, ◌≡◌, List, Result, IsOkAnd, slice_index};
     ghost use Rattle.etherparse_base.specs.declared.err.ipv6.header_slice_error.HeaderSliceError.{HeaderSliceError};
     ghost use Rattle.etherparse.specs.Ipv6Header.{IsIpv6Layout, OfIpv6Header, ViewsIpv6};
     ghost use Rattle.etherparse.specs.Ipv6HeaderSlice.{ipv6_view_bytes};
+    ghost use Rattle.etherparse.specs.Reading.{BeginsWith};
+    ghost use Rattle.etherparse.specs.declared.net.ipv6_header.Ipv6Header.{Ipv6Header as Header};
     ghost use Rattle.etherparse.specs.TrafficClass.{traffic_class_dscp, traffic_class_ecn};
     ghost use Rattle.etherparse_fields.specs.IpEcn.{ecn_value};
 
@@ -33,6 +36,9 @@ impl<'a> Ipv6HeaderSlice<'a> {
         ensures views { ViewsIpv6 slice.now (ipv6_view_bytes result) }
         ensures only { (other : Result (List ℕ) HeaderSliceError) → ViewsIpv6 slice.now other →
             other ≡ ipv6_view_bytes result }
+        ensures shows { (header : Header) → (rest : List ℕ) →
+            BeginsWith IsIpv6Layout slice.now header rest →
+            IsOkAnd result (λ view. IsIpv6Layout header view.slice.now) }
     {
         if slice.len() < Ipv6Header::LEN {
             return Err(HeaderSliceError::Len(LenError {
@@ -117,6 +123,7 @@ impl<'a> Ipv6HeaderSlice<'a> {
     #[inline]
     pub fn next_header(&self) -> IpNumber
         ensures value { OfIpv6Header self.now.slice.now (λ header. result ≡ header.next_header) }
+        ensures byte_6 { result ≡ slice_index self.now.slice.now 6 }
     {
         IpNumber(self.slice[6])
     }
@@ -125,6 +132,7 @@ impl<'a> Ipv6HeaderSlice<'a> {
     #[inline]
     pub fn hop_limit(&self) -> u8
         ensures value { OfIpv6Header self.now.slice.now (λ header. result ≡ header.hop_limit) }
+        ensures byte_7 { result ≡ slice_index self.now.slice.now 7 }
     {
         self.slice[7]
     }

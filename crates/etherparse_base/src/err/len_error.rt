@@ -8,8 +8,7 @@ use crate::LenSource;
 use std::error::Error;
 use std::fmt;
 
-/// A length that does not fit the layer: the data ends too early (`required_len` above `len`), or is
-/// longer than what encloses it.
+/// A length that does not fit the layer: too small where `required_len` is above `len`, and else too great.
 #[derive(Clone, Debug, PartialEq, Eq, Hash, Drop)]
 pub struct LenError {
     /// The least length that was needed, or the greatest that was allowed, in bytes.

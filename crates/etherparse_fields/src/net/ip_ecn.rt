@@ -15,7 +15,7 @@ use std::fmt;
 pub enum IpEcn {
     /// The packet does not use the notification.
     NotEct = 0,
-    /// The transport of the sender is capable of it. Routers treat this code point as [`IpEcn::Ect0`].
+    /// The transport of the sender is capable of it. By RFC 3168 routers treat this code point as [`IpEcn::Ect0`].
     Ect1 = 1,
     /// The transport of the sender is capable of it.
     Ect0 = 2,

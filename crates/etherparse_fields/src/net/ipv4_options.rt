@@ -54,8 +54,8 @@ impl Ipv4Options {
         }
     }
 
-    /// The options in the first `len` bytes of an array, where options can have `len` bytes. What follows them in the
-    /// array is no part of them.
+    /// The options in the first `len` bytes of an array. `len` has to be at most 40 and a multiple of 4. What follows them in
+    /// the array is no part of them.
     ///
     /// The Rust crate has no such call. Copying 40 bytes, a number that the compiler knows, is faster than copying `len`.
     #[inline(always)]

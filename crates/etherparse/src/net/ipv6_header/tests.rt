@@ -98,9 +98,9 @@ fn a_payload_length_is_set_or_refused_with_no_change(rt: HostRuntime) {
 fn parts_of_the_traffic_class_are_set_one_by_one(rt: HostRuntime) {
     let mut header = ipv6_ascending();
     assert_eq!(rt; header.traffic_class, 171);
-    header.set_ecn(IpEcn::NotEct);
+    header.set_ecn(crate::Ipv4Ecn::NotEct);
     assert_eq!(rt; header.traffic_class, 168);
-    header.set_dscp(IpDscp::MAX);
+    header.set_dscp(crate::Ipv4Dscp::MAX);
     assert_eq!(rt; header.traffic_class, 252);
 }
 

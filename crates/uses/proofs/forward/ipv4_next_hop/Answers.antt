@@ -6,5 +6,6 @@ returns-clause-next c = record {
   rest = _;
   begins = c.in_ok-header.ensures.reads;
   may_go_on = c.if-header-le1.false;
+  written = c.to_bytes.ensures.layout;
   read_back = c.to_bytes.ensures.read_again;
 }

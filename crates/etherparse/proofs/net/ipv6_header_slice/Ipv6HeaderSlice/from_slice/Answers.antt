@@ -1,10 +1,16 @@
 use Rattle.std.proofs.Common.{arith, ap, refl, ◌∙◌, ◌/◌}
-use Rattle.etherparse.proofs.Ipv6Reading.{front_viewed, viewed_once}
+use Rattle.etherparse_base.specs.declared.err.ipv6.header_error.HeaderError.TheVariants.{UnexpectedVersion}
+use Rattle.etherparse_base.specs.declared.err.ipv6.header_slice_error.HeaderSliceError.TheVariants.{Content}
+use Rattle.etherparse.proofs.Ipv6Reading.{front_viewed, not_refused, shown, viewed_once}
 use Rattle.etherparse.proofs.Parts.{get_or-slice_range, length-part, part_is_bytes}
 use Rattle.etherparse.proofs.net.ipv6_header_slice.Ipv6HeaderSlice.from_slice.Goals as goal
 
 pub returns-then-version_number-ne6-clause-only : goal.returns-then-version_number-ne6-clause-only
 returns-then-version_number-ne6-clause-only c = λ other o. viewed_once _ other _ o (record { enough = c.if-slice-lt-LEN.false; other = c.if-version_number-ne6.true; found = refl })
+
+pub returns-then-version_number-ne6-clause-shows : goal.returns-then-version_number-ne6-clause-shows
+returns-then-version_number-ne6-clause-shows c = λ header rest b. not_refused header b.front rest _ b.whole b.layout (Content (UnexpectedVersion _))
+    (record { enough = c.if-slice-lt-LEN.false; other = c.if-version_number-ne6.true; found = refl })
 
 pub invariant_of-result : goal.invariant_of-result
 invariant_of-result c = record {
@@ -18,3 +24,7 @@ returns-clause-views c = front_viewed _ c.if-slice-lt-LEN.false (λ i. omega (ar
 
 pub returns-clause-only : goal.returns-clause-only
 returns-clause-only c = λ other o. viewed_once _ other _ o (front_viewed _ c.if-slice-lt-LEN.false (λ i. omega (arith, c.type_inv.slice i)) c.if-version_number-ne6.false)
+
+pub returns-clause-shows : goal.returns-clause-shows
+returns-clause-shows c = λ header rest b.
+    shown _ _ rest header (front_viewed _ c.if-slice-lt-LEN.false (λ i. omega (arith, c.type_inv.slice i)) c.if-version_number-ne6.false) b
