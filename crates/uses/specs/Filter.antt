@@ -25,18 +25,12 @@ pub record HasNoUdpPort (packet : List ℕ) : Type 0 where
   pub begins : BeginsWith HasIpv4Layout packet header rest
   pub why : (header.protocol ≢ 17) ⊎ (IsFragment header ⊎ (length rest < 4))
 
--- a packet that begins with an IPv4 header of this DSCP and destination
-pub record IsMarkedIpv4For (class : ℕ) (address packet : List ℕ) : Type 0 where
-  pub header : Ipv4Header
-  pub rest : List ℕ
-  pub begins : BeginsWith HasIpv4Layout packet header rest
+-- an IPv4 header of this DSCP and destination
+pub record IsIpv4For (class : ℕ) (address : List ℕ) (header : Ipv4Header) : Type 0 where
   pub dscp : header.dscp ≡ class
   pub destination : header.destination ≡ address
 
--- a packet that begins with an IPv6 header of this DSCP and destination
-pub record IsMarkedIpv6For (class : ℕ) (address packet : List ℕ) : Type 0 where
-  pub header : Ipv6Header
-  pub rest : List ℕ
-  pub begins : BeginsWith IsIpv6Layout packet header rest
+-- an IPv6 header of this DSCP and destination
+pub record IsIpv6For (class : ℕ) (address : List ℕ) (header : Ipv6Header) : Type 0 where
   pub dscp : traffic_class_dscp header.traffic_class ≡ class
   pub destination : header.destination ≡ address

@@ -1,8 +1,14 @@
 //! A packet filter: what a packet is, told from its bytes.
 
-ghost use Rattle.std.specs.Prelude.{◌↔◌, IfErr, IfNone, IfOk, IfSome, IsTrue};
-ghost use Rattle.etherparse.specs.Ipv4Header.{RefusesIpv4};
-ghost use Rattle.uses.specs.Filter.{HasNoUdpPort, HasUdpPort, IsMarkedIpv4For, IsMarkedIpv6For};
+ghost use Rattle.std.specs.Prelude.{ℕ, ◌↔◌, List, IfErr, IfNone, IfOk, IfSome, IsFalse, IsTrue};
+ghost use Rattle.etherparse.specs.Ipv4Header.{HasIpv4Layout, RefusesIpv4};
+ghost use Rattle.etherparse.specs.Ipv6Header.{IsIpv6Layout, RefusesIpv6};
+ghost use Rattle.etherparse.specs.Reading.{BeginsWith};
+ghost use Rattle.etherparse.specs.declared.err.ipv4.HeaderSliceError.{HeaderSliceError as Error4};
+ghost use Rattle.etherparse.specs.declared.err.ipv6.HeaderSliceError.{HeaderSliceError as Error6};
+ghost use Rattle.etherparse.specs.declared.net.ipv4_header.Ipv4Header.{Ipv4Header as Header4};
+ghost use Rattle.etherparse.specs.declared.net.ipv6_header.Ipv6Header.{Ipv6Header as Header6};
+ghost use Rattle.uses.specs.Filter.{HasNoUdpPort, HasUdpPort, IsIpv4For, IsIpv6For};
 
 use etherparse::err::ipv4::HeaderSliceError;
 use etherparse::{IpDscp, IpNumber, Ipv4Header, Ipv4HeaderSlice, Ipv6HeaderSlice};
@@ -23,20 +29,26 @@ pub fn udp_port(packet: &[u8]) -> Result<Option<u16>, HeaderSliceError>
 
 /// Whether a packet begins with an IPv4 header of this DSCP and destination.
 pub fn is_ipv4_marked_for(packet: &[u8], dscp: IpDscp, destination: [u8; 4]) -> bool
-    ensures exact { IsTrue result ↔ IsMarkedIpv4For dscp destination packet.now }
+    ensures header { (header : Header4) → (rest : List ℕ) →
+        BeginsWith HasIpv4Layout packet.now header rest →
+        (IsTrue result ↔ IsIpv4For dscp destination header) }
+    ensures refused { (e : Error4) → RefusesIpv4 packet.now e → IsFalse result }
 {
     match Ipv4HeaderSlice::from_slice(packet) {
-        Ok(view) => (view.dcp(), view.destination()) == (dscp, destination),
+        Ok(view) => view.dcp() == dscp && view.destination() == destination,
         Err(_) => false,
     }
 }
 
 /// Whether a packet begins with an IPv6 header of this DSCP and destination.
 pub fn is_ipv6_marked_for(packet: &[u8], dscp: IpDscp, destination: [u8; 16]) -> bool
-    ensures exact { IsTrue result ↔ IsMarkedIpv6For dscp destination packet.now }
+    ensures header { (header : Header6) → (rest : List ℕ) →
+        BeginsWith IsIpv6Layout packet.now header rest →
+        (IsTrue result ↔ IsIpv6For dscp destination header) }
+    ensures refused { (e : Error6) → RefusesIpv6 packet.now e → IsFalse result }
 {
     match Ipv6HeaderSlice::from_slice(packet) {
-        Ok(view) => (view.dscp(), view.destination()) == (dscp, destination),
+        Ok(view) => view.dscp() == dscp && view.destination() == destination,
         Err(_) => false,
     }
 }
