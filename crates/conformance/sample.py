@@ -163,11 +163,54 @@ def errors():
         say('eq.v6 version 6 /', other)
 
 
+def counted(n):
+    """n bytes that differ from their neighbours"""
+    return bytes((7 * i + 1) % 256 for i in range(n)).hex() or '-'
+
+
+def sums():
+    for width, most in (32, U32), (64, U64):
+        words = (2, 4) if width == 32 else (2, 4, 8)
+        for start in 0, 1, U16, most - U16, most - 1, most, most + 1:
+            say(f'c{width}.fold', start)
+            for n in words:
+                for word in '00' * n, '01' + '00' * (n - 1), '00' * (n - 1) + '01', 'fe' + 'ff' * (n - 1), 'ff' * n, '12' * (n - 1):
+                    say(f'c{width}.add{n}', start, word)
+            for n in [*range(10), 15, 16, 17]:
+                for piece in '00' * n, 'ff' * n, 'fffe' * (n // 2) + 'ff' * (n % 2), counted(n):
+                    say(f'c{width}.slice', start, piece or '-')
+        for n in [*range(10, 131), 318, 319, 320, 321, 382, 383, 384, 385, 415, 416, 417, 511, 512, 768, 1500, 1501]:
+            say(f'c{width}.slice', 0, counted(n))
+            say(f'c{width}.slice', most, 'ff' * n)
+        for pieces in '', '-', '- -', '01 0203', '010203', '- 01 - 0203', '0203 01', '0102 03', '01 02 03', 'ff ff', 'ffff 00':
+            say(f'c{width}.slices', pieces)
+    steps = '2:ffff', '2:0100', '4:ffffffff', '8:' + 'ff' * 8, '8:fcffffff03000000', '16:' + 'ff' * 16, '16:' + counted(16)
+    say('sum')
+    say('sum.eq /')
+    for a in steps:
+        say('sum', a)
+        say('sum', a, 's:' + counted(21), a)
+        say('sum.eq', a, '/')
+        for b in steps:
+            say('sum', a, b)
+            say('sum.eq', a, '/', b)
+            say('sum.eq', a, b, '/', b, a)
+    for n in 0, 1, 2, 3, 8, 15, 330:
+        say('sum', 's:' + counted(n))
+    say('sum.eq', *['4:ffffffff'] * 4, '/', '8:fcffffff03000000')
+    say('sum.eq 2:ffff / 2:ffff 2:ffff')
+    each_bound('v4.info', H4, H4_MOST)
+    for options in '-', '00000000', 'ff' * 40:
+        for checksum in 0, 1, U16:
+            say('v4.info', 0, 0, 115, 0, 1, 0, 0, 64, 17, checksum, 'c0a80001', 'c0a800c7', options)
+            say('v4.info', 0, 0, 0, 0x7a00, 1, 0, 0, 0, 255, checksum, '00000000', '00000000', options)
+
+
 for name in 'fields', 'headers', 'dscp', 'layers', 'value_types':
     say('const.' + name)
 for name in 'fields', 'v4', 'v6':
     say('default.' + name)
-for part in fields, options, reads, setters, equal_headers, names, errors:
+for part in fields, options, reads, setters, equal_headers, names, errors, sums:
     part()
 operations = {line.split(' ')[0] for line in lines}
 for no_case in ('', ' ', 'nothing', 'dscp.new', 'dscp.new 1 2', 'dscp.new x', 'dscp.old 1', 'opt', 'opt 4', 'opt 0g',
@@ -177,9 +220,7 @@ for no_case in ('', ' ', 'nothing', 'dscp.new', 'dscp.new 1 2', 'dscp.new x', 'd
     lines[no_case] = None
 # operations of worked rows that the program does not answer, or that the program `iphead` tests by itself
 LEFT_OUT = '''known known.cmp ipnum text.unknown text.swse text.chain off.len off.v4 off.v6 off.chain eq.swse eq.chain
-    const.known const.ipnum const.ip_number c32.add2 c32.add4 c32.fold c32.slice c32.slices c64.add2 c64.add4 c64.add8
-    c64.fold c64.slice c64.slices sum sum.eq upd v4.info v4.set_ttl skip walk walk.counted walk.limit
-    decode iphead'''.split()
+    const.known const.ipnum const.ip_number upd v4.set_ttl skip walk walk.counted walk.limit decode iphead'''.split()
 for line in open(sys.argv[1]).read().splitlines():
     operation = line.split(' ')[0]
     if operation in operations:

@@ -1,6 +1,6 @@
 use crate::arguments::Arguments;
 use crate::case_error::CaseError;
-use crate::{constants, equality, fields, ipv4, ipv6, kinds, options, texts};
+use crate::{constants, equality, fields, ipv4, ipv6, kinds, options, sums, texts};
 use std::alloc::{AllocError, Global};
 use std::str;
 
@@ -37,6 +37,9 @@ fn answer_case(alloc: Global, line: &[u8], answer: &mut String) -> Result<(), Ca
         "eq" => equality::answer(name, arguments, answer),
         "const" => constants::answer_const(name, arguments, answer),
         "default" => constants::answer_default(name, arguments, answer),
+        "c32" => sums::answer_u32(alloc, name, arguments, answer),
+        "c64" => sums::answer_u64(alloc, name, arguments, answer),
+        "sum" => sums::answer_steps(name, arguments, answer),
         _ => Err(CaseError::BadLine),
     }
 }

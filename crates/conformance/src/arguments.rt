@@ -3,6 +3,7 @@ ghost use Rattle.std.specs.List.{position_or_len, before_first, after_first};
 
 mod errors;
 mod headers;
+mod sums;
 
 use crate::case_error::CaseError;
 use crate::tables::{LAYERS, LEN_SOURCES, VALUE_TYPES};

@@ -3,6 +3,7 @@
 use crate::arguments::Arguments;
 use crate::case_error::CaseError;
 use crate::shown::{BadOptions, Bytes, Ipv4Fields, Ipv4Refusal, Len, TooBig};
+use etherparse::err::LenError;
 use etherparse::{Ipv4Header, Ipv4HeaderSlice};
 use std::alloc::AllocError;
 
@@ -14,6 +15,7 @@ pub fn answer(name: &str, arguments: Arguments, answer: &mut String) -> Result<(
         "view_eq" => answer_view_equality(arguments, answer),
         "head" => answer_header(arguments, answer),
         "read" => answer_read(arguments, answer),
+        "info" => answer_info(arguments, answer),
         "new" => answer_new(arguments, answer),
         "set_payload_len" => answer_set_payload_len(arguments, answer),
         "set_options" => answer_set_options(arguments, answer),
@@ -42,9 +44,16 @@ fn write_view(view: &Ipv4HeaderSlice, answer: &mut String) -> Result<(), AllocEr
     )?;
     write!(answer, "ihl={} {} ", view.ihl(), Ipv4Fields::of_view(view))?;
     write!(answer, "fragmenting={} ", view.is_fragmenting_payload())?;
-    match view.payload_len() {
+    write_payload_len(&view.payload_len(), answer)
+}
+
+fn write_payload_len(
+    payload_len: &Result<u16, LenError>,
+    answer: &mut String,
+) -> Result<(), AllocError> {
+    match payload_len {
         Ok(len) => write!(answer, "payload_len=ok {len}"),
-        Err(e) => write!(answer, "payload_len={}", Len(&e)),
+        Err(e) => write!(answer, "payload_len={}", Len(e)),
     }
 }
 
@@ -99,6 +108,27 @@ fn write_header(header: &Ipv4Header, rest: &[u8], answer: &mut String) -> Result
         Bytes(rest),
         Bytes(header.to_bytes().as_slice())
     )
+}
+
+// What a header says of itself beyond its fields.
+fn answer_info(mut arguments: Arguments, answer: &mut String) -> Result<(), CaseError> {
+    let header = arguments.ipv4_header()?;
+    arguments.end()?;
+    let (ihl, header_len) = (header.ihl(), header.header_len());
+    let max_payload_len = header.max_payload_len();
+    write!(
+        answer,
+        "ihl={ihl} header_len={header_len} max_payload_len={max_payload_len} "
+    )?;
+    let (fragmenting, checksum) = (
+        header.is_fragmenting_payload(),
+        header.calc_header_checksum(),
+    );
+    write!(answer, "fragmenting={fragmenting} calc={checksum} ")?;
+    let (options, bytes) = (Bytes(header.options()), header.to_bytes());
+    write!(answer, "options={options} bytes={} ", Bytes(bytes.as_slice()))?;
+    write_payload_len(&header.payload_len(), answer)?;
+    Ok(())
 }
 
 // A header for a payload.

@@ -13,6 +13,7 @@ mod kinds;
 mod options;
 mod replay;
 mod shown;
+mod sums;
 mod tables;
 mod texts;
 

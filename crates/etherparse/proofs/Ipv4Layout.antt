@@ -253,7 +253,7 @@ cleared_spells h r p l =
     ∷ (to_be_bytes w16 h.header_checksum ++ (h.source ++ (h.destination ++ h.options)))))))) low
 
 -- the ranges of a header's fields are in its layout
-ranges_of : (h : Ipv4Header) (r : ℕ) (p : List ℕ) → IsIpv4Layout h r p → HasFieldRanges h
+pub ranges_of : (h : Ipv4Header) (r : ℕ) (p : List ℕ) → IsIpv4Layout h r p → HasFieldRanges h
 ranges_of h r p l =
     let long : 20 ≤ length p = omega (arith, l.len) in
     let word_fits = λ (a n : ℕ) (e : from_be_bytes w16 (slice_range p a (a + 2)) ≡ n). word_lt p a n l.are_bytes e in

@@ -1,4 +1,5 @@
 mod Fields
+mod HeaderChecksum
 pub mod Ipv4Layout
 mod Ipv4Reading
 pub mod Ipv6Layout

@@ -1,4 +1,5 @@
 pub mod FirstByte
+pub mod HeaderChecksum
 pub mod Ipv4Header
 pub mod Ipv4HeaderSlice
 pub mod Ipv6Header
@@ -13,5 +14,6 @@ pub use Rattle.etherparse_base.specs.LenError
 pub use Rattle.etherparse_base.specs.LenSource
 pub use Rattle.etherparse_base.specs.ValueTooBigError
 pub use Rattle.etherparse_base.specs.ValueType
+pub use Rattle.etherparse_base.specs.WordSums
 pub use Rattle.etherparse_fields.specs.IpEcn
 pub use Rattle.etherparse_fields.specs.Ipv4Options

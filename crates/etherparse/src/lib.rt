@@ -22,7 +22,7 @@ mod net;
 #[cfg(test)]
 mod testing;
 
-pub use etherparse_base::{LenSource, err};
+pub use etherparse_base::{LenSource, checksum, err};
 pub use etherparse_fields::{IpDscp, IpEcn, IpFragOffset, IpNumber, Ipv4Options, Ipv6FlowLabel};
 pub use net::ipv4_header::Ipv4Header;
 pub use net::ipv4_header_slice::Ipv4HeaderSlice;

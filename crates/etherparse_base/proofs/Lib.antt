@@ -1,1 +1,6 @@
+pub mod FoldedSums
+mod LaneSums
+mod LaneTurns
 pub mod LayerOrder
+mod WordNumbers
+pub mod WordSumLaws

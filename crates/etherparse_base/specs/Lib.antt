@@ -6,3 +6,5 @@ pub mod LenError
 pub mod LenSource
 pub mod ValueTooBigError
 pub mod ValueType
+pub mod WideSums
+pub mod WordSums

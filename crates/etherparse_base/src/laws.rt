@@ -1,9 +1,9 @@
 //! The laws of what the types derive, each as the clause of one small function. Nothing calls them: they are there to be proved.
 //! A derive that skips a field, variants in another order, or an impl by hand that answers otherwise leaves its law unproved.
 //!
-//! Two values are equal exactly where their variants and all their fields are. A value can always be cloned, and the clone is
-//! the value. Layers and value types are ordered by their indices in `specs/`; that `<` and the like go with `cmp` is a law of
-//! std's `Ord`.
+//! Two values are equal exactly where their variants and all their fields are, two sums where the numbers are that they are kept
+//! in. A value can always be cloned, and the clone is the value. Layers and value types are ordered by their indices in
+//! `specs/`; that `<` and the like go with `cmp` is a law of std's `Ord`.
 
 ghost use Rattle.std.specs.Prelude.{◌≡◌, ◌↔◌, IsTrue, Ok};
 ghost use Rattle.std.specs.Ordering.{nat_cmp};
@@ -11,6 +11,7 @@ ghost use Rattle.etherparse_base.specs.Layer.{layer_index};
 ghost use Rattle.etherparse_base.specs.ValueType.{value_type_index};
 
 use crate::LenSource;
+use crate::checksum::Sum16BitWords;
 use crate::err::ipv4::BadOptionsLen;
 use crate::err::{Layer, LenError, ValueTooBigError, ValueType, ipv4, ipv6};
 use std::alloc::AllocError;
@@ -92,6 +93,12 @@ fn ipv6_header_error_equality(a: &ipv6::HeaderError, b: &ipv6::HeaderError) -> b
 }
 
 fn ipv6_header_slice_error_equality(a: &ipv6::HeaderSliceError, b: &ipv6::HeaderSliceError) -> bool
+    ensures same_value { IsTrue result ↔ (a.now ≡ b.now) }
+{
+    a == b
+}
+
+fn sum_16bit_words_equality(a: &Sum16BitWords, b: &Sum16BitWords) -> bool
     ensures same_value { IsTrue result ↔ (a.now ≡ b.now) }
 {
     a == b
@@ -182,6 +189,12 @@ fn ipv6_header_error_clone(source: &ipv6::HeaderError) -> Result<ipv6::HeaderErr
 fn ipv6_header_slice_error_clone(
     source: &ipv6::HeaderSliceError,
 ) -> Result<ipv6::HeaderSliceError, AllocError>
+    ensures same_value { result ≡ Ok source.now }
+{
+    source.clone()
+}
+
+fn sum_16bit_words_clone(source: &Sum16BitWords) -> Result<Sum16BitWords, AllocError>
     ensures same_value { result ≡ Ok source.now }
 {
     source.clone()

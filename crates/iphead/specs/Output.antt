@@ -1,5 +1,6 @@
 -- What the program prints.
 use Rattle.std.specs.Prelude.{ℕ, ◌≡◌, ◌==◌, Bool, List, [], ◌∷◌, ◌++◌, length, slice_index, codes}
+use Rattle.std.specs.Prelude.{drop, take}
 use Rattle.std.specs.Prelude.{if◌then◌else◌, MatchBool, Option, Result, Ok, Err}
 use Rattle.std.specs.Io.KnownBytes.{Appends}
 use Rattle.std.specs.Fmt.{decimal}
@@ -7,11 +8,14 @@ use Rattle.std.specs.Int.{to_be_bytes, w16}
 use Rattle.hex.specs.Hex.{decode_of, encode_lower}
 use Rattle.hex.specs.declared.error.FromHexError.{FromHexError}
 use Rattle.etherparse.specs.FirstByte.{version_of}
+use Rattle.etherparse.specs.HeaderChecksum.{header_checksum_of}
 use Rattle.etherparse.specs.IpEcn.{ecn_value}
 use Rattle.etherparse.specs.Ipv4Errors.{ipv4_header_slice_error_text}
-use Rattle.etherparse.specs.Ipv4Header.{Ipv4Reading, ReadsIpv4, ipv4_ihl}
+use Rattle.etherparse.specs.Ipv4Header.{Ipv4Reading, ReadsIpv4, ipv4_header_len, ipv4_ihl}
+use Rattle.etherparse.specs.Ipv4Header.{with_reserved_bit_cleared}
 use Rattle.etherparse.specs.Ipv6Errors.{ipv6_header_slice_error_text}
 use Rattle.etherparse.specs.Ipv6Header.{Ipv6Reading, ReadsIpv6}
+use Rattle.etherparse.specs.WordSums.{ones_complement_sum}
 use Rattle.etherparse.specs.declared.net.ipv4_header.Ipv4Header.{Ipv4Header}
 use Rattle.etherparse.specs.declared.net.ipv6_header.Ipv6Header.{Ipv6Header}
 use Rattle.iphead.specs.Input.{digits_of, IsTooLong}
@@ -54,9 +58,20 @@ abbrev pub options_text : List ℕ → List ℕ
 options_text [] = codes "-"
 options_text (b ∷ bytes) = encode_lower (b ∷ bytes)
 
--- the fields of an IPv4 header, and the number of bytes after it
-abbrev pub ipv4_lines : Ipv4Header → ℕ → List ℕ
-ipv4_lines h rest_len =
+-- a number of sixteen bits in four hex digits
+abbrev pub hex_word : ℕ → List ℕ
+hex_word n = encode_lower (to_be_bytes w16 n)
+
+-- whether the fixed fields of a header and its options sum to all ones
+abbrev pub good_or_bad : List ℕ → List ℕ
+good_or_bad front =
+    if ones_complement_sum (take 20 front ∷ drop 20 front ∷ []) == 65535
+    then codes "good" else codes "bad"
+
+-- The fields of an IPv4 header; the checksum that it should have, and whether the bytes that were
+-- read sum to all ones, in which the reserved bit counts; the number of bytes after it.
+abbrev pub ipv4_lines : Ipv4Header → List ℕ → ℕ → List ℕ
+ipv4_lines h front rest_len =
     line (codes "version") (decimal 4)
     ++ (line (codes "ihl") (decimal (ipv4_ihl h))
     ++ (line (codes "dscp") (decimal h.dscp)
@@ -68,11 +83,13 @@ ipv4_lines h rest_len =
     ++ (line (codes "fragment_offset") (decimal h.fragment_offset)
     ++ (line (codes "time_to_live") (decimal h.time_to_live)
     ++ (line (codes "protocol") (decimal h.protocol)
-    ++ (line (codes "header_checksum") (encode_lower (to_be_bytes w16 h.header_checksum))
+    ++ (line (codes "header_checksum") (hex_word h.header_checksum)
     ++ (line (codes "source") (dotted h.source)
     ++ (line (codes "destination") (dotted h.destination)
     ++ (line (codes "options") (options_text h.options)
-    ++ line (codes "rest") (decimal rest_len)))))))))))))))
+    ++ (line (codes "computed") (hex_word (header_checksum_of (with_reserved_bit_cleared front)))
+    ++ (line (codes "sum") (good_or_bad front)
+    ++ line (codes "rest") (decimal rest_len)))))))))))))))))
 
 -- the status of a run, and all that it prints
 abbrev pub Outcome : Type 0
@@ -83,10 +100,11 @@ abbrev pub ipv6_outcome : Ipv6Reading → Outcome
 ipv6_outcome (Ok x) = (Done, ipv6_lines x.0)
 ipv6_outcome (Err e) = (Refused, error_line (ipv6_header_slice_error_text e))
 
--- the same for IPv4
-abbrev pub ipv4_outcome : Ipv4Reading → Outcome
-ipv4_outcome (Ok x) = (Done, ipv4_lines x.0 (length x.1))
-ipv4_outcome (Err e) = (Refused, error_line (ipv4_header_slice_error_text e))
+-- the same for IPv4, of which the bytes that were read are shown too
+abbrev pub ipv4_outcome : List ℕ → Ipv4Reading → Outcome
+ipv4_outcome bytes (Ok x) =
+    (Done, ipv4_lines x.0 (take (ipv4_header_len x.0) bytes) (length x.1))
+ipv4_outcome bytes (Err e) = (Refused, error_line (ipv4_header_slice_error_text e))
 
 -- the outcome is that of a reading that the bytes have; there is one
 pub record Reports {R : Type 0} (Reads : R → Type 0) (outcome_of : R → Outcome)
@@ -100,7 +118,7 @@ pub record Reports {R : Type 0} (Reads : R → Type 0) (outcome_of : R → Outco
 abbrev pub ReportsBytes : Result (List ℕ) FromHexError → Outcome → Type 0
 ReportsBytes (Ok bytes) outcome = MatchBool (version_of bytes == 6)
     (Reports (ReadsIpv6 bytes) ipv6_outcome outcome)
-    (Reports (ReadsIpv4 bytes) ipv4_outcome outcome)
+    (Reports (ReadsIpv4 bytes) (ipv4_outcome bytes) outcome)
 ReportsBytes (Err e) outcome = outcome ≡ (BadInput, error_line (codes "input is not hex"))
 
 -- the outcome of too long an input

@@ -3,9 +3,10 @@ ghost use Rattle.std.specs.Io.KnownBytes.{Appends};
 ghost use Rattle.hex.specs.Hex.{encode_lower};
 ghost use Rattle.etherparse.specs.Ipv4Header.{OfIpv4Header};
 ghost use Rattle.etherparse.specs.Ipv6Header.{OfIpv6Header};
-ghost use Rattle.iphead.specs.Output.{dotted, error_line, ipv4_lines, ipv6_lines, line, options_text};
+ghost use Rattle.iphead.specs.Output.{dotted, error_line, good_or_bad, ipv4_lines, ipv6_lines, line, options_text};
 
-use etherparse::{Ipv4HeaderSlice, Ipv6HeaderSlice};
+use etherparse::checksum::u64_16bit_word;
+use etherparse::{Ipv4Header, Ipv4HeaderSlice, Ipv6HeaderSlice};
 use std::fmt::Display;
 use std::io::Write;
 use std::{fmt, io};
@@ -36,14 +37,16 @@ pub fn write_ipv6<W: Write>(writer: &mut W, view: &Ipv6HeaderSlice) -> io::Resul
     Ok(())
 }
 
-/// Writes the fields of an IPv4 header, one a line, and the number of bytes after it.
+/// Writes the fields of an IPv4 header, one a line, the checksum that it should have, whether its bytes sum to all ones, and
+/// the number of bytes after it.
 pub fn write_ipv4<W: Write>(
     writer: &mut W,
     view: &Ipv4HeaderSlice,
     rest_len: usize,
 ) -> io::Result<()>
     ensures { OnOk result (OfIpv4Header view.now.slice.now (λ header.
-        Appends (W.contents writer.old) (W.contents writer.new) (ipv4_lines header rest_len))) }
+        Appends (W.contents writer.old) (W.contents writer.new)
+        (ipv4_lines header view.now.slice.now rest_len))) }
 {
     write_field(writer, "version", view.version())?;
     write_field(writer, "ihl", view.ihl())?;
@@ -65,8 +68,24 @@ pub fn write_ipv4<W: Write>(
     write_field(writer, "source", Dotted(view.source()))?;
     write_field(writer, "destination", Dotted(view.destination()))?;
     write_options(writer, view.options())?;
+    let computed = view.to_header().calc_header_checksum();
+    write_hex_field(writer, "computed", &computed.to_be_bytes())?;
+    write_field(writer, "sum", good_or_bad(view))?;
     write_field(writer, "rest", rest_len)?;
     Ok(())
+}
+
+// Whether the bytes of a header sum to all ones: its fixed fields, and its options.
+fn good_or_bad(view: &Ipv4HeaderSlice) -> &'static str
+    ensures text { result.now ≡ good_or_bad view.now.slice.now }
+{
+    let (fixed, options) = view.slice().split_at(Ipv4Header::MIN_LEN);
+    let sum = u64_16bit_word::add_slices(&[fixed, options]);
+    if u64_16bit_word::ones_complement(sum) == 0 {
+        "good"
+    } else {
+        "bad"
+    }
 }
 
 // An IPv4 address as it is printed.

@@ -74,7 +74,7 @@ fn report_ipv6<W: Write>(bytes: &[u8], writer: &mut W) -> io::Result<Status>
 
 // Prints what is to be said of bytes that are read as IPv4.
 fn report_ipv4<W: Write>(bytes: &[u8], writer: &mut W) -> io::Result<Status>
-    ensures { IfOk result (λ status. Writes (Reports (ReadsIpv4 bytes.now) ipv4_outcome) status
+    ensures { IfOk result (λ status. Writes (Reports (ReadsIpv4 bytes.now) (ipv4_outcome bytes.now)) status
         (W.contents writer.old) (W.contents writer.new)) }
 {
     match Ipv4HeaderSlice::from_slice(bytes) {

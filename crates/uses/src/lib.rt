@@ -2,6 +2,7 @@
 //! the public contracts of the library.
 #![tactic(auto)]
 
+pub mod checksum;
 pub mod compare;
 pub mod configure;
 pub mod filter;

@@ -3,6 +3,7 @@ ghost use Rattle.etherparse_base.specs.Bytes.{IsBytes};
 ghost use Rattle.etherparse_fields.specs.Ipv4Options.{IsOptionsLen};
 ghost use Rattle.etherparse.specs.Ipv4Header.{payload_len_of};
 
+use crate::checksum::Sum16BitWords;
 use crate::err::ipv4::{BadOptionsLen, HeaderSliceError};
 use crate::err::{Layer, LenError, ValueTooBigError, ValueType};
 use crate::{IpDscp, IpEcn, IpFragOffset, IpNumber, Ipv4HeaderSlice, Ipv4Options, LenSource};
@@ -42,10 +43,12 @@ pub struct Ipv4Header {
 }
 
 impl Ipv4Header {
-    ghost use Rattle.std.specs.Prelude.{ℕ, ◌≡◌, ◌+◌, ◌*◌, ◌/◌, ◌^◌, ◌<◌, ◌≤◌, ◌↔◌, List, [], ◌∷◌, ◌++◌, Ok, IsOk, IfOk, OnOk, OnErr, IfErr, IsTrue, length};
+    ghost use Rattle.std.specs.Prelude.{ℕ, ◌≡◌, ◌+◌, ◌*◌, ◌/◌, ◌^◌, ◌<◌, ◌≤◌, ◌↔◌, ◌⊎◌, List, [], ◌∷◌, ◌++◌, Ok, IsOk, IfOk, OnOk, OnErr, IfErr, IsTrue, length};
     ghost use Rattle.std.specs.Int.{from_bool, to_be_bytes, w16};
+    ghost use Rattle.etherparse_base.specs.WordSums.{SumsToAllOnes};
     ghost use Rattle.etherparse_fields.specs.IpEcn.{ecn_value};
     ghost use Rattle.etherparse_fields.specs.Ipv4Options.{IsOptionsLen};
+    ghost use Rattle.etherparse.specs.HeaderChecksum.{header_checksum_of};
     ghost use Rattle.etherparse.specs.Ipv4Header.{AgreeButForReservedBit, IsFragment, IsIpv4Layout, Ipv4Reading, OfIpv4Header, ReadsIpv4, ViewsIpv4};
     ghost use Rattle.etherparse.specs.Ipv4Header.{default_ipv4_header, ipv4_header_len, ipv4_ihl, ipv4_max_payload_len};
     ghost use Rattle.etherparse.specs.Ipv4Header.{ipv4_payload_len, with_reserved_bit_cleared};
@@ -286,30 +289,56 @@ impl Ipv4Header {
             ReadsIpv4 (result.items ++ rest) (Ok (self.now, rest)) }
         ensures viewed_again { (rest : List ℕ) →
             ViewsIpv4 (result.items ++ rest) (Ok result.items) }
+
+        // A receiver finds the checksum right where it is the computed one, in either form of zero.
+        ensures sums_to_all_ones { SumsToAllOnes result.items
+            ↔ ((self.now.header_checksum ≡ header_checksum_of result.items)
+            ⊎ ((self.now.header_checksum ≡ 65535) × (header_checksum_of result.items ≡ 0))) }
     {
-        joined(&self.front(), self.options.as_slice())
+        joined(&self.front(self.header_checksum), self.options.as_slice())
     }
 
-    // What stands before the options.
+    /// The checksum that the header should have: the complement of the ones-complement sum of its words in network byte
+    /// order, with 0 for the checksum, whatever `header_checksum` is (RFC 791 section 3.1, RFC 1071 section 1). It is never
+    /// 0xffff.
+    pub fn calc_header_checksum(&self) -> u16
+        ensures value { (bytes : List ℕ) → IsIpv4Layout self.now 0 bytes →
+            result ≡ header_checksum_of bytes }
+        ensures whatever_is_stored { (stored : ℕ) → (bytes : List ℕ) →
+            IsIpv4Layout (record self.now { header_checksum = stored }) 0 bytes →
+            result ≡ header_checksum_of bytes }
+        ensures within { result < 65535 }
+    {
+        let front = self.front(0);
+        let (most, last) = front.split_first_chunk::<16>().unwrap();
+        Sum16BitWords::new()
+            .add_16bytes(*most)
+            .add_4bytes(*last.first_chunk::<4>().unwrap())
+            .add_slice(self.options.as_slice())
+            .ones_complement()
+            .swap_bytes()
+    }
+
+    // What stands before the options, with this checksum.
     #[inline(always)]
     #[rattlefmt::skip]
-    fn front(&self) -> [u8; 20]
+    fn front(&self, header_checksum: u16) -> [u8; 20]
         ensures value { result ≡ (4 * 2 ^ 4 + ipv4_ihl self.now)
             ∷ (self.now.dscp * 2 ^ 2 + ecn_value self.now.ecn)
             ∷ (to_be_bytes w16 self.now.total_len ++ (to_be_bytes w16 self.now.identification
             ++ (to_be_bytes w16 (from_bool self.now.dont_fragment * 2 ^ 14
             + from_bool self.now.more_fragments * 2 ^ 13 + self.now.fragment_offset)
-            ++ (self.now.time_to_live ∷ self.now.protocol ∷ (to_be_bytes w16 self.now.header_checksum
+            ++ (self.now.time_to_live ∷ self.now.protocol ∷ (to_be_bytes w16 header_checksum
             ++ (self.now.source ++ self.now.destination)))))) }
         ensures dscp { self.now.dscp < 2 ^ 6 }
         ensures fragment_offset { self.now.fragment_offset < 2 ^ 13 }
         ensures total_len { self.now.total_len < 2 ^ 16 }
         ensures identification { self.now.identification < 2 ^ 16 }
-        ensures header_checksum { self.now.header_checksum < 2 ^ 16 }
+        ensures header_checksum { header_checksum < 2 ^ 16 }
     {
         let dscp = self.dscp.value();
         let ecn = self.ecn.value();
-        let (total_len, identification, header_checksum) = (self.total_len, self.identification, self.header_checksum);
+        let (total_len, identification) = (self.total_len, self.identification);
         let flags = (u16::from(self.dont_fragment) << 14) + (u16::from(self.more_fragments) << 13);
         let [t, u] = total_len.to_be_bytes();
         let [i, j] = identification.to_be_bytes();

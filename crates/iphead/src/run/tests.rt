@@ -37,6 +37,8 @@ header_checksum b861
 source 192.168.0.1
 destination 192.168.0.199
 options -
+computed b861
+sum good
 rest 0
 ";
 
@@ -57,6 +59,8 @@ header_checksum 0000
 source 10.0.0.1
 destination 10.0.0.2
 options 01020304
+computed 4117
+sum bad
 rest 1
 ";
 
@@ -75,6 +79,8 @@ header_checksum ffff
 source 255.255.255.255
 destination 255.255.255.255
 options ffffffffffffffffffffffffffffffffffffffffffffffffffffffffffffffffffffffffffffffff
+computed 3001
+sum bad
 rest 0
 ";
 
@@ -180,6 +186,30 @@ fn the_fields_of_an_ipv6_header_are_printed(rt: HostRuntime) {
 fn the_fields_of_an_ipv4_header_are_printed(rt: HostRuntime) {
     expect(&rt, IPV4.as_bytes(), Status::Done, IPV4_LINES);
     expect(&rt, OPTIONS.as_bytes(), Status::Done, OPTIONS_LINES);
+}
+
+// The flags, the stored checksum and how the bytes sum, of one header with options. The reserved bit counts in the sum, and
+// not in what is computed.
+const CHECKSUMS: [(&str, &str, &str); 3] = [
+    ("2000", "4117", "good"),
+    ("a000", "4117", "bad"),
+    ("a000", "c116", "good"),
+];
+
+#[test]
+fn the_checksum_of_a_header_is_computed_and_judged(rt: HostRuntime) -> Result<(), Fail> {
+    for (flags, checksum, sum) in CHECKSUMS {
+        let input = format!(in rt.alloc();
+            "46c00018 0001{flags} 4006{checksum} 0a000001 0a000002 01020304 ff"
+        )?;
+        let lines = format!(in rt.alloc();
+            "version 4\nihl 6\ndscp 48\necn 0\ntotal_len 24\nidentification 1\ndont_fragment false\n\
+            more_fragments true\nfragment_offset 0\ntime_to_live 64\nprotocol 6\nheader_checksum {checksum}\n\
+            source 10.0.0.1\ndestination 10.0.0.2\noptions 01020304\ncomputed 4117\nsum {sum}\nrest 1\n"
+        )?;
+        expect(&rt, input.as_bytes(), Status::Done, lines.as_str());
+    }
+    Ok(())
 }
 
 #[test]

@@ -1,4 +1,5 @@
 use super::*;
+use crate::checksum::u64_16bit_word;
 use crate::err::ipv4::HeaderError;
 use crate::testing::{
     GREATEST, WITH_OPTIONS, WITH_RESERVED_BIT, WITHOUT_RESERVED_BIT, greatest, hash_of, too_short,
@@ -194,4 +195,28 @@ fn assert_hashes_like_its_clone<T: Clone + Debug + Default + Drop + Eq + Hash>(
 fn a_clone_is_equal_and_hashes_alike(rt: HostRuntime) -> Result<(), Fail> {
     assert_hashes_like_its_clone(&rt, &with_options())?;
     assert_hashes_like_its_clone(&rt, &greatest())
+}
+
+#[test]
+fn the_checksum_is_computed_whatever_is_stored(rt: HostRuntime) {
+    let (source, destination) = ([192, 168, 0, 1], [192, 168, 0, 199]);
+    let made = Ipv4Header::new(95, 64, IpNumber(17), source, destination);
+    let mut header = made.expect(&rt, "a short payload");
+    for stored in [0, 0xb861, 0xffff] {
+        header.header_checksum = stored;
+        assert_eq!(rt; header.calc_header_checksum(), 0xb861);
+    }
+    assert_eq!(rt; Ipv4Header::default().calc_header_checksum(), 0x7a00);
+}
+
+#[test]
+fn both_zeros_sum_to_all_ones_where_zero_is_computed(rt: HostRuntime) {
+    let mut header = Ipv4Header::default();
+    header.identification = 0x7a00;
+    assert_eq!(rt; header.calc_header_checksum(), 0);
+    for (stored, complement) in [(0, 0), (0xffff, 0), (1, 0xfeff)] {
+        header.header_checksum = stored;
+        let sum = u64_16bit_word::add_slice(0, header.to_bytes().as_slice());
+        assert_eq!(rt; u64_16bit_word::ones_complement(sum), complement);
+    }
 }

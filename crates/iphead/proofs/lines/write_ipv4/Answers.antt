@@ -1,9 +1,12 @@
 use Rattle.std.proofs.Common.{◌∙◌}
+use Rattle.etherparse.proofs.Ipv4Layout.{cleared_layout}
 use Rattle.iphead.proofs.Appended.{appended}
 use Rattle.iphead.proofs.lines.write_ipv4.Goals as goal
 
 pub returns : goal.returns
 returns g c = λ header layout.
+    let shown = c.to_header.ensures.layout in
+    let computed = c.calc_header_checksum-computed.ensures.value _ (cleared_layout _ shown.reserved _ shown.layout) in
     rw (
       ← c.ihl.ensures.value header layout,
       ← c.dcp.ensures.value header layout,
@@ -19,6 +22,8 @@ returns g c = λ header layout.
       ← c.source.ensures.value header layout,
       ← c.destination.ensures.value header layout,
       ← c.options.ensures.value header layout,
+      ← computed,
+      ← c.good_or_bad.ensures,
     )
     (appended _ _ _ _ _ (rw c.version.ensures.value at c.in_ok-write_field.ensures)
     (appended _ _ _ _ _ c.in_ok-write_field-2.ensures
@@ -34,4 +39,6 @@ returns g c = λ header layout.
     (appended _ _ _ _ _ (rw c.to_be_bytes.ensures at c.in_ok-write_hex_field.ensures)
     (appended _ _ _ _ _ c.in_ok-write_field-12.ensures
     (appended _ _ _ _ _ c.in_ok-write_field-13.ensures
-    (appended _ _ _ _ _ c.in_ok-write_options.ensures c.in_ok-write_field-14.ensures)))))))))))))))
+    (appended _ _ _ _ _ c.in_ok-write_options.ensures
+    (appended _ _ _ _ _ (rw c.to_be_bytes-2.ensures at c.in_ok-write_hex_field-2.ensures)
+    (appended _ _ _ _ _ c.in_ok-write_field-14.ensures c.in_ok-write_field-15.ensures)))))))))))))))))

@@ -1,4 +1,6 @@
-use Rattle.std.proofs.Common.{Err, Ok, ap, arith, length, length-append, refl, ◌≡◌, ◌-◌}
+use Rattle.std.proofs.Common.{Err, Ok, ap, arith, length, length-append, refl, sym, take, ◌∙◌, ◌≡◌, ◌-◌}
+use Rattle.std.proofs.lemmas.List.{take_at}
+use Rattle.etherparse.specs.Ipv4Header.{ipv4_header_len}
 use Rattle.iphead.specs.Output.{ipv4_lines}
 use Rattle.iphead.specs.declared.status.Status.TheVariants.{Done}
 use Rattle.iphead.proofs.run.report_ipv4.Goals as goal
@@ -8,12 +10,15 @@ returns-in_ok-write_ipv4-in-Ok g c =
     let v = c.in-Ok.ensures.views in
     let behind : length c.args.bytes.now - length c.slice.result.now ≡ length v.rest =
     omega (arith, ap length c.slice.ensures.value, ap length v.whole, length-append c.in-Ok.view.slice.now v.rest) in
+    let front : c.in-Ok.view.slice.now ≡ take (ipv4_header_len v.header) c.args.bytes.now =
+    sym (ap (λ bytes. take (ipv4_header_len v.header) bytes) v.whole ∙ take_at c.in-Ok.view.slice.now v.rest (ipv4_header_len v.header) v.layout.layout.len) in
     record {
       text = _;
       outcome = record {
         reading = Ok (v.header, v.rest);
         reads = record { front = c.in-Ok.view.slice.now; whole = v.whole; layout = v.layout };
-        outcome_of_it = ap (λ n. (Done, ipv4_lines v.header n)) behind;
+        outcome_of_it = ap (λ n. (Done, ipv4_lines v.header c.in-Ok.view.slice.now n)) behind
+        ∙ ap (λ bytes. (Done, ipv4_lines v.header bytes (length v.rest))) front;
       };
       appended = c.in_ok-write_ipv4-in-Ok.ensures v.header v.layout;
     }

@@ -1,5 +1,6 @@
 use Rattle.std.proofs.Common.{ap, arith, length, refl, subst, sym}
 use Rattle.etherparse_base.specs.Bytes.{IsBytes}
+use Rattle.etherparse.proofs.HeaderChecksum.{right_checksum}
 use Rattle.etherparse.proofs.Ipv4Layout.{HasFieldRanges, front_spells, same_bytes, spells}
 use Rattle.etherparse.proofs.net.ipv4_header.Ipv4Header.to_bytes.Goals as goal
 
@@ -34,4 +35,5 @@ returns c =
         whole = refl;
         layout = record { reserved = 0; layout = layout };
       };
+      sums_to_all_ones = right_checksum h 0 _ layout;
     }

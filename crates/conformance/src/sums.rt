@@ -1,0 +1,93 @@
+//! Sums of words of sixteen bits, in both widths.
+
+use crate::arguments::Arguments;
+use crate::case_error::CaseError;
+use etherparse::checksum::{u32_16bit_word, u64_16bit_word};
+use std::alloc::Global;
+
+/// The cases `c32.NAME`: sums in 32 bits.
+pub fn answer_u32(
+    alloc: Global,
+    name: &str,
+    mut arguments: Arguments,
+    answer: &mut String,
+) -> Result<(), CaseError> {
+    let sum = match name {
+        "slices" => {
+            let pieces = arguments.pieces()?;
+            u32_16bit_word::add_slices(&borrowed(alloc, &pieces)?)
+        }
+        "add2" => u32_16bit_word::add_2bytes(arguments.number()?, arguments.array()?),
+        "add4" => u32_16bit_word::add_4bytes(arguments.number()?, arguments.array()?),
+        "fold" => arguments.number()?,
+        "slice" => u32_16bit_word::add_slice(arguments.number()?, &arguments.bytes()?),
+        _ => return Err(CaseError::BadLine),
+    };
+    arguments.end()?;
+    if name == "add2" || name == "add4" {
+        write!(answer, "sum={sum}")?;
+        return Ok(());
+    }
+    let complement = u32_16bit_word::ones_complement(sum);
+    let with_no_zero = u32_16bit_word::ones_complement_with_no_zero(sum);
+    write!(answer, "oc={complement} nz={with_no_zero}")?;
+    Ok(())
+}
+
+/// The cases `c64.NAME`: sums in 64 bits.
+pub fn answer_u64(
+    alloc: Global,
+    name: &str,
+    mut arguments: Arguments,
+    answer: &mut String,
+) -> Result<(), CaseError> {
+    let sum = match name {
+        "slices" => {
+            let pieces = arguments.pieces()?;
+            u64_16bit_word::add_slices(&borrowed(alloc, &pieces)?)
+        }
+        "add2" => u64_16bit_word::add_2bytes(arguments.number()?, arguments.array()?),
+        "add4" => u64_16bit_word::add_4bytes(arguments.number()?, arguments.array()?),
+        "add8" => u64_16bit_word::add_8bytes(arguments.number()?, arguments.array()?),
+        "fold" => arguments.number()?,
+        "slice" => u64_16bit_word::add_slice(arguments.number()?, &arguments.bytes()?),
+        _ => return Err(CaseError::BadLine),
+    };
+    arguments.end()?;
+    if name == "add2" || name == "add4" || name == "add8" {
+        write!(answer, "sum={sum}")?;
+        return Ok(());
+    }
+    let complement = u64_16bit_word::ones_complement(sum);
+    let with_no_zero = u64_16bit_word::ones_complement_with_no_zero(sum);
+    write!(answer, "oc={complement} nz={with_no_zero}")?;
+    Ok(())
+}
+
+/// `sum STEP ..` and `sum.eq STEP .. / STEP ..`: sums that are built step by step.
+pub fn answer_steps(
+    name: &str,
+    mut arguments: Arguments,
+    answer: &mut String,
+) -> Result<(), CaseError> {
+    let sums = arguments.sums()?;
+    match (name, sums.as_slice()) {
+        ("", [sum]) => {
+            let complement = sum.ones_complement();
+            let with_no_zero = sum.to_ones_complement_with_no_zero();
+            write!(answer, "oc={complement} nz={with_no_zero}")?;
+        }
+        ("eq", [first, second]) => write!(answer, "eq={}", first == second)?,
+        _ => return Err(CaseError::BadLine),
+    }
+    Ok(())
+}
+
+// The pieces as slices.
+fn borrowed<'a>(alloc: Global, pieces: &'a [Vec<u8>]) -> Result<Vec<&'a [u8]>, CaseError> {
+    let mut slices = Vec::new(alloc);
+    for piece in pieces {
+        slices.push(piece.as_slice())?;
+    }
+    Ok(slices)
+}

@@ -1,0 +1,112 @@
+-- The checksum of a header: what it is the sum of, and which stored checksum makes the bytes sum to all ones.
+use Rattle.std.proofs.Common.{ℕ, zero, suc, ◌≡◌, ◌+◌, ◌-◌, ◌<◌, ◌≤◌, ◌^◌, List, ◌++◌, drop, length, take, refl, sym, ap, ◌∙◌, inl, inr, arith, length-append, length-drop}
+use Rattle.std.specs.Prelude.{◌↔◌, ◌⊎◌, ◌*◌, ◌%◌}
+use Rattle.std.specs.Int.{from_bool, swap_bytes, w16}
+use Rattle.std.proofs.lemmas.Bool.{cases_eq}
+use Rattle.std.proofs.lemmas.List.{length-take-le, take_all, take-append-drop}
+use Rattle.etherparse_base.specs.WordSums.{SumsToAllOnes, folded_sum, little_endian_word_sum, network_order_word_sum}
+use Rattle.etherparse_base.proofs.FoldedSums.{folded_sum-plus, folded_sum-positive, folded_sum-within}
+use Rattle.etherparse_base.proofs.WordSumLaws.{little_endian_word_sum-append, swap_bytes-folded_sum}
+use Rattle.etherparse.proofs.Ipv4Layout.{flags_word, front_spelling, front_spells, ranges_of, spelled, spelling}
+use Rattle.etherparse.specs.HeaderChecksum.{header_checksum_of, with_checksum_cleared}
+use Rattle.etherparse.specs.Ipv4Header.{IsIpv4Layout}
+use Rattle.etherparse.specs.declared.net.ipv4_header.Ipv4Header.{Ipv4Header}
+
+-- a header with another checksum
+abbrev pub with_checksum : ℕ → Ipv4Header → Ipv4Header
+with_checksum checksum h = record h { header_checksum = checksum }
+
+-- with its checksum cleared, the bytes of a header are spelled with 0 for it
+pub cleared_spells : (h : Ipv4Header) (r : ℕ) (p : List ℕ) → IsIpv4Layout h r p
+    → with_checksum_cleared p ≡ spelling (with_checksum 0 h) (flags_word h r)
+cleared_spells h r p l = ap (λ x. with_checksum_cleared x) (spelled h r p l)
+
+-- the words of a header are those without its checksum, and its checksum
+checksum_apart : (h : Ipv4Header) (r : ℕ) (p : List ℕ) → IsIpv4Layout h r p
+    → network_order_word_sum p ≡ network_order_word_sum (with_checksum_cleared p) + h.header_checksum
+checksum_apart h r p l =
+    let fits = (ranges_of h r p l).header_checksum in
+    rw (cleared_spells h r p l) (rw (spelled h r p l) (omega arith))
+
+-- the first byte of a header is not 0
+spelling_not_zero : (h : Ipv4Header) (flags : ℕ) → 0 < network_order_word_sum (spelling h flags)
+spelling_not_zero h flags = omega arith
+
+-- which number makes a sum all ones: the complement, or all ones where that is 0
+all_ones_with : (s c : ℕ) → 0 < s → c ≤ 65535
+    → (folded_sum (s + c) ≡ 65535) ↔ ((c ≡ 65535 - folded_sum s) ⊎ ((c ≡ 65535) × (65535 - folded_sum s ≡ 0)))
+all_ones_with zero c pos fits = absurd (omega (arith, pos))
+all_ones_with (suc n) c pos fits =
+    let whole = folded_sum-positive (suc n + c) (omega arith) in (
+      λ e. elim (cases_eq c 65535) [
+        | inl greatest ↦ inr (greatest, omega (arith, whole, e))
+        | inr below ↦ inl (omega (arith, whole, e))
+      ],
+      λ right. elim right [
+        | inl computed ↦ omega (arith, whole, computed)
+        | inr both ↦ omega (arith, whole, both.0, both.1)
+      ],
+    )
+
+-- the bytes of a header sum to all ones where its checksum is the computed one, in either form of zero
+pub right_checksum : (h : Ipv4Header) (r : ℕ) (p : List ℕ) → IsIpv4Layout h r p
+    → SumsToAllOnes p ↔ ((h.header_checksum ≡ header_checksum_of p) ⊎ ((h.header_checksum ≡ 65535) × (header_checksum_of p ≡ 0)))
+right_checksum h r p l =
+    let others : ℕ = network_order_word_sum (with_checksum_cleared p) in
+    let some : 0 < others = rw (cleared_spells h r p l) (spelling_not_zero (with_checksum 0 h) (flags_word h r)) in
+    let fits = (ranges_of h r p l).header_checksum in
+    let right = all_ones_with others h.header_checksum some (omega arith) in
+    rw (checksum_apart h r p l) right
+
+-- a complement with its bytes exchanged
+complement_swapped : (n : ℕ) → n ≤ 65535 → swap_bytes w16 (65535 - n) ≡ 65535 - swap_bytes w16 n
+complement_swapped n h = omega arith
+
+-- a checksum that was summed low byte first, with its bytes exchanged, is that of the words in network order
+swapped_checksum : (sum : ℕ) (q : List ℕ) → folded_sum sum ≡ folded_sum (little_endian_word_sum q)
+    → swap_bytes w16 (65535 - folded_sum sum) ≡ 65535 - folded_sum (network_order_word_sum q)
+swapped_checksum sum q e =
+    complement_swapped (folded_sum sum) (folded_sum-within sum)
+    ∙ ap (λ n. 65535 - n) (ap (λ n. swap_bytes w16 n) e ∙ swap_bytes-folded_sum q)
+
+-- three parts that are summed one after the other
+summed : (first second third a b c : ℕ) → folded_sum first ≡ folded_sum (0 + a) → folded_sum second ≡ folded_sum (first + b)
+    → folded_sum third ≡ folded_sum (second + c) → folded_sum third ≡ folded_sum (a + b + c)
+summed first second third a b c x y z =
+    z ∙ folded_sum-plus second (a + b) c (y ∙ folded_sum-plus first a b (x ∙ ap folded_sum (omega arith)))
+
+-- the fixed fields, which are cut behind the sixteenth byte, and the options
+parts_sum : (front most rest last options : List ℕ) → length front ≡ 20 → most ≡ take 16 front → rest ≡ drop 16 front → last ≡ take 4 rest
+    → little_endian_word_sum (front ++ options) ≡ little_endian_word_sum most + little_endian_word_sum last + little_endian_word_sum options
+parts_sum front most rest last options len m r l =
+    let four : length rest ≡ 4 = ap length r ∙ (length-drop 16 front ∙ omega arith) in
+    let cut : front ≡ most ++ last = sym (take-append-drop 16 front) ∙ ap (λ x. x ++ drop 16 front) (sym m)
+    ∙ ap (λ x. most ++ x) (sym (l ∙ take_all 4 rest (omega arith) ∙ r)) in
+    let sixteen : length most ≡ 16 = ap length m ∙ length-take-le 16 front (omega arith) in
+    ap (λ x. little_endian_word_sum (x ++ options)) cut
+    ∙ little_endian_word_sum-append (most ++ last) options (omega (arith, length-append most last, ap length cut))
+    ∙ ap (λ x. x + little_endian_word_sum options) (little_endian_word_sum-append most last (omega arith))
+
+-- what is known of the sum that is computed of a header
+pub record ComputedOf (h : Ipv4Header) (sum : ℕ) : Type 0 where
+  pub value : (stored : ℕ) (p : List ℕ) → IsIpv4Layout (with_checksum stored h) 0 p
+      → swap_bytes w16 (65535 - folded_sum sum) ≡ header_checksum_of p
+  pub within : swap_bytes w16 (65535 - folded_sum sum) < 65535
+
+pub computed_of : (h : Ipv4Header) (front most rest last options : List ℕ) (first second sum : ℕ)
+    → front ≡ front_spelling (with_checksum 0 h) (from_bool h.dont_fragment * 2 ^ 14 + from_bool h.more_fragments * 2 ^ 13 + h.fragment_offset) (h.source ++ h.destination)
+    → options ≡ h.options → length front ≡ 20 → most ≡ take 16 front → rest ≡ drop 16 front → last ≡ take 4 rest
+    → folded_sum first ≡ folded_sum (0 + little_endian_word_sum most) → folded_sum second ≡ folded_sum (first + little_endian_word_sum last)
+    → folded_sum sum ≡ folded_sum (second + little_endian_word_sum options) → ComputedOf h sum
+computed_of h front most rest last options first second sum f o len m r l x y z =
+    let h0 : Ipv4Header = with_checksum 0 h in
+    let whole : front ++ options ≡ spelling h0 (flags_word h0 0) = front_spells h0 front options (front ++ options) refl o f in
+    let folded : folded_sum sum ≡ folded_sum (little_endian_word_sum (front ++ options)) =
+    summed first second sum _ _ _ x y z ∙ ap folded_sum (sym (parts_sum front most rest last options len m r l)) in
+    let swapped = swapped_checksum sum (front ++ options) folded in
+    let some : 0 < network_order_word_sum (front ++ options) = rw whole (spelling_not_zero h0 (flags_word h0 0)) in
+    record {
+      value = λ stored p layout.
+          swapped ∙ ap (λ q. 65535 - folded_sum (network_order_word_sum q)) (whole ∙ sym (cleared_spells (with_checksum stored h) 0 p layout));
+      within = omega (arith, swapped, folded_sum-positive (network_order_word_sum (front ++ options)) some);
+    }

@@ -1,0 +1,147 @@
+-- Laws of the sums of words: the other order of bytes, a changed byte, pieces exchanged or cut.
+use Rattle.std.proofs.Common.{ℕ, zero, suc, List, [], ◌∷◌, ◌++◌, ◌≡◌, ◌↔◌, ◌⊎◌, ◌<◌, ◌≤◌, ◌+◌, ◌*◌, ◌/◌, ◌%◌, ◌∙◌, ap, arith, inl, inr, length, refl, slice_index, slice_set, sum_by, sym, w16}
+use Rattle.std.proofs.lemmas.List.Sums.{sum_by-append, sum_by-cons}
+use Rattle.std.specs.Int.{swap_bytes}
+use Rattle.etherparse_base.specs.WordSums.{
+  ChangesOneByte,
+  SumsToAllOnes,
+  folded_sum,
+  little_endian_word_sum,
+  network_order_word_sum,
+  ones_complement_sum,
+  weighted_byte_sum,
+}
+use Rattle.etherparse_base.proofs.FoldedSums.{folded_sum-within}
+
+-- each of the two sums is 256 times the other, but for multiples of 65535
+record OtherOrder (bytes : List ℕ) : Type 0 where
+  past_network : ℕ
+  past_little : ℕ
+  to_network : 256 * little_endian_word_sum bytes ≡ network_order_word_sum bytes + 65535 * past_network
+  to_little : 256 * network_order_word_sum bytes ≡ little_endian_word_sum bytes + 65535 * past_little
+
+other_order : (bytes : List ℕ) → OtherOrder bytes
+other_order [] = record { past_network = 0; past_little = 0; to_network = refl; to_little = refl }
+other_order (byte ∷ bytes) =
+    let rest = other_order bytes in
+    let to_network = rest.to_network in
+    let to_little = rest.to_little in
+    record { past_network = rest.past_little; past_little = byte + rest.past_network; to_network = omega arith; to_little = omega arith }
+
+-- both are 0, or none is
+both_zero : (bytes : List ℕ) → (little_endian_word_sum bytes ≡ 0 → network_order_word_sum bytes ≡ 0) × (network_order_word_sum bytes ≡ 0 → little_endian_word_sum bytes ≡ 0)
+both_zero [] = (λ e. e, λ e. e)
+both_zero (byte ∷ bytes) =
+    let rest = both_zero bytes in (
+      λ e. let first : byte ≡ 0 = omega arith in let others : network_order_word_sum bytes ≡ 0 = omega arith in omega (arith, rest.1 others),
+      λ e. let first : byte ≡ 0 = omega arith in let others : little_endian_word_sum bytes ≡ 0 = omega arith in omega (arith, rest.0 others),
+    )
+
+-- the two bytes of a number exchanged
+swap_bytes-small : (n : ℕ) → n < 65536 → swap_bytes w16 n ≡ n % 256 * 256 + n / 256
+swap_bytes-small n h = omega arith
+
+fold_swapped : (n m k : ℕ) → 256 * n ≡ m + 65535 * k → (n ≡ 0 → m ≡ 0) → (m ≡ 0 → n ≡ 0) → swap_bytes w16 (folded_sum n) ≡ folded_sum m
+fold_swapped zero zero k e a b = refl
+fold_swapped zero (suc m) k e a b = absurd (omega (arith, a refl))
+fold_swapped (suc n) zero k e a b = absurd (omega (arith, b refl))
+fold_swapped (suc n) (suc m) k e a b =
+    let folded : (1 + n % 65535) % 256 * 256 + (1 + n % 65535) / 256 ≡ 1 + m % 65535 = omega arith in
+    swap_bytes-small (1 + n % 65535) (omega arith) ∙ folded
+
+-- the sum in network order is the other with its two bytes exchanged (RFC 1071 section 2 (B))
+pub swap_bytes-folded_sum : (bytes : List ℕ) → swap_bytes w16 (folded_sum (little_endian_word_sum bytes)) ≡ folded_sum (network_order_word_sum bytes)
+swap_bytes-folded_sum bytes =
+    let w = other_order bytes in
+    let zeros = both_zero bytes in
+    fold_swapped (little_endian_word_sum bytes) (network_order_word_sum bytes) w.past_network w.to_network zeros.0 zeros.1
+
+-- all ones are all ones in either order
+all_ones_swapped : (n : ℕ) → n ≤ 65535 → (swap_bytes w16 n ≡ 65535) ↔ (n ≡ 65535)
+all_ones_swapped n h =
+    let swapped = swap_bytes-small n (omega arith) in
+    (λ e. omega (arith, swapped, e), λ e. omega (arith, swapped, e))
+
+-- what a sum from 0 says of the words in network order
+pub network_order_from_zero : (start result : ℕ) (bytes : List ℕ) → folded_sum result ≡ folded_sum (start + little_endian_word_sum bytes) → start ≡ 0 → swap_bytes w16 (folded_sum result) ≡ folded_sum (network_order_word_sum bytes)
+network_order_from_zero start result bytes sum from_zero =
+    let plain : start + little_endian_word_sum bytes ≡ little_endian_word_sum bytes = omega arith in
+    ap (swap_bytes w16) (sum ∙ ap folded_sum plain) ∙ swap_bytes-folded_sum bytes
+
+pub all_ones_from_zero : (start result : ℕ) (bytes : List ℕ) → folded_sum result ≡ folded_sum (start + little_endian_word_sum bytes) → start ≡ 0 → SumsToAllOnes bytes ↔ (folded_sum result ≡ 65535)
+all_ones_from_zero start result bytes sum from_zero =
+    let swapped = network_order_from_zero start result bytes sum from_zero in
+    let ones = all_ones_swapped (folded_sum result) (folded_sum-within result) in
+    (λ e. ones.0 (swapped ∙ e), λ e. sym swapped ∙ ones.1 e)
+
+-- a changed byte changes the sum by its weight
+record ChangesBy (weight other : ℕ) (bytes : List ℕ) (place byte : ℕ) : Type 0 where
+  factor : ℕ
+  is_weight : (factor ≡ weight) ⊎ (factor ≡ other)
+  sum : weighted_byte_sum weight other (slice_set bytes place byte) + factor * slice_index bytes place ≡ weighted_byte_sum weight other bytes + factor * byte
+
+either_way : {A B : Type 0} → A ⊎ B → B ⊎ A
+either_way (inl x) = inr x
+either_way (inr x) = inl x
+
+changes_by : (weight other : ℕ) (bytes : List ℕ) (place byte : ℕ) → place < length bytes → ChangesBy weight other bytes place byte
+changes_by weight other [] place byte h = absurd (omega arith)
+changes_by weight other (x ∷ xs) zero byte h = record { factor = weight; is_weight = inl refl; sum = omega arith }
+changes_by weight other (x ∷ xs) (suc place) byte h =
+    let rest = changes_by other weight xs place byte (omega arith) in
+    record { factor = rest.factor; is_weight = either_way rest.is_weight; sum = omega (arith, rest.sum) }
+
+-- a sum of all ones is a multiple of 65535
+all_ones_multiple : (n : ℕ) → folded_sum n ≡ 65535 → n % 65535 ≡ 0
+all_ones_multiple zero e = refl
+all_ones_multiple (suc n) e = omega arith
+
+-- of two sums that differ by one byte only one is a multiple of 65535
+same_byte : (m n w x y : ℕ) → (w ≡ 256) ⊎ (w ≡ 1) → x < 256 → y < 256 → n + w * x ≡ m + w * y → m % 65535 ≡ 0 → n % 65535 ≡ 0 → y ≡ x
+same_byte m n w x y (inl e) hx hy sum hm hn = let s : n + 256 * x ≡ m + 256 * y = rw e at sum in omega arith
+same_byte m n w x y (inr e) hx hy sum hm hn = let s : n + 1 * x ≡ m + 1 * y = rw e at sum in omega arith
+
+-- bytes that sum to all ones do not with one of them changed
+pub one_byte_breaks : (bytes changed : List ℕ) → ((k : ℕ) → slice_index bytes k < 256) → SumsToAllOnes bytes → ChangesOneByte bytes changed → SumsToAllOnes changed → ⊥
+one_byte_breaks bytes changed are_bytes ones change again =
+    let after = slice_set bytes change.place change.byte in
+    let by_weight = changes_by 256 1 bytes change.place change.byte change.within in
+    let before_ones : network_order_word_sum bytes % 65535 ≡ 0 = all_ones_multiple (network_order_word_sum bytes) ones in
+    let after_ones : network_order_word_sum after % 65535 ≡ 0 = all_ones_multiple (network_order_word_sum after) (rw change.changed at again) in
+    change.differs (same_byte (network_order_word_sum bytes) (network_order_word_sum after) by_weight.factor (slice_index bytes change.place) change.byte
+    by_weight.is_weight (are_bytes change.place) change.is_byte by_weight.sum before_ones after_ones)
+
+-- behind an even number of bytes a new word begins
+pub little_endian_word_sum-append : (front rest : List ℕ) → length front % 2 ≡ 0 → little_endian_word_sum (front ++ rest) ≡ little_endian_word_sum front + little_endian_word_sum rest
+little_endian_word_sum-append [] rest h = omega arith
+little_endian_word_sum-append (x ∷ []) rest h = absurd (omega arith)
+little_endian_word_sum-append (x ∷ y ∷ front) rest h =
+    let more = little_endian_word_sum-append front rest (omega arith) in omega arith
+
+-- pieces in another order
+pub ones_complement_sum-exchanged : (before after : List (List ℕ)) (first second : List ℕ) → ones_complement_sum (before ++ second ∷ first ∷ after) ≡ ones_complement_sum (before ++ first ∷ second ∷ after)
+ones_complement_sum-exchanged before after first second =
+    let sums : sum_by little_endian_word_sum (before ++ second ∷ first ∷ after) ≡ sum_by little_endian_word_sum (before ++ first ∷ second ∷ after) =
+    rw (
+      sum_by-append little_endian_word_sum before (second ∷ first ∷ after),
+      sum_by-append little_endian_word_sum before (first ∷ second ∷ after),
+      sum_by-cons little_endian_word_sum second (first ∷ after),
+      sum_by-cons little_endian_word_sum first after,
+      sum_by-cons little_endian_word_sum first (second ∷ after),
+      sum_by-cons little_endian_word_sum second after,
+    ) (omega arith) in
+    ap folded_sum sums
+
+-- a piece cut in two
+pub ones_complement_sum-cut : (before after : List (List ℕ)) (front rest : List ℕ) → length front % 2 ≡ 0 → ones_complement_sum (before ++ front ∷ rest ∷ after) ≡ ones_complement_sum (before ++ (front ++ rest) ∷ after)
+ones_complement_sum-cut before after front rest even =
+    let sums : sum_by little_endian_word_sum (before ++ front ∷ rest ∷ after) ≡ sum_by little_endian_word_sum (before ++ (front ++ rest) ∷ after) =
+    rw (
+      sum_by-append little_endian_word_sum before (front ∷ rest ∷ after),
+      sum_by-append little_endian_word_sum before ((front ++ rest) ∷ after),
+      sum_by-cons little_endian_word_sum front (rest ∷ after),
+      sum_by-cons little_endian_word_sum rest after,
+      sum_by-cons little_endian_word_sum (front ++ rest) after,
+      little_endian_word_sum-append front rest even,
+    ) (omega arith) in
+    ap folded_sum sums

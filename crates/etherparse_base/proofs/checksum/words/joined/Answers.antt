@@ -1,0 +1,7 @@
+use Rattle.etherparse_base.proofs.LaneSums.{joined_lanes}
+use Rattle.etherparse_base.proofs.checksum.words.joined.Goals as goal
+
+pub returns : goal.returns
+returns c = record {
+  halves = λ low splits below. joined_lanes c.args.total low c.args.high c.requires splits below;
+}

@@ -1,0 +1,55 @@
+-- Sums of words of sixteen bits, and the checksum that is made of them (RFC 1071).
+use Rattle.std.specs.Prelude.{ℕ, zero, suc, ◌≡◌, ◌≢◌, ◌<◌, ◌+◌, ◌-◌, ◌*◌, ◌%◌}
+use Rattle.std.specs.Prelude.{List, [], ◌∷◌, if◌then◌else◌, length, nat_lt, slice_index, slice_set}
+use Rattle.std.specs.Prelude.{sum_by}
+
+-- The sum of two numbers of which none is above the greatest, with the end-around carry: what goes
+-- beyond the greatest is added at the low end (RFC 1071 section 1).
+abbrev pub end_around_sum : ℕ → ℕ → ℕ → ℕ
+end_around_sum greatest a b = if nat_lt greatest (a + b) then a + b - greatest else a + b
+
+-- The ones-complement sum of sixteen bits, from the plain sum of the words: 0 is 0, and any other
+-- sum is the number from 1 to 65535 that differs from it by a multiple of 65535 (RFC 1071 section 1).
+abbrev pub folded_sum : ℕ → ℕ
+folded_sum zero = 0
+folded_sum (suc n) = 1 + n % 65535
+
+-- the sum of the bytes, each times its weight; the two weights take turns
+abbrev pub weighted_byte_sum : ℕ → ℕ → List ℕ → ℕ
+weighted_byte_sum weight other [] = 0
+weighted_byte_sum weight other (byte ∷ bytes) =
+    weight * byte + weighted_byte_sum other weight bytes
+
+-- The sum of the words of two bytes, each with the low byte first (RFC 1071 section 2 (B)). The last
+-- byte of an odd number is the low byte of its word.
+abbrev pub little_endian_word_sum : List ℕ → ℕ
+little_endian_word_sum bytes = weighted_byte_sum 1 256 bytes
+
+-- The sum of the words of two bytes, each in network order, the high byte first (RFC 1071 section 1).
+-- The last byte of an odd number is the high byte of its word.
+abbrev pub network_order_word_sum : List ℕ → ℕ
+network_order_word_sum bytes = weighted_byte_sum 256 1 bytes
+
+-- the ones-complement sum of the words is all ones, by which a receiver tells that a checksum among
+-- them is right (RFC 1071 section 1)
+abbrev pub SumsToAllOnes : List ℕ → Type 0
+SumsToAllOnes bytes = folded_sum (network_order_word_sum bytes) ≡ 65535
+
+-- The ones-complement sum of the words of all pieces. Each piece begins a word of its own, so an odd
+-- piece is padded with 0.
+abbrev pub ones_complement_sum : List (List ℕ) → ℕ
+ones_complement_sum pieces = folded_sum (sum_by little_endian_word_sum pieces)
+
+-- a checksum that is never 0, which in UDP says that there is none: all ones stand for it (RFC 768)
+abbrev pub with_no_zero : ℕ → ℕ
+with_no_zero zero = 65535
+with_no_zero (suc n) = suc n
+
+-- the bytes after are those before with another byte at one place
+pub record ChangesOneByte (before after : List ℕ) : Type 0 where
+  pub place : ℕ
+  pub byte : ℕ
+  pub within : place < length before
+  pub is_byte : byte < 256
+  pub differs : byte ≢ slice_index before place
+  pub changed : after ≡ slice_set before place byte

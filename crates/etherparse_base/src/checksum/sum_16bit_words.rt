@@ -1,0 +1,140 @@
+ghost use Rattle.std.specs.Prelude.{ℕ, List, ◌≡◌, ◌↔◌, ◌+◌, ◌-◌, drop, take};
+ghost use Rattle.std.specs.Int.{from_le_bytes, swap_bytes, w16, w32, w64};
+ghost use Rattle.etherparse_base.specs.WordSums.{ChangesOneByte, SumsToAllOnes, end_around_sum};
+ghost use Rattle.etherparse_base.specs.WordSums.{folded_sum, little_endian_word_sum};
+ghost use Rattle.etherparse_base.specs.WordSums.{network_order_word_sum, with_no_zero};
+
+use super::u64_16bit_word;
+use std::marker::Model;
+
+/// The sum of words of sixteen bits, for the checksum of a header (RFC 1071). Each call answers a new sum.
+///
+/// Sums are equal where the numbers of 64 bits are that they are kept in: equal complements do not make them equal.
+#[derive(Clone, Debug, PartialEq, Eq, Drop)]
+pub struct Sum16BitWords {
+    sum: u64,
+}
+
+/// A contract sees the number that the sum is kept in.
+impl Model for Sum16BitWords {
+    ghost Value = { ℕ };
+
+    ghost view = { λ words. words.sum };
+
+    ghost inverse = { λ number. record { sum = number } };
+}
+
+impl Sum16BitWords {
+    /// The sum of no words: 0.
+    pub fn new() -> Sum16BitWords
+        ensures zero { result ≡ 0 }
+    {
+        Sum16BitWords { sum: 0 }
+    }
+
+    /// Adds the words of a slice. An odd last byte is paired with a byte 0 behind it (RFC 1071 section 1).
+    ///
+    /// The answer is one of the sums that have the right complement. Which one, is no promise.
+    #[inline]
+    pub fn add_slice(self, slice: &[u8]) -> Sum16BitWords
+        ensures sum { folded_sum result ≡ folded_sum (self + little_endian_word_sum slice.now) }
+        ensures network_order { self ≡ 0
+            → swap_bytes w16 (folded_sum result) ≡ folded_sum (network_order_word_sum slice.now) }
+        ensures all_ones { self ≡ 0 → (SumsToAllOnes slice.now ↔ (folded_sum result ≡ 65535)) }
+        ensures one_byte { SumsToAllOnes slice.now
+            → (changed : List ℕ) → ChangesOneByte slice.now changed → ¬ SumsToAllOnes changed }
+    {
+        Sum16BitWords {
+            sum: u64_16bit_word::add_slice(self.sum, slice),
+        }
+    }
+
+    /// Adds two bytes as one number, the low byte first. A carry out of the 64 bits is added at the low end (RFC 1071
+    /// section 1).
+    #[inline]
+    pub fn add_2bytes(self, value: [u8; 2]) -> Sum16BitWords
+        ensures sum { result ≡ end_around_sum u64.MAX self (from_le_bytes w16 value) }
+        ensures folded { folded_sum result ≡ folded_sum (self + little_endian_word_sum value) }
+    {
+        Sum16BitWords {
+            sum: u64_16bit_word::add_2bytes(self.sum, value),
+        }
+    }
+
+    /// Adds four bytes as one number, the low byte first. A carry out of the 64 bits is added at the low end (RFC 1071
+    /// section 1).
+    ///
+    /// It changes nothing: what it answers is the new sum.
+    #[inline]
+    pub fn add_4bytes(&mut self, value: [u8; 4]) -> Sum16BitWords
+        ensures sum { result ≡ end_around_sum u64.MAX self.old (from_le_bytes w32 value) }
+        ensures folded { folded_sum result ≡ folded_sum (self.old + little_endian_word_sum value) }
+        ensures unchanged { self.new ≡ self.old }
+    {
+        Sum16BitWords {
+            sum: u64_16bit_word::add_4bytes(self.sum, value),
+        }
+    }
+
+    /// Adds eight bytes as one number, the low byte first. A carry out of the 64 bits is added at the low end (RFC 1071
+    /// section 1).
+    ///
+    /// It changes nothing: what it answers is the new sum.
+    #[inline]
+    pub fn add_8bytes(&mut self, value: [u8; 8]) -> Sum16BitWords
+        ensures sum { result ≡ end_around_sum u64.MAX self.old (from_le_bytes w64 value) }
+        ensures folded { folded_sum result ≡ folded_sum (self.old + little_endian_word_sum value) }
+        ensures unchanged { self.new ≡ self.old }
+    {
+        Sum16BitWords {
+            sum: u64_16bit_word::add_8bytes(self.sum, value),
+        }
+    }
+
+    /// Adds sixteen bytes: the first eight, and then the last eight, as [`Sum16BitWords::add_8bytes`] does.
+    ///
+    /// It changes nothing: what it answers is the new sum.
+    #[inline]
+    pub fn add_16bytes(&mut self, value: [u8; 16]) -> Sum16BitWords
+        ensures sum { let first = end_around_sum u64.MAX self.old (from_le_bytes w64 (take 8 value)) in
+            result ≡ end_around_sum u64.MAX first (from_le_bytes w64 (drop 8 value)) }
+        ensures folded { folded_sum result ≡ folded_sum (self.old + little_endian_word_sum value) }
+        ensures unchanged { self.new ≡ self.old }
+    {
+        let first = [
+            value[0], value[1], value[2], value[3], value[4], value[5], value[6], value[7],
+        ];
+        let last = [
+            value[8], value[9], value[10], value[11], value[12], value[13], value[14], value[15],
+        ];
+        self.add_8bytes(first).add_8bytes(last)
+    }
+
+    /// The checksum of what was summed, the ones-complement of the sum in sixteen bits: 0 where the words sum to all ones.
+    ///
+    /// `to_le_bytes` gives its two bytes in the order in which a header has them.
+    #[inline]
+    pub fn ones_complement(&self) -> u16
+        ensures value { result ≡ 65535 - folded_sum self.now }
+    {
+        u64_16bit_word::ones_complement(self.sum)
+    }
+
+    /// The same with 0xffff in place of 0, as UDP has it: a checksum of 0 says there that there is none (RFC 768).
+    #[inline]
+    pub fn to_ones_complement_with_no_zero(&self) -> u16
+        ensures value { result ≡ with_no_zero (65535 - folded_sum self.now) }
+    {
+        u64_16bit_word::ones_complement_with_no_zero(self.sum)
+    }
+}
+
+/// The sum of no words.
+impl Default for Sum16BitWords {
+    ghost is_default = { λ words. words ≡ 0 };
+
+    #[inline]
+    fn default() -> Sum16BitWords {
+        Sum16BitWords::new()
+    }
+}

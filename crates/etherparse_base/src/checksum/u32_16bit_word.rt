@@ -1,0 +1,88 @@
+//! The sum of words of sixteen bits in 32 bits, and its complement, the checksum (RFC 1071).
+//!
+//! It is what [`u64_16bit_word`](super::u64_16bit_word) is at the other width, and gives the same complements.
+
+ghost use Rattle.std.specs.Prelude.{ℕ, List, ◌∷◌, ◌++◌, ◌≡◌, ◌↔◌, ◌+◌, ◌-◌, ◌%◌, length, map};
+ghost use Rattle.std.specs.Int.{from_le_bytes, swap_bytes, w16, w32};
+ghost use Rattle.etherparse_base.specs.WordSums.{ChangesOneByte, SumsToAllOnes, end_around_sum};
+ghost use Rattle.etherparse_base.specs.WordSums.{folded_sum, little_endian_word_sum};
+ghost use Rattle.etherparse_base.specs.WordSums.{network_order_word_sum, ones_complement_sum};
+ghost use Rattle.etherparse_base.specs.WordSums.{with_no_zero};
+
+use super::end_around::{add_u32, halve_u32};
+use super::wide_u32;
+
+/// Adds two bytes as one number, the low byte first. A carry out of the 32 bits is added at the low end (RFC 1071
+/// section 1).
+#[inline]
+pub fn add_2bytes(start: u32, value: [u8; 2]) -> u32
+    ensures sum { result ≡ end_around_sum u32.MAX start (from_le_bytes w16 value) }
+    ensures folded { folded_sum result ≡ folded_sum (start + little_endian_word_sum value) }
+{
+    add_u32(start, u32::from(u16::from_le_bytes(value)))
+}
+
+/// Adds four bytes as one number, the low byte first. A carry out of the 32 bits is added at the low end (RFC 1071
+/// section 1).
+#[inline]
+pub fn add_4bytes(start: u32, value: [u8; 4]) -> u32
+    ensures sum { result ≡ end_around_sum u32.MAX start (from_le_bytes w32 value) }
+    ensures folded { folded_sum result ≡ folded_sum (start + little_endian_word_sum value) }
+{
+    add_u32(start, u32::from_le_bytes(value))
+}
+
+/// Adds the words of a slice. An odd last byte is paired with a byte 0 behind it (RFC 1071 section 1).
+///
+/// The answer is one of the numbers that have the right complement. Which one, is no promise.
+#[inline]
+pub fn add_slice(start_sum: u32, slice: &[u8]) -> u32
+    ensures sum { folded_sum result ≡ folded_sum (start_sum + little_endian_word_sum slice.now) }
+    ensures network_order { start_sum ≡ 0
+        → swap_bytes w16 (folded_sum result) ≡ folded_sum (network_order_word_sum slice.now) }
+    ensures all_ones { start_sum ≡ 0
+        → (SumsToAllOnes slice.now ↔ (folded_sum result ≡ 65535)) }
+    ensures one_byte { SumsToAllOnes slice.now
+        → (changed : List ℕ) → ChangesOneByte slice.now changed → ¬ SumsToAllOnes changed }
+{
+    wide_u32::add_slice(start_sum, slice)
+}
+
+/// The sum of all pieces, from 0, each added by [`add_slice`]: an odd piece is padded by itself.
+///
+/// The Rust crate has no such call.
+pub fn add_slices(pieces: &[&[u8]]) -> u32
+    ensures sum { folded_sum result ≡ ones_complement_sum (map (λ piece. piece.now) pieces.now) }
+    ensures exchanged { (before after : List (List ℕ)) (first second : List ℕ)
+        → map (λ piece. piece.now) pieces.now ≡ before ++ first ∷ second ∷ after
+        → folded_sum result ≡ ones_complement_sum (before ++ second ∷ first ∷ after) }
+    ensures cut { (before after : List (List ℕ)) (front back : List ℕ)
+        → map (λ piece. piece.now) pieces.now ≡ before ++ (front ++ back) ∷ after
+        → length front % 2 ≡ 0
+        → folded_sum result ≡ ones_complement_sum (before ++ front ∷ back ∷ after) }
+{
+    let mut sum = 0;
+    for piece in pieces {
+        sum = add_slice(sum, piece);
+    }
+    sum
+}
+
+/// The checksum of what was summed, the ones-complement of the sum in sixteen bits: 0 where the words sum to all ones.
+///
+/// `to_le_bytes` gives its two bytes in the order in which a header has them.
+#[inline]
+pub fn ones_complement(sum: u32) -> u16
+    ensures value { result ≡ 65535 - folded_sum sum }
+{
+    !halve_u32(sum)
+}
+
+/// The same with 0xffff in place of 0, as UDP has it: a checksum of 0 says there that there is none (RFC 768).
+#[inline]
+pub fn ones_complement_with_no_zero(sum: u32) -> u16
+    ensures value { result ≡ with_no_zero (65535 - folded_sum sum) }
+{
+    let checksum = ones_complement(sum);
+    if checksum == 0 { 0xffff } else { checksum }
+}
