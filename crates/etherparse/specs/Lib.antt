@@ -7,13 +7,17 @@ pub mod Ipv6HeaderSlice
 pub mod Reading
 pub mod TrafficClass
 pub use Rattle.etherparse_base.specs.Bytes
+pub use Rattle.etherparse_base.specs.IpErrors
 pub use Rattle.etherparse_base.specs.Ipv4Errors
 pub use Rattle.etherparse_base.specs.Ipv6Errors
 pub use Rattle.etherparse_base.specs.Layer
 pub use Rattle.etherparse_base.specs.LenError
 pub use Rattle.etherparse_base.specs.LenSource
+pub use Rattle.etherparse_base.specs.SliceWriteSpaceError
 pub use Rattle.etherparse_base.specs.ValueTooBigError
 pub use Rattle.etherparse_base.specs.ValueType
 pub use Rattle.etherparse_base.specs.WordSums
+pub use Rattle.etherparse_fields.specs.ExtensionHeaders
+pub use Rattle.etherparse_fields.specs.IpDscpKnown
 pub use Rattle.etherparse_fields.specs.IpEcn
 pub use Rattle.etherparse_fields.specs.Ipv4Options

@@ -23,7 +23,9 @@ mod net;
 mod testing;
 
 pub use etherparse_base::{LenSource, checksum, err};
-pub use etherparse_fields::{IpDscp, IpEcn, IpFragOffset, IpNumber, Ipv4Options, Ipv6FlowLabel};
+pub use etherparse_fields::{
+    IpDscp, IpDscpKnown, IpEcn, IpFragOffset, IpNumber, Ipv4Options, Ipv6FlowLabel, ip_number,
+};
 pub use net::ipv4_header::Ipv4Header;
 pub use net::ipv4_header_slice::Ipv4HeaderSlice;
 pub use net::ipv6_header::Ipv6Header;

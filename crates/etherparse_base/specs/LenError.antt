@@ -1,5 +1,6 @@
--- The text of a length error.
-use Rattle.std.specs.Prelude.{ℕ, List, [], ◌∷◌, ◌++◌, codes, nat_lt, if◌then◌else◌}
+-- A length error: its text, and the same error further on in a packet.
+use Rattle.std.specs.Prelude.{ℕ, ◌+◌, ◌^◌, ◌<◌, List, [], ◌∷◌, ◌++◌}
+use Rattle.std.specs.Prelude.{codes, nat_lt, if◌then◌else◌}
 use Rattle.std.specs.Fmt.{decimal}
 use Rattle.std.specs.List.{concat}
 use Rattle.etherparse_base.specs.declared.err.len_error.LenError.{LenError}
@@ -36,3 +37,11 @@ place_text e =
 -- the text of a length error
 abbrev pub len_error_text : LenError → List ℕ
 len_error_text e = lengths_text e ++ place_text e ++ codes "."
+
+-- the layer's place fits an index of 64 bits after so many bytes more
+abbrev pub HasRoomFor : ℕ → LenError → Type 0
+HasRoomFor offset e = e.layer_start_offset + offset < 2 ^ 64
+
+-- the error of the same layer, which starts so many bytes further on
+abbrev pub len_error_moved : ℕ → LenError → LenError
+len_error_moved offset e = record e { layer_start_offset = e.layer_start_offset + offset }

@@ -1,9 +1,11 @@
 pub mod Bytes
+pub mod IpErrors
 pub mod Ipv4Errors
 pub mod Ipv6Errors
 pub mod Layer
 pub mod LenError
 pub mod LenSource
+pub mod SliceWriteSpaceError
 pub mod ValueTooBigError
 pub mod ValueType
 pub mod WideSums

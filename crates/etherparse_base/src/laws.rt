@@ -12,8 +12,9 @@ ghost use Rattle.etherparse_base.specs.ValueType.{value_type_index};
 
 use crate::LenSource;
 use crate::checksum::Sum16BitWords;
+use crate::err::ip::IpDscpUnknownValueError;
 use crate::err::ipv4::BadOptionsLen;
-use crate::err::{Layer, LenError, ValueTooBigError, ValueType, ipv4, ipv6};
+use crate::err::{Layer, LenError, SliceWriteSpaceError, ValueTooBigError, ValueType, ipv4, ipv6};
 use std::alloc::AllocError;
 use std::cmp::Ordering;
 
@@ -41,6 +42,12 @@ fn len_error_equality(a: &LenError, b: &LenError) -> bool
     a == b
 }
 
+fn slice_write_space_error_equality(a: &SliceWriteSpaceError, b: &SliceWriteSpaceError) -> bool
+    ensures same_value { IsTrue result ↔ (a.now ≡ b.now) }
+{
+    a == b
+}
+
 fn value_too_big_error_u8_equality(a: &ValueTooBigError<u8>, b: &ValueTooBigError<u8>) -> bool
     ensures same_value { IsTrue result ↔ (a.now ≡ b.now) }
 {
@@ -62,6 +69,15 @@ fn value_too_big_error_u32_equality(a: &ValueTooBigError<u32>, b: &ValueTooBigEr
 fn value_too_big_error_usize_equality(
     a: &ValueTooBigError<usize>,
     b: &ValueTooBigError<usize>,
+) -> bool
+    ensures same_value { IsTrue result ↔ (a.now ≡ b.now) }
+{
+    a == b
+}
+
+fn ip_dscp_unknown_value_error_equality(
+    a: &IpDscpUnknownValueError,
+    b: &IpDscpUnknownValueError,
 ) -> bool
     ensures same_value { IsTrue result ↔ (a.now ≡ b.now) }
 {
@@ -128,6 +144,14 @@ fn len_error_clone(source: &LenError) -> Result<LenError, AllocError>
     source.clone()
 }
 
+fn slice_write_space_error_clone(
+    source: &SliceWriteSpaceError,
+) -> Result<SliceWriteSpaceError, AllocError>
+    ensures same_value { result ≡ Ok source.now }
+{
+    source.clone()
+}
+
 fn value_too_big_error_u8_clone(
     source: &ValueTooBigError<u8>,
 ) -> Result<ValueTooBigError<u8>, AllocError>
@@ -155,6 +179,14 @@ fn value_too_big_error_u32_clone(
 fn value_too_big_error_usize_clone(
     source: &ValueTooBigError<usize>,
 ) -> Result<ValueTooBigError<usize>, AllocError>
+    ensures same_value { result ≡ Ok source.now }
+{
+    source.clone()
+}
+
+fn ip_dscp_unknown_value_error_clone(
+    source: &IpDscpUnknownValueError,
+) -> Result<IpDscpUnknownValueError, AllocError>
     ensures same_value { result ≡ Ok source.now }
 {
     source.clone()

@@ -1,9 +1,13 @@
 //! What no clause says: that a text comes out whole, what `{:?}` prints, that a clone is there and hashes as its source does, and
-//! which types are an `Error`. The texts and the orders of all variants stand in the sample that `conformance` replays.
+//! which types are an `Error`; and an error moved along a packet. The texts and the orders of all variants stand in the sample
+//! that `conformance` replays.
+
+ghost use Rattle.std.specs.Prelude.{◌≡◌};
 
 use crate::LenSource;
+use crate::err::ip::IpDscpUnknownValueError;
 use crate::err::ipv4::BadOptionsLen;
-use crate::err::{Layer, LenError, ValueTooBigError, ValueType, ipv4, ipv6};
+use crate::err::{Layer, LenError, SliceWriteSpaceError, ValueTooBigError, ValueType, ipv4, ipv6};
 use std::alloc::Global;
 use std::error::Error;
 use std::fmt::{Debug, Display};
@@ -30,6 +34,11 @@ fn a_length_error_has_four_forms(rt: HostRuntime) -> Result<(), Fail> {
             "LenError { required_len: 20, len: 20, len_source: Slice, layer: Ipv4Header, layer_start_offset: 0 }",
         ),
         (
+            in_slice(20, 20, 4),
+            "IPv4 Header Error: Length of 20 byte(s) is too big for an 'IPv4 header' (maximum is 20 bytes). The slice length was used to determine the length ('IPv4 header' starts at overall parsed byte 4).",
+            "LenError { required_len: 20, len: 20, len_source: Slice, layer: Ipv4Header, layer_start_offset: 4 }",
+        ),
+        (
             in_slice(1, 2, 3),
             "IPv4 Header Error: Length of 2 byte(s) is too big for an 'IPv4 header' (maximum is 1 bytes). The slice length was used to determine the length ('IPv4 header' starts at overall parsed byte 3).",
             "LenError { required_len: 1, len: 2, len_source: Slice, layer: Ipv4Header, layer_start_offset: 3 }",
@@ -39,6 +48,79 @@ fn a_length_error_has_four_forms(rt: HostRuntime) -> Result<(), Fail> {
         assert_shows(&rt, rt.alloc(), error, text, debug_text)?;
     }
     Ok(())
+}
+
+#[test]
+fn a_slice_with_too_little_room_has_two_forms(rt: HostRuntime) -> Result<(), Fail> {
+    let cases = [
+        (
+            SliceWriteSpaceError {
+                required_len: 2,
+                len: 1,
+                layer: Layer::Ipv4Header,
+                layer_start_offset: 4,
+            },
+            "Not enough space to write IPv4 header to slice. Needed 2 byte(s), but only 1 byte(s) were available (start offset of IPv4 header write was 4 byte(s)).",
+            "SliceWriteSpaceError { required_len: 2, len: 1, layer: Ipv4Header, layer_start_offset: 4 }",
+        ),
+        (
+            SliceWriteSpaceError {
+                required_len: 4,
+                len: 3,
+                layer: Layer::Ipv4Header,
+                layer_start_offset: 0,
+            },
+            "Not enough space to write IPv4 header to slice. Needed 4 byte(s), but only 3 byte(s) were available.",
+            "SliceWriteSpaceError { required_len: 4, len: 3, layer: Ipv4Header, layer_start_offset: 0 }",
+        ),
+    ];
+    for (error, text, debug_text) in &cases {
+        assert_shows(&rt, rt.alloc(), error, text, debug_text)?;
+    }
+    Ok(())
+}
+
+#[test]
+fn a_code_point_is_not_known(rt: HostRuntime) -> Result<(), Fail> {
+    assert_shows(
+        &rt,
+        rt.alloc(),
+        &IpDscpUnknownValueError { value: 9 },
+        "Error DSCP value '9' is not known.",
+        "IpDscpUnknownValueError { value: 9 }",
+    )
+}
+
+#[test]
+fn an_offset_is_added_to_a_length_alone(rt: HostRuntime) {
+    assert_eq!(rt; in_slice(2, 1, 20).add_offset(100), in_slice(2, 1, 120));
+    assert_eq!(rt;
+        in_slice(2, 1, usize::MAX - 1).add_offset(1),
+        in_slice(2, 1, usize::MAX)
+    );
+
+    assert_eq!(rt;
+        ipv4::HeaderSliceError::Len(icmp_in_slice(3)).add_slice_offset(200),
+        ipv4::HeaderSliceError::Len(icmp_in_slice(203))
+    );
+    assert_eq!(rt;
+        ipv6::HeaderSliceError::Len(icmp_in_slice(3)).add_slice_offset(200),
+        ipv6::HeaderSliceError::Len(icmp_in_slice(203))
+    );
+
+    let version_number = 1;
+    assert_eq!(rt;
+        ipv4::HeaderSliceError::Content(ipv4::HeaderError::UnexpectedVersion {
+            version_number
+        }).add_slice_offset(usize::MAX),
+        ipv4::HeaderSliceError::Content(ipv4::HeaderError::UnexpectedVersion { version_number })
+    );
+    assert_eq!(rt;
+        ipv6::HeaderSliceError::Content(ipv6::HeaderError::UnexpectedVersion {
+            version_number
+        }).add_slice_offset(usize::MAX),
+        ipv6::HeaderSliceError::Content(ipv6::HeaderError::UnexpectedVersion { version_number })
+    );
 }
 
 #[test]
@@ -173,6 +255,8 @@ fn layers_and_values_have_names_and_an_order(rt: HostRuntime) -> Result<(), Fail
 #[test]
 fn each_error_is_an_error(_rt: HostRuntime) {
     is_error::<LenError>();
+    is_error::<SliceWriteSpaceError>();
+    is_error::<IpDscpUnknownValueError>();
     is_error::<ValueTooBigError<u8>>();
     is_error::<ValueTooBigError<u16>>();
     is_error::<ValueTooBigError<u32>>();
@@ -187,12 +271,27 @@ fn each_error_is_an_error(_rt: HostRuntime) {
 fn is_error<T: Error>() {}
 
 // Of an IPv4 header in a slice.
-fn in_slice(required_len: usize, len: usize, layer_start_offset: usize) -> LenError {
+fn in_slice(required_len: usize, len: usize, layer_start_offset: usize) -> LenError
+    ensures start { result.layer_start_offset ≡ layer_start_offset }
+{
     LenError {
         required_len,
         len,
         len_source: LenSource::Slice,
         layer: Layer::Ipv4Header,
+        layer_start_offset,
+    }
+}
+
+// Of an ICMP packet of 2 bytes where 1 is the most.
+fn icmp_in_slice(layer_start_offset: usize) -> LenError
+    ensures start { result.layer_start_offset ≡ layer_start_offset }
+{
+    LenError {
+        required_len: 1,
+        len: 2,
+        len_source: LenSource::Slice,
+        layer: Layer::Icmpv4,
         layer_start_offset,
     }
 }

@@ -1,1 +1,2 @@
 mod BufferMemory
+pub mod CodePoints

@@ -3,9 +3,11 @@
 ghost use Rattle.std.specs.Prelude.{◌≡◌, ◌<◌, ◌↔◌, IsTrue, Ok, fold, length};
 ghost use Rattle.std.specs.Ordering.{nat_cmp};
 ghost use Rattle.std.specs.Hash as fed;
+ghost use Rattle.etherparse_fields.specs.IpDscpKnown.{code_point_of};
 ghost use Rattle.etherparse_fields.specs.IpEcn.{ecn_value};
 
-use crate::{IpDscp, IpEcn, IpFragOffset, IpNumber, Ipv4Options, Ipv6FlowLabel};
+use crate::{IpDscp, IpDscpKnown, IpEcn, IpFragOffset, IpNumber, Ipv4Options, Ipv6FlowLabel};
+use etherparse_base::err::ip::IpDscpUnknownValueError;
 use std::alloc::AllocError;
 use std::cmp::Ordering;
 use std::hash::{Hash, Hasher};
@@ -38,6 +40,24 @@ fn dscp_clone(a: &IpDscp) -> Result<IpDscp, AllocError>
     ensures same_value { result ≡ Ok a.now }
 {
     a.clone()
+}
+
+fn known_code_point_below(a: &IpDscpKnown, b: &IpDscpKnown) -> bool
+    ensures by_code_point { IsTrue result ↔ (code_point_of a.now < code_point_of b.now) }
+{
+    a < b
+}
+
+fn known_code_point_clone(a: &IpDscpKnown) -> Result<IpDscpKnown, AllocError>
+    ensures same_value { result ≡ Ok a.now }
+{
+    a.clone()
+}
+
+fn known_code_point_and_back(a: IpDscpKnown) -> Result<IpDscpKnown, IpDscpUnknownValueError>
+    ensures same_value { result ≡ Ok a }
+{
+    IpDscpKnown::try_from_ip_dscp(IpDscp::from(a))
 }
 
 fn fragment_offset_equality(a: &IpFragOffset, b: &IpFragOffset) -> bool

@@ -7,8 +7,10 @@ mod net;
 mod testing;
 
 pub use net::ip_dscp::IpDscp;
+pub use net::ip_dscp_known::IpDscpKnown;
 pub use net::ip_ecn::IpEcn;
 pub use net::ip_frag_offset::IpFragOffset;
+pub use net::ip_number;
 pub use net::ip_number_impl::IpNumber;
 pub use net::ipv4_options::Ipv4Options;
 pub use net::ipv6_flow_label::Ipv6FlowLabel;

@@ -1,3 +1,5 @@
 pub mod Filter
 pub mod Forward
 pub mod Payload
+pub mod Queue
+pub mod Tunnel

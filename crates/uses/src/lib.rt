@@ -10,3 +10,5 @@ pub mod forward;
 pub mod ipv4_view;
 pub mod ipv6_view;
 pub mod payload;
+pub mod queue;
+pub mod tunnel;

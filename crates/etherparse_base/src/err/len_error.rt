@@ -1,5 +1,6 @@
 ghost use Rattle.std.specs.Prelude.{◌≡◌, Some};
 ghost use Rattle.std.specs.Fmt.{DisplaysOnOk};
+ghost use Rattle.etherparse_base.specs.LenError.{HasRoomFor, len_error_moved};
 ghost use Rattle.etherparse_base.specs.LenError.{len_error_text, lengths_text, place_text};
 ghost use Rattle.etherparse_base.specs.LenSource.{len_source_text};
 
@@ -21,6 +22,21 @@ pub struct LenError {
     pub layer: Layer,
     /// Where the layer starts, in bytes from the start of the parsed data.
     pub layer_start_offset: usize,
+}
+
+impl LenError {
+    /// The error of the same layer in data that starts `offset` bytes earlier: `layer_start_offset` grows by `offset`, and
+    /// every other field stays. The sum has to fit `usize`.
+    #[inline]
+    pub fn add_offset(self, offset: usize) -> LenError
+        requires fits { HasRoomFor offset self }
+        ensures moved { result ≡ len_error_moved offset self }
+    {
+        LenError {
+            layer_start_offset: self.layer_start_offset + offset,
+            ..self
+        }
+    }
 }
 
 /// Says what was needed, what was there and, unless the layer starts at byte 0, where it starts.

@@ -1,4 +1,5 @@
-ghost use Rattle.std.specs.Prelude.{Some};
+ghost use Rattle.std.specs.Prelude.{◌≡◌, Some};
+ghost use Rattle.etherparse_base.specs.Ipv6Errors.{Ipv6HasRoomFor, ipv6_error_moved};
 ghost use Rattle.etherparse_base.specs.Ipv6Errors.{ipv6_header_slice_error_text};
 
 use super::HeaderError;
@@ -13,6 +14,21 @@ pub enum HeaderSliceError {
     Len(LenError),
     /// The bytes are those of no IPv6 header.
     Content(HeaderError),
+}
+
+impl HeaderSliceError {
+    /// The error of a header that starts `offset` bytes further on: a `Len` by [`LenError::add_offset`], whose sum has to fit
+    /// `usize`, and a `Content` as it is.
+    #[inline]
+    pub fn add_slice_offset(self, offset: usize) -> HeaderSliceError
+        requires fits { Ipv6HasRoomFor offset self }
+        ensures moved { result ≡ ipv6_error_moved offset self }
+    {
+        match self {
+            HeaderSliceError::Len(e) => HeaderSliceError::Len(e.add_offset(offset)),
+            HeaderSliceError::Content(e) => HeaderSliceError::Content(e),
+        }
+    }
 }
 
 /// Says what the error that it holds says.

@@ -1,0 +1,5 @@
+//! The errors of what both IP headers have.
+
+mod ip_dscp_unknown_value_error;
+
+pub use ip_dscp_unknown_value_error::IpDscpUnknownValueError;

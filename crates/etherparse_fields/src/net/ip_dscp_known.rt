@@ -1,0 +1,273 @@
+ghost use Rattle.std.specs.Prelude.{◌≡◌, ◌↔◌, IsTrue, nat_eq};
+ghost use Rattle.std.specs.Ordering.{as_partial_cmp, nat_cmp, on};
+ghost use Rattle.std.specs.Cmp.{partial_order_from_own_ties, unsigned_ties};
+ghost use Rattle.std.specs.Cmp.Rules.{comparing, hashing};
+ghost use Rattle.std.specs.Hash as fed;
+ghost use Rattle.std.proofs.Common.{rules};
+ghost use Rattle.etherparse_fields.specs.IpDscpKnown.{AnswersKnown, TakesKnown, code_point_of};
+
+use crate::IpDscp;
+use etherparse_base::err::ip::IpDscpUnknownValueError;
+use std::cmp::Ordering;
+use std::hash::{Hash, Hasher};
+
+/// A differentiated services code point that is known by name: those that the RFCs define for all networks. It stands in an IP
+/// header as an [`IpDscp`].
+///
+/// Equality, order and hash are those of the code point's number, whatever the order of the variants.
+#[derive(Clone, Copy, Debug)]
+pub enum IpDscpKnown {
+    /// Class selector 0 (RFC 2474 section 4.2.2).
+    ClassSelector0 = 0,
+    /// Class selector 1 (RFC 2474 section 4.2.2).
+    ClassSelector1 = 8,
+    /// Class selector 2 (RFC 2474 section 4.2.2).
+    ClassSelector2 = 16,
+    /// Class selector 3 (RFC 2474 section 4.2.2).
+    ClassSelector3 = 24,
+    /// Class selector 4 (RFC 2474 section 4.2.2).
+    ClassSelector4 = 32,
+    /// Class selector 5 (RFC 2474 section 4.2.2).
+    ClassSelector5 = 40,
+    /// Class selector 6 (RFC 2474 section 4.2.2).
+    ClassSelector6 = 48,
+    /// Class selector 7 (RFC 2474 section 4.2.2).
+    ClassSelector7 = 56,
+    /// Assured forwarding class 1, low drop precedence (RFC 2597 section 6).
+    AfGroup11 = 10,
+    /// Assured forwarding class 1, medium drop precedence (RFC 2597 section 6).
+    AfGroup12 = 12,
+    /// Assured forwarding class 1, high drop precedence (RFC 2597 section 6).
+    AfGroup13 = 14,
+    /// Assured forwarding class 2, low drop precedence (RFC 2597 section 6).
+    AfGroup21 = 18,
+    /// Assured forwarding class 2, medium drop precedence (RFC 2597 section 6).
+    AfGroup22 = 20,
+    /// Assured forwarding class 2, high drop precedence (RFC 2597 section 6).
+    AfGroup23 = 22,
+    /// Assured forwarding class 3, low drop precedence (RFC 2597 section 6).
+    AfGroup31 = 26,
+    /// Assured forwarding class 3, medium drop precedence (RFC 2597 section 6).
+    AfGroup32 = 28,
+    /// Assured forwarding class 3, high drop precedence (RFC 2597 section 6).
+    AfGroup33 = 30,
+    /// Assured forwarding class 4, low drop precedence (RFC 2597 section 6).
+    AfGroup41 = 34,
+    /// Assured forwarding class 4, medium drop precedence (RFC 2597 section 6).
+    AfGroup42 = 36,
+    /// Assured forwarding class 4, high drop precedence (RFC 2597 section 6).
+    AfGroup43 = 38,
+    /// Expedited forwarding, for traffic that must not wait in queues (RFC 3246).
+    ExpeditedForwarding = 46,
+    /// Expedited forwarding of calls that were admitted to reserved capacity (RFC 5865).
+    VoiceAdmit = 44,
+    /// Traffic that takes only the capacity which nothing else uses (RFC 8622).
+    LowerEffort = 1,
+}
+
+impl IpDscpKnown {
+    /// The known code point of a number.
+    ///
+    /// # Errors
+    ///
+    /// An `IpDscpUnknownValueError` with the number, where it is that of none of the 23 known ones.
+    #[tactic(auto, using(crate::proofs::CodePoints::code_point_of_injective))]
+    pub fn try_from_ip_dscp(value: IpDscp) -> Result<IpDscpKnown, IpDscpUnknownValueError>
+        ensures answer { TakesKnown value result }
+        ensures only { AnswersKnown value result }
+    {
+        match value.value() {
+            0 => Ok(IpDscpKnown::ClassSelector0),
+            8 => Ok(IpDscpKnown::ClassSelector1),
+            16 => Ok(IpDscpKnown::ClassSelector2),
+            24 => Ok(IpDscpKnown::ClassSelector3),
+            32 => Ok(IpDscpKnown::ClassSelector4),
+            40 => Ok(IpDscpKnown::ClassSelector5),
+            48 => Ok(IpDscpKnown::ClassSelector6),
+            56 => Ok(IpDscpKnown::ClassSelector7),
+            10 => Ok(IpDscpKnown::AfGroup11),
+            12 => Ok(IpDscpKnown::AfGroup12),
+            14 => Ok(IpDscpKnown::AfGroup13),
+            18 => Ok(IpDscpKnown::AfGroup21),
+            20 => Ok(IpDscpKnown::AfGroup22),
+            22 => Ok(IpDscpKnown::AfGroup23),
+            26 => Ok(IpDscpKnown::AfGroup31),
+            28 => Ok(IpDscpKnown::AfGroup32),
+            30 => Ok(IpDscpKnown::AfGroup33),
+            34 => Ok(IpDscpKnown::AfGroup41),
+            36 => Ok(IpDscpKnown::AfGroup42),
+            38 => Ok(IpDscpKnown::AfGroup43),
+            46 => Ok(IpDscpKnown::ExpeditedForwarding),
+            44 => Ok(IpDscpKnown::VoiceAdmit),
+            1 => Ok(IpDscpKnown::LowerEffort),
+            number => Err(IpDscpUnknownValueError { value: number }),
+        }
+    }
+}
+
+/// Refuses what [`IpDscpKnown::try_from_ip_dscp`] refuses.
+impl TryFrom<IpDscp> for IpDscpKnown {
+    type Error = IpDscpUnknownValueError;
+
+    ghost try_from_gives = { TakesKnown };
+
+    fn try_from(value: IpDscp) -> Result<IpDscpKnown, IpDscpUnknownValueError> {
+        IpDscpKnown::try_from_ip_dscp(value)
+    }
+}
+
+impl From<IpDscpKnown> for u8 {
+    ghost from_gives = { λ known number. number ≡ code_point_of known };
+
+    fn from(value: IpDscpKnown) -> u8 {
+        value as u8
+    }
+}
+
+impl From<IpDscpKnown> for IpDscp {
+    ghost from_gives = { λ known dscp. dscp ≡ code_point_of known };
+
+    fn from(value: IpDscpKnown) -> IpDscp {
+        IpDscp::try_new(u8::from(value)).unwrap()
+    }
+}
+
+/// No two variants have the same code point, so equal ones are the same variant.
+impl PartialEq for IpDscpKnown {
+    ghost eq = { on code_point_of nat_eq };
+
+    ghost laws = { Prim.search (comparing, rules) };
+
+    #[tactic(auto, using(crate::proofs::CodePoints::code_point_of_injective))]
+    fn eq(&self, other: &IpDscpKnown) -> bool
+        ensures same_variant { IsTrue result ↔ (self.now ≡ other.now) }
+    {
+        u8::from(*self) == u8::from(*other)
+    }
+}
+
+impl Eq for IpDscpKnown {
+    ghost laws = { Prim.search (comparing, rules) };
+}
+
+impl Hash for IpDscpKnown {
+    ghost hash_input = { λ known. fed.u8 (code_point_of known) };
+
+    ghost respects_eq = { Prim.search (hashing, rules) };
+
+    fn hash<H: Hasher>(&self, state: &mut H) {
+        u8::from(*self).hash(state);
+    }
+}
+
+/// Any two have an order, that of `cmp`.
+impl PartialOrd for IpDscpKnown {
+    ghost partial_cmp = { as_partial_cmp (on code_point_of nat_cmp) };
+
+    ghost laws = { partial_order_from_own_ties
+        (Prim.search (comparing, rules))
+        (λ a b. unsigned_ties (code_point_of a) (code_point_of b)) };
+
+    fn partial_cmp(&self, other: &IpDscpKnown) -> Option<Ordering> {
+        Some(self.cmp(other))
+    }
+}
+
+/// The order of the code points' numbers.
+impl Ord for IpDscpKnown {
+    ghost cmp = { on code_point_of nat_cmp };
+
+    ghost total = { Prim.search (comparing, rules) };
+
+    ghost matches_partial_cmp = { Prim.search (comparing, rules) };
+
+    ghost matches_eq = { λ a b. unsigned_ties (code_point_of a) (code_point_of b) };
+
+    fn cmp(&self, other: &IpDscpKnown) -> Ordering
+        ensures by_code_point { result ≡ nat_cmp (code_point_of self.now) (code_point_of other.now) }
+    {
+        u8::from(*self).cmp(&u8::from(*other))
+    }
+}
+
+#[cfg(test)]
+mod tests {
+    use super::*;
+    use crate::testing::hash_of;
+    use std::test::Fail;
+
+    // Each known code point with its number, in the order of the numbers.
+    const KNOWN: [(IpDscpKnown, u8); 23] = [
+        (IpDscpKnown::ClassSelector0, 0),
+        (IpDscpKnown::LowerEffort, 1),
+        (IpDscpKnown::ClassSelector1, 8),
+        (IpDscpKnown::AfGroup11, 10),
+        (IpDscpKnown::AfGroup12, 12),
+        (IpDscpKnown::AfGroup13, 14),
+        (IpDscpKnown::ClassSelector2, 16),
+        (IpDscpKnown::AfGroup21, 18),
+        (IpDscpKnown::AfGroup22, 20),
+        (IpDscpKnown::AfGroup23, 22),
+        (IpDscpKnown::ClassSelector3, 24),
+        (IpDscpKnown::AfGroup31, 26),
+        (IpDscpKnown::AfGroup32, 28),
+        (IpDscpKnown::AfGroup33, 30),
+        (IpDscpKnown::ClassSelector4, 32),
+        (IpDscpKnown::AfGroup41, 34),
+        (IpDscpKnown::AfGroup42, 36),
+        (IpDscpKnown::AfGroup43, 38),
+        (IpDscpKnown::ClassSelector5, 40),
+        (IpDscpKnown::VoiceAdmit, 44),
+        (IpDscpKnown::ExpeditedForwarding, 46),
+        (IpDscpKnown::ClassSelector6, 48),
+        (IpDscpKnown::ClassSelector7, 56),
+    ];
+
+    #[test]
+    fn just_these_numbers_are_known(rt: HostRuntime) -> Result<(), Fail> {
+        for number in 0..64u8 {
+            let dscp = IpDscp::try_new(number)?;
+            let made = IpDscpKnown::try_from_ip_dscp(dscp);
+            assert_eq!(rt; IpDscpKnown::try_from(dscp), made);
+            match KNOWN.iter().find(|row| row.1 == number) {
+                Some((known, _)) => {
+                    assert_eq!(rt; made, Ok(*known));
+                    assert_eq!(rt; u8::from(*known), number);
+                    assert_eq!(rt; IpDscp::from(*known), dscp);
+                }
+                None => assert_eq!(rt; made, Err(IpDscpUnknownValueError { value: number })),
+            }
+        }
+        Ok(())
+    }
+
+    #[test]
+    fn equality_order_and_hash_are_those_of_the_numbers(rt: HostRuntime) -> Result<(), Fail> {
+        for (known, number) in &KNOWN {
+            assert_eq!(rt; known.clone()?, *known);
+            for (other, other_number) in &KNOWN {
+                assert_eq!(rt; known.cmp(other), number.cmp(other_number));
+                assert_eq!(rt; known < other, number < other_number);
+                assert_eq!(rt; known == other, number == other_number);
+                assert_eq!(rt; hash_of(known) == hash_of(other), number == other_number);
+            }
+        }
+        assert!(rt; IpDscpKnown::LowerEffort < IpDscpKnown::ClassSelector1);
+        assert!(rt; IpDscpKnown::VoiceAdmit < IpDscpKnown::ExpeditedForwarding);
+        assert_eq!(rt;
+            format!(in rt.alloc(); "{:?}", IpDscpKnown::AfGroup11)?.as_str(),
+            "AfGroup11"
+        );
+        Ok(())
+    }
+
+    #[test]
+    fn a_refusal_has_the_number(rt: HostRuntime) -> Result<(), Fail> {
+        let refusal = IpDscpKnown::try_from(IpDscp::try_new(9)?).expect_err(&rt, "not known");
+        assert_eq!(rt;
+            format!(in rt.alloc(); "{refusal}")?.as_str(),
+            "Error DSCP value '9' is not known."
+        );
+        Ok(())
+    }
+}

@@ -1,0 +1,38 @@
+//! The end of a tunnel: an IPv4 packet within an IPv4 packet.
+
+ghost use Rattle.std.specs.Prelude.{◌≡◌, IfErr, IfOk};
+ghost use Rattle.std.specs.String.{string_bytes};
+ghost use Rattle.etherparse.specs.Ipv4Header.{ipv4_header_len};
+ghost use Rattle.etherparse.specs.LenError.{len_error_text};
+ghost use Rattle.uses.specs.Tunnel.{HasInnerIpv4, RefusesInnerIpv4};
+
+use etherparse::Ipv4Header;
+use etherparse::err::{LenError, ipv4};
+use std::alloc::{AllocError, Global};
+
+/// The header inside, and what follows it. The place of an error is that in the whole packet.
+pub fn inner_ipv4(packet: &[u8]) -> Result<(Ipv4Header, &[u8]), ipv4::HeaderSliceError>
+    ensures found { IfOk result (λ x. HasInnerIpv4 packet.now x.0 x.1.now) }
+    ensures refused { IfErr result (RefusesInnerIpv4 packet.now) }
+{
+    let (outer, payload) = Ipv4Header::from_slice(packet)?;
+    match Ipv4Header::from_slice(payload) {
+        Ok(inner) => Ok(inner),
+        Err(e) => Err(e.add_slice_offset(outer.header_len())),
+    }
+}
+
+/// Why the header inside is none, in words, of an error that was made of the bytes after the outer header. Only memory can
+/// stop it.
+pub fn inner_reason(
+    alloc: Global,
+    outer: &Ipv4Header,
+    error: LenError,
+) -> Result<String, AllocError>
+    requires { error.layer_start_offset ≡ 0 }
+    ensures text { IfOk result (λ text. string_bytes text
+        ≡ len_error_text (record error { layer_start_offset = ipv4_header_len outer.now })) }
+{
+    let moved = error.add_offset(outer.header_len());
+    format!(in alloc; "{moved}")
+}
