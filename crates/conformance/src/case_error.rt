@@ -1,5 +1,5 @@
 use hex::FromHexError;
-use std::alloc::AllocError;
+use std::alloc::{AllocError, AllocFailed};
 
 /// Why a case has no answer of its own.
 #[derive(Clone, Copy, Debug, PartialEq, Eq)]
@@ -12,6 +12,13 @@ pub enum CaseError {
 
 impl From<AllocError> for CaseError {
     fn from(_error: AllocError) -> CaseError {
+        CaseError::OutOfMemory
+    }
+}
+
+// A value that no room was found for.
+impl<T: Drop> From<AllocFailed<T>> for CaseError {
+    fn from(_error: AllocFailed<T>) -> CaseError {
         CaseError::OutOfMemory
     }
 }

@@ -23,7 +23,7 @@ returns g c = λ header layout.
       ← c.destination.ensures.value header layout,
       ← c.options.ensures.value header layout,
       ← computed,
-      ← c.good_or_bad.ensures,
+      ← c.good_or_bad.ensures.text,
     )
     (appended _ _ _ _ _ (rw c.version.ensures.value at c.in_ok-write_field.ensures)
     (appended _ _ _ _ _ c.in_ok-write_field-2.ensures
