@@ -16,6 +16,9 @@ LAYERS = '''LinuxSllHeader Ethernet2Header EtherPayload VlanHeader MacsecHeader 
 VALUE_TYPES = '''VlanId VlanPcp MacsecAn MacsecShortLen IpFragmentOffset IpDscp IpEcn Ipv6FlowLabel
     Ipv4PayloadLength Ipv6PayloadLength UdpPayloadLengthIpv4 UdpPayloadLengthIpv6 TcpPayloadLengthIpv4
     TcpPayloadLengthIpv6 Icmpv6PayloadLength LinuxSllType'''.split()
+KNOWN = 0, 1, 8, 10, 12, 14, 16, 18, 20, 22, 24, 26, 28, 30, 32, 34, 36, 38, 40, 44, 46, 48, 56
+SPACE = [2, 1, 'Ipv4Header', 4]
+SPACE_MOST = [U64, U64, None, U64]
 LEN_SOURCES = '''Slice MacsecShortLength Ipv4HeaderTotalLen Ipv6HeaderPayloadLen UdpHeaderLen TcpHeaderLen
     ArpAddrLengths'''.split()
 lines = {}
@@ -47,6 +50,16 @@ def fields():
             say('field.cmp', field, a, b)
     for a, b in (0, 0), (0, U8), (U8, 0), (U8, U8):
         say('field.cmp ipnum', a, b)
+
+
+def known_code_points():
+    for n in range(65):
+        say('known', n)
+    for a in KNOWN:
+        for b in KNOWN:
+            say('known.cmp', a, b)
+    say('known.cmp', 9, 8)
+    say('known.cmp', 8, 9)
 
 
 def options():
@@ -123,6 +136,8 @@ def names():
         say('layer', layer)
         say('text.len 2 1 Slice', layer, 0)
         say('text.len 1 2 Slice', layer, 7)
+        say('text.swse 2 1', layer, 0)
+        say('text.swse 2 1', layer, 7)
         for other in LAYERS:
             say('layer.cmp', layer, other)
     for value_type in VALUE_TYPES:
@@ -143,6 +158,12 @@ def errors():
         for front in f'text.{name}', 'text.' + name.replace('.', ' '):
             each_bound(front, [4], [U8])
     each_bound('text.bad_options', [3], [U64])
+    each_bound('text.unknown', [9], [U8])
+    each_bound('text.swse', SPACE, SPACE_MOST)
+    back = ' '.join(map(str, ['/', *SPACE]))
+    each_bound('eq.swse', SPACE, SPACE_MOST, back)
+    for layer in 'Ipv4Header', 'Ipv6Header':
+        say('eq.swse 2 1', layer, 4, back)
     for operation, kind in ('eq.len', ''), ('eq.v4', 'len'), ('eq.v6', 'len'):
         back = ' '.join(map(str, ['/', kind, *LEN] if kind else ['/', *LEN]))
         say(operation, kind, *LEN, back)
@@ -206,21 +227,34 @@ def sums():
             say('v4.info', 0, 0, 0, 0x7a00, 1, 0, 0, 0, 255, checksum, '00000000', '00000000', options)
 
 
-for name in 'fields', 'headers', 'dscp', 'layers', 'value_types':
+def offsets():
+    for front in 'off.len', 'off.v4', 'off.v6':
+        kind = [] if front == 'off.len' else ['len']
+        for offset in 0, 1, 200, U64 - 4, U64 - 3, U64, U64 + 1:
+            say(front, offset, *kind, *LEN)
+        for place in 0, U64 - 1, U64:
+            say(front, 1, *kind, *LEN[:4], place)
+    for content in 'v4 5 version 6', 'v4 5 ihl 4', 'v6 5 version 4':
+        say('off.' + content)
+    for version in 'v4', 'v6':
+        say(f'off.{version}', U64, 'version 1')
+
+
+for name in 'fields', 'headers', 'dscp', 'known', 'ipnum', 'ip_number', 'layers', 'value_types':
     say('const.' + name)
 for name in 'fields', 'v4', 'v6':
     say('default.' + name)
-for part in fields, options, reads, setters, equal_headers, names, errors, sums:
+for part in fields, known_code_points, options, reads, setters, equal_headers, names, errors, offsets, sums:
     part()
 operations = {line.split(' ')[0] for line in lines}
 for no_case in ('', ' ', 'nothing', 'dscp.new', 'dscp.new 1 2', 'dscp.new x', 'dscp.old 1', 'opt', 'opt 4', 'opt 0g',
                 'opt.arr 01', 'layer Nothing', 'layer', 'value_type IpDscp IpDscp', 'text.len 1 2 Slice',
-                'text.too_big u64 1 2 IpDscp', 'v4.eq 1', 'v4.view_eq 45 45', 'v6.view_eq 60 60', 'const.fields 1',
+                'text.too_big u64 1 2 IpDscp', 'text.swse 2 1 Slice Ipv4Header 4', 'off.len 1', 'off.v5 1 version 4',
+                'known', 'known.cmp 8', 'known.new 8', 'v4.eq 1', 'v4.view_eq 45 45', 'v6.view_eq 60 60', 'const.fields 1',
                 'const.nothing', 'default.nothing'):
     lines[no_case] = None
 # operations of worked rows that the program does not answer, or that the program `iphead` tests by itself
-LEFT_OUT = '''known known.cmp ipnum text.unknown text.swse text.chain off.len off.v4 off.v6 off.chain eq.swse eq.chain
-    const.known const.ipnum const.ip_number upd v4.set_ttl skip walk walk.counted walk.limit decode iphead'''.split()
+LEFT_OUT = '''ipnum text.chain off.chain eq.chain upd v4.set_ttl skip walk walk.counted walk.limit decode iphead'''.split()
 for line in open(sys.argv[1]).read().splitlines():
     operation = line.split(' ')[0]
     if operation in operations:

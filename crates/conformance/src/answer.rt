@@ -1,6 +1,8 @@
 use crate::arguments::Arguments;
 use crate::case_error::CaseError;
-use crate::{constants, equality, fields, ipv4, ipv6, kinds, options, sums, texts};
+use crate::{
+    constants, equality, fields, ipv4, ipv6, kinds, offsets, options, sums, texts,
+};
 use std::alloc::{AllocError, Global};
 use std::str;
 
@@ -28,10 +30,12 @@ fn answer_case(alloc: Global, line: &[u8], answer: &mut String) -> Result<(), Ca
         "flow" => fields::answer_flow(name, arguments, answer),
         "ecn" => fields::answer_ecn(name, arguments, answer),
         "field" => fields::answer_field(name, arguments, answer),
+        "known" => fields::answer_known(name, arguments, answer),
         "opt" => options::answer(name, arguments, answer),
         "v4" => ipv4::answer(name, arguments, answer),
         "v6" => ipv6::answer(name, arguments, answer),
         "text" => texts::answer(name, arguments, answer),
+        "off" => offsets::answer(name, arguments, answer),
         "layer" => kinds::answer_layer(name, arguments, answer),
         "value_type" => kinds::answer_value_type(name, arguments, answer),
         "eq" => equality::answer(name, arguments, answer),

@@ -3,7 +3,9 @@
 use crate::arguments::Arguments;
 use crate::case_error::CaseError;
 use crate::shown::{Bytes, Ipv4Fields, Ipv6Fields};
-use crate::tables::{CODE_POINTS, LAYERS, VALUE_TYPES};
+use crate::tables::{
+    CODE_POINTS, IP_NUMBER_NAMES, IP_NUMBERS, KNOWN_CODE_POINTS, LAYERS, VALUE_TYPES,
+};
 use etherparse::{
     IpDscp, IpEcn, IpFragOffset, IpNumber, Ipv4Header, Ipv4Options, Ipv6FlowLabel, Ipv6Header,
 };
@@ -21,6 +23,9 @@ pub fn answer_const(
         "fields" => write_fields(answer)?,
         "headers" => write_headers(answer)?,
         "dscp" => write_code_points(answer)?,
+        "known" => write_known_code_points(answer)?,
+        "ipnum" => write_numbers(&IP_NUMBERS, answer)?,
+        "ip_number" => write_numbers(&IP_NUMBER_NAMES, answer)?,
         "layers" => write_names(&LAYERS, answer)?,
         "value_types" => write_names(&VALUE_TYPES, answer)?,
         _ => return Err(CaseError::BadLine),
@@ -90,6 +95,24 @@ fn write_code_points(answer: &mut String) -> Result<(), AllocError> {
     let mut gap = "";
     for (name, dscp) in &CODE_POINTS {
         write!(answer, "{gap}{name}={dscp}")?;
+        gap = " ";
+    }
+    Ok(())
+}
+
+fn write_known_code_points(answer: &mut String) -> Result<(), AllocError> {
+    let mut gap = "";
+    for known in &KNOWN_CODE_POINTS {
+        write!(answer, "{gap}{known:?}={}", u8::from(*known))?;
+        gap = " ";
+    }
+    Ok(())
+}
+
+fn write_numbers(table: &[(&str, u8)], answer: &mut String) -> Result<(), AllocError> {
+    let mut gap = "";
+    for (name, number) in table {
+        write!(answer, "{gap}{name}={number}")?;
         gap = " ";
     }
     Ok(())

@@ -14,6 +14,11 @@ pub fn answer(name: &str, mut arguments: Arguments, answer: &mut String) -> Resu
             arguments.expect_word("/")?;
             first == arguments.len_error()?
         }
+        "swse" => {
+            let first = arguments.space_error()?;
+            arguments.expect_word("/")?;
+            first == arguments.space_error()?
+        }
         "v4" => {
             let first = arguments.ipv4_error()?;
             arguments.expect_word("/")?;

@@ -1,9 +1,10 @@
-//! The fields that have fewer values than their machine number.
+//! The fields that have fewer values than their machine number, and the known code points among them.
 
 use crate::arguments::Arguments;
 use crate::case_error::CaseError;
 use crate::shown::{Comparison, TooBig};
-use etherparse::{IpDscp, IpEcn, IpFragOffset, Ipv6FlowLabel};
+use etherparse::{IpDscp, IpDscpKnown, IpEcn, IpFragOffset, Ipv6FlowLabel};
+use std::alloc::AllocError;
 
 /// `dscp.new V` and `dscp.try V`: a differentiated services code point from its number.
 pub fn answer_dscp(
@@ -28,6 +29,38 @@ pub fn answer_dscp(
         Err(e) => write!(answer, "{}", TooBig(&e))?,
     }
     Ok(())
+}
+
+/// `known V`: the known code point of a number, and both numbers of it. `known.cmp A B`: two of them against each other.
+pub fn answer_known(
+    name: &str,
+    mut arguments: Arguments,
+    answer: &mut String,
+) -> Result<(), CaseError> {
+    match name {
+        "" => write_known(arguments.dscp()?, answer)?,
+        "cmp" => {
+            let comparison = Comparison::of(
+                &arguments.known_code_point()?,
+                &arguments.known_code_point()?,
+            );
+            write!(answer, "{comparison}")?;
+        }
+        _ => return Err(CaseError::BadLine),
+    }
+    arguments.end()
+}
+
+fn write_known(dscp: IpDscp, answer: &mut String) -> Result<(), AllocError> {
+    match IpDscpKnown::try_from_ip_dscp(dscp) {
+        Ok(known) => write!(
+            answer,
+            "ok variant={known:?} u8={} dscp={}",
+            u8::from(known),
+            IpDscp::from(known)
+        ),
+        Err(e) => write!(answer, "err unknown value={}", e.value),
+    }
 }
 
 /// `frag.new V` and `frag.try V`: a fragment offset from its number.

@@ -10,6 +10,7 @@ mod fields;
 mod ipv4;
 mod ipv6;
 mod kinds;
+mod offsets;
 mod options;
 mod replay;
 mod shown;

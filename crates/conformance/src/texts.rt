@@ -2,6 +2,7 @@
 
 use crate::arguments::Arguments;
 use crate::case_error::CaseError;
+use etherparse::err::ip::IpDscpUnknownValueError;
 use etherparse::err::ipv4::BadOptionsLen;
 use std::fmt::Display;
 
@@ -10,6 +11,11 @@ pub fn answer(name: &str, mut arguments: Arguments, answer: &mut String) -> Resu
     match name {
         "len" => write_text(arguments.len_error()?, arguments, answer),
         "too_big" => answer_too_big(arguments, answer),
+        "swse" => write_text(arguments.space_error()?, arguments, answer),
+        "unknown" => {
+            let value = arguments.number()?;
+            write_text(IpDscpUnknownValueError { value }, arguments, answer)
+        }
         "bad_options" => {
             let bad_len = arguments.number()?;
             write_text(BadOptionsLen { bad_len }, arguments, answer)

@@ -1,3 +1,4 @@
+pub mod ExtensionHeaderChain
 mod Fields
 mod HeaderChecksum
 pub mod Ipv4Layout

@@ -1,3 +1,4 @@
+pub mod ExtensionHeaderChain
 pub mod FirstByte
 pub mod HeaderChecksum
 pub mod Ipv4Header

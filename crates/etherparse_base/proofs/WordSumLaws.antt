@@ -1,5 +1,5 @@
 -- Laws of the sums of words: the other order of bytes, a changed byte, pieces exchanged or cut.
-use Rattle.std.proofs.Common.{ℕ, zero, suc, List, [], ◌∷◌, ◌++◌, ◌≡◌, ◌↔◌, ◌⊎◌, ◌<◌, ◌≤◌, ◌+◌, ◌*◌, ◌/◌, ◌%◌, ◌∙◌, ap, arith, inl, inr, length, refl, slice_index, slice_set, sum_by, sym, w16}
+use Rattle.std.proofs.Common.{ℕ, zero, suc, List, [], ◌∷◌, ◌++◌, ◌≡◌, ◌↔◌, ◌⊎◌, ◌<◌, ◌≤◌, ◌+◌, ◌-◌, ◌*◌, ◌/◌, ◌%◌, ◌∙◌, ap, arith, inl, inr, length, refl, slice_index, slice_set, sum_by, sym, w16}
 use Rattle.std.proofs.lemmas.List.Sums.{sum_by-append, sum_by-cons}
 use Rattle.std.specs.Int.{swap_bytes}
 use Rattle.etherparse_base.specs.WordSums.{
@@ -73,6 +73,15 @@ all_ones_from_zero start result bytes sum from_zero =
     let swapped = network_order_from_zero start result bytes sum from_zero in
     let ones = all_ones_swapped (folded_sum result) (folded_sum-within result) in
     (λ e. ones.0 (swapped ∙ e), λ e. sym swapped ∙ ones.1 e)
+
+-- the complement with its two bytes exchanged is that of the sum in network order
+pub complement_swapped : (sum : ℕ) (bytes : List ℕ) → folded_sum sum ≡ folded_sum (little_endian_word_sum bytes) → swap_bytes w16 (65535 - folded_sum sum) ≡ 65535 - folded_sum (network_order_word_sum bytes)
+complement_swapped sum bytes same =
+    let within = folded_sum-within sum in
+    let swapped : swap_bytes w16 (folded_sum sum) ≡ folded_sum (network_order_word_sum bytes) = ap (swap_bytes w16) same ∙ swap_bytes-folded_sum bytes in
+    let whole = swap_bytes-small (folded_sum sum) (omega (arith, within)) in
+    let complement = swap_bytes-small (65535 - folded_sum sum) (omega arith) in
+    omega (arith, within, swapped, whole, complement)
 
 -- a changed byte changes the sum by its weight
 record ChangesBy (weight other : ℕ) (bytes : List ℕ) (place byte : ℕ) : Type 0 where

@@ -1,6 +1,6 @@
 use super::Arguments;
 use crate::case_error::CaseError;
-use etherparse::err::{LenError, ValueTooBigError, ipv4, ipv6};
+use etherparse::err::{LenError, SliceWriteSpaceError, ValueTooBigError, ipv4, ipv6};
 use std::fmt::{Debug, Display};
 use std::hash::Hash;
 use std::str::FromStr;
@@ -12,6 +12,16 @@ impl<'a> Arguments<'a> {
             required_len: self.number()?,
             len: self.number()?,
             len_source: self.len_source()?,
+            layer: self.layer()?,
+            layer_start_offset: self.number()?,
+        })
+    }
+
+    /// A `SliceWriteSpaceError`: `required len LAYER offset`.
+    pub fn space_error(&mut self) -> Result<SliceWriteSpaceError, CaseError> {
+        Ok(SliceWriteSpaceError {
+            required_len: self.number()?,
+            len: self.number()?,
             layer: self.layer()?,
             layer_start_offset: self.number()?,
         })

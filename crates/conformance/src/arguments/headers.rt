@@ -1,13 +1,19 @@
 use super::Arguments;
 use crate::case_error::CaseError;
 use etherparse::{
-    IpDscp, IpEcn, IpFragOffset, IpNumber, Ipv4Header, Ipv4Options, Ipv6FlowLabel, Ipv6Header,
+    IpDscp, IpDscpKnown, IpEcn, IpFragOffset, IpNumber, Ipv4Header, Ipv4Options, Ipv6FlowLabel,
+    Ipv6Header,
 };
 
 impl<'a> Arguments<'a> {
     /// A differentiated services code point in range.
     pub fn dscp(&mut self) -> Result<IpDscp, CaseError> {
         IpDscp::try_new(self.number()?).map_err(|_| CaseError::BadLine)
+    }
+
+    /// A known code point, by its number.
+    pub fn known_code_point(&mut self) -> Result<IpDscpKnown, CaseError> {
+        IpDscpKnown::try_from(self.dscp()?).map_err(|_| CaseError::BadLine)
     }
 
     /// An explicit congestion notification in range.

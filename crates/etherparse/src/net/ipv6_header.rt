@@ -1,6 +1,8 @@
 ghost use Rattle.std.specs.Prelude.{◌≡◌, ◌++◌, length};
 ghost use Rattle.etherparse_base.specs.Bytes.{IsBytes};
 
+mod extensions;
+
 use crate::err::ipv6::HeaderSliceError;
 use crate::err::{ValueTooBigError, ValueType};
 use crate::{IpDscp, IpEcn, IpNumber, Ipv6FlowLabel, Ipv6HeaderSlice};
@@ -26,8 +28,9 @@ pub struct Ipv6Header {
 }
 
 impl Ipv6Header {
-    ghost use Rattle.std.specs.Prelude.{ℕ, ◌≡◌, ◌+◌, ◌*◌, ◌^◌, ◌<◌, ◌≤◌, ◌↔◌, List, [], ◌∷◌, ◌++◌, Ok, IsOk, OnOk, OnErr, IfErr};
+    ghost use Rattle.std.specs.Prelude.{ℕ, ◌≡◌, ◌+◌, ◌*◌, ◌^◌, ◌<◌, ◌≤◌, ◌↔◌, List, [], ◌∷◌, ◌++◌, Ok, IsOk, IfOk, OnOk, OnErr, IfErr};
     ghost use Rattle.std.specs.Int.{to_be_bytes, w16, w32};
+    ghost use Rattle.etherparse.specs.ExtensionHeaderChain.{BeginsWithChain, HasIpv6Chain};
     ghost use Rattle.etherparse.specs.Ipv6Header.{Ipv6Reading, IsIpv6Layout, ReadsIpv6, ViewsIpv6};
     ghost use Rattle.etherparse.specs.Reading.{header_and_rest};
     ghost use Rattle.etherparse.specs.TrafficClass.{traffic_class_dscp, traffic_class_ecn, traffic_class_of};
@@ -58,6 +61,9 @@ impl Ipv6Header {
         ensures reads { ReadsIpv6 slice.now (header_and_rest result) }
         ensures only { (other : Ipv6Reading) → ReadsIpv6 slice.now other →
             other ≡ header_and_rest result }
+        ensures chain { IfOk result (λ x. (headers : List (List ℕ)) (last : ℕ) (rest : List ℕ) →
+            BeginsWithChain x.1.now x.0.next_header headers last rest →
+            HasIpv6Chain slice.now x.0 headers last rest) }
     {
         Ipv6Header::from_slice(slice)
     }
@@ -72,6 +78,9 @@ impl Ipv6Header {
         ensures reads { ReadsIpv6 slice.now (header_and_rest result) }
         ensures only { (other : Ipv6Reading) → ReadsIpv6 slice.now other →
             other ≡ header_and_rest result }
+        ensures chain { IfOk result (λ x. (headers : List (List ℕ)) (last : ℕ) (rest : List ℕ) →
+            BeginsWithChain x.1.now x.0.next_header headers last rest →
+            HasIpv6Chain slice.now x.0 headers last rest) }
     {
         let header = Ipv6HeaderSlice::from_slice(slice)?.to_header();
         Ok((header, &slice[Ipv6Header::LEN..]))

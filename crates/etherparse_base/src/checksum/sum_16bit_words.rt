@@ -116,6 +116,9 @@ impl Sum16BitWords {
     #[inline]
     pub fn ones_complement(&self) -> u16
         ensures value { result ≡ 65535 - folded_sum self.now }
+        ensures network_order { (bytes : List ℕ)
+            → folded_sum self.now ≡ folded_sum (little_endian_word_sum bytes)
+            → swap_bytes w16 result ≡ 65535 - folded_sum (network_order_word_sum bytes) }
     {
         u64_16bit_word::ones_complement(self.sum)
     }
@@ -124,6 +127,10 @@ impl Sum16BitWords {
     #[inline]
     pub fn to_ones_complement_with_no_zero(&self) -> u16
         ensures value { result ≡ with_no_zero (65535 - folded_sum self.now) }
+        ensures network_order { (bytes : List ℕ)
+            → folded_sum self.now ≡ folded_sum (little_endian_word_sum bytes)
+            → swap_bytes w16 result
+            ≡ with_no_zero (65535 - folded_sum (network_order_word_sum bytes)) }
     {
         u64_16bit_word::ones_complement_with_no_zero(self.sum)
     }

@@ -60,6 +60,10 @@ pub fn add_slices(pieces: &[&[u8]]) -> u32
         → map (λ piece. piece.now) pieces.now ≡ before ++ (front ++ back) ∷ after
         → length front % 2 ≡ 0
         → folded_sum result ≡ ones_complement_sum (before ++ front ∷ back ∷ after) }
+    ensures joined { (before after : List (List ℕ)) (front back : List ℕ)
+        → map (λ piece. piece.now) pieces.now ≡ before ++ front ∷ back ∷ after
+        → length front % 2 ≡ 0
+        → folded_sum result ≡ ones_complement_sum (before ++ (front ++ back) ∷ after) }
 {
     let mut sum = 0;
     for piece in pieces {
@@ -74,6 +78,9 @@ pub fn add_slices(pieces: &[&[u8]]) -> u32
 #[inline]
 pub fn ones_complement(sum: u32) -> u16
     ensures value { result ≡ 65535 - folded_sum sum }
+    ensures network_order { (bytes : List ℕ)
+        → folded_sum sum ≡ folded_sum (little_endian_word_sum bytes)
+        → swap_bytes w16 result ≡ 65535 - folded_sum (network_order_word_sum bytes) }
 {
     !halve_u32(sum)
 }
@@ -82,6 +89,10 @@ pub fn ones_complement(sum: u32) -> u16
 #[inline]
 pub fn ones_complement_with_no_zero(sum: u32) -> u16
     ensures value { result ≡ with_no_zero (65535 - folded_sum sum) }
+    ensures network_order { (bytes : List ℕ)
+        → folded_sum sum ≡ folded_sum (little_endian_word_sum bytes)
+        → swap_bytes w16 result
+        ≡ with_no_zero (65535 - folded_sum (network_order_word_sum bytes)) }
 {
     let checksum = ones_complement(sum);
     if checksum == 0 { 0xffff } else { checksum }

@@ -72,6 +72,10 @@ pub fn add_slices(pieces: &[&[u8]]) -> u64
         → map (λ piece. piece.now) pieces.now ≡ before ++ (front ++ back) ∷ after
         → length front % 2 ≡ 0
         → folded_sum result ≡ ones_complement_sum (before ++ front ∷ back ∷ after) }
+    ensures joined { (before after : List (List ℕ)) (front back : List ℕ)
+        → map (λ piece. piece.now) pieces.now ≡ before ++ front ∷ back ∷ after
+        → length front % 2 ≡ 0
+        → folded_sum result ≡ ones_complement_sum (before ++ (front ++ back) ∷ after) }
 {
     let mut sum = 0;
     for piece in pieces {
@@ -86,6 +90,9 @@ pub fn add_slices(pieces: &[&[u8]]) -> u64
 #[inline]
 pub fn ones_complement(sum: u64) -> u16
     ensures value { result ≡ 65535 - folded_sum sum }
+    ensures network_order { (bytes : List ℕ)
+        → folded_sum sum ≡ folded_sum (little_endian_word_sum bytes)
+        → swap_bytes w16 result ≡ 65535 - folded_sum (network_order_word_sum bytes) }
 {
     !halve_u32(halve_u64(sum))
 }
@@ -94,6 +101,10 @@ pub fn ones_complement(sum: u64) -> u16
 #[inline]
 pub fn ones_complement_with_no_zero(sum: u64) -> u16
     ensures value { result ≡ with_no_zero (65535 - folded_sum sum) }
+    ensures network_order { (bytes : List ℕ)
+        → folded_sum sum ≡ folded_sum (little_endian_word_sum bytes)
+        → swap_bytes w16 result
+        ≡ with_no_zero (65535 - folded_sum (network_order_word_sum bytes)) }
 {
     let checksum = ones_complement(sum);
     if checksum == 0 { 0xffff } else { checksum }

@@ -1,4 +1,5 @@
 use Rattle.std.proofs.lemmas.Result.{err_from_is_err_and}
+use Rattle.etherparse.proofs.ExtensionHeaderChain.{chain_after_header}
 use Rattle.etherparse.proofs.Ipv6Reading.{read_front, read_once}
 use Rattle.etherparse.proofs.net.ipv6_header.Ipv6Header.from_slice.Goals as goal
 
@@ -13,3 +14,8 @@ returns-clause-reads c = read_front _ _ _ _ c.in_ok-from_slice.ensures.views.who
 pub returns-clause-only : goal.returns-clause-only
 returns-clause-only c = λ other o. read_once _ other _ o
     (read_front _ _ _ _ c.in_ok-from_slice.ensures.views.whole c.to_header-header.ensures.layout)
+
+pub returns-clause-chain : goal.returns-clause-chain
+returns-clause-chain c =
+    let read = read_front _ _ _ _ c.in_ok-from_slice.ensures.views.whole c.to_header-header.ensures.layout in
+    chain_after_header _ read.front _ _ read.whole read.layout

@@ -1,0 +1,107 @@
+-- IPv6 extension headers one after the other, and the walk past them (RFC 8200 section 4).
+use Rattle.std.specs.Prelude.{ℕ, ◌≡◌, ◌==◌, ◌+◌, ◌*◌, ◌<◌, ◌≤◌, List, [], ◌∷◌, ◌++◌, length}
+use Rattle.std.specs.Prelude.{slice_index, nat_lt, if◌then◌else◌, Result, Ok, Err}
+use Rattle.std.specs.List.{concat}
+use Rattle.std.specs.Result.{result_map_both}
+use Rattle.std.specs.Borrow.{Bor}
+use Rattle.etherparse_base.specs.declared.err.layer.Layer.TheVariants as layer
+use Rattle.etherparse_base.specs.declared.err.len_error.LenError.{LenError}
+use Rattle.etherparse_fields.specs.ExtensionHeaders.{IsSkippable}
+use Rattle.etherparse.specs.Ipv6Header.{IsIpv6Layout}
+use Rattle.etherparse.specs.Reading.{too_short_error}
+use Rattle.etherparse.specs.declared.net.ipv6_header.Ipv6Header.{Ipv6Header}
+
+-- The length in bytes of an extension header, by its number and its second byte. A fragment header
+-- has 8 (RFC 8200 section 4.5). The second byte of an authentication header counts words of four
+-- bytes, less two of them (RFC 4302 section 2.2); that of the others counts units of eight bytes,
+-- less the first (RFC 8200 sections 4.3, 4.4 and 4.6; for 135 RFC 6275 section 6.1.1, for 139 RFC
+-- 7401 section 5.1, for 140 RFC 5533 section 5.1).
+abbrev pub extension_header_len : ℕ → ℕ → ℕ
+extension_header_len number second_byte =
+    if number == 44 then 8
+    else (if number == 51 then (second_byte + 2) * 4
+    else (second_byte + 1) * 8)
+
+-- How many bytes the header of a number requires of a slice that begins with it. Of fewer than two
+-- bytes no length can be told, and two are required, also of a fragment header: this is our own.
+abbrev pub required_len_of : ℕ → List ℕ → ℕ
+required_len_of number s =
+    if nat_lt (length s) 2 then 2 else extension_header_len number (slice_index s 1)
+
+-- the bytes are one whole extension header of this number
+pub record IsExtensionHeader (number : ℕ) (header : List ℕ) : Type 0 where
+  pub skippable : IsSkippable number
+  pub enough : 2 ≤ length header
+  pub len : length header ≡ required_len_of number header
+
+-- the number of what follows an extension header: its first byte
+abbrev pub next_header_of : List ℕ → ℕ
+next_header_of header = slice_index header 0
+
+-- Extension headers, of which the first has this number, each other one has the number that the
+-- one before it gives, and the last gives that number. With no header both numbers are one.
+abbrev pub IsExtensionHeaderChain : ℕ → List (List ℕ) → ℕ → Type 0
+IsExtensionHeaderChain first [] last = last ≡ first
+IsExtensionHeaderChain first (header ∷ headers) last =
+    IsExtensionHeader first header × IsExtensionHeaderChain (next_header_of header) headers last
+
+-- the slice is a chain of extension headers, and the rest after them
+pub record BeginsWithChain (s : List ℕ) (first : ℕ) (headers : List (List ℕ)) (last : ℕ)
+    (rest : List ℕ) : Type 0 where
+  pub chain : IsExtensionHeaderChain first headers last
+  pub whole : s ≡ concat headers ++ rest
+
+-- the packet is an IPv6 header, a chain of the extension headers after it, and the rest after them
+pub record HasIpv6Chain (packet : List ℕ) (header : Ipv6Header) (headers : List (List ℕ))
+    (last : ℕ) (rest : List ℕ) : Type 0 where
+  pub front : List ℕ
+  pub layout : IsIpv6Layout header front
+  pub chain : IsExtensionHeaderChain header.next_header headers last
+  pub whole : packet ≡ front ++ (concat headers ++ rest)
+
+-- the error of an extension header that is incomplete at a place: what is left there is too short
+abbrev pub incomplete_header_error : ℕ → List ℕ → ℕ → LenError
+incomplete_header_error number rest place =
+    record (too_short_error layer.Ipv6ExtHeader (required_len_of number rest) (length rest)) {
+      layer_start_offset = place;
+    }
+
+-- a number and the bytes that it tells of, or why an extension header is incomplete
+abbrev pub WalkAnswer : Type 0
+WalkAnswer = Result (ℕ × List ℕ) LenError
+
+-- The walk ends behind a chain: its last number is none that can be skipped.
+pub record EndsAfterChain (s : List ℕ) (first : ℕ) (headers : List (List ℕ)) (last : ℕ)
+    (rest : List ℕ) : Type 0 where
+  pub begins : BeginsWithChain s first headers last rest
+  pub upper : ¬ IsSkippable last
+
+-- The walk ends at a header that is incomplete: after a chain there are fewer bytes than the header
+-- of its last number requires. The place in the error is where that header starts.
+pub record EndsIncomplete (s : List ℕ) (first : ℕ) (headers : List (List ℕ)) (e : LenError)
+    : Type 0 where
+  pub last : ℕ
+  pub rest : List ℕ
+  pub begins : BeginsWithChain s first headers last rest
+  pub skippable : IsSkippable last
+  pub short : length rest < required_len_of last rest
+  pub error : e ≡ incomplete_header_error last rest (length (concat headers))
+
+-- where a walk of a slice from a first number ends, with the headers before that and the answer
+abbrev pub Ends : List ℕ → ℕ → List (List ℕ) → WalkAnswer → Type 0
+Ends s first headers (Ok x) = EndsAfterChain s first headers x.0 x.1
+Ends s first headers (Err e) = EndsIncomplete s first headers e
+
+-- Walking: the answer after all extension headers of the slice, or at the first incomplete one.
+pub record Walks (s : List ℕ) (first : ℕ) (answer : WalkAnswer) : Type 0 where
+  pub headers : List (List ℕ)
+  pub ends : Ends s first headers answer
+
+-- The turns of a walk past these headers, where a turn is one test of a number: that of the first
+-- number, and of the number that each header gives.
+abbrev pub turn_count : List (List ℕ) → ℕ
+turn_count headers = length headers + 1
+
+-- what a walk answers, apart from where the rest lies in memory
+abbrev pub number_and_rest : Result (ℕ × Bor (List ℕ)) LenError → WalkAnswer
+number_and_rest r = result_map_both (λ x. (x.0, x.1.now)) (λ e. e) r

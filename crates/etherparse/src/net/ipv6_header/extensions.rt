@@ -1,0 +1,199 @@
+//! The walk past IPv6 extension headers.
+
+ghost use Rattle.std.specs.Prelude.{◌≡◌, ◌<◌, ◌≤◌, drop, length, slice_index};
+ghost use Rattle.etherparse_base.specs.declared.err.layer.Layer.TheVariants as layer;
+ghost use Rattle.etherparse.specs.ExtensionHeaderChain.{required_len_of};
+ghost use Rattle.etherparse.specs.Reading.{too_short_error};
+
+use super::Ipv6Header;
+use crate::err::{Layer, LenError};
+use crate::{IpNumber, LenSource};
+
+// The numbers of the extension headers that can be skipped, as IANA assigns them.
+const HOP_BY_HOP: u8 = 0;
+
+const ROUTING: u8 = 43;
+
+const FRAGMENT: u8 = 44;
+
+const AUTHENTICATION: u8 = 51;
+
+const DESTINATION_OPTIONS: u8 = 60;
+
+const MOBILITY: u8 = 135;
+
+const HOST_IDENTITY: u8 = 139;
+
+const SHIM6: u8 = 140;
+
+impl Ipv6Header {
+    ghost use Rattle.std.specs.Prelude.{ℕ, ◌≡◌, ◌+◌, ◌/◌, ◌<◌, ◌≤◌, ◌↔◌, List, Ok, Err, IfErr, IfOk, IsOk, IsTrue, drop, length};
+    ghost use Rattle.etherparse_fields.specs.ExtensionHeaders.{IsSkippable};
+    ghost use Rattle.etherparse.specs.ExtensionHeaderChain.{Ends, WalkAnswer, Walks, incomplete_header_error};
+    ghost use Rattle.etherparse.specs.ExtensionHeaderChain.{next_header_of, number_and_rest, required_len_of, turn_count};
+
+    /// Skips the extension header of a number at the front of a slice: the number of what follows it, and all the bytes
+    /// after it. A number of no header that can be skipped is answered with the whole slice.
+    ///
+    /// # Errors
+    ///
+    /// A `LenError` where the slice is shorter than the header says, at offset 0. Where it has fewer than 2 bytes, 2 are
+    /// required.
+    pub fn skip_header_extension_in_slice(
+        slice: &[u8],
+        next_header: IpNumber,
+    ) -> Result<(IpNumber, &[u8]), LenError>
+        ensures kept { ¬ IsSkippable next_header →
+            number_and_rest result ≡ Ok (next_header, slice.now) }
+        ensures accepted { IsSkippable next_header →
+            (IsOk result ↔ (required_len_of next_header slice.now ≤ length slice.now)) }
+        ensures skipped { IsSkippable next_header →
+            required_len_of next_header slice.now ≤ length slice.now → number_and_rest result
+            ≡ Ok (next_header_of slice.now, drop (required_len_of next_header slice.now) slice.now) }
+        ensures refused { IsSkippable next_header →
+            length slice.now < required_len_of next_header slice.now → number_and_rest result
+            ≡ Err (incomplete_header_error next_header slice.now 0) }
+    {
+        let len = match next_header.0 {
+            FRAGMENT => 8,
+            AUTHENTICATION => (second_byte(slice) + 2) * 4,
+            HOP_BY_HOP | ROUTING | DESTINATION_OPTIONS | MOBILITY | HOST_IDENTITY | SHIM6 => {
+                (second_byte(slice) + 1) * 8
+            }
+            _ => return Ok((next_header, slice)),
+        };
+        if slice.len() < 2 {
+            return Err(incomplete_header(2, slice.len(), 0));
+        }
+        if slice.len() < len {
+            return Err(incomplete_header(len, slice.len(), 0));
+        }
+        Ok((IpNumber(slice[0]), &slice[len..]))
+    }
+
+    /// Whether this is the number of an extension header that can be skipped, since it is known how to tell its length and
+    /// the number of what follows it: 0, 43, 44, 51, 60, 135, 139 and 140.
+    ///
+    /// An encapsulating security payload (50) and headers for experiments (253, 254) can not.
+    pub fn is_skippable_header_extension(ip_protocol_number: IpNumber) -> bool
+        ensures value { IsTrue result ↔ IsSkippable ip_protocol_number }
+    {
+        matches!(
+            ip_protocol_number.0,
+            HOP_BY_HOP
+                | ROUTING
+                | FRAGMENT
+                | AUTHENTICATION
+                | DESTINATION_OPTIONS
+                | MOBILITY
+                | HOST_IDENTITY
+                | SHIM6
+        )
+    }
+
+    /// Skips all extension headers at the front of a slice, of which the first has this number: the first number that can
+    /// not be skipped, and all the bytes after the header that gave it.
+    ///
+    /// # Errors
+    ///
+    /// A `LenError` where a header is incomplete: the length that it requires, the bytes that are left, and the offset from
+    /// the front of the slice at which it starts. Where fewer than 2 bytes are left, 2 are required.
+    pub fn skip_all_header_extensions_in_slice(
+        slice: &[u8],
+        next_header: IpNumber,
+    ) -> Result<(IpNumber, &[u8]), LenError>
+        ensures walks { Walks slice.now next_header (number_and_rest result) }
+        ensures only { (other : WalkAnswer) → Walks slice.now next_header other →
+            other ≡ number_and_rest result }
+        ensures shorter { IfOk result (λ x. length x.1.now ≤ length slice.now) }
+        ensures within { IfErr result (λ e. e.layer_start_offset ≤ length slice.now) }
+    {
+        Ipv6Header::skip_all_header_extensions_counted(slice, next_header).0
+    }
+
+    /// The answer of [`Ipv6Header::skip_all_header_extensions_in_slice`], and the number of turns that it took: one for each
+    /// number that was tested, so one more than headers were skipped, and at most one more than an eighth of the length.
+    ///
+    /// # Errors
+    ///
+    /// Those of [`Ipv6Header::skip_all_header_extensions_in_slice`].
+    pub fn skip_all_header_extensions_counted(
+        slice: &[u8],
+        next_header: IpNumber,
+    ) -> (Result<(IpNumber, &[u8]), LenError>, usize)
+        ensures walks { Walks slice.now next_header (number_and_rest result.0) }
+        ensures only { (other : WalkAnswer) → Walks slice.now next_header other →
+            other ≡ number_and_rest result.0 }
+        ensures shorter { IfOk result.0 (λ x. length x.1.now ≤ length slice.now) }
+        ensures within { IfErr result.0 (λ e. e.layer_start_offset ≤ length slice.now) }
+        ensures turns { (headers : List (List ℕ)) →
+            Ends slice.now next_header headers (number_and_rest result.0) →
+            result.1 ≡ turn_count headers }
+        ensures few_turns { result.1 ≤ length slice.now / 8 + 1 }
+    {
+        let mut number = next_header;
+        let mut place = 0;
+        let mut turns = 0;
+        'headers: loop {
+            turns += 1;
+            if !Ipv6Header::is_skippable_header_extension(number) {
+                return (Ok((number, &slice[place..])), turns);
+            }
+            let required_len = required_len_at(slice, place, number);
+            let left = slice.len() - place;
+            if left < required_len {
+                return (Err(incomplete_header(required_len, left, place)), turns);
+            }
+            number = IpNumber(slice[place]);
+            place += required_len;
+        }
+    }
+}
+
+// The second byte of a slice, or 0 where it has none.
+#[inline(always)]
+fn second_byte(slice: &[u8]) -> usize
+    ensures value { result ≡ slice_index slice.now 1 }
+    ensures within { result < 256 }
+{
+    if slice.len() < 2 {
+        0
+    } else {
+        usize::from(slice[1])
+    }
+}
+
+// How many bytes the header of this number requires that starts at a place of the slice.
+#[inline(always)]
+fn required_len_at(slice: &[u8], place: usize, number: IpNumber) -> usize
+    requires { place ≤ length slice.now }
+    ensures value { result ≡ required_len_of number (drop place slice.now) }
+{
+    if slice.len() - place < 2 {
+        return 2;
+    }
+    match number.0 {
+        FRAGMENT => 8,
+        AUTHENTICATION => (usize::from(slice[place + 1]) + 2) * 4,
+        _ => (usize::from(slice[place + 1]) + 1) * 8,
+    }
+}
+
+// The error of a header that starts at a place where too few bytes are left.
+#[cold]
+fn incomplete_header(required_len: usize, len: usize, place: usize) -> LenError
+    ensures value { result ≡ record (too_short_error layer.Ipv6ExtHeader required_len len) {
+      layer_start_offset = place;
+    } }
+{
+    LenError {
+        required_len,
+        len,
+        len_source: LenSource::Slice,
+        layer: Layer::Ipv6ExtHeader,
+        layer_start_offset: place,
+    }
+}
+
+#[cfg(test)]
+mod tests;
