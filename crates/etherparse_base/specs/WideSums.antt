@@ -12,8 +12,8 @@ StandsFor number bytes rest =
     (n : ℕ) → folded_sum (n + number + little_endian_word_sum rest)
     ≡ folded_sum (n + little_endian_word_sum bytes)
 
--- A sum and what is left of the bytes, on the way from a sum and bytes: the words that were added are
--- those that are not left. A byte that is not left has added less than the unit.
+-- A sum and what is left of the bytes, on the way from a sum and bytes: the words that were added
+-- are those that are not left. A byte that is not left has added less than the unit.
 pub record Adds (unit sum : ℕ) (bytes : List ℕ) (sum' : ℕ) (rest : List ℕ) : Type 0 where
   pub folded : folded_sum (sum' + little_endian_word_sum rest)
       ≡ folded_sum (sum + little_endian_word_sum bytes)
@@ -37,8 +37,8 @@ high_halves words = map (λ w. w / 2 ^ 32) words
 abbrev pub halves_sum : List ℕ → ℕ
 halves_sum words = sum_l (low_halves words) + sum_l (high_halves words)
 
--- In each lane a total of words without the bits above 64. It is made of a sum of low halves and 2 ^ 32
--- times a sum of high halves.
+-- In each lane a total of words without the bits above 64. It is made of a sum of low halves and
+-- 2 ^ 32 times a sum of high halves.
 pub record Splits (total low high : List ℕ) : Type 0 where
   pub lanes : length low ≡ length high
   pub is_total : total ≡ zip2 (λ l h. (l + 2 ^ 32 * h) % 2 ^ 64) low high

@@ -1,3 +1,4 @@
 mod Appended
 mod Decoded
 mod ReadSoFar
+mod Walked

@@ -1,12 +1,13 @@
 -- What the program prints.
-use Rattle.std.specs.Prelude.{ℕ, ◌≡◌, ◌==◌, Bool, List, [], ◌∷◌, ◌++◌, length, slice_index, codes}
-use Rattle.std.specs.Prelude.{drop, take}
+use Rattle.std.specs.Prelude.{ℕ, ◌≡◌, ◌==◌, ◌+◌, ◌-◌, Bool, List, [], ◌∷◌, ◌++◌, length}
+use Rattle.std.specs.Prelude.{codes, drop, slice_index, take}
 use Rattle.std.specs.Prelude.{if◌then◌else◌, MatchBool, Option, Result, Ok, Err}
 use Rattle.std.specs.Io.KnownBytes.{Appends}
 use Rattle.std.specs.Fmt.{decimal}
 use Rattle.std.specs.Int.{to_be_bytes, w16}
 use Rattle.hex.specs.Hex.{decode_of, encode_lower}
 use Rattle.hex.specs.declared.error.FromHexError.{FromHexError}
+use Rattle.etherparse.specs.ExtensionHeaderChain.{WalkAnswer, Walks}
 use Rattle.etherparse.specs.FirstByte.{version_of}
 use Rattle.etherparse.specs.HeaderChecksum.{header_checksum_of}
 use Rattle.etherparse.specs.IpEcn.{ecn_value}
@@ -14,8 +15,10 @@ use Rattle.etherparse.specs.Ipv4Errors.{ipv4_header_slice_error_text}
 use Rattle.etherparse.specs.Ipv4Header.{Ipv4Reading, ReadsIpv4, ipv4_header_len, ipv4_ihl}
 use Rattle.etherparse.specs.Ipv4Header.{with_reserved_bit_cleared}
 use Rattle.etherparse.specs.Ipv6Errors.{ipv6_header_slice_error_text}
-use Rattle.etherparse.specs.Ipv6Header.{Ipv6Reading, ReadsIpv6}
+use Rattle.etherparse.specs.Ipv6Header.{ReadsIpv6}
+use Rattle.etherparse.specs.LenError.{len_error_moved, len_error_text}
 use Rattle.etherparse.specs.WordSums.{ones_complement_sum}
+use Rattle.etherparse.specs.declared.err.ipv6.HeaderSliceError.{HeaderSliceError}
 use Rattle.etherparse.specs.declared.net.ipv4_header.Ipv4Header.{Ipv4Header}
 use Rattle.etherparse.specs.declared.net.ipv6_header.Ipv6Header.{Ipv6Header}
 use Rattle.iphead.specs.Input.{digits_of, IsTooLong}
@@ -95,12 +98,45 @@ ipv4_lines h front rest_len =
 abbrev pub Outcome : Type 0
 Outcome = Status × List ℕ
 
--- the outcome of a reading
-abbrev pub ipv6_outcome : Ipv6Reading → Outcome
-ipv6_outcome (Ok x) = (Done, ipv6_lines x.0)
+-- What follows an IPv6 header: the number of the upper layer, where its bytes start in the packet,
+-- and how many they are.
+abbrev pub upper_layer_lines : ℕ → ℕ → ℕ → List ℕ
+upper_layer_lines number place rest_len =
+    line (codes "upper") (decimal number)
+    ++ (line (codes "place") (decimal place)
+    ++ line (codes "rest") (decimal rest_len))
+
+-- The outcome of the walk over so many bytes after an IPv6 header. Places count from the header's
+-- start, which is 40 bytes before that.
+abbrev pub walk_outcome : ℕ → WalkAnswer → Outcome
+walk_outcome len (Ok x) =
+    (Done, upper_layer_lines x.0 (40 + (len - length x.1)) (length x.1))
+walk_outcome len (Err e) = (Refused, error_line (len_error_text (len_error_moved 40 e)))
+
+-- what an IPv6 packet begins with: a header, what follows it, and the answer of the walk over that
+pub record Ipv6Front : Type 0 where
+  pub header : Ipv6Header
+  pub rest : List ℕ
+  pub walk : WalkAnswer
+
+-- such a front of a packet is read and walked
+pub record ReadsIpv6Front (packet : List ℕ) (front : Ipv6Front) : Type 0 where
+  pub reads : ReadsIpv6 packet (Ok (front.header, front.rest))
+  pub walks : Walks front.rest front.header.next_header front.walk
+
+-- reading an IPv6 packet and walking on; or why it has no header
+abbrev pub ReadsIpv6Packet : List ℕ → Result Ipv6Front HeaderSliceError → Type 0
+ReadsIpv6Packet packet (Ok front) = ReadsIpv6Front packet front
+ReadsIpv6Packet packet (Err e) = ReadsIpv6 packet (Err e)
+
+-- the outcome for an IPv6 packet: the fields of its header, and after them that of the walk
+abbrev pub ipv6_outcome : Result Ipv6Front HeaderSliceError → Outcome
+ipv6_outcome (Ok front) =
+    let walked = walk_outcome (length front.rest) front.walk in
+    (walked.0, ipv6_lines front.header ++ walked.1)
 ipv6_outcome (Err e) = (Refused, error_line (ipv6_header_slice_error_text e))
 
--- the same for IPv4, of which the bytes that were read are shown too
+-- the outcome for an IPv4 packet, of which the bytes that were read are shown too
 abbrev pub ipv4_outcome : List ℕ → Ipv4Reading → Outcome
 ipv4_outcome bytes (Ok x) =
     (Done, ipv4_lines x.0 (take (ipv4_header_len x.0) bytes) (length x.1))
@@ -117,7 +153,7 @@ pub record Reports {R : Type 0} (Reads : R → Type 0) (outcome_of : R → Outco
 -- where there are none, as IPv4.
 abbrev pub ReportsBytes : Result (List ℕ) FromHexError → Outcome → Type 0
 ReportsBytes (Ok bytes) outcome = MatchBool (version_of bytes == 6)
-    (Reports (ReadsIpv6 bytes) ipv6_outcome outcome)
+    (Reports (ReadsIpv6Packet bytes) ipv6_outcome outcome)
     (Reports (ReadsIpv4 bytes) (ipv4_outcome bytes) outcome)
 ReportsBytes (Err e) outcome = outcome ≡ (BadInput, error_line (codes "input is not hex"))
 

@@ -3,7 +3,7 @@ ghost use Rattle.std.specs.Io.KnownBytes.{Appends};
 ghost use Rattle.hex.specs.Hex.{encode_lower};
 ghost use Rattle.etherparse.specs.Ipv4Header.{OfIpv4Header};
 ghost use Rattle.etherparse.specs.Ipv6Header.{OfIpv6Header};
-ghost use Rattle.iphead.specs.Output.{dotted, error_line, good_or_bad, ipv4_lines, ipv6_lines, line, options_text};
+ghost use Rattle.iphead.specs.Output.{dotted, error_line, good_or_bad, ipv4_lines, ipv6_lines, line, options_text, upper_layer_lines};
 
 use etherparse::checksum::u64_16bit_word;
 use etherparse::{Ipv4Header, Ipv4HeaderSlice, Ipv6HeaderSlice};
@@ -34,6 +34,22 @@ pub fn write_ipv6<W: Write>(writer: &mut W, view: &Ipv6HeaderSlice) -> io::Resul
     write_field(writer, "hop_limit", view.hop_limit())?;
     write_hex_field(writer, "source", &view.source())?;
     write_hex_field(writer, "destination", &view.destination())?;
+    Ok(())
+}
+
+/// Writes what follows an IPv6 header: the number of the upper layer, where its bytes start, and how many they are.
+pub fn write_upper_layer<W: Write>(
+    writer: &mut W,
+    number: u8,
+    place: usize,
+    rest_len: usize,
+) -> io::Result<()>
+    ensures { OnOk result (Appends (W.contents writer.old) (W.contents writer.new)
+        (upper_layer_lines number place rest_len)) }
+{
+    write_field(writer, "upper", number)?;
+    write_field(writer, "place", place)?;
+    write_field(writer, "rest", rest_len)?;
     Ok(())
 }
 

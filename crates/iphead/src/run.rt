@@ -1,14 +1,15 @@
 ghost use Rattle.std.specs.Prelude.{◌≡◌, ◌≢◌, ◌≤◌, IfOk, IfSome, List, length};
 ghost use Rattle.hex.specs.Hex.{decode_of};
+ghost use Rattle.etherparse.specs.ExtensionHeaderChain.{Walks};
 ghost use Rattle.etherparse.specs.Ipv4Header.{ReadsIpv4};
-ghost use Rattle.etherparse.specs.Ipv6Header.{ReadsIpv6};
-ghost use Rattle.iphead.specs.Output.{IsOutput, Reports, ReportsBytes, Writes, ipv4_outcome, ipv6_outcome, too_long_outcome};
+ghost use Rattle.iphead.specs.Output.{IsOutput, ReadsIpv6Packet, Reports, ReportsBytes, Writes};
+ghost use Rattle.iphead.specs.Output.{ipv4_outcome, ipv6_outcome, too_long_outcome, walk_outcome};
 
 use crate::decode::decode_input;
 use crate::input::read_digits;
-use crate::lines::{write_error, write_ipv4, write_ipv6};
+use crate::lines::{write_error, write_ipv4, write_ipv6, write_upper_layer};
 use crate::status::Status;
-use etherparse::{Ipv4HeaderSlice, Ipv6HeaderSlice};
+use etherparse::{IpNumber, Ipv4HeaderSlice, Ipv6Header, Ipv6HeaderSlice};
 use std::io;
 use std::io::{Read, Write};
 
@@ -57,13 +58,13 @@ fn report<W: Write>(digits: &[u8], writer: &mut W) -> io::Result<Status>
 
 // Prints what is to be said of bytes that are read as IPv6.
 fn report_ipv6<W: Write>(bytes: &[u8], writer: &mut W) -> io::Result<Status>
-    ensures { IfOk result (λ status. Writes (Reports (ReadsIpv6 bytes.now) ipv6_outcome) status
+    ensures { IfOk result (λ status. Writes (Reports (ReadsIpv6Packet bytes.now) ipv6_outcome) status
         (W.contents writer.old) (W.contents writer.new)) }
 {
     match Ipv6HeaderSlice::from_slice(bytes) {
         Ok(view) => {
             write_ipv6(writer, &view)?;
-            Ok(Status::Done)
+            report_walk(&bytes[Ipv6Header::LEN..], view.next_header(), writer)
         }
         Err(e) => {
             write_error(writer, e)?;
@@ -72,9 +73,29 @@ fn report_ipv6<W: Write>(bytes: &[u8], writer: &mut W) -> io::Result<Status>
     }
 }
 
+// Prints what is to be said of the bytes after an IPv6 header.
+fn report_walk<W: Write>(bytes: &[u8], next_header: IpNumber, writer: &mut W) -> io::Result<Status>
+    ensures { IfOk result (λ status. Writes (Reports (Walks bytes.now next_header)
+        (walk_outcome (length bytes.now))) status (W.contents writer.old) (W.contents writer.new)) }
+{
+    let (walked, _turns) = Ipv6Header::skip_all_header_extensions_counted(bytes, next_header);
+    match walked {
+        Ok((upper, rest)) => {
+            let place = Ipv6Header::LEN + (bytes.len() - rest.len());
+            write_upper_layer(writer, upper.0, place, rest.len())?;
+            Ok(Status::Done)
+        }
+        Err(e) => {
+            write_error(writer, e.add_offset(Ipv6Header::LEN))?;
+            Ok(Status::Refused)
+        }
+    }
+}
+
 // Prints what is to be said of bytes that are read as IPv4.
 fn report_ipv4<W: Write>(bytes: &[u8], writer: &mut W) -> io::Result<Status>
-    ensures { IfOk result (λ status. Writes (Reports (ReadsIpv4 bytes.now) (ipv4_outcome bytes.now)) status
+    ensures { IfOk result (λ status. Writes
+        (Reports (ReadsIpv4 bytes.now) (ipv4_outcome bytes.now)) status
         (W.contents writer.old) (W.contents writer.new)) }
 {
     match Ipv4HeaderSlice::from_slice(bytes) {

@@ -6,8 +6,8 @@ use Rattle.etherparse.specs.Reading.{BeginsWith}
 use Rattle.etherparse.specs.declared.net.ipv4_header.Ipv4Header.{Ipv4Header}
 use Rattle.etherparse.specs.declared.net.ipv6_header.Ipv6Header.{Ipv6Header}
 
--- The bytes that are sent are the header of the packet with one hop less, and all else as it was, the
--- checksum too; they are read as that header, whatever follows.
+-- The bytes that are sent are the header of the packet with one hop less, and all else as it was,
+-- the checksum too; they are read as that header, whatever follows.
 pub record IsNextIpv4Hop (packet sent : List ℕ) : Type 0 where
   pub header : Ipv4Header
   pub rest : List ℕ

@@ -95,17 +95,17 @@ impl Sum16BitWords {
     ///
     /// It changes nothing: what it answers is the new sum.
     #[inline]
-    pub fn add_16bytes(&mut self, value: [u8; 16]) -> Sum16BitWords
-        ensures sum { let first = end_around_sum u64.MAX self.old (from_le_bytes w64 (take 8 value)) in
-            result ≡ end_around_sum u64.MAX first (from_le_bytes w64 (drop 8 value)) }
-        ensures folded { folded_sum result ≡ folded_sum (self.old + little_endian_word_sum value) }
+    pub fn add_16bytes(&mut self, bytes: [u8; 16]) -> Sum16BitWords
+        ensures sum { let first = end_around_sum u64.MAX self.old (from_le_bytes w64 (take 8 bytes)) in
+            result ≡ end_around_sum u64.MAX first (from_le_bytes w64 (drop 8 bytes)) }
+        ensures folded { folded_sum result ≡ folded_sum (self.old + little_endian_word_sum bytes) }
         ensures unchanged { self.new ≡ self.old }
     {
         let first = [
-            value[0], value[1], value[2], value[3], value[4], value[5], value[6], value[7],
+            bytes[0], bytes[1], bytes[2], bytes[3], bytes[4], bytes[5], bytes[6], bytes[7],
         ];
         let last = [
-            value[8], value[9], value[10], value[11], value[12], value[13], value[14], value[15],
+            bytes[8], bytes[9], bytes[10], bytes[11], bytes[12], bytes[13], bytes[14], bytes[15],
         ];
         self.add_8bytes(first).add_8bytes(last)
     }

@@ -35,7 +35,7 @@ pub fn add_4bytes(start: u32, value: [u8; 4]) -> u32
 /// Adds the words of a slice. An odd last byte is paired with a byte 0 behind it (RFC 1071 section 1).
 ///
 /// The answer is one of the numbers that have the right complement. Which one, is no promise.
-#[inline]
+#[inline(always)]
 pub fn add_slice(start_sum: u32, slice: &[u8]) -> u32
     ensures sum { folded_sum result ≡ folded_sum (start_sum + little_endian_word_sum slice.now) }
     ensures network_order { start_sum ≡ 0

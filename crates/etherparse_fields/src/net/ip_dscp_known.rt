@@ -197,7 +197,7 @@ mod tests {
     use std::test::Fail;
 
     // Each known code point with its number, in the order of the numbers.
-    const KNOWN: [(IpDscpKnown, u8); 23] = [
+    static KNOWN: [(IpDscpKnown, u8); 23] = [
         (IpDscpKnown::ClassSelector0, 0),
         (IpDscpKnown::LowerEffort, 1),
         (IpDscpKnown::ClassSelector1, 8),

@@ -18,6 +18,37 @@ next_header 59
 hop_limit 64
 source 00000000000000000000000000000001
 destination 00000000000000000000000000000002
+upper 59
+place 40
+rest 0
+";
+
+// The same header with a payload length, a next header of 0, and an extension header that is whole and one that is not.
+const INCOMPLETE: &str =
+    "60000000 000b0040 00000000 00000000 00000000 00000001 00000000 00000000 00000000 00000002 2b000000 00000000 060100";
+
+const INCOMPLETE_LINES: &str = "version 6
+traffic_class 0
+flow_label 0
+payload_length 11
+next_header 0
+hop_limit 64
+source 00000000000000000000000000000001
+destination 00000000000000000000000000000002
+error: IPv6 Extension Header Error: Not enough data to decode 'IPv6 extension header'. 16 byte(s) would be required, but only 3 byte(s) are available based on the slice length ('IPv6 extension header' starts at overall parsed byte 48).
+";
+
+const GREATEST_LINES: &str = "version 6
+traffic_class 0
+flow_label 0
+payload_length 0
+next_header 59
+hop_limit 64
+source 00000000000000000000000000000001
+destination 00000000000000000000000000000002
+upper 59
+place 40
+rest 2008
 ";
 
 const IPV4: &str = "45000073 00004000 4011b861 c0a80001 c0a800c7";
@@ -221,6 +252,16 @@ fn the_largest_ipv4_header_is_printed(rt: HostRuntime) -> Result<(), Fail> {
 }
 
 #[test]
+fn an_incomplete_extension_header_is_told_after_the_fields(rt: HostRuntime) {
+    expect(
+        &rt,
+        INCOMPLETE.as_bytes(),
+        Status::Refused,
+        INCOMPLETE_LINES,
+    );
+}
+
+#[test]
 fn blanks_stand_anywhere(rt: HostRuntime) {
     expect(
         &rt,
@@ -277,7 +318,7 @@ fn input_of_4096_digits_is_taken_and_no_more(rt: HostRuntime) -> Result<(), Fail
         digits.extend_from_slice(IPV6_DIGITS.as_bytes())?;
     }
     digits.truncate(4096);
-    expect(&rt, digits.as_slice(), Status::Done, IPV6_LINES);
+    expect(&rt, digits.as_slice(), Status::Done, GREATEST_LINES);
     digits.push(b'0')?;
     expect(&rt, digits.as_slice(), Status::BadInput, TOO_LONG);
     expect(
@@ -320,14 +361,15 @@ fn reading_stops_where_the_input_is_too_long(rt: HostRuntime) -> Result<(), Fail
 
 #[test]
 fn a_reader_of_one_byte_a_call_changes_nothing(rt: HostRuntime) {
-    for (input, lines) in [
-        (IPV6, IPV6_LINES),
-        (IPV4, IPV4_LINES),
-        (OPTIONS, OPTIONS_LINES),
+    for (input, status, lines) in [
+        (IPV6, Status::Done, IPV6_LINES),
+        (INCOMPLETE, Status::Refused, INCOMPLETE_LINES),
+        (IPV4, Status::Done, IPV4_LINES),
+        (OPTIONS, Status::Done, OPTIONS_LINES),
     ] {
         let mut source = Source::new(input.as_bytes(), 1, 0);
         let mut sink = Sink::new(rt.alloc(), 0);
-        assert_eq!(rt; run(&mut source, &mut sink), Status::Done);
+        assert_eq!(rt; run(&mut source, &mut sink), status);
         assert_eq!(rt; sink.taken.as_slice(), lines.as_bytes());
     }
 }
@@ -378,6 +420,12 @@ fn a_failing_write_ends_the_run(rt: HostRuntime) -> Result<(), Fail> {
     expect_each_write_ends_it(&rt, IPV6.as_bytes(), Status::Done, IPV6_LINES);
     expect_each_write_ends_it(&rt, IPV4.as_bytes(), Status::Done, IPV4_LINES);
     expect_each_write_ends_it(&rt, OPTIONS.as_bytes(), Status::Done, OPTIONS_LINES);
+    expect_each_write_ends_it(
+        &rt,
+        INCOMPLETE.as_bytes(),
+        Status::Refused,
+        INCOMPLETE_LINES,
+    );
     expect_each_write_ends_it(&rt, b"", Status::Refused, NO_BYTES);
     expect_each_write_ends_it(&rt, b"60", Status::Refused, ONE_BYTE_OF_IPV6);
     expect_each_write_ends_it(&rt, b"6g", Status::BadInput, NOT_HEX);

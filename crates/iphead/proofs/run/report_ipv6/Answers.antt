@@ -1,18 +1,12 @@
-use Rattle.std.proofs.Common.{Err, Ok, refl}
+use Rattle.std.proofs.Common.{Err, refl}
+use Rattle.iphead.proofs.Walked.{after_header, fields_then_walk}
 use Rattle.iphead.proofs.run.report_ipv6.Goals as goal
 
 pub returns-in_ok-write_ipv6-in-Ok : goal.returns-in_ok-write_ipv6-in-Ok
 returns-in_ok-write_ipv6-in-Ok g c =
     let v = c.in-Ok.ensures.views in
-    record {
-      text = _;
-      outcome = record {
-        reading = Ok (v.header, v.rest);
-        reads = record { front = c.in-Ok.view.slice.now; whole = v.whole; layout = v.layout };
-        outcome_of_it = refl;
-      };
-      appended = c.in_ok-write_ipv6-in-Ok.ensures v.header v.layout;
-    }
+    fields_then_walk _ _ _ v.header c.report_walk.result _ _ _ (after_header _ _ _ v.whole v.layout.len) v.layout
+    (c.in_ok-write_ipv6-in-Ok.ensures v.header v.layout) (rw (c.next_header.ensures.value v.header v.layout) at c.report_walk.ensures)
 
 pub returns-in_ok-write_error-in-Err : goal.returns-in_ok-write_error-in-Err
 returns-in_ok-write_error-in-Err g c = record {

@@ -6,7 +6,7 @@ use Rattle.etherparse_base.proofs.checksum.sum_16bit_words.Sum16BitWords.add_16b
 
 pub returns-clause-folded : goal.returns-clause-folded
 returns-clause-folded c =
-    let value = c.args.value in
+    let value = c.args.bytes in
     let start = c.args.self.now in
     let first = little_endian_word_sum (get_or value 0 0 ∷ get_or value 1 0 ∷ get_or value 2 0 ∷ get_or value 3 0 ∷ get_or value 4 0 ∷ get_or value 5 0 ∷ get_or value 6 0 ∷ get_or value 7 0 ∷ []) in
     let last = little_endian_word_sum (get_or value 8 0 ∷ get_or value 9 0 ∷ get_or value 10 0 ∷ get_or value 11 0 ∷ get_or value 12 0 ∷ get_or value 13 0 ∷ get_or value 14 0 ∷ get_or value 15 0 ∷ []) in

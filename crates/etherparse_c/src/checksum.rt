@@ -1,0 +1,118 @@
+//! Checksums of the internet protocols (RFC 1071), summed in 64 bits and in 32 bits.
+
+ghost use Rattle.std.specs.Prelude.{ℕ, List, ◌∷◌, ◌++◌, ◌≡◌, ◌↔◌, ◌+◌, ◌-◌, ◌%◌, length, map};
+ghost use Rattle.std.specs.Int.{swap_bytes, w16};
+ghost use Rattle.etherparse.specs.WordSums.{ChangesOneByte, SumsToAllOnes, folded_sum};
+ghost use Rattle.etherparse.specs.WordSums.{little_endian_word_sum, network_order_word_sum};
+ghost use Rattle.etherparse.specs.WordSums.{ones_complement_sum, with_no_zero};
+
+use etherparse::checksum::{u32_16bit_word, u64_16bit_word};
+
+/// Adds the words of a slice to a sum of 64 bits, which begins at 0. An odd last byte is a word with a byte 0 behind it.
+#[unsafe(no_mangle)]
+pub extern "C" fn etherparse_u64_16bit_word_add_slice(start_sum: u64, slice: &[u8]) -> u64
+    ensures sum { folded_sum result ≡ folded_sum (start_sum + little_endian_word_sum slice.now) }
+    ensures network_order { start_sum ≡ 0
+        → swap_bytes w16 (folded_sum result) ≡ folded_sum (network_order_word_sum slice.now) }
+    ensures all_ones { start_sum ≡ 0
+        → (SumsToAllOnes slice.now ↔ (folded_sum result ≡ 65535)) }
+    ensures one_byte { SumsToAllOnes slice.now
+        → (changed : List ℕ) → ChangesOneByte slice.now changed → ¬ SumsToAllOnes changed }
+{
+    u64_16bit_word::add_slice(start_sum, slice)
+}
+
+/// The sum in 64 bits of all pieces, from 0. An odd piece is padded by itself.
+#[unsafe(no_mangle)]
+pub extern "C" fn etherparse_u64_16bit_word_add_slices(pieces: &[&[u8]]) -> u64
+    ensures sum { folded_sum result ≡ ones_complement_sum (map (λ piece. piece.now) pieces.now) }
+    ensures exchanged { (before after : List (List ℕ)) (first second : List ℕ)
+        → map (λ piece. piece.now) pieces.now ≡ before ++ first ∷ second ∷ after
+        → folded_sum result ≡ ones_complement_sum (before ++ second ∷ first ∷ after) }
+    ensures cut { (before after : List (List ℕ)) (front back : List ℕ)
+        → map (λ piece. piece.now) pieces.now ≡ before ++ (front ++ back) ∷ after
+        → length front % 2 ≡ 0
+        → folded_sum result ≡ ones_complement_sum (before ++ front ∷ back ∷ after) }
+{
+    u64_16bit_word::add_slices(pieces)
+}
+
+/// The checksum of what was summed in 64 bits. Its low byte is the first of the two that a header has.
+#[unsafe(no_mangle)]
+pub extern "C" fn etherparse_u64_16bit_word_ones_complement(sum: u64) -> u16
+    ensures value { result ≡ 65535 - folded_sum sum }
+{
+    u64_16bit_word::ones_complement(sum)
+}
+
+/// The same with 0xffff in place of 0, as UDP has it: a checksum of 0 says there that there is none (RFC 768).
+#[unsafe(no_mangle)]
+pub extern "C" fn etherparse_u64_16bit_word_ones_complement_with_no_zero(sum: u64) -> u16
+    ensures value { result ≡ with_no_zero (65535 - folded_sum sum) }
+{
+    u64_16bit_word::ones_complement_with_no_zero(sum)
+}
+
+/// The checksum of a slice after what was summed in 64 bits, in one call. The Rust crate has no such call.
+#[unsafe(no_mangle)]
+pub extern "C" fn etherparse_u64_16bit_word_checksum(start_sum: u64, slice: &[u8]) -> u16
+    ensures value { result ≡ 65535 - folded_sum (start_sum + little_endian_word_sum slice.now) }
+{
+    u64_16bit_word::ones_complement(u64_16bit_word::add_slice(start_sum, slice))
+}
+
+/// Adds the words of a slice to a sum of 32 bits, which begins at 0. An odd last byte is a word with a byte 0 behind it.
+#[unsafe(no_mangle)]
+pub extern "C" fn etherparse_u32_16bit_word_add_slice(start_sum: u32, slice: &[u8]) -> u32
+    ensures sum { folded_sum result ≡ folded_sum (start_sum + little_endian_word_sum slice.now) }
+    ensures network_order { start_sum ≡ 0
+        → swap_bytes w16 (folded_sum result) ≡ folded_sum (network_order_word_sum slice.now) }
+    ensures all_ones { start_sum ≡ 0
+        → (SumsToAllOnes slice.now ↔ (folded_sum result ≡ 65535)) }
+    ensures one_byte { SumsToAllOnes slice.now
+        → (changed : List ℕ) → ChangesOneByte slice.now changed → ¬ SumsToAllOnes changed }
+{
+    u32_16bit_word::add_slice(start_sum, slice)
+}
+
+/// The sum in 32 bits of all pieces, from 0. An odd piece is padded by itself.
+#[unsafe(no_mangle)]
+pub extern "C" fn etherparse_u32_16bit_word_add_slices(pieces: &[&[u8]]) -> u32
+    ensures sum { folded_sum result ≡ ones_complement_sum (map (λ piece. piece.now) pieces.now) }
+    ensures exchanged { (before after : List (List ℕ)) (first second : List ℕ)
+        → map (λ piece. piece.now) pieces.now ≡ before ++ first ∷ second ∷ after
+        → folded_sum result ≡ ones_complement_sum (before ++ second ∷ first ∷ after) }
+    ensures cut { (before after : List (List ℕ)) (front back : List ℕ)
+        → map (λ piece. piece.now) pieces.now ≡ before ++ (front ++ back) ∷ after
+        → length front % 2 ≡ 0
+        → folded_sum result ≡ ones_complement_sum (before ++ front ∷ back ∷ after) }
+{
+    u32_16bit_word::add_slices(pieces)
+}
+
+/// The checksum of what was summed in 32 bits. Its low byte is the first of the two that a header has.
+#[unsafe(no_mangle)]
+pub extern "C" fn etherparse_u32_16bit_word_ones_complement(sum: u32) -> u16
+    ensures value { result ≡ 65535 - folded_sum sum }
+{
+    u32_16bit_word::ones_complement(sum)
+}
+
+/// The same with 0xffff in place of 0, as UDP has it: a checksum of 0 says there that there is none (RFC 768).
+#[unsafe(no_mangle)]
+pub extern "C" fn etherparse_u32_16bit_word_ones_complement_with_no_zero(sum: u32) -> u16
+    ensures value { result ≡ with_no_zero (65535 - folded_sum sum) }
+{
+    u32_16bit_word::ones_complement_with_no_zero(sum)
+}
+
+/// The checksum of a slice after what was summed in 32 bits, in one call. The Rust crate has no such call.
+#[unsafe(no_mangle)]
+pub extern "C" fn etherparse_u32_16bit_word_checksum(start_sum: u32, slice: &[u8]) -> u16
+    ensures value { result ≡ 65535 - folded_sum (start_sum + little_endian_word_sum slice.now) }
+{
+    u32_16bit_word::ones_complement(u32_16bit_word::add_slice(start_sum, slice))
+}
+
+#[cfg(test)]
+mod tests;
