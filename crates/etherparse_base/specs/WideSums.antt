@@ -12,8 +12,8 @@ StandsFor number bytes rest =
     (n : ℕ) → folded_sum (n + number + little_endian_word_sum rest)
     ≡ folded_sum (n + little_endian_word_sum bytes)
 
--- A sum and what is left of the bytes, on the way from a sum and bytes: the words that were added
--- are those that are not left. A byte that is not left has added less than the unit.
+-- From a sum and bytes on, another sum and the rest of the bytes: what was added are the words of
+-- the bytes before the rest, and no more for each of these bytes than the unit.
 pub record Adds (unit sum : ℕ) (bytes : List ℕ) (sum' : ℕ) (rest : List ℕ) : Type 0 where
   pub folded : folded_sum (sum' + little_endian_word_sum rest)
       ≡ folded_sum (sum + little_endian_word_sum bytes)
@@ -37,13 +37,13 @@ high_halves words = map (λ w. w / 2 ^ 32) words
 abbrev pub halves_sum : List ℕ → ℕ
 halves_sum words = sum_l (low_halves words) + sum_l (high_halves words)
 
--- In each lane a total of words without the bits above 64. It is made of a sum of low halves and
--- 2 ^ 32 times a sum of high halves.
+-- In each lane the total of the words, without the bits above 64: the sum of their low halves, and
+-- 2 ^ 32 times that of their high halves.
 pub record Splits (total low high : List ℕ) : Type 0 where
   pub lanes : length low ≡ length high
   pub is_total : total ≡ zip2 (λ l h. (l + 2 ^ 32 * h) % 2 ^ 64) low high
 
--- two numbers, four lanes and what is left of the bytes, on the way from a sum and bytes
+-- The same, where two numbers and four lanes stand for the other sum. No lane overflows.
 pub record AddsInLanes
     (unit sum : ℕ) (bytes total high : List ℕ) (even odd : ℕ) (rest : List ℕ) : Type 0 where
   pub low : List ℕ
@@ -53,3 +53,11 @@ pub record AddsInLanes
       ≡ folded_sum (sum + little_endian_word_sum bytes)
   pub fits : even + odd + (sum_l low + sum_l high) + unit * length rest ≤ sum + unit * length bytes
   pub lanes_fit : sum_l low + sum_l high + 2 ^ 30 * length rest ≤ 2 ^ 30 * length bytes
+
+-- the same within a turn of three times 96 bytes, of which so many times are done
+pub record AddsInTurn
+    (unit sum : ℕ) (bytes total high : List ℕ) (even odd : ℕ) (rest : List ℕ) (times whole : ℕ)
+    : Type 0 where
+  pub adds : AddsInLanes unit sum bytes total high even odd rest
+  pub left : length rest + 96 * times ≡ whole
+  pub enough : 288 ≤ whole

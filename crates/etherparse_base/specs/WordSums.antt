@@ -8,9 +8,8 @@ use Rattle.std.specs.Prelude.{sum_by}
 abbrev pub end_around_sum : ℕ → ℕ → ℕ → ℕ
 end_around_sum greatest a b = if nat_lt greatest (a + b) then a + b - greatest else a + b
 
--- The ones-complement sum of sixteen bits, from the plain sum of the words: 0 is 0, and any other
--- sum is the number from 1 to 65535 that differs from it by a multiple of 65535 (RFC 1071,
--- section 1).
+-- The ones-complement sum of sixteen bits, from the plain sum of the words (RFC 1071 section 1): of
+-- 0 it is 0, and of any other sum the number from 1 to 65535 that differs by a multiple of 65535.
 abbrev pub folded_sum : ℕ → ℕ
 folded_sum zero = 0
 folded_sum (suc n) = 1 + n % 65535
@@ -21,13 +20,13 @@ weighted_byte_sum weight other [] = 0
 weighted_byte_sum weight other (byte ∷ bytes) =
     weight * byte + weighted_byte_sum other weight bytes
 
--- The sum of the words of two bytes, each with the low byte first (RFC 1071 section 2 (B)). The
--- last byte of an odd number is the low byte of its word.
+-- The sum of the words of two bytes, each with the low byte first (RFC 1071 section 2 (B)). An odd
+-- last byte is the low byte of its word.
 abbrev pub little_endian_word_sum : List ℕ → ℕ
 little_endian_word_sum bytes = weighted_byte_sum 1 256 bytes
 
--- The sum of the words of two bytes, each in network order, the high byte first (RFC 1071,
--- section 1). The last byte of an odd number is the high byte of its word.
+-- The sum of the words of two bytes in network order, the high byte first (RFC 1071 section 1). An
+-- odd last byte is the high byte of its word.
 abbrev pub network_order_word_sum : List ℕ → ℕ
 network_order_word_sum bytes = weighted_byte_sum 256 1 bytes
 
@@ -36,8 +35,8 @@ network_order_word_sum bytes = weighted_byte_sum 256 1 bytes
 abbrev pub SumsToAllOnes : List ℕ → Type 0
 SumsToAllOnes bytes = folded_sum (network_order_word_sum bytes) ≡ 65535
 
--- The ones-complement sum of the words of all pieces. Each piece begins a word of its own, so an
--- odd piece is padded with 0.
+-- The ones-complement sum of the words of all pieces. Each piece begins with a word of its own, so
+-- an odd piece is padded with 0.
 abbrev pub ones_complement_sum : List (List ℕ) → ℕ
 ones_complement_sum pieces = folded_sum (sum_by little_endian_word_sum pieces)
 

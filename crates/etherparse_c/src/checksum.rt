@@ -33,6 +33,10 @@ pub extern "C" fn etherparse_u64_16bit_word_add_slices(pieces: &[&[u8]]) -> u64
         → map (λ piece. piece.now) pieces.now ≡ before ++ (front ++ back) ∷ after
         → length front % 2 ≡ 0
         → folded_sum result ≡ ones_complement_sum (before ++ front ∷ back ∷ after) }
+    ensures joined { (before after : List (List ℕ)) (front back : List ℕ)
+        → map (λ piece. piece.now) pieces.now ≡ before ++ front ∷ back ∷ after
+        → length front % 2 ≡ 0
+        → folded_sum result ≡ ones_complement_sum (before ++ (front ++ back) ∷ after) }
 {
     u64_16bit_word::add_slices(pieces)
 }
@@ -41,6 +45,9 @@ pub extern "C" fn etherparse_u64_16bit_word_add_slices(pieces: &[&[u8]]) -> u64
 #[unsafe(no_mangle)]
 pub extern "C" fn etherparse_u64_16bit_word_ones_complement(sum: u64) -> u16
     ensures value { result ≡ 65535 - folded_sum sum }
+    ensures network_order { (bytes : List ℕ)
+        → folded_sum sum ≡ folded_sum (little_endian_word_sum bytes)
+        → swap_bytes w16 result ≡ 65535 - folded_sum (network_order_word_sum bytes) }
 {
     u64_16bit_word::ones_complement(sum)
 }
@@ -49,6 +56,10 @@ pub extern "C" fn etherparse_u64_16bit_word_ones_complement(sum: u64) -> u16
 #[unsafe(no_mangle)]
 pub extern "C" fn etherparse_u64_16bit_word_ones_complement_with_no_zero(sum: u64) -> u16
     ensures value { result ≡ with_no_zero (65535 - folded_sum sum) }
+    ensures network_order { (bytes : List ℕ)
+        → folded_sum sum ≡ folded_sum (little_endian_word_sum bytes)
+        → swap_bytes w16 result
+        ≡ with_no_zero (65535 - folded_sum (network_order_word_sum bytes)) }
 {
     u64_16bit_word::ones_complement_with_no_zero(sum)
 }
@@ -57,6 +68,8 @@ pub extern "C" fn etherparse_u64_16bit_word_ones_complement_with_no_zero(sum: u6
 #[unsafe(no_mangle)]
 pub extern "C" fn etherparse_u64_16bit_word_checksum(start_sum: u64, slice: &[u8]) -> u16
     ensures value { result ≡ 65535 - folded_sum (start_sum + little_endian_word_sum slice.now) }
+    ensures network_order { start_sum ≡ 0
+        → swap_bytes w16 result ≡ 65535 - folded_sum (network_order_word_sum slice.now) }
 {
     u64_16bit_word::ones_complement(u64_16bit_word::add_slice(start_sum, slice))
 }
@@ -86,6 +99,10 @@ pub extern "C" fn etherparse_u32_16bit_word_add_slices(pieces: &[&[u8]]) -> u32
         → map (λ piece. piece.now) pieces.now ≡ before ++ (front ++ back) ∷ after
         → length front % 2 ≡ 0
         → folded_sum result ≡ ones_complement_sum (before ++ front ∷ back ∷ after) }
+    ensures joined { (before after : List (List ℕ)) (front back : List ℕ)
+        → map (λ piece. piece.now) pieces.now ≡ before ++ front ∷ back ∷ after
+        → length front % 2 ≡ 0
+        → folded_sum result ≡ ones_complement_sum (before ++ (front ++ back) ∷ after) }
 {
     u32_16bit_word::add_slices(pieces)
 }
@@ -94,6 +111,9 @@ pub extern "C" fn etherparse_u32_16bit_word_add_slices(pieces: &[&[u8]]) -> u32
 #[unsafe(no_mangle)]
 pub extern "C" fn etherparse_u32_16bit_word_ones_complement(sum: u32) -> u16
     ensures value { result ≡ 65535 - folded_sum sum }
+    ensures network_order { (bytes : List ℕ)
+        → folded_sum sum ≡ folded_sum (little_endian_word_sum bytes)
+        → swap_bytes w16 result ≡ 65535 - folded_sum (network_order_word_sum bytes) }
 {
     u32_16bit_word::ones_complement(sum)
 }
@@ -102,6 +122,10 @@ pub extern "C" fn etherparse_u32_16bit_word_ones_complement(sum: u32) -> u16
 #[unsafe(no_mangle)]
 pub extern "C" fn etherparse_u32_16bit_word_ones_complement_with_no_zero(sum: u32) -> u16
     ensures value { result ≡ with_no_zero (65535 - folded_sum sum) }
+    ensures network_order { (bytes : List ℕ)
+        → folded_sum sum ≡ folded_sum (little_endian_word_sum bytes)
+        → swap_bytes w16 result
+        ≡ with_no_zero (65535 - folded_sum (network_order_word_sum bytes)) }
 {
     u32_16bit_word::ones_complement_with_no_zero(sum)
 }
@@ -110,6 +134,8 @@ pub extern "C" fn etherparse_u32_16bit_word_ones_complement_with_no_zero(sum: u3
 #[unsafe(no_mangle)]
 pub extern "C" fn etherparse_u32_16bit_word_checksum(start_sum: u32, slice: &[u8]) -> u16
     ensures value { result ≡ 65535 - folded_sum (start_sum + little_endian_word_sum slice.now) }
+    ensures network_order { start_sum ≡ 0
+        → swap_bytes w16 result ≡ 65535 - folded_sum (network_order_word_sum slice.now) }
 {
     u32_16bit_word::ones_complement(u32_16bit_word::add_slice(start_sum, slice))
 }

@@ -3,3 +3,4 @@ pub mod Forward
 pub mod Payload
 pub mod Queue
 pub mod Tunnel
+pub mod UpperLayer

@@ -12,3 +12,4 @@ pub mod ipv6_view;
 pub mod payload;
 pub mod queue;
 pub mod tunnel;
+pub mod upper_layer;

@@ -96,8 +96,8 @@ impl Sum16BitWords {
     /// It changes nothing: what it answers is the new sum.
     #[inline]
     pub fn add_16bytes(&mut self, bytes: [u8; 16]) -> Sum16BitWords
-        ensures sum { let first = end_around_sum u64.MAX self.old (from_le_bytes w64 (take 8 bytes)) in
-            result ≡ end_around_sum u64.MAX first (from_le_bytes w64 (drop 8 bytes)) }
+        ensures sum { let half = end_around_sum u64.MAX self.old (from_le_bytes w64 (take 8 bytes))
+            in result ≡ end_around_sum u64.MAX half (from_le_bytes w64 (drop 8 bytes)) }
         ensures folded { folded_sum result ≡ folded_sum (self.old + little_endian_word_sum bytes) }
         ensures unchanged { self.new ≡ self.old }
     {

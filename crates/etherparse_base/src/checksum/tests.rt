@@ -235,8 +235,8 @@ fn wide_words_sum_as_words_of_two_bytes(rt: HostRuntime) -> Result<(), Fail> {
     for len in 300..500 {
         assert_sums_as_plain(&rt, bytes.get(..len).ok_or("too few")?);
     }
-    for pair in bytes.chunks(4) {
-        if let [low, high, offset, ..] = pair {
+    for drawn in bytes.chunks(4) {
+        if let [low, high, offset, ..] = drawn {
             let len = usize::from(u16::from_le_bytes([*low, *high % 16]));
             let offset = usize::from(*offset % 16);
             assert_sums_as_plain(&rt, bytes.get(offset..offset + len).ok_or("too few")?);

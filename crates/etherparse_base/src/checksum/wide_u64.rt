@@ -1,6 +1,6 @@
-//! The 64-bit sum of a slice by words of eight bytes, twelve a turn where there are many.
+//! The 64-bit sum of a slice by words of eight bytes, three times twelve a turn where there are many.
 //!
-//! Of the twelve, eight go into four lanes: each lane has the total of its words and, apart, the sum of their high halves, from
+//! Of each twelve, eight go into four lanes: each lane has the total of its words and, apart, the sum of their high halves, from
 //! which the sum of the low halves comes back in the end. The other four go into two numbers of 128 bits.
 
 ghost use Rattle.std.specs.Prelude.{◌≡◌, ◌<◌, ◌≤◌, ◌+◌, ◌*◌, ◌^◌, length};
@@ -116,7 +116,8 @@ fn add_many<'a>(at: Sums<'a>) -> Sums<'a>
     add_twelves(at)
 }
 
-// Adds twelve words of eight bytes at a time, of which eight go into four lanes.
+// Adds twelve words of eight bytes at a time, of which eight go into four lanes. The inner loop is laid out three times by
+// the compiler, which is faster than one test for each twelve.
 #[inline(always)]
 fn add_twelves<'a>(start: Sums<'a>) -> Sums<'a>
     requires fits { start.even + start.odd + 2 ^ 64 * length start.rest.now < 2 ^ 128 }
@@ -128,24 +129,26 @@ fn add_twelves<'a>(start: Sums<'a>) -> Sums<'a>
     let mut even = start.even;
     let mut odd = start.odd;
     let mut rest = start.rest;
-    while rest.len() >= 96 {
-        let (words, after) = split_lanes(rest);
-        let (a, after) = split_eight(after);
-        let (b, after) = split_eight(after);
-        let (more, after) = split_lanes(after);
-        let (c, after) = split_eight(after);
-        let (d, after) = split_eight(after);
-        let words = u64x4::from_array(words);
-        let more = u64x4::from_array(more);
-        total += words;
-        high += words >> u64x4::splat(32);
-        total += more;
-        high += more >> u64x4::splat(32);
-        even += a;
-        odd += b;
-        even += c;
-        odd += d;
-        rest = after;
+    'turns: while rest.len() >= 288 {
+        'twelves: for times in 0..3u32 {
+            let (words, after) = split_lanes(rest);
+            let (a, after) = split_eight(after);
+            let (b, after) = split_eight(after);
+            let (more, after) = split_lanes(after);
+            let (c, after) = split_eight(after);
+            let (d, after) = split_eight(after);
+            let words = u64x4::from_array(words);
+            let more = u64x4::from_array(more);
+            total += words;
+            high += words >> u64x4::splat(32);
+            total += more;
+            high += more >> u64x4::splat(32);
+            even += a;
+            odd += b;
+            even += c;
+            odd += d;
+            rest = after;
+        }
     }
     Sums {
         even: even + u128::from(joined(total, high)),
