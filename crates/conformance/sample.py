@@ -21,6 +21,7 @@ SPACE = [2, 1, 'Ipv4Header', 4]
 SPACE_MOST = [U64, U64, None, U64]
 LEN_SOURCES = '''Slice MacsecShortLength Ipv4HeaderTotalLen Ipv6HeaderPayloadLen UdpHeaderLen TcpHeaderLen
     ArpAddrLengths'''.split()
+SKIPPABLE = [0, 43, 44, 51, 60, 135, 139, 140]
 lines = {}
 
 
@@ -129,6 +130,31 @@ def equal_headers():
         say('v4.view_eq', BARE4, other)
     for other in BARE6, BARE6 + 'ff', written(BARE6, 39, 1), '50' + '00' * 39:
         say('v6.view_eq', BARE6, other)
+
+
+def walks():
+    for n in range(U8 + 2):
+        say('ipnum', n)
+    for operation in 'skip', 'walk', 'walk.counted':
+        for number in SKIPPABLE:
+            for second in 0, 1, 2:
+                header = '3b%02x' % second + '5a' * 24
+                for n in 0, 1, 2, 7, 8, 9, 11, 12, 13, 15, 16, 17, 23, 24, 25:
+                    say(operation, header[:2 * n] or '-', number)
+            longest = '06ff' + '00' * 2046
+            for n in 1027, 1028, 2047, 2048:
+                say(operation, longest[:2 * n], number)
+        for number in 1, 42, 45, 50, 52, 59, 61, 134, 136, 138, 141, 253, 254, U8, U8 + 1:
+            for held in '-', '00', '0000', '2c00' + '00' * 14:
+                say(operation, held, number)
+        for first in SKIPPABLE:
+            for second in SKIPPABLE:
+                chain = '%02x' % second + '00' * 7 + '11' + '00' * 7 + 'ff'
+                for n in 8, 9, 10, 15, 16, 17:
+                    say(operation, chain[:2 * n], first)
+        chain = ''.join('%02x' % number + '00' * 7 for number in [*SKIPPABLE[1:], 6])
+        for n in range(65):
+            say(operation, chain[:2 * n] or '-', 0)
 
 
 def names():
@@ -244,17 +270,18 @@ for name in 'fields', 'headers', 'dscp', 'known', 'ipnum', 'ip_number', 'layers'
     say('const.' + name)
 for name in 'fields', 'v4', 'v6':
     say('default.' + name)
-for part in fields, known_code_points, options, reads, setters, equal_headers, names, errors, offsets, sums:
+for part in fields, known_code_points, options, reads, setters, equal_headers, walks, names, errors, offsets, sums:
     part()
 operations = {line.split(' ')[0] for line in lines}
 for no_case in ('', ' ', 'nothing', 'dscp.new', 'dscp.new 1 2', 'dscp.new x', 'dscp.old 1', 'opt', 'opt 4', 'opt 0g',
                 'opt.arr 01', 'layer Nothing', 'layer', 'value_type IpDscp IpDscp', 'text.len 1 2 Slice',
                 'text.too_big u64 1 2 IpDscp', 'text.swse 2 1 Slice Ipv4Header 4', 'off.len 1', 'off.v5 1 version 4',
                 'known', 'known.cmp 8', 'known.new 8', 'v4.eq 1', 'v4.view_eq 45 45', 'v6.view_eq 60 60', 'const.fields 1',
-                'const.nothing', 'default.nothing'):
+                'const.nothing', 'default.nothing', 'skip 00', 'skip.all 00 0', 'walk 00 0 0', 'walk.all 00 0', 'ipnum',
+                'ipnum.x 0', 'c32.add8 0 00', 'c16.fold 0', 'sum x', 'sum 3:000000', 'sum.eq', 'sum.eq / /'):
     lines[no_case] = None
 # operations of worked rows that the program does not answer, or that the program `iphead` tests by itself
-LEFT_OUT = '''ipnum text.chain off.chain eq.chain upd v4.set_ttl skip walk walk.counted walk.limit decode iphead'''.split()
+LEFT_OUT = 'text.chain off.chain eq.chain upd v4.set_ttl walk.limit decode iphead'.split()
 for line in open(sys.argv[1]).read().splitlines():
     operation = line.split(' ')[0]
     if operation in operations:

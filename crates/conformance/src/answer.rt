@@ -1,7 +1,7 @@
 use crate::arguments::Arguments;
 use crate::case_error::CaseError;
 use crate::{
-    constants, equality, fields, ipv4, ipv6, kinds, offsets, options, sums, texts,
+    constants, equality, fields, ipv4, ipv6, kinds, offsets, options, sums, texts, walks,
 };
 use std::alloc::{AllocError, Global};
 use std::str;
@@ -31,9 +31,12 @@ fn answer_case(alloc: Global, line: &[u8], answer: &mut String) -> Result<(), Ca
         "ecn" => fields::answer_ecn(name, arguments, answer),
         "field" => fields::answer_field(name, arguments, answer),
         "known" => fields::answer_known(name, arguments, answer),
+        "ipnum" => fields::answer_ip_number(name, arguments, answer),
         "opt" => options::answer(name, arguments, answer),
         "v4" => ipv4::answer(name, arguments, answer),
         "v6" => ipv6::answer(name, arguments, answer),
+        "skip" => walks::answer_skip(name, arguments, answer),
+        "walk" => walks::answer_walk(name, arguments, answer),
         "text" => texts::answer(name, arguments, answer),
         "off" => offsets::answer(name, arguments, answer),
         "layer" => kinds::answer_layer(name, arguments, answer),

@@ -3,7 +3,7 @@
 use crate::arguments::Arguments;
 use crate::case_error::CaseError;
 use crate::shown::{Comparison, TooBig};
-use etherparse::{IpDscp, IpDscpKnown, IpEcn, IpFragOffset, Ipv6FlowLabel};
+use etherparse::{IpDscp, IpDscpKnown, IpEcn, IpFragOffset, Ipv6FlowLabel, Ipv6Header};
 use std::alloc::AllocError;
 
 /// `dscp.new V` and `dscp.try V`: a differentiated services code point from its number.
@@ -141,6 +141,29 @@ pub fn answer_ecn(
         }
         Err(e) => write!(answer, "{}", TooBig(&e))?,
     }
+    Ok(())
+}
+
+/// `ipnum N`: the number of a protocol or an extension header.
+pub fn answer_ip_number(
+    name: &str,
+    mut arguments: Arguments,
+    answer: &mut String,
+) -> Result<(), CaseError> {
+    let number = arguments.ip_number()?;
+    arguments.end()?;
+    if !name.is_empty() {
+        return Err(CaseError::BadLine);
+    }
+    let value = number.0;
+    let into = u8::from(number);
+    write!(answer, "value={value} into={into} ")?;
+    write!(
+        answer,
+        "ext={} skippable={}",
+        number.is_ipv6_ext_header_value(),
+        Ipv6Header::is_skippable_header_extension(number)
+    )?;
     Ok(())
 }
 

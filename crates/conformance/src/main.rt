@@ -17,6 +17,7 @@ mod shown;
 mod sums;
 mod tables;
 mod texts;
+mod walks;
 
 use replay::replay;
 use std::io;

@@ -6,3 +6,5 @@ mod Ipv4Reading
 pub mod Ipv6Layout
 mod Ipv6Reading
 mod Parts
+pub use Rattle.etherparse_base.proofs.FoldedSums
+pub use Rattle.etherparse_base.proofs.WordSumLaws

@@ -18,7 +18,7 @@ returns-in_ok-write_ipv4-in-Ok g c =
         reading = Ok (v.header, v.rest);
         reads = record { front = c.in-Ok.view.slice.now; whole = v.whole; layout = v.layout };
         outcome_of_it = ap (λ n. (Done, ipv4_lines v.header c.in-Ok.view.slice.now n)) behind
-        ∙ ap (λ bytes. (Done, ipv4_lines v.header bytes (length v.rest))) front;
+            ∙ ap (λ bytes. (Done, ipv4_lines v.header bytes (length v.rest))) front;
       };
       appended = c.in_ok-write_ipv4-in-Ok.ensures v.header v.layout;
     }

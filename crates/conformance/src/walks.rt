@@ -1,0 +1,61 @@
+//! The walk past IPv6 extension headers.
+
+use crate::arguments::Arguments;
+use crate::case_error::CaseError;
+use crate::shown::{Bytes, Len};
+use etherparse::err::LenError;
+use etherparse::{IpNumber, Ipv6Header};
+use std::alloc::AllocError;
+
+/// `skip B N`: one extension header at the front of a slice.
+pub fn answer_skip(
+    name: &str,
+    mut arguments: Arguments,
+    answer: &mut String,
+) -> Result<(), CaseError> {
+    let bytes = arguments.bytes()?;
+    let number = arguments.ip_number()?;
+    arguments.end()?;
+    if !name.is_empty() {
+        return Err(CaseError::BadLine);
+    }
+    write_answer(
+        &Ipv6Header::skip_header_extension_in_slice(&bytes, number),
+        answer,
+    )?;
+    Ok(())
+}
+
+/// `walk B N` and `walk.counted B N`: all extension headers at the front of a slice.
+pub fn answer_walk(
+    name: &str,
+    mut arguments: Arguments,
+    answer: &mut String,
+) -> Result<(), CaseError> {
+    let bytes = arguments.bytes()?;
+    let number = arguments.ip_number()?;
+    arguments.end()?;
+    match name {
+        "" => write_answer(
+            &Ipv6Header::skip_all_header_extensions_in_slice(&bytes, number),
+            answer,
+        )?,
+        "counted" => {
+            let (walked, turns) = Ipv6Header::skip_all_header_extensions_counted(&bytes, number);
+            write_answer(&walked, answer)?;
+            write!(answer, " turns={turns}")?;
+        }
+        _ => return Err(CaseError::BadLine),
+    }
+    Ok(())
+}
+
+fn write_answer(
+    walked: &Result<(IpNumber, &[u8]), LenError>,
+    answer: &mut String,
+) -> Result<(), AllocError> {
+    match walked {
+        Ok((next, rest)) => write!(answer, "ok next={} rest={}", next.0, Bytes(rest)),
+        Err(e) => write!(answer, "{}", Len(e)),
+    }
+}
