@@ -1,8 +1,6 @@
 use crate::arguments::Arguments;
 use crate::case_error::CaseError;
-use crate::{
-    constants, equality, fields, ipv4, ipv6, kinds, offsets, options, sums, texts, walks,
-};
+use crate::{constants, equality, fields, ipv4, ipv6, kinds, offsets, options, sums, texts, walks};
 use std::alloc::{AllocError, Global};
 use std::str;
 

@@ -126,7 +126,11 @@ fn answer_info(mut arguments: Arguments, answer: &mut String) -> Result<(), Case
     );
     write!(answer, "fragmenting={fragmenting} calc={checksum} ")?;
     let (options, bytes) = (Bytes(header.options()), header.to_bytes());
-    write!(answer, "options={options} bytes={} ", Bytes(bytes.as_slice()))?;
+    write!(
+        answer,
+        "options={options} bytes={} ",
+        Bytes(bytes.as_slice())
+    )?;
     write_payload_len(&header.payload_len(), answer)?;
     Ok(())
 }

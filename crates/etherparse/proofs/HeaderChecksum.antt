@@ -1,6 +1,6 @@
 -- The checksum of a header: what it is the sum of, and which stored checksum makes the bytes sum to all ones.
 use Rattle.std.proofs.Common.{ℕ, zero, suc, ◌≡◌, ◌+◌, ◌-◌, ◌<◌, ◌≤◌, ◌^◌, List, ◌++◌, drop, length, take, refl, sym, ap, ◌∙◌, inl, inr, arith, length-append, length-drop}
-use Rattle.std.specs.Prelude.{◌↔◌, ◌⊎◌, ◌*◌, ◌%◌}
+use Rattle.std.specs.Prelude.{◌↔◌, ◌⊎◌, ◌*◌}
 use Rattle.std.specs.Int.{from_bool, swap_bytes, w16}
 use Rattle.std.proofs.lemmas.Bool.{cases_eq}
 use Rattle.std.proofs.lemmas.List.{length-take-le, take_all, take-append-drop}

@@ -58,8 +58,8 @@ fn report<W: Write>(digits: &[u8], writer: &mut W) -> io::Result<Status>
 
 // Prints what is to be said of bytes that are read as IPv6.
 fn report_ipv6<W: Write>(bytes: &[u8], writer: &mut W) -> io::Result<Status>
-    ensures { IfOk result (λ status. Writes (Reports (ReadsIpv6Packet bytes.now) ipv6_outcome) status
-        (W.contents writer.old) (W.contents writer.new)) }
+    ensures { IfOk result (λ status. Writes (Reports (ReadsIpv6Packet bytes.now) ipv6_outcome)
+        status (W.contents writer.old) (W.contents writer.new)) }
 {
     match Ipv6HeaderSlice::from_slice(bytes) {
         Ok(view) => {

@@ -1,5 +1,6 @@
-ghost use Rattle.std.specs.Prelude.{◌≡◌, ◌≤◌, ◌++◌, length};
+ghost use Rattle.std.specs.Prelude.{◌≡◌, ◌≤◌, ◌+◌, ◌++◌, length};
 ghost use Rattle.etherparse_base.specs.Bytes.{IsBytes};
+ghost use Rattle.etherparse_base.specs.WordSums.{folded_sum, little_endian_word_sum};
 ghost use Rattle.etherparse_fields.specs.Ipv4Options.{IsOptionsLen};
 ghost use Rattle.etherparse.specs.Ipv4Header.{payload_len_of};
 
@@ -311,10 +312,8 @@ impl Ipv4Header {
     {
         let front = self.front(0);
         let (most, last) = front.split_first_chunk::<16>().unwrap();
-        Sum16BitWords::new()
-            .add_16bytes(*most)
-            .add_4bytes(*last.first_chunk::<4>().unwrap())
-            .add_slice(self.options.as_slice())
+        let fixed = add_fours(*most).add_4bytes(*last.first_chunk::<4>().unwrap());
+        add_options(fixed, self.options.as_slice())
             .ones_complement()
             .swap_bytes()
     }
@@ -353,6 +352,31 @@ impl Ipv4Header {
             d[0], d[1], d[2], d[3],
         ]
     }
+}
+
+// The sum of sixteen bytes by words of four: of fields of two bytes each, words of eight take longer to put together.
+#[inline(always)]
+fn add_fours(bytes: [u8; 16]) -> Sum16BitWords
+    requires { length bytes ≡ 16 }
+    ensures sum { folded_sum result ≡ folded_sum (0 + little_endian_word_sum bytes) }
+{
+    let [a, b, c, d, e, f, g, h, i, j, k, l, m, n, o, p] = bytes;
+    Sum16BitWords::new()
+        .add_4bytes([a, b, c, d])
+        .add_4bytes([e, f, g, h])
+        .add_4bytes([i, j, k, l])
+        .add_4bytes([m, n, o, p])
+}
+
+// Most headers have no options, and none of their words is looked for then.
+#[inline(always)]
+fn add_options(fixed: Sum16BitWords, options: &[u8]) -> Sum16BitWords
+    ensures sum { folded_sum result ≡ folded_sum (fixed + little_endian_word_sum options.now) }
+{
+    if options.is_empty() {
+        return fixed;
+    }
+    fixed.add_slice(options)
 }
 
 const _: () = prove!(Ipv4Header::MIN_LEN == 20 && Ipv4Header::MIN_LEN_U16 == 20);

@@ -48,8 +48,11 @@ impl Ipv6Header {
         ensures accepted { IsSkippable next_header →
             (IsOk result ↔ (required_len_of next_header slice.now ≤ length slice.now)) }
         ensures skipped { IsSkippable next_header →
-            required_len_of next_header slice.now ≤ length slice.now → number_and_rest result
-            ≡ Ok (next_header_of slice.now, drop (required_len_of next_header slice.now) slice.now) }
+            required_len_of next_header slice.now ≤ length slice.now →
+            number_and_rest result ≡ Ok (
+              next_header_of slice.now,
+              drop (required_len_of next_header slice.now) slice.now,
+            ) }
         ensures refused { IsSkippable next_header →
             length slice.now < required_len_of next_header slice.now → number_and_rest result
             ≡ Err (incomplete_header_error next_header slice.now 0) }
