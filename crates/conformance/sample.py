@@ -280,12 +280,12 @@ for no_case in ('', ' ', 'nothing', 'dscp.new', 'dscp.new 1 2', 'dscp.new x', 'd
                 'const.nothing', 'default.nothing', 'skip 00', 'skip.all 00 0', 'walk 00 0 0', 'walk.all 00 0', 'ipnum',
                 'ipnum.x 0', 'c32.add8 0 00', 'c16.fold 0', 'sum x', 'sum 3:000000', 'sum.eq', 'sum.eq / /'):
     lines[no_case] = None
-# operations of worked rows that the program does not answer, or that the program `iphead` tests by itself
+# operations of worked examples that the program does not answer, or that the program `iphead` tests by itself
 LEFT_OUT = 'text.chain off.chain eq.chain upd v4.set_ttl walk.limit decode iphead'.split()
 for line in open(sys.argv[1]).read().splitlines():
     operation = line.split(' ')[0]
     if operation in operations:
         lines[line] = None
     elif operation not in LEFT_OUT:
-        sys.exit(f'a worked row of {operation}, which is neither answered nor left out: {line}')
+        sys.exit(f'a worked example of {operation}, which is neither answered nor left out: {line}')
 print('\n'.join(lines))

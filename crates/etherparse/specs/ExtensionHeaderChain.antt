@@ -92,7 +92,8 @@ abbrev pub Ends : List ℕ → ℕ → List (List ℕ) → WalkAnswer → Type 0
 Ends s first headers (Ok x) = EndsAfterChain s first headers x.0 x.1
 Ends s first headers (Err e) = EndsIncomplete s first headers e
 
--- Walking: the answer after all extension headers of the slice, or at the first incomplete one.
+-- Walking: the answer after all extension headers of the slice that can be skipped, or at the
+-- first incomplete one.
 pub record Walks (s : List ℕ) (first : ℕ) (answer : WalkAnswer) : Type 0 where
   pub headers : List (List ℕ)
   pub ends : Ends s first headers answer

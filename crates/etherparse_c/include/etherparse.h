@@ -69,7 +69,8 @@ struct etherparse_ipv4_fields {
 };
 
 /* Writes the checksum that a header of these fields should have, as a number whose high byte a header has first, and returns
- * true. Where a field is out of its bounds it returns false and writes nothing. The stored header_checksum counts as 0. */
+ * true. Where a field is out of its bounds it returns false and writes nothing. The stored header_checksum counts as 0.
+ * Neither pointer is null, checksum points to no part of fields, and each bool is 0 or 1. */
 bool etherparse_ipv4_header_checksum(const struct etherparse_ipv4_fields *fields, uint16_t *checksum);
 
 #ifdef __cplusplus

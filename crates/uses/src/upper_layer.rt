@@ -1,9 +1,11 @@
 //! A filter on IPv6 packets: the upper layer, past any extension headers.
 
-ghost use Rattle.std.specs.Prelude.{◌≡◌, IfErr, IfOk};
+ghost use Rattle.std.specs.Prelude.{◌≡◌, ◌↔◌, IfErr, IfNone, IfOk, IfSome, IsTrue, length};
 ghost use Rattle.etherparse.specs.ExtensionHeaderChain.{WalkAnswer, Walks, number_and_rest};
-ghost use Rattle.uses.specs.UpperLayer.{HasUpperLayer, RefusesUpperLayer};
+ghost use Rattle.etherparse.specs.WordSums.{ones_complement_sum};
+ghost use Rattle.uses.specs.UpperLayer.{HasNoUdp, HasUdp, HasUpperLayer, RefusesUpperLayer, udp_pieces};
 
+use etherparse::checksum::u64_16bit_word;
 use etherparse::err::LenError;
 use etherparse::err::ipv6::HeaderSliceError;
 use etherparse::{IpNumber, Ipv6Header};
@@ -21,6 +23,50 @@ pub fn upper_layer(packet: &[u8]) -> Result<(IpNumber, &[u8]), HeaderSliceError>
         Ok(upper) => Ok(upper),
         Err(e) => Err(HeaderSliceError::Len(e.add_offset(Ipv6Header::LEN))),
     }
+}
+
+/// Whether the checksum of a UDP datagram over IPv6 is right, past any extension headers; `None` for another upper layer, or
+/// one of more bytes than 32 bits can tell. The destination is that of the IPv6 header, which a routing header can have
+/// changed.
+pub fn is_udp_right(packet: &[u8]) -> Result<Option<bool>, HeaderSliceError>
+    ensures judged { IfOk result (λ found. IfSome found (HasUdp packet.now)) }
+    ensures none { IfOk result (λ found. IfNone found (HasNoUdp packet.now)) }
+    ensures refused { IfErr result (RefusesUpperLayer packet.now) }
+{
+    let (header, rest) = match Ipv6Header::from_slice(packet) {
+        Ok(read) => read,
+        Err(e) => return Err(e),
+    };
+    let (number, datagram) = match Ipv6Header::skip_all_header_extensions_in_slice(
+        rest,
+        header.next_header,
+    ) {
+        Ok(upper) => upper,
+        Err(e) => return Err(HeaderSliceError::Len(e.add_offset(Ipv6Header::LEN))),
+    };
+    if number != IpNumber::UDP {
+        return Ok(None);
+    }
+    match u32::try_from(datagram.len()) {
+        Ok(len) => Ok(Some(sums_to_all_ones(&header, len, datagram))),
+        Err(_) => Ok(None),
+    }
+}
+
+// Whether a datagram of this length sums to all ones with what stands before it in a checksum.
+fn sums_to_all_ones(header: &Ipv6Header, len: u32, datagram: &[u8]) -> bool
+    requires { len ≡ length datagram.now }
+    ensures right { IsTrue result
+        ↔ (ones_complement_sum (udp_pieces header.now datagram.now) ≡ 65535) }
+{
+    let [a, b, c, d] = len.to_be_bytes();
+    let sum = u64_16bit_word::add_slices(&[
+        &header.source,
+        &header.destination,
+        &[a, b, c, d, 0, 0, 0, 17],
+        datagram,
+    ]);
+    u64_16bit_word::ones_complement(sum) == 0
 }
 
 /// The walk past all extension headers, one skip at a time.

@@ -222,6 +222,8 @@ fn a_sum_adds_as_many_bytes_as_its_calls_say(rt: HostRuntime) {
     ]);
     assert_eq!(rt; sixteen.ones_complement(), 0x8877);
     assert_eq!(rt; none, Sum16BitWords::new());
+    let two = none.add_2bytes([0xf0, 0x0f]);
+    assert_eq!(rt; two.to_ones_complement_with_no_zero(), 0xf00f);
 }
 
 #[test]
@@ -289,6 +291,11 @@ fn assert_sums_as_plain(rt: &impl Abort, slice: &[u8]) {
             u32_16bit_word::ones_complement(by_two)
         );
     }
+    let complement = Sum16BitWords::new().add_slice(slice).ones_complement();
+    let of_64 = u64_16bit_word::add_slice(0, slice);
+    let of_32 = u32_16bit_word::add_slice(0, slice);
+    assert_eq!(rt; u64_16bit_word::ones_complement(of_64), complement);
+    assert_eq!(rt; u32_16bit_word::ones_complement(of_32), complement);
 }
 
 // Bytes without a pattern, the same in each run.
