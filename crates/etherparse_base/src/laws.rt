@@ -114,6 +114,12 @@ fn ipv6_header_slice_error_equality(a: &ipv6::HeaderSliceError, b: &ipv6::Header
     a == b
 }
 
+fn chain_error_equality(a: &ipv6::ChainError, b: &ipv6::ChainError) -> bool
+    ensures same_value { IsTrue result ↔ (a.now ≡ b.now) }
+{
+    a == b
+}
+
 fn sum_16bit_words_equality(a: &Sum16BitWords, b: &Sum16BitWords) -> bool
     ensures same_value { IsTrue result ↔ (a.now ≡ b.now) }
 {
@@ -221,6 +227,12 @@ fn ipv6_header_error_clone(source: &ipv6::HeaderError) -> Result<ipv6::HeaderErr
 fn ipv6_header_slice_error_clone(
     source: &ipv6::HeaderSliceError,
 ) -> Result<ipv6::HeaderSliceError, AllocError>
+    ensures same_value { result ≡ Ok source.now }
+{
+    source.clone()
+}
+
+fn chain_error_clone(source: &ipv6::ChainError) -> Result<ipv6::ChainError, AllocError>
     ensures same_value { result ≡ Ok source.now }
 {
     source.clone()
