@@ -79,56 +79,75 @@ same_header n s p t q u hp hq ep eq =
       sym (drop_at p t (length p) refl) ∙ ap (drop (length p)) (sym ep ∙ eq) ∙ drop_at q u (length p) len,
     )
 
--- a chain that goes no further: its last number is not skippable, or the header of it is incomplete
-record GoesNoFurther (s : List ℕ) (n : ℕ) (ps : List (List ℕ)) (m : ℕ) (r : List ℕ) : Type 0 where
-  begins : BeginsWithChain s n ps m r
-  stops : IsSkippable m → length r < required_len_of m r
+-- a chain that goes no further: it has as many headers as a limit allows, or its last number is not skippable, or the header of
+-- it is incomplete
+pub record GoesNoFurther (limit : ℕ) (s : List ℕ) (n : ℕ) (ps : List (List ℕ)) (m : ℕ) (r : List ℕ) : Type 0 where
+  pub begins : BeginsWithChain s n ps m r
+  pub within : length ps ≤ limit
+  pub stops : IsSkippable m → length ps < limit → length r < required_len_of m r
 
 -- the slice is cut in one way
-cut_once : (ps qs : List (List ℕ)) (s : List ℕ) (n m k : ℕ) (r l : List ℕ) → GoesNoFurther s n ps m r → GoesNoFurther s n qs k l
-    → (qs ≡ ps) × (k ≡ m) × (l ≡ r)
-cut_once [] [] s n m k r l a b = (refl, b.begins.chain ∙ sym a.begins.chain, sym b.begins.whole ∙ a.begins.whole)
-cut_once [] (q ∷ qs) s n m k r l a b =
+pub cut_once : (ps qs : List (List ℕ)) (limit : ℕ) (s : List ℕ) (n m k : ℕ) (r l : List ℕ) → GoesNoFurther limit s n ps m r
+    → GoesNoFurther limit s n qs k l → (qs ≡ ps) × (k ≡ m) × (l ≡ r)
+cut_once [] [] limit s n m k r l a b = (refl, b.begins.chain ∙ sym a.begins.chain, sym b.begins.whole ∙ a.begins.whole)
+cut_once [] (q ∷ qs) limit s n m k r l a b =
+    let more = b.within in
     let fits : required_len_of n s ≤ length s = header_fits n s q (concat qs ++ l) b.begins.chain.0 (b.begins.whole ∙ append_assoc q (concat qs) l) in
-    let short : length r < required_len_of m r = a.stops (rw a.begins.chain b.begins.chain.0.skippable) in
+    let short : length r < required_len_of m r = a.stops (rw a.begins.chain b.begins.chain.0.skippable) (omega arith) in
     let short_s : length s < required_len_of n s = rw (sym a.begins.whole, a.begins.chain) at short in
     absurd (omega arith)
-cut_once (p ∷ ps) [] s n m k r l a b =
+cut_once (p ∷ ps) [] limit s n m k r l a b =
+    let more = a.within in
     let fits : required_len_of n s ≤ length s = header_fits n s p (concat ps ++ r) a.begins.chain.0 (a.begins.whole ∙ append_assoc p (concat ps) r) in
-    let short : length l < required_len_of k l = b.stops (rw b.begins.chain a.begins.chain.0.skippable) in
+    let short : length l < required_len_of k l = b.stops (rw b.begins.chain a.begins.chain.0.skippable) (omega arith) in
     let short_s : length s < required_len_of n s = rw (sym b.begins.whole, b.begins.chain) at short in
     absurd (omega arith)
-cut_once (p ∷ ps) (q ∷ qs) s n m k r l a b =
+cut_once (p ∷ ps) (q ∷ qs) limit s n m k r l a b =
+    let many = a.within in
+    let others_many = b.within in
     let same = same_header n s p (concat ps ++ r) q (concat qs ++ l) a.begins.chain.0 b.begins.chain.0
     (a.begins.whole ∙ append_assoc p (concat ps) r) (b.begins.whole ∙ append_assoc q (concat qs) l) in
-    let left : GoesNoFurther (concat ps ++ r) (next_header_of p) ps m r
-    = record { begins = record { chain = a.begins.chain.1; whole = refl }; stops = a.stops } in
-    let right : GoesNoFurther (concat ps ++ r) (next_header_of p) qs k l
-    = record { begins = record { chain = rw same.0 at b.begins.chain.1; whole = same.1 }; stops = b.stops } in
-    let others = cut_once ps qs (concat ps ++ r) (next_header_of p) m k r l left right in
+    let left : GoesNoFurther (limit - 1) (concat ps ++ r) (next_header_of p) ps m r = record {
+      begins = record { chain = a.begins.chain.1; whole = refl };
+      within = omega arith;
+      stops = λ h below. a.stops h (omega arith);
+    } in
+    let right : GoesNoFurther (limit - 1) (concat ps ++ r) (next_header_of p) qs k l = record {
+      begins = record { chain = rw same.0 at b.begins.chain.1; whole = same.1 };
+      within = omega arith;
+      stops = λ h below. b.stops h (omega arith);
+    } in
+    let others = cut_once ps qs (limit - 1) (concat ps ++ r) (next_header_of p) m k r l left right in
     (ap (λ x. x ∷ qs) same.0 ∙ ap (λ xs. p ∷ xs) others.0, others.1, others.2)
 
-after_chain : (s : List ℕ) (n : ℕ) (ps : List (List ℕ)) (m : ℕ) (r : List ℕ) → EndsAfterChain s n ps m r → GoesNoFurther s n ps m r
-after_chain s n ps m r e = record { begins = e.begins; stops = λ h. absurd (e.upper h) }
+-- so are those of a walk
+pub after_chain : (limit : ℕ) (s : List ℕ) (n : ℕ) (ps : List (List ℕ)) (m : ℕ) (r : List ℕ) → length ps ≤ limit → EndsAfterChain s n ps m r
+    → GoesNoFurther limit s n ps m r
+after_chain limit s n ps m r within e = record { begins = e.begins; within = within; stops = λ h below. absurd (e.upper h) }
 
-incomplete : (s : List ℕ) (n : ℕ) (ps : List (List ℕ)) (e : LenError) (k : EndsIncomplete s n ps e) → GoesNoFurther s n ps k.last k.rest
-incomplete s n ps e k = record { begins = k.begins; stops = λ h. k.short }
+pub incomplete : (limit : ℕ) (s : List ℕ) (n : ℕ) (ps : List (List ℕ)) (e : LenError) → length ps ≤ limit → (k : EndsIncomplete s n ps e)
+    → GoesNoFurther limit s n ps k.last k.rest
+incomplete limit s n ps e within k = record { begins = k.begins; within = within; stops = λ h below. k.short }
 
 -- a walk ends in one way
 pub ends_once : (s : List ℕ) (n : ℕ) (ps qs : List (List ℕ)) (a b : WalkAnswer) → Ends s n ps a → Ends s n qs b → (qs ≡ ps) × (b ≡ a)
 ends_once s n ps qs (Ok x) (Ok y) p q =
-    let same = cut_once ps qs s n x.0 y.0 x.1 y.1 (after_chain s n ps x.0 x.1 p) (after_chain s n qs y.0 y.1 q) in
+    let limit = length ps + length qs in
+    let same = cut_once ps qs limit s n x.0 y.0 x.1 y.1 (after_chain limit s n ps x.0 x.1 (omega arith) p) (after_chain limit s n qs y.0 y.1 (omega arith) q) in
     let number : y.0 ≡ x.0 = same.1 in
     let rest : y.1 ≡ x.1 = same.2 in
     let pair : (y.0, y.1) ≡ (x.0, x.1) = cc in (same.0, ap Ok pair)
 ends_once s n ps qs (Ok x) (Err f) p q =
-    let same = cut_once ps qs s n x.0 q.last x.1 q.rest (after_chain s n ps x.0 x.1 p) (incomplete s n qs f q) in
+    let limit = length ps + length qs in
+    let same = cut_once ps qs limit s n x.0 q.last x.1 q.rest (after_chain limit s n ps x.0 x.1 (omega arith) p) (incomplete limit s n qs f (omega arith) q) in
     absurd (p.upper (subst IsSkippable same.1 q.skippable))
 ends_once s n ps qs (Err e) (Ok y) p q =
-    let same = cut_once ps qs s n p.last y.0 p.rest y.1 (incomplete s n ps e p) (after_chain s n qs y.0 y.1 q) in
+    let limit = length ps + length qs in
+    let same = cut_once ps qs limit s n p.last y.0 p.rest y.1 (incomplete limit s n ps e (omega arith) p) (after_chain limit s n qs y.0 y.1 (omega arith) q) in
     absurd (q.upper (subst IsSkippable (sym same.1) p.skippable))
 ends_once s n ps qs (Err e) (Err f) p q =
-    let same = cut_once ps qs s n p.last q.last p.rest q.rest (incomplete s n ps e p) (incomplete s n qs f q) in
+    let limit = length ps + length qs in
+    let same = cut_once ps qs limit s n p.last q.last p.rest q.rest (incomplete limit s n ps e (omega arith) p) (incomplete limit s n qs f (omega arith) q) in
     let error = ap (λ k. incomplete_header_error k q.rest (length (concat qs))) same.1
     ∙ ap (λ r. incomplete_header_error p.last r (length (concat qs))) same.2
     ∙ ap (λ xs. incomplete_header_error p.last p.rest (length (concat xs))) same.0 in
@@ -167,7 +186,7 @@ one_skipped s n place m turns k u skippable is fits =
     }
 
 -- the place is as many bytes as the headers have
-place_of : (s : List ℕ) (n place m turns : ℕ) (u : SkippedUpTo s n place m turns) → length (concat u.headers) ≡ place
+pub place_of : (s : List ℕ) (n place m turns : ℕ) (u : SkippedUpTo s n place m turns) → length (concat u.headers) ≡ place
 place_of s n place m turns u =
     let whole : length s ≡ length (concat u.headers) + length (drop place s) = ap length u.begins.whole ∙ length-append (concat u.headers) (drop place s) in
     let left : length (drop place s) ≡ length s - place = length-drop place s in
@@ -190,24 +209,34 @@ walk_of s n place m turns a u ends =
       counted = λ headers other. ap (λ k. k + 1) (sym u.counted) ∙ ap turn_count (sym (ends_once s n u.headers headers a a ends other).0);
     }
 
--- a walk that ends after what is skipped
-pub walk_ends_after : (s : List ℕ) (n place m turns : ℕ) (r : List ℕ) → SkippedUpTo s n place m turns → r ≡ drop place s → (IsSkippable m → ⊥)
-    → IsWalk s n (Ok (m, r)) (turns + 1)
-walk_ends_after s n place m turns r u e upper = walk_of s n place m turns (Ok (m, r)) u (record { begins = rw e u.begins; upper = upper })
+-- the ends of a walk after what is skipped
+pub ends_after : (s : List ℕ) (n place m turns : ℕ) (r : List ℕ) (u : SkippedUpTo s n place m turns) → r ≡ drop place s → (IsSkippable m → ⊥)
+    → EndsAfterChain s n u.headers m r
+ends_after s n place m turns r u e upper = record { begins = rw e u.begins; upper = upper }
 
--- a walk that ends at a header that is incomplete
-pub walk_ends_incomplete : (s : List ℕ) (n place m turns : ℕ) (e : LenError) → SkippedUpTo s n place m turns → IsSkippable m
-    → length s - place < required_len_of m (drop place s) → e ≡ incomplete_header_error m (drop place s) place → IsWalk s n (Err e) (turns + 1)
-walk_ends_incomplete s n place m turns e u skippable short error =
+pub ends_incomplete : (s : List ℕ) (n place m turns : ℕ) (e : LenError) (u : SkippedUpTo s n place m turns) → IsSkippable m
+    → length s - place < required_len_of m (drop place s) → e ≡ incomplete_header_error m (drop place s) place → EndsIncomplete s n u.headers e
+ends_incomplete s n place m turns e u skippable short error =
     let left : length (drop place s) ≡ length s - place = length-drop place s in
-    walk_of s n place m turns (Err e) u (record {
+    record {
       last = m;
       rest = drop place s;
       begins = u.begins;
       skippable = skippable;
       short = omega arith;
       error = error ∙ ap (λ k. incomplete_header_error m (drop place s) k) (sym (place_of s n place m turns u));
-    })
+    }
+
+-- a walk that ends after what is skipped
+pub walk_ends_after : (s : List ℕ) (n place m turns : ℕ) (r : List ℕ) → SkippedUpTo s n place m turns → r ≡ drop place s → (IsSkippable m → ⊥)
+    → IsWalk s n (Ok (m, r)) (turns + 1)
+walk_ends_after s n place m turns r u e upper = walk_of s n place m turns (Ok (m, r)) u (ends_after s n place m turns r u e upper)
+
+-- a walk that ends at a header that is incomplete
+pub walk_ends_incomplete : (s : List ℕ) (n place m turns : ℕ) (e : LenError) → SkippedUpTo s n place m turns → IsSkippable m
+    → length s - place < required_len_of m (drop place s) → e ≡ incomplete_header_error m (drop place s) place → IsWalk s n (Err e) (turns + 1)
+walk_ends_incomplete s n place m turns e u skippable short error =
+    walk_of s n place m turns (Err e) u (ends_incomplete s n place m turns e u skippable short error)
 
 -- a chain at the front of what follows an IPv6 header
 pub chain_after_header : (s front r : List ℕ) (h : Ipv6Header) → s ≡ front ++ r → IsIpv6Layout h front

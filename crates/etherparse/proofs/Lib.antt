@@ -5,6 +5,7 @@ pub mod Ipv4Layout
 mod Ipv4Reading
 pub mod Ipv6Layout
 mod Ipv6Reading
+mod LimitedWalk
 mod Parts
 pub use Rattle.etherparse_base.proofs.FoldedSums
 pub use Rattle.etherparse_base.proofs.WordSumLaws

@@ -4,6 +4,8 @@ use Rattle.std.specs.Prelude.{slice_index, nat_lt, if◌then◌else◌, Result, 
 use Rattle.std.specs.List.{concat}
 use Rattle.std.specs.Result.{result_map_both}
 use Rattle.std.specs.Borrow.{Bor}
+use Rattle.etherparse_base.specs.declared.err.ipv6.chain_error.ChainError.{ChainError}
+use Rattle.etherparse_base.specs.declared.err.ipv6.chain_error.ChainError.TheVariants as chain_error
 use Rattle.etherparse_base.specs.declared.err.layer.Layer.TheVariants as layer
 use Rattle.etherparse_base.specs.declared.err.len_error.LenError.{LenError}
 use Rattle.etherparse_fields.specs.ExtensionHeaders.{IsSkippable}
@@ -106,3 +108,61 @@ turn_count headers = length headers + 1
 -- what a walk answers, apart from where the rest lies in memory
 abbrev pub number_and_rest : Result (ℕ × Bor (List ℕ)) LenError → WalkAnswer
 number_and_rest r = result_map_both (λ x. (x.0, x.1.now)) (λ e. e) r
+
+-- A walk with a limit goes past at most so many extension headers; the limit is our own.
+
+-- a number and the bytes that it tells of, or why a walk with a limit came to no such number
+abbrev pub LimitedWalkAnswer : Type 0
+LimitedWalkAnswer = Result (ℕ × List ℕ) ChainError
+
+-- The walk ends after a chain, which has no more headers than the limit.
+pub record EndsAfterChainUpTo (limit : ℕ) (s : List ℕ) (first : ℕ) (headers : List (List ℕ))
+    (last : ℕ) (rest : List ℕ) : Type 0 where
+  pub ends : EndsAfterChain s first headers last rest
+  pub within : length headers ≤ limit
+
+-- The walk ends at a header that is incomplete, with fewer headers before it than the limit.
+pub record EndsIncompleteUpTo (limit : ℕ) (s : List ℕ) (first : ℕ) (headers : List (List ℕ))
+    (e : LenError) : Type 0 where
+  pub ends : EndsIncomplete s first headers e
+  pub below : length headers < limit
+
+-- The walk ends at the limit: the slice begins with a chain of as many headers, whose last number is
+-- that of one more, whatever bytes are left for it. The error has the limit, the number of that
+-- header, and where it starts.
+pub record EndsAtLimit (limit : ℕ) (s : List ℕ) (first : ℕ) (headers : List (List ℕ))
+    (e : ChainError) : Type 0 where
+  pub last : ℕ
+  pub rest : List ℕ
+  pub begins : BeginsWithChain s first headers last rest
+  pub full : length headers ≡ limit
+  pub skippable : IsSkippable last
+  pub error : e ≡ chain_error.TooMany limit last (length (concat headers))
+
+-- where a walk with a limit ends, with the headers before that and the answer
+abbrev pub EndsUpTo : ℕ → List ℕ → ℕ → List (List ℕ) → LimitedWalkAnswer → Type 0
+EndsUpTo limit s first headers (Ok x) = EndsAfterChainUpTo limit s first headers x.0 x.1
+EndsUpTo limit s first headers (Err (chain_error.Len e)) =
+    EndsIncompleteUpTo limit s first headers e
+EndsUpTo limit s first headers (Err (chain_error.TooMany told number place)) =
+    EndsAtLimit limit s first headers (chain_error.TooMany told number place)
+
+-- Walking with a limit: the answer after all extension headers of the slice that can be skipped, or
+-- at the first incomplete one, or at the first one above the limit.
+pub record WalksUpTo (limit : ℕ) (s : List ℕ) (first : ℕ) (answer : LimitedWalkAnswer)
+    : Type 0 where
+  pub headers : List (List ℕ)
+  pub ends : EndsUpTo limit s first headers answer
+
+-- the answer of a walk without a limit, its error inside a `Len`
+abbrev pub with_error_in_len : WalkAnswer → LimitedWalkAnswer
+with_error_in_len answer = result_map_both (λ x. x) (λ e. chain_error.Len e) answer
+
+-- where the header starts at which a walk with a limit was given up
+abbrev pub chain_error_place : ChainError → ℕ
+chain_error_place (chain_error.Len e) = e.layer_start_offset
+chain_error_place (chain_error.TooMany limit number place) = place
+
+-- what a walk with a limit answers, apart from where the rest lies in memory
+abbrev pub limited_walk_answer : Result (ℕ × Bor (List ℕ)) ChainError → LimitedWalkAnswer
+limited_walk_answer r = result_map_both (λ x. (x.0, x.1.now)) (λ e. e) r

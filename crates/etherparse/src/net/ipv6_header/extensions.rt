@@ -5,6 +5,8 @@ ghost use Rattle.etherparse_base.specs.declared.err.layer.Layer.TheVariants as l
 ghost use Rattle.etherparse.specs.ExtensionHeaderChain.{required_len_of};
 ghost use Rattle.etherparse.specs.Reading.{too_short_error};
 
+mod limited_walk;
+
 use super::Ipv6Header;
 use crate::err::{Layer, LenError};
 use crate::{IpNumber, LenSource};

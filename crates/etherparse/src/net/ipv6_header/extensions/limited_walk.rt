@@ -1,0 +1,64 @@
+//! The walk past IPv6 extension headers, with a limit of headers.
+
+use super::{incomplete_header, required_len_at};
+use crate::err::ipv6::ChainError;
+use crate::{IpNumber, Ipv6Header};
+
+impl Ipv6Header {
+    ghost use Rattle.std.specs.Prelude.{◌≡◌, ◌+◌, ◌/◌, ◌≤◌, IfErr, IfOk, length};
+    ghost use Rattle.etherparse.specs.ExtensionHeaderChain.{LimitedWalkAnswer, WalkAnswer, Walks, WalksUpTo};
+    ghost use Rattle.etherparse.specs.ExtensionHeaderChain.{chain_error_place, limited_walk_answer, with_error_in_len};
+
+    /// Skips the extension headers at the front of a slice, of which the first has this number, but no more than `limit` of
+    /// them: the first number that can not be skipped, and all the bytes after the header that gave it.
+    ///
+    /// A header has at least 8 bytes. So from a limit of `slice.len() / 8 + 1` on the answer is that of
+    /// [`Ipv6Header::skip_all_header_extensions_in_slice`].
+    ///
+    /// # Errors
+    ///
+    /// `TooMany` where `limit` headers were skipped and the number after them is that of one more, however many bytes are
+    /// left: the limit, this number, and the offset from the front of the slice at which its header starts. Else `Len`
+    /// where a header is incomplete, with the error of [`Ipv6Header::skip_all_header_extensions_in_slice`].
+    pub fn skip_header_extensions_up_to(
+        slice: &[u8],
+        next_header: IpNumber,
+        limit: usize,
+    ) -> Result<(IpNumber, &[u8]), ChainError>
+        ensures walks { WalksUpTo limit slice.now next_header (limited_walk_answer result) }
+        ensures only { (other : LimitedWalkAnswer) → WalksUpTo limit slice.now next_header other →
+            other ≡ limited_walk_answer result }
+        ensures as_without_limit { length slice.now / 8 + 1 ≤ limit → (answer : WalkAnswer) →
+            Walks slice.now next_header answer →
+            limited_walk_answer result ≡ with_error_in_len answer }
+        ensures shorter { IfOk result (λ x. length x.1.now ≤ length slice.now) }
+        ensures within { IfErr result (λ e. chain_error_place e ≤ length slice.now) }
+    {
+        let mut number = next_header;
+        let mut place = 0;
+        let mut skipped = 0;
+        'headers: loop {
+            if !Ipv6Header::is_skippable_header_extension(number) {
+                return Ok((number, &slice[place..]));
+            }
+            if skipped == limit {
+                return Err(ChainError::TooMany {
+                    limit,
+                    next_header: number.0,
+                    layer_start_offset: place,
+                });
+            }
+            let required_len = required_len_at(slice, place, number);
+            let left = slice.len() - place;
+            if left < required_len {
+                return Err(ChainError::Len(incomplete_header(required_len, left, place)));
+            }
+            number = IpNumber(slice[place]);
+            place += required_len;
+            skipped += 1;
+        }
+    }
+}
+
+#[cfg(test)]
+mod tests;
