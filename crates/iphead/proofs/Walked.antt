@@ -3,11 +3,11 @@ use Rattle.std.proofs.Common.{ℕ, ◌≡◌, ◌-◌, List, ◌++◌, length, t
 use Rattle.std.specs.Prelude.{IfOk}
 use Rattle.std.specs.Io.KnownBytes.{Appends}
 use Rattle.std.proofs.lemmas.List.{drop_at, take_rest}
-use Rattle.etherparse.specs.ExtensionHeaderChain.{Walks}
+use Rattle.etherparse.specs.ExtensionHeaderChain.{WalksUpTo}
 use Rattle.etherparse.specs.Ipv6Header.{IsIpv6Layout}
 use Rattle.etherparse.specs.declared.net.ipv6_header.Ipv6Header.{Ipv6Header}
 use Rattle.iphead.proofs.Appended.{appended}
-use Rattle.iphead.specs.Output.{Reports, ReadsIpv6Packet, Writes, ipv6_lines, ipv6_outcome, walk_outcome}
+use Rattle.iphead.specs.Output.{Reports, ReadsIpv6Packet, Writes, ipv6_lines, ipv6_outcome, max_extension_headers, walk_outcome}
 use Rattle.iphead.specs.declared.status.Status.{Status}
 
 -- the bytes after the 40 of a header
@@ -19,7 +19,7 @@ after_header bytes front rest e len =
 -- the lines of a header and then those of the walk after it
 pub fields_then_walk : {E : Type 0} (bytes front rest : List ℕ) (h : Ipv6Header) (r : Result Status E) (old mid new : Option (List ℕ))
     → bytes ≡ front ++ rest → IsIpv6Layout h front → Appends old mid (ipv6_lines h)
-    → IfOk r (λ status. Writes (Reports (Walks rest h.next_header) (walk_outcome (length rest))) status mid new)
+    → IfOk r (λ status. Writes (Reports (WalksUpTo max_extension_headers rest h.next_header) (walk_outcome (length rest))) status mid new)
     → IfOk r (λ status. Writes (Reports (ReadsIpv6Packet bytes) ipv6_outcome) status old new)
 fields_then_walk bytes front rest h (Ok status) old mid new whole layout a w =
     let o = w.outcome in

@@ -7,16 +7,16 @@ use Rattle.std.specs.Fmt.{decimal}
 use Rattle.std.specs.Int.{to_be_bytes, w16}
 use Rattle.hex.specs.Hex.{decode_of, encode_lower}
 use Rattle.hex.specs.declared.error.FromHexError.{FromHexError}
-use Rattle.etherparse.specs.ExtensionHeaderChain.{WalkAnswer, Walks}
+use Rattle.etherparse.specs.ExtensionHeaderChain.{LimitedWalkAnswer, WalksUpTo}
 use Rattle.etherparse.specs.FirstByte.{version_of}
 use Rattle.etherparse.specs.HeaderChecksum.{header_checksum_of}
 use Rattle.etherparse.specs.IpEcn.{ecn_value}
 use Rattle.etherparse.specs.Ipv4Errors.{ipv4_header_slice_error_text}
 use Rattle.etherparse.specs.Ipv4Header.{Ipv4Reading, ReadsIpv4, ipv4_header_len, ipv4_ihl}
 use Rattle.etherparse.specs.Ipv4Header.{with_reserved_bit_cleared}
+use Rattle.etherparse.specs.Ipv6Errors.{chain_error_moved, chain_error_text}
 use Rattle.etherparse.specs.Ipv6Errors.{ipv6_header_slice_error_text}
 use Rattle.etherparse.specs.Ipv6Header.{ReadsIpv6}
-use Rattle.etherparse.specs.LenError.{len_error_moved, len_error_text}
 use Rattle.etherparse.specs.WordSums.{ones_complement_sum}
 use Rattle.etherparse.specs.declared.err.ipv6.HeaderSliceError.{HeaderSliceError}
 use Rattle.etherparse.specs.declared.net.ipv4_header.Ipv4Header.{Ipv4Header}
@@ -106,23 +106,27 @@ upper_layer_lines number place rest_len =
     ++ (line (codes "place") (decimal place)
     ++ line (codes "rest") (decimal rest_len))
 
+-- the greatest number of extension headers that are walked past
+abbrev pub max_extension_headers : ℕ
+max_extension_headers = 32
+
 -- The outcome of the walk over so many bytes after an IPv6 header. Places count from the header's
 -- start, which is 40 bytes before that.
-abbrev pub walk_outcome : ℕ → WalkAnswer → Outcome
+abbrev pub walk_outcome : ℕ → LimitedWalkAnswer → Outcome
 walk_outcome len (Ok x) =
     (Done, upper_layer_lines x.0 (40 + (len - length x.1)) (length x.1))
-walk_outcome len (Err e) = (Refused, error_line (len_error_text (len_error_moved 40 e)))
+walk_outcome len (Err e) = (Refused, error_line (chain_error_text (chain_error_moved 40 e)))
 
 -- what an IPv6 packet begins with: a header, what follows it, and the answer of the walk over that
 pub record Ipv6Front : Type 0 where
   pub header : Ipv6Header
   pub rest : List ℕ
-  pub walk : WalkAnswer
+  pub walk : LimitedWalkAnswer
 
 -- such a front of a packet is read and walked
 pub record ReadsIpv6Front (packet : List ℕ) (front : Ipv6Front) : Type 0 where
   pub reads : ReadsIpv6 packet (Ok (front.header, front.rest))
-  pub walks : Walks front.rest front.header.next_header front.walk
+  pub walks : WalksUpTo max_extension_headers front.rest front.header.next_header front.walk
 
 -- reading an IPv6 packet and walking on; or why it has no header
 abbrev pub ReadsIpv6Packet : List ℕ → Result Ipv6Front HeaderSliceError → Type 0

@@ -1,9 +1,9 @@
 ghost use Rattle.std.specs.Prelude.{◌≡◌, ◌≢◌, ◌≤◌, IfOk, IfSome, List, length};
 ghost use Rattle.hex.specs.Hex.{decode_of};
-ghost use Rattle.etherparse.specs.ExtensionHeaderChain.{Walks};
+ghost use Rattle.etherparse.specs.ExtensionHeaderChain.{WalksUpTo};
 ghost use Rattle.etherparse.specs.Ipv4Header.{ReadsIpv4};
 ghost use Rattle.iphead.specs.Output.{IsOutput, ReadsIpv6Packet, Reports, ReportsBytes, Writes};
-ghost use Rattle.iphead.specs.Output.{ipv4_outcome, ipv6_outcome, too_long_outcome, walk_outcome};
+ghost use Rattle.iphead.specs.Output.{ipv4_outcome, ipv6_outcome, max_extension_headers, too_long_outcome, walk_outcome};
 
 use crate::decode::decode_input;
 use crate::input::read_digits;
@@ -13,10 +13,13 @@ use etherparse::{IpNumber, Ipv4HeaderSlice, Ipv6Header, Ipv6HeaderSlice};
 use std::io;
 use std::io::{Read, Write};
 
+// The greatest number of extension headers that are walked past.
+const MAX_EXTENSION_HEADERS: usize = 32;
+
 /// Reads the hex digits of a header and prints its fields, one a line, or one line that says why not.
 ///
 /// Blanks between the digits are dropped. It takes at most 4096 digits among at most 65536 bytes, reads in pieces of 512
-/// bytes, and takes no memory. A read or a write that fails ends it at once.
+/// bytes, walks past at most 32 extension headers, and takes no memory. A read or a write that fails ends it at once.
 pub fn run<R: Read, W: Write>(reader: &mut R, writer: &mut W) -> Status
     ensures output { result ≢ Status.Failed → IfSome (R.remaining reader.old) (λ input.
         Writes (IsOutput input) result (W.contents writer.old) (W.contents writer.new)) }
@@ -75,18 +78,18 @@ fn report_ipv6<W: Write>(bytes: &[u8], writer: &mut W) -> io::Result<Status>
 
 // Prints what is to be said of the bytes after an IPv6 header.
 fn report_walk<W: Write>(bytes: &[u8], next_header: IpNumber, writer: &mut W) -> io::Result<Status>
-    ensures { IfOk result (λ status. Writes (Reports (Walks bytes.now next_header)
+    ensures { IfOk result (λ status. Writes
+        (Reports (WalksUpTo max_extension_headers bytes.now next_header)
         (walk_outcome (length bytes.now))) status (W.contents writer.old) (W.contents writer.new)) }
 {
-    let (walked, _turns) = Ipv6Header::skip_all_header_extensions_counted(bytes, next_header);
-    match walked {
+    match Ipv6Header::skip_header_extensions_up_to(bytes, next_header, MAX_EXTENSION_HEADERS) {
         Ok((upper, rest)) => {
             let place = Ipv6Header::LEN + (bytes.len() - rest.len());
             write_upper_layer(writer, upper.0, place, rest.len())?;
             Ok(Status::Done)
         }
         Err(e) => {
-            write_error(writer, e.add_offset(Ipv6Header::LEN))?;
+            write_error(writer, e.add_slice_offset(Ipv6Header::LEN))?;
             Ok(Status::Refused)
         }
     }

@@ -38,6 +38,38 @@ destination 00000000000000000000000000000002
 error: IPv6 Extension Header Error: Not enough data to decode 'IPv6 extension header'. 16 byte(s) would be required, but only 3 byte(s) are available based on the slice length ('IPv6 extension header' starts at overall parsed byte 48).
 ";
 
+// The same header, after which 33 extension headers come: one more than are walked past.
+const ABOVE_THE_LIMIT: &str =
+    "60000000 01080040 00000000 00000000 00000000 00000001 00000000 00000000 00000000 00000002";
+
+const ABOVE_THE_LIMIT_LINES: &str = "version 6
+traffic_class 0
+flow_label 0
+payload_length 264
+next_header 0
+hop_limit 64
+source 00000000000000000000000000000001
+destination 00000000000000000000000000000002
+error: IPv6 Extension Header Error: More than 32 extension header(s) ('0' starts at overall parsed byte 296).
+";
+
+// The same header, after which 32 extension headers come.
+const AT_THE_LIMIT: &str =
+    "60000000 01000040 00000000 00000000 00000000 00000001 00000000 00000000 00000000 00000002";
+
+const AT_THE_LIMIT_LINES: &str = "version 6
+traffic_class 0
+flow_label 0
+payload_length 256
+next_header 0
+hop_limit 64
+source 00000000000000000000000000000001
+destination 00000000000000000000000000000002
+upper 59
+place 296
+rest 0
+";
+
 const GREATEST_LINES: &str = "version 6
 traffic_class 0
 flow_label 0
@@ -259,6 +291,35 @@ fn an_incomplete_extension_header_is_told_after_the_fields(rt: HostRuntime) {
         Status::Refused,
         INCOMPLETE_LINES,
     );
+}
+
+// The digits of a header, of so many extension headers with nothing but 0 in them, and of what comes after.
+fn with_zero_headers(
+    alloc: Global,
+    header: &str,
+    count: usize,
+    after: &str,
+) -> Result<Vec<u8>, AllocError> {
+    let mut digits = header.as_bytes().to_vec(alloc)?;
+    for _ in 0..count {
+        digits.extend_from_slice(b"0000000000000000")?;
+    }
+    digits.extend_from_slice(after.as_bytes())?;
+    Ok(digits)
+}
+
+#[test]
+fn more_than_32_extension_headers_are_refused(rt: HostRuntime) -> Result<(), Fail> {
+    let above = with_zero_headers(rt.alloc(), ABOVE_THE_LIMIT, 33, "")?;
+    expect(
+        &rt,
+        above.as_slice(),
+        Status::Refused,
+        ABOVE_THE_LIMIT_LINES,
+    );
+    let at = with_zero_headers(rt.alloc(), AT_THE_LIMIT, 31, "3b00000000000000")?;
+    expect(&rt, at.as_slice(), Status::Done, AT_THE_LIMIT_LINES);
+    Ok(())
 }
 
 #[test]

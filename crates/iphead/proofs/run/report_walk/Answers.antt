@@ -1,5 +1,5 @@
 use Rattle.std.proofs.Common.{Err, ap}
-use Rattle.etherparse.specs.LenError.{len_error_text}
+use Rattle.etherparse.specs.Ipv6Errors.{chain_error_text}
 use Rattle.iphead.specs.Output.{error_line}
 use Rattle.iphead.specs.declared.status.Status.TheVariants.{Refused}
 use Rattle.iphead.proofs.run.report_walk.Goals as goal
@@ -9,8 +9,8 @@ returns-in_ok-write_error-in-Err g c = record {
   text = _;
   outcome = record {
     reading = Err c.in-Err.e;
-    reads = rw c.in-Err.is at c.skip_all_header_extensions_counted-walked.ensures.walks;
-    outcome_of_it = ap (λ e. (Refused, error_line (len_error_text e))) c.add_offset.ensures.moved;
+    reads = c.in-Err.ensures.walks;
+    outcome_of_it = ap (λ e. (Refused, error_line (chain_error_text e))) c.add_slice_offset.ensures.moved;
   };
   appended = c.in_ok-write_error-in-Err.ensures;
 }
