@@ -1,7 +1,7 @@
 -- Folded sums: which numbers have the same one.
-use Rattle.std.proofs.Common.{ℕ, zero, suc, Bool, true, false, ◌≡◌, ◌<◌, ◌≤◌, ◌+◌, ◌-◌, ◌*◌, ◌%◌, ◌∙◌, arith, ltb-true, nat_lt, refl, sym}
+use Rattle.std.proofs.Common.{ℕ, zero, suc, Bool, true, false, ◌≡◌, ◌<◌, ◌≤◌, ◌+◌, ◌-◌, ◌*◌, ◌%◌, ◌∙◌, ap, arith, ltb-true, nat_lt, refl, sym}
 use Rattle.std.specs.Prelude.{if◌then◌else◌}
-use Rattle.etherparse_base.specs.WordSums.{end_around_sum, folded_sum}
+use Rattle.etherparse_base.specs.WordSums.{end_around_sum, folded_sum, updated_checksum}
 
 -- numbers that differ by a multiple of 65535, unless one of them alone is 0
 pub same_fold : (a b k : ℕ) → a ≡ b + 65535 * k → (b ≡ 0 → a ≡ 0) → folded_sum a ≡ folded_sum b
@@ -39,3 +39,30 @@ carried greatest k n false above e = refl
 pub folded_sum-end_around_sum : (greatest k a b : ℕ) → greatest ≡ 65535 * k → folded_sum (end_around_sum greatest a b) ≡ folded_sum (a + b)
 folded_sum-end_around_sum greatest k a b e =
     carried greatest k (a + b) (nat_lt greatest (a + b)) (ltb-true greatest (a + b)) e
+
+-- a fold folds to itself
+folded_sum-folded_sum : (n : ℕ) → folded_sum (folded_sum n) ≡ folded_sum n
+folded_sum-folded_sum zero = refl
+folded_sum-folded_sum (suc n) = folded_sum-positive (1 + n % 65535) (omega arith) ∙ omega arith
+
+-- the checksum of a sum, updated, is that of the sum with the new word in the place of the old
+pub updated_checksum-computed : (sum checksum old new : ℕ) → old < 65536 → old ≤ sum → checksum ≡ 65535 - folded_sum sum → 0 < sum - old + new
+    → updated_checksum checksum old new ≡ 65535 - folded_sum (sum - old + new)
+updated_checksum-computed sum checksum old new fits within computed some =
+    let change : ℕ = (65535 - old) + new in
+    let folded : (65535 - checksum) + (65535 - old) + new ≡ folded_sum sum + change = omega (arith, computed, folded_sum-within sum) in
+    let plus = folded_sum-plus (folded_sum sum) sum change (folded_sum-folded_sum sum) in
+    let same = same_fold (sum + change) (sum - old + new) 1 (omega (arith, fits, within)) (λ z. absurd (omega (arith, z, some))) in
+    ap (λ n. 65535 - folded_sum n) folded ∙ ap (λ n. 65535 - n) (plus ∙ same)
+
+-- an updated checksum, with the words that it is over, folds as the old one did with theirs
+folded_with : (sum checksum old new n : ℕ) → checksum < 65536 → old < 65536 → new < 65536 → old ≤ sum → 0 < sum → 0 < sum - old + new
+    → n ≡ (65535 - checksum) + (65535 - old) + new → folded_sum (sum - old + new + (65535 - folded_sum n)) ≡ folded_sum (sum + checksum)
+folded_with sum checksum old new zero a b c within before after e =
+    folded_sum-positive (sum - old + new + 65535) (omega arith) ∙ omega arith ∙ sym (folded_sum-positive (sum + checksum) (omega arith))
+folded_with sum checksum old new (suc n) a b c within before after e =
+    folded_sum-positive (sum - old + new + (65535 - (1 + n % 65535))) (omega arith) ∙ omega arith ∙ sym (folded_sum-positive (sum + checksum) (omega arith))
+
+pub folded_sum-updated : (sum checksum old new : ℕ) → checksum < 65536 → old < 65536 → new < 65536 → old ≤ sum → 0 < sum → 0 < sum - old + new
+    → folded_sum (sum - old + new + updated_checksum checksum old new) ≡ folded_sum (sum + checksum)
+folded_sum-updated sum checksum old new a b c within before after = folded_with sum checksum old new _ a b c within before after refl

@@ -45,6 +45,12 @@ abbrev pub with_no_zero : ℕ → ℕ
 with_no_zero zero = 65535
 with_no_zero (suc n) = suc n
 
+-- The checksum of words of which one was changed: the complement of what the complements of the old
+-- checksum and of the old word and the new word sum to (RFC 1624 section 3, equation 3).
+abbrev pub updated_checksum : ℕ → ℕ → ℕ → ℕ
+updated_checksum checksum old new =
+    65535 - folded_sum ((65535 - checksum) + (65535 - old) + new)
+
 -- the bytes after are those before with another byte at one place
 pub record ChangesOneByte (before after : List ℕ) : Type 0 where
   pub place : ℕ

@@ -124,6 +124,53 @@ fn an_offset_is_added_to_a_length_alone(rt: HostRuntime) {
 }
 
 #[test]
+fn an_offset_is_added_to_either_place_of_a_chain(rt: HostRuntime) {
+    assert_eq!(rt;
+        ipv6::ChainError::Len(in_chain(16, 3, 8)).add_slice_offset(40),
+        ipv6::ChainError::Len(in_chain(16, 3, 48))
+    );
+    for (limit, next_header, place, offset) in [
+        (32, 0, 256, 40),
+        (0, 60, 0, 0),
+        (3, 135, usize::MAX - 1, 1),
+    ] {
+        assert!(rt; place <= usize::MAX - offset);
+        let error = ipv6::ChainError::TooMany {
+            limit,
+            next_header,
+            layer_start_offset: place,
+        };
+        assert_eq!(rt;
+            error.add_slice_offset(offset),
+            ipv6::ChainError::TooMany {
+                limit,
+                next_header,
+                layer_start_offset: place + offset
+            }
+        );
+    }
+}
+
+#[test]
+fn errors_of_a_chain_are_equal_where_all_fields_are(rt: HostRuntime) {
+    let errors = [
+        too_many(3, 0, 24),
+        too_many(4, 0, 24),
+        too_many(3, 60, 24),
+        too_many(3, 0, 32),
+        ipv6::ChainError::Len(in_chain(2, 0, 24)),
+        ipv6::ChainError::Len(in_chain(2, 1, 24)),
+        ipv6::ChainError::Len(in_chain(8, 0, 24)),
+        ipv6::ChainError::Len(in_chain(2, 0, 32)),
+    ];
+    for (i, first) in errors.iter().enumerate() {
+        for (j, other) in errors.iter().enumerate() {
+            assert_eq!(rt; first == other, i == j);
+        }
+    }
+}
+
+#[test]
 fn a_value_is_too_big_at_each_type(rt: HostRuntime) -> Result<(), Fail> {
     assert_shows(
         &rt,
@@ -228,6 +275,31 @@ fn ipv6_errors(rt: HostRuntime) -> Result<(), Fail> {
 }
 
 #[test]
+fn errors_of_a_chain(rt: HostRuntime) -> Result<(), Fail> {
+    let cases = [
+        (
+            ipv6::ChainError::Len(in_chain(16, 3, 48)),
+            "IPv6 Extension Header Error: Not enough data to decode 'IPv6 extension header'. 16 byte(s) would be required, but only 3 byte(s) are available based on the slice length ('IPv6 extension header' starts at overall parsed byte 48).",
+            "Len(LenError { required_len: 16, len: 3, len_source: Slice, layer: Ipv6ExtHeader, layer_start_offset: 48 })",
+        ),
+        (
+            too_many(32, 0, 296),
+            "IPv6 Extension Header Error: More than 32 extension header(s) ('0' starts at overall parsed byte 296).",
+            "TooMany { limit: 32, next_header: 0, layer_start_offset: 296 }",
+        ),
+        (
+            too_many(0, 140, 0),
+            "IPv6 Extension Header Error: More than 0 extension header(s) ('140' starts at overall parsed byte 0).",
+            "TooMany { limit: 0, next_header: 140, layer_start_offset: 0 }",
+        ),
+    ];
+    for (error, text, debug_text) in &cases {
+        assert_shows(&rt, rt.alloc(), error, text, debug_text)?;
+    }
+    Ok(())
+}
+
+#[test]
 fn layers_and_values_have_names_and_an_order(rt: HostRuntime) -> Result<(), Fail> {
     assert_shows(
         &rt,
@@ -266,6 +338,7 @@ fn each_error_is_an_error(_rt: HostRuntime) {
     is_error::<ipv4::HeaderSliceError>();
     is_error::<ipv6::HeaderError>();
     is_error::<ipv6::HeaderSliceError>();
+    is_error::<ipv6::ChainError>();
 }
 
 fn is_error<T: Error>() {}
@@ -292,6 +365,28 @@ fn icmp_in_slice(layer_start_offset: usize) -> LenError
         len: 2,
         len_source: LenSource::Slice,
         layer: Layer::Icmpv4,
+        layer_start_offset,
+    }
+}
+
+// Of an extension header in a slice.
+fn in_chain(required_len: usize, len: usize, layer_start_offset: usize) -> LenError
+    ensures start { result.layer_start_offset ≡ layer_start_offset }
+{
+    LenError {
+        required_len,
+        len,
+        len_source: LenSource::Slice,
+        layer: Layer::Ipv6ExtHeader,
+        layer_start_offset,
+    }
+}
+
+// Of a chain that goes on after as many headers as the limit allows.
+fn too_many(limit: usize, next_header: u8, layer_start_offset: usize) -> ipv6::ChainError {
+    ipv6::ChainError::TooMany {
+        limit,
+        next_header,
         layer_start_offset,
     }
 }

@@ -7,8 +7,10 @@ mod sum_16bit_words;
 mod tests;
 pub mod u32_16bit_word;
 pub mod u64_16bit_word;
+mod update;
 mod wide_u32;
 mod wide_u64;
 mod words;
 
 pub use sum_16bit_words::Sum16BitWords;
+pub use update::update_2bytes;

@@ -1,6 +1,6 @@
 //! What no clause says: that the wide sums run as the plain ones do, worked values in both widths, and what a sum prints.
 
-use super::{Sum16BitWords, plain, u32_16bit_word, u64_16bit_word};
+use super::{Sum16BitWords, plain, u32_16bit_word, u64_16bit_word, update_2bytes};
 use std::alloc::{AllocError, Global};
 use std::process::Abort;
 use std::test::Fail;
@@ -271,6 +271,57 @@ fn many_bytes_keep_every_carry(rt: HostRuntime) -> Result<(), Fail> {
         assert_eq!(rt; u32_16bit_word::ones_complement(of_32), in_pieces);
     }
     Ok(())
+}
+
+#[test]
+fn an_update_is_by_equation_three(rt: HostRuntime) {
+    // The numbers of RFC 1624 section 4, where equation 2 gives 0xffff.
+    let (checksum, old, new): (u16, u16, u16) = (0xdd2f, 0x5555, 0x3285);
+    let by_three = update_2bytes(checksum, old.to_be_bytes(), new.to_be_bytes());
+    assert_eq!(rt; by_three, 0);
+    let by_two = u32::from(checksum) + u32::from(old) + u32::from(!new);
+    assert_eq!(rt; !u32_16bit_word::ones_complement(by_two), 0xffff);
+
+    // The words are all 0 after the change.
+    assert_eq!(rt; update_2bytes(0xffff, [0, 0], [0, 0]), 0);
+    assert_eq!(rt; update_2bytes(0xffff - 0x0102, [1, 2], [0, 0]), 0);
+}
+
+#[test]
+fn every_old_word_gives_way_to_a_new_one(rt: HostRuntime) {
+    let new_words: [u16; 12] = [
+        0, 1, 0xff, 0x100, 0x3285, 0x5555, 0x7fff, 0x8000, 0xaaaa, 0xff00, 0xfffe, 0xffff,
+    ];
+    for old in 0..=u16::MAX {
+        let computed = checksum_with(old);
+        for new in new_words {
+            let (old_bytes, new_bytes) = (old.to_be_bytes(), new.to_be_bytes());
+            assert_eq!(rt;
+                update_2bytes(computed, old_bytes, new_bytes),
+                checksum_with(new)
+            );
+            for checksum in [0, 1, 0xdd2f, 0xfffe, 0xffff] {
+                assert_eq!(rt;
+                    update_2bytes(checksum, old_bytes, new_bytes),
+                    updated_in_wide_numbers(checksum, old, new)
+                );
+            }
+        }
+    }
+}
+
+// The checksum of the other words of the example of RFC 1624 section 4 with this one, computed from all of them.
+fn checksum_with(word: u16) -> u16 {
+    let [high, low] = word.to_be_bytes();
+    let sum = u64_16bit_word::add_slice(0, &[0xcd, 0x7a, high, low]);
+    u64_16bit_word::ones_complement(sum).swap_bytes()
+}
+
+// Equation 3 of RFC 1624 section 3 in numbers that nothing is carried out of, reduced once.
+fn updated_in_wide_numbers(checksum: u16, old: u16, new: u16) -> u16 {
+    let sum = (65535 - u64::from(checksum)) + (65535 - u64::from(old)) + u64::from(new);
+    let folded = if sum == 0 { 0 } else { 1 + (sum - 1) % 65535 };
+    (65535 - folded) as u16
 }
 
 // Asserts that a slice has the same complement by wide words and by words of two bytes, from the least and the greatest starts.
