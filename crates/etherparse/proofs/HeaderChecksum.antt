@@ -22,7 +22,7 @@ pub cleared_spells : (h : Ipv4Header) (r : ℕ) (p : List ℕ) → IsIpv4Layout 
 cleared_spells h r p l = ap (λ x. with_checksum_cleared x) (spelled h r p l)
 
 -- the words of a header are those without its checksum, and its checksum
-checksum_apart : (h : Ipv4Header) (r : ℕ) (p : List ℕ) → IsIpv4Layout h r p
+pub checksum_apart : (h : Ipv4Header) (r : ℕ) (p : List ℕ) → IsIpv4Layout h r p
     → network_order_word_sum p ≡ network_order_word_sum (with_checksum_cleared p) + h.header_checksum
 checksum_apart h r p l =
     let fits = (ranges_of h r p l).header_checksum in
@@ -57,6 +57,30 @@ right_checksum h r p l =
     let fits = (ranges_of h r p l).header_checksum in
     let right = all_ones_with others h.header_checksum some (omega arith) in
     rw (checksum_apart h r p l) right
+
+-- a header with another time to live and another checksum
+abbrev pub with_time_to_live : ℕ → ℕ → Ipv4Header → Ipv4Header
+with_time_to_live time_to_live checksum h = record h { time_to_live = time_to_live; header_checksum = checksum }
+
+-- what another time to live changes in the sum of the other words: the word that it shares with the protocol
+pub record TimeToLiveChanges (sum old new after : ℕ) : Type 0 where
+  pub within : old ≤ sum
+  pub some : 0 < sum
+  pub replaced : after ≡ sum - old + new
+  pub some_after : 0 < sum - old + new
+
+pub time_to_live_changes : (h : Ipv4Header) (t c protocol r : ℕ) (p q : List ℕ) → protocol ≡ h.protocol → IsIpv4Layout h r p → IsIpv4Layout (with_time_to_live t c h) r q
+    → TimeToLiveChanges (network_order_word_sum (with_checksum_cleared p)) (h.time_to_live * 2 ^ 8 + protocol) (t * 2 ^ 8 + protocol)
+    (network_order_word_sum (with_checksum_cleared q))
+time_to_live_changes h t c protocol r p q same k l =
+    let before = cleared_spells h r p k in
+    let after = cleared_spells (with_time_to_live t c h) r q l in
+    record {
+      within = rw before (omega arith);
+      some = rw before (omega arith);
+      replaced = rw before (rw after (omega arith));
+      some_after = rw before (omega arith);
+    }
 
 -- a complement with its bytes exchanged
 complement_swapped : (n : ℕ) → n ≤ 65535 → swap_bytes w16 (65535 - n) ≡ 65535 - swap_bytes w16 n

@@ -4,7 +4,7 @@ ghost use Rattle.etherparse_base.specs.WordSums.{folded_sum, little_endian_word_
 ghost use Rattle.etherparse_fields.specs.Ipv4Options.{IsOptionsLen};
 ghost use Rattle.etherparse.specs.Ipv4Header.{payload_len_of};
 
-use crate::checksum::Sum16BitWords;
+use crate::checksum::{Sum16BitWords, update_2bytes};
 use crate::err::ipv4::{BadOptionsLen, HeaderSliceError};
 use crate::err::{Layer, LenError, ValueTooBigError, ValueType};
 use crate::{IpDscp, IpEcn, IpFragOffset, IpNumber, Ipv4HeaderSlice, Ipv4Options, LenSource};
@@ -46,7 +46,7 @@ pub struct Ipv4Header {
 impl Ipv4Header {
     ghost use Rattle.std.specs.Prelude.{ℕ, ◌≡◌, ◌+◌, ◌*◌, ◌/◌, ◌^◌, ◌<◌, ◌≤◌, ◌↔◌, ◌⊎◌, List, [], ◌∷◌, ◌++◌, Ok, IsOk, IfOk, OnOk, OnErr, IfErr, IsTrue, length};
     ghost use Rattle.std.specs.Int.{from_bool, to_be_bytes, w16};
-    ghost use Rattle.etherparse_base.specs.WordSums.{SumsToAllOnes};
+    ghost use Rattle.etherparse_base.specs.WordSums.{SumsToAllOnes, updated_checksum};
     ghost use Rattle.etherparse_fields.specs.IpEcn.{ecn_value};
     ghost use Rattle.etherparse_fields.specs.Ipv4Options.{IsOptionsLen};
     ghost use Rattle.etherparse.specs.HeaderChecksum.{header_checksum_of};
@@ -316,6 +316,39 @@ impl Ipv4Header {
         add_options(fixed, self.options.as_slice())
             .ones_complement()
             .swap_bytes()
+    }
+
+    /// Sets the time to live, and updates the stored checksum for it: [`update_2bytes`] for the word of the time to live and the
+    /// protocol (RFC 1624 section 3, equation 3). A checksum that was right is so afterwards, and one that was wrong is not.
+    ///
+    /// The Rust crate has no such call.
+    #[inline]
+    pub fn set_time_to_live(&mut self, time_to_live: u8)
+        ensures set { self.new ≡ record self.old {
+          time_to_live = time_to_live;
+          header_checksum = updated_checksum self.old.header_checksum
+              (self.old.time_to_live * 2 ^ 8 + self.old.protocol)
+              (time_to_live * 2 ^ 8 + self.old.protocol);
+        } }
+
+        // The checksum that a header should have is so afterwards.
+        ensures stays_computed { (reserved : ℕ) (before after : List ℕ)
+            → IsIpv4Layout self.old reserved before → IsIpv4Layout self.new reserved after
+            → self.old.header_checksum ≡ header_checksum_of before
+            → self.new.header_checksum ≡ header_checksum_of after }
+
+        // A receiver finds the checksum right where it was right before.
+        ensures all_ones { (reserved : ℕ) (before after : List ℕ)
+            → IsIpv4Layout self.old reserved before → IsIpv4Layout self.new reserved after
+            → (SumsToAllOnes before ↔ SumsToAllOnes after) }
+    {
+        let protocol = u8::from(self.protocol);
+        self.header_checksum = update_2bytes(
+            self.header_checksum,
+            [self.time_to_live, protocol],
+            [time_to_live, protocol],
+        );
+        self.time_to_live = time_to_live;
     }
 
     // What stands before the options, with this checksum.

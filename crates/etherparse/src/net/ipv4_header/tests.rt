@@ -220,3 +220,45 @@ fn both_zeros_sum_to_all_ones_where_zero_is_computed(rt: HostRuntime) {
         assert_eq!(rt; u64_16bit_word::ones_complement(sum), complement);
     }
 }
+
+#[test]
+fn a_time_to_live_is_set_with_the_checksum_and_nothing_else(rt: HostRuntime) -> Result<(), Fail> {
+    let mut header = with_options();
+    header.set_time_to_live(16);
+    let mut expected = with_options();
+    expected.time_to_live = 16;
+    expected.header_checksum = 0x9eef;
+    assert_eq!(rt; header, expected);
+    header.set_time_to_live(17);
+    assert_eq!(rt; header, with_options());
+    Ok(())
+}
+
+#[test]
+fn a_stored_checksum_is_updated_and_not_computed(rt: HostRuntime) {
+    let (source, destination) = ([192, 168, 0, 1], [192, 168, 0, 199]);
+    for (stored, time_to_live, updated, computed) in [
+        (0xb861, 63, 0xb961, 0xb961),
+        (0xb861, 64, 0xb861, 0xb861),
+        (0, 63, 0x0100, 0xb961),
+    ] {
+        let made = Ipv4Header::new(95, 64, IpNumber(17), source, destination);
+        let mut header = made.expect(&rt, "a short payload");
+        header.header_checksum = stored;
+        header.set_time_to_live(time_to_live);
+        assert_eq!(rt; header.header_checksum, updated);
+        assert_eq!(rt; header.calc_header_checksum(), computed);
+    }
+}
+
+#[test]
+fn both_zeros_are_updated_to_the_computed_checksum(rt: HostRuntime) {
+    for stored in [0, 0xffff] {
+        let mut header = Ipv4Header::default();
+        header.identification = 0x7a00;
+        header.header_checksum = stored;
+        header.set_time_to_live(1);
+        assert_eq!(rt; header.header_checksum, 0xfeff);
+        assert_eq!(rt; header.calc_header_checksum(), 0xfeff);
+    }
+}
