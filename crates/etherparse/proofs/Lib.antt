@@ -7,5 +7,6 @@ pub mod Ipv6Layout
 mod Ipv6Reading
 mod LimitedWalk
 mod Parts
+mod SkippedHeaders
 pub use Rattle.etherparse_base.proofs.FoldedSums
 pub use Rattle.etherparse_base.proofs.WordSumLaws

@@ -53,6 +53,12 @@ pub record BeginsWithChain (s : List ℕ) (first : ℕ) (headers : List (List �
   pub chain : IsExtensionHeaderChain first headers last
   pub whole : s ≡ concat headers ++ rest
 
+-- The rest, of this number, follows extension headers that stand at the front of the slice, of which
+-- the first has that number. With no header it is the slice itself.
+pub record FollowsChain (s : List ℕ) (first number : ℕ) (rest : List ℕ) : Type 0 where
+  pub headers : List (List ℕ)
+  pub begins : BeginsWithChain s first headers number rest
+
 -- the packet is an IPv6 header, a chain of the extension headers after it, and the rest after them
 pub record HasIpv6Chain (packet : List ℕ) (header : Ipv6Header) (headers : List (List ℕ))
     (last : ℕ) (rest : List ℕ) : Type 0 where
@@ -99,6 +105,11 @@ Ends s first headers (Err e) = EndsIncomplete s first headers e
 pub record Walks (s : List ℕ) (first : ℕ) (answer : WalkAnswer) : Type 0 where
   pub headers : List (List ℕ)
   pub ends : Ends s first headers answer
+
+-- the walk of a slice from a first number has this answer, and no other
+unfoldable pub IsWalkOf : List ℕ → ℕ → WalkAnswer → Type 0
+IsWalkOf s first answer =
+    Walks s first answer × ((other : WalkAnswer) → Walks s first other → other ≡ answer)
 
 -- The turns of a walk past these headers, where a turn is one test of a number: that of the first
 -- number, and of the number that each header gives.

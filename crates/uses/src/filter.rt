@@ -1,8 +1,8 @@
 //! A packet filter: what a packet is, told from its bytes.
 
 ghost use Rattle.std.specs.Prelude.{ℕ, ◌↔◌, List, IfErr, IfNone, IfOk, IfSome, IsFalse, IsTrue};
-ghost use Rattle.etherparse.specs.Ipv4Header.{HasIpv4Layout, RefusesIpv4};
-ghost use Rattle.etherparse.specs.Ipv6Header.{IsIpv6Layout, RefusesIpv6};
+ghost use Rattle.etherparse.specs.Ipv4Header.{HasIpv4Layout, OfIpv4Header, RefusesIpv4};
+ghost use Rattle.etherparse.specs.Ipv6Header.{IsIpv6Layout, OfIpv6Header, RefusesIpv6};
 ghost use Rattle.etherparse.specs.Reading.{BeginsWith};
 ghost use Rattle.etherparse.specs.declared.err.ipv4.HeaderSliceError.{HeaderSliceError as Error4};
 ghost use Rattle.etherparse.specs.declared.err.ipv6.HeaderSliceError.{HeaderSliceError as Error6};
@@ -27,6 +27,14 @@ pub fn udp_port(packet: &[u8]) -> Result<Option<u16>, HeaderSliceError>
     Ok(Some(u16::from_be_bytes([rest[2], rest[3]])))
 }
 
+/// Whether the IPv4 header of a view has this DSCP and destination.
+pub fn is_ipv4_view_for(view: &Ipv4HeaderSlice, dscp: IpDscp, destination: [u8; 4]) -> bool
+    ensures header { OfIpv4Header view.now.slice.now (λ header.
+        IsTrue result ↔ IsIpv4For dscp destination header) }
+{
+    (view.dcp(), view.destination()) == (dscp, destination)
+}
+
 /// Whether a packet begins with an IPv4 header of this DSCP and destination.
 pub fn is_ipv4_marked_for(packet: &[u8], dscp: IpDscp, destination: [u8; 4]) -> bool
     ensures header { (header : Header4) → (rest : List ℕ) →
@@ -34,10 +42,15 @@ pub fn is_ipv4_marked_for(packet: &[u8], dscp: IpDscp, destination: [u8; 4]) -> 
         (IsTrue result ↔ IsIpv4For dscp destination header) }
     ensures refused { (e : Error4) → RefusesIpv4 packet.now e → IsFalse result }
 {
-    match Ipv4HeaderSlice::from_slice(packet) {
-        Ok(view) => view.dcp() == dscp && view.destination() == destination,
-        Err(_) => false,
-    }
+    Ipv4HeaderSlice::from_slice(packet).is_ok_and(|view| is_ipv4_view_for(&view, dscp, destination))
+}
+
+/// Whether the IPv6 header of a view has this DSCP and destination.
+pub fn is_ipv6_view_for(view: &Ipv6HeaderSlice, dscp: IpDscp, destination: [u8; 16]) -> bool
+    ensures header { OfIpv6Header view.now.slice.now (λ header.
+        IsTrue result ↔ IsIpv6For dscp destination header) }
+{
+    (view.dscp(), view.destination()) == (dscp, destination)
 }
 
 /// Whether a packet begins with an IPv6 header of this DSCP and destination.
@@ -47,8 +60,5 @@ pub fn is_ipv6_marked_for(packet: &[u8], dscp: IpDscp, destination: [u8; 16]) ->
         (IsTrue result ↔ IsIpv6For dscp destination header) }
     ensures refused { (e : Error6) → RefusesIpv6 packet.now e → IsFalse result }
 {
-    match Ipv6HeaderSlice::from_slice(packet) {
-        Ok(view) => view.dscp() == dscp && view.destination() == destination,
-        Err(_) => false,
-    }
+    Ipv6HeaderSlice::from_slice(packet).is_ok_and(|view| is_ipv6_view_for(&view, dscp, destination))
 }

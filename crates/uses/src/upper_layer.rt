@@ -1,7 +1,7 @@
 //! A filter on IPv6 packets: the upper layer, past any extension headers.
 
 ghost use Rattle.std.specs.Prelude.{◌≡◌, ◌↔◌, IfErr, IfNone, IfOk, IfSome, IsTrue, length};
-ghost use Rattle.etherparse.specs.ExtensionHeaderChain.{WalkAnswer, Walks, number_and_rest};
+ghost use Rattle.etherparse.specs.ExtensionHeaderChain.{IsWalkOf, number_and_rest};
 ghost use Rattle.etherparse.specs.WordSums.{ones_complement_sum};
 ghost use Rattle.uses.specs.UpperLayer.{HasNoUdp, HasUdp, HasUpperLayer, RefusesUpperLayer, udp_pieces};
 
@@ -71,9 +71,7 @@ fn sums_to_all_ones(header: &Ipv6Header, len: u32, datagram: &[u8]) -> bool
 
 /// The walk past all extension headers, one skip at a time.
 pub fn walked_by_skips(slice: &[u8], first: IpNumber) -> Result<(IpNumber, &[u8]), LenError>
-    ensures walks { Walks slice.now first (number_and_rest result) }
-    ensures only { (other : WalkAnswer) → Walks slice.now first other →
-        other ≡ number_and_rest result }
+    ensures walk { IsWalkOf slice.now first (number_and_rest result) }
 {
     let mut number = first;
     let mut rest = slice;

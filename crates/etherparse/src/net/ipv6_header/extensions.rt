@@ -29,9 +29,10 @@ const HOST_IDENTITY: u8 = 139;
 const SHIM6: u8 = 140;
 
 impl Ipv6Header {
-    ghost use Rattle.std.specs.Prelude.{ℕ, ◌≡◌, ◌+◌, ◌/◌, ◌<◌, ◌≤◌, ◌↔◌, List, Ok, Err, IfErr, IfOk, IsOk, IsTrue, drop, length};
+    ghost use Rattle.std.specs.Prelude.{ℕ, ◌≡◌, ◌+◌, ◌/◌, ◌<◌, ◌≤◌, ◌↔◌, ◌-◌, List, Ok, Err, IfErr, IfOk, IsFalse, IsOk, IsTrue, drop, length};
+    ghost use Rattle.etherparse_base.specs.LenError.{len_error_moved};
     ghost use Rattle.etherparse_fields.specs.ExtensionHeaders.{IsSkippable};
-    ghost use Rattle.etherparse.specs.ExtensionHeaderChain.{Ends, WalkAnswer, Walks, incomplete_header_error};
+    ghost use Rattle.etherparse.specs.ExtensionHeaderChain.{Ends, FollowsChain, IsWalkOf, WalkAnswer, Walks, incomplete_header_error};
     ghost use Rattle.etherparse.specs.ExtensionHeaderChain.{next_header_of, number_and_rest, required_len_of, turn_count};
 
     /// Skips the extension header of a number at the front of a slice: the number of what follows it, and all the bytes
@@ -58,6 +59,14 @@ impl Ipv6Header {
         ensures refused { IsSkippable next_header →
             length slice.now < required_len_of next_header slice.now → number_and_rest result
             ≡ Err (incomplete_header_error next_header slice.now 0) }
+
+        // For callers that skip one header after another: a chain before this slice goes on, or the walk of the whole ends.
+        ensures goes_on { (s : List ℕ) → (first : ℕ) → FollowsChain s first next_header slice.now →
+            IfOk result (λ x. FollowsChain s first x.0 x.1.now) }
+        ensures ends { (s : List ℕ) → (first : ℕ) → FollowsChain s first next_header slice.now →
+            IfErr result (λ e.
+            IsWalkOf s first (Err (len_error_moved (length s - length slice.now) e))) }
+        ensures at_front { IfErr result (λ e. e.layer_start_offset ≡ 0) }
     {
         let len = match next_header.0 {
             FRAGMENT => 8,
@@ -82,6 +91,11 @@ impl Ipv6Header {
     /// An encapsulating security payload (50) and headers for experiments (253, 254) can not.
     pub fn is_skippable_header_extension(ip_protocol_number: IpNumber) -> bool
         ensures value { IsTrue result ↔ IsSkippable ip_protocol_number }
+
+        // The walk of a slice ends where a number that can not be skipped follows a chain.
+        ensures ends { (s : List ℕ) → (first : ℕ) → (rest : List ℕ) →
+            FollowsChain s first ip_protocol_number rest →
+            IsFalse result → IsWalkOf s first (Ok (ip_protocol_number, rest)) }
     {
         matches!(
             ip_protocol_number.0,

@@ -1,8 +1,5 @@
-use Rattle.std.proofs.Common.{rules}
+use Rattle.std.proofs.Common.{arith}
 use Rattle.uses.proofs.filter.is_ipv4_marked_for.Goals as goal
 
-pub returns-then-eq-clause-header : goal.returns-then-eq-clause-header
-returns-then-eq-clause-header c = λ h r b. let l = c.in-Ok.ensures.shows h r b in search (rules, c.dcp.ensures.value h l, c.destination.ensures.value h l)
-
-pub returns-else-eq-clause-header : goal.returns-else-eq-clause-header
-returns-else-eq-clause-header c = λ h r b. let l = c.in-Ok.ensures.shows h r b in search (rules, c.dcp.ensures.value h l)
+pub returns-clause-header : goal.returns-clause-header
+returns-clause-header c = λ h r b. grind (arith, c.from_slice.ensures.shows h r b)

@@ -1,9 +1,9 @@
-use Rattle.std.proofs.Common.{ℕ, List, length}
-use Rattle.etherparse.specs.ExtensionHeaderChain.{BeginsWithChain}
+use Rattle.std.proofs.Common.{length}
+use Rattle.etherparse.specs.ExtensionHeaderChain.{FollowsChain}
 use Rattle.uses.proofs.upper_layer.walked_by_skips.Given as goal
 
 abbrev pub invariant-skips : goal.invariant-skips
-invariant-skips l = (headers : List (List ℕ)) × BeginsWithChain l.fn.slice l.fn.first headers l.number l.rest
+invariant-skips l = FollowsChain l.fn.slice l.fn.first l.number l.rest
 
 abbrev pub decreases-skips : goal.decreases-skips
 decreases-skips l = length l.rest
