@@ -136,6 +136,40 @@ pub(crate) fn ipv6_descending() -> Ipv6Header {
     }
 }
 
+/// What becomes of a slice that is read.
+#[derive(Clone, Copy, Debug, PartialEq, Eq)]
+pub(crate) enum Outcome {
+    TooShort,
+    OtherVersion,
+    SmallIhl,
+    ShorterThanIhl,
+    Header,
+}
+
+/// A row of a table of reading: the least and the greatest length, the least and the greatest first byte, what becomes of a
+/// slice of such a length that begins with such a byte, and how many bytes are needed of it.
+pub(crate) type Row = (usize, usize, u8, u8, Outcome, usize);
+
+/// What a table says of a slice of a length and a first byte.
+pub(crate) fn outcome_of(table: &[Row], len: usize, first: u8) -> Option<(Outcome, usize)> {
+    for (least, most, low, high, outcome, needed) in table {
+        if *least <= len && len <= *most && *low <= first && first <= *high {
+            return Some((*outcome, *needed));
+        }
+    }
+    None
+}
+
+/// Asserts how often each outcome came.
+pub(crate) fn assert_counts(rt: &impl Abort, outcomes: &[Outcome], counts: &[(Outcome, usize)]) {
+    for (outcome, count) in counts {
+        assert_eq!(rt;
+            outcomes.iter().filter(|it| **it == *outcome).count(),
+            *count
+        );
+    }
+}
+
 /// The error of a slice that is too short for a header.
 pub(crate) fn too_short(layer: Layer, required_len: usize, len: usize) -> LenError {
     LenError {

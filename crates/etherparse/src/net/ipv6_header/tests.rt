@@ -2,8 +2,8 @@ use super::*;
 use crate::err::Layer;
 use crate::err::ipv6::HeaderError;
 use crate::testing::{
-    IPV6_ASCENDING, IPV6_DESCENDING, assert_debug_prints, ipv6_ascending, ipv6_descending,
-    too_short,
+    IPV6_ASCENDING, IPV6_DESCENDING, Outcome, Row, assert_counts, assert_debug_prints,
+    ipv6_ascending, ipv6_descending, outcome_of, too_short,
 };
 use std::process::Abort;
 use std::test::Fail;
@@ -78,6 +78,61 @@ fn the_length_is_tested_before_the_version(rt: HostRuntime) {
     }
     let error = HeaderSliceError::Content(HeaderError::UnexpectedVersion { version_number: 4 });
     assert_refuses(&rt, &bytes, &error);
+}
+
+// The reading of a slice by its length and its first byte (RFC 8200 section 3).
+const READING: [Row; 4] = [
+    (0, 39, 0x00, 0xff, Outcome::TooShort, 40),
+    (40, 60, 0x00, 0x5f, Outcome::OtherVersion, 40),
+    (40, 60, 0x60, 0x6f, Outcome::Header, 40),
+    (40, 60, 0x70, 0xff, Outcome::OtherVersion, 40),
+];
+
+// The error of a slice that is refused.
+fn refusal(outcome: Outcome, needed: usize, len: usize, first: u8) -> HeaderSliceError {
+    match outcome {
+        Outcome::OtherVersion => HeaderSliceError::Content(HeaderError::UnexpectedVersion {
+            version_number: first / 16,
+        }),
+        _ => HeaderSliceError::Len(too_short(Layer::Ipv6Header, needed, len)),
+    }
+}
+
+// That a slice begins with a header of this length, which is written back.
+fn assert_reads_and_writes(rt: &impl Abort, slice: &[u8], header_len: usize) {
+    let view = Ipv6HeaderSlice::from_slice(slice).expect(rt, "a view in front");
+    let front = view.slice();
+    assert_eq!(rt; Some(front), slice.get(..header_len));
+    let header = view.to_header();
+    let rest = slice.get(header_len..).expect(rt, "bytes after the header");
+    assert_reads(rt, slice, &header, rest);
+    assert_eq!(rt; header.to_bytes().as_slice(), front);
+}
+
+#[test]
+fn each_first_byte_is_read_or_refused_at_each_length(rt: HostRuntime) -> Result<(), Fail> {
+    let mut outcomes = Vec::new(rt.alloc());
+    for first in 0..=255u8 {
+        let mut bytes = [0xa5; 60];
+        bytes[0] = first;
+        for len in 0..=60 {
+            let slice = &bytes[..len];
+            let (outcome, needed) = outcome_of(&READING, len, first).ok_or("no row")?;
+            match outcome {
+                Outcome::Header => assert_reads_and_writes(&rt, slice, needed),
+                _ => assert_refuses(&rt, slice, &refusal(outcome, needed, len, first)),
+            }
+            outcomes.push(outcome)?;
+        }
+    }
+    let counts = [
+        (Outcome::TooShort, 10_240),
+        (Outcome::OtherVersion, 5_040),
+        (Outcome::Header, 336),
+    ];
+    assert_eq!(rt; outcomes.len(), 15_616);
+    assert_counts(&rt, &outcomes, &counts);
+    Ok(())
 }
 
 #[test]
