@@ -1,6 +1,8 @@
+mod failing;
+mod fronts;
+
 use super::*;
 use std::alloc::{AllocError, Global};
-use std::io::ErrorKind;
 use std::process::Abort;
 use std::test::Fail;
 
@@ -159,79 +161,13 @@ const NOT_HEX: &str = "error: input is not hex\n";
 
 const TOO_LONG: &str = "error: input is too long\n";
 
-// A reader that gives at most so many bytes a call, and fails at the call of a number, counted from 1.
-#[derive(Drop)]
-struct Source<'a> {
-    left: &'a [u8],
-    at_most: usize,
-    calls: u64,
-    fails_at: u64,
-}
-
-impl<'a> Source<'a> {
-    fn new(left: &'a [u8], at_most: usize, fails_at: u64) -> Source<'a> {
-        Source {
-            left,
-            at_most,
-            calls: 0,
-            fails_at,
-        }
-    }
-}
-
-impl Read for Source<'_> {
-    fn read(&mut self, buf: &mut [u8]) -> io::Result<usize> {
-        self.calls = self.calls.saturating_add(1);
-        if self.calls == self.fails_at {
-            return Err(io::Error::from(ErrorKind::Other));
-        }
-        let len = self.left.len().min(buf.len()).min(self.at_most);
-        buf[..len].copy_from_slice(&self.left[..len]);
-        self.left = &self.left[len..];
-        Ok(len)
-    }
-}
-
-// A writer that fails at the call of a number, counted from 1.
-#[derive(Drop)]
-struct Sink {
-    taken: Vec<u8>,
-    calls: u64,
-    fails_at: u64,
-}
-
-impl Sink {
-    fn new(alloc: Global, fails_at: u64) -> Sink {
-        Sink {
-            taken: Vec::new(alloc),
-            calls: 0,
-            fails_at,
-        }
-    }
-}
-
-impl Write for Sink {
-    fn write(&mut self, buf: &[u8]) -> io::Result<usize> {
-        self.calls = self.calls.saturating_add(1);
-        if self.calls == self.fails_at {
-            return Err(io::Error::from(ErrorKind::Other));
-        }
-        self.taken.extend_from_slice(buf)?;
-        Ok(buf.len())
-    }
-
-    fn flush(&mut self) -> io::Result<()> {
-        Ok(())
-    }
-}
-
 // Runs on an input, and holds what comes against a status and a text.
 fn expect(rt: &(impl Abort + AllocGlobal), input: &[u8], status: Status, text: &str) {
     let mut reader = input;
-    let mut sink = Sink::new(rt.alloc(), 0);
-    let ended = run(&mut reader, &mut sink);
+    let mut written = Vec::new(rt.alloc());
+    let ended = run(&mut reader, &mut written);
     assert_eq!(rt; ended, status, "for {text}");
-    assert_eq!(rt; sink.taken.as_slice(), text.as_bytes(), "for {text}");
+    assert_eq!(rt; written.as_slice(), text.as_bytes(), "for {text}");
 }
 
 // The same byte many times.
@@ -405,93 +341,6 @@ fn input_of_65536_bytes_is_taken_and_no_more(rt: HostRuntime) -> Result<(), Fail
         Status::BadInput,
         TOO_LONG,
     );
-    Ok(())
-}
-
-#[test]
-fn reading_stops_where_the_input_is_too_long(rt: HostRuntime) -> Result<(), Fail> {
-    let letters = repeated(rt.alloc(), b'g', 4608)?;
-    // Pieces are of 512 bytes, though the reader would give more.
-    let mut source = Source::new(letters.as_slice(), usize::MAX, 10);
-    let mut sink = Sink::new(rt.alloc(), 0);
-    assert_eq!(rt; run(&mut source, &mut sink), Status::BadInput);
-    assert_eq!(rt; sink.taken.as_slice(), TOO_LONG.as_bytes());
-    assert_eq!(rt; source.calls, 9);
-    Ok(())
-}
-
-#[test]
-fn a_reader_of_one_byte_a_call_changes_nothing(rt: HostRuntime) {
-    for (input, status, lines) in [
-        (IPV6, Status::Done, IPV6_LINES),
-        (INCOMPLETE, Status::Refused, INCOMPLETE_LINES),
-        (IPV4, Status::Done, IPV4_LINES),
-        (OPTIONS, Status::Done, OPTIONS_LINES),
-    ] {
-        let mut source = Source::new(input.as_bytes(), 1, 0);
-        let mut sink = Sink::new(rt.alloc(), 0);
-        assert_eq!(rt; run(&mut source, &mut sink), status);
-        assert_eq!(rt; sink.taken.as_slice(), lines.as_bytes());
-    }
-}
-
-#[test]
-fn a_failing_read_ends_the_run(rt: HostRuntime) {
-    // One read gives all of the input, and one more says that it is at its end.
-    for (fails_at, status, lines) in [
-        (1, Status::Failed, ""),
-        (2, Status::Failed, ""),
-        (3, Status::Done, IPV6_LINES),
-    ] {
-        let mut source = Source::new(IPV6.as_bytes(), usize::MAX, fails_at);
-        let mut sink = Sink::new(rt.alloc(), 0);
-        assert_eq!(rt; run(&mut source, &mut sink), status);
-        assert_eq!(rt; sink.taken.as_slice(), lines.as_bytes());
-    }
-}
-
-// Makes each write of a run fail in turn: nothing is written after it, and what was taken by then begins the full text.
-fn expect_each_write_ends_it(
-    rt: &(impl Abort + AllocGlobal),
-    input: &[u8],
-    status: Status,
-    text: &str,
-) {
-    let mut failed = 0u64;
-    for fails_at in 1..200 {
-        let mut reader = input;
-        let mut sink = Sink::new(rt.alloc(), fails_at);
-        let ended = run(&mut reader, &mut sink);
-        if sink.calls < fails_at {
-            assert_eq!(rt; ended, status, "for {text}");
-            assert_eq!(rt; sink.taken.as_slice(), text.as_bytes());
-            assert!(rt; failed > 0, "no write was seen to fail");
-            return;
-        }
-        failed = fails_at;
-        assert_eq!(rt; ended, Status::Failed, "for {text}");
-        assert_eq!(rt; sink.calls, fails_at, "for {text}");
-        assert!(rt; text.as_bytes().starts_with(sink.taken.as_slice()));
-    }
-    panic!(rt; "no run met no failure");
-}
-
-#[test]
-fn a_failing_write_ends_the_run(rt: HostRuntime) -> Result<(), Fail> {
-    expect_each_write_ends_it(&rt, IPV6.as_bytes(), Status::Done, IPV6_LINES);
-    expect_each_write_ends_it(&rt, IPV4.as_bytes(), Status::Done, IPV4_LINES);
-    expect_each_write_ends_it(&rt, OPTIONS.as_bytes(), Status::Done, OPTIONS_LINES);
-    expect_each_write_ends_it(
-        &rt,
-        INCOMPLETE.as_bytes(),
-        Status::Refused,
-        INCOMPLETE_LINES,
-    );
-    expect_each_write_ends_it(&rt, b"", Status::Refused, NO_BYTES);
-    expect_each_write_ends_it(&rt, b"60", Status::Refused, ONE_BYTE_OF_IPV6);
-    expect_each_write_ends_it(&rt, b"6g", Status::BadInput, NOT_HEX);
-    let letters = repeated(rt.alloc(), b'g', 4097)?;
-    expect_each_write_ends_it(&rt, letters.as_slice(), Status::BadInput, TOO_LONG);
     Ok(())
 }
 

@@ -1,0 +1,248 @@
+//! Readers and writers that hand over little at a time, fail at a chosen call, or never end. They watch how they are called.
+
+use super::*;
+use std::io::ErrorKind;
+
+// A reader that gives at most so many bytes a call, and fails at the call of a number, counted from 1.
+#[derive(Drop)]
+struct Source<'a> {
+    left: &'a [u8],
+    at_most: usize,
+    fails_at: u64,
+    kind: ErrorKind,
+    calls: u64,
+    // A call failed, or said that the input is at its end.
+    is_over: bool,
+    // A call came after that, or was not for 512 bytes.
+    is_misused: bool,
+}
+
+impl<'a> Source<'a> {
+    fn new(left: &'a [u8], at_most: usize) -> Source<'a> {
+        Source::failing(left, at_most, 0, ErrorKind::Other)
+    }
+
+    fn failing(left: &'a [u8], at_most: usize, fails_at: u64, kind: ErrorKind) -> Source<'a> {
+        Source {
+            left,
+            at_most,
+            fails_at,
+            kind,
+            calls: 0,
+            is_over: false,
+            is_misused: false,
+        }
+    }
+}
+
+impl Read for Source<'_> {
+    fn read(&mut self, buf: &mut [u8]) -> io::Result<usize> {
+        self.is_misused = self.is_misused || self.is_over || buf.len() != 512;
+        self.calls = self.calls.saturating_add(1);
+        if self.calls == self.fails_at {
+            self.is_over = true;
+            return Err(io::Error::from(self.kind));
+        }
+        let len = self.left.len().min(buf.len()).min(self.at_most);
+        buf[..len].copy_from_slice(&self.left[..len]);
+        self.left = &self.left[len..];
+        self.is_over = len == 0;
+        Ok(len)
+    }
+}
+
+// A writer that takes at most so many bytes a call, and fails at the call of a number, counted from 1: by an error, or by
+// taking nothing where that is to be `WriteZero`.
+#[derive(Drop)]
+struct Sink {
+    taken: Vec<u8>,
+    at_most: usize,
+    fails_at: u64,
+    kind: ErrorKind,
+    calls: u64,
+}
+
+impl Sink {
+    fn failing(alloc: Global, at_most: usize, fails_at: u64, kind: ErrorKind) -> Sink {
+        Sink {
+            taken: Vec::new(alloc),
+            at_most,
+            fails_at,
+            kind,
+            calls: 0,
+        }
+    }
+}
+
+impl Write for Sink {
+    fn write(&mut self, buf: &[u8]) -> io::Result<usize> {
+        self.calls = self.calls.saturating_add(1);
+        if self.calls == self.fails_at {
+            return match self.kind {
+                ErrorKind::WriteZero => Ok(0),
+                kind => Err(io::Error::from(kind)),
+            };
+        }
+        let len = buf.len().min(self.at_most);
+        self.taken.extend_from_slice(&buf[..len])?;
+        Ok(len)
+    }
+
+    fn flush(&mut self) -> io::Result<()> {
+        Ok(())
+    }
+}
+
+// Runs over a reader, and holds against what is wanted the number of calls, the status and the text.
+fn expect_from(
+    rt: &(impl Abort + AllocGlobal),
+    mut source: Source,
+    calls: u64,
+    status: Status,
+    text: &str,
+) {
+    let mut written = Vec::new(rt.alloc());
+    let ended = run(&mut source, &mut written);
+    assert_eq!(rt; ended, status, "after {calls} calls, for {text}");
+    assert_eq!(rt; written.as_slice(), text.as_bytes());
+    assert_eq!(rt; source.calls, calls, "calls, for {text}");
+    assert!(rt;
+        !source.is_misused,
+        "a call after the last, or not for 512 bytes, for {text}"
+    );
+}
+
+// Makes each read of a run fail in turn: it is the last one, and nothing is printed. The one after the last is not made.
+fn expect_each_read_ends_it(
+    rt: &(impl Abort + AllocGlobal),
+    input: &[u8],
+    reads: u64,
+    status: Status,
+    text: &str,
+) {
+    for kind in [
+        ErrorKind::Other,
+        ErrorKind::Interrupted,
+        ErrorKind::UnexpectedEof,
+    ] {
+        for fails_at in 1..=reads {
+            let source = Source::failing(input, usize::MAX, fails_at, kind);
+            expect_from(rt, source, fails_at, Status::Failed, "");
+        }
+        let source = Source::failing(input, usize::MAX, reads.saturating_add(1), kind);
+        expect_from(rt, source, reads, status, text);
+    }
+}
+
+#[test]
+fn a_read_that_fails_ends_the_run(rt: HostRuntime) -> Result<(), Fail> {
+    let letters = repeated(rt.alloc(), b'g', 4096)?;
+    let too_many = repeated(rt.alloc(), b'g', 4608)?;
+    let blanks = repeated(rt.alloc(), b' ', 65537)?;
+    // One read says that the input is at its end, unless it got too long before that.
+    for (input, reads, status, text) in [
+        (b"".as_slice(), 1, Status::Refused, NO_BYTES),
+        (IPV6.as_bytes(), 2, Status::Done, IPV6_LINES),
+        (INCOMPLETE.as_bytes(), 2, Status::Refused, INCOMPLETE_LINES),
+        (letters.as_slice(), 9, Status::BadInput, NOT_HEX),
+        (too_many.as_slice(), 9, Status::BadInput, TOO_LONG),
+        (blanks.as_slice(), 129, Status::BadInput, TOO_LONG),
+    ] {
+        expect_each_read_ends_it(&rt, input, reads, status, text);
+    }
+    Ok(())
+}
+
+#[test]
+fn a_reader_of_one_byte_a_call_changes_nothing(rt: HostRuntime) {
+    for (input, reads, status, text) in [
+        (IPV6, 90, Status::Done, IPV6_LINES),
+        (INCOMPLETE, 115, Status::Refused, INCOMPLETE_LINES),
+        (IPV4, 45, Status::Done, IPV4_LINES),
+        (OPTIONS, 57, Status::Done, OPTIONS_LINES),
+    ] {
+        expect_from(&rt, Source::new(input.as_bytes(), 1), reads, status, text);
+    }
+}
+
+#[test]
+fn input_without_an_end_is_too_long(rt: HostRuntime) {
+    for byte in [b'0', b' '] {
+        let mut written = Vec::new(rt.alloc());
+        assert_eq!(rt; run(&mut io::repeat(byte), &mut written), Status::BadInput);
+        assert_eq!(rt; written.as_slice(), TOO_LONG.as_bytes());
+    }
+}
+
+// Makes each write of a run fail in turn: it is the last one, and what was taken by then begins the full text. One that was
+// interrupted may be tried again, and then all of the text is taken.
+fn expect_each_write_ends_it(
+    rt: &(impl Abort + AllocGlobal),
+    input: &[u8],
+    at_most: usize,
+    kind: ErrorKind,
+    status: Status,
+    text: &str,
+) {
+    for fails_at in 1..1000 {
+        let mut reader = input;
+        let mut sink = Sink::failing(rt.alloc(), at_most, fails_at, kind);
+        let ended = run(&mut reader, &mut sink);
+        let taken = sink.taken.as_slice();
+        let is_whole = ended == status && taken == text.as_bytes();
+        if sink.calls < fails_at {
+            assert!(rt; is_whole, "with no failure, for {text}");
+            return;
+        }
+        let is_cut = ended == Status::Failed && sink.calls == fails_at;
+        if is_cut {
+            assert!(rt;
+                text.as_bytes().starts_with(taken),
+                "at write {fails_at}, for {text}"
+            );
+        } else {
+            assert!(rt;
+                is_whole && kind == ErrorKind::Interrupted,
+                "at write {fails_at}, for {text}"
+            );
+        }
+    }
+    panic!(rt; "no run met no failure");
+}
+
+// Makes them fail in three ways, over a writer that takes all it is handed and one that takes one byte a call.
+fn expect_writes_that_fail(
+    rt: &(impl Abort + AllocGlobal),
+    input: &[u8],
+    status: Status,
+    text: &str,
+) {
+    for (kind, at_most) in [
+        (ErrorKind::Other, usize::MAX),
+        (ErrorKind::Other, 1),
+        (ErrorKind::Interrupted, usize::MAX),
+        (ErrorKind::Interrupted, 1),
+        (ErrorKind::WriteZero, usize::MAX),
+        (ErrorKind::WriteZero, 1),
+    ] {
+        expect_each_write_ends_it(rt, input, at_most, kind, status, text);
+    }
+}
+
+#[test]
+fn a_write_that_fails_ends_the_run(rt: HostRuntime) -> Result<(), Fail> {
+    let letters = repeated(rt.alloc(), b'g', 4097)?;
+    for (input, status, text) in [
+        (IPV6.as_bytes(), Status::Done, IPV6_LINES),
+        (IPV4.as_bytes(), Status::Done, IPV4_LINES),
+        (OPTIONS.as_bytes(), Status::Done, OPTIONS_LINES),
+        (INCOMPLETE.as_bytes(), Status::Refused, INCOMPLETE_LINES),
+        (b"".as_slice(), Status::Refused, NO_BYTES),
+        (b"60".as_slice(), Status::Refused, ONE_BYTE_OF_IPV6),
+        (b"6g".as_slice(), Status::BadInput, NOT_HEX),
+        (letters.as_slice(), Status::BadInput, TOO_LONG),
+    ] {
+        expect_writes_that_fail(&rt, input, status, text);
+    }
+    Ok(())
+}
