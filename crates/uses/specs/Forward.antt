@@ -1,8 +1,11 @@
 -- What a forwarder does to a packet.
-use Rattle.std.specs.Prelude.{ℕ, ◌-◌, ◌<◌, ◌≤◌, List, Ok, ◌++◌}
+use Rattle.std.specs.Prelude.{ℕ, ◌≡◌, ◌+◌, ◌-◌, ◌*◌, ◌^◌, ◌<◌, ◌≤◌, ◌↔◌, List, Ok, ◌++◌}
+use Rattle.etherparse.specs.HeaderChecksum.{IsWrittenInPlace, with_time_to_live_and_checksum}
 use Rattle.etherparse.specs.Ipv4Header.{HasIpv4Layout, IsIpv4Layout, ReadsIpv4}
+use Rattle.etherparse.specs.Ipv4Header.{with_reserved_bit_cleared}
 use Rattle.etherparse.specs.Ipv6Header.{IsIpv6Layout, ReadsIpv6}
 use Rattle.etherparse.specs.Reading.{BeginsWith}
+use Rattle.etherparse.specs.WordSums.{SumsToAllOnes, updated_checksum}
 use Rattle.etherparse.specs.declared.net.ipv4_header.Ipv4Header.{Ipv4Header}
 use Rattle.etherparse.specs.declared.net.ipv6_header.Ipv6Header.{Ipv6Header}
 
@@ -39,3 +42,36 @@ pub record IsLastIpv6Hop (packet : List ℕ) : Type 0 where
   pub rest : List ℕ
   pub begins : BeginsWith IsIpv6Layout packet header rest
   pub last : header.hop_limit ≤ 1
+
+-- the header with one hop less, its checksum updated for that alone (RFC 1624 section 3, equation 3)
+abbrev pub with_one_hop_less : Ipv4Header → Ipv4Header
+with_one_hop_less header = record header {
+  time_to_live = header.time_to_live - 1;
+  header_checksum = updated_checksum header.header_checksum
+      (header.time_to_live * 2 ^ 8 + header.protocol)
+      ((header.time_to_live - 1) * 2 ^ 8 + header.protocol);
+}
+
+-- The packet goes on as these bytes and the rest: the header with one hop less, written again, so
+-- with the reserved bit 0. The bytes sum to all ones exactly where those that came did, once their
+-- reserved bit was cleared.
+pub record IsForwardedIpv4 (packet sent rest : List ℕ) : Type 0 where
+  pub header : Ipv4Header
+  pub begins : BeginsWith HasIpv4Layout packet header rest
+  pub may_go_on : 1 < header.time_to_live
+  pub next : Ipv4Header
+  pub set : next ≡ with_one_hop_less header
+  pub written : IsIpv4Layout next 0 sent
+  pub right : SumsToAllOnes (with_reserved_bit_cleared begins.front) ↔ SumsToAllOnes sent
+
+-- The packet goes on with bytes 8, 10 and 11 changed, and no other, to those of the header with one
+-- hop less. The header's bytes sum to all ones exactly where they did.
+pub record IsForwardedInPlace (packet sent : List ℕ) : Type 0 where
+  pub header : Ipv4Header
+  pub rest : List ℕ
+  pub begins : BeginsWith HasIpv4Layout packet header rest
+  pub may_go_on : 1 < header.time_to_live
+  pub next : Ipv4Header
+  pub set : next ≡ with_one_hop_less header
+  pub changed : sent ≡ with_time_to_live_and_checksum next.time_to_live next.header_checksum packet
+  pub written : IsWrittenInPlace packet next rest

@@ -1,12 +1,14 @@
 //! A forwarder: headers that are read, changed and written.
 
-ghost use Rattle.std.specs.Prelude.{ℕ, ◌≡◌, ◌+◌, List, ◌++◌, length, IfErr, IfNone, IfOk, IfSome};
+ghost use Rattle.std.specs.Prelude.{ℕ, ◌≡◌, ◌+◌, List, ◌++◌, length, IfErr, IfNone, IfOk, IfSome, OnErr};
+ghost use Rattle.std.specs.Bool.{OnFalse, OnTrue};
 ghost use Rattle.etherparse.specs.Ipv4Header.{HasIpv4Layout, RefusesIpv4, with_reserved_bit_cleared};
 ghost use Rattle.etherparse.specs.Ipv6Header.{IsIpv6Layout, RefusesIpv6};
 ghost use Rattle.etherparse.specs.Reading.{BeginsWith};
 ghost use Rattle.etherparse.specs.TrafficClass.{traffic_class_dscp, traffic_class_of};
 ghost use Rattle.etherparse.specs.declared.net.ipv4_header.Ipv4Header.{Ipv4Header as Header4};
 ghost use Rattle.etherparse.specs.declared.net.ipv6_header.Ipv6Header.{Ipv6Header as Header6};
+ghost use Rattle.uses.specs.Forward.{IsForwardedInPlace, IsForwardedIpv4};
 ghost use Rattle.uses.specs.Forward.{IsLastIpv4Hop, IsLastIpv6Hop, IsNextIpv4Hop, IsNextIpv6Hop};
 
 use arrayvec::ArrayVec;
@@ -14,7 +16,7 @@ use etherparse::err::{ipv4, ipv6};
 use etherparse::{IpDscp, IpEcn, Ipv4Header, Ipv6Header};
 
 /// The header of an IPv4 packet with one hop less to go, or `None` where it may go no further. The checksum is still the
-/// one that was read: it has to be computed anew before the header is sent.
+/// one that was read: it has to be computed anew before the header is sent, or updated as [`ipv4_forwarded`] does.
 pub fn ipv4_next_hop(packet: &[u8]) -> Result<Option<ArrayVec<u8, 60>>, ipv4::HeaderSliceError>
     ensures next { IfOk result (λ sent. IfSome sent (λ bytes. IsNextIpv4Hop packet.now bytes.items)) }
     ensures last { IfOk result (λ sent. IfNone sent (IsLastIpv4Hop packet.now)) }
@@ -26,6 +28,49 @@ pub fn ipv4_next_hop(packet: &[u8]) -> Result<Option<ArrayVec<u8, 60>>, ipv4::He
     }
     header.time_to_live -= 1;
     Ok(Some(header.to_bytes()))
+}
+
+/// An IPv4 packet with one hop less to go: the bytes of its header, written again with the checksum updated, and what
+/// follows it; `None` where it may go no further. What is written has the reserved bit 0, so the checksum is right exactly
+/// where it was for the header with that bit cleared.
+pub fn ipv4_forwarded(
+    packet: &[u8],
+) -> Result<Option<(ArrayVec<u8, 60>, &[u8])>, ipv4::HeaderSliceError>
+    ensures next { IfOk result (λ sent. IfSome sent (λ x.
+        IsForwardedIpv4 packet.now x.0.items x.1.now)) }
+    ensures last { IfOk result (λ sent. IfNone sent (IsLastIpv4Hop packet.now)) }
+    ensures refused { IfErr result (RefusesIpv4 packet.now) }
+{
+    let (mut header, rest) = Ipv4Header::from_slice(packet)?;
+    let time_to_live = header.time_to_live;
+    if time_to_live <= 1 {
+        return Ok(None);
+    }
+    header.set_time_to_live(time_to_live - 1);
+    Ok(Some((header.to_bytes(), rest)))
+}
+
+/// Takes one hop from an IPv4 packet in place, in bytes 8, 10 and 11 alone; `false` where it may go no further. The reserved
+/// bit stays, so the checksum is right exactly where it was. A packet that goes no further is as it was.
+pub fn ipv4_forward_in_place(packet: &mut [u8]) -> Result<bool, ipv4::HeaderSliceError>
+    ensures next { IfOk result (λ goes_on.
+        OnTrue goes_on (IsForwardedInPlace packet.old packet.new)) }
+    ensures last { IfOk result (λ goes_on. OnFalse goes_on (IsLastIpv4Hop packet.old)) }
+    ensures kept { IfOk result (λ goes_on. OnFalse goes_on (packet.new ≡ packet.old)) }
+    ensures refused { IfErr result (RefusesIpv4 packet.old) }
+    ensures unchanged { OnErr result (packet.new ≡ packet.old) }
+{
+    let (mut header, _) = Ipv4Header::from_slice(packet)?;
+    let time_to_live = header.time_to_live;
+    if time_to_live <= 1 {
+        return Ok(false);
+    }
+    header.set_time_to_live(time_to_live - 1);
+    let [high, low] = header.header_checksum.to_be_bytes();
+    packet[8] = header.time_to_live;
+    packet[10] = high;
+    packet[11] = low;
+    Ok(true)
 }
 
 /// The header of an IPv6 packet with one hop less to go, or `None` where it may go no further.

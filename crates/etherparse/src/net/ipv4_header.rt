@@ -49,11 +49,11 @@ impl Ipv4Header {
     ghost use Rattle.etherparse_base.specs.WordSums.{SumsToAllOnes, updated_checksum};
     ghost use Rattle.etherparse_fields.specs.IpEcn.{ecn_value};
     ghost use Rattle.etherparse_fields.specs.Ipv4Options.{IsOptionsLen};
-    ghost use Rattle.etherparse.specs.HeaderChecksum.{header_checksum_of};
-    ghost use Rattle.etherparse.specs.Ipv4Header.{AgreeButForReservedBit, IsFragment, IsIpv4Layout, Ipv4Reading, OfIpv4Header, ReadsIpv4, ViewsIpv4};
+    ghost use Rattle.etherparse.specs.HeaderChecksum.{IsWrittenInPlace, header_checksum_of};
+    ghost use Rattle.etherparse.specs.Ipv4Header.{AgreeButForReservedBit, HasIpv4Layout, IsFragment, IsIpv4Layout, Ipv4Reading, OfIpv4Header, ReadsIpv4, ViewsIpv4};
     ghost use Rattle.etherparse.specs.Ipv4Header.{default_ipv4_header, ipv4_header_len, ipv4_ihl, ipv4_max_payload_len};
     ghost use Rattle.etherparse.specs.Ipv4Header.{ipv4_payload_len, with_reserved_bit_cleared};
-    ghost use Rattle.etherparse.specs.Reading.{header_and_rest};
+    ghost use Rattle.etherparse.specs.Reading.{BeginsWith, header_and_rest};
     ghost use Rattle.etherparse_base.specs.declared.err.value_type.ValueType.TheVariants as value_type;
 
     /// The length of a header with no options, in bytes.
@@ -341,6 +341,10 @@ impl Ipv4Header {
         ensures all_ones { (reserved : ℕ) (before after : List ℕ)
             → IsIpv4Layout self.old reserved before → IsIpv4Layout self.new reserved after
             → (SumsToAllOnes before ↔ SumsToAllOnes after) }
+
+        // In a packet that is bytes 8, 10 and 11 and no other.
+        ensures in_place { (packet rest : List ℕ) → BeginsWith HasIpv4Layout packet self.old rest
+            → IsWrittenInPlace packet self.new rest }
     {
         let protocol = u8::from(self.protocol);
         self.header_checksum = update_2bytes(

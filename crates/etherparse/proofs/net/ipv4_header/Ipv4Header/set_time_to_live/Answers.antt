@@ -1,6 +1,7 @@
-use Rattle.std.proofs.Common.{◌≡◌, ◌+◌, ◌-◌, ◌∙◌, ap, sym}
+use Rattle.std.proofs.Common.{◌≡◌, ◌+◌, ◌-◌, ◌∙◌, ap, arith, sym}
 use Rattle.etherparse_base.specs.WordSums.{folded_sum, network_order_word_sum}
 use Rattle.etherparse.proofs.HeaderChecksum.{checksum_apart, time_to_live_changes}
+use Rattle.etherparse.proofs.InPlace.{written_in_place}
 use Rattle.etherparse.proofs.net.ipv4_header.Ipv4Header.set_time_to_live.Goals as goal
 
 pub returns-clause-stays_computed : goal.returns-clause-stays_computed
@@ -19,3 +20,7 @@ returns-clause-all_ones c = λ reserved before after k l.
     ∙ c.update_2bytes-self.ensures.received _ changes.within changes.some changes.some_after
     ∙ ap folded_sum (sym (checksum_apart _ reserved before k)) in
     (λ right. same ∙ right, λ right. sym same ∙ right)
+
+pub returns-clause-in_place : goal.returns-clause-in_place
+returns-clause-in_place c =
+    written_in_place c.args.self.now c.args.time_to_live c.update_2bytes-self.result (omega arith) (omega arith) (returns-clause-all_ones c)
