@@ -45,8 +45,9 @@ abbrev pub with_no_zero : ℕ → ℕ
 with_no_zero zero = 65535
 with_no_zero (suc n) = suc n
 
--- The checksum of words of which one was changed: the complement of what the complements of the old
--- checksum and of the old word and the new word sum to (RFC 1624 section 3, equation 3).
+-- The checksum after a change of one word: the complement of the ones-complement sum of the old
+-- checksum's complement, the old word's complement and the new word (RFC 1624 section 3,
+-- equation 3).
 abbrev pub updated_checksum : ℕ → ℕ → ℕ → ℕ
 updated_checksum checksum old new =
     65535 - folded_sum ((65535 - checksum) + (65535 - old) + new)

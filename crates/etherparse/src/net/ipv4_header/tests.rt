@@ -312,7 +312,7 @@ fn both_zeros_sum_to_all_ones_where_zero_is_computed(rt: HostRuntime) {
 }
 
 #[test]
-fn a_time_to_live_is_set_with_the_checksum_and_nothing_else(rt: HostRuntime) -> Result<(), Fail> {
+fn a_time_to_live_is_set_with_the_checksum_and_nothing_else(rt: HostRuntime) {
     let mut header = with_options();
     header.set_time_to_live(16);
     let mut expected = with_options();
@@ -321,7 +321,6 @@ fn a_time_to_live_is_set_with_the_checksum_and_nothing_else(rt: HostRuntime) -> 
     assert_eq!(rt; header, expected);
     header.set_time_to_live(17);
     assert_eq!(rt; header, with_options());
-    Ok(())
 }
 
 #[test]
