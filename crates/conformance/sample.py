@@ -22,6 +22,7 @@ SPACE_MOST = [U64, U64, None, U64]
 LEN_SOURCES = '''Slice MacsecShortLength Ipv4HeaderTotalLen Ipv6HeaderPayloadLen UdpHeaderLen TcpHeaderLen
     ArpAddrLengths'''.split()
 SKIPPABLE = [0, 43, 44, 51, 60, 135, 139, 140]
+TOO_MANY, TOO_MANY_MOST = [32, 60, 256], [U64, U8, U64]
 lines = {}
 
 
@@ -157,6 +158,26 @@ def walks():
             say(operation, chain[:2 * n] or '-', 0)
 
 
+def limited_walks():
+    each = ''.join('%02x' % number + '00' * 7 for number in [*SKIPPABLE[1:], 6])
+    for limit in [*range(10), U64, U64 + 1]:
+        for n in 0, 1, 8, 23, 24, 25, 56, 57, 63, 64:
+            say('walk.limit', each[:2 * n] or '-', 0, limit)
+        for n in 0, 1, 2, 7, 8, 9, 15, 16, 17, 24, 72, 80:
+            say('walk.limit', '00' * n or '-', 0, limit)
+        for number in 59, 50, 253, U8 + 1:
+            for held in '-', '00':
+                say('walk.limit', held, number, limit)
+    for number in SKIPPABLE:
+        for second in 0, 1, 2:
+            header = '3b%02x' % second + '5a' * 24
+            for n in 0, 1, 2, 7, 8, 12, 16, 24, 25:
+                for limit in 0, 1:
+                    say('walk.limit', header[:2 * n] or '-', number, limit)
+        for limit in 0, 1, 2:
+            say('walk.limit', '%02x' % number + '00' * 7 + '11' + '00' * 7 + 'ff', 0, limit)
+
+
 def names():
     for layer in LAYERS:
         say('layer', layer)
@@ -178,8 +199,9 @@ def names():
 
 
 def errors():
-    for front in 'text.len', 'text.v4 len', 'text.v6 len':
+    for front in 'text.len', 'text.v4 len', 'text.v6 len', 'text.chain len':
         each_bound(front, LEN, LEN_MOST)
+    each_bound('text.chain too_many', TOO_MANY, TOO_MANY_MOST)
     for name in 'v4.version', 'v4.ihl', 'v6.version':
         for front in f'text.{name}', 'text.' + name.replace('.', ' '):
             each_bound(front, [4], [U8])
@@ -190,7 +212,7 @@ def errors():
     each_bound('eq.swse', SPACE, SPACE_MOST, back)
     for layer in 'Ipv4Header', 'Ipv6Header':
         say('eq.swse 2 1', layer, 4, back)
-    for operation, kind in ('eq.len', ''), ('eq.v4', 'len'), ('eq.v6', 'len'):
+    for operation, kind in ('eq.len', ''), ('eq.v4', 'len'), ('eq.v6', 'len'), ('eq.chain', 'len'):
         back = ' '.join(map(str, ['/', kind, *LEN] if kind else ['/', *LEN]))
         say(operation, kind, *LEN, back)
         say(operation, kind, 20, 19, 'TcpHeaderLen', 'Ipv4Header', 4, back)
@@ -208,6 +230,9 @@ def errors():
         say('eq.v4 ihl 4 /', other)
     for other in 'version 6', 'version 5', length:
         say('eq.v6 version 6 /', other)
+    for other in 'too_many 32 60 256', length:
+        say('eq.chain too_many 32 60 256 /', other)
+    each_bound('eq.chain too_many', TOO_MANY, TOO_MANY_MOST, '/ too_many 32 60 256')
 
 
 def counted(n):
@@ -253,8 +278,29 @@ def sums():
             say('v4.info', 0, 0, 0, 0x7a00, 1, 0, 0, 0, 255, checksum, '00000000', '00000000', options)
 
 
+def updates():
+    words = 0, 1, U8, U8 + 1, 2**15 - 1, 2**15, U16 - 1, U16
+    for checksum in *words, U16 + 1:
+        for old in words:
+            for new in words:
+                say('upd', checksum, '%04x' % old, '%04x' % new)
+    for old, new in ('-', '0000'), ('0000', '000000'), ('00', '0000'):
+        say('upd 0', old, new)
+    for time in 0, 1, 63, 64, U8, U8 + 1:
+        for checksum in 0, 1, 0x3f, 0x40, 0xb861, U16 - 1, U16:
+            for protocol in 0, 17, U8:
+                for held in 0, 64, U8:
+                    say('v4.set_ttl', time, 0, 0, 115, 0, 1, 0, 0, held, protocol, checksum, 'c0a80001', 'c0a800c7', '-')
+    each_bound('v4.set_ttl 9', H4, H4_MOST)
+
+
 def offsets():
-    for front in 'off.len', 'off.v4', 'off.v6':
+    for offset in 0, 1, 40, U64 - 256, U64 - 255, U64, U64 + 1:
+        say('off.chain', offset, 'too_many', *TOO_MANY)
+    for place in 0, U64 - 1, U64, U64 + 1:
+        say('off.chain 1 too_many 32 0', place)
+    each_bound('off.chain 5 too_many', TOO_MANY, [U64, U8, None])
+    for front in 'off.len', 'off.v4', 'off.v6', 'off.chain':
         kind = [] if front == 'off.len' else ['len']
         for offset in 0, 1, 200, U64 - 4, U64 - 3, U64, U64 + 1:
             say(front, offset, *kind, *LEN)
@@ -270,18 +316,20 @@ for name in 'fields', 'headers', 'dscp', 'known', 'ipnum', 'ip_number', 'layers'
     say('const.' + name)
 for name in 'fields', 'v4', 'v6':
     say('default.' + name)
-for part in fields, known_code_points, options, reads, setters, equal_headers, walks, names, errors, offsets, sums:
+for part in (fields, known_code_points, options, reads, setters, equal_headers, walks, limited_walks, names, errors, offsets,
+             sums, updates):
     part()
 operations = {line.split(' ')[0] for line in lines}
 for no_case in ('', ' ', 'nothing', 'dscp.new', 'dscp.new 1 2', 'dscp.new x', 'dscp.old 1', 'opt', 'opt 4', 'opt 0g',
                 'opt.arr 01', 'layer Nothing', 'layer', 'value_type IpDscp IpDscp', 'text.len 1 2 Slice',
                 'text.too_big u64 1 2 IpDscp', 'text.swse 2 1 Slice Ipv4Header 4', 'off.len 1', 'off.v5 1 version 4',
                 'known', 'known.cmp 8', 'known.new 8', 'v4.eq 1', 'v4.view_eq 45 45', 'v6.view_eq 60 60', 'const.fields 1',
-                'const.nothing', 'default.nothing', 'skip 00', 'skip.all 00 0', 'walk 00 0 0', 'walk.all 00 0', 'ipnum',
+                'const.nothing', 'default.nothing', 'skip 00', 'skip.all 00 0', 'walk 00 0 0', 'walk.all 00 0', 'walk.limit 00 0',
+                'walk.limit 00 0 1 1', 'text.chain version 6', 'upd 0 0000', 'upd.x 0 0000 0000', 'v4.set_ttl 1', 'ipnum',
                 'ipnum.x 0', 'c32.add8 0 00', 'c16.fold 0', 'sum x', 'sum 3:000000', 'sum.eq', 'sum.eq / /'):
     lines[no_case] = None
-# operations of worked examples that the program does not answer, or that the program `iphead` tests by itself
-LEFT_OUT = 'text.chain off.chain eq.chain upd v4.set_ttl walk.limit decode iphead'.split()
+# operations of worked examples that the program `iphead` tests by itself
+LEFT_OUT = 'decode iphead'.split()
 for line in open(sys.argv[1]).read().splitlines():
     operation = line.split(' ')[0]
     if operation in operations:

@@ -45,6 +45,7 @@ fn answer_case(alloc: Global, line: &[u8], answer: &mut String) -> Result<(), Ca
         "c32" => sums::answer_u32(alloc, name, arguments, answer),
         "c64" => sums::answer_u64(alloc, name, arguments, answer),
         "sum" => sums::answer_steps(name, arguments, answer),
+        "upd" => sums::answer_update(name, arguments, answer),
         _ => Err(CaseError::BadLine),
     }
 }

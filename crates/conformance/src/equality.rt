@@ -29,6 +29,11 @@ pub fn answer(name: &str, mut arguments: Arguments, answer: &mut String) -> Resu
             arguments.expect_word("/")?;
             first == arguments.ipv6_error()?
         }
+        "chain" => {
+            let first = arguments.chain_error()?;
+            arguments.expect_word("/")?;
+            first == arguments.chain_error()?
+        }
         "too_big" => are_equal_too_big_errors(&mut arguments)?,
         _ => return Err(CaseError::BadLine),
     };

@@ -19,6 +19,7 @@ pub fn answer(name: &str, arguments: Arguments, answer: &mut String) -> Result<(
         "new" => answer_new(arguments, answer),
         "set_payload_len" => answer_set_payload_len(arguments, answer),
         "set_options" => answer_set_options(arguments, answer),
+        "set_ttl" => answer_set_time_to_live(arguments, answer),
         "eq" => answer_equality(arguments, answer),
         _ => Err(CaseError::BadLine),
     }
@@ -172,6 +173,16 @@ fn answer_set_options(mut arguments: Arguments, answer: &mut String) -> Result<(
         Err(e) => write!(answer, "{}", BadOptions(&e))?,
     }
     write!(answer, " ; {}", Ipv4Fields::of_header(&header))?;
+    Ok(())
+}
+
+// A header with another time to live, and its checksum updated.
+fn answer_set_time_to_live(mut arguments: Arguments, answer: &mut String) -> Result<(), CaseError> {
+    let time_to_live = arguments.number()?;
+    let mut header = arguments.ipv4_header()?;
+    arguments.end()?;
+    header.set_time_to_live(time_to_live);
+    write!(answer, "ok ; {}", Ipv4Fields::of_header(&header))?;
     Ok(())
 }
 

@@ -1,12 +1,11 @@
 //! Errors of what starts further on in a packet.
 
-ghost use Rattle.std.specs.Prelude.{OnOk};
-ghost use Rattle.etherparse.specs.LenError.{HasRoomFor};
+ghost use Rattle.std.specs.Prelude.{◌+◌, ◌^◌, ◌<◌, OnOk};
 
 use crate::arguments::Arguments;
 use crate::case_error::CaseError;
-use crate::shown::{Ipv4Refusal, Ipv6Refusal, Len};
-use etherparse::err::{LenError, ipv4, ipv6};
+use crate::shown::{ChainRefusal, Ipv4Refusal, Ipv6Refusal, Len};
+use etherparse::err::{ipv4, ipv6};
 
 /// The cases `off.NAME OFFSET ERROR`: each makes an error of its arguments and adds the offset to its place.
 pub fn answer(name: &str, mut arguments: Arguments, answer: &mut String) -> Result<(), CaseError> {
@@ -14,7 +13,7 @@ pub fn answer(name: &str, mut arguments: Arguments, answer: &mut String) -> Resu
     match name {
         "len" => {
             let error = arguments.len_error()?;
-            expect_room(offset, &error)?;
+            expect_room(offset, error.layer_start_offset)?;
             write!(answer, "{}", Len(&error.add_offset(offset)))?;
         }
         "v4" => {
@@ -24,6 +23,10 @@ pub fn answer(name: &str, mut arguments: Arguments, answer: &mut String) -> Resu
         "v6" => {
             let moved = moved_ipv6(offset, arguments.ipv6_error()?)?;
             write!(answer, "{}", Ipv6Refusal(&moved))?;
+        }
+        "chain" => {
+            let moved = moved_chain(offset, arguments.chain_error()?)?;
+            write!(answer, "{}", ChainRefusal(&moved))?;
         }
         _ => return Err(CaseError::BadLine),
     }
@@ -36,7 +39,7 @@ fn moved_ipv4(
 ) -> Result<ipv4::HeaderSliceError, CaseError> {
     match error {
         ipv4::HeaderSliceError::Len(e) => {
-            expect_room(offset, &e)?;
+            expect_room(offset, e.layer_start_offset)?;
             Ok(ipv4::HeaderSliceError::Len(e).add_slice_offset(offset))
         }
         ipv4::HeaderSliceError::Content(e) => {
@@ -51,7 +54,7 @@ fn moved_ipv6(
 ) -> Result<ipv6::HeaderSliceError, CaseError> {
     match error {
         ipv6::HeaderSliceError::Len(e) => {
-            expect_room(offset, &e)?;
+            expect_room(offset, e.layer_start_offset)?;
             Ok(ipv6::HeaderSliceError::Len(e).add_slice_offset(offset))
         }
         ipv6::HeaderSliceError::Content(e) => {
@@ -60,11 +63,33 @@ fn moved_ipv6(
     }
 }
 
-// Refuses the case where the place of the error does not fit after the offset is added.
-fn expect_room(offset: usize, error: &LenError) -> Result<(), CaseError>
-    ensures room { OnOk result (HasRoomFor offset error.now) }
+fn moved_chain(offset: usize, error: ipv6::ChainError) -> Result<ipv6::ChainError, CaseError> {
+    match error {
+        ipv6::ChainError::Len(e) => {
+            expect_room(offset, e.layer_start_offset)?;
+            Ok(ipv6::ChainError::Len(e).add_slice_offset(offset))
+        }
+        ipv6::ChainError::TooMany {
+            limit,
+            next_header,
+            layer_start_offset,
+        } => {
+            expect_room(offset, layer_start_offset)?;
+            Ok(ipv6::ChainError::TooMany {
+                limit,
+                next_header,
+                layer_start_offset,
+            }
+            .add_slice_offset(offset))
+        }
+    }
+}
+
+// Refuses the case where the place of an error does not fit after the offset is added.
+fn expect_room(offset: usize, place: usize) -> Result<(), CaseError>
+    ensures room { OnOk result (place + offset < 2 ^ 64) }
 {
-    if offset > usize::MAX - error.layer_start_offset {
+    if offset > usize::MAX - place {
         return Err(CaseError::BadLine);
     }
     Ok(())

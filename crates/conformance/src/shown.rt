@@ -142,6 +142,26 @@ impl Display for Ipv6Refusal<'_> {
     }
 }
 
+/// Why a walk with a limit came to no upper layer.
+#[derive(Drop)]
+pub struct ChainRefusal<'a>(pub &'a ipv6::ChainError);
+
+impl Display for ChainRefusal<'_> {
+    fn fmt<W: fmt::Write>(&self, f: &mut fmt::Formatter<W>) -> fmt::Result {
+        match self.0 {
+            ipv6::ChainError::Len(e) => Len(e).fmt(f),
+            ipv6::ChainError::TooMany {
+                limit,
+                next_header,
+                layer_start_offset,
+            } => write!(
+                f,
+                "err too_many limit={limit} next={next_header} offset={layer_start_offset}"
+            ),
+        }
+    }
+}
+
 /// The fields of an IPv4 header, as the header has them or as a view shows them.
 #[derive(Drop)]
 pub struct Ipv4Fields<'a> {

@@ -2,7 +2,7 @@
 
 use crate::arguments::Arguments;
 use crate::case_error::CaseError;
-use etherparse::checksum::{u32_16bit_word, u64_16bit_word};
+use etherparse::checksum::{u32_16bit_word, u64_16bit_word, update_2bytes};
 use std::alloc::Global;
 
 /// The cases `c32.NAME`: sums in 32 bits.
@@ -80,6 +80,22 @@ pub fn answer_steps(
         ("eq", [first, second]) => write!(answer, "eq={}", first == second)?,
         _ => return Err(CaseError::BadLine),
     }
+    Ok(())
+}
+
+/// `upd CHECKSUM OLD NEW`: a checksum after two bytes of what it covers have changed.
+pub fn answer_update(
+    name: &str,
+    mut arguments: Arguments,
+    answer: &mut String,
+) -> Result<(), CaseError> {
+    let checksum = arguments.number()?;
+    let (old, new) = (arguments.array()?, arguments.array()?);
+    arguments.end()?;
+    if !name.is_empty() {
+        return Err(CaseError::BadLine);
+    }
+    write!(answer, "{}", update_2bytes(checksum, old, new))?;
     Ok(())
 }
 

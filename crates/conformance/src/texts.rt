@@ -25,6 +25,7 @@ pub fn answer(name: &str, mut arguments: Arguments, answer: &mut String) -> Resu
         "v4.ihl" => write_text(arguments.ipv4_ihl_error()?, arguments, answer),
         "v6" => write_text(arguments.ipv6_error()?, arguments, answer),
         "v6.version" => write_text(arguments.ipv6_version_error()?, arguments, answer),
+        "chain" => write_text(arguments.chain_error()?, arguments, answer),
         _ => Err(CaseError::BadLine),
     }
 }

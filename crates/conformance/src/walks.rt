@@ -2,8 +2,9 @@
 
 use crate::arguments::Arguments;
 use crate::case_error::CaseError;
-use crate::shown::{Bytes, Len};
+use crate::shown::{Bytes, ChainRefusal, Len};
 use etherparse::err::LenError;
+use etherparse::err::ipv6::ChainError;
 use etherparse::{IpNumber, Ipv6Header};
 use std::alloc::AllocError;
 
@@ -26,7 +27,7 @@ pub fn answer_skip(
     Ok(())
 }
 
-/// `walk B N` and `walk.counted B N`: all extension headers at the front of a slice.
+/// `walk B N` and `walk.counted B N`: all extension headers at the front of a slice. `walk.limit B N LIMIT`: so many at most.
 pub fn answer_walk(
     name: &str,
     mut arguments: Arguments,
@@ -34,16 +35,23 @@ pub fn answer_walk(
 ) -> Result<(), CaseError> {
     let bytes = arguments.bytes()?;
     let number = arguments.ip_number()?;
-    arguments.end()?;
     match name {
-        "" => write_answer(
-            &Ipv6Header::skip_all_header_extensions_in_slice(&bytes, number),
-            answer,
-        )?,
+        "" => {
+            arguments.end()?;
+            let walked = Ipv6Header::skip_all_header_extensions_in_slice(&bytes, number);
+            write_answer(&walked, answer)?;
+        }
         "counted" => {
+            arguments.end()?;
             let (walked, turns) = Ipv6Header::skip_all_header_extensions_counted(&bytes, number);
             write_answer(&walked, answer)?;
             write!(answer, " turns={turns}")?;
+        }
+        "limit" => {
+            let limit = arguments.number()?;
+            arguments.end()?;
+            let walked = Ipv6Header::skip_header_extensions_up_to(&bytes, number, limit);
+            write_limited_answer(&walked, answer)?;
         }
         _ => return Err(CaseError::BadLine),
     }
@@ -57,5 +65,15 @@ fn write_answer(
     match walked {
         Ok((next, rest)) => write!(answer, "ok next={} rest={}", next.0, Bytes(rest)),
         Err(e) => write!(answer, "{}", Len(e)),
+    }
+}
+
+fn write_limited_answer(
+    walked: &Result<(IpNumber, &[u8]), ChainError>,
+    answer: &mut String,
+) -> Result<(), AllocError> {
+    match walked {
+        Ok((next, rest)) => write!(answer, "ok next={} rest={}", next.0, Bytes(rest)),
+        Err(e) => write!(answer, "{}", ChainRefusal(e)),
     }
 }

@@ -46,6 +46,19 @@ impl<'a> Arguments<'a> {
         }
     }
 
+    /// A `ChainError`: `len` and a `LenError`, or `too_many limit next offset`.
+    pub fn chain_error(&mut self) -> Result<ipv6::ChainError, CaseError> {
+        match self.word()? {
+            "len" => Ok(ipv6::ChainError::Len(self.len_error()?)),
+            "too_many" => Ok(ipv6::ChainError::TooMany {
+                limit: self.number()?,
+                next_header: self.number()?,
+                layer_start_offset: self.number()?,
+            }),
+            _ => Err(CaseError::BadLine),
+        }
+    }
+
     /// The IPv4 `HeaderError` of a version.
     pub fn ipv4_version_error(&mut self) -> Result<ipv4::HeaderError, CaseError> {
         let version_number = self.number()?;
