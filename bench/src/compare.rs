@@ -1,7 +1,7 @@
 //! Both libraries have to give the same answers before they are timed.
 
 use crate::calls::*;
-use crate::fields::Ipv4Fields;
+use crate::packets;
 use crate::random::Random;
 
 /// How many answers were compared.
@@ -10,7 +10,7 @@ use crate::random::Random;
 ///
 /// Where two answers differ.
 pub fn compare() -> usize {
-    sums() + sums_of_pieces() + headers()
+    sums() + sums_of_pieces() + headers() + slices() + ipv6_headers() + lengths()
 }
 
 fn sums() -> usize {
@@ -119,14 +119,76 @@ fn headers() -> usize {
     for _ in 0..count {
         let fields = some_fields(&mut random);
         let (mut expected, mut found) = (0x1234, 0x1234);
-        let answers = unsafe {
+        let (checksums, bytes) = unsafe {
             (
-                upstream_ipv4_header_checksum(&fields, &mut expected),
-                etherparse_ipv4_header_checksum(&fields, &mut found),
+                (
+                    upstream_ipv4_header_checksum(&fields, &mut expected),
+                    etherparse_ipv4_header_checksum(&fields, &mut found),
+                ),
+                (upstream_ipv4_write(&fields), etherparse_ipv4_write(&fields)),
             )
         };
-        assert_eq!(answers.0, answers.1, "whether there is such a header");
+        assert_eq!(checksums.0, checksums.1, "whether there is such a header");
         assert_eq!(expected, found, "header checksum");
+        assert_eq!(bytes.0, bytes.1, "the bytes of a header");
+    }
+    2 * count
+}
+
+// Slices that begin with a header, are random, or end too early.
+fn slices() -> usize {
+    let mut random = Random::new(6);
+    let count = 200_000;
+    for _ in 0..count {
+        let bytes = packets::some_slice(&mut random);
+        let (at, len) = (if bytes.is_empty() { std::ptr::null() } else { bytes.as_ptr() }, bytes.len());
+        let number = packets::some_number(&mut random);
+        unsafe {
+            assert_eq!(upstream_ipv4_view(at, len), etherparse_ipv4_view(at, len), "{bytes:?}");
+            assert_eq!(upstream_ipv4_read(at, len), etherparse_ipv4_read(at, len), "{bytes:?}");
+            assert_eq!(upstream_ipv6_view(at, len), etherparse_ipv6_view(at, len), "{bytes:?}");
+            assert_eq!(upstream_ipv6_read(at, len), etherparse_ipv6_read(at, len), "{bytes:?}");
+            let walks = (upstream_ipv6_walk(at, len, number), etherparse_ipv6_walk(at, len, number));
+            assert_eq!(walks.0, walks.1, "from {number}, {bytes:?}");
+        }
+    }
+    5 * count
+}
+
+fn ipv6_headers() -> usize {
+    let mut random = Random::new(7);
+    let count = 100_000;
+    for _ in 0..count {
+        let mut fields = Ipv6Fields {
+            flow_label: (random.next() >> 43) as u32,
+            payload_length: random.next() as u16,
+            traffic_class: random.next() as u8,
+            next_header: random.next() as u8,
+            hop_limit: random.next() as u8,
+            source: [0; 16],
+            destination: [0; 16],
+        };
+        random.fill(&mut fields.source);
+        random.fill(&mut fields.destination);
+        let bytes = unsafe { (upstream_ipv6_write(&fields), etherparse_ipv6_write(&fields)) };
+        assert_eq!(bytes.0, bytes.1, "{fields:?}");
+    }
+    count
+}
+
+fn lengths() -> usize {
+    let mut count = 0;
+    for options_len in 0..=255 {
+        for total_len in (0..=130).chain([1_500, 65_534, 65_535]) {
+            let lengths = unsafe {
+                (
+                    upstream_ipv4_lengths(total_len, options_len),
+                    etherparse_ipv4_lengths(total_len, options_len),
+                )
+            };
+            assert_eq!(lengths.0, lengths.1, "{total_len}, {options_len}");
+            count += 1;
+        }
     }
     count
 }

@@ -2,136 +2,65 @@
 
 mod calls;
 mod compare;
-mod fields;
+#[path = "../../crates/etherparse_c/include/etherparse.rs"]
+mod etherparse;
+mod packets;
 mod random;
 mod rounds;
+mod times;
 
-use calls::*;
-use fields::Ipv4Fields;
-use random::Random;
 use rounds::{compare_times, Batch};
+use std::process::exit;
 use upstream as _;
 
-const LENGTHS: [usize; 7] = [20, 40, 60, 576, 1_500, 9_000, 65_535];
+/// What is done with a line: what is called, over how many bytes, and a batch of each library.
+pub type Line<'a> = dyn FnMut(&str, &str, &Batch, &Batch) + 'a;
 
 fn main() {
-    let rounds = match std::env::args().nth(1) {
-        Some(rounds) => rounds.parse().expect("the number of rounds"),
-        None => 301,
-    };
+    let arguments: Vec<String> = std::env::args().skip(1).collect();
+    let arguments: Vec<&str> = arguments.iter().map(String::as_str).collect();
+    match arguments[..] {
+        [] => time_all(301),
+        [rounds] => time_all(rounds.parse().expect("the number of rounds")),
+        ["call", line, library, calls] => call_one(
+            line.parse().expect("the number of a line"),
+            library == "proved",
+            calls.parse().expect("the number of calls"),
+        ),
+        _ => {
+            eprintln!("usage: bench [ROUNDS], or bench call LINE upstream|proved CALLS");
+            exit(2)
+        }
+    }
+}
+
+fn time_all(rounds: usize) {
     println!("{} answers are the same. {rounds} rounds:\n", compare::compare());
     println!(
-        "{:<44} {:>6} {:>12} {:>12} {:>7}   {:<13} of the least",
+        "{:<44} {:>14} {:>12} {:>12} {:>7}   {:<13} of the least",
         "", "bytes", "Rust crate", "proved", "ratio", "middle half"
     );
-    time_sums(rounds);
-    time_headers(rounds);
-}
-
-fn show(rounds: usize, what: &str, bytes: usize, upstream: &Batch, proved: &Batch) {
-    let it = compare_times(rounds, upstream, proved);
-    println!(
-        "{what:<44} {bytes:>6} {:>9.2} ns {:>9.2} ns {:>7.2}   {:.2} to {:.2}  {:.2}",
-        it.upstream, it.proved, it.ratio, it.quartiles.0, it.quartiles.1, it.least
-    );
-}
-
-fn time_sums(rounds: usize) {
-    let mut bytes = vec![0; 65_535];
-    Random::new(3).fill(&mut bytes);
-    let each = LENGTHS.map(|len| &bytes[..len]);
-    time_wide_sums::<false>(rounds, "sum of 64 bits, side by side", each);
-    time_narrow_sums::<false>(rounds, "sum of 32 bits, side by side", each);
-    time_wide_sums::<true>(rounds, "sum of 64 bits, one after the other", each);
-    time_narrow_sums::<true>(rounds, "sum of 32 bits, one after the other", each);
-}
-
-fn time_wide_sums<const CHAINED: bool>(rounds: usize, what: &str, each: [&[u8]; 7]) {
-    for bytes in each {
-        let upstream = wide_sums::<CHAINED>(upstream_u64_checksum, bytes);
-        let proved = wide_sums::<CHAINED>(etherparse_u64_16bit_word_checksum, bytes);
-        show(rounds, what, bytes.len(), &upstream, &proved);
-    }
-}
-
-fn time_narrow_sums<const CHAINED: bool>(rounds: usize, what: &str, each: [&[u8]; 7]) {
-    for bytes in each {
-        let upstream = narrow_sums::<CHAINED>(upstream_u32_checksum, bytes);
-        let proved = narrow_sums::<CHAINED>(etherparse_u32_16bit_word_checksum, bytes);
-        show(rounds, what, bytes.len(), &upstream, &proved);
-    }
-}
-
-// Checksums of the same bytes: each from 0, or each from the answer before, for which it has to wait.
-fn wide_sums<const CHAINED: bool>(call: Checksum64, bytes: &[u8]) -> impl Fn(u32) -> u64 + '_ {
-    move |calls| {
-        let (mut start, mut all) = (0, 0);
-        for _ in 0..calls {
-            let answer = u64::from(unsafe { call(start, bytes.as_ptr(), bytes.len()) });
-            start = if CHAINED { answer } else { 0 };
-            all += answer;
-        }
-        all
-    }
-}
-
-fn narrow_sums<const CHAINED: bool>(call: Checksum32, bytes: &[u8]) -> impl Fn(u32) -> u64 + '_ {
-    move |calls| {
-        let (mut start, mut all) = (0, 0);
-        for _ in 0..calls {
-            let answer = u32::from(unsafe { call(start, bytes.as_ptr(), bytes.len()) });
-            start = if CHAINED { answer } else { 0 };
-            all += u64::from(answer);
-        }
-        all
-    }
-}
-
-fn time_headers(rounds: usize) {
-    for options_len in [0, 40] {
-        let fields = compare::fields_with_options(&mut Random::new(4), options_len);
-        let bytes = 20 + usize::from(options_len);
-        let proved = header_checksums(etherparse_ipv4_header_checksum, fields);
-        show(
-            rounds,
-            "header checksum, of fields",
-            bytes,
-            &header_checksums(upstream_ipv4_header_checksum, fields),
-            &proved,
+    times::each(&mut |what, bytes, upstream, proved| {
+        let it = compare_times(rounds, upstream, proved);
+        println!(
+            "{what:<44} {bytes:>14} {:>9.2} ns {:>9.2} ns {:>7.2}   {:.2} to {:.2}  {:.2}",
+            it.upstream, it.proved, it.ratio, it.quartiles.0, it.quartiles.1, it.least
         );
-        show(
-            rounds,
-            "header checksum, the crate's header is there",
-            bytes,
-            &ready_header_checksums(fields),
-            &proved,
-        );
-    }
+    });
 }
 
-// Header checksums of the same fields, but for the identification.
-fn header_checksums(call: HeaderChecksum, fields: Ipv4Fields) -> impl Fn(u32) -> u64 {
-    move |calls| {
-        let mut fields = fields;
-        let mut all = 0;
-        for number in 0..calls {
-            let mut checksum = 0;
-            fields.identification = number as u16;
-            unsafe { call(&fields, &mut checksum) };
-            all += u64::from(checksum);
+// The calls of one line and one library, with nothing timed: for a program that counts instructions.
+fn call_one(line: usize, is_proved: bool, calls: u32) {
+    let (mut number, mut is_there) = (0, false);
+    times::each(&mut |what, bytes, upstream, proved| {
+        if number == line {
+            is_there = true;
+            println!("{what:<44} {bytes:>14}");
+            std::hint::black_box(if is_proved { proved } else { upstream }(calls));
         }
-        all
-    }
-}
-
-// Header checksums of one header that the Rust crate has made of the fields before.
-fn ready_header_checksums(fields: Ipv4Fields) -> impl Fn(u32) -> u64 {
-    let header = unsafe { upstream_ipv4_header(&fields) };
-    move |calls| {
-        let mut all = 0;
-        for _ in 0..calls {
-            all += u64::from(unsafe { upstream_ipv4_header_checksum_of(header) });
-        }
-        all
+        number += 1;
+    });
+    if !is_there {
+        exit(3);
     }
 }

@@ -1,13 +1,88 @@
 //! The Rust crate's calls, exported as the proved library exports its own: one `extern "C"` function each, which nothing
 //! inlines into the benchmark, since that declares it as foreign.
 
-mod fields;
+#[path = "../../crates/etherparse_c/include/etherparse.rs"]
+mod c;
 
-use crate::fields::Ipv4Fields;
+use c::{
+    Error, Ipv4Bytes, Ipv4Fields, Ipv4Lengths, Ipv4ReadAnswer, Ipv4View, Ipv4ViewAnswer, Ipv6Bytes, Ipv6Fields,
+    Ipv6ReadAnswer, Ipv6View, Ipv6ViewAnswer, Ipv6WalkAnswer, Rest,
+};
 use etherparse::checksum::{u32_16bit_word, u64_16bit_word};
-use etherparse::{IpDscp, IpEcn, IpFragOffset, IpNumber, Ipv4Header, Ipv4Options};
+use etherparse::err::{ipv4, ipv6, LenError};
+use etherparse::{
+    IpDscp, IpEcn, IpFragOffset, IpNumber, Ipv4Header, Ipv4HeaderSlice, Ipv4Options, Ipv6FlowLabel, Ipv6Header,
+    Ipv6HeaderSlice,
+};
 use std::ptr::NonNull;
 use std::slice;
+
+const NO_ERROR: Error = Error {
+    kind: c::OK,
+    number: 0,
+    required_len: 0,
+    len: 0,
+    layer_start_offset: 0,
+    limit: 0,
+};
+
+const NO_REST: Rest = Rest { offset: 0, len: 0 };
+
+const NO_IPV4_FIELDS: Ipv4Fields = Ipv4Fields {
+    dscp: 0,
+    ecn: 0,
+    total_len: 0,
+    identification: 0,
+    dont_fragment: false,
+    more_fragments: false,
+    fragment_offset: 0,
+    time_to_live: 0,
+    protocol: 0,
+    header_checksum: 0,
+    source: [0; 4],
+    destination: [0; 4],
+    options_len: 0,
+    options: [0; 40],
+};
+
+const NO_IPV4_VIEW: Ipv4View = Ipv4View {
+    ihl: 0,
+    dscp: 0,
+    ecn: 0,
+    dont_fragment: false,
+    more_fragments: false,
+    is_fragmenting_payload: false,
+    time_to_live: 0,
+    protocol: 0,
+    total_len: 0,
+    identification: 0,
+    fragment_offset: 0,
+    header_checksum: 0,
+    source: [0; 4],
+    destination: [0; 4],
+};
+
+const NO_IPV6_FIELDS: Ipv6Fields = Ipv6Fields {
+    flow_label: 0,
+    payload_length: 0,
+    traffic_class: 0,
+    next_header: 0,
+    hop_limit: 0,
+    source: [0; 16],
+    destination: [0; 16],
+};
+
+const NO_IPV6_VIEW: Ipv6View = Ipv6View {
+    flow_label: 0,
+    payload_length: 0,
+    traffic_class: 0,
+    dscp: 0,
+    ecn: 0,
+    next_header: 0,
+    hop_limit: 0,
+    source: [0; 16],
+    destination: [0; 16],
+};
 
 // As an export of the proved library takes a slice: a null pointer with a length of 0 is the empty one.
 #[inline(always)]
@@ -102,4 +177,222 @@ fn options_of(fields: &Ipv4Fields) -> Option<Ipv4Options> {
         40 => front!(40),
         _ => return None,
     })
+}
+
+/// # Safety
+///
+/// `at` points to `len` bytes, or `len` is 0.
+#[no_mangle]
+pub unsafe extern "C" fn upstream_ipv4_view(at: *const u8, len: usize) -> Ipv4ViewAnswer {
+    match Ipv4HeaderSlice::from_slice(slice_of(at, len)) {
+        Ok(view) => Ipv4ViewAnswer {
+            error: NO_ERROR,
+            rest: rest_after(view.slice().len(), len),
+            view: Ipv4View {
+                ihl: view.ihl(),
+                dscp: view.dcp().value(),
+                ecn: view.ecn().value(),
+                dont_fragment: view.dont_fragment(),
+                more_fragments: view.more_fragments(),
+                is_fragmenting_payload: view.is_fragmenting_payload(),
+                time_to_live: view.ttl(),
+                protocol: view.protocol().0,
+                total_len: view.total_len(),
+                identification: view.identification(),
+                fragment_offset: view.fragments_offset().value(),
+                header_checksum: view.header_checksum(),
+                source: view.source(),
+                destination: view.destination(),
+            },
+        },
+        Err(e) => Ipv4ViewAnswer { error: ipv4_error(&e), rest: NO_REST, view: NO_IPV4_VIEW },
+    }
+}
+
+/// # Safety
+///
+/// `at` points to `len` bytes, or `len` is 0.
+#[no_mangle]
+pub unsafe extern "C" fn upstream_ipv4_read(at: *const u8, len: usize) -> Ipv4ReadAnswer {
+    match Ipv4Header::from_slice(slice_of(at, len)) {
+        Ok((header, rest)) => Ipv4ReadAnswer {
+            error: NO_ERROR,
+            rest: Rest { offset: len - rest.len(), len: rest.len() },
+            fields: Ipv4Fields {
+                dscp: header.dscp.value(),
+                ecn: header.ecn.value(),
+                total_len: header.total_len,
+                identification: header.identification,
+                dont_fragment: header.dont_fragment,
+                more_fragments: header.more_fragments,
+                fragment_offset: header.fragment_offset.value(),
+                time_to_live: header.time_to_live,
+                protocol: header.protocol.0,
+                header_checksum: header.header_checksum,
+                source: header.source,
+                destination: header.destination,
+                options_len: header.options.len_u8(),
+                options: filled(header.options.as_slice()),
+            },
+        },
+        Err(e) => Ipv4ReadAnswer { error: ipv4_error(&e), rest: NO_REST, fields: NO_IPV4_FIELDS },
+    }
+}
+
+#[no_mangle]
+pub extern "C" fn upstream_ipv4_write(fields: &Ipv4Fields) -> Ipv4Bytes {
+    match header_of(fields) {
+        Some(header) => {
+            let bytes = header.to_bytes();
+            Ipv4Bytes { bytes: filled(&bytes), len: bytes.len() as u8 }
+        }
+        None => Ipv4Bytes { bytes: [0; 60], len: 0 },
+    }
+}
+
+#[no_mangle]
+pub extern "C" fn upstream_ipv4_lengths(total_len: u16, options_len: u8) -> Ipv4Lengths {
+    let fields = Ipv4Fields { total_len, options_len, ..NO_IPV4_FIELDS };
+    let Some(header) = header_of(&fields) else {
+        return Ipv4Lengths { error: NO_ERROR, payload_len: 0, max_payload_len: 0, header_len: 0, ihl: 0 };
+    };
+    let (payload_len, error) = match header.payload_len() {
+        Ok(len) => (len, NO_ERROR),
+        Err(e) => (0, len_error(&e)),
+    };
+    Ipv4Lengths {
+        error,
+        payload_len,
+        max_payload_len: header.max_payload_len(),
+        header_len: header.header_len() as u8,
+        ihl: header.ihl(),
+    }
+}
+
+/// # Safety
+///
+/// `at` points to `len` bytes, or `len` is 0.
+#[no_mangle]
+pub unsafe extern "C" fn upstream_ipv6_view(at: *const u8, len: usize) -> Ipv6ViewAnswer {
+    match Ipv6HeaderSlice::from_slice(slice_of(at, len)) {
+        Ok(view) => Ipv6ViewAnswer {
+            error: NO_ERROR,
+            rest: rest_after(view.slice().len(), len),
+            view: Ipv6View {
+                flow_label: view.flow_label().value(),
+                payload_length: view.payload_length(),
+                traffic_class: view.traffic_class(),
+                dscp: view.dscp().value(),
+                ecn: view.ecn().value(),
+                next_header: view.next_header().0,
+                hop_limit: view.hop_limit(),
+                source: view.source(),
+                destination: view.destination(),
+            },
+        },
+        Err(e) => Ipv6ViewAnswer { error: ipv6_error(&e), rest: NO_REST, view: NO_IPV6_VIEW },
+    }
+}
+
+/// # Safety
+///
+/// `at` points to `len` bytes, or `len` is 0.
+#[no_mangle]
+pub unsafe extern "C" fn upstream_ipv6_read(at: *const u8, len: usize) -> Ipv6ReadAnswer {
+    match Ipv6Header::from_slice(slice_of(at, len)) {
+        Ok((header, rest)) => Ipv6ReadAnswer {
+            error: NO_ERROR,
+            rest: Rest { offset: len - rest.len(), len: rest.len() },
+            fields: Ipv6Fields {
+                flow_label: header.flow_label.value(),
+                payload_length: header.payload_length,
+                traffic_class: header.traffic_class,
+                next_header: header.next_header.0,
+                hop_limit: header.hop_limit,
+                source: header.source,
+                destination: header.destination,
+            },
+        },
+        Err(e) => Ipv6ReadAnswer { error: ipv6_error(&e), rest: NO_REST, fields: NO_IPV6_FIELDS },
+    }
+}
+
+#[no_mangle]
+pub extern "C" fn upstream_ipv6_write(fields: &Ipv6Fields) -> Ipv6Bytes {
+    match Ipv6FlowLabel::try_new(fields.flow_label) {
+        Ok(flow_label) => {
+            let header = Ipv6Header {
+                traffic_class: fields.traffic_class,
+                flow_label,
+                payload_length: fields.payload_length,
+                next_header: IpNumber(fields.next_header),
+                hop_limit: fields.hop_limit,
+                source: fields.source,
+                destination: fields.destination,
+            };
+            Ipv6Bytes { bytes: header.to_bytes(), len: 40 }
+        }
+        Err(_) => Ipv6Bytes { bytes: [0; 40], len: 0 },
+    }
+}
+
+/// # Safety
+///
+/// `at` points to `len` bytes, or `len` is 0.
+#[no_mangle]
+pub unsafe extern "C" fn upstream_ipv6_walk(at: *const u8, len: usize, next_header: u8) -> Ipv6WalkAnswer {
+    let bytes = slice_of(at, len);
+    match Ipv6Header::skip_all_header_extensions_in_slice(bytes, IpNumber(next_header)) {
+        Ok((number, rest)) => Ipv6WalkAnswer {
+            error: NO_ERROR,
+            rest: Rest { offset: len - rest.len(), len: rest.len() },
+            next_header: number.0,
+        },
+        Err(e) => Ipv6WalkAnswer { error: len_error(&e), rest: NO_REST, next_header: 0 },
+    }
+}
+
+#[inline(always)]
+fn rest_after(offset: usize, len: usize) -> Rest {
+    Rest { offset, len: len - offset }
+}
+
+#[inline(always)]
+fn filled<const N: usize>(bytes: &[u8]) -> [u8; N] {
+    let mut room = [0; N];
+    room[..bytes.len()].copy_from_slice(bytes);
+    room
+}
+
+fn len_error(e: &LenError) -> Error {
+    Error {
+        kind: c::LEN,
+        required_len: e.required_len,
+        len: e.len,
+        layer_start_offset: e.layer_start_offset,
+        ..NO_ERROR
+    }
+}
+
+fn ipv4_error(e: &ipv4::HeaderSliceError) -> Error {
+    use ipv4::{HeaderError::*, HeaderSliceError::*};
+    match e {
+        Len(e) => len_error(e),
+        Content(UnexpectedVersion { version_number }) => {
+            Error { kind: c::UNEXPECTED_VERSION, number: *version_number, ..NO_ERROR }
+        }
+        Content(HeaderLengthSmallerThanHeader { ihl }) => {
+            Error { kind: c::HEADER_LENGTH_SMALLER_THAN_HEADER, number: *ihl, ..NO_ERROR }
+        }
+    }
+}
+
+fn ipv6_error(e: &ipv6::HeaderSliceError) -> Error {
+    use ipv6::{HeaderError::*, HeaderSliceError::*};
+    match e {
+        Len(e) => len_error(e),
+        Content(UnexpectedVersion { version_number }) => {
+            Error { kind: c::UNEXPECTED_VERSION, number: *version_number, ..NO_ERROR }
+        }
+    }
 }

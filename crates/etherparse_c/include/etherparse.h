@@ -1,7 +1,8 @@
 /* IP headers and their checksums: the proved library for C.
  *
- * A slice is a pointer and a length in bytes. A null pointer with the length 0 is the empty slice. Bytes that are only read
- * must not be written by another thread during the call. No call keeps a pointer, takes memory or makes a system call. */
+ * A slice is a pointer and a length in bytes, which is at most half of the address space. A null pointer with the length 0 is
+ * the empty slice. Bytes that are only read must not be written by another thread during the call. No call keeps a pointer,
+ * takes memory or makes a system call. */
 
 #ifndef ETHERPARSE_H
 #define ETHERPARSE_H
@@ -50,7 +51,33 @@ uint16_t etherparse_u32_16bit_word_ones_complement_with_no_zero(uint32_t sum);
 uint16_t etherparse_u64_16bit_word_checksum(uint64_t start_sum, const uint8_t *at, size_t len);
 uint16_t etherparse_u32_16bit_word_checksum(uint32_t start_sum, const uint8_t *at, size_t len);
 
-/* The fields of an IPv4 header (RFC 791 section 3.1). */
+/* Why a call refused, by its numbers. Each number that a kind does not have is 0. */
+struct etherparse_error {
+    uint8_t kind; /* one of the kinds below; 0 says that nothing was refused */
+    uint8_t number; /* of UNEXPECTED_VERSION the version, of the next kind the IHL, of TOO_MANY the header that is one too many */
+    size_t required_len; /* of LEN: the length in bytes that is required */
+    size_t len; /* of LEN: the length in bytes that there is */
+    size_t layer_start_offset; /* of LEN and TOO_MANY: where the header starts, in bytes from the start of the slice */
+    size_t limit; /* of TOO_MANY: how many extension headers were allowed */
+};
+
+enum {
+    ETHERPARSE_OK = 0,
+    ETHERPARSE_LEN = 1, /* there are fewer bytes than are required */
+    ETHERPARSE_UNEXPECTED_VERSION = 2, /* the version field has another number */
+    ETHERPARSE_HEADER_LENGTH_SMALLER_THAN_HEADER = 3, /* the IHL field is below 5 */
+    ETHERPARSE_TOO_MANY = 4 /* there are more extension headers than are allowed */
+};
+
+/* Where the bytes after a header, or after extension headers, are: the slice from this offset on. */
+struct etherparse_rest {
+    size_t offset;
+    size_t len;
+};
+
+/* IPv4 headers (RFC 791 section 3.1). */
+
+/* The fields of a header. */
 struct etherparse_ipv4_fields {
     uint8_t dscp; /* the differentiated services code point, at most 63 */
     uint8_t ecn; /* the explicit congestion notification, at most 3 */
@@ -68,10 +95,142 @@ struct etherparse_ipv4_fields {
     uint8_t options[40]; /* what follows the options in the array is no part of them */
 };
 
+/* What the getters of a view answer. */
+struct etherparse_ipv4_view {
+    uint8_t ihl; /* the length of the header in words of 4 bytes, 5 to 15 */
+    uint8_t dscp;
+    uint8_t ecn;
+    bool dont_fragment;
+    bool more_fragments;
+    bool is_fragmenting_payload; /* more fragments follow, or the offset is not 0 */
+    uint8_t time_to_live;
+    uint8_t protocol;
+    uint16_t total_len; /* of the header and what follows it, in bytes */
+    uint16_t identification;
+    uint16_t fragment_offset; /* in units of 8 bytes */
+    uint16_t header_checksum; /* the one that the header has, right or wrong */
+    uint8_t source[4];
+    uint8_t destination[4];
+};
+
+/* The header at the front of a slice, as a view. Its bytes are those of the slice up to rest.offset, and its options those from
+ * byte 20 up to there. Where error.kind is not ETHERPARSE_OK, there is no header and all else is 0. */
+struct etherparse_ipv4_view_answer {
+    struct etherparse_error error;
+    struct etherparse_rest rest;
+    struct etherparse_ipv4_view view;
+};
+
+/* The header at the front of a slice, with a copy of its options, which 0 follows in their array. Where error.kind is not
+ * ETHERPARSE_OK, there is no header and all else is 0. */
+struct etherparse_ipv4_read_answer {
+    struct etherparse_error error;
+    struct etherparse_rest rest;
+    struct etherparse_ipv4_fields fields;
+};
+
+/* The bytes of a header, and 0 after them. Where the fields are those of no header, all is 0. */
+struct etherparse_ipv4_bytes {
+    uint8_t bytes[60];
+    uint8_t len; /* 20 to 60, or 0 */
+};
+
+/* The lengths of a header and of its payload. */
+struct etherparse_ipv4_lengths {
+    struct etherparse_error error; /* why there is no payload_len: a LEN where total_len is below the length of the header */
+    uint16_t payload_len; /* what total_len counts beyond the header, in bytes */
+    uint16_t max_payload_len; /* of the longest payload that fits after the header, in bytes */
+    uint8_t header_len; /* with the options, in bytes */
+    uint8_t ihl; /* the same in words of 4 bytes */
+};
+
+/* The header at the front of a slice, and where the bytes after it are, however many total_len tells of.
+ *
+ * The error is, in this order, a LEN where the slice has fewer than 20 bytes; UNEXPECTED_VERSION where the version is not 4;
+ * HEADER_LENGTH_SMALLER_THAN_HEADER where the IHL is below 5; a LEN where the slice has fewer bytes than the IHL says. */
+struct etherparse_ipv4_view_answer etherparse_ipv4_view(const uint8_t *at, size_t len);
+struct etherparse_ipv4_read_answer etherparse_ipv4_read(const uint8_t *at, size_t len);
+
+/* The bytes of the header of these fields, with the reserved bit 0 and the checksum that stands in the fields. The len of the
+ * answer is 0 where a field is out of its bounds. The pointer is not null, and each bool is 0 or 1. */
+struct etherparse_ipv4_bytes etherparse_ipv4_write(const struct etherparse_ipv4_fields *fields);
+
+/* The lengths of a header with this total length and so many bytes of options: those of a view have options_len =
+ * rest.offset - 20. All is 0 where options can not be of this length. */
+struct etherparse_ipv4_lengths etherparse_ipv4_lengths(uint16_t total_len, uint8_t options_len);
+
 /* Writes the checksum that a header of these fields should have, as a number whose high byte a header has first, and returns
  * true. Where a field is out of its bounds it returns false and writes nothing. The stored header_checksum counts as 0.
  * Neither pointer is null, checksum points to no part of fields, and each bool is 0 or 1. */
 bool etherparse_ipv4_header_checksum(const struct etherparse_ipv4_fields *fields, uint16_t *checksum);
+
+/* IPv6 headers (RFC 8200 sections 3 and 4). */
+
+/* The fields of a header, which has 40 bytes. */
+struct etherparse_ipv6_fields {
+    uint32_t flow_label; /* at most 1048575 */
+    uint16_t payload_length; /* of all that follows the header, in bytes */
+    uint8_t traffic_class; /* four times the DSCP, and the ECN */
+    uint8_t next_header; /* the number of what follows: an extension header or an upper-layer protocol */
+    uint8_t hop_limit;
+    uint8_t source[16];
+    uint8_t destination[16];
+};
+
+/* What the getters of a view answer. */
+struct etherparse_ipv6_view {
+    uint32_t flow_label;
+    uint16_t payload_length; /* of all that follows the header, in bytes */
+    uint8_t traffic_class;
+    uint8_t dscp; /* the differentiated services code point: the upper 6 bits of the traffic class */
+    uint8_t ecn; /* the explicit congestion notification: its lower 2 bits */
+    uint8_t next_header;
+    uint8_t hop_limit;
+    uint8_t source[16];
+    uint8_t destination[16];
+};
+
+/* The header at the front of a slice. Where error.kind is not ETHERPARSE_OK, there is no header and all else is 0. */
+struct etherparse_ipv6_view_answer {
+    struct etherparse_error error;
+    struct etherparse_rest rest;
+    struct etherparse_ipv6_view view;
+};
+
+struct etherparse_ipv6_read_answer {
+    struct etherparse_error error;
+    struct etherparse_rest rest;
+    struct etherparse_ipv6_fields fields;
+};
+
+/* The bytes of a header. Where the flow label is too great, all is 0. */
+struct etherparse_ipv6_bytes {
+    uint8_t bytes[40];
+    uint8_t len; /* 40, or 0 */
+};
+
+/* Where a walk past extension headers ended. Where error.kind is not ETHERPARSE_OK, all else is 0. */
+struct etherparse_ipv6_walk_answer {
+    struct etherparse_error error;
+    struct etherparse_rest rest; /* the bytes after all extension headers */
+    uint8_t next_header; /* their number: the first that is none of an extension header that can be skipped */
+};
+
+/* The header at the front of a slice, and where the bytes after it are, however many payload_length tells of.
+ *
+ * The error is a LEN where the slice has fewer than 40 bytes; else UNEXPECTED_VERSION where the version is not 6. */
+struct etherparse_ipv6_view_answer etherparse_ipv6_view(const uint8_t *at, size_t len);
+struct etherparse_ipv6_read_answer etherparse_ipv6_read(const uint8_t *at, size_t len);
+
+/* The bytes of the header of these fields. The len of the answer is 0 where the flow label is above 1048575. The pointer is not
+ * null. */
+struct etherparse_ipv6_bytes etherparse_ipv6_write(const struct etherparse_ipv6_fields *fields);
+
+/* Skips all extension headers at the front of a slice, of which the first has this number: 0, 43, 44, 51, 60, 135, 139 and 140
+ * can be skipped. With any other number there is none, and the rest is the whole slice.
+ *
+ * The error is a LEN, of the first header that is incomplete. Where fewer than 2 bytes are left, 2 are required. */
+struct etherparse_ipv6_walk_answer etherparse_ipv6_walk(const uint8_t *at, size_t len, uint8_t next_header);
 
 #ifdef __cplusplus
 }

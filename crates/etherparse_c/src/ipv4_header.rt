@@ -1,8 +1,17 @@
 //! The IPv4 header (RFC 791 section 3.1).
 
-ghost use Rattle.std.specs.Prelude.{◌≡◌, ◌↔◌, IfSome, IsSome, IsTrue};
+ghost use Rattle.std.specs.Prelude.{ℕ, ◌≡◌, ◌↔◌, ◌-◌, ◌<◌, ◌++◌, List, IfSome, IsSome, IsTrue};
+ghost use Rattle.std.specs.Prelude.{drop, length, replicate, take};
+ghost use Rattle.etherparse.specs.Ipv4Header.{Ipv4Reading, ReadsIpv4};
+ghost use Rattle.etherparse.specs.Ipv4Options.{IsOptionsLen};
+ghost use Rattle.etherparse.specs.declared.net.ipv4_header.Ipv4Header.{Ipv4Header as Header};
+ghost use Rattle.etherparse_c.specs.Answer.{GivesAnswer};
+ghost use Rattle.etherparse_c.specs.Ipv4Answers.{AreIpv4Lengths, AreWrittenFor, GivesIpv4Reading};
+ghost use Rattle.etherparse_c.specs.Ipv4Answers.{no_ipv4_bytes, no_ipv4_fields, no_ipv4_lengths};
 ghost use Rattle.etherparse_c.specs.Ipv4Fields.{AreWithinBounds, IsChecksumOf, StandFor};
 
+use crate::answer::{Error, Rest};
+use crate::room::filled;
 use etherparse::{IpDscp, IpEcn, IpFragOffset, IpNumber, Ipv4Header, Ipv4Options};
 
 /// The fields of an IPv4 header, as C has them.
@@ -37,6 +46,129 @@ pub struct Ipv4Fields {
     pub options_len: u8,
     /// The options; what follows them in the array is no part of them.
     pub options: [u8; 40],
+}
+
+/// The header at the front of a slice.
+#[repr(C)]
+#[derive(Drop)]
+pub struct Ipv4ReadAnswer {
+    /// Why there is none; its kind is 0 where there is one.
+    pub error: Error,
+    /// All the bytes after it.
+    pub rest: Rest,
+    /// Its fields, with 0 after the options in their array.
+    pub fields: Ipv4Fields,
+}
+
+/// The bytes of a header.
+#[repr(C)]
+#[derive(Drop)]
+pub struct Ipv4Bytes {
+    /// The bytes, in network byte order, and 0 after them.
+    pub bytes: [u8; 60],
+    /// How many there are: 20 to 60, or 0 where the fields are those of no header.
+    pub len: u8,
+}
+
+/// The lengths of a header and of its payload.
+#[repr(C)]
+#[derive(Drop)]
+pub struct Ipv4Lengths {
+    /// Why there is no length of the payload; its kind is 0 where there is one.
+    pub error: Error,
+    /// The length of the payload in bytes, as the total length tells of it.
+    pub payload_len: u16,
+    /// The length of the longest payload that fits after the header, in bytes.
+    pub max_payload_len: u16,
+    /// The length of the header with its options, in bytes, or 0 where options can not be of this length.
+    pub header_len: u8,
+    /// The same in words of 4 bytes.
+    pub ihl: u8,
+}
+
+/// The fields of the header at the front of a slice, and where the bytes after it are, however many `total_len` tells of.
+///
+/// The error is, in this order, a length of fewer than 20 bytes; another version than 4; an IHL below 5; fewer bytes than the
+/// IHL says.
+#[unsafe(no_mangle)]
+pub extern "C" fn etherparse_ipv4_read(slice: &[u8]) -> Ipv4ReadAnswer
+    ensures reads { GivesAnswer (ReadsIpv4 slice.now) (GivesIpv4Reading result slice.now) }
+    ensures only { (other : Ipv4Reading) → ReadsIpv4 slice.now other →
+        GivesIpv4Reading result slice.now other }
+{
+    match Ipv4Header::from_slice(slice) {
+        Ok((header, rest)) => Ipv4ReadAnswer {
+            error: Error::none(),
+            rest: Rest::of(slice, rest),
+            fields: fields_of(&header),
+        },
+        Err(e) => Ipv4ReadAnswer {
+            error: Error::of_ipv4(&e),
+            rest: Rest::none(),
+            fields: no_fields(),
+        },
+    }
+}
+
+/// The bytes of the header of these fields, with the reserved bit 0 and the checksum that stands in the fields.
+#[unsafe(no_mangle)]
+pub extern "C" fn etherparse_ipv4_write(fields: &Ipv4Fields) -> Ipv4Bytes
+    ensures accepted { (0 < result.len) ↔ AreWithinBounds fields.now }
+    ensures layout { 0 < result.len → AreWrittenFor fields.now (take result.len result.bytes) }
+    ensures only { 0 < result.len → (bytes : List ℕ) → AreWrittenFor fields.now bytes →
+        bytes ≡ take result.len result.bytes }
+    ensures padded { drop result.len result.bytes ≡ replicate (60 - result.len) 0 }
+    ensures refused { ¬ AreWithinBounds fields.now → result ≡ no_ipv4_bytes }
+{
+    match header_of(fields) {
+        Some(header) => {
+            let written = header.to_bytes();
+            let bytes = written.as_slice();
+            Ipv4Bytes {
+                bytes: filled::<60>(bytes),
+                len: bytes.len() as u8,
+            }
+        }
+        None => Ipv4Bytes {
+            bytes: [0; 60],
+            len: 0,
+        },
+    }
+}
+
+/// The lengths of a header with so many bytes of options, and of the payload that its total length tells of.
+///
+/// The error is a total length below the length of the header.
+#[unsafe(no_mangle)]
+pub extern "C" fn etherparse_ipv4_lengths(total_len: u16, options_len: u8) -> Ipv4Lengths
+    ensures accepted { (0 < result.header_len) ↔ IsOptionsLen options_len }
+    ensures value { IsOptionsLen options_len → (header : Header) → header.total_len ≡ total_len →
+        length header.options ≡ options_len → AreIpv4Lengths result header }
+    ensures refused { ¬ IsOptionsLen options_len → result ≡ no_ipv4_lengths }
+{
+    if options_len > 40 || options_len % 4 != 0 {
+        return Ipv4Lengths {
+            error: Error::none(),
+            payload_len: 0,
+            max_payload_len: 0,
+            header_len: 0,
+            ihl: 0,
+        };
+    }
+    let mut header = Ipv4Header::default();
+    header.total_len = total_len;
+    header.options = Ipv4Options::from_front(&[0; 40], usize::from(options_len));
+    let (payload_len, error) = match header.payload_len() {
+        Ok(len) => (len, Error::none()),
+        Err(e) => (0, Error::of_len(&e)),
+    };
+    Ipv4Lengths {
+        error,
+        payload_len,
+        max_payload_len: header.max_payload_len(),
+        header_len: header.header_len() as u8,
+        ihl: header.ihl(),
+    }
 }
 
 /// Writes the checksum that a header of these fields should have, as a number, and answers `true`. Where a field is out of
@@ -84,6 +216,53 @@ fn header_of(fields: &Ipv4Fields) -> Option<Ipv4Header>
         destination: fields.destination,
         options: Ipv4Options::from_front(&fields.options, options_len),
     })
+}
+
+// The fields of a header.
+#[inline(always)]
+fn fields_of(header: &Ipv4Header) -> Ipv4Fields
+    ensures same { StandFor result header.now }
+    ensures padded { result.options
+        ≡ header.now.options ++ replicate (40 - length header.now.options) 0 }
+{
+    Ipv4Fields {
+        dscp: header.dscp.value(),
+        ecn: header.ecn.value(),
+        total_len: header.total_len,
+        identification: header.identification,
+        dont_fragment: header.dont_fragment,
+        more_fragments: header.more_fragments,
+        fragment_offset: header.fragment_offset.value(),
+        time_to_live: header.time_to_live,
+        protocol: header.protocol.0,
+        header_checksum: header.header_checksum,
+        source: header.source,
+        destination: header.destination,
+        options_len: header.options.len_u8(),
+        options: filled::<40>(header.options.as_slice()),
+    }
+}
+
+// What stands in the place of the fields where there is no header.
+fn no_fields() -> Ipv4Fields
+    ensures value { result ≡ no_ipv4_fields }
+{
+    Ipv4Fields {
+        dscp: 0,
+        ecn: 0,
+        total_len: 0,
+        identification: 0,
+        dont_fragment: false,
+        more_fragments: false,
+        fragment_offset: 0,
+        time_to_live: 0,
+        protocol: 0,
+        header_checksum: 0,
+        source: [0; 4],
+        destination: [0; 4],
+        options_len: 0,
+        options: [0; 40],
+    }
 }
 
 #[cfg(test)]

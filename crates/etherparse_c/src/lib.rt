@@ -4,5 +4,11 @@
 //! or makes a system call.
 #![tactic(auto)]
 
+pub mod answer;
 pub mod checksum;
 pub mod ipv4_header;
+pub mod ipv4_view;
+pub mod ipv6_header;
+pub mod ipv6_view;
+pub mod ipv6_walk;
+mod room;

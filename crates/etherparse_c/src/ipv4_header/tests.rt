@@ -1,4 +1,4 @@
-//! A header of the RFCs' time, and one field out of its bounds after the other.
+//! A header of the RFCs' time, the largest one, and one field out of its bounds after the other.
 
 use super::*;
 
@@ -74,4 +74,72 @@ fn all_ones_with_all_options(rt: HostRuntime) {
         options: [255; 40],
     };
     assert_eq!(rt; checksum_of(&fields), (true, 0x3001));
+}
+
+#[test]
+fn the_largest_header_is_read_and_written(rt: HostRuntime) {
+    let mut slice = [255; 62];
+    slice[0] = 0x4f;
+    slice[6] = 0x7f;
+    let read = etherparse_ipv4_read(&slice);
+    assert_eq!(rt; read.error.kind, 0);
+    assert_eq!(rt; (read.rest.offset, read.rest.len), (60, 2));
+    let fields = &read.fields;
+    assert_eq!(rt;
+        (fields.dscp, fields.ecn, fields.fragment_offset),
+        (63, 3, 8191)
+    );
+    assert_eq!(rt; (fields.dont_fragment, fields.more_fragments), (true, true));
+    assert_eq!(rt; (fields.options_len, fields.options), (40, [255; 40]));
+    let written = etherparse_ipv4_write(fields);
+    assert_eq!(rt; written.len, 60);
+    assert_eq!(rt; &written.bytes[..], &slice[..60]);
+}
+
+#[test]
+fn what_follows_the_options_is_0(rt: HostRuntime) {
+    let mut slice = [255; 70];
+    slice[0] = 0x46;
+    for len in [24, 70] {
+        let fields = etherparse_ipv4_read(&slice[..len]).fields;
+        assert_eq!(rt; fields.options_len, 4);
+        assert_eq!(rt; &fields.options[..5], [255, 255, 255, 255, 0].as_slice());
+    }
+}
+
+// The kind of an error, its number and its two lengths.
+fn numbers_of(error: &Error) -> (u8, u8, usize, usize) {
+    (error.kind, error.number, error.required_len, error.len)
+}
+
+fn refused(slice: &[u8]) -> (u8, u8, usize, usize) {
+    numbers_of(&etherparse_ipv4_read(slice).error)
+}
+
+#[test]
+fn each_error_has_its_numbers(rt: HostRuntime) {
+    let mut slice = [0; 23];
+    assert_eq!(rt; refused(&[]), (1, 0, 20, 0));
+    assert_eq!(rt; refused(&slice[..19]), (1, 0, 20, 19));
+    slice[0] = 0x54;
+    assert_eq!(rt; refused(&slice), (2, 5, 0, 0));
+    slice[0] = 0x44;
+    assert_eq!(rt; refused(&slice), (3, 4, 0, 0));
+    slice[0] = 0x46;
+    assert_eq!(rt; refused(&slice), (1, 0, 24, 23));
+}
+
+#[test]
+fn a_total_length_below_the_header_has_no_payload(rt: HostRuntime) {
+    let lengths = etherparse_ipv4_lengths(19, 0);
+    assert_eq!(rt; numbers_of(&lengths.error), (1, 0, 20, 19));
+    assert_eq!(rt; (lengths.header_len, lengths.ihl), (20, 5));
+    let lengths = etherparse_ipv4_lengths(65535, 40);
+    assert_eq!(rt; lengths.error.kind, 0);
+    assert_eq!(rt;
+        (lengths.payload_len, lengths.max_payload_len),
+        (65475, 65475)
+    );
+    assert_eq!(rt; (lengths.header_len, lengths.ihl), (60, 15));
+    assert_eq!(rt; etherparse_ipv4_lengths(20, 3).header_len, 0);
 }

@@ -1,0 +1,202 @@
+//! The declarations of `etherparse.h` for Rust, by the same names but for the prefix of the structs. What each call does, and what
+//! a caller owes, stands there.
+
+#![allow(dead_code)]
+
+pub const OK: u8 = 0;
+pub const LEN: u8 = 1;
+pub const UNEXPECTED_VERSION: u8 = 2;
+pub const HEADER_LENGTH_SMALLER_THAN_HEADER: u8 = 3;
+pub const TOO_MANY: u8 = 4;
+
+/// Bytes of a list of pieces.
+#[repr(C)]
+#[derive(Clone, Copy, Debug)]
+pub struct Slice {
+    pub at: *const u8,
+    pub len: usize,
+}
+
+/// Why a call refused, by its numbers.
+#[repr(C)]
+#[derive(Clone, Copy, Debug, Default, PartialEq, Eq)]
+pub struct Error {
+    pub kind: u8,
+    pub number: u8,
+    pub required_len: usize,
+    pub len: usize,
+    pub layer_start_offset: usize,
+    pub limit: usize,
+}
+
+/// Where the rest of a slice is.
+#[repr(C)]
+#[derive(Clone, Copy, Debug, Default, PartialEq, Eq)]
+pub struct Rest {
+    pub offset: usize,
+    pub len: usize,
+}
+
+/// The fields of an IPv4 header.
+#[repr(C)]
+#[derive(Clone, Copy, Debug, PartialEq, Eq)]
+pub struct Ipv4Fields {
+    pub dscp: u8,
+    pub ecn: u8,
+    pub total_len: u16,
+    pub identification: u16,
+    pub dont_fragment: bool,
+    pub more_fragments: bool,
+    pub fragment_offset: u16,
+    pub time_to_live: u8,
+    pub protocol: u8,
+    pub header_checksum: u16,
+    pub source: [u8; 4],
+    pub destination: [u8; 4],
+    pub options_len: u8,
+    pub options: [u8; 40],
+}
+
+/// What the getters of a view of an IPv4 header answer.
+#[repr(C)]
+#[derive(Clone, Copy, Debug, PartialEq, Eq)]
+pub struct Ipv4View {
+    pub ihl: u8,
+    pub dscp: u8,
+    pub ecn: u8,
+    pub dont_fragment: bool,
+    pub more_fragments: bool,
+    pub is_fragmenting_payload: bool,
+    pub time_to_live: u8,
+    pub protocol: u8,
+    pub total_len: u16,
+    pub identification: u16,
+    pub fragment_offset: u16,
+    pub header_checksum: u16,
+    pub source: [u8; 4],
+    pub destination: [u8; 4],
+}
+
+/// The IPv4 header at the front of a slice, as a view.
+#[repr(C)]
+#[derive(Clone, Copy, Debug, PartialEq, Eq)]
+pub struct Ipv4ViewAnswer {
+    pub error: Error,
+    pub rest: Rest,
+    pub view: Ipv4View,
+}
+
+/// The IPv4 header at the front of a slice, with a copy of its options.
+#[repr(C)]
+#[derive(Clone, Copy, Debug, PartialEq, Eq)]
+pub struct Ipv4ReadAnswer {
+    pub error: Error,
+    pub rest: Rest,
+    pub fields: Ipv4Fields,
+}
+
+/// The bytes of an IPv4 header.
+#[repr(C)]
+#[derive(Clone, Copy, Debug, PartialEq, Eq)]
+pub struct Ipv4Bytes {
+    pub bytes: [u8; 60],
+    pub len: u8,
+}
+
+/// The lengths of an IPv4 header and of its payload.
+#[repr(C)]
+#[derive(Clone, Copy, Debug, PartialEq, Eq)]
+pub struct Ipv4Lengths {
+    pub error: Error,
+    pub payload_len: u16,
+    pub max_payload_len: u16,
+    pub header_len: u8,
+    pub ihl: u8,
+}
+
+/// The fields of an IPv6 header.
+#[repr(C)]
+#[derive(Clone, Copy, Debug, PartialEq, Eq)]
+pub struct Ipv6Fields {
+    pub flow_label: u32,
+    pub payload_length: u16,
+    pub traffic_class: u8,
+    pub next_header: u8,
+    pub hop_limit: u8,
+    pub source: [u8; 16],
+    pub destination: [u8; 16],
+}
+
+/// What the getters of a view of an IPv6 header answer.
+#[repr(C)]
+#[derive(Clone, Copy, Debug, PartialEq, Eq)]
+pub struct Ipv6View {
+    pub flow_label: u32,
+    pub payload_length: u16,
+    pub traffic_class: u8,
+    pub dscp: u8,
+    pub ecn: u8,
+    pub next_header: u8,
+    pub hop_limit: u8,
+    pub source: [u8; 16],
+    pub destination: [u8; 16],
+}
+
+/// The IPv6 header at the front of a slice, as a view.
+#[repr(C)]
+#[derive(Clone, Copy, Debug, PartialEq, Eq)]
+pub struct Ipv6ViewAnswer {
+    pub error: Error,
+    pub rest: Rest,
+    pub view: Ipv6View,
+}
+
+/// The IPv6 header at the front of a slice.
+#[repr(C)]
+#[derive(Clone, Copy, Debug, PartialEq, Eq)]
+pub struct Ipv6ReadAnswer {
+    pub error: Error,
+    pub rest: Rest,
+    pub fields: Ipv6Fields,
+}
+
+/// The bytes of an IPv6 header.
+#[repr(C)]
+#[derive(Clone, Copy, Debug, PartialEq, Eq)]
+pub struct Ipv6Bytes {
+    pub bytes: [u8; 40],
+    pub len: u8,
+}
+
+/// Where a walk past extension headers ended.
+#[repr(C)]
+#[derive(Clone, Copy, Debug, PartialEq, Eq)]
+pub struct Ipv6WalkAnswer {
+    pub error: Error,
+    pub rest: Rest,
+    pub next_header: u8,
+}
+
+extern "C" {
+    pub fn etherparse_u64_16bit_word_add_slice(start_sum: u64, at: *const u8, len: usize) -> u64;
+    pub fn etherparse_u32_16bit_word_add_slice(start_sum: u32, at: *const u8, len: usize) -> u32;
+    pub fn etherparse_u64_16bit_word_add_slices(pieces: *const Slice, count: usize) -> u64;
+    pub fn etherparse_u32_16bit_word_add_slices(pieces: *const Slice, count: usize) -> u32;
+    pub fn etherparse_u64_16bit_word_ones_complement(sum: u64) -> u16;
+    pub fn etherparse_u32_16bit_word_ones_complement(sum: u32) -> u16;
+    pub fn etherparse_u64_16bit_word_ones_complement_with_no_zero(sum: u64) -> u16;
+    pub fn etherparse_u32_16bit_word_ones_complement_with_no_zero(sum: u32) -> u16;
+    pub fn etherparse_u64_16bit_word_checksum(start_sum: u64, at: *const u8, len: usize) -> u16;
+    pub fn etherparse_u32_16bit_word_checksum(start_sum: u32, at: *const u8, len: usize) -> u16;
+
+    pub fn etherparse_ipv4_view(at: *const u8, len: usize) -> Ipv4ViewAnswer;
+    pub fn etherparse_ipv4_read(at: *const u8, len: usize) -> Ipv4ReadAnswer;
+    pub fn etherparse_ipv4_write(fields: &Ipv4Fields) -> Ipv4Bytes;
+    pub fn etherparse_ipv4_lengths(total_len: u16, options_len: u8) -> Ipv4Lengths;
+    pub fn etherparse_ipv4_header_checksum(fields: &Ipv4Fields, checksum: &mut u16) -> bool;
+
+    pub fn etherparse_ipv6_view(at: *const u8, len: usize) -> Ipv6ViewAnswer;
+    pub fn etherparse_ipv6_read(at: *const u8, len: usize) -> Ipv6ReadAnswer;
+    pub fn etherparse_ipv6_write(fields: &Ipv6Fields) -> Ipv6Bytes;
+    pub fn etherparse_ipv6_walk(at: *const u8, len: usize, next_header: u8) -> Ipv6WalkAnswer;
+}

@@ -1,0 +1,2 @@
+mod Answered
+mod Fields

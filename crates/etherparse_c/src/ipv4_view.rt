@@ -1,0 +1,128 @@
+//! The view of an IPv4 header (RFC 791 section 3.1): its bytes stay where they are.
+
+ghost use Rattle.std.specs.Prelude.{ℕ, ◌≡◌, List, Result};
+ghost use Rattle.etherparse.specs.Ipv4Header.{OfIpv4Header, ViewsIpv4};
+ghost use Rattle.etherparse.specs.declared.err.ipv4.HeaderSliceError.{HeaderSliceError as SliceError};
+ghost use Rattle.etherparse_c.specs.Answer.{GivesAnswer};
+ghost use Rattle.etherparse_c.specs.Ipv4Answers.{GivesIpv4View, ShowsIpv4, no_ipv4_view};
+
+use crate::answer::{Error, Rest};
+use etherparse::Ipv4HeaderSlice;
+
+/// What the getters of a view answer.
+#[repr(C)]
+#[derive(Drop)]
+pub struct Ipv4View {
+    /// The length of the header in words of 4 bytes, 5 to 15.
+    pub ihl: u8,
+    /// The differentiated services code point, at most 63.
+    pub dscp: u8,
+    /// The explicit congestion notification, at most 3.
+    pub ecn: u8,
+    /// Whether the packet must not be cut into fragments.
+    pub dont_fragment: bool,
+    /// Whether more fragments follow this one.
+    pub more_fragments: bool,
+    /// Whether the payload is a part of one that was cut: more fragments follow it, or its offset is not 0.
+    pub is_fragmenting_payload: bool,
+    /// Lowered by one by each node that forwards the packet, which discards it at 0.
+    pub time_to_live: u8,
+    /// The protocol of what follows the header.
+    pub protocol: u8,
+    /// The length of the header and what follows it, in bytes.
+    pub total_len: u16,
+    /// What the fragments of one packet have in common.
+    pub identification: u16,
+    /// Where the fragment stands in the packet, in units of 8 bytes, at most 8191.
+    pub fragment_offset: u16,
+    /// The checksum that the header has, right or wrong.
+    pub header_checksum: u16,
+    /// The address of the sender.
+    pub source: [u8; 4],
+    /// The address of the receiver.
+    pub destination: [u8; 4],
+}
+
+/// The header at the front of a slice: its bytes end where the rest starts, and the options are those from byte 20 on.
+#[repr(C)]
+#[derive(Drop)]
+pub struct Ipv4ViewAnswer {
+    /// Why there is none; its kind is 0 where there is one.
+    pub error: Error,
+    /// All the bytes after it.
+    pub rest: Rest,
+    /// What its getters answer.
+    pub view: Ipv4View,
+}
+
+/// A view of the header at the front of a slice, and where the bytes after it are.
+///
+/// The error is, in this order, a length of fewer than 20 bytes; another version than 4; an IHL below 5; fewer bytes than the
+/// IHL says.
+#[unsafe(no_mangle)]
+pub extern "C" fn etherparse_ipv4_view(slice: &[u8]) -> Ipv4ViewAnswer
+    ensures views { GivesAnswer (ViewsIpv4 slice.now) (GivesIpv4View result slice.now) }
+    ensures only { (other : Result (List ℕ) SliceError) → ViewsIpv4 slice.now other →
+        GivesIpv4View result slice.now other }
+{
+    match Ipv4HeaderSlice::from_slice(slice) {
+        Ok(view) => Ipv4ViewAnswer {
+            error: Error::none(),
+            rest: Rest::after(slice, view.slice),
+            view: getters_of(&view),
+        },
+        Err(e) => Ipv4ViewAnswer {
+            error: Error::of_ipv4(&e),
+            rest: Rest::none(),
+            view: no_view(),
+        },
+    }
+}
+
+// What the getters of a view answer.
+#[inline(always)]
+fn getters_of(view: &Ipv4HeaderSlice) -> Ipv4View
+    ensures value { OfIpv4Header view.now.slice.now (ShowsIpv4 result) }
+{
+    Ipv4View {
+        ihl: view.ihl(),
+        dscp: view.dcp().value(),
+        ecn: view.ecn().value(),
+        dont_fragment: view.dont_fragment(),
+        more_fragments: view.more_fragments(),
+        is_fragmenting_payload: view.is_fragmenting_payload(),
+        time_to_live: view.ttl(),
+        protocol: view.protocol().0,
+        total_len: view.total_len(),
+        identification: view.identification(),
+        fragment_offset: view.fragments_offset().value(),
+        header_checksum: view.header_checksum(),
+        source: view.source(),
+        destination: view.destination(),
+    }
+}
+
+// What stands in the place of the getters where there is no header.
+fn no_view() -> Ipv4View
+    ensures value { result ≡ no_ipv4_view }
+{
+    Ipv4View {
+        ihl: 0,
+        dscp: 0,
+        ecn: 0,
+        dont_fragment: false,
+        more_fragments: false,
+        is_fragmenting_payload: false,
+        time_to_live: 0,
+        protocol: 0,
+        total_len: 0,
+        identification: 0,
+        fragment_offset: 0,
+        header_checksum: 0,
+        source: [0; 4],
+        destination: [0; 4],
+    }
+}
+
+#[cfg(test)]
+mod tests;

@@ -1,0 +1,149 @@
+//! The IPv6 header (RFC 8200 section 3).
+
+ghost use Rattle.std.specs.Prelude.{ℕ, ◌≡◌, ◌↔◌, ◌^◌, ◌<◌, List, IfSome, IsSome, take};
+ghost use Rattle.etherparse.specs.Ipv6Header.{Ipv6Reading, ReadsIpv6};
+ghost use Rattle.etherparse_c.specs.Answer.{GivesAnswer};
+ghost use Rattle.etherparse_c.specs.Ipv6Answers.{AreWrittenForIpv6, GivesIpv6Reading};
+ghost use Rattle.etherparse_c.specs.Ipv6Answers.{no_ipv6_bytes, no_ipv6_fields};
+ghost use Rattle.etherparse_c.specs.Ipv6Fields.{StandForIpv6};
+
+use crate::answer::{Error, Rest};
+use etherparse::{IpNumber, Ipv6FlowLabel, Ipv6Header};
+
+/// The fields of an IPv6 header, as C has them.
+#[repr(C)]
+#[derive(Drop)]
+pub struct Ipv6Fields {
+    /// The flow label, which marks packets that routers should treat alike, at most 1048575.
+    pub flow_label: u32,
+    /// The length in bytes of all that follows the header.
+    pub payload_length: u16,
+    /// The traffic class: the DSCP in the upper 6 bits, the ECN in the lower 2.
+    pub traffic_class: u8,
+    /// What follows the header: an extension header or an upper-layer protocol.
+    pub next_header: u8,
+    /// Lowered by one by each node that forwards the packet, which discards it at 0.
+    pub hop_limit: u8,
+    /// The address of the sender.
+    pub source: [u8; 16],
+    /// The address of the receiver.
+    pub destination: [u8; 16],
+}
+
+/// The header at the front of a slice.
+#[repr(C)]
+#[derive(Drop)]
+pub struct Ipv6ReadAnswer {
+    /// Why there is none; its kind is 0 where there is one.
+    pub error: Error,
+    /// All the bytes after it.
+    pub rest: Rest,
+    /// Its fields.
+    pub fields: Ipv6Fields,
+}
+
+/// The bytes of a header.
+#[repr(C)]
+#[derive(Drop)]
+pub struct Ipv6Bytes {
+    /// The bytes, in network byte order.
+    pub bytes: [u8; 40],
+    /// How many there are: 40, or 0 where the flow label is too great.
+    pub len: u8,
+}
+
+/// The fields of the header at the front of a slice, and where the bytes after it are, however many `payload_length` tells of.
+///
+/// The error is a length of fewer than 40 bytes; else another version than 6.
+#[unsafe(no_mangle)]
+pub extern "C" fn etherparse_ipv6_read(slice: &[u8]) -> Ipv6ReadAnswer
+    ensures reads { GivesAnswer (ReadsIpv6 slice.now) (GivesIpv6Reading result slice.now) }
+    ensures only { (other : Ipv6Reading) → ReadsIpv6 slice.now other →
+        GivesIpv6Reading result slice.now other }
+{
+    match Ipv6Header::from_slice(slice) {
+        Ok((header, rest)) => Ipv6ReadAnswer {
+            error: Error::none(),
+            rest: Rest::of(slice, rest),
+            fields: fields_of(&header),
+        },
+        Err(e) => Ipv6ReadAnswer {
+            error: Error::of_ipv6(&e),
+            rest: Rest::none(),
+            fields: no_fields(),
+        },
+    }
+}
+
+/// The bytes of the header of these fields.
+#[unsafe(no_mangle)]
+pub extern "C" fn etherparse_ipv6_write(fields: &Ipv6Fields) -> Ipv6Bytes
+    ensures accepted { (0 < result.len) ↔ (fields.now.flow_label < 2 ^ 20) }
+    ensures layout { 0 < result.len → AreWrittenForIpv6 fields.now (take result.len result.bytes) }
+    ensures only { 0 < result.len → (bytes : List ℕ) → AreWrittenForIpv6 fields.now bytes →
+        bytes ≡ take result.len result.bytes }
+    ensures refused { ¬ (fields.now.flow_label < 2 ^ 20) → result ≡ no_ipv6_bytes }
+{
+    match header_of(fields) {
+        Some(header) => Ipv6Bytes {
+            bytes: header.to_bytes(),
+            len: 40,
+        },
+        None => Ipv6Bytes {
+            bytes: [0; 40],
+            len: 0,
+        },
+    }
+}
+
+// The header that these fields stand for, where the flow label is within its bound.
+#[inline(always)]
+fn header_of(fields: &Ipv6Fields) -> Option<Ipv6Header>
+    ensures accepted { IsSome result ↔ (fields.now.flow_label < 2 ^ 20) }
+    ensures value { IfSome result (StandForIpv6 fields.now) }
+{
+    let flow_label = Ipv6FlowLabel::try_new(fields.flow_label).ok()?;
+    Some(Ipv6Header {
+        traffic_class: fields.traffic_class,
+        flow_label,
+        payload_length: fields.payload_length,
+        next_header: IpNumber(fields.next_header),
+        hop_limit: fields.hop_limit,
+        source: fields.source,
+        destination: fields.destination,
+    })
+}
+
+// The fields of a header.
+#[inline(always)]
+fn fields_of(header: &Ipv6Header) -> Ipv6Fields
+    ensures same { StandForIpv6 result header.now }
+{
+    Ipv6Fields {
+        flow_label: header.flow_label.value(),
+        payload_length: header.payload_length,
+        traffic_class: header.traffic_class,
+        next_header: header.next_header.0,
+        hop_limit: header.hop_limit,
+        source: header.source,
+        destination: header.destination,
+    }
+}
+
+// What stands in the place of the fields where there is no header.
+fn no_fields() -> Ipv6Fields
+    ensures value { result ≡ no_ipv6_fields }
+{
+    Ipv6Fields {
+        flow_label: 0,
+        payload_length: 0,
+        traffic_class: 0,
+        next_header: 0,
+        hop_limit: 0,
+        source: [0; 16],
+        destination: [0; 16],
+    }
+}
+
+#[cfg(test)]
+mod tests;

@@ -1,0 +1,107 @@
+//! The view of an IPv6 header (RFC 8200 section 3): its bytes stay where they are.
+
+ghost use Rattle.std.specs.Prelude.{ℕ, ◌≡◌, List, Result};
+ghost use Rattle.etherparse.specs.Ipv6Header.{OfIpv6Header, ViewsIpv6};
+ghost use Rattle.etherparse.specs.declared.err.ipv6.HeaderSliceError.{HeaderSliceError as SliceError};
+ghost use Rattle.etherparse_c.specs.Answer.{GivesAnswer};
+ghost use Rattle.etherparse_c.specs.Ipv6Answers.{GivesIpv6View, ShowsIpv6, no_ipv6_view};
+
+use crate::answer::{Error, Rest};
+use etherparse::Ipv6HeaderSlice;
+
+/// What the getters of a view answer.
+#[repr(C)]
+#[derive(Drop)]
+pub struct Ipv6View {
+    /// The flow label, which marks packets that routers should treat alike, at most 1048575.
+    pub flow_label: u32,
+    /// The length in bytes of all that follows the header.
+    pub payload_length: u16,
+    /// The traffic class.
+    pub traffic_class: u8,
+    /// The differentiated services code point: the upper 6 bits of the traffic class.
+    pub dscp: u8,
+    /// The explicit congestion notification: the lower 2 bits of the traffic class.
+    pub ecn: u8,
+    /// What follows the header: an extension header or an upper-layer protocol.
+    pub next_header: u8,
+    /// Lowered by one by each node that forwards the packet, which discards it at 0.
+    pub hop_limit: u8,
+    /// The address of the sender.
+    pub source: [u8; 16],
+    /// The address of the receiver.
+    pub destination: [u8; 16],
+}
+
+/// The header at the front of a slice: its bytes end where the rest starts.
+#[repr(C)]
+#[derive(Drop)]
+pub struct Ipv6ViewAnswer {
+    /// Why there is none; its kind is 0 where there is one.
+    pub error: Error,
+    /// All the bytes after it.
+    pub rest: Rest,
+    /// What its getters answer.
+    pub view: Ipv6View,
+}
+
+/// A view of the header at the front of a slice, and where the bytes after it are.
+///
+/// The error is a length of fewer than 40 bytes; else another version than 6.
+#[unsafe(no_mangle)]
+pub extern "C" fn etherparse_ipv6_view(slice: &[u8]) -> Ipv6ViewAnswer
+    ensures views { GivesAnswer (ViewsIpv6 slice.now) (GivesIpv6View result slice.now) }
+    ensures only { (other : Result (List ℕ) SliceError) → ViewsIpv6 slice.now other →
+        GivesIpv6View result slice.now other }
+{
+    match Ipv6HeaderSlice::from_slice(slice) {
+        Ok(view) => Ipv6ViewAnswer {
+            error: Error::none(),
+            rest: Rest::after(slice, view.slice),
+            view: getters_of(&view),
+        },
+        Err(e) => Ipv6ViewAnswer {
+            error: Error::of_ipv6(&e),
+            rest: Rest::none(),
+            view: no_view(),
+        },
+    }
+}
+
+// What the getters of a view answer.
+#[inline(always)]
+fn getters_of(view: &Ipv6HeaderSlice) -> Ipv6View
+    ensures value { OfIpv6Header view.now.slice.now (ShowsIpv6 result) }
+{
+    Ipv6View {
+        flow_label: view.flow_label().value(),
+        payload_length: view.payload_length(),
+        traffic_class: view.traffic_class(),
+        dscp: view.dscp().value(),
+        ecn: view.ecn().value(),
+        next_header: view.next_header().0,
+        hop_limit: view.hop_limit(),
+        source: view.source(),
+        destination: view.destination(),
+    }
+}
+
+// What stands in the place of the getters where there is no header.
+fn no_view() -> Ipv6View
+    ensures value { result ≡ no_ipv6_view }
+{
+    Ipv6View {
+        flow_label: 0,
+        payload_length: 0,
+        traffic_class: 0,
+        dscp: 0,
+        ecn: 0,
+        next_header: 0,
+        hop_limit: 0,
+        source: [0; 16],
+        destination: [0; 16],
+    }
+}
+
+#[cfg(test)]
+mod tests;

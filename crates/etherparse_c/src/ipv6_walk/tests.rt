@@ -1,0 +1,23 @@
+//! Where a walk ends, and where it is cut off.
+
+use super::*;
+
+#[test]
+fn a_walk_ends_after_the_headers(rt: HostRuntime) {
+    let walk = etherparse_ipv6_walk(&[6, 255, 0, 0, 0, 0, 0, 0, 9], 44);
+    assert_eq!(rt; (walk.error.kind, walk.next_header), (0, 6));
+    assert_eq!(rt; (walk.rest.offset, walk.rest.len), (8, 1));
+    let walk = etherparse_ipv6_walk(&[], 59);
+    assert_eq!(rt;
+        (walk.error.kind, walk.next_header, walk.rest.len),
+        (0, 59, 0)
+    );
+}
+
+#[test]
+fn an_incomplete_header_is_told_with_its_place(rt: HostRuntime) {
+    let walk = etherparse_ipv6_walk(&[43, 0, 0, 0, 0, 0, 0, 0, 6, 1, 0], 0);
+    let error = &walk.error;
+    assert_eq!(rt; (error.kind, error.required_len, error.len), (1, 16, 3));
+    assert_eq!(rt; error.layer_start_offset, 8);
+}
