@@ -379,10 +379,10 @@ fn ipv4_error(e: &ipv4::HeaderSliceError) -> Error {
     match e {
         Len(e) => len_error(e),
         Content(UnexpectedVersion { version_number }) => {
-            Error { kind: c::UNEXPECTED_VERSION, number: *version_number, ..NO_ERROR }
+            Error { kind: c::UNEXPECTED_VERSION, number: u32::from(*version_number), ..NO_ERROR }
         }
         Content(HeaderLengthSmallerThanHeader { ihl }) => {
-            Error { kind: c::HEADER_LENGTH_SMALLER_THAN_HEADER, number: *ihl, ..NO_ERROR }
+            Error { kind: c::HEADER_LENGTH_SMALLER_THAN_HEADER, number: u32::from(*ihl), ..NO_ERROR }
         }
     }
 }
@@ -392,7 +392,7 @@ fn ipv6_error(e: &ipv6::HeaderSliceError) -> Error {
     match e {
         Len(e) => len_error(e),
         Content(UnexpectedVersion { version_number }) => {
-            Error { kind: c::UNEXPECTED_VERSION, number: *version_number, ..NO_ERROR }
+            Error { kind: c::UNEXPECTED_VERSION, number: u32::from(*version_number), ..NO_ERROR }
         }
     }
 }

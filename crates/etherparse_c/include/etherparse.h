@@ -53,8 +53,8 @@ uint16_t etherparse_u32_16bit_word_checksum(uint32_t start_sum, const uint8_t *a
 
 /* Why a call refused, by its numbers. Each number that a kind does not have is 0. */
 struct etherparse_error {
-    uint8_t kind; /* one of the kinds below; 0 says that nothing was refused */
-    uint8_t number; /* of UNEXPECTED_VERSION the version, of the next kind the IHL, of TOO_MANY the header that is one too many */
+    uint32_t kind; /* one of the kinds below; 0 says that nothing was refused */
+    uint32_t number; /* of UNEXPECTED_VERSION the version, of the next kind the IHL, of TOO_MANY the header that is one too many */
     size_t required_len; /* of LEN: the length in bytes that is required */
     size_t len; /* of LEN: the length in bytes that there is */
     size_t layer_start_offset; /* of LEN and TOO_MANY: where the header starts, in bytes from the start of the slice */

@@ -3,11 +3,11 @@
 
 #![allow(dead_code)]
 
-pub const OK: u8 = 0;
-pub const LEN: u8 = 1;
-pub const UNEXPECTED_VERSION: u8 = 2;
-pub const HEADER_LENGTH_SMALLER_THAN_HEADER: u8 = 3;
-pub const TOO_MANY: u8 = 4;
+pub const OK: u32 = 0;
+pub const LEN: u32 = 1;
+pub const UNEXPECTED_VERSION: u32 = 2;
+pub const HEADER_LENGTH_SMALLER_THAN_HEADER: u32 = 3;
+pub const TOO_MANY: u32 = 4;
 
 /// Bytes of a list of pieces.
 #[repr(C)]
@@ -21,8 +21,8 @@ pub struct Slice {
 #[repr(C)]
 #[derive(Clone, Copy, Debug, Default, PartialEq, Eq)]
 pub struct Error {
-    pub kind: u8,
-    pub number: u8,
+    pub kind: u32,
+    pub number: u32,
     pub required_len: usize,
     pub len: usize,
     pub layer_start_offset: usize,

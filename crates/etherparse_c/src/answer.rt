@@ -7,22 +7,22 @@ ghost use Rattle.etherparse_c.specs.Error.{len_error_in_c, no_error};
 
 use etherparse::err::{LenError, ipv4, ipv6};
 
-const NO_ERROR: u8 = 0;
+const NO_ERROR: u32 = 0;
 
-const LEN: u8 = 1;
+const LEN: u32 = 1;
 
-const UNEXPECTED_VERSION: u8 = 2;
+const UNEXPECTED_VERSION: u32 = 2;
 
-const HEADER_LENGTH_SMALLER_THAN_HEADER: u8 = 3;
+const HEADER_LENGTH_SMALLER_THAN_HEADER: u32 = 3;
 
 /// Why a call refused, by its numbers; each number that its kind does not have is 0.
 #[repr(C)]
 #[derive(Drop)]
 pub struct Error {
     /// Which error it is: 0 none, 1 a length, 2 another version, 3 an IHL below 5, 4 too many extension headers.
-    pub kind: u8,
+    pub kind: u32,
     /// Of kind 2 the version number, of kind 3 the IHL, of kind 4 the number of the header that is one too many.
-    pub number: u8,
+    pub number: u32,
     /// Of kind 1 the length that is required, in bytes.
     pub required_len: usize,
     /// Of kind 1 the length that there is, in bytes.
@@ -73,8 +73,9 @@ impl Error {
         }
     }
 
-    // Of an IPv4 header.
-    #[inline(always)]
+    // Of an IPv4 header. It stands apart, so that it does not weigh on the path of headers that are there.
+    #[cold]
+    #[inline(never)]
     pub(crate) fn of_ipv4(e: &ipv4::HeaderSliceError) -> Error
         ensures value { result ≡ ipv4_error_in_c e.now }
     {
@@ -92,19 +93,20 @@ impl Error {
         match e {
             ipv4::HeaderError::UnexpectedVersion { version_number } => Error {
                 kind: UNEXPECTED_VERSION,
-                number: *version_number,
+                number: u32::from(*version_number),
                 ..Error::none()
             },
             ipv4::HeaderError::HeaderLengthSmallerThanHeader { ihl } => Error {
                 kind: HEADER_LENGTH_SMALLER_THAN_HEADER,
-                number: *ihl,
+                number: u32::from(*ihl),
                 ..Error::none()
             },
         }
     }
 
     // Of an IPv6 header.
-    #[inline(always)]
+    #[cold]
+    #[inline(never)]
     pub(crate) fn of_ipv6(e: &ipv6::HeaderSliceError) -> Error
         ensures value { result ≡ ipv6_error_in_c e.now }
     {
@@ -114,7 +116,7 @@ impl Error {
                 ipv6::HeaderError::UnexpectedVersion { version_number },
             ) => Error {
                 kind: UNEXPECTED_VERSION,
-                number: *version_number,
+                number: u32::from(*version_number),
                 ..Error::none()
             },
         }

@@ -5,13 +5,15 @@ ghost use Rattle.std.specs.Prelude.{drop, length, replicate, take};
 ghost use Rattle.etherparse.specs.Ipv4Header.{Ipv4Reading, ReadsIpv4};
 ghost use Rattle.etherparse.specs.Ipv4Options.{IsOptionsLen};
 ghost use Rattle.etherparse.specs.declared.net.ipv4_header.Ipv4Header.{Ipv4Header as Header};
-ghost use Rattle.etherparse_c.specs.Answer.{GivesAnswer};
+ghost use Rattle.etherparse_c.specs.Answer.{GivesAnswer, no_rest};
+ghost use Rattle.etherparse_c.specs.Error.{ipv4_error_in_c};
 ghost use Rattle.etherparse_c.specs.Ipv4Answers.{AreIpv4Lengths, AreWrittenFor, GivesIpv4Reading};
 ghost use Rattle.etherparse_c.specs.Ipv4Answers.{no_ipv4_bytes, no_ipv4_fields, no_ipv4_lengths};
 ghost use Rattle.etherparse_c.specs.Ipv4Fields.{AreWithinBounds, IsChecksumOf, StandFor};
 
 use crate::answer::{Error, Rest};
 use crate::room::filled;
+use etherparse::err::ipv4::HeaderSliceError;
 use etherparse::{IpDscp, IpEcn, IpFragOffset, IpNumber, Ipv4Header, Ipv4Options};
 
 /// The fields of an IPv4 header, as C has them.
@@ -97,16 +99,23 @@ pub extern "C" fn etherparse_ipv4_read(slice: &[u8]) -> Ipv4ReadAnswer
         GivesIpv4Reading result slice.now other }
 {
     match Ipv4Header::from_slice(slice) {
-        Ok((header, rest)) => Ipv4ReadAnswer {
-            error: Error::none(),
-            rest: Rest::of(slice, rest),
-            fields: fields_of(&header),
-        },
-        Err(e) => Ipv4ReadAnswer {
-            error: Error::of_ipv4(&e),
-            rest: Rest::none(),
-            fields: no_fields(),
-        },
+        Ok((header, rest)) => {
+            let rest = Rest::of(slice, rest);
+            // Most headers have no options, and nothing is copied then.
+            if header.options.is_empty() {
+                return Ipv4ReadAnswer {
+                    error: Error::none(),
+                    rest,
+                    fields: fields_with(&header, [0; 40]),
+                };
+            }
+            return Ipv4ReadAnswer {
+                error: Error::none(),
+                rest,
+                fields: fields_with(&header, filled::<40>(header.options.as_slice())),
+            };
+        }
+        Err(e) => return refused(&e),
     }
 }
 
@@ -120,19 +129,20 @@ pub extern "C" fn etherparse_ipv4_write(fields: &Ipv4Fields) -> Ipv4Bytes
     ensures padded { drop result.len result.bytes ≡ replicate (60 - result.len) 0 }
     ensures refused { ¬ AreWithinBounds fields.now → result ≡ no_ipv4_bytes }
 {
-    match header_of(fields) {
-        Some(header) => {
-            let written = header.to_bytes();
-            let bytes = written.as_slice();
-            Ipv4Bytes {
-                bytes: filled::<60>(bytes),
-                len: bytes.len() as u8,
-            }
-        }
-        None => Ipv4Bytes {
-            bytes: [0; 60],
-            len: 0,
-        },
+    // Each number of bytes has a copy of its own, of a length that the compiler knows.
+    match fields.options_len {
+        0 => return written_with::<0>(fields),
+        4 => return written_with::<4>(fields),
+        8 => return written_with::<8>(fields),
+        12 => return written_with::<12>(fields),
+        16 => return written_with::<16>(fields),
+        20 => return written_with::<20>(fields),
+        24 => return written_with::<24>(fields),
+        28 => return written_with::<28>(fields),
+        32 => return written_with::<32>(fields),
+        36 => return written_with::<36>(fields),
+        40 => return written_with::<40>(fields),
+        _ => return no_bytes(),
     }
 }
 
@@ -198,6 +208,17 @@ fn header_of(fields: &Ipv4Fields) -> Option<Ipv4Header>
     if options_len > 40 || options_len % 4 != 0 {
         return None;
     }
+    header_with(fields, options_len)
+}
+
+// The same, with so many bytes of options.
+#[inline(always)]
+fn header_with(fields: &Ipv4Fields, options_len: usize) -> Option<Ipv4Header>
+    requires found { fields.now.options_len ≡ options_len }
+    requires fits { IsOptionsLen options_len }
+    ensures accepted { IsSome result ↔ AreWithinBounds fields.now }
+    ensures value { IfSome result (StandFor fields.now) }
+{
     let dscp = IpDscp::try_new(fields.dscp).ok()?;
     let ecn = IpEcn::try_new(fields.ecn).ok()?;
     let fragment_offset = IpFragOffset::try_new(fields.fragment_offset).ok()?;
@@ -218,9 +239,47 @@ fn header_of(fields: &Ipv4Fields) -> Option<Ipv4Header>
     })
 }
 
-// The fields of a header.
+// The bytes of the header of these fields, with N bytes of options.
 #[inline(always)]
-fn fields_of(header: &Ipv4Header) -> Ipv4Fields
+fn written_with<const N: usize>(fields: &Ipv4Fields) -> Ipv4Bytes
+    requires found { fields.now.options_len ≡ N }
+    requires fits { IsOptionsLen N }
+    ensures accepted { (0 < result.len) ↔ AreWithinBounds fields.now }
+    ensures layout { 0 < result.len → AreWrittenFor fields.now (take result.len result.bytes) }
+    ensures only { 0 < result.len → (bytes : List ℕ) → AreWrittenFor fields.now bytes →
+        bytes ≡ take result.len result.bytes }
+    ensures padded { drop result.len result.bytes ≡ replicate (60 - result.len) 0 }
+    ensures refused { ¬ AreWithinBounds fields.now → result ≡ no_ipv4_bytes }
+{
+    match header_with(fields, N) {
+        Some(header) => {
+            let written = header.to_bytes();
+            let bytes = written.as_slice();
+            return Ipv4Bytes {
+                bytes: filled::<60>(bytes),
+                len: bytes.len() as u8,
+            };
+        }
+        None => return no_bytes(),
+    }
+}
+
+// The answer where the fields are those of no header.
+#[inline(always)]
+fn no_bytes() -> Ipv4Bytes
+    ensures value { result ≡ no_ipv4_bytes }
+{
+    Ipv4Bytes {
+        bytes: [0; 60],
+        len: 0,
+    }
+}
+
+// The fields of a header, with its options at the front of an array.
+#[inline(always)]
+fn fields_with(header: &Ipv4Header, options: [u8; 40]) -> Ipv4Fields
+    requires { options
+        ≡ header.now.options ++ replicate (40 - length header.now.options) 0 }
     ensures same { StandFor result header.now }
     ensures padded { result.options
         ≡ header.now.options ++ replicate (40 - length header.now.options) 0 }
@@ -239,29 +298,38 @@ fn fields_of(header: &Ipv4Header) -> Ipv4Fields
         source: header.source,
         destination: header.destination,
         options_len: header.options.len_u8(),
-        options: filled::<40>(header.options.as_slice()),
+        options,
     }
 }
 
-// What stands in the place of the fields where there is no header.
-fn no_fields() -> Ipv4Fields
-    ensures value { result ≡ no_ipv4_fields }
+// The answer where there is no header.
+#[inline(always)]
+fn refused(e: &HeaderSliceError) -> Ipv4ReadAnswer
+    ensures value { result ≡ record {
+      error = ipv4_error_in_c e.now;
+      rest = no_rest;
+      fields = no_ipv4_fields;
+    } }
 {
-    Ipv4Fields {
-        dscp: 0,
-        ecn: 0,
-        total_len: 0,
-        identification: 0,
-        dont_fragment: false,
-        more_fragments: false,
-        fragment_offset: 0,
-        time_to_live: 0,
-        protocol: 0,
-        header_checksum: 0,
-        source: [0; 4],
-        destination: [0; 4],
-        options_len: 0,
-        options: [0; 40],
+    Ipv4ReadAnswer {
+        error: Error::of_ipv4(e),
+        rest: Rest::none(),
+        fields: Ipv4Fields {
+            dscp: 0,
+            ecn: 0,
+            total_len: 0,
+            identification: 0,
+            dont_fragment: false,
+            more_fragments: false,
+            fragment_offset: 0,
+            time_to_live: 0,
+            protocol: 0,
+            header_checksum: 0,
+            source: [0; 4],
+            destination: [0; 4],
+            options_len: 0,
+            options: [0; 40],
+        },
     }
 }
 

@@ -3,11 +3,13 @@
 ghost use Rattle.std.specs.Prelude.{ℕ, ◌≡◌, List, Result};
 ghost use Rattle.etherparse.specs.Ipv4Header.{OfIpv4Header, ViewsIpv4};
 ghost use Rattle.etherparse.specs.declared.err.ipv4.HeaderSliceError.{HeaderSliceError as SliceError};
-ghost use Rattle.etherparse_c.specs.Answer.{GivesAnswer};
+ghost use Rattle.etherparse_c.specs.Answer.{GivesAnswer, no_rest};
+ghost use Rattle.etherparse_c.specs.Error.{ipv4_error_in_c};
 ghost use Rattle.etherparse_c.specs.Ipv4Answers.{GivesIpv4View, ShowsIpv4, no_ipv4_view};
 
 use crate::answer::{Error, Rest};
 use etherparse::Ipv4HeaderSlice;
+use etherparse::err::ipv4::HeaderSliceError;
 
 /// What the getters of a view answer.
 #[repr(C)]
@@ -66,16 +68,14 @@ pub extern "C" fn etherparse_ipv4_view(slice: &[u8]) -> Ipv4ViewAnswer
         GivesIpv4View result slice.now other }
 {
     match Ipv4HeaderSlice::from_slice(slice) {
-        Ok(view) => Ipv4ViewAnswer {
-            error: Error::none(),
-            rest: Rest::after(slice, view.slice),
-            view: getters_of(&view),
-        },
-        Err(e) => Ipv4ViewAnswer {
-            error: Error::of_ipv4(&e),
-            rest: Rest::none(),
-            view: no_view(),
-        },
+        Ok(view) => {
+            return Ipv4ViewAnswer {
+                error: Error::none(),
+                rest: Rest::after(slice, view.slice),
+                view: getters_of(&view),
+            };
+        }
+        Err(e) => return refused(&e),
     }
 }
 
@@ -102,25 +102,34 @@ fn getters_of(view: &Ipv4HeaderSlice) -> Ipv4View
     }
 }
 
-// What stands in the place of the getters where there is no header.
-fn no_view() -> Ipv4View
-    ensures value { result ≡ no_ipv4_view }
+// The answer where there is no header.
+#[inline(always)]
+fn refused(e: &HeaderSliceError) -> Ipv4ViewAnswer
+    ensures value { result ≡ record {
+      error = ipv4_error_in_c e.now;
+      rest = no_rest;
+      view = no_ipv4_view;
+    } }
 {
-    Ipv4View {
-        ihl: 0,
-        dscp: 0,
-        ecn: 0,
-        dont_fragment: false,
-        more_fragments: false,
-        is_fragmenting_payload: false,
-        time_to_live: 0,
-        protocol: 0,
-        total_len: 0,
-        identification: 0,
-        fragment_offset: 0,
-        header_checksum: 0,
-        source: [0; 4],
-        destination: [0; 4],
+    Ipv4ViewAnswer {
+        error: Error::of_ipv4(e),
+        rest: Rest::none(),
+        view: Ipv4View {
+            ihl: 0,
+            dscp: 0,
+            ecn: 0,
+            dont_fragment: false,
+            more_fragments: false,
+            is_fragmenting_payload: false,
+            time_to_live: 0,
+            protocol: 0,
+            total_len: 0,
+            identification: 0,
+            fragment_offset: 0,
+            header_checksum: 0,
+            source: [0; 4],
+            destination: [0; 4],
+        },
     }
 }
 

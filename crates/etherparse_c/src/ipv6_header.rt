@@ -2,12 +2,14 @@
 
 ghost use Rattle.std.specs.Prelude.{ℕ, ◌≡◌, ◌↔◌, ◌^◌, ◌<◌, List, IfSome, IsSome, take};
 ghost use Rattle.etherparse.specs.Ipv6Header.{Ipv6Reading, ReadsIpv6};
-ghost use Rattle.etherparse_c.specs.Answer.{GivesAnswer};
+ghost use Rattle.etherparse_c.specs.Answer.{GivesAnswer, no_rest};
+ghost use Rattle.etherparse_c.specs.Error.{ipv6_error_in_c};
 ghost use Rattle.etherparse_c.specs.Ipv6Answers.{AreWrittenForIpv6, GivesIpv6Reading};
 ghost use Rattle.etherparse_c.specs.Ipv6Answers.{no_ipv6_bytes, no_ipv6_fields};
 ghost use Rattle.etherparse_c.specs.Ipv6Fields.{StandForIpv6};
 
 use crate::answer::{Error, Rest};
+use etherparse::err::ipv6::HeaderSliceError;
 use etherparse::{IpNumber, Ipv6FlowLabel, Ipv6Header};
 
 /// The fields of an IPv6 header, as C has them.
@@ -62,16 +64,14 @@ pub extern "C" fn etherparse_ipv6_read(slice: &[u8]) -> Ipv6ReadAnswer
         GivesIpv6Reading result slice.now other }
 {
     match Ipv6Header::from_slice(slice) {
-        Ok((header, rest)) => Ipv6ReadAnswer {
-            error: Error::none(),
-            rest: Rest::of(slice, rest),
-            fields: fields_of(&header),
-        },
-        Err(e) => Ipv6ReadAnswer {
-            error: Error::of_ipv6(&e),
-            rest: Rest::none(),
-            fields: no_fields(),
-        },
+        Ok((header, rest)) => {
+            return Ipv6ReadAnswer {
+                error: Error::none(),
+                rest: Rest::of(slice, rest),
+                fields: fields_of(&header),
+            };
+        }
+        Err(e) => return refused(&e),
     }
 }
 
@@ -85,14 +85,18 @@ pub extern "C" fn etherparse_ipv6_write(fields: &Ipv6Fields) -> Ipv6Bytes
     ensures refused { ¬ (fields.now.flow_label < 2 ^ 20) → result ≡ no_ipv6_bytes }
 {
     match header_of(fields) {
-        Some(header) => Ipv6Bytes {
-            bytes: header.to_bytes(),
-            len: 40,
-        },
-        None => Ipv6Bytes {
-            bytes: [0; 40],
-            len: 0,
-        },
+        Some(header) => {
+            return Ipv6Bytes {
+                bytes: header.to_bytes(),
+                len: 40,
+            };
+        }
+        None => {
+            return Ipv6Bytes {
+                bytes: [0; 40],
+                len: 0,
+            };
+        }
     }
 }
 
@@ -130,18 +134,27 @@ fn fields_of(header: &Ipv6Header) -> Ipv6Fields
     }
 }
 
-// What stands in the place of the fields where there is no header.
-fn no_fields() -> Ipv6Fields
-    ensures value { result ≡ no_ipv6_fields }
+// The answer where there is no header.
+#[inline(always)]
+fn refused(e: &HeaderSliceError) -> Ipv6ReadAnswer
+    ensures value { result ≡ record {
+      error = ipv6_error_in_c e.now;
+      rest = no_rest;
+      fields = no_ipv6_fields;
+    } }
 {
-    Ipv6Fields {
-        flow_label: 0,
-        payload_length: 0,
-        traffic_class: 0,
-        next_header: 0,
-        hop_limit: 0,
-        source: [0; 16],
-        destination: [0; 16],
+    Ipv6ReadAnswer {
+        error: Error::of_ipv6(e),
+        rest: Rest::none(),
+        fields: Ipv6Fields {
+            flow_label: 0,
+            payload_length: 0,
+            traffic_class: 0,
+            next_header: 0,
+            hop_limit: 0,
+            source: [0; 16],
+            destination: [0; 16],
+        },
     }
 }
 

@@ -3,11 +3,13 @@
 ghost use Rattle.std.specs.Prelude.{ℕ, ◌≡◌, List, Result};
 ghost use Rattle.etherparse.specs.Ipv6Header.{OfIpv6Header, ViewsIpv6};
 ghost use Rattle.etherparse.specs.declared.err.ipv6.HeaderSliceError.{HeaderSliceError as SliceError};
-ghost use Rattle.etherparse_c.specs.Answer.{GivesAnswer};
+ghost use Rattle.etherparse_c.specs.Answer.{GivesAnswer, no_rest};
+ghost use Rattle.etherparse_c.specs.Error.{ipv6_error_in_c};
 ghost use Rattle.etherparse_c.specs.Ipv6Answers.{GivesIpv6View, ShowsIpv6, no_ipv6_view};
 
 use crate::answer::{Error, Rest};
 use etherparse::Ipv6HeaderSlice;
+use etherparse::err::ipv6::HeaderSliceError;
 
 /// What the getters of a view answer.
 #[repr(C)]
@@ -55,16 +57,14 @@ pub extern "C" fn etherparse_ipv6_view(slice: &[u8]) -> Ipv6ViewAnswer
         GivesIpv6View result slice.now other }
 {
     match Ipv6HeaderSlice::from_slice(slice) {
-        Ok(view) => Ipv6ViewAnswer {
-            error: Error::none(),
-            rest: Rest::after(slice, view.slice),
-            view: getters_of(&view),
-        },
-        Err(e) => Ipv6ViewAnswer {
-            error: Error::of_ipv6(&e),
-            rest: Rest::none(),
-            view: no_view(),
-        },
+        Ok(view) => {
+            return Ipv6ViewAnswer {
+                error: Error::none(),
+                rest: Rest::after(slice, view.slice),
+                view: getters_of(&view),
+            };
+        }
+        Err(e) => return refused(&e),
     }
 }
 
@@ -86,20 +86,29 @@ fn getters_of(view: &Ipv6HeaderSlice) -> Ipv6View
     }
 }
 
-// What stands in the place of the getters where there is no header.
-fn no_view() -> Ipv6View
-    ensures value { result ≡ no_ipv6_view }
+// The answer where there is no header.
+#[inline(always)]
+fn refused(e: &HeaderSliceError) -> Ipv6ViewAnswer
+    ensures value { result ≡ record {
+      error = ipv6_error_in_c e.now;
+      rest = no_rest;
+      view = no_ipv6_view;
+    } }
 {
-    Ipv6View {
-        flow_label: 0,
-        payload_length: 0,
-        traffic_class: 0,
-        dscp: 0,
-        ecn: 0,
-        next_header: 0,
-        hop_limit: 0,
-        source: [0; 16],
-        destination: [0; 16],
+    Ipv6ViewAnswer {
+        error: Error::of_ipv6(e),
+        rest: Rest::none(),
+        view: Ipv6View {
+            flow_label: 0,
+            payload_length: 0,
+            traffic_class: 0,
+            dscp: 0,
+            ecn: 0,
+            next_header: 0,
+            hop_limit: 0,
+            source: [0; 16],
+            destination: [0; 16],
+        },
     }
 }
 

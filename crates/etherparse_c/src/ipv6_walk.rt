@@ -31,16 +31,20 @@ pub extern "C" fn etherparse_ipv6_walk(slice: &[u8], next_header: u8) -> Ipv6Wal
         result ≡ walk_in_c slice.now other }
 {
     match Ipv6Header::skip_all_header_extensions_in_slice(slice, IpNumber(next_header)) {
-        Ok((number, rest)) => Ipv6WalkAnswer {
-            error: Error::none(),
-            rest: Rest::of(slice, rest),
-            next_header: number.0,
-        },
-        Err(e) => Ipv6WalkAnswer {
-            error: Error::of_len(&e),
-            rest: Rest::none(),
-            next_header: 0,
-        },
+        Ok((number, rest)) => {
+            return Ipv6WalkAnswer {
+                error: Error::none(),
+                rest: Rest::of(slice, rest),
+                next_header: number.0,
+            };
+        }
+        Err(e) => {
+            return Ipv6WalkAnswer {
+                error: Error::of_len(&e),
+                rest: Rest::none(),
+                next_header: 0,
+            };
+        }
     }
 }
 

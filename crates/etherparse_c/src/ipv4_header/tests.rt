@@ -108,11 +108,11 @@ fn what_follows_the_options_is_0(rt: HostRuntime) {
 }
 
 // The kind of an error, its number and its two lengths.
-fn numbers_of(error: &Error) -> (u8, u8, usize, usize) {
+fn numbers_of(error: &Error) -> (u32, u32, usize, usize) {
     (error.kind, error.number, error.required_len, error.len)
 }
 
-fn refused(slice: &[u8]) -> (u8, u8, usize, usize) {
+fn refused(slice: &[u8]) -> (u32, u32, usize, usize) {
     numbers_of(&etherparse_ipv4_read(slice).error)
 }
 

@@ -3,15 +3,16 @@ use Rattle.std.proofs.lemmas.List.{take_at}
 use Rattle.etherparse.specs.Ipv4Header.{IsIpv4Layout}
 use Rattle.etherparse_c.proofs.Fields.{one_ipv4_header}
 use Rattle.etherparse_c.specs.Ipv4Answers.{AreWrittenFor}
-use Rattle.etherparse_c.proofs.ipv4_header.etherparse_ipv4_write.Goals as goal
+use Rattle.etherparse_c.proofs.ipv4_header.written_with.Given as given
+use Rattle.etherparse_c.proofs.ipv4_header.written_with.Goals as goal
 
 -- the bytes in the answer are those that were written
-written : (c : goal.After-filled) → take (length c.as_slice-bytes.result.now) c.filled.result ≡ c.to_bytes-written.result.items
-written c = ap (λ x. take (length c.as_slice-bytes.result.now) x) c.filled.ensures.value
+written : (g : given.Over) (c : goal.After-filled g) → take (length c.as_slice-bytes.result.now) c.filled.result ≡ c.to_bytes-written.result.items
+written g c = ap (λ x. take (length c.as_slice-bytes.result.now) x) c.filled.ensures.value
     ∙ take_at c.as_slice-bytes.result.now _ _ refl ∙ c.as_slice-bytes.ensures.value
 
 pub returns-in-Some-clause-layout : goal.returns-in-Some-clause-layout
-returns-in-Some-clause-layout c = λ some. subst (λ x. AreWrittenFor c.args.fields.now x) (sym (written c)) (record {
+returns-in-Some-clause-layout g c = λ some. subst (λ x. AreWrittenFor c.args.fields.now x) (sym (written g c)) (record {
   header = c.in-Some.header;
   same = c.in-Some.ensures.value;
   layout = c.to_bytes-written.ensures.layout;
@@ -21,6 +22,6 @@ returns-in-Some-clause-layout c = λ some. subst (λ x. AreWrittenFor c.args.fie
 })
 
 pub returns-in-Some-clause-only : goal.returns-in-Some-clause-only
-returns-in-Some-clause-only c = λ some bytes other.
+returns-in-Some-clause-only g c = λ some bytes other.
     let same = one_ipv4_header c.args.fields.now other.header c.in-Some.header other.same c.in-Some.ensures.value in
-    c.to_bytes-written.ensures.only bytes (subst (λ h. IsIpv4Layout h 0 bytes) same other.layout) ∙ sym (written c)
+    c.to_bytes-written.ensures.only bytes (subst (λ h. IsIpv4Layout h 0 bytes) same other.layout) ∙ sym (written g c)
