@@ -97,6 +97,12 @@ struct etherparse_ipv4_fields {
 
 /* What the getters of a view answer. */
 struct etherparse_ipv4_view {
+    uint8_t source[4];
+    uint8_t destination[4];
+    uint16_t total_len; /* of the header and what follows it, in bytes */
+    uint16_t identification;
+    uint16_t fragment_offset; /* in units of 8 bytes */
+    uint16_t header_checksum; /* the one that the header has, right or wrong */
     uint8_t ihl; /* the length of the header in words of 4 bytes, 5 to 15 */
     uint8_t dscp;
     uint8_t ecn;
@@ -105,28 +111,22 @@ struct etherparse_ipv4_view {
     bool is_fragmenting_payload; /* more fragments follow, or the offset is not 0 */
     uint8_t time_to_live;
     uint8_t protocol;
-    uint16_t total_len; /* of the header and what follows it, in bytes */
-    uint16_t identification;
-    uint16_t fragment_offset; /* in units of 8 bytes */
-    uint16_t header_checksum; /* the one that the header has, right or wrong */
-    uint8_t source[4];
-    uint8_t destination[4];
 };
 
 /* The header at the front of a slice, as a view. Its bytes are those of the slice up to rest.offset, and its options those from
  * byte 20 up to there. Where error.kind is not ETHERPARSE_OK, there is no header and all else is 0. */
 struct etherparse_ipv4_view_answer {
-    struct etherparse_error error;
-    struct etherparse_rest rest;
     struct etherparse_ipv4_view view;
+    struct etherparse_rest rest;
+    struct etherparse_error error;
 };
 
 /* The header at the front of a slice, with a copy of its options, which 0 follows in their array. Where error.kind is not
  * ETHERPARSE_OK, there is no header and all else is 0. */
 struct etherparse_ipv4_read_answer {
-    struct etherparse_error error;
-    struct etherparse_rest rest;
     struct etherparse_ipv4_fields fields;
+    struct etherparse_rest rest;
+    struct etherparse_error error;
 };
 
 /* The bytes of a header, and 0 after them. Where the fields are those of no header, all is 0. */
@@ -137,11 +137,11 @@ struct etherparse_ipv4_bytes {
 
 /* The lengths of a header and of its payload. */
 struct etherparse_ipv4_lengths {
-    struct etherparse_error error; /* why there is no payload_len: a LEN where total_len is below the length of the header */
     uint16_t payload_len; /* what total_len counts beyond the header, in bytes */
     uint16_t max_payload_len; /* of the longest payload that fits after the header, in bytes */
     uint8_t header_len; /* with the options, in bytes */
     uint8_t ihl; /* the same in words of 4 bytes */
+    struct etherparse_error error; /* why there is no payload_len: a LEN where total_len is below the length of the header */
 };
 
 /* The header at the front of a slice, and where the bytes after it are, however many total_len tells of.
@@ -168,17 +168,19 @@ bool etherparse_ipv4_header_checksum(const struct etherparse_ipv4_fields *fields
 
 /* The fields of a header, which has 40 bytes. */
 struct etherparse_ipv6_fields {
+    uint8_t source[16];
+    uint8_t destination[16];
     uint32_t flow_label; /* at most 1048575 */
     uint16_t payload_length; /* of all that follows the header, in bytes */
     uint8_t traffic_class; /* four times the DSCP, and the ECN */
     uint8_t next_header; /* the number of what follows: an extension header or an upper-layer protocol */
     uint8_t hop_limit;
-    uint8_t source[16];
-    uint8_t destination[16];
 };
 
 /* What the getters of a view answer. */
 struct etherparse_ipv6_view {
+    uint8_t source[16];
+    uint8_t destination[16];
     uint32_t flow_label;
     uint16_t payload_length; /* of all that follows the header, in bytes */
     uint8_t traffic_class;
@@ -186,21 +188,19 @@ struct etherparse_ipv6_view {
     uint8_t ecn; /* the explicit congestion notification: its lower 2 bits */
     uint8_t next_header;
     uint8_t hop_limit;
-    uint8_t source[16];
-    uint8_t destination[16];
 };
 
 /* The header at the front of a slice. Where error.kind is not ETHERPARSE_OK, there is no header and all else is 0. */
 struct etherparse_ipv6_view_answer {
-    struct etherparse_error error;
-    struct etherparse_rest rest;
     struct etherparse_ipv6_view view;
+    struct etherparse_rest rest;
+    struct etherparse_error error;
 };
 
 struct etherparse_ipv6_read_answer {
-    struct etherparse_error error;
-    struct etherparse_rest rest;
     struct etherparse_ipv6_fields fields;
+    struct etherparse_rest rest;
+    struct etherparse_error error;
 };
 
 /* The bytes of a header. Where the flow label is too great, all is 0. */
@@ -211,9 +211,9 @@ struct etherparse_ipv6_bytes {
 
 /* Where a walk past extension headers ended. Where error.kind is not ETHERPARSE_OK, all else is 0. */
 struct etherparse_ipv6_walk_answer {
-    struct etherparse_error error;
-    struct etherparse_rest rest; /* the bytes after all extension headers */
     uint8_t next_header; /* their number: the first that is none of an extension header that can be skipped */
+    struct etherparse_rest rest; /* the bytes after all extension headers */
+    struct etherparse_error error;
 };
 
 /* The header at the front of a slice, and where the bytes after it are, however many payload_length tells of.

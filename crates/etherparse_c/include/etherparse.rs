@@ -61,6 +61,12 @@ pub struct Ipv4Fields {
 #[repr(C)]
 #[derive(Clone, Copy, Debug, PartialEq, Eq)]
 pub struct Ipv4View {
+    pub source: [u8; 4],
+    pub destination: [u8; 4],
+    pub total_len: u16,
+    pub identification: u16,
+    pub fragment_offset: u16,
+    pub header_checksum: u16,
     pub ihl: u8,
     pub dscp: u8,
     pub ecn: u8,
@@ -69,30 +75,24 @@ pub struct Ipv4View {
     pub is_fragmenting_payload: bool,
     pub time_to_live: u8,
     pub protocol: u8,
-    pub total_len: u16,
-    pub identification: u16,
-    pub fragment_offset: u16,
-    pub header_checksum: u16,
-    pub source: [u8; 4],
-    pub destination: [u8; 4],
 }
 
 /// The IPv4 header at the front of a slice, as a view.
 #[repr(C)]
 #[derive(Clone, Copy, Debug, PartialEq, Eq)]
 pub struct Ipv4ViewAnswer {
-    pub error: Error,
-    pub rest: Rest,
     pub view: Ipv4View,
+    pub rest: Rest,
+    pub error: Error,
 }
 
 /// The IPv4 header at the front of a slice, with a copy of its options.
 #[repr(C)]
 #[derive(Clone, Copy, Debug, PartialEq, Eq)]
 pub struct Ipv4ReadAnswer {
-    pub error: Error,
-    pub rest: Rest,
     pub fields: Ipv4Fields,
+    pub rest: Rest,
+    pub error: Error,
 }
 
 /// The bytes of an IPv4 header.
@@ -107,30 +107,32 @@ pub struct Ipv4Bytes {
 #[repr(C)]
 #[derive(Clone, Copy, Debug, PartialEq, Eq)]
 pub struct Ipv4Lengths {
-    pub error: Error,
     pub payload_len: u16,
     pub max_payload_len: u16,
     pub header_len: u8,
     pub ihl: u8,
+    pub error: Error,
 }
 
 /// The fields of an IPv6 header.
 #[repr(C)]
 #[derive(Clone, Copy, Debug, PartialEq, Eq)]
 pub struct Ipv6Fields {
+    pub source: [u8; 16],
+    pub destination: [u8; 16],
     pub flow_label: u32,
     pub payload_length: u16,
     pub traffic_class: u8,
     pub next_header: u8,
     pub hop_limit: u8,
-    pub source: [u8; 16],
-    pub destination: [u8; 16],
 }
 
 /// What the getters of a view of an IPv6 header answer.
 #[repr(C)]
 #[derive(Clone, Copy, Debug, PartialEq, Eq)]
 pub struct Ipv6View {
+    pub source: [u8; 16],
+    pub destination: [u8; 16],
     pub flow_label: u32,
     pub payload_length: u16,
     pub traffic_class: u8,
@@ -138,26 +140,24 @@ pub struct Ipv6View {
     pub ecn: u8,
     pub next_header: u8,
     pub hop_limit: u8,
-    pub source: [u8; 16],
-    pub destination: [u8; 16],
 }
 
 /// The IPv6 header at the front of a slice, as a view.
 #[repr(C)]
 #[derive(Clone, Copy, Debug, PartialEq, Eq)]
 pub struct Ipv6ViewAnswer {
-    pub error: Error,
-    pub rest: Rest,
     pub view: Ipv6View,
+    pub rest: Rest,
+    pub error: Error,
 }
 
 /// The IPv6 header at the front of a slice.
 #[repr(C)]
 #[derive(Clone, Copy, Debug, PartialEq, Eq)]
 pub struct Ipv6ReadAnswer {
-    pub error: Error,
-    pub rest: Rest,
     pub fields: Ipv6Fields,
+    pub rest: Rest,
+    pub error: Error,
 }
 
 /// The bytes of an IPv6 header.
@@ -172,9 +172,9 @@ pub struct Ipv6Bytes {
 #[repr(C)]
 #[derive(Clone, Copy, Debug, PartialEq, Eq)]
 pub struct Ipv6WalkAnswer {
-    pub error: Error,
-    pub rest: Rest,
     pub next_header: u8,
+    pub rest: Rest,
+    pub error: Error,
 }
 
 extern "C" {

@@ -73,9 +73,8 @@ impl Error {
         }
     }
 
-    // Of an IPv4 header. It stands apart, so that it does not weigh on the path of headers that are there.
-    #[cold]
-    #[inline(never)]
+    // Of an IPv4 header.
+    #[inline(always)]
     pub(crate) fn of_ipv4(e: &ipv4::HeaderSliceError) -> Error
         ensures value { result ≡ ipv4_error_in_c e.now }
     {
@@ -105,8 +104,7 @@ impl Error {
     }
 
     // Of an IPv6 header.
-    #[cold]
-    #[inline(never)]
+    #[inline(always)]
     pub(crate) fn of_ipv6(e: &ipv6::HeaderSliceError) -> Error
         ensures value { result ≡ ipv6_error_in_c e.now }
     {

@@ -54,12 +54,12 @@ pub struct Ipv4Fields {
 #[repr(C)]
 #[derive(Drop)]
 pub struct Ipv4ReadAnswer {
-    /// Why there is none; its kind is 0 where there is one.
-    pub error: Error,
-    /// All the bytes after it.
-    pub rest: Rest,
     /// Its fields, with 0 after the options in their array.
     pub fields: Ipv4Fields,
+    /// All the bytes after it.
+    pub rest: Rest,
+    /// Why there is none; its kind is 0 where there is one.
+    pub error: Error,
 }
 
 /// The bytes of a header.
@@ -76,8 +76,6 @@ pub struct Ipv4Bytes {
 #[repr(C)]
 #[derive(Drop)]
 pub struct Ipv4Lengths {
-    /// Why there is no length of the payload; its kind is 0 where there is one.
-    pub error: Error,
     /// The length of the payload in bytes, as the total length tells of it.
     pub payload_len: u16,
     /// The length of the longest payload that fits after the header, in bytes.
@@ -86,6 +84,8 @@ pub struct Ipv4Lengths {
     pub header_len: u8,
     /// The same in words of 4 bytes.
     pub ihl: u8,
+    /// Why there is no length of the payload; its kind is 0 where there is one.
+    pub error: Error,
 }
 
 /// The fields of the header at the front of a slice, and where the bytes after it are, however many `total_len` tells of.

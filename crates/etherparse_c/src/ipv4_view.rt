@@ -15,6 +15,18 @@ use etherparse::err::ipv4::HeaderSliceError;
 #[repr(C)]
 #[derive(Drop)]
 pub struct Ipv4View {
+    /// The address of the sender.
+    pub source: [u8; 4],
+    /// The address of the receiver.
+    pub destination: [u8; 4],
+    /// The length of the header and what follows it, in bytes.
+    pub total_len: u16,
+    /// What the fragments of one packet have in common.
+    pub identification: u16,
+    /// Where the fragment stands in the packet, in units of 8 bytes, at most 8191.
+    pub fragment_offset: u16,
+    /// The checksum that the header has, right or wrong.
+    pub header_checksum: u16,
     /// The length of the header in words of 4 bytes, 5 to 15.
     pub ihl: u8,
     /// The differentiated services code point, at most 63.
@@ -31,30 +43,18 @@ pub struct Ipv4View {
     pub time_to_live: u8,
     /// The protocol of what follows the header.
     pub protocol: u8,
-    /// The length of the header and what follows it, in bytes.
-    pub total_len: u16,
-    /// What the fragments of one packet have in common.
-    pub identification: u16,
-    /// Where the fragment stands in the packet, in units of 8 bytes, at most 8191.
-    pub fragment_offset: u16,
-    /// The checksum that the header has, right or wrong.
-    pub header_checksum: u16,
-    /// The address of the sender.
-    pub source: [u8; 4],
-    /// The address of the receiver.
-    pub destination: [u8; 4],
 }
 
 /// The header at the front of a slice: its bytes end where the rest starts, and the options are those from byte 20 on.
 #[repr(C)]
 #[derive(Drop)]
 pub struct Ipv4ViewAnswer {
-    /// Why there is none; its kind is 0 where there is one.
-    pub error: Error,
-    /// All the bytes after it.
-    pub rest: Rest,
     /// What its getters answer.
     pub view: Ipv4View,
+    /// All the bytes after it.
+    pub rest: Rest,
+    /// Why there is none; its kind is 0 where there is one.
+    pub error: Error,
 }
 
 /// A view of the header at the front of a slice, and where the bytes after it are.

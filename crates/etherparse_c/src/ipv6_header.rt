@@ -16,6 +16,10 @@ use etherparse::{IpNumber, Ipv6FlowLabel, Ipv6Header};
 #[repr(C)]
 #[derive(Drop)]
 pub struct Ipv6Fields {
+    /// The address of the sender.
+    pub source: [u8; 16],
+    /// The address of the receiver.
+    pub destination: [u8; 16],
     /// The flow label, which marks packets that routers should treat alike, at most 1048575.
     pub flow_label: u32,
     /// The length in bytes of all that follows the header.
@@ -26,22 +30,18 @@ pub struct Ipv6Fields {
     pub next_header: u8,
     /// Lowered by one by each node that forwards the packet, which discards it at 0.
     pub hop_limit: u8,
-    /// The address of the sender.
-    pub source: [u8; 16],
-    /// The address of the receiver.
-    pub destination: [u8; 16],
 }
 
 /// The header at the front of a slice.
 #[repr(C)]
 #[derive(Drop)]
 pub struct Ipv6ReadAnswer {
-    /// Why there is none; its kind is 0 where there is one.
-    pub error: Error,
-    /// All the bytes after it.
-    pub rest: Rest,
     /// Its fields.
     pub fields: Ipv6Fields,
+    /// All the bytes after it.
+    pub rest: Rest,
+    /// Why there is none; its kind is 0 where there is one.
+    pub error: Error,
 }
 
 /// The bytes of a header.

@@ -15,6 +15,10 @@ use etherparse::err::ipv6::HeaderSliceError;
 #[repr(C)]
 #[derive(Drop)]
 pub struct Ipv6View {
+    /// The address of the sender.
+    pub source: [u8; 16],
+    /// The address of the receiver.
+    pub destination: [u8; 16],
     /// The flow label, which marks packets that routers should treat alike, at most 1048575.
     pub flow_label: u32,
     /// The length in bytes of all that follows the header.
@@ -29,22 +33,18 @@ pub struct Ipv6View {
     pub next_header: u8,
     /// Lowered by one by each node that forwards the packet, which discards it at 0.
     pub hop_limit: u8,
-    /// The address of the sender.
-    pub source: [u8; 16],
-    /// The address of the receiver.
-    pub destination: [u8; 16],
 }
 
 /// The header at the front of a slice: its bytes end where the rest starts.
 #[repr(C)]
 #[derive(Drop)]
 pub struct Ipv6ViewAnswer {
-    /// Why there is none; its kind is 0 where there is one.
-    pub error: Error,
-    /// All the bytes after it.
-    pub rest: Rest,
     /// What its getters answer.
     pub view: Ipv6View,
+    /// All the bytes after it.
+    pub rest: Rest,
+    /// Why there is none; its kind is 0 where there is one.
+    pub error: Error,
 }
 
 /// A view of the header at the front of a slice, and where the bytes after it are.

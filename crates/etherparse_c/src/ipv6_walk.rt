@@ -12,12 +12,12 @@ use etherparse::{IpNumber, Ipv6Header};
 #[repr(C)]
 #[derive(Drop)]
 pub struct Ipv6WalkAnswer {
-    /// Why it did not come to an end; its kind is 0 where it did.
-    pub error: Error,
-    /// All the bytes after the extension headers.
-    pub rest: Rest,
     /// The number of these bytes: the first that is none of an extension header that can be skipped.
     pub next_header: u8,
+    /// All the bytes after the extension headers.
+    pub rest: Rest,
+    /// Why it did not come to an end; its kind is 0 where it did.
+    pub error: Error,
 }
 
 /// Skips all extension headers at the front of a slice, of which the first has this number.
