@@ -101,6 +101,19 @@ upper 59
 place 40
 rest 2008
 END
+    gives '32 extension headers' 0 "60000000 01000040${ipv6#60000000 00003b40} $(repeated 0 496)3b00000000000000" <<'END'
+version 6
+traffic_class 0
+flow_label 0
+payload_length 256
+next_header 0
+hop_limit 64
+source 00000000000000000000000000000001
+destination 00000000000000000000000000000002
+upper 59
+place 296
+rest 0
+END
     gives 'an IPv4 header' 0 '45000073 00004000 4011b861 c0a80001 c0a800c7' <<'END'
 version 4
 ihl 5
@@ -176,6 +189,17 @@ hop_limit 64
 source 00000000000000000000000000000001
 destination 00000000000000000000000000000002
 error: IPv6 Extension Header Error: Not enough data to decode 'IPv6 extension header'. 16 byte(s) would be required, but only 3 byte(s) are available based on the slice length ('IPv6 extension header' starts at overall parsed byte 48).
+END
+    gives '33 extension headers' 1 "60000000 01080040${ipv6#60000000 00003b40} $(repeated 0 528)" <<'END'
+version 6
+traffic_class 0
+flow_label 0
+payload_length 264
+next_header 0
+hop_limit 64
+source 00000000000000000000000000000001
+destination 00000000000000000000000000000002
+error: IPv6 Extension Header Error: More than 32 extension header(s) ('0' starts at overall parsed byte 296).
 END
     gives 'an IHL below 5' 1 "4${ipv6#6}" <<'END'
 error: IPv4 Header Error: The 'internet header length' value '0' present in the IPv4 header is smaller than the minimum size of an IPv4 header. The minimum allowed value is '5'.
