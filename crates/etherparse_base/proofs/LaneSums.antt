@@ -1,8 +1,13 @@
 -- Sums in lanes of 64 bits: the totals of words, and the sums of their low and high halves.
-use Rattle.std.proofs.Common.{ℕ, List, [], ◌∷◌, ◌≡◌, ◌<◌, ◌+◌, ◌-◌, ◌*◌, ◌/◌, ◌%◌, ◌^◌, ◌∙◌, ap, arith, length, map, refl, replicate}
+use Rattle.std.proofs.Common.{ℕ, List, [], ◌∷◌, ◌≡◌, ◌<◌, ◌+◌, ◌-◌, ◌*◌, ◌/◌, ◌%◌, ◌^◌, ◌∙◌, ap, arith, get_or, length, map, refl, replicate}
 use Rattle.std.specs.Simd.Lanes.{fold_l, sum_l, zip2}
 use Rattle.std.proofs.lemmas.Simd.{sum-zip2, zip2_splat}
 use Rattle.etherparse_base.specs.WideSums.{Splits}
+
+-- the sum of four words
+pub four_sum : (words : List ℕ) → length words ≡ 4 → sum_l words ≡ get_or words 0 0 + get_or words 1 0 + get_or words 2 0 + get_or words 3 0
+four_sum (a ∷ b ∷ c ∷ d ∷ []) four = omega arith
+four_sum words four = absurd (omega (arith, four))
 
 -- lanes in which no sum overflows add as numbers do
 pub lanes_add : (xs ys : List ℕ) → sum_l xs + sum_l ys < 2 ^ 64 → zip2 (λ a b. (a + b) % 2 ^ 64) xs ys ≡ zip2 (λ a b. a + b) xs ys

@@ -30,14 +30,6 @@ fn add_u16(a: u16, b: u16) -> u16
     if carry { sum + 1 } else { sum }
 }
 
-/// A sum of 128 bits in 64: both halves together.
-#[inline(always)]
-pub(super) fn halve_u128(sum: u128) -> u64
-    ensures folded { folded_sum result ≡ folded_sum sum }
-{
-    add_u64((sum & 0xffff_ffff_ffff_ffff) as u64, (sum >> 64) as u64)
-}
-
 /// A sum of 64 bits in 32.
 #[inline(always)]
 pub(super) fn halve_u64(sum: u64) -> u32

@@ -8,7 +8,6 @@ mod tests;
 pub mod u32_16bit_word;
 pub mod u64_16bit_word;
 mod update;
-mod wide_u32;
 mod wide_u64;
 mod words;
 

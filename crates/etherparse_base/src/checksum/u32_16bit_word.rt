@@ -9,8 +9,8 @@ ghost use Rattle.etherparse_base.specs.WordSums.{folded_sum, little_endian_word_
 ghost use Rattle.etherparse_base.specs.WordSums.{network_order_word_sum, ones_complement_sum};
 ghost use Rattle.etherparse_base.specs.WordSums.{with_no_zero};
 
-use super::end_around::{add_u32, halve_u32};
-use super::wide_u32;
+use super::end_around::{add_u32, halve_u32, halve_u64};
+use super::wide_u64;
 
 /// Adds two bytes as one number, the low byte first. A carry out of the 32 bits is added at the low end (RFC 1071
 /// section 1).
@@ -45,7 +45,7 @@ pub fn add_slice(start_sum: u32, slice: &[u8]) -> u32
     ensures one_byte { SumsToAllOnes slice.now
         → (changed : List ℕ) → ChangesOneByte slice.now changed → ¬ SumsToAllOnes changed }
 {
-    wide_u32::add_slice(start_sum, slice)
+    halve_u64(wide_u64::add_slice(u64::from(start_sum), slice))
 }
 
 /// The sum of all pieces, from 0, each added by [`add_slice`]: an odd piece is padded by itself.

@@ -1,282 +1,271 @@
-//! The 64-bit sum of a slice by words of eight bytes, three times twelve a turn where there are many.
+//! The sum of a slice by words of eight bytes: four at a time, and twelve a turn where there are many.
 //!
-//! Of each twelve, eight go into four lanes: each lane has the total of its words and, apart, the sum of their high halves, from
-//! which the sum of the low halves comes back in the end. The other four go into two numbers of 128 bits.
+//! Of each twelve, four go into four lanes: each lane has the total of its words and, apart, the sum of their high halves, from
+//! which the sum of the low halves comes back in the end. The other eight go into eight sums, with the carry out of each into
+//! the next, and that out of the last counted. The 32-bit sum of a slice is this one, halved.
 
-ghost use Rattle.std.specs.Prelude.{◌≡◌, ◌<◌, ◌≤◌, ◌+◌, ◌*◌, ◌^◌, length};
-ghost use Rattle.etherparse_base.specs.WideSums.{AddsU64, StandsFor};
+ghost use Rattle.std.specs.Prelude.{List, ℕ, drop, ◌≡◌, ◌<◌, ◌≤◌, ◌+◌, ◌*◌, ◌^◌, length};
+ghost use Rattle.std.specs.Int.{from_bool};
+ghost use Rattle.std.specs.Simd.Lanes.{sum_l};
+ghost use Rattle.etherparse_base.specs.WideSums.{AddsTurns, AddsWords, StandsFor};
 ghost use Rattle.etherparse_base.specs.WordSums.{folded_sum, little_endian_word_sum};
 
-use super::end_around::halve_u128;
-use super::words::{joined, split_half_word, split_lanes, split_quarter_word, split_word};
+use super::end_around::add_u64;
+use super::words::{joined, split_four_words, split_half_word, split_quarter_word, split_word};
 use std::simd::prelude::*;
+
+// From how many bytes on turns are the faster.
+const MANY: usize = 288;
+
+// Up to how many bytes no sum of halves in the lanes overflows.
+const MOST: usize = 0x2_0000_0000;
 
 /// The sum of a start and the words of a slice.
 #[inline(always)]
 pub(super) fn add_slice(start_sum: u64, slice: &[u8]) -> u64
     ensures sum { folded_sum result ≡ folded_sum (start_sum + little_endian_word_sum slice.now) }
 {
-    let at = add_most(Sums {
-        even: u128::from(start_sum),
-        odd: 0,
-        rest: slice,
-    });
-    halve_u128(add_last(add_two(add_four(add_eight(add_two_words(at))))))
+    if slice.len() < MANY || slice.len() > MOST {
+        add_rest(
+            start_sum,
+            Summed {
+                sum: 0,
+                rest: slice,
+            },
+        )
+    } else {
+        add_many(start_sum, slice)
+    }
 }
 
-/// What is summed so far, in two numbers, and what is left. The two are summed side by side.
+/// What is summed so far, and what is left.
 #[derive(Clone, Copy)]
-pub(super) struct Sums<'a> {
-    pub(super) even: u128,
-    pub(super) odd: u128,
+pub(super) struct Summed<'a> {
+    pub(super) sum: u64,
     pub(super) rest: &'a [u8],
 }
 
-// The word of eight bytes at the front, in 128 bits.
-#[inline(always)]
-fn split_eight(bytes: &[u8]) -> (u128, &[u8])
-    requires { 8 ≤ length bytes.now }
-    ensures stands_for { StandsFor result.0 bytes.now result.1.now }
-    ensures fits { result.0 < 2 ^ 64 }
-    ensures shorter { length result.1.now + 8 ≡ length bytes.now }
+// Adds the words of many bytes, most of them in turns.
+#[inline(never)]
+fn add_many(start_sum: u64, slice: &[u8]) -> u64
+    requires { length slice.now ≤ 2 ^ 33 }
+    ensures sum { folded_sum result ≡ folded_sum (start_sum + little_endian_word_sum slice.now) }
 {
-    let (word, rest) = split_word(bytes);
-    (u128::from(word), rest)
+    add_rest(start_sum, add_turns(slice))
 }
 
-// The word of four bytes.
-#[inline(always)]
-fn split_four(bytes: &[u8]) -> (u128, &[u8])
-    requires { 4 ≤ length bytes.now }
-    ensures stands_for { StandsFor result.0 bytes.now result.1.now }
-    ensures fits { result.0 < 2 ^ 32 }
-    ensures shorter { length result.1.now + 4 ≡ length bytes.now }
-{
-    let (word, rest) = split_half_word(bytes);
-    (u128::from(word), rest)
+// What turns have summed: eight sums with the carries out of them, and four lanes.
+#[derive(Clone, Copy)]
+pub(super) struct Turns {
+    pub(super) first: [u64; 4],
+    pub(super) second: [u64; 4],
+    pub(super) carries: u64,
+    pub(super) total: u64x4,
+    pub(super) high: u64x4,
 }
 
-// The word of two bytes.
+// Adds turns, three at a time where there are as many, until there are not enough bytes for one.
 #[inline(always)]
-fn split_two(bytes: &[u8]) -> (u128, &[u8])
-    requires { 2 ≤ length bytes.now }
-    ensures stands_for { StandsFor result.0 bytes.now result.1.now }
-    ensures fits { result.0 < 2 ^ 16 }
-    ensures shorter { length result.1.now + 2 ≡ length bytes.now }
+fn add_turns<'a>(slice: &'a [u8]) -> Summed<'a>
+    requires { length slice.now ≤ 2 ^ 33 }
+    ensures adds { folded_sum (result.sum + little_endian_word_sum result.rest.now)
+        ≡ folded_sum (little_endian_word_sum slice.now) }
 {
-    let (word, rest) = split_quarter_word(bytes);
-    (u128::from(word), rest)
+    let mut at = Turns {
+        first: [0; 4],
+        second: [0; 4],
+        carries: 0,
+        total: u64x4::splat(0),
+        high: u64x4::splat(0),
+    };
+    let mut rest = slice;
+    'threes: while rest.len() >= 288 {
+        let second = after_turn(rest);
+        let third = after_turn(second);
+        at = add_turn(add_turn(add_turn(at, rest), second), third);
+        rest = after_turn(third);
+    }
+    'ones: while rest.len() >= 96 {
+        at = add_turn(at, rest);
+        rest = after_turn(rest);
+    }
+    let sum = add_words(add_words(at.carries, at.first), at.second);
+    Summed {
+        sum: add_u64(sum, joined(at.total, at.high)),
+        rest,
+    }
 }
 
-// Adds words until fewer than 32 bytes are left.
+// What follows the bytes of a turn.
 #[inline(always)]
-fn add_most<'a>(at: Sums<'a>) -> Sums<'a>
-    requires fits { at.even + at.odd + 2 ^ 64 * length at.rest.now < 2 ^ 128 }
-    ensures adds { AddsU64 at.entry result }
+fn after_turn(bytes: &[u8]) -> &[u8]
+    requires { 96 ≤ length bytes.now }
+    ensures after { result.now ≡ drop 96 bytes.now }
+    ensures shorter { length result.now + 96 ≡ length bytes.now }
+{
+    &bytes[96..]
+}
+
+// Adds twelve words of eight bytes: four in the lanes, eight to the sums.
+#[inline(always)]
+fn add_turn(at: Turns, bytes: &[u8]) -> Turns
+    requires { 96 ≤ length bytes.now }
+    ensures adds { (slice : List ℕ) → length slice ≤ 2 ^ 33 → AddsTurns slice at bytes.now
+        → AddsTurns slice result (drop 96 bytes.now) }
+{
+    let (words, rest) = split_four_words(bytes);
+    let (a, rest) = split_four_words(rest);
+    let (b, rest) = split_four_words(rest);
+    let (first, carry) = add_to_each(at.first, a, false);
+    let (second, carry) = add_to_each(at.second, b, carry);
+    let words = u64x4::from_array(words);
+    Turns {
+        first,
+        second,
+        carries: at.carries.wrapping_add(u64::from(carry)),
+        total: at.total + words,
+        high: at.high + (words >> u64x4::splat(32)),
+    }
+}
+
+// Adds what is left: four words of eight bytes at a time, then at most two, then at most one of each smaller word and an odd
+// byte. The start comes last, so that nothing else has to wait for it.
+#[inline(always)]
+fn add_rest<'a>(start_sum: u64, at: Summed<'a>) -> u64
+    ensures sum { folded_sum result
+        ≡ folded_sum (start_sum + at.entry.sum + little_endian_word_sum at.entry.rest.now) }
+{
+    let at = add_two_words(add_four_words(at));
+    let (word, rest) = split_if_word(at.rest);
+    let (half, rest) = split_if_half_word(rest);
+    let (quarter, rest) = split_if_quarter_word(rest);
+    add_words(at.sum, [word, half, quarter + last_byte(rest), start_sum])
+}
+
+// Adds four words at a time, until fewer are left.
+#[inline(always)]
+fn add_four_words<'a>(start: Summed<'a>) -> Summed<'a>
+    ensures adds { AddsWords start.entry result }
     ensures shorter { length result.rest.now < 32 }
 {
-    if at.rest.len() < 32 {
-        return at;
-    }
-    add_fours(add_eights(at))
-}
-
-// Adds eight words of eight bytes at a time, or more, until fewer than 64 bytes are left.
-#[inline(always)]
-fn add_eights<'a>(start: Sums<'a>) -> Sums<'a>
-    requires fits { start.even + start.odd + 2 ^ 64 * length start.rest.now < 2 ^ 128 }
-    ensures adds { AddsU64 start.entry result }
-    ensures shorter { length result.rest.now < 64 }
-{
-    if start.rest.len() < 64 {
-        return start;
-    }
-    let mut at = add_many(start);
-    while at.rest.len() >= 64 {
-        at = add_four_words(add_four_words(at));
-    }
-    at
-}
-
-// From how many bytes on lanes are the faster.
-const MANY: usize = 320;
-
-// Up to how many bytes no sum of halves in the lanes overflows.
-const MOST: usize = 0x2_0000_0000;
-
-// Adds most of the words by lanes, where there are many.
-#[inline(always)]
-fn add_many<'a>(at: Sums<'a>) -> Sums<'a>
-    requires fits { at.even + at.odd + 2 ^ 64 * length at.rest.now < 2 ^ 128 }
-    ensures adds { AddsU64 at.entry result }
-{
-    if at.rest.len() < MANY || at.rest.len() > MOST {
-        return at;
-    }
-    add_twelves(at)
-}
-
-// Adds twelve words of eight bytes at a time, of which eight go into four lanes. The inner loop is laid out three times by
-// the compiler, which is faster than one test for each twelve.
-#[inline(always)]
-fn add_twelves<'a>(start: Sums<'a>) -> Sums<'a>
-    requires fits { start.even + start.odd + 2 ^ 64 * length start.rest.now < 2 ^ 128 }
-    requires length { length start.rest.now ≤ 2 ^ 33 }
-    ensures adds { AddsU64 start.entry result }
-{
-    let mut total = u64x4::splat(0);
-    let mut high = u64x4::splat(0);
-    let mut even = start.even;
-    let mut odd = start.odd;
+    let mut sum = start.sum;
     let mut rest = start.rest;
-    'turns: while rest.len() >= 288 {
-        'twelves: for times in 0..3u32 {
-            let (words, after) = split_lanes(rest);
-            let (a, after) = split_eight(after);
-            let (b, after) = split_eight(after);
-            let (more, after) = split_lanes(after);
-            let (c, after) = split_eight(after);
-            let (d, after) = split_eight(after);
-            let words = u64x4::from_array(words);
-            let more = u64x4::from_array(more);
-            total += words;
-            high += words >> u64x4::splat(32);
-            total += more;
-            high += more >> u64x4::splat(32);
-            even += a;
-            odd += b;
-            even += c;
-            odd += d;
-            rest = after;
-        }
+    while rest.len() >= 32 {
+        let (words, after) = split_four_words(rest);
+        sum = add_words(sum, words);
+        rest = after;
     }
-    Sums {
-        even: even + u128::from(joined(total, high)),
-        odd,
-        rest,
-    }
+    Summed { sum, rest }
 }
 
-// Adds four words of eight bytes.
+// Adds two words, where there are as many.
 #[inline(always)]
-fn add_four_words<'a>(at: Sums<'a>) -> Sums<'a>
-    requires fits { at.even + at.odd + 2 ^ 64 * length at.rest.now < 2 ^ 128 }
-    requires length { 32 ≤ length at.rest.now }
-    ensures adds { AddsU64 at.entry result }
-    ensures shorter { length result.rest.now + 32 ≡ length at.entry.rest.now }
-{
-    let (a, rest) = split_eight(at.rest);
-    let (b, rest) = split_eight(rest);
-    let (c, rest) = split_eight(rest);
-    let (d, rest) = split_eight(rest);
-    Sums {
-        even: at.even + (a + c),
-        odd: at.odd + (b + d),
-        rest,
-    }
-}
-
-// Adds four words of eight bytes, where there are as many.
-#[inline(always)]
-fn add_fours<'a>(at: Sums<'a>) -> Sums<'a>
-    requires fits { at.even + at.odd + 2 ^ 64 * length at.rest.now < 2 ^ 128 }
-    requires length { length at.rest.now < 64 }
-    ensures adds { AddsU64 at.entry result }
-    ensures shorter { length result.rest.now < 32 }
-{
-    if at.rest.len() < 32 {
-        return at;
-    }
-    add_four_words(at)
-}
-
-// Adds two words of eight bytes, where there are as many.
-#[inline(always)]
-fn add_two_words<'a>(at: Sums<'a>) -> Sums<'a>
-    requires fits { at.even + at.odd + 2 ^ 64 * length at.rest.now < 2 ^ 128 }
-    requires length { length at.rest.now < 32 }
-    ensures adds { AddsU64 at.entry result }
+fn add_two_words<'a>(at: Summed<'a>) -> Summed<'a>
+    requires { length at.rest.now < 32 }
+    ensures adds { AddsWords at.entry result }
     ensures shorter { length result.rest.now < 16 }
 {
     if at.rest.len() < 16 {
         return at;
     }
-    let (a, rest) = split_eight(at.rest);
-    let (b, rest) = split_eight(rest);
-    Sums {
-        even: at.even + a,
-        odd: at.odd + b,
+    let (a, rest) = split_word(at.rest);
+    let (b, rest) = split_word(rest);
+    let (sum, carry) = add_with_carry(at.sum, a, false);
+    let (sum, carry) = add_with_carry(sum, b, carry);
+    Summed {
+        sum: sum + u64::from(carry),
         rest,
     }
 }
 
-// Adds a word of eight bytes, where there is one.
+// The word of eight bytes at the front, or 0 where there is none, and what follows it.
 #[inline(always)]
-fn add_eight<'a>(at: Sums<'a>) -> Sums<'a>
-    requires fits { at.even + at.odd + 2 ^ 64 * length at.rest.now < 2 ^ 128 }
-    requires length { length at.rest.now < 16 }
-    ensures adds { AddsU64 at.entry result }
-    ensures shorter { length result.rest.now < 8 }
+fn split_if_word(bytes: &[u8]) -> (u64, &[u8])
+    requires { length bytes.now < 16 }
+    ensures stands_for { StandsFor result.0 bytes.now result.1.now }
+    ensures shorter { length result.1.now < 8 }
 {
-    if at.rest.len() < 8 {
-        return at;
-    }
-    let (a, rest) = split_eight(at.rest);
-    Sums {
-        even: at.even + a,
-        odd: at.odd,
-        rest,
-    }
-}
-
-// Adds a word of four bytes, where there is one.
-#[inline(always)]
-fn add_four<'a>(at: Sums<'a>) -> Sums<'a>
-    requires fits { at.even + at.odd + 2 ^ 64 * length at.rest.now < 2 ^ 128 }
-    requires length { length at.rest.now < 8 }
-    ensures adds { AddsU64 at.entry result }
-    ensures shorter { length result.rest.now < 4 }
-{
-    if at.rest.len() < 4 {
-        return at;
-    }
-    let (a, rest) = split_four(at.rest);
-    Sums {
-        even: at.even,
-        odd: at.odd + a,
-        rest,
-    }
-}
-
-// Adds a word of two bytes, where there is one.
-#[inline(always)]
-fn add_two<'a>(at: Sums<'a>) -> Sums<'a>
-    requires fits { at.even + at.odd + 2 ^ 64 * length at.rest.now < 2 ^ 128 }
-    requires length { length at.rest.now < 4 }
-    ensures adds { AddsU64 at.entry result }
-    ensures shorter { length result.rest.now < 2 }
-{
-    if at.rest.len() < 2 {
-        return at;
-    }
-    let (a, rest) = split_two(at.rest);
-    Sums {
-        even: at.even + a,
-        odd: at.odd,
-        rest,
-    }
-}
-
-// All that was summed, with an odd last byte.
-#[inline(always)]
-fn add_last<'a>(at: Sums<'a>) -> u128
-    requires fits { at.even + at.odd + 2 ^ 64 * length at.rest.now < 2 ^ 128 }
-    requires length { length at.rest.now < 2 }
-    ensures sum { result ≡ at.entry.even + at.entry.odd + little_endian_word_sum at.entry.rest.now }
-{
-    if at.rest.len() < 1 {
-        at.even + at.odd
+    if bytes.len() < 8 {
+        (0, bytes)
     } else {
-        at.even + (at.odd + u128::from(at.rest[0]))
+        split_word(bytes)
     }
+}
+
+// The word of four bytes, or 0.
+#[inline(always)]
+fn split_if_half_word(bytes: &[u8]) -> (u64, &[u8])
+    requires { length bytes.now < 8 }
+    ensures stands_for { StandsFor result.0 bytes.now result.1.now }
+    ensures shorter { length result.1.now < 4 }
+{
+    if bytes.len() < 4 {
+        (0, bytes)
+    } else {
+        split_half_word(bytes)
+    }
+}
+
+// The word of two bytes, or 0.
+#[inline(always)]
+fn split_if_quarter_word(bytes: &[u8]) -> (u64, &[u8])
+    requires { length bytes.now < 4 }
+    ensures stands_for { StandsFor result.0 bytes.now result.1.now }
+    ensures fits { result.0 < 2 ^ 16 }
+    ensures shorter { length result.1.now < 2 }
+{
+    if bytes.len() < 2 {
+        (0, bytes)
+    } else {
+        split_quarter_word(bytes)
+    }
+}
+
+// An odd last byte, or 0.
+#[inline(always)]
+fn last_byte(bytes: &[u8]) -> u64
+    requires { length bytes.now < 2 }
+    ensures value { result ≡ little_endian_word_sum bytes.now }
+    ensures fits { result < 2 ^ 8 }
+{
+    if bytes.len() < 1 {
+        0
+    } else {
+        u64::from(bytes[0])
+    }
+}
+
+// A sum with four words more, the carry out of each added with the next, and the last at the low end.
+#[inline(always)]
+fn add_words(sum: u64, words: [u64; 4]) -> u64
+    ensures folded { folded_sum result ≡ folded_sum (sum + sum_l words) }
+{
+    let (sum, carry) = add_with_carry(sum, words[0], false);
+    let (sum, carry) = add_with_carry(sum, words[1], carry);
+    let (sum, carry) = add_with_carry(sum, words[2], carry);
+    let (sum, carry) = add_with_carry(sum, words[3], carry);
+    sum + u64::from(carry)
+}
+
+// Each sum with its word, with a carry into the first, the carry out of each into the next, and that out of the last.
+#[inline(always)]
+fn add_to_each(sums: [u64; 4], words: [u64; 4], carry: bool) -> ([u64; 4], bool)
+    ensures folded { (n : ℕ) → folded_sum (n + (sum_l result.0 + from_bool result.1))
+        ≡ folded_sum (n + (sum_l sums + sum_l words + from_bool carry)) }
+{
+    let (a, carry) = add_with_carry(sums[0], words[0], carry);
+    let (b, carry) = add_with_carry(sums[1], words[1], carry);
+    let (c, carry) = add_with_carry(sums[2], words[2], carry);
+    let (d, carry) = add_with_carry(sums[3], words[3], carry);
+    ([a, b, c, d], carry)
+}
+
+// The sum of two words and a carry, and the carry out of it. The compiler makes one instruction of this form.
+#[inline(always)]
+fn add_with_carry(a: u64, b: u64, carry: bool) -> (u64, bool)
+    ensures sum { result.0 + 2 ^ 64 * from_bool result.1 ≡ a + b + from_bool carry }
+{
+    let sum = a.wrapping_add(b);
+    let total = sum.wrapping_add(u64::from(carry));
+    (total, (sum < b) | (total < sum))
 }

@@ -1,6 +1,6 @@
-//! Wide words at the front of a slice, each with the low byte first, and four lanes of them. What both widths share.
+//! Words at the front of a slice, each with the low byte first, and four lanes of them.
 
-ghost use Rattle.std.specs.Prelude.{ℕ, ◌≡◌, ◌<◌, ◌≤◌, ◌+◌, ◌^◌, List, length};
+ghost use Rattle.std.specs.Prelude.{ℕ, ◌≡◌, ◌<◌, ◌≤◌, ◌+◌, ◌^◌, List, drop, length};
 ghost use Rattle.std.specs.Simd.Lanes.{sum_l};
 ghost use Rattle.etherparse_base.specs.WideSums.{Splits, StandsFor, halves_sum};
 
@@ -11,7 +11,7 @@ use std::simd::prelude::*;
 pub(super) fn split_word(bytes: &[u8]) -> (u64, &[u8])
     requires { 8 ≤ length bytes.now }
     ensures stands_for { StandsFor result.0 bytes.now result.1.now }
-    ensures fits { result.0 < 2 ^ 64 }
+    ensures rest { result.1.now ≡ drop 8 bytes.now }
     ensures shorter { length result.1.now + 8 ≡ length bytes.now }
 {
     let (word, rest) = bytes.split_first_chunk::<8>().unwrap();
@@ -23,7 +23,6 @@ pub(super) fn split_word(bytes: &[u8]) -> (u64, &[u8])
 pub(super) fn split_half_word(bytes: &[u8]) -> (u64, &[u8])
     requires { 4 ≤ length bytes.now }
     ensures stands_for { StandsFor result.0 bytes.now result.1.now }
-    ensures fits { result.0 < 2 ^ 32 }
     ensures shorter { length result.1.now + 4 ≡ length bytes.now }
 {
     let (word, rest) = bytes.split_first_chunk::<4>().unwrap();
@@ -44,11 +43,13 @@ pub(super) fn split_quarter_word(bytes: &[u8]) -> (u64, &[u8])
 
 /// The four words of eight bytes at the front, and what follows them.
 #[inline(always)]
-pub(super) fn split_lanes(bytes: &[u8]) -> ([u64; 4], &[u8])
+pub(super) fn split_four_words(bytes: &[u8]) -> ([u64; 4], &[u8])
     requires { 32 ≤ length bytes.now }
     ensures four { length result.0 ≡ 4 }
-    ensures stands_for { StandsFor (halves_sum result.0) bytes.now result.1.now }
-    ensures fits { halves_sum result.0 < 2 ^ 35 }
+    ensures stands_for { StandsFor (sum_l result.0) bytes.now result.1.now }
+    ensures halves_stand_for { StandsFor (halves_sum result.0) bytes.now result.1.now }
+    ensures halves_fit { halves_sum result.0 < 2 ^ 35 }
+    ensures rest { result.1.now ≡ drop 32 bytes.now }
     ensures shorter { length result.1.now + 32 ≡ length bytes.now }
 {
     let (a, rest) = split_word(bytes);

@@ -1,12 +1,12 @@
 use Rattle.std.proofs.Common.{◌≡◌, ◌+◌, length}
 use Rattle.etherparse_base.specs.WordSums.{folded_sum, little_endian_word_sum}
-use Rattle.etherparse_base.proofs.checksum.wide_u32.add_blocks.Given as goal
+use Rattle.etherparse_base.proofs.checksum.wide_u64.add_four_words.Given as goal
 
 -- what is summed and what is left are what was to be summed
 abbrev pub invariant-loop-rest : goal.invariant-loop-rest
 invariant-loop-rest l =
     folded_sum (l.sum + little_endian_word_sum l.rest)
-    ≡ folded_sum (l.fn.start_sum + little_endian_word_sum l.fn.slice)
+    ≡ folded_sum (l.fn.start.sum + little_endian_word_sum l.fn.start.rest.now)
 
 abbrev pub decreases-loop-rest : goal.decreases-loop-rest
 decreases-loop-rest l = length l.rest

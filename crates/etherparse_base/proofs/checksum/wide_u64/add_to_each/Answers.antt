@@ -1,0 +1,25 @@
+use Rattle.std.proofs.Common.{ℕ, ◌+◌, ◌*◌, arith, sym}
+use Rattle.std.specs.Int.{from_bool}
+use Rattle.std.specs.Simd.Lanes.{sum_l}
+use Rattle.etherparse_base.proofs.FoldedSums.{same_fold}
+use Rattle.etherparse_base.proofs.LaneSums.{four_sum}
+use Rattle.etherparse_base.proofs.checksum.wide_u64.add_to_each.Goals as goal
+
+pub returns : goal.returns
+returns c =
+    let sums = c.args.sums in
+    let words = c.args.words in
+    let a = c.add_with_carry-a in
+    let b = c.add_with_carry-b in
+    let v = c.add_with_carry-c in
+    let w = c.add_with_carry-d in
+    let e = four_sum sums (omega arith) in
+    let e' = four_sum words (omega arith) in
+    let before = sum_l sums + sum_l words + from_bool c.args.carry in
+    let after = a.result.0 + (b.result.0 + (v.result.0 + (w.result.0 + 0))) + from_bool w.result.1 in
+    let carries = from_bool a.result.1 + from_bool b.result.1 + from_bool v.result.1 + from_bool w.result.1 in
+    record {
+      folded = λ (n : ℕ). sym (same_fold (n + before) (n + after) (281479271743489 * carries)
+          (omega (arith, e, e', a.ensures.sum, b.ensures.sum, v.ensures.sum, w.ensures.sum))
+          (λ zero. omega (arith, zero, e, e', a.ensures.sum, b.ensures.sum, v.ensures.sum, w.ensures.sum)));
+    }

@@ -1,0 +1,56 @@
+use Rattle.std.proofs.Common.{◌≡◌, ◌≤◌, ◌<◌, ◌+◌, ◌^◌, ◌∙◌, [], ◌∷◌, ap, arith, length, refl}
+use Rattle.std.specs.Simd.Lanes.{sum_l}
+use Rattle.etherparse_base.specs.WideSums.{AddsTurns}
+use Rattle.etherparse_base.specs.WordSums.{folded_sum, little_endian_word_sum}
+use Rattle.etherparse_base.proofs.FoldedSums.{folded_sum-end_around_sum, folded_sum-plus}
+use Rattle.etherparse_base.proofs.checksum.wide_u64.add_turns.Goals as goal
+
+pub threes-init : goal.threes-init
+threes-init c = record {
+  low = 0 ∷ 0 ∷ 0 ∷ 0 ∷ [];
+  four = refl;
+  splits = record { lanes = refl; is_total = refl };
+  folded = ap folded_sum (omega arith);
+  carries_fit = omega arith;
+  lanes_fit = omega arith;
+}
+
+pub threes-preserved : goal.threes-preserved
+threes-preserved c =
+    let slice = c.args.slice.now in
+    let few : length slice ≤ 2 ^ 33 = c.requires in
+    let one : AddsTurns slice c.add_turn.result c.after_turn-second.result.now =
+    rw c.after_turn-second.ensures.after (c.add_turn.ensures.adds slice few c.threes.invariant) in
+    let two : AddsTurns slice c.add_turn-in-threes.result c.after_turn-third.result.now =
+    rw c.after_turn-third.ensures.after (c.add_turn-in-threes.ensures.adds slice few one) in
+    rw c.after_turn-rest.ensures.after (c.add_turn-at.ensures.adds slice few two)
+
+pub ones-preserved : goal.ones-preserved
+ones-preserved c =
+    let few : length c.args.slice.now ≤ 2 ^ 33 = c.requires in
+    rw c.after_turn-rest-in-ones.ensures.after (c.add_turn-at-in-ones.ensures.adds c.args.slice.now few c.ones.invariant)
+
+pub returns : goal.returns
+returns c =
+    let i = c.ones.invariant in
+    let first = sum_l c.ones.at.first in
+    let second = sum_l c.ones.at.second in
+    let carries = c.ones.at.carries in
+    let left = little_endian_word_sum c.ones.rest.now in
+    let one = c.add_words in
+    let both = c.add_words-sum in
+    let lanes = c.joined in
+    let few : length c.args.slice.now ≤ 2 ^ 33 = c.requires in
+    let below : sum_l i.low + sum_l c.ones.at.high < 2 ^ 64 = omega (arith, i.lanes_fit, few) in
+    let halves : lanes.result ≡ sum_l i.low + sum_l c.ones.at.high = lanes.ensures.halves i.low i.splits below in
+    let all : folded_sum c.add_u64.result ≡ folded_sum (both.result + lanes.result) = ap folded_sum c.add_u64.ensures.sum
+    ∙ folded_sum-end_around_sum 18446744073709551615 281479271743489 both.result lanes.result refl in
+    let more = lanes.result + left in
+    let order : both.result + lanes.result + left ≡ both.result + more = omega arith in
+    let order' : one.result + second + more ≡ one.result + (second + more) = omega arith in
+    let order'' : carries + first + (second + more) ≡ first + second + carries + (sum_l i.low + sum_l c.ones.at.high) + left = omega (arith, halves) in
+    record {
+      adds = folded_sum-plus c.add_u64.result (both.result + lanes.result) left all ∙ ap folded_sum order
+          ∙ folded_sum-plus both.result (one.result + second) more both.ensures.folded ∙ ap folded_sum order'
+          ∙ folded_sum-plus one.result (carries + first) (second + more) one.ensures.folded ∙ ap folded_sum order'' ∙ i.folded;
+    }
