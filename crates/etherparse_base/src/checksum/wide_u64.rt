@@ -25,14 +25,8 @@ const MOST: usize = 0x2_0000_0000;
 pub(super) fn add_slice(start_sum: u64, slice: &[u8]) -> u64
     ensures sum { folded_sum result ≡ folded_sum (start_sum + little_endian_word_sum slice.now) }
 {
-    if slice.len() < MANY || slice.len() > MOST {
-        add_rest(
-            start_sum,
-            Summed {
-                sum: 0,
-                rest: slice,
-            },
-        )
+    if slice.len() < MANY {
+        add_rest(start_sum, none_of(slice))
     } else {
         add_many(start_sum, slice)
     }
@@ -45,13 +39,37 @@ pub(super) struct Summed<'a> {
     pub(super) rest: &'a [u8],
 }
 
+// Nothing is summed, and all is left.
+#[inline(always)]
+fn none_of<'a>(slice: &'a [u8]) -> Summed<'a>
+    ensures adds { folded_sum (result.sum + little_endian_word_sum result.rest.now)
+        ≡ folded_sum (little_endian_word_sum slice.now) }
+{
+    Summed {
+        sum: 0,
+        rest: slice,
+    }
+}
+
 // Adds the words of many bytes, most of them in turns.
 #[inline(never)]
 fn add_many(start_sum: u64, slice: &[u8]) -> u64
-    requires { length slice.now ≤ 2 ^ 33 }
     ensures sum { folded_sum result ≡ folded_sum (start_sum + little_endian_word_sum slice.now) }
 {
-    add_rest(start_sum, add_turns(slice))
+    add_rest(start_sum, add_most(slice))
+}
+
+// Adds turns, unless there are so many bytes that a lane could overflow.
+#[inline(always)]
+fn add_most<'a>(slice: &'a [u8]) -> Summed<'a>
+    ensures adds { folded_sum (result.sum + little_endian_word_sum result.rest.now)
+        ≡ folded_sum (little_endian_word_sum slice.now) }
+{
+    if slice.len() > MOST {
+        none_of(slice)
+    } else {
+        add_turns(slice)
+    }
 }
 
 // What turns have summed: eight sums with the carries out of them, and four lanes.
