@@ -12,6 +12,7 @@ pub type WriteIpv4 = unsafe extern "C" fn(&Ipv4Fields) -> Ipv4Bytes;
 pub type ViewIpv6 = unsafe extern "C" fn(*const u8, usize) -> Ipv6ViewAnswer;
 pub type ReadIpv6 = unsafe extern "C" fn(*const u8, usize) -> Ipv6ReadAnswer;
 pub type WriteIpv6 = unsafe extern "C" fn(&Ipv6Fields) -> Ipv6Bytes;
+pub type SetTimeToLive = unsafe extern "C" fn(&mut Ipv4Fields, u8) -> bool;
 pub type WalkIpv6 = unsafe extern "C" fn(*const u8, usize, u8) -> Ipv6WalkAnswer;
 
 extern "C" {
@@ -23,6 +24,7 @@ extern "C" {
     pub fn upstream_ipv4_view(at: *const u8, len: usize) -> Ipv4ViewAnswer;
     pub fn upstream_ipv4_read(at: *const u8, len: usize) -> Ipv4ReadAnswer;
     pub fn upstream_ipv4_write(fields: &Ipv4Fields) -> Ipv4Bytes;
+    pub fn upstream_ipv4_set_time_to_live(fields: &mut Ipv4Fields, time_to_live: u8) -> bool;
     pub fn upstream_ipv4_lengths(total_len: u16, options_len: u8) -> Ipv4Lengths;
     pub fn upstream_ipv6_view(at: *const u8, len: usize) -> Ipv6ViewAnswer;
     pub fn upstream_ipv6_read(at: *const u8, len: usize) -> Ipv6ReadAnswer;

@@ -131,8 +131,23 @@ fn headers() -> usize {
         assert_eq!(checksums.0, checksums.1, "whether there is such a header");
         assert_eq!(expected, found, "header checksum");
         assert_eq!(bytes.0, bytes.1, "the bytes of a header");
+        compare_hops(fields, found, random.next() as u8);
     }
-    2 * count
+    3 * count
+}
+
+// Of a right checksum, the updated one is the one that is computed anew, but for the two forms of zero.
+fn compare_hops(fields: Ipv4Fields, right: u16, time_to_live: u8) {
+    let mut expected = Ipv4Fields { header_checksum: right, ..fields };
+    let mut found = expected;
+    let answers = unsafe {
+        (
+            upstream_ipv4_set_time_to_live(&mut expected, time_to_live),
+            etherparse_ipv4_set_time_to_live(&mut found, time_to_live),
+        )
+    };
+    assert_eq!(answers.0, answers.1, "whether there is such a header");
+    assert_eq!(expected, found, "a header with another time to live");
 }
 
 // Slices that begin with a header, are random, or end too early.

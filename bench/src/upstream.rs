@@ -121,6 +121,21 @@ pub extern "C" fn upstream_ipv4_header_checksum(fields: &Ipv4Fields, checksum: &
     }
 }
 
+/// Sets the time to live, and computes the checksum anew, since the crate has no update; or `false` where a field is out of its
+/// range.
+#[no_mangle]
+pub extern "C" fn upstream_ipv4_set_time_to_live(fields: &mut Ipv4Fields, time_to_live: u8) -> bool {
+    match header_of(fields) {
+        Some(mut header) => {
+            header.time_to_live = time_to_live;
+            fields.time_to_live = time_to_live;
+            fields.header_checksum = header.calc_header_checksum();
+            true
+        }
+        None => false,
+    }
+}
+
 /// A header that stays as it is until the program ends, or null.
 #[no_mangle]
 pub extern "C" fn upstream_ipv4_header(fields: &Ipv4Fields) -> *const Ipv4Header {

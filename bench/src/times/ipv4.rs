@@ -23,6 +23,13 @@ pub fn each(line: &mut Line) {
     for options_len in [0, 40] {
         checksum_lines(line, options_len);
     }
+    for options_len in [0, 40] {
+        let mut random = Random::new(10);
+        let headers: Vec<Ipv4Fields> = (0..1024).map(|_| fields_with_options(&mut random, options_len)).collect();
+        let upstream = hops(upstream_ipv4_set_time_to_live, &headers);
+        let proved = hops(etherparse_ipv4_set_time_to_live, &headers);
+        line("time to live and checksum", &(20 + options_len).to_string(), &upstream, &proved);
+    }
 }
 
 // Packets of one length of header, and of all: with 64 bytes after the header, and with none.
@@ -116,5 +123,17 @@ fn ready_header_checksums(fields: Ipv4Fields) -> impl Fn(u32) -> u64 {
             all += u64::from(unsafe { upstream_ipv4_header_checksum_of(header) });
         }
         all
+    }
+}
+
+// One header after the other gets another time to live, with its checksum computed anew or updated.
+fn hops(call: SetTimeToLive, headers: &[Ipv4Fields]) -> impl Fn(u32) -> u64 + '_ {
+    move |calls| {
+        let mut headers = headers.to_vec();
+        let count = headers.len();
+        for number in 0..calls as usize {
+            unsafe { call(&mut headers[number % count], number as u8) };
+        }
+        headers.iter().map(|fields| u64::from(fields.header_checksum)).sum()
     }
 }

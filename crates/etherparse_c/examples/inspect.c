@@ -107,9 +107,20 @@ static void show_ipv4(const char *name, const uint8_t *at, size_t len)
     printf("  rest at %zu, %zu bytes\n", read.rest.offset, read.rest.len);
 }
 
-static void print_walk(const uint8_t *at, size_t len, uint8_t next_header, size_t before)
+/* The packet goes on to the next hop. */
+static void show_next_hop(const uint8_t *at, size_t len, uint8_t time_to_live)
 {
-    struct etherparse_ipv6_walk_answer walk = etherparse_ipv6_walk(at, len, next_header);
+    struct etherparse_ipv4_read_answer read = etherparse_ipv4_read(at, len);
+    if (!etherparse_ipv4_set_time_to_live(&read.fields, time_to_live))
+        return;
+    uint16_t computed = 0;
+    etherparse_ipv4_header_checksum(&read.fields, &computed);
+    printf("the next hop: time_to_live %u, header_checksum %04x, computed %04x\n",
+        read.fields.time_to_live, read.fields.header_checksum, computed);
+}
+
+static void print_walk(struct etherparse_ipv6_walk_answer walk, size_t before)
+{
     if (walk.error.kind != ETHERPARSE_OK)
         print_error(&walk.error, before);
     else
@@ -139,14 +150,21 @@ static void show_ipv6(const char *name, const uint8_t *at, size_t len)
     print_ipv6_getters(&seen.view);
     struct etherparse_ipv6_bytes written = etherparse_ipv6_write(&read.fields);
     print_hex("written", written.bytes, written.len);
-    print_walk(at + read.rest.offset, read.rest.len, read.fields.next_header, read.rest.offset);
+    print_walk(etherparse_ipv6_walk(at + read.rest.offset, read.rest.len, read.fields.next_header), read.rest.offset);
 }
 
 static void show_walk(const char *digits, size_t len, uint8_t next_header)
 {
     struct bytes slice = padded(digits, len);
     printf("a walk from %u over %zu bytes\n", next_header, len);
-    print_walk(len == 0 ? NULL : slice.at, len, next_header, 0);
+    print_walk(etherparse_ipv6_walk(len == 0 ? NULL : slice.at, len, next_header), 0);
+}
+
+static void show_limited_walk(const char *digits, size_t len, uint8_t next_header, size_t limit)
+{
+    struct bytes slice = padded(digits, len);
+    printf("a walk from %u over %zu bytes, past %zu headers at most\n", next_header, len, limit);
+    print_walk(etherparse_ipv6_walk_up_to(slice.at, len, next_header, limit), 0);
 }
 
 static void show_checksum(const char *name, uint64_t wide, uint32_t narrow)
@@ -167,6 +185,7 @@ static void show_checksums(void)
     show_checksum("two pieces", etherparse_u64_16bit_word_add_slices(pieces, 2), etherparse_u32_16bit_word_add_slices(pieces, 2));
     printf("checksum of one piece: %04x, %04x\n",
         etherparse_u64_16bit_word_checksum(0, three, 3), etherparse_u32_16bit_word_checksum(0, three, 3));
+    printf("checksum dd2f with 3285 for 5555: %04x\n", etherparse_update_2bytes(0xdd2f, 0x5555, 0x3285));
 }
 
 /* Fields out of their bounds are those of no header. */
@@ -176,7 +195,9 @@ static void show_refused_fields(void)
     struct etherparse_ipv6_fields ipv6 = {.flow_label = 1048576};
     uint16_t checksum = 7;
     bool is_header = etherparse_ipv4_header_checksum(&ipv4, &checksum);
-    printf("dscp 64: %u bytes, checksum %s, %u\n", etherparse_ipv4_write(&ipv4).len, yes_or_no(is_header), checksum);
+    bool is_set = etherparse_ipv4_set_time_to_live(&ipv4, 9);
+    printf("dscp 64: %u bytes, checksum %s, %u, time_to_live %s, %u\n", etherparse_ipv4_write(&ipv4).len, yes_or_no(is_header),
+        checksum, yes_or_no(is_set), ipv4.time_to_live);
     printf("flow_label 1048576: %u bytes\n", etherparse_ipv6_write(&ipv6).len);
     printf("3 bytes of options: header_len %u\n", etherparse_ipv4_lengths(20, 3).header_len);
 }
@@ -185,6 +206,7 @@ int main(void)
 {
     struct bytes udp = bytes_of("45000073 00004000 4011b861 c0a80001 c0a800c7");
     show_ipv4("a UDP packet", udp.at, udp.len);
+    show_next_hop(udp.at, udp.len, 63);
     struct bytes largest = bytes_of("4fffffff ffff7fff");
     memset(largest.at + 8, 0xff, 52);
     largest.len = 60;
@@ -225,6 +247,8 @@ int main(void)
     show_walk("", 24, 0);
     show_walk("060504", 3, 50);
     show_walk("", 0, 59);
+    show_limited_walk("", 24, 0, 3);
+    show_limited_walk("", 24, 0, 4);
 
     show_checksums();
     show_refused_fields();

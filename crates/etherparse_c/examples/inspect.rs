@@ -42,6 +42,12 @@ fn walk(bytes: &[u8], next_header: u8) -> Ipv6WalkAnswer {
     unsafe { etherparse_ipv6_walk(at, len, next_header) }
 }
 
+fn walk_up_to(bytes: &[u8], next_header: u8, limit: usize) -> Ipv6WalkAnswer {
+    let (at, len) = parts(bytes);
+    // SAFETY: as above.
+    unsafe { etherparse_ipv6_walk_up_to(at, len, next_header, limit) }
+}
+
 fn write_ipv4(fields: &Ipv4Fields) -> Ipv4Bytes {
     // SAFETY: a reference is to fields.
     unsafe { etherparse_ipv4_write(fields) }
@@ -57,6 +63,11 @@ fn header_checksum(fields: &Ipv4Fields) -> Option<u16> {
     let mut checksum = 0;
     // SAFETY: both are references, to places apart.
     unsafe { etherparse_ipv4_header_checksum(fields, &mut checksum) }.then_some(checksum)
+}
+
+fn set_time_to_live(fields: &mut Ipv4Fields, time_to_live: u8) -> bool {
+    // SAFETY: a reference is to fields.
+    unsafe { etherparse_ipv4_set_time_to_live(fields, time_to_live) }
 }
 
 fn lengths(total_len: u16, options_len: u8) -> Ipv4Lengths {
@@ -179,6 +190,20 @@ fn print_ipv4_getters(view: &Ipv4View) {
     print_hex("destination", &view.destination);
 }
 
+// The packet goes on to the next hop.
+fn show_next_hop(bytes: &[u8], time_to_live: u8) {
+    let mut fields = read_ipv4(bytes).fields;
+    if !set_time_to_live(&mut fields, time_to_live) {
+        return;
+    }
+    println!(
+        "the next hop: time_to_live {}, header_checksum {:04x}, computed {:04x}",
+        fields.time_to_live,
+        fields.header_checksum,
+        header_checksum(&fields).unwrap_or(0)
+    );
+}
+
 fn show_ipv6(name: &str, bytes: &[u8]) {
     println!("IPv6, {name}");
     let (seen, read) = (view_ipv6(bytes), read_ipv6(bytes));
@@ -200,11 +225,11 @@ fn show_ipv6(name: &str, bytes: &[u8]) {
     print_hex("destination", &view.destination);
     let written = write_ipv6(&read.fields);
     print_hex("written", &written.bytes[..usize::from(written.len)]);
-    print_walk(&bytes[read.rest.offset..], read.fields.next_header, read.rest.offset);
+    let walk = walk(&bytes[read.rest.offset..], read.fields.next_header);
+    print_walk(&walk, read.rest.offset);
 }
 
-fn print_walk(bytes: &[u8], next_header: u8, before: usize) {
-    let walk = walk(bytes, next_header);
+fn print_walk(walk: &Ipv6WalkAnswer, before: usize) {
     if walk.error.kind != OK {
         return print_error(&walk.error, before);
     }
@@ -218,7 +243,15 @@ fn print_walk(bytes: &[u8], next_header: u8, before: usize) {
 
 fn show_walk(bytes: &[u8], next_header: u8) {
     println!("a walk from {next_header} over {} bytes", bytes.len());
-    print_walk(bytes, next_header, 0);
+    print_walk(&walk(bytes, next_header), 0);
+}
+
+fn show_limited_walk(bytes: &[u8], next_header: u8, limit: usize) {
+    println!(
+        "a walk from {next_header} over {} bytes, past {limit} headers at most",
+        bytes.len()
+    );
+    print_walk(&walk_up_to(bytes, next_header, limit), 0);
 }
 
 fn show_checksum(name: &str, bytes: &[u8], pieces: &[&[u8]]) {
@@ -256,6 +289,9 @@ fn show_checksums() {
         )
     };
     println!("checksum of one piece: {wide:04x}, {narrow:04x}");
+    // SAFETY: numbers alone are passed.
+    let updated = unsafe { etherparse_update_2bytes(0xdd2f, 0x5555, 0x3285) };
+    println!("checksum dd2f with 3285 for 5555: {updated:04x}");
 }
 
 // Fields out of their bounds are those of no header.
@@ -265,10 +301,13 @@ fn show_refused_fields() {
     let mut checksum = 7;
     // SAFETY: both are references, to places apart.
     let is_header = unsafe { etherparse_ipv4_header_checksum(&ipv4, &mut checksum) };
+    let is_set = set_time_to_live(&mut ipv4, 9);
     println!(
-        "dscp 64: {} bytes, checksum {}, {checksum}",
+        "dscp 64: {} bytes, checksum {}, {checksum}, time_to_live {}, {}",
         write_ipv4(&ipv4).len,
-        yes_or_no(is_header)
+        yes_or_no(is_header),
+        yes_or_no(is_set),
+        ipv4.time_to_live
     );
     let mut ipv6 = read_ipv6(&padded("60", 40)).fields;
     ipv6.flow_label = 1_048_576;
@@ -277,7 +316,9 @@ fn show_refused_fields() {
 }
 
 fn main() {
-    show_ipv4("a UDP packet", &bytes_of("45000073 00004000 4011b861 c0a80001 c0a800c7"));
+    let udp = bytes_of("45000073 00004000 4011b861 c0a80001 c0a800c7");
+    show_ipv4("a UDP packet", &udp);
+    show_next_hop(&udp, 63);
     let mut largest = bytes_of("4fffffff ffff7fff");
     largest.resize(60, 0xff);
     show_ipv4("the largest header", &largest);
@@ -306,6 +347,8 @@ fn main() {
     show_walk(&[0; 24], 0);
     show_walk(&[6, 5, 4], 50);
     show_walk(&[], 59);
+    show_limited_walk(&[0; 24], 0, 3);
+    show_limited_walk(&[0; 24], 0, 4);
 
     show_checksums();
     show_refused_fields();

@@ -154,6 +154,9 @@ static void check_ipv4_fields(const struct etherparse_ipv4_fields *fields, size_
     expect(etherparse_ipv4_header_checksum(fields, &right.header_checksum), "a checksum");
     written = etherparse_ipv4_write(&right);
     expect(etherparse_u64_16bit_word_checksum(0, written.bytes, written.len) == 0, "a right checksum");
+    expect(etherparse_ipv4_set_time_to_live(&right, (uint8_t)next_random()), "a time to live");
+    written = etherparse_ipv4_write(&right);
+    expect(etherparse_u64_16bit_word_checksum(0, written.bytes, written.len) == 0, "an updated checksum");
     struct etherparse_ipv4_lengths lengths = etherparse_ipv4_lengths(fields->total_len, fields->options_len);
     expect(lengths.header_len == header_len && 4 * lengths.ihl == lengths.header_len
         && lengths.max_payload_len == 65535 - header_len, "lengths");
@@ -200,6 +203,12 @@ static void check_ipv6(void)
 static void check_walk(uint8_t number)
 {
     struct etherparse_ipv6_walk_answer walk = etherparse_ipv6_walk(packet, packet_len, number);
+    struct etherparse_ipv6_walk_answer with_limit = etherparse_ipv6_walk_up_to(packet, packet_len, number, packet_len / 8 + 1);
+    expect(same_error(&walk.error, &with_limit.error) && walk.next_header == with_limit.next_header
+        && walk.rest.offset == with_limit.rest.offset && walk.rest.len == with_limit.rest.len, "a limit that is not reached");
+    struct etherparse_ipv6_walk_answer one = etherparse_ipv6_walk_up_to(packet, packet_len, number, 1);
+    expect(one.error.kind != ETHERPARSE_TOO_MANY || (one.error.limit == 1 && one.error.layer_start_offset >= 8
+        && one.error.layer_start_offset <= packet_len), "a limit of one header");
     if (walk.error.kind == ETHERPARSE_OK) {
         expect(is_rest(&walk.rest) && walk.rest.offset % 4 == 0, "a rest");
         return;
@@ -271,6 +280,8 @@ static void tell_error(const struct etherparse_error *error, const char *layer)
         tell_len_error(error, "Slice", layer);
     else if (error->kind == ETHERPARSE_UNEXPECTED_VERSION)
         tell(answers, "err version number=%u", error->number);
+    else if (error->kind == ETHERPARSE_TOO_MANY)
+        tell(answers, "err too_many limit=%zu next=%u offset=%zu", error->limit, error->number, error->layer_start_offset);
     else if (error->kind == ETHERPARSE_HEADER_LENGTH_SMALLER_THAN_HEADER)
         tell(answers, "err ihl ihl=%u", error->number);
     else
@@ -341,6 +352,18 @@ static void tell_ipv4_read(void)
     tell(answers, "\n");
 }
 
+/* The fields as the arguments of a case. */
+static void tell_case_fields(const struct etherparse_ipv4_fields *fields)
+{
+    tell(cases, " %u %u %u %u %d %d %u %u %u %u", fields->dscp, fields->ecn, fields->total_len, fields->identification,
+        fields->dont_fragment, fields->more_fragments, fields->fragment_offset, fields->time_to_live, fields->protocol,
+        fields->header_checksum);
+    tell_bytes(cases, " ", fields->source, 4);
+    tell_bytes(cases, " ", fields->destination, 4);
+    tell_bytes(cases, " ", fields->options, fields->options_len);
+    tell(cases, "\n");
+}
+
 /* A header of random fields. */
 static void tell_ipv4_write(void)
 {
@@ -360,13 +383,8 @@ static void tell_ipv4_write(void)
     fill(fields.source, 4);
     fill(fields.destination, 4);
     fill(fields.options, 40);
-    tell(cases, "v4.info %u %u %u %u %d %d %u %u %u %u", fields.dscp, fields.ecn, fields.total_len, fields.identification,
-        fields.dont_fragment, fields.more_fragments, fields.fragment_offset, fields.time_to_live, fields.protocol,
-        fields.header_checksum);
-    tell_bytes(cases, " ", fields.source, 4);
-    tell_bytes(cases, " ", fields.destination, 4);
-    tell_bytes(cases, " ", fields.options, fields.options_len);
-    tell(cases, "\n");
+    tell(cases, "v4.info");
+    tell_case_fields(&fields);
     struct etherparse_ipv4_lengths lengths = etherparse_ipv4_lengths(fields.total_len, fields.options_len);
     struct etherparse_ipv4_bytes written = etherparse_ipv4_write(&fields);
     uint16_t computed = 0;
@@ -377,6 +395,13 @@ static void tell_ipv4_write(void)
     tell_bytes(answers, " options=", fields.options, fields.options_len);
     tell_bytes(answers, " bytes=", written.bytes, written.len);
     tell_payload_len(fields.total_len, fields.options_len);
+    tell(answers, "\n");
+    uint8_t time_to_live = (uint8_t)below(256);
+    tell(cases, "v4.set_ttl %u", time_to_live);
+    tell_case_fields(&fields);
+    expect(etherparse_ipv4_set_time_to_live(&fields, time_to_live), "a time to live");
+    tell(answers, "ok ;");
+    tell_ipv4_fields(&fields);
     tell(answers, "\n");
 }
 
@@ -419,11 +444,8 @@ static void tell_ipv6_read(void)
     tell(answers, "\n");
 }
 
-static void tell_walk(uint8_t number)
+static void tell_walked(struct etherparse_ipv6_walk_answer walk)
 {
-    tell_bytes(cases, "walk ", packet, packet_len);
-    tell(cases, " %u\n", number);
-    struct etherparse_ipv6_walk_answer walk = etherparse_ipv6_walk(packet, packet_len, number);
     if (walk.error.kind != ETHERPARSE_OK) {
         tell_error(&walk.error, "Ipv6ExtHeader");
         return;
@@ -431,6 +453,26 @@ static void tell_walk(uint8_t number)
     tell(answers, "ok next=%u", walk.next_header);
     tell_bytes(answers, " rest=", from(walk.rest.offset), walk.rest.len);
     tell(answers, "\n");
+}
+
+static void tell_walks(uint8_t number)
+{
+    tell_bytes(cases, "walk ", packet, packet_len);
+    tell(cases, " %u\n", number);
+    tell_walked(etherparse_ipv6_walk(packet, packet_len, number));
+    size_t limit = below(5);
+    tell_bytes(cases, "walk.limit ", packet, packet_len);
+    tell(cases, " %u %zu\n", number, limit);
+    tell_walked(etherparse_ipv6_walk_up_to(packet, packet_len, number, limit));
+}
+
+static void tell_update(void)
+{
+    uint16_t words[3];
+    for (size_t i = 0; i < 3; i++)
+        words[i] = (uint16_t)(below(4) == 0 ? 65535 * below(2) : next_random() >> 40);
+    tell(cases, "upd %u %04x %04x\n", words[0], words[1], words[2]);
+    tell(answers, "%u\n", etherparse_update_2bytes(words[0], words[1], words[2]));
 }
 
 static void tell_sums(void)
@@ -456,8 +498,9 @@ static void tell_all(uint8_t number)
     tell_ipv4_write();
     tell_ipv6_view();
     tell_ipv6_read();
-    tell_walk(number);
+    tell_walks(number);
     tell_sums();
+    tell_update();
 }
 
 /* A page that can be read and written, between two that can not. */

@@ -51,6 +51,10 @@ uint16_t etherparse_u32_16bit_word_ones_complement_with_no_zero(uint32_t sum);
 uint16_t etherparse_u64_16bit_word_checksum(uint64_t start_sum, const uint8_t *at, size_t len);
 uint16_t etherparse_u32_16bit_word_checksum(uint32_t start_sum, const uint8_t *at, size_t len);
 
+/* The checksum after one of the words that it is over was changed from old_word to new_word (RFC 1624, equation 3): all three
+ * are numbers whose high byte a header has first, as header_checksum is. A wrong checksum is not made right. */
+uint16_t etherparse_update_2bytes(uint16_t checksum, uint16_t old_word, uint16_t new_word);
+
 /* Why a call refused, by its numbers. Each number that a kind does not have is 0. */
 struct etherparse_error {
     uint32_t kind; /* one of the kinds below; 0 says that nothing was refused */
@@ -164,6 +168,10 @@ struct etherparse_ipv4_lengths etherparse_ipv4_lengths(uint16_t total_len, uint8
  * Neither pointer is null, checksum points to no part of fields, and each bool is 0 or 1. */
 bool etherparse_ipv4_header_checksum(const struct etherparse_ipv4_fields *fields, uint16_t *checksum);
 
+/* Sets the time to live, updates the stored header_checksum for it by etherparse_update_2bytes, and returns true. Where a field
+ * is out of its bounds it returns false and changes nothing. The pointer is not null, and each bool is 0 or 1. */
+bool etherparse_ipv4_set_time_to_live(struct etherparse_ipv4_fields *fields, uint8_t time_to_live);
+
 /* IPv6 headers (RFC 8200 sections 3 and 4). */
 
 /* The fields of a header, which has 40 bytes. */
@@ -231,6 +239,10 @@ struct etherparse_ipv6_bytes etherparse_ipv6_write(const struct etherparse_ipv6_
  *
  * The error is a LEN, of the first header that is incomplete. Where fewer than 2 bytes are left, 2 are required. */
 struct etherparse_ipv6_walk_answer etherparse_ipv6_walk(const uint8_t *at, size_t len, uint8_t next_header);
+
+/* The same past at most so many headers. The error is TOO_MANY where as many were skipped and the number after them is that of one
+ * more, however many bytes are left; else a LEN, as above. */
+struct etherparse_ipv6_walk_answer etherparse_ipv6_walk_up_to(const uint8_t *at, size_t len, uint8_t next_header, size_t limit);
 
 #ifdef __cplusplus
 }

@@ -189,14 +189,18 @@ extern "C" {
     pub fn etherparse_u64_16bit_word_checksum(start_sum: u64, at: *const u8, len: usize) -> u16;
     pub fn etherparse_u32_16bit_word_checksum(start_sum: u32, at: *const u8, len: usize) -> u16;
 
+    pub fn etherparse_update_2bytes(checksum: u16, old_word: u16, new_word: u16) -> u16;
+
     pub fn etherparse_ipv4_view(at: *const u8, len: usize) -> Ipv4ViewAnswer;
     pub fn etherparse_ipv4_read(at: *const u8, len: usize) -> Ipv4ReadAnswer;
     pub fn etherparse_ipv4_write(fields: &Ipv4Fields) -> Ipv4Bytes;
     pub fn etherparse_ipv4_lengths(total_len: u16, options_len: u8) -> Ipv4Lengths;
     pub fn etherparse_ipv4_header_checksum(fields: &Ipv4Fields, checksum: &mut u16) -> bool;
+    pub fn etherparse_ipv4_set_time_to_live(fields: &mut Ipv4Fields, time_to_live: u8) -> bool;
 
     pub fn etherparse_ipv6_view(at: *const u8, len: usize) -> Ipv6ViewAnswer;
     pub fn etherparse_ipv6_read(at: *const u8, len: usize) -> Ipv6ReadAnswer;
     pub fn etherparse_ipv6_write(fields: &Ipv6Fields) -> Ipv6Bytes;
     pub fn etherparse_ipv6_walk(at: *const u8, len: usize, next_header: u8) -> Ipv6WalkAnswer;
+    pub fn etherparse_ipv6_walk_up_to(at: *const u8, len: usize, next_header: u8, limit: usize) -> Ipv6WalkAnswer;
 }

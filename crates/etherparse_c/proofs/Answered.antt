@@ -1,7 +1,9 @@
 -- From an answer of the library to what C gets of it.
-use Rattle.std.proofs.Common.{ℕ, ◌≡◌, List, ◌++◌, length, take, sym, subst, ap, ◌∙◌}
+use Rattle.std.proofs.Common.{ℕ, ◌≡◌, Ok, Err, List, ◌++◌, length, take, sym, subst, ap, ◌∙◌}
 use Rattle.std.proofs.lemmas.List.{take_at}
+use Rattle.etherparse.specs.ExtensionHeaderChain.{LimitedWalkAnswer, WalkAnswer, with_error_in_len}
 use Rattle.etherparse_c.specs.Answer.{GivesAnswer}
+use Rattle.etherparse_c.specs.Ipv6Answers.{limited_walk_in_c, walk_in_c}
 
 -- what the clauses of an export say, where the library allows one answer
 pub record Answered {A : Type 0} (Allows Gives : A → Type 0) : Type 0 where
@@ -19,3 +21,9 @@ answered Allows Gives a allowed only given = record {
 -- a front of a slice is its first bytes
 pub first_bytes : (s front rest : List ℕ) (n : ℕ) → s ≡ front ++ rest → n ≡ length front → front ≡ take n s
 first_bytes s front rest n whole e = sym (ap (λ x. take n x) whole ∙ take_at front rest n (sym e))
+
+-- an answer with no limit is the same in C with one that allows it
+pub walked_alike : (s : List ℕ) (r : LimitedWalkAnswer) (answer : WalkAnswer) → r ≡ with_error_in_len answer
+    → limited_walk_in_c s r ≡ walk_in_c s answer
+walked_alike s r (Ok x) e = ap (λ a. limited_walk_in_c s a) e
+walked_alike s r (Err x) e = ap (λ a. limited_walk_in_c s a) e

@@ -7,6 +7,8 @@ use Rattle.etherparse.specs.declared.err.ipv4.HeaderSliceError.TheVariants as ip
 use Rattle.etherparse.specs.declared.err.ipv6.HeaderError.TheVariants as ipv6_content
 use Rattle.etherparse.specs.declared.err.ipv6.HeaderSliceError as ipv6
 use Rattle.etherparse.specs.declared.err.ipv6.HeaderSliceError.TheVariants as ipv6_slice
+use Rattle.etherparse.specs.declared.err.ipv6.ChainError as ipv6_chain
+use Rattle.etherparse.specs.declared.err.ipv6.ChainError.TheVariants as chain
 use Rattle.etherparse_c.specs.declared.answer.Error.{Error}
 
 -- no error
@@ -46,3 +48,9 @@ abbrev pub ipv6_error_in_c : ipv6.HeaderSliceError → Error
 ipv6_error_in_c (ipv6_slice.Len e) = len_error_in_c e
 ipv6_error_in_c (ipv6_slice.Content (ipv6_content.UnexpectedVersion version)) =
     record no_error { kind = 2; number = version }
+
+-- of a chain of extension headers: a length, or one header more than the limit
+abbrev pub chain_error_in_c : ipv6_chain.ChainError → Error
+chain_error_in_c (chain.Len e) = len_error_in_c e
+chain_error_in_c (chain.TooMany limit number place) =
+    record no_error { kind = 4; number = number; layer_start_offset = place; limit = limit }

@@ -1,13 +1,13 @@
 -- What the calls on IPv6 headers answer to C.
 use Rattle.std.specs.Prelude.{ℕ, ◌≡◌, List, ◌++◌, replicate, take, Result, Ok, Err}
-use Rattle.etherparse.specs.ExtensionHeaderChain.{WalkAnswer}
+use Rattle.etherparse.specs.ExtensionHeaderChain.{LimitedWalkAnswer, WalkAnswer}
 use Rattle.etherparse.specs.Ipv6Header.{IsIpv6Layout, Ipv6Reading, OfIpv6Header, ReadsIpv6}
 use Rattle.etherparse.specs.Ipv6Header.{ViewsIpv6}
 use Rattle.etherparse.specs.TrafficClass.{traffic_class_dscp, traffic_class_ecn}
 use Rattle.etherparse.specs.declared.err.ipv6.HeaderSliceError.{HeaderSliceError}
 use Rattle.etherparse.specs.declared.net.ipv6_header.Ipv6Header.{Ipv6Header}
 use Rattle.etherparse_c.specs.Answer.{no_rest, rest_after, rest_of}
-use Rattle.etherparse_c.specs.Error.{ipv6_error_in_c, len_error_in_c, no_error}
+use Rattle.etherparse_c.specs.Error.{chain_error_in_c, ipv6_error_in_c, len_error_in_c, no_error}
 use Rattle.etherparse_c.specs.Ipv6Fields.{StandForIpv6}
 use Rattle.etherparse_c.specs.declared.ipv6_header.Ipv6Bytes.{Ipv6Bytes}
 use Rattle.etherparse_c.specs.declared.ipv6_header.Ipv6Fields.{Ipv6Fields}
@@ -97,3 +97,8 @@ no_ipv6_bytes = record { bytes = replicate 40 0; len = 0 }
 abbrev pub walk_in_c : List ℕ → WalkAnswer → Ipv6WalkAnswer
 walk_in_c s (Ok x) = record { error = no_error; rest = rest_of s x.1; next_header = x.0 }
 walk_in_c s (Err e) = record { error = len_error_in_c e; rest = no_rest; next_header = 0 }
+
+-- the same of a walk with a limit
+abbrev pub limited_walk_in_c : List ℕ → LimitedWalkAnswer → Ipv6WalkAnswer
+limited_walk_in_c s (Ok x) = record { error = no_error; rest = rest_of s x.1; next_header = x.0 }
+limited_walk_in_c s (Err e) = record { error = chain_error_in_c e; rest = no_rest; next_header = 0 }

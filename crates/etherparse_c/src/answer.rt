@@ -2,7 +2,8 @@
 
 ghost use Rattle.std.specs.Prelude.{◌≡◌, ◌≤◌, length};
 ghost use Rattle.etherparse_c.specs.Answer.{no_rest, rest_after, rest_of};
-ghost use Rattle.etherparse_c.specs.Error.{ipv4_content_in_c, ipv4_error_in_c, ipv6_error_in_c};
+ghost use Rattle.etherparse_c.specs.Error.{chain_error_in_c, ipv4_content_in_c, ipv4_error_in_c};
+ghost use Rattle.etherparse_c.specs.Error.{ipv6_error_in_c};
 ghost use Rattle.etherparse_c.specs.Error.{len_error_in_c, no_error};
 
 use etherparse::err::{LenError, ipv4, ipv6};
@@ -14,6 +15,8 @@ const LEN: u32 = 1;
 const UNEXPECTED_VERSION: u32 = 2;
 
 const HEADER_LENGTH_SMALLER_THAN_HEADER: u32 = 3;
+
+const TOO_MANY: u32 = 4;
 
 /// Why a call refused, by its numbers; each number that its kind does not have is 0.
 #[repr(C)]
@@ -115,6 +118,27 @@ impl Error {
             ) => Error {
                 kind: UNEXPECTED_VERSION,
                 number: u32::from(*version_number),
+                ..Error::none()
+            },
+        }
+    }
+
+    // Of a chain of extension headers.
+    #[inline(always)]
+    pub(crate) fn of_chain(e: &ipv6::ChainError) -> Error
+        ensures value { result ≡ chain_error_in_c e.now }
+    {
+        match e {
+            ipv6::ChainError::Len(e) => Error::of_len(e),
+            ipv6::ChainError::TooMany {
+                limit,
+                next_header,
+                layer_start_offset,
+            } => Error {
+                kind: TOO_MANY,
+                number: u32::from(*next_header),
+                layer_start_offset: *layer_start_offset,
+                limit: *limit,
                 ..Error::none()
             },
         }

@@ -1,12 +1,12 @@
 //! Checksums of the internet protocols (RFC 1071), summed in 64 bits and in 32 bits.
 
-ghost use Rattle.std.specs.Prelude.{ℕ, List, ◌∷◌, ◌++◌, ◌≡◌, ◌↔◌, ◌+◌, ◌-◌, ◌%◌, length, map};
+ghost use Rattle.std.specs.Prelude.{ℕ, List, ◌∷◌, ◌++◌, ◌≡◌, ◌≤◌, ◌<◌, ◌↔◌, ◌+◌, ◌-◌, ◌%◌, length, map};
 ghost use Rattle.std.specs.Int.{swap_bytes, w16};
 ghost use Rattle.etherparse.specs.WordSums.{ChangesOneByte, SumsToAllOnes, folded_sum};
 ghost use Rattle.etherparse.specs.WordSums.{little_endian_word_sum, network_order_word_sum};
-ghost use Rattle.etherparse.specs.WordSums.{ones_complement_sum, with_no_zero};
+ghost use Rattle.etherparse.specs.WordSums.{ones_complement_sum, updated_checksum, with_no_zero};
 
-use etherparse::checksum::{u32_16bit_word, u64_16bit_word};
+use etherparse::checksum::{u32_16bit_word, u64_16bit_word, update_2bytes};
 
 /// Adds the words of a slice to a sum of 64 bits, which begins at 0. An odd last byte is a word with a byte 0 behind it.
 #[unsafe(no_mangle)]
@@ -138,6 +138,19 @@ pub extern "C" fn etherparse_u32_16bit_word_checksum(start_sum: u32, slice: &[u8
         → swap_bytes w16 result ≡ 65535 - folded_sum (network_order_word_sum slice.now) }
 {
     u32_16bit_word::ones_complement(u32_16bit_word::add_slice(start_sum, slice))
+}
+
+/// The checksum after one of the words that it is over was changed from `old` to `new`, all three as numbers whose high byte a
+/// header has first (RFC 1624 section 3, equation 3).
+#[unsafe(no_mangle)]
+pub extern "C" fn etherparse_update_2bytes(checksum: u16, old: u16, new: u16) -> u16
+    ensures value { result ≡ updated_checksum checksum old new }
+    ensures anew { (sum : ℕ) → old ≤ sum → checksum ≡ 65535 - folded_sum sum
+        → 0 < sum - old + new → result ≡ 65535 - folded_sum (sum - old + new) }
+    ensures received { (sum : ℕ) → old ≤ sum → 0 < sum → 0 < sum - old + new
+        → folded_sum (sum - old + new + result) ≡ folded_sum (sum + checksum) }
+{
+    update_2bytes(checksum, old.to_be_bytes(), new.to_be_bytes())
 }
 
 #[cfg(test)]

@@ -1,9 +1,10 @@
 //! The IPv4 header (RFC 791 section 3.1).
 
-ghost use Rattle.std.specs.Prelude.{ℕ, ◌≡◌, ◌↔◌, ◌-◌, ◌<◌, ◌++◌, List, IfSome, IsSome, IsTrue};
+ghost use Rattle.std.specs.Prelude.{ℕ, ◌≡◌, ◌↔◌, ◌+◌, ◌-◌, ◌*◌, ◌^◌, ◌<◌, ◌++◌, List, IfSome, IsSome, IsTrue};
 ghost use Rattle.std.specs.Prelude.{drop, length, replicate, take};
 ghost use Rattle.etherparse.specs.Ipv4Header.{Ipv4Reading, ReadsIpv4};
 ghost use Rattle.etherparse.specs.Ipv4Options.{IsOptionsLen};
+ghost use Rattle.etherparse.specs.WordSums.{updated_checksum};
 ghost use Rattle.etherparse.specs.declared.net.ipv4_header.Ipv4Header.{Ipv4Header as Header};
 ghost use Rattle.etherparse_c.specs.Answer.{GivesAnswer, no_rest};
 ghost use Rattle.etherparse_c.specs.Error.{ipv4_error_in_c};
@@ -196,6 +197,31 @@ pub extern "C" fn etherparse_ipv4_header_checksum(fields: &Ipv4Fields, checksum:
         }
         None => false,
     }
+}
+
+/// Sets the time to live, and updates the stored checksum for it, and answers `true`. Where a field is out of its bounds it
+/// answers `false` and changes nothing.
+#[unsafe(no_mangle)]
+pub extern "C" fn etherparse_ipv4_set_time_to_live(
+    fields: &mut Ipv4Fields,
+    time_to_live: u8,
+) -> bool
+    ensures accepted { IsTrue result ↔ AreWithinBounds fields.old }
+    ensures set { IsTrue result → fields.new ≡ record fields.old {
+      time_to_live = time_to_live;
+      header_checksum = updated_checksum fields.old.header_checksum
+          (fields.old.time_to_live * 2 ^ 8 + fields.old.protocol)
+          (time_to_live * 2 ^ 8 + fields.old.protocol);
+    } }
+    ensures refused { ¬ AreWithinBounds fields.old → fields.new ≡ fields.old }
+{
+    let Some(mut header) = header_of(fields) else {
+        return false;
+    };
+    header.set_time_to_live(time_to_live);
+    fields.time_to_live = header.time_to_live;
+    fields.header_checksum = header.header_checksum;
+    true
 }
 
 // The header that these fields stand for, where they are within their bounds.

@@ -1,9 +1,9 @@
 //! The walk past IPv6 extension headers (RFC 8200 section 4).
 
-ghost use Rattle.std.specs.Prelude.{◌≡◌};
-ghost use Rattle.etherparse.specs.ExtensionHeaderChain.{WalkAnswer, Walks};
-ghost use Rattle.etherparse_c.specs.Answer.{GivesAnswer};
-ghost use Rattle.etherparse_c.specs.Ipv6Answers.{walk_in_c};
+ghost use Rattle.std.specs.Prelude.{◌≡◌, ◌≤◌, ◌+◌, ◌/◌, length};
+ghost use Rattle.etherparse.specs.ExtensionHeaderChain.{LimitedWalkAnswer, WalkAnswer, Walks, WalksUpTo};
+ghost use Rattle.etherparse_c.specs.Answer.{GivesAnswer, no_rest};
+ghost use Rattle.etherparse_c.specs.Ipv6Answers.{limited_walk_in_c, walk_in_c};
 
 use crate::answer::{Error, Rest};
 use etherparse::{IpNumber, Ipv6Header};
@@ -31,20 +31,56 @@ pub extern "C" fn etherparse_ipv6_walk(slice: &[u8], next_header: u8) -> Ipv6Wal
         result ≡ walk_in_c slice.now other }
 {
     match Ipv6Header::skip_all_header_extensions_in_slice(slice, IpNumber(next_header)) {
-        Ok((number, rest)) => {
-            return Ipv6WalkAnswer {
-                error: Error::none(),
-                rest: Rest::of(slice, rest),
-                next_header: number.0,
-            };
-        }
-        Err(e) => {
-            return Ipv6WalkAnswer {
-                error: Error::of_len(&e),
-                rest: Rest::none(),
-                next_header: 0,
-            };
-        }
+        Ok((number, rest)) => return ended(slice, number, rest),
+        Err(e) => return refused(Error::of_len(&e)),
+    }
+}
+
+/// Skips the extension headers at the front of a slice, of which the first has this number, but no more than `limit` of them.
+///
+/// The error is kind 4 where as many were skipped and the number after them is that of one more, however many bytes are left; else
+/// a length, as that of `etherparse_ipv6_walk`.
+#[unsafe(no_mangle)]
+pub extern "C" fn etherparse_ipv6_walk_up_to(
+    slice: &[u8],
+    next_header: u8,
+    limit: usize,
+) -> Ipv6WalkAnswer
+    ensures walks { GivesAnswer (WalksUpTo limit slice.now next_header)
+        (λ answer. result ≡ limited_walk_in_c slice.now answer) }
+    ensures only { (other : LimitedWalkAnswer) → WalksUpTo limit slice.now next_header other →
+        result ≡ limited_walk_in_c slice.now other }
+    ensures as_without_limit { length slice.now / 8 + 1 ≤ limit → (answer : WalkAnswer) →
+        Walks slice.now next_header answer → result ≡ walk_in_c slice.now answer }
+{
+    match Ipv6Header::skip_header_extensions_up_to(slice, IpNumber(next_header), limit) {
+        Ok((number, rest)) => return ended(slice, number, rest),
+        Err(e) => return refused(Error::of_chain(&e)),
+    }
+}
+
+// The answer of a walk that came to its end.
+#[inline(always)]
+fn ended(slice: &[u8], number: IpNumber, rest: &[u8]) -> Ipv6WalkAnswer
+    requires { length rest.now ≤ length slice.now }
+    ensures value { result ≡ walk_in_c slice.now (Ok (number, rest.now)) }
+{
+    Ipv6WalkAnswer {
+        next_header: number.0,
+        rest: Rest::of(slice, rest),
+        error: Error::none(),
+    }
+}
+
+// The answer of a walk that did not.
+#[inline(always)]
+fn refused(error: Error) -> Ipv6WalkAnswer
+    ensures value { result ≡ record { next_header = 0; rest = no_rest; error = error } }
+{
+    Ipv6WalkAnswer {
+        next_header: 0,
+        rest: Rest::none(),
+        error,
     }
 }
 

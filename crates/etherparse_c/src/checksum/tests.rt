@@ -66,3 +66,8 @@ fn sums_of_32_bits(rt: HostRuntime) {
     );
     assert_eq!(rt; etherparse_u32_16bit_word_checksum(0, &[]), 0xffff);
 }
+
+#[test]
+fn a_checksum_is_updated_for_one_word(rt: HostRuntime) {
+    assert_eq!(rt; etherparse_update_2bytes(0xdd2f, 0x5555, 0x3285), 0);
+}

@@ -38,6 +38,17 @@ fn checksum_as_a_number(rt: HostRuntime) {
 }
 
 #[test]
+fn the_time_to_live_is_set_with_its_checksum(rt: HostRuntime) {
+    let mut fields = some_fields();
+    fields.header_checksum = 0xb861;
+    assert_eq!(rt; etherparse_ipv4_set_time_to_live(&mut fields, 63), true);
+    assert_eq!(rt; (fields.time_to_live, fields.header_checksum), (63, 0xb961));
+    fields.dscp = 64;
+    assert_eq!(rt; etherparse_ipv4_set_time_to_live(&mut fields, 9), false);
+    assert_eq!(rt; (fields.time_to_live, fields.header_checksum), (63, 0xb961));
+}
+
+#[test]
 fn nothing_is_written_for_a_field_out_of_its_bounds(rt: HostRuntime) {
     let mut fields = some_fields();
     fields.dscp = 64;

@@ -21,3 +21,13 @@ fn an_incomplete_header_is_told_with_its_place(rt: HostRuntime) {
     assert_eq!(rt; (error.kind, error.required_len, error.len), (1, 16, 3));
     assert_eq!(rt; error.layer_start_offset, 8);
 }
+
+#[test]
+fn a_walk_has_a_limit(rt: HostRuntime) {
+    let error = etherparse_ipv6_walk_up_to(&[0; 24], 0, 3).error;
+    assert_eq!(rt; (error.kind, error.number, error.limit), (4, 0, 3));
+    assert_eq!(rt; error.layer_start_offset, 24);
+    let error = etherparse_ipv6_walk_up_to(&[0; 24], 0, 4).error;
+    assert_eq!(rt; (error.kind, error.required_len, error.len), (1, 2, 0));
+    assert_eq!(rt; error.layer_start_offset, 24);
+}
