@@ -58,7 +58,7 @@ uint16_t etherparse_update_2bytes(uint16_t checksum, uint16_t old_word, uint16_t
 /* Why a call refused, by its numbers. Each number that a kind does not have is 0. */
 struct etherparse_error {
     uint32_t kind; /* one of the kinds below; 0 says that nothing was refused */
-    uint32_t number; /* of UNEXPECTED_VERSION the version, of the next kind the IHL, of TOO_MANY the header that is one too many */
+    uint32_t number; /* by the kind the version, the IHL, or of TOO_MANY the number of the header that is one too many */
     size_t required_len; /* of LEN: the length in bytes that is required */
     size_t len; /* of LEN: the length in bytes that there is */
     size_t layer_start_offset; /* of LEN and TOO_MANY: where the header starts, in bytes from the start of the slice */
@@ -67,7 +67,7 @@ struct etherparse_error {
 
 enum {
     ETHERPARSE_OK = 0,
-    ETHERPARSE_LEN = 1, /* there are fewer bytes than are required */
+    ETHERPARSE_LEN = 1, /* a length is below the one that is required */
     ETHERPARSE_UNEXPECTED_VERSION = 2, /* the version field has another number */
     ETHERPARSE_HEADER_LENGTH_SMALLER_THAN_HEADER = 3, /* the IHL field is below 5 */
     ETHERPARSE_TOO_MANY = 4 /* there are more extension headers than are allowed */
@@ -219,7 +219,7 @@ struct etherparse_ipv6_bytes {
 
 /* Where a walk past extension headers ended. Where error.kind is not ETHERPARSE_OK, all else is 0. */
 struct etherparse_ipv6_walk_answer {
-    uint8_t next_header; /* their number: the first that is none of an extension header that can be skipped */
+    uint8_t next_header; /* the number of what follows them: the first of no header that can be skipped */
     struct etherparse_rest rest; /* the bytes after all extension headers */
     struct etherparse_error error;
 };
@@ -240,8 +240,8 @@ struct etherparse_ipv6_bytes etherparse_ipv6_write(const struct etherparse_ipv6_
  * The error is a LEN, of the first header that is incomplete. Where fewer than 2 bytes are left, 2 are required. */
 struct etherparse_ipv6_walk_answer etherparse_ipv6_walk(const uint8_t *at, size_t len, uint8_t next_header);
 
-/* The same past at most so many headers. The error is TOO_MANY where as many were skipped and the number after them is that of one
- * more, however many bytes are left; else a LEN, as above. */
+/* The same past at most so many headers. The error is TOO_MANY where as many were skipped and the number after them is that of
+ * one more, however many bytes are left; else a LEN, as above. */
 struct etherparse_ipv6_walk_answer etherparse_ipv6_walk_up_to(const uint8_t *at, size_t len, uint8_t next_header, size_t limit);
 
 #ifdef __cplusplus

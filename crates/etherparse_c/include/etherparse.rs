@@ -1,5 +1,5 @@
-//! The declarations of `etherparse.h` for Rust, by the same names but for the prefix of the structs. What each call does, and what
-//! a caller owes, stands there.
+//! The declarations of `etherparse.h` for Rust. Functions have the same names, structs and constants those without the prefix.
+//! What each call does, and what a caller owes, stands there.
 
 #![allow(dead_code)]
 

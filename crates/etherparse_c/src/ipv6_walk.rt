@@ -12,7 +12,7 @@ use etherparse::{IpNumber, Ipv6Header};
 #[repr(C)]
 #[derive(Drop)]
 pub struct Ipv6WalkAnswer {
-    /// The number of these bytes: the first that is none of an extension header that can be skipped.
+    /// The number of what follows the extension headers: the first of no header that can be skipped.
     pub next_header: u8,
     /// All the bytes after the extension headers.
     pub rest: Rest,
@@ -38,8 +38,8 @@ pub extern "C" fn etherparse_ipv6_walk(slice: &[u8], next_header: u8) -> Ipv6Wal
 
 /// Skips the extension headers at the front of a slice, of which the first has this number, but no more than `limit` of them.
 ///
-/// The error is kind 4 where as many were skipped and the number after them is that of one more, however many bytes are left; else
-/// a length, as that of `etherparse_ipv6_walk`.
+/// The error is kind 4 where as many were skipped and the number after them is that of one more, however many bytes are left;
+/// else a length, as that of `etherparse_ipv6_walk`.
 #[unsafe(no_mangle)]
 pub extern "C" fn etherparse_ipv6_walk_up_to(
     slice: &[u8],
