@@ -121,16 +121,16 @@ struct etherparse_ipv4_view {
  * byte 20 up to there. Where error.kind is not ETHERPARSE_OK, there is no header and all else is 0. */
 struct etherparse_ipv4_view_answer {
     struct etherparse_ipv4_view view;
-    struct etherparse_rest rest;
     struct etherparse_error error;
+    struct etherparse_rest rest;
 };
 
 /* The header at the front of a slice, with a copy of its options, which 0 follows in their array. Where error.kind is not
  * ETHERPARSE_OK, there is no header and all else is 0. */
 struct etherparse_ipv4_read_answer {
     struct etherparse_ipv4_fields fields;
-    struct etherparse_rest rest;
     struct etherparse_error error;
+    struct etherparse_rest rest;
 };
 
 /* The bytes of a header, and 0 after them. Where the fields are those of no header, all is 0. */
@@ -201,14 +201,14 @@ struct etherparse_ipv6_view {
 /* The header at the front of a slice. Where error.kind is not ETHERPARSE_OK, there is no header and all else is 0. */
 struct etherparse_ipv6_view_answer {
     struct etherparse_ipv6_view view;
-    struct etherparse_rest rest;
     struct etherparse_error error;
+    struct etherparse_rest rest;
 };
 
 struct etherparse_ipv6_read_answer {
     struct etherparse_ipv6_fields fields;
-    struct etherparse_rest rest;
     struct etherparse_error error;
+    struct etherparse_rest rest;
 };
 
 /* The bytes of a header. Where the flow label is too great, all is 0. */
@@ -220,8 +220,8 @@ struct etherparse_ipv6_bytes {
 /* Where a walk past extension headers ended. Where error.kind is not ETHERPARSE_OK, all else is 0. */
 struct etherparse_ipv6_walk_answer {
     uint8_t next_header; /* the number of what follows them: the first of no header that can be skipped */
-    struct etherparse_rest rest; /* the bytes after all extension headers */
     struct etherparse_error error;
+    struct etherparse_rest rest; /* the bytes after all extension headers */
 };
 
 /* The header at the front of a slice, and where the bytes after it are, however many payload_length tells of.

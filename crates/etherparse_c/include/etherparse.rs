@@ -82,8 +82,8 @@ pub struct Ipv4View {
 #[derive(Clone, Copy, Debug, PartialEq, Eq)]
 pub struct Ipv4ViewAnswer {
     pub view: Ipv4View,
-    pub rest: Rest,
     pub error: Error,
+    pub rest: Rest,
 }
 
 /// The IPv4 header at the front of a slice, with a copy of its options.
@@ -91,8 +91,8 @@ pub struct Ipv4ViewAnswer {
 #[derive(Clone, Copy, Debug, PartialEq, Eq)]
 pub struct Ipv4ReadAnswer {
     pub fields: Ipv4Fields,
-    pub rest: Rest,
     pub error: Error,
+    pub rest: Rest,
 }
 
 /// The bytes of an IPv4 header.
@@ -147,8 +147,8 @@ pub struct Ipv6View {
 #[derive(Clone, Copy, Debug, PartialEq, Eq)]
 pub struct Ipv6ViewAnswer {
     pub view: Ipv6View,
-    pub rest: Rest,
     pub error: Error,
+    pub rest: Rest,
 }
 
 /// The IPv6 header at the front of a slice.
@@ -156,8 +156,8 @@ pub struct Ipv6ViewAnswer {
 #[derive(Clone, Copy, Debug, PartialEq, Eq)]
 pub struct Ipv6ReadAnswer {
     pub fields: Ipv6Fields,
-    pub rest: Rest,
     pub error: Error,
+    pub rest: Rest,
 }
 
 /// The bytes of an IPv6 header.
@@ -173,8 +173,8 @@ pub struct Ipv6Bytes {
 #[derive(Clone, Copy, Debug, PartialEq, Eq)]
 pub struct Ipv6WalkAnswer {
     pub next_header: u8,
-    pub rest: Rest,
     pub error: Error,
+    pub rest: Rest,
 }
 
 extern "C" {

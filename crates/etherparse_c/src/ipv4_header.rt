@@ -57,10 +57,10 @@ pub struct Ipv4Fields {
 pub struct Ipv4ReadAnswer {
     /// Its fields, with 0 after the options in their array.
     pub fields: Ipv4Fields,
-    /// All the bytes after it.
-    pub rest: Rest,
     /// Why there is none; its kind is 0 where there is one.
     pub error: Error,
+    /// All the bytes after the header.
+    pub rest: Rest,
 }
 
 /// The bytes of a header.

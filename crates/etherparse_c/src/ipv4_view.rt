@@ -51,10 +51,10 @@ pub struct Ipv4View {
 pub struct Ipv4ViewAnswer {
     /// What its getters answer.
     pub view: Ipv4View,
-    /// All the bytes after it.
-    pub rest: Rest,
     /// Why there is none; its kind is 0 where there is one.
     pub error: Error,
+    /// All the bytes after the header.
+    pub rest: Rest,
 }
 
 /// A view of the header at the front of a slice, and where the bytes after it are.

@@ -38,10 +38,10 @@ pub struct Ipv6Fields {
 pub struct Ipv6ReadAnswer {
     /// Its fields.
     pub fields: Ipv6Fields,
-    /// All the bytes after it.
-    pub rest: Rest,
     /// Why there is none; its kind is 0 where there is one.
     pub error: Error,
+    /// All the bytes after the header.
+    pub rest: Rest,
 }
 
 /// The bytes of a header.

@@ -41,10 +41,10 @@ pub struct Ipv6View {
 pub struct Ipv6ViewAnswer {
     /// What its getters answer.
     pub view: Ipv6View,
-    /// All the bytes after it.
-    pub rest: Rest,
     /// Why there is none; its kind is 0 where there is one.
     pub error: Error,
+    /// All the bytes after the header.
+    pub rest: Rest,
 }
 
 /// A view of the header at the front of a slice, and where the bytes after it are.
@@ -81,9 +81,19 @@ fn getters_of(view: &Ipv6HeaderSlice) -> Ipv6View
         ecn: view.ecn().value(),
         next_header: view.next_header().0,
         hop_limit: view.hop_limit(),
-        source: view.source(),
-        destination: view.destination(),
+        source: byte_by_byte(view.source()),
+        destination: byte_by_byte(view.destination()),
     }
+}
+
+// The same bytes. Read one by one they go into the answer by one load and one store; copied as a whole, they are stored in a
+// room of their own on the way.
+#[inline(always)]
+fn byte_by_byte(address: [u8; 16]) -> [u8; 16]
+    ensures { result ≡ address }
+{
+    let [a, b, c, d, e, f, g, h, i, j, k, l, m, n, o, p] = address;
+    [a, b, c, d, e, f, g, h, i, j, k, l, m, n, o, p]
 }
 
 // The answer where there is no header.

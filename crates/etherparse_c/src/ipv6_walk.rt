@@ -14,10 +14,10 @@ use etherparse::{IpNumber, Ipv6Header};
 pub struct Ipv6WalkAnswer {
     /// The number of what follows the extension headers: the first of no header that can be skipped.
     pub next_header: u8,
-    /// All the bytes after the extension headers.
-    pub rest: Rest,
     /// Why it did not come to an end; its kind is 0 where it did.
     pub error: Error,
+    /// All the bytes after the extension headers.
+    pub rest: Rest,
 }
 
 /// Skips all extension headers at the front of a slice, of which the first has this number.

@@ -1,4 +1,4 @@
-ghost use Rattle.std.specs.Prelude.{◌≡◌, ◌*◌, ◌<◌, ◌≤◌, length, OnSome, IfSome, IfNone};
+ghost use Rattle.std.specs.Prelude.{◌≡◌, ◌*◌, ◌<◌, ◌≤◌, length, OnSome, IfSome, IfNone, IfOk, IfErr};
 ghost use Rattle.etherparse_base.specs.Bytes.{IsBytes};
 ghost use Rattle.etherparse_base.specs.declared.err.layer.Layer.TheVariants as layer;
 ghost use Rattle.etherparse_fields.specs.Ipv4Options.{IsOptionsLen};
@@ -48,12 +48,16 @@ impl<'a> Ipv4HeaderSlice<'a> {
             BeginsWith HasIpv4Layout slice.now header rest →
             IsOkAnd result (λ view. HasIpv4Layout header view.slice.now) }
     {
-        match header_len(slice) {
-            Some(len) => Ok(Ipv4HeaderSlice {
-                slice: &slice[..len],
-            }),
-            None => Err(refusal(slice)),
+        let header_len = match header_len(slice) {
+            Ok(header_len) => header_len,
+            Err(e) => return Err(HeaderSliceError::Content(e)),
+        };
+        if slice.len() < header_len {
+            return Err(length_error(header_len, slice.len()));
         }
+        Ok(Ipv4HeaderSlice {
+            slice: &slice[..header_len],
+        })
     }
 
     /// The bytes of the header, which live as long as the slice that was read.
@@ -248,56 +252,32 @@ impl<'a> Ipv4HeaderSlice<'a> {
     }
 }
 
-// The length of the header at the front of a slice, where there is one.
+// The length of the header at the front of a slice: that of the shortest, where the slice ends before it.
 #[inline(always)]
-fn header_len(slice: &[u8]) -> Option<usize>
-    ensures version { OnSome result (version_of slice.now ≡ 4) }
-    ensures ihl { OnSome result (5 ≤ ihl_of slice.now) }
-    ensures len { IfSome result (λ len. len ≡ 4 * ihl_of slice.now) }
-    ensures fits { IfSome result (λ len. len ≤ length slice.now) }
-    ensures none { IfNone result (20 ≤ length slice.now → version_of slice.now ≡ 4
-        → 5 ≤ ihl_of slice.now → length slice.now < 4 * ihl_of slice.now) }
+fn header_len(slice: &[u8]) -> Result<usize, HeaderError>
+    ensures whole { IfOk result (λ len. len ≤ length slice.now → (version_of slice.now ≡ 4)
+        × (5 ≤ ihl_of slice.now) × (len ≡ 4 * ihl_of slice.now)) }
+    ensures too_short { IfOk result (λ len. length slice.now < len → RefusesIpv4 slice.now
+        (HeaderSliceError.Len (too_short_error layer.Ipv4Header len (length slice.now)))) }
+    ensures content { IfErr result (λ e. RefusesIpv4 slice.now (HeaderSliceError.Content e)) }
 {
     if slice.len() < Ipv4Header::MIN_LEN {
-        return None;
+        return Ok(Ipv4Header::MIN_LEN);
     }
-    if slice[0] >> 4 != 4 {
-        return None;
+    let first = slice[0];
+    // Version 4 and an IHL of 5 at least are one range, so one comparison.
+    if first < 0x45 || first > 0x4f {
+        let version_number = first >> 4;
+        if version_number != 4 {
+            return Err(HeaderError::UnexpectedVersion { version_number });
+        }
+        return Err(HeaderError::HeaderLengthSmallerThanHeader { ihl: first & 0xf });
     }
-    let ihl = slice[0] & 0xf;
-    if ihl < 5 {
-        return None;
-    }
-    let header_len = 4 * usize::from(ihl);
-    if slice.len() < header_len {
-        return None;
-    }
-    Some(header_len)
-}
-
-// Why the slice has no header at its front. It stands apart, so that it does not weigh on the path of those that are read.
-#[cold]
-#[inline(never)]
-fn refusal(slice: &[u8]) -> HeaderSliceError
-    requires none { 20 ≤ length slice.now → version_of slice.now ≡ 4
-        → 5 ≤ ihl_of slice.now → length slice.now < 4 * ihl_of slice.now }
-    ensures refuses { RefusesIpv4 slice.now result }
-{
-    if slice.len() < Ipv4Header::MIN_LEN {
-        return length_error(Ipv4Header::MIN_LEN, slice.len());
-    }
-    let version_number = slice[0] >> 4;
-    if version_number != 4 {
-        return HeaderSliceError::Content(HeaderError::UnexpectedVersion { version_number });
-    }
-    let ihl = slice[0] & 0xf;
-    if ihl < 5 {
-        return HeaderSliceError::Content(HeaderError::HeaderLengthSmallerThanHeader { ihl });
-    }
-    length_error(4 * usize::from(ihl), slice.len())
+    Ok(4 * usize::from(first & 0xf))
 }
 
 // The error of a slice that is too short for its header.
+#[inline(always)]
 fn length_error(required_len: usize, len: usize) -> HeaderSliceError
     ensures { result ≡ HeaderSliceError.Len (too_short_error layer.Ipv4Header required_len len) }
 {

@@ -11,7 +11,7 @@ returns c = record {
     payload_length = c.payload_length.ensures.value h l;
     next_header = c.result.view_is ∙ c.next_header.ensures.value h l;
     hop_limit = c.hop_limit.ensures.value h l;
-    source = c.source.ensures.value h l;
-    destination = c.destination.ensures.value h l;
+    source = c.byte_by_byte.ensures ∙ c.source.ensures.value h l;
+    destination = c.byte_by_byte-2.ensures ∙ c.destination.ensures.value h l;
   };
 }
