@@ -81,7 +81,7 @@ impl<'a> Ipv6HeaderSlice<'a> {
     pub fn traffic_class(&self) -> u8
         ensures value { OfIpv6Header self.now.slice.now (λ header. result ≡ header.traffic_class) }
     {
-        ((u16::from_be_bytes([self.slice[0], self.slice[1]]) >> 4) & 0xff) as u8
+        (self.slice[0] & 0xf) * 16 + (self.slice[1] >> 4)
     }
 
     /// The explicit congestion notification: the lower 2 bits of the traffic class.
