@@ -3,6 +3,7 @@
 ghost use Rattle.std.specs.Prelude.{◌≡◌, ◌≤◌, ◌+◌, ◌/◌, length};
 ghost use Rattle.etherparse.specs.ExtensionHeaderChain.{LimitedWalkAnswer, WalkAnswer, Walks, WalksUpTo};
 ghost use Rattle.etherparse_c.specs.Answer.{GivesAnswer, no_rest};
+ghost use Rattle.etherparse_c.specs.Error.{no_error};
 ghost use Rattle.etherparse_c.specs.Ipv6Answers.{limited_walk_in_c, walk_in_c};
 
 use crate::answer::{Error, Rest};
@@ -29,6 +30,10 @@ pub extern "C" fn etherparse_ipv6_walk(slice: &[u8], next_header: u8) -> Ipv6Wal
         (λ answer. result ≡ walk_in_c slice.now answer) }
     ensures only { (other : WalkAnswer) → Walks slice.now next_header other →
         result ≡ walk_in_c slice.now other }
+    ensures shorter { result.error ≡ no_error →
+        result.rest.offset + result.rest.len ≡ length slice.now }
+    ensures rest_within { result.rest.offset + result.rest.len ≤ length slice.now }
+    ensures within { result.error.layer_start_offset ≤ length slice.now }
 {
     match Ipv6Header::skip_all_header_extensions_in_slice(slice, IpNumber(next_header)) {
         Ok((number, rest)) => return ended(slice, number, rest),
@@ -52,6 +57,10 @@ pub extern "C" fn etherparse_ipv6_walk_up_to(
         result ≡ limited_walk_in_c slice.now other }
     ensures as_without_limit { length slice.now / 8 + 1 ≤ limit → (answer : WalkAnswer) →
         Walks slice.now next_header answer → result ≡ walk_in_c slice.now answer }
+    ensures shorter { result.error ≡ no_error →
+        result.rest.offset + result.rest.len ≡ length slice.now }
+    ensures rest_within { result.rest.offset + result.rest.len ≤ length slice.now }
+    ensures within { result.error.layer_start_offset ≤ length slice.now }
 {
     match Ipv6Header::skip_header_extensions_up_to(slice, IpNumber(next_header), limit) {
         Ok((number, rest)) => return ended(slice, number, rest),
