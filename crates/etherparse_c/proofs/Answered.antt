@@ -1,8 +1,8 @@
 -- From an answer of the library to what C gets of it.
-use Rattle.std.proofs.Common.{ℕ, ◌≡◌, Ok, Err, List, ◌++◌, length, take, sym, subst, ap, ◌∙◌}
+use Rattle.std.proofs.Common.{ℕ, ◌≡◌, ◌+◌, ◌-◌, Ok, Err, List, ◌++◌, length, length-append, take, sym, subst, ap, ◌∙◌, arith}
 use Rattle.std.proofs.lemmas.List.{take_at}
 use Rattle.etherparse.specs.ExtensionHeaderChain.{LimitedWalkAnswer, WalkAnswer, with_error_in_len}
-use Rattle.etherparse_c.specs.Answer.{GivesAnswer}
+use Rattle.etherparse_c.specs.Answer.{GivesAnswer, rest_after, rest_of}
 use Rattle.etherparse_c.specs.Ipv6Answers.{limited_walk_in_c, walk_in_c}
 
 -- what the clauses of an export say, where the library allows one answer
@@ -21,6 +21,14 @@ answered Allows Gives a allowed only given = record {
 -- a front of a slice is its first bytes
 pub first_bytes : (s front rest : List ℕ) (n : ℕ) → s ≡ front ++ rest → n ≡ length front → front ≡ take n s
 first_bytes s front rest n whole e = sym (ap (λ x. take n x) whole ∙ take_at front rest n (sym e))
+
+-- what follows a front is the rest after any front of its length
+pub one_rest : (s front f rest : List ℕ) → s ≡ f ++ rest → length front ≡ length f → rest_after s front ≡ rest_of s rest
+one_rest s front f rest whole same =
+    let len : length s ≡ length f + length rest = ap length whole ∙ length-append f rest in
+    let offset : length front ≡ length s - length rest = omega arith in
+    let left : length s - length front ≡ length rest = omega arith in
+    let place : record { offset = length front; len = length s - length front } ≡ record { offset = length s - length rest; len = length rest } = cc in place
 
 -- an answer with no limit is the same in C with one that allows it
 pub walked_alike : (s : List ℕ) (r : LimitedWalkAnswer) (answer : WalkAnswer) → r ≡ with_error_in_len answer

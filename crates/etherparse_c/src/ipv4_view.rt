@@ -1,10 +1,12 @@
 //! The view of an IPv4 header (RFC 791 section 3.1): its bytes stay where they are.
 
 ghost use Rattle.std.specs.Prelude.{ℕ, ◌≡◌, List, Result};
-ghost use Rattle.etherparse.specs.Ipv4Header.{OfIpv4Header, ViewsIpv4};
+ghost use Rattle.etherparse.specs.Ipv4Header.{HasIpv4Layout, OfIpv4Header, ViewsIpv4};
+ghost use Rattle.etherparse.specs.Reading.{BeginsWith};
 ghost use Rattle.etherparse.specs.declared.err.ipv4.HeaderSliceError.{HeaderSliceError as SliceError};
-ghost use Rattle.etherparse_c.specs.Answer.{GivesAnswer, no_rest};
-ghost use Rattle.etherparse_c.specs.Error.{ipv4_error_in_c};
+ghost use Rattle.etherparse.specs.declared.net.ipv4_header.Ipv4Header.{Ipv4Header as Header};
+ghost use Rattle.etherparse_c.specs.Answer.{GivesAnswer, no_rest, rest_of};
+ghost use Rattle.etherparse_c.specs.Error.{ipv4_error_in_c, no_error};
 ghost use Rattle.etherparse_c.specs.Ipv4Answers.{GivesIpv4View, ShowsIpv4, no_ipv4_view};
 
 use crate::answer::{Error, Rest};
@@ -66,6 +68,9 @@ pub extern "C" fn etherparse_ipv4_view(slice: &[u8]) -> Ipv4ViewAnswer
     ensures views { GivesAnswer (ViewsIpv4 slice.now) (GivesIpv4View result slice.now) }
     ensures only { (other : Result (List ℕ) SliceError) → ViewsIpv4 slice.now other →
         GivesIpv4View result slice.now other }
+    ensures shows { (header : Header) → (rest : List ℕ) →
+        BeginsWith HasIpv4Layout slice.now header rest → (result.error ≡ no_error)
+        × ((result.rest ≡ rest_of slice.now rest) × ShowsIpv4 result.view header) }
 {
     match Ipv4HeaderSlice::from_slice(slice) {
         Ok(view) => {

@@ -1,10 +1,12 @@
 //! The view of an IPv6 header (RFC 8200 section 3): its bytes stay where they are.
 
 ghost use Rattle.std.specs.Prelude.{ℕ, ◌≡◌, List, Result};
-ghost use Rattle.etherparse.specs.Ipv6Header.{OfIpv6Header, ViewsIpv6};
+ghost use Rattle.etherparse.specs.Ipv6Header.{IsIpv6Layout, OfIpv6Header, ViewsIpv6};
+ghost use Rattle.etherparse.specs.Reading.{BeginsWith};
 ghost use Rattle.etherparse.specs.declared.err.ipv6.HeaderSliceError.{HeaderSliceError as SliceError};
-ghost use Rattle.etherparse_c.specs.Answer.{GivesAnswer, no_rest};
-ghost use Rattle.etherparse_c.specs.Error.{ipv6_error_in_c};
+ghost use Rattle.etherparse.specs.declared.net.ipv6_header.Ipv6Header.{Ipv6Header as Header};
+ghost use Rattle.etherparse_c.specs.Answer.{GivesAnswer, no_rest, rest_of};
+ghost use Rattle.etherparse_c.specs.Error.{ipv6_error_in_c, no_error};
 ghost use Rattle.etherparse_c.specs.Ipv6Answers.{GivesIpv6View, ShowsIpv6, no_ipv6_view};
 
 use crate::answer::{Error, Rest};
@@ -55,6 +57,9 @@ pub extern "C" fn etherparse_ipv6_view(slice: &[u8]) -> Ipv6ViewAnswer
     ensures views { GivesAnswer (ViewsIpv6 slice.now) (GivesIpv6View result slice.now) }
     ensures only { (other : Result (List ℕ) SliceError) → ViewsIpv6 slice.now other →
         GivesIpv6View result slice.now other }
+    ensures shows { (header : Header) → (rest : List ℕ) →
+        BeginsWith IsIpv6Layout slice.now header rest → (result.error ≡ no_error)
+        × ((result.rest ≡ rest_of slice.now rest) × ShowsIpv6 result.view header) }
 {
     match Ipv6HeaderSlice::from_slice(slice) {
         Ok(view) => {
