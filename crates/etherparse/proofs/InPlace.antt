@@ -25,7 +25,7 @@ set_in_front : (s p t : List ℕ) (i b : ℕ) → s ≡ p ++ t → i < length p 
 set_in_front s p t i b e within = ap (λ x. slice_set x i b) e ∙ set-append_left p t i b within
 
 -- the bytes of a header with these places written are those of the header with both fields
-written_layout : (h : Ipv4Header) (t c r : ℕ) (p : List ℕ) → t < 2 ^ 8 → c < 2 ^ 16 → IsIpv4Layout h r p
+pub written_layout : (h : Ipv4Header) (t c r : ℕ) (p : List ℕ) → t < 2 ^ 8 → c < 2 ^ 16 → IsIpv4Layout h r p
     → IsIpv4Layout (with_time_to_live t c h) r (with_time_to_live_and_checksum t c p)
 written_layout h t c r p t_fits c_fits l =
     let long : 20 ≤ length p = omega (arith, l.len) in

@@ -1,7 +1,7 @@
 pub mod ExtensionHeaderChain
 mod Fields
-mod HeaderChecksum
-mod InPlace
+pub mod HeaderChecksum
+pub mod InPlace
 pub mod Ipv4Layout
 mod Ipv4Reading
 pub mod Ipv6Layout

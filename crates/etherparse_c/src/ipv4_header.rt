@@ -4,7 +4,7 @@ ghost use Rattle.std.specs.Prelude.{ℕ, ◌≡◌, ◌↔◌, ◌+◌, ◌-◌,
 ghost use Rattle.std.specs.Prelude.{drop, length, replicate, take};
 ghost use Rattle.etherparse.specs.Ipv4Header.{Ipv4Reading, ReadsIpv4};
 ghost use Rattle.etherparse.specs.Ipv4Options.{IsOptionsLen};
-ghost use Rattle.etherparse.specs.WordSums.{updated_checksum};
+ghost use Rattle.etherparse.specs.WordSums.{SumsToAllOnes, updated_checksum};
 ghost use Rattle.etherparse.specs.declared.net.ipv4_header.Ipv4Header.{Ipv4Header as Header};
 ghost use Rattle.etherparse_c.specs.Answer.{GivesAnswer, no_rest};
 ghost use Rattle.etherparse_c.specs.Error.{ipv4_error_in_c};
@@ -188,6 +188,7 @@ pub extern "C" fn etherparse_ipv4_lengths(total_len: u16, options_len: u8) -> Ip
 pub extern "C" fn etherparse_ipv4_header_checksum(fields: &Ipv4Fields, checksum: &mut u16) -> bool
     ensures accepted { IsTrue result ↔ AreWithinBounds fields.now }
     ensures value { IsTrue result → IsChecksumOf fields.now checksum.new }
+    ensures within { IsTrue result → checksum.new < 65535 }
     ensures refused { ¬ AreWithinBounds fields.now → checksum.new ≡ checksum.old }
 {
     match header_of(fields) {
@@ -213,6 +214,14 @@ pub extern "C" fn etherparse_ipv4_set_time_to_live(
           (fields.old.time_to_live * 2 ^ 8 + fields.old.protocol)
           (time_to_live * 2 ^ 8 + fields.old.protocol);
     } }
+
+    // The checksum that a header of the fields should have is so afterwards.
+    ensures stays_computed { IsTrue result → IsChecksumOf fields.old fields.old.header_checksum →
+        IsChecksumOf fields.new fields.new.header_checksum }
+
+    // A receiver of the header as it is written finds the checksum right where it was right before.
+    ensures all_ones { IsTrue result → (before after : List ℕ) → AreWrittenFor fields.old before →
+        AreWrittenFor fields.new after → (SumsToAllOnes before ↔ SumsToAllOnes after) }
     ensures refused { ¬ AreWithinBounds fields.old → fields.new ≡ fields.old }
 {
     let Some(mut header) = header_of(fields) else {
@@ -229,6 +238,8 @@ pub extern "C" fn etherparse_ipv4_set_time_to_live(
 fn header_of(fields: &Ipv4Fields) -> Option<Ipv4Header>
     ensures accepted { IsSome result ↔ AreWithinBounds fields.now }
     ensures value { IfSome result (StandFor fields.now) }
+    ensures within { IfSome result (λ header.
+        (header.time_to_live < 2 ^ 8) × (header.header_checksum < 2 ^ 16)) }
 {
     let options_len = usize::from(fields.options_len);
     if options_len > 40 || options_len % 4 != 0 {
@@ -244,10 +255,13 @@ fn header_with(fields: &Ipv4Fields, options_len: usize) -> Option<Ipv4Header>
     requires fits { IsOptionsLen options_len }
     ensures accepted { IsSome result ↔ AreWithinBounds fields.now }
     ensures value { IfSome result (StandFor fields.now) }
+    ensures within { IfSome result (λ header.
+        (header.time_to_live < 2 ^ 8) × (header.header_checksum < 2 ^ 16)) }
 {
     let dscp = IpDscp::try_new(fields.dscp).ok()?;
     let ecn = IpEcn::try_new(fields.ecn).ok()?;
     let fragment_offset = IpFragOffset::try_new(fields.fragment_offset).ok()?;
+    let (time_to_live, header_checksum) = (fields.time_to_live, fields.header_checksum);
     Some(Ipv4Header {
         dscp,
         ecn,
@@ -256,9 +270,9 @@ fn header_with(fields: &Ipv4Fields, options_len: usize) -> Option<Ipv4Header>
         dont_fragment: fields.dont_fragment,
         more_fragments: fields.more_fragments,
         fragment_offset,
-        time_to_live: fields.time_to_live,
+        time_to_live,
         protocol: IpNumber(fields.protocol),
-        header_checksum: fields.header_checksum,
+        header_checksum,
         source: fields.source,
         destination: fields.destination,
         options: Ipv4Options::from_front(&fields.options, options_len),
