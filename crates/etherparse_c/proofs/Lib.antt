@@ -1,3 +1,4 @@
 mod Answered
 mod Fields
+mod ReadAgain
 mod TimeToLive

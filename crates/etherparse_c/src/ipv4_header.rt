@@ -2,12 +2,13 @@
 
 ghost use Rattle.std.specs.Prelude.{ℕ, ◌≡◌, ◌↔◌, ◌+◌, ◌-◌, ◌*◌, ◌^◌, ◌<◌, ◌++◌, List, IfSome, IsSome, IsTrue};
 ghost use Rattle.std.specs.Prelude.{drop, length, replicate, take};
-ghost use Rattle.etherparse.specs.Ipv4Header.{Ipv4Reading, ReadsIpv4};
+ghost use Rattle.etherparse.specs.Ipv4Header.{AgreeButForReservedBit, Ipv4Reading, OfIpv4Header, ReadsIpv4};
+ghost use Rattle.etherparse.specs.Ipv4Header.{with_reserved_bit_cleared};
 ghost use Rattle.etherparse.specs.Ipv4Options.{IsOptionsLen};
 ghost use Rattle.etherparse.specs.WordSums.{SumsToAllOnes, updated_checksum};
 ghost use Rattle.etherparse.specs.declared.net.ipv4_header.Ipv4Header.{Ipv4Header as Header};
 ghost use Rattle.etherparse_c.specs.Answer.{GivesAnswer, no_rest};
-ghost use Rattle.etherparse_c.specs.Error.{ipv4_error_in_c};
+ghost use Rattle.etherparse_c.specs.Error.{ipv4_error_in_c, no_error};
 ghost use Rattle.etherparse_c.specs.Ipv4Answers.{AreIpv4Lengths, AreWrittenFor, GivesIpv4Reading};
 ghost use Rattle.etherparse_c.specs.Ipv4Answers.{no_ipv4_bytes, no_ipv4_fields, no_ipv4_lengths};
 ghost use Rattle.etherparse_c.specs.Ipv4Fields.{AreWithinBounds, IsChecksumOf, StandFor};
@@ -98,6 +99,15 @@ pub extern "C" fn etherparse_ipv4_read(slice: &[u8]) -> Ipv4ReadAnswer
     ensures reads { GivesAnswer (ReadsIpv4 slice.now) (GivesIpv4Reading result slice.now) }
     ensures only { (other : Ipv4Reading) → ReadsIpv4 slice.now other →
         GivesIpv4Reading result slice.now other }
+
+    // What was read is written again, with the reserved bit 0.
+    ensures cleared { result.error ≡ no_error → AreWrittenFor result.fields
+        (with_reserved_bit_cleared (take result.rest.offset slice.now)) }
+
+    // Bytes have a header of these fields where they agree in all but the reserved bit.
+    ensures same_header { result.error ≡ no_error → (bytes : List ℕ) →
+        OfIpv4Header bytes (λ header. StandFor result.fields header
+        ↔ AgreeButForReservedBit bytes (take result.rest.offset slice.now)) }
 {
     match Ipv4Header::from_slice(slice) {
         Ok((header, rest)) => {
