@@ -163,7 +163,8 @@ impl<'a> Ipv4HeaderSlice<'a> {
         ensures value { OfIpv4Header self.now.slice.now (λ header.
             IsTrue result ↔ IsFragment header) }
     {
-        self.more_fragments() || self.fragments_offset().value() != 0
+        // The flag and the offset, which stand side by side.
+        u16::from_be_bytes([self.slice[6], self.slice[7]]) & 0x3fff != 0
     }
 
     /// The time to live: byte 8. Each node that forwards the packet lowers it by one, and discards the packet at 0.

@@ -6,6 +6,6 @@ use Rattle.etherparse.proofs.net.ipv6_header_slice.Ipv6HeaderSlice.traffic_class
 pub returns : goal.returns
 returns c = record {
   value = λ header layout.
-    let bytes = c.args.self.now.slice.now in
-    omega (arith, and_mask (slice_index bytes 0) 4, layout.are_bytes 1, traffic_class_of-layout header bytes layout);
+      let bytes = c.args.self.now.slice.now in
+      omega (arith, and_mask (slice_index bytes 0) 4, layout.are_bytes 1, traffic_class_of-layout header bytes layout);
 }
