@@ -1,7 +1,7 @@
 #!/bin/sh
-# fuzz.sh [ORACLE [COUNT]]: calls the library on COUNT random and mutated packets, 10,000,000 where none is told, for 270 seconds
-# at most, from a program in C under gcc's address and undefined-behaviour sanitizers. With ORACLE, a program that answers the
-# cases of the Rust crate by lines, the answers to a sample of the packets are compared with its own.
+# fuzz.sh [ORACLE [COUNT]]: calls the library on COUNT random and mutated packets, 10,000,000 where no COUNT is given, for 270
+# seconds at most, from a program in C under gcc's address and undefined-behaviour sanitizers. With ORACLE, a program that
+# answers the cases of the Rust crate by lines, the answers to a sample of the packets are compared with its own.
 set -eu
 here=$(CDPATH= cd -- "$(dirname -- "$0")" && pwd)
 library=$here/..

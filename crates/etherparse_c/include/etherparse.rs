@@ -1,4 +1,5 @@
-//! The declarations of `etherparse.h` for Rust. Functions have the same names, structs and constants those without the prefix.
+//! The declarations of `etherparse.h` for Rust. Functions have the same names, constants those without the
+//! prefix, and structs those in Rust's spelling, as `Ipv4ViewAnswer`.
 //! What each call does, and what a caller owes, stands there.
 
 #![allow(dead_code)]

@@ -104,7 +104,7 @@ pub extern "C" fn etherparse_ipv4_read(slice: &[u8]) -> Ipv4ReadAnswer
     ensures cleared { result.error ≡ no_error → AreWrittenFor result.fields
         (with_reserved_bit_cleared (take result.rest.offset slice.now)) }
 
-    // Bytes have a header of these fields where they agree in all but the reserved bit.
+    // Of bytes that have a header, it is that of these fields exactly where they agree in all but the reserved bit.
     ensures same_header { result.error ≡ no_error → (bytes : List ℕ) →
         OfIpv4Header bytes (λ header. StandFor result.fields header
         ↔ AgreeButForReservedBit bytes (take result.rest.offset slice.now)) }
@@ -225,7 +225,7 @@ pub extern "C" fn etherparse_ipv4_set_time_to_live(
           (time_to_live * 2 ^ 8 + fields.old.protocol);
     } }
 
-    // The checksum that a header of the fields should have is so afterwards.
+    // A stored checksum that is the computed one stays so.
     ensures stays_computed { IsTrue result → IsChecksumOf fields.old fields.old.header_checksum →
         IsChecksumOf fields.new fields.new.header_checksum }
 
@@ -271,6 +271,7 @@ fn header_with(fields: &Ipv4Fields, options_len: usize) -> Option<Ipv4Header>
     let dscp = IpDscp::try_new(fields.dscp).ok()?;
     let ecn = IpEcn::try_new(fields.ecn).ok()?;
     let fragment_offset = IpFragOffset::try_new(fields.fragment_offset).ok()?;
+    // Read first, so that their bounds are known where the header is made.
     let (time_to_live, header_checksum) = (fields.time_to_live, fields.header_checksum);
     Some(Ipv4Header {
         dscp,

@@ -237,7 +237,7 @@ impl Ipv4Header {
         ensures cleared { IfOk result (λ x. (front : List ℕ) → slice.now ≡ front ++ x.1.now →
             IsIpv4Layout x.0 0 (with_reserved_bit_cleared front)) }
 
-        // Bytes have the same header where they agree in all but the reserved bit.
+        // Of bytes that have a header, it is the same exactly where they agree in all but the reserved bit.
         ensures same_header { IfOk result (λ x. (front : List ℕ) → slice.now ≡ front ++ x.1.now →
             (bytes : List ℕ) → OfIpv4Header bytes (λ header. (header ≡ x.0)
             ↔ AgreeButForReservedBit bytes front)) }
@@ -261,7 +261,7 @@ impl Ipv4Header {
         ensures cleared { IfOk result (λ x. (front : List ℕ) → slice.now ≡ front ++ x.1.now →
             IsIpv4Layout x.0 0 (with_reserved_bit_cleared front)) }
 
-        // Bytes have the same header where they agree in all but the reserved bit.
+        // Of bytes that have a header, it is the same exactly where they agree in all but the reserved bit.
         ensures same_header { IfOk result (λ x. (front : List ℕ) → slice.now ≡ front ++ x.1.now →
             (bytes : List ℕ) → OfIpv4Header bytes (λ header. (header ≡ x.0)
             ↔ AgreeButForReservedBit bytes front)) }
@@ -331,7 +331,7 @@ impl Ipv4Header {
               (time_to_live * 2 ^ 8 + self.old.protocol);
         } }
 
-        // The checksum that a header should have is so afterwards.
+        // A stored checksum that is the computed one stays so.
         ensures stays_computed { (reserved : ℕ) (before after : List ℕ)
             → IsIpv4Layout self.old reserved before → IsIpv4Layout self.new reserved after
             → self.old.header_checksum ≡ header_checksum_of before

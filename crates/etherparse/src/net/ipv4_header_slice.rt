@@ -1,4 +1,4 @@
-ghost use Rattle.std.specs.Prelude.{◌≡◌, ◌*◌, ◌<◌, ◌≤◌, length, OnSome, IfSome, IfNone, IfOk, IfErr};
+ghost use Rattle.std.specs.Prelude.{◌≡◌, ◌*◌, ◌<◌, ◌≤◌, length, IfOk, IfErr};
 ghost use Rattle.etherparse_base.specs.Bytes.{IsBytes};
 ghost use Rattle.etherparse_base.specs.declared.err.layer.Layer.TheVariants as layer;
 ghost use Rattle.etherparse_fields.specs.Ipv4Options.{IsOptionsLen};
@@ -163,7 +163,7 @@ impl<'a> Ipv4HeaderSlice<'a> {
         ensures value { OfIpv4Header self.now.slice.now (λ header.
             IsTrue result ↔ IsFragment header) }
     {
-        // The flag and the offset, which stand side by side.
+        // More fragments and the offset, which stand side by side.
         u16::from_be_bytes([self.slice[6], self.slice[7]]) & 0x3fff != 0
     }
 
@@ -253,7 +253,7 @@ impl<'a> Ipv4HeaderSlice<'a> {
     }
 }
 
-// The length of the header at the front of a slice: that of the shortest, where the slice ends before it.
+// The length of the header at the front of a slice, or 20, where the slice has fewer bytes than that.
 #[inline(always)]
 fn header_len(slice: &[u8]) -> Result<usize, HeaderError>
     ensures whole { IfOk result (λ len. len ≤ length slice.now → (version_of slice.now ≡ 4)
@@ -266,7 +266,7 @@ fn header_len(slice: &[u8]) -> Result<usize, HeaderError>
         return Ok(Ipv4Header::MIN_LEN);
     }
     let first = slice[0];
-    // Version 4 and an IHL of 5 at least are one range, so one comparison.
+    // Version 4 and an IHL of 5 at least are one range, which the compiler tests by one comparison.
     if first < 0x45 || first > 0x4f {
         let version_number = first >> 4;
         if version_number != 4 {
