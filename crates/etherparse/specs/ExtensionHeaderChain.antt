@@ -53,8 +53,8 @@ pub record BeginsWithChain (s : List ℕ) (first : ℕ) (headers : List (List �
   pub chain : IsExtensionHeaderChain first headers last
   pub whole : s ≡ concat headers ++ rest
 
--- The rest, of this number, follows extension headers that stand at the front of the slice, of which
--- the first has that number. With no header it is the slice itself.
+-- The rest, of this number, follows extension headers that stand at the front of the slice, of
+-- which the first has that number. With no header it is the slice itself.
 pub record FollowsChain (s : List ℕ) (first number : ℕ) (rest : List ℕ) : Type 0 where
   pub headers : List (List ℕ)
   pub begins : BeginsWithChain s first headers number rest
@@ -138,8 +138,8 @@ pub record EndsIncompleteUpTo (limit : ℕ) (s : List ℕ) (first : ℕ) (header
   pub ends : EndsIncomplete s first headers e
   pub below : length headers < limit
 
--- The walk ends at the limit: the slice begins with a chain of as many headers, whose last number is
--- that of one more, whatever bytes are left for it. The error has the limit, the number of that
+-- The walk ends at the limit: the slice begins with a chain of as many headers, whose last number
+-- is that of one more, whatever bytes are left for it. The error has the limit, the number of that
 -- header, and where it starts.
 pub record EndsAtLimit (limit : ℕ) (s : List ℕ) (first : ℕ) (headers : List (List ℕ))
     (e : ChainError) : Type 0 where

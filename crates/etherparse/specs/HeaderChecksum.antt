@@ -21,8 +21,9 @@ with_time_to_live_and_checksum time_to_live checksum bytes =
     slice_set (slice_set (slice_set bytes 8 time_to_live)
     10 (slice_index (to_be_bytes w16 checksum) 0)) 11 (slice_index (to_be_bytes w16 checksum) 1)
 
--- With the time to live and the checksum of this header written over its own, the packet begins with
--- this header and the rest, and the header's bytes sum to all ones exactly where they did before.
+-- With the time to live and the checksum of this header written over its own, the packet begins
+-- with this header and the rest, and the header's bytes sum to all ones exactly where they did
+-- before.
 pub record IsWrittenInPlace (packet : List ℕ) (header : Ipv4Header) (rest : List ℕ) : Type 0 where
   pub begins : BeginsWith HasIpv4Layout (with_time_to_live_and_checksum header.time_to_live
       header.header_checksum packet) header rest

@@ -43,7 +43,7 @@ pub record IsLastIpv6Hop (packet : List ℕ) : Type 0 where
   pub begins : BeginsWith IsIpv6Layout packet header rest
   pub last : header.hop_limit ≤ 1
 
--- the header with one hop less, its checksum updated for that alone (RFC 1624 section 3, equation 3)
+-- the header with one hop less, its checksum updated for that alone (RFC 1624 section 3)
 abbrev pub with_one_hop_less : Ipv4Header → Ipv4Header
 with_one_hop_less header = record header {
   time_to_live = header.time_to_live - 1;
