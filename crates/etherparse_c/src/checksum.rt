@@ -71,7 +71,7 @@ pub extern "C" fn etherparse_u64_16bit_word_checksum(start_sum: u64, slice: &[u8
     ensures network_order { start_sum ≡ 0
         → swap_bytes w16 result ≡ 65535 - folded_sum (network_order_word_sum slice.now) }
 {
-    u64_16bit_word::ones_complement(u64_16bit_word::add_slice(start_sum, slice))
+    u64_16bit_word::checksum(start_sum, slice)
 }
 
 /// Adds the words of a slice to a sum of 32 bits, which begins at 0. An odd last byte is a word with a byte 0 behind it.
@@ -137,7 +137,7 @@ pub extern "C" fn etherparse_u32_16bit_word_checksum(start_sum: u32, slice: &[u8
     ensures network_order { start_sum ≡ 0
         → swap_bytes w16 result ≡ 65535 - folded_sum (network_order_word_sum slice.now) }
 {
-    u32_16bit_word::ones_complement(u32_16bit_word::add_slice(start_sum, slice))
+    u32_16bit_word::checksum(start_sum, slice)
 }
 
 /// The checksum after one of the words that it is over was changed from `old` to `new`, all three as numbers whose high byte a

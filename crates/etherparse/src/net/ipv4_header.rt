@@ -405,15 +405,35 @@ fn add_fours(bytes: [u8; 16]) -> Sum16BitWords
         .add_4bytes([m, n, o, p])
 }
 
-// Most headers have no options, and none of their words is looked for then.
+// The sum with the bytes of the options. Where the compiler knows their number, it asks for no word whether it is there, and
+// keeps no header in memory to find them in.
 #[inline(always)]
 fn add_options(fixed: Sum16BitWords, options: &[u8]) -> Sum16BitWords
+    requires options_len { IsOptionsLen (length options.now) }
     ensures sum { folded_sum result ≡ folded_sum (fixed + little_endian_word_sum options.now) }
 {
-    if options.is_empty() {
-        return fixed;
+    match options.len() {
+        0 => fixed,
+        4 => add_options_of::<4>(fixed, options),
+        8 => add_options_of::<8>(fixed, options),
+        12 => add_options_of::<12>(fixed, options),
+        16 => add_options_of::<16>(fixed, options),
+        20 => add_options_of::<20>(fixed, options),
+        24 => add_options_of::<24>(fixed, options),
+        28 => add_options_of::<28>(fixed, options),
+        32 => add_options_of::<32>(fixed, options),
+        36 => add_options_of::<36>(fixed, options),
+        _ => add_options_of::<40>(fixed, options),
     }
-    fixed.add_slice(options)
+}
+
+// The same for N bytes of options.
+#[inline(always)]
+fn add_options_of<const N: usize>(fixed: Sum16BitWords, options: &[u8]) -> Sum16BitWords
+    requires options_len { length options.now ≡ N }
+    ensures sum { folded_sum result ≡ folded_sum (fixed + little_endian_word_sum options.now) }
+{
+    fixed.add_slice(&options[..N])
 }
 
 const _: () = prove!(Ipv4Header::MIN_LEN == 20 && Ipv4Header::MIN_LEN_U16 == 20);

@@ -1,6 +1,6 @@
 //! Sums with the end-around carry: what goes beyond the width is added at the low end (RFC 1071 section 1).
 
-ghost use Rattle.std.specs.Prelude.{◌≡◌, ◌+◌};
+ghost use Rattle.std.specs.Prelude.{◌≡◌, ◌+◌, ◌-◌};
 ghost use Rattle.etherparse_base.specs.WordSums.{end_around_sum, folded_sum};
 
 /// The sum of two numbers of 64 bits.
@@ -44,4 +44,12 @@ pub(super) fn halve_u32(sum: u32) -> u16
     ensures folded { result ≡ folded_sum sum }
 {
     add_u16((sum & 0xffff) as u16, (sum >> 16) as u16)
+}
+
+/// The complement of the fold of a sum of 64 bits.
+#[inline(always)]
+pub(super) fn complement_u64(sum: u64) -> u16
+    ensures value { result ≡ 65535 - folded_sum sum }
+{
+    !halve_u32(halve_u64(sum))
 }

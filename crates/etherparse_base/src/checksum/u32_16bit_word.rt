@@ -85,6 +85,18 @@ pub fn ones_complement(sum: u32) -> u16
     !halve_u32(sum)
 }
 
+/// [`ones_complement`] of [`add_slice`], as one call.
+///
+/// The Rust crate has no such call.
+#[inline(always)]
+pub fn checksum(start_sum: u32, slice: &[u8]) -> u16
+    ensures value { result ≡ 65535 - folded_sum (start_sum + little_endian_word_sum slice.now) }
+    ensures network_order { start_sum ≡ 0
+        → swap_bytes w16 result ≡ 65535 - folded_sum (network_order_word_sum slice.now) }
+{
+    wide_u64::checksum(u64::from(start_sum), slice)
+}
+
 /// The same with 0xffff in place of 0, as UDP has it: a checksum of 0 says there that there is none (RFC 768).
 #[inline]
 pub fn ones_complement_with_no_zero(sum: u32) -> u16

@@ -11,7 +11,7 @@ ghost use Rattle.etherparse_base.specs.WordSums.{folded_sum, little_endian_word_
 ghost use Rattle.etherparse_base.specs.WordSums.{network_order_word_sum, ones_complement_sum};
 ghost use Rattle.etherparse_base.specs.WordSums.{with_no_zero};
 
-use super::end_around::{add_u64, halve_u32, halve_u64};
+use super::end_around::{add_u64, complement_u64};
 use super::wide_u64;
 
 /// Adds two bytes as one number, the low byte first. A carry out of the 64 bits is added at the low end (RFC 1071
@@ -94,7 +94,19 @@ pub fn ones_complement(sum: u64) -> u16
         → folded_sum sum ≡ folded_sum (little_endian_word_sum bytes)
         → swap_bytes w16 result ≡ 65535 - folded_sum (network_order_word_sum bytes) }
 {
-    !halve_u32(halve_u64(sum))
+    complement_u64(sum)
+}
+
+/// [`ones_complement`] of [`add_slice`], as one call.
+///
+/// The Rust crate has no such call.
+#[inline(always)]
+pub fn checksum(start_sum: u64, slice: &[u8]) -> u16
+    ensures value { result ≡ 65535 - folded_sum (start_sum + little_endian_word_sum slice.now) }
+    ensures network_order { start_sum ≡ 0
+        → swap_bytes w16 result ≡ 65535 - folded_sum (network_order_word_sum slice.now) }
+{
+    wide_u64::checksum(start_sum, slice)
 }
 
 /// The same with 0xffff in place of 0, as UDP has it: a checksum of 0 says there that there is none (RFC 768).

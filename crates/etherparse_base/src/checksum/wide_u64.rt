@@ -4,13 +4,13 @@
 //! which the sum of the low halves comes back in the end. The other eight go into eight sums, with the carry out of each into
 //! the next, and that out of the last counted. The 32-bit sum of a slice is this one, halved.
 
-ghost use Rattle.std.specs.Prelude.{List, ℕ, drop, ◌≡◌, ◌<◌, ◌≤◌, ◌+◌, ◌*◌, ◌^◌, length};
+ghost use Rattle.std.specs.Prelude.{List, ℕ, drop, ◌≡◌, ◌<◌, ◌≤◌, ◌+◌, ◌-◌, ◌*◌, ◌^◌, length};
 ghost use Rattle.std.specs.Int.{from_bool};
 ghost use Rattle.std.specs.Simd.Lanes.{sum_l};
 ghost use Rattle.etherparse_base.specs.WideSums.{AddsTurns, AddsWords, StandsFor};
 ghost use Rattle.etherparse_base.specs.WordSums.{folded_sum, little_endian_word_sum};
 
-use super::end_around::add_u64;
+use super::end_around::{add_u64, complement_u64};
 use super::words::{joined, split_four_words, split_half_word, split_quarter_word, split_word};
 use std::simd::prelude::*;
 
@@ -30,6 +30,26 @@ pub(super) fn add_slice(start_sum: u64, slice: &[u8]) -> u64
     } else {
         add_many(start_sum, slice)
     }
+}
+
+/// The complement of that sum in sixteen bits. Of few bytes it is made with no call, so nothing is put aside for one.
+#[inline(always)]
+pub(super) fn checksum(start_sum: u64, slice: &[u8]) -> u16
+    ensures value { result ≡ 65535 - folded_sum (start_sum + little_endian_word_sum slice.now) }
+{
+    if slice.len() < MANY {
+        complement_u64(add_rest(start_sum, none_of(slice)))
+    } else {
+        checksum_of_many(start_sum, slice)
+    }
+}
+
+// The same of many bytes.
+#[inline(never)]
+fn checksum_of_many(start_sum: u64, slice: &[u8]) -> u16
+    ensures value { result ≡ 65535 - folded_sum (start_sum + little_endian_word_sum slice.now) }
+{
+    complement_u64(add_many(start_sum, slice))
 }
 
 /// What is summed so far, and what is left.
