@@ -4,7 +4,7 @@
 //! which the sum of the low halves comes back in the end. The other eight go into eight sums, with the carry out of each into
 //! the next, and that out of the last counted. The 32-bit sum of a slice is this one, halved.
 
-ghost use Rattle.std.specs.Prelude.{List, ℕ, drop, ◌≡◌, ◌<◌, ◌≤◌, ◌+◌, ◌-◌, ◌*◌, ◌^◌, length};
+ghost use Rattle.std.specs.Prelude.{List, [], ℕ, drop, ◌≡◌, ◌<◌, ◌≤◌, ◌+◌, ◌-◌, ◌*◌, ◌^◌, length};
 ghost use Rattle.std.specs.Int.{from_bool};
 ghost use Rattle.std.specs.Simd.Lanes.{sum_l};
 ghost use Rattle.etherparse_base.specs.WideSums.{AddsTurns, AddsWords, StandsFor};
@@ -166,8 +166,8 @@ fn add_turn(at: Turns, bytes: &[u8]) -> Turns
     }
 }
 
-// Adds what is left: four words of eight bytes at a time, then at most two, then at most one of each smaller word and an odd
-// byte. The start comes last, so that nothing else has to wait for it.
+// Adds what is left: four words of eight bytes at a time, then at most two, then at most one, and the bytes after it. The start
+// comes last, so that nothing else has to wait for it.
 #[inline(always)]
 fn add_rest<'a>(start_sum: u64, at: Summed<'a>) -> u64
     ensures sum { folded_sum result
@@ -175,9 +175,7 @@ fn add_rest<'a>(start_sum: u64, at: Summed<'a>) -> u64
 {
     let at = add_two_words(add_four_words(at));
     let (word, rest) = split_if_word(at.rest);
-    let (half, rest) = split_if_half_word(rest);
-    let (quarter, rest) = split_if_quarter_word(rest);
-    add_words(at.sum, [word, half, quarter + last_byte(rest), start_sum])
+    add_three_words(at.sum, word, last_bytes(rest), start_sum)
 }
 
 // Adds four words at a time, until fewer are left.
@@ -230,11 +228,39 @@ fn split_if_word(bytes: &[u8]) -> (u64, &[u8])
     }
 }
 
+// The sum of what is left after the last word of eight bytes. Where nothing is left, no smaller word is looked for.
+#[inline(always)]
+fn last_bytes(bytes: &[u8]) -> u64
+    requires { length bytes.now < 8 }
+    ensures stands_for { StandsFor result bytes.now [] }
+{
+    if bytes.is_empty() {
+        return 0;
+    }
+    let (half, rest) = split_if_half_word(bytes);
+    half + last_few_bytes(rest)
+}
+
+// The same after the last word of four bytes.
+#[inline(always)]
+fn last_few_bytes(bytes: &[u8]) -> u64
+    requires { length bytes.now < 4 }
+    ensures stands_for { StandsFor result bytes.now [] }
+    ensures fits { result < 2 ^ 17 }
+{
+    if bytes.is_empty() {
+        return 0;
+    }
+    let (quarter, rest) = split_if_quarter_word(bytes);
+    quarter + last_byte(rest)
+}
+
 // The word of four bytes, or 0.
 #[inline(always)]
 fn split_if_half_word(bytes: &[u8]) -> (u64, &[u8])
     requires { length bytes.now < 8 }
     ensures stands_for { StandsFor result.0 bytes.now result.1.now }
+    ensures fits { result.0 < 2 ^ 32 }
     ensures shorter { length result.1.now < 4 }
 {
     if bytes.len() < 4 {
@@ -282,6 +308,17 @@ fn add_words(sum: u64, words: [u64; 4]) -> u64
     let (sum, carry) = add_with_carry(sum, words[1], carry);
     let (sum, carry) = add_with_carry(sum, words[2], carry);
     let (sum, carry) = add_with_carry(sum, words[3], carry);
+    sum + u64::from(carry)
+}
+
+// The same with three words.
+#[inline(always)]
+fn add_three_words(sum: u64, a: u64, b: u64, c: u64) -> u64
+    ensures folded { folded_sum result ≡ folded_sum (sum + a + b + c) }
+{
+    let (sum, carry) = add_with_carry(sum, a, false);
+    let (sum, carry) = add_with_carry(sum, b, carry);
+    let (sum, carry) = add_with_carry(sum, c, carry);
     sum + u64::from(carry)
 }
 

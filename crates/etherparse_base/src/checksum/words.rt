@@ -23,6 +23,7 @@ pub(super) fn split_word(bytes: &[u8]) -> (u64, &[u8])
 pub(super) fn split_half_word(bytes: &[u8]) -> (u64, &[u8])
     requires { 4 ≤ length bytes.now }
     ensures stands_for { StandsFor result.0 bytes.now result.1.now }
+    ensures fits { result.0 < 2 ^ 32 }
     ensures shorter { length result.1.now + 4 ≡ length bytes.now }
 {
     let (word, rest) = bytes.split_first_chunk::<4>().unwrap();
