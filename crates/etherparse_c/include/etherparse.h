@@ -47,7 +47,8 @@ uint16_t etherparse_u32_16bit_word_ones_complement(uint32_t sum);
 uint16_t etherparse_u64_16bit_word_ones_complement_with_no_zero(uint64_t sum);
 uint16_t etherparse_u32_16bit_word_ones_complement_with_no_zero(uint32_t sum);
 
-/* The checksum of a slice after what was summed: add_slice and ones_complement in one call. */
+/* The checksum of a slice after what was summed: add_slice and ones_complement in one call. From the sum 0 it is 0 exactly
+ * where the words of the slice sum to all ones. */
 uint16_t etherparse_u64_16bit_word_checksum(uint64_t start_sum, const uint8_t *at, size_t len);
 uint16_t etherparse_u32_16bit_word_checksum(uint32_t start_sum, const uint8_t *at, size_t len);
 
@@ -105,11 +106,11 @@ struct etherparse_ipv4_view {
     uint8_t destination[4];
     uint16_t total_len; /* of the header and what follows it, in bytes */
     uint16_t identification;
-    uint16_t fragment_offset; /* in units of 8 bytes */
+    uint16_t fragment_offset; /* in units of 8 bytes, at most 8191 */
     uint16_t header_checksum; /* the one that the header has, right or wrong */
     uint8_t ihl; /* the length of the header in words of 4 bytes, 5 to 15 */
-    uint8_t dscp;
-    uint8_t ecn;
+    uint8_t dscp; /* at most 63 */
+    uint8_t ecn; /* at most 3 */
     bool dont_fragment;
     bool more_fragments;
     bool is_fragmenting_payload; /* more fragments follow, or the offset is not 0 */
@@ -125,8 +126,8 @@ struct etherparse_ipv4_view_answer {
     struct etherparse_rest rest;
 };
 
-/* The header at the front of a slice, with a copy of its options, which 0 follows in their array. Where error.kind is not
- * ETHERPARSE_OK, there is no header and all else is 0. */
+/* The header at the front of a slice, with a copy of its options, which 0 follows in their array. The fields are within their
+ * bounds, so they can be written again. Where error.kind is not ETHERPARSE_OK, there is no header and all else is 0. */
 struct etherparse_ipv4_read_answer {
     struct etherparse_ipv4_fields fields;
     struct etherparse_error error;
@@ -142,8 +143,8 @@ struct etherparse_ipv4_bytes {
 /* The lengths of a header and of its payload. */
 struct etherparse_ipv4_lengths {
     uint16_t payload_len; /* what total_len counts beyond the header, in bytes */
-    uint16_t max_payload_len; /* of the longest payload that fits after the header, in bytes */
-    uint8_t header_len; /* with the options, in bytes */
+    uint16_t max_payload_len; /* of the longest payload that fits after the header, in bytes: 65475 to 65515 */
+    uint8_t header_len; /* with the options, in bytes: 20 to 60 */
     uint8_t ihl; /* the same in words of 4 bytes */
     struct etherparse_error error; /* why there is no payload_len: a LEN where total_len is below the length of the header */
 };
@@ -160,16 +161,20 @@ struct etherparse_ipv4_read_answer etherparse_ipv4_read(const uint8_t *at, size_
 struct etherparse_ipv4_bytes etherparse_ipv4_write(const struct etherparse_ipv4_fields *fields);
 
 /* The lengths of a header with this total length and so many bytes of options: those of a view have options_len =
- * rest.offset - 20. All is 0 where options can not be of this length. */
+ * rest.offset - 20, which options can have. All is 0 where options can not be of this length. */
 struct etherparse_ipv4_lengths etherparse_ipv4_lengths(uint16_t total_len, uint8_t options_len);
 
 /* Writes the checksum that a header of these fields should have, as a number whose high byte a header has first, and returns
- * true. Where a field is out of its bounds it returns false and writes nothing. The stored header_checksum counts as 0.
+ * true. Where a field is out of its bounds it returns false and writes nothing. The stored header_checksum, whatever it is,
+ * counts as 0.
  * Neither pointer is null, checksum points to no part of fields, and each bool is 0 or 1. */
 bool etherparse_ipv4_header_checksum(const struct etherparse_ipv4_fields *fields, uint16_t *checksum);
 
 /* Sets the time to live, updates the stored header_checksum for it by etherparse_update_2bytes, and returns true. Where a field
- * is out of its bounds it returns false and changes nothing. The pointer is not null, and each bool is 0 or 1. */
+ * is out of its bounds it returns false and changes nothing. The pointer is not null, and each bool is 0 or 1.
+ *
+ * In a packet that begins with the header of the fields, time_to_live is byte 8, and header_checksum bytes 10 and 11, the high
+ * byte first. Write these three there, and the packet begins with the new header. */
 bool etherparse_ipv4_set_time_to_live(struct etherparse_ipv4_fields *fields, uint8_t time_to_live);
 
 /* IPv6 headers (RFC 8200 sections 3 and 4). */
@@ -189,7 +194,7 @@ struct etherparse_ipv6_fields {
 struct etherparse_ipv6_view {
     uint8_t source[16];
     uint8_t destination[16];
-    uint32_t flow_label;
+    uint32_t flow_label; /* at most 1048575 */
     uint16_t payload_length; /* of all that follows the header, in bytes */
     uint8_t traffic_class;
     uint8_t dscp; /* the differentiated services code point: the upper 6 bits of the traffic class */
@@ -235,7 +240,8 @@ struct etherparse_ipv6_read_answer etherparse_ipv6_read(const uint8_t *at, size_
 struct etherparse_ipv6_bytes etherparse_ipv6_write(const struct etherparse_ipv6_fields *fields);
 
 /* Skips all extension headers at the front of a slice, of which the first has this number: 0, 43, 44, 51, 60, 135, 139 and 140
- * can be skipped. With any other number there is none, and the rest is the whole slice.
+ * can be skipped. With any other number there is none, and the rest is the whole slice. Those of a packet are at the front of
+ * the rest after its header, and the first has the next_header of that; offsets then count from there.
  *
  * The error is a LEN, of the first header that is incomplete. Where fewer than 2 bytes are left, 2 are required. */
 struct etherparse_ipv6_walk_answer etherparse_ipv6_walk(const uint8_t *at, size_t len, uint8_t next_header);

@@ -1,14 +1,17 @@
 -- The fields of a struct are those of one header.
 use Rattle.std.proofs.Common.{◌≡◌, sym, ◌∙◌, rules}
 use Rattle.etherparse.proofs.Ipv4Layout.{same_fields}
+use Rattle.etherparse.proofs.Ipv6Layout.{same_fields as same_ipv6_fields}
 use Rattle.etherparse.specs.IpEcn.{ecn_value}
 use Rattle.etherparse.specs.declared.IpEcn.{IpEcn}
 use Rattle.etherparse.specs.declared.net.ipv4_header.Ipv4Header.{Ipv4Header}
 use Rattle.etherparse.specs.declared.net.ipv6_header.Ipv6Header.{Ipv6Header}
 use Rattle.etherparse_c.specs.Ipv4Fields.{StandFor}
+use Rattle.etherparse_c.specs.Ipv6Answers.{ShowsIpv6}
 use Rattle.etherparse_c.specs.Ipv6Fields.{StandForIpv6}
 use Rattle.etherparse_c.specs.declared.ipv4_header.Ipv4Fields.{Ipv4Fields}
 use Rattle.etherparse_c.specs.declared.ipv6_header.Ipv6Fields.{Ipv6Fields}
+use Rattle.etherparse_c.specs.declared.ipv6_view.Ipv6View.{Ipv6View}
 
 -- a code point is known by its number
 same_ecn : (a b : IpEcn) → ecn_value a ≡ ecn_value b → a ≡ b
@@ -31,13 +34,22 @@ one_ipv4_header fields g h a b = same_fields g h
     (a.options ∙ sym b.options)
 
 pub one_ipv6_header : (fields : Ipv6Fields) (g h : Ipv6Header) → StandForIpv6 fields g → StandForIpv6 fields h → g ≡ h
-one_ipv6_header fields g h a b =
-    let traffic_class : g.traffic_class ≡ h.traffic_class = a.traffic_class ∙ sym b.traffic_class in
-    let flow_label : g.flow_label ≡ h.flow_label = a.flow_label ∙ sym b.flow_label in
-    let payload_length : g.payload_length ≡ h.payload_length = a.payload_length ∙ sym b.payload_length in
-    let next_header : g.next_header ≡ h.next_header = a.next_header ∙ sym b.next_header in
-    let hop_limit : g.hop_limit ≡ h.hop_limit = a.hop_limit ∙ sym b.hop_limit in
-    let source : g.source ≡ h.source = a.source ∙ sym b.source in
-    let destination : g.destination ≡ h.destination = a.destination ∙ sym b.destination in
-    let same : record { traffic_class = g.traffic_class; flow_label = g.flow_label; payload_length = g.payload_length; next_header = g.next_header; hop_limit = g.hop_limit; source = g.source; destination = g.destination }
-    ≡ record { traffic_class = h.traffic_class; flow_label = h.flow_label; payload_length = h.payload_length; next_header = h.next_header; hop_limit = h.hop_limit; source = h.source; destination = h.destination } = cc in same
+one_ipv6_header fields g h a b = same_ipv6_fields g h
+    (a.traffic_class ∙ sym b.traffic_class)
+    (a.flow_label ∙ sym b.flow_label)
+    (a.payload_length ∙ sym b.payload_length)
+    (a.next_header ∙ sym b.next_header)
+    (a.hop_limit ∙ sym b.hop_limit)
+    (a.source ∙ sym b.source)
+    (a.destination ∙ sym b.destination)
+
+-- and so are those of a view
+pub one_shown_header : (view : Ipv6View) (g h : Ipv6Header) → ShowsIpv6 view g → ShowsIpv6 view h → g ≡ h
+one_shown_header view g h a b = same_ipv6_fields g h
+    (sym a.traffic_class ∙ b.traffic_class)
+    (sym a.flow_label ∙ b.flow_label)
+    (sym a.payload_length ∙ b.payload_length)
+    (sym a.next_header ∙ b.next_header)
+    (sym a.hop_limit ∙ b.hop_limit)
+    (sym a.source ∙ b.source)
+    (sym a.destination ∙ b.destination)

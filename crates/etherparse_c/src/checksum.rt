@@ -70,6 +70,9 @@ pub extern "C" fn etherparse_u64_16bit_word_checksum(start_sum: u64, slice: &[u8
     ensures value { result ≡ 65535 - folded_sum (start_sum + little_endian_word_sum slice.now) }
     ensures network_order { start_sum ≡ 0
         → swap_bytes w16 result ≡ 65535 - folded_sum (network_order_word_sum slice.now) }
+    ensures all_ones { start_sum ≡ 0 → (SumsToAllOnes slice.now ↔ (result ≡ 0)) }
+    ensures one_byte { SumsToAllOnes slice.now
+        → (changed : List ℕ) → ChangesOneByte slice.now changed → ¬ SumsToAllOnes changed }
 {
     u64_16bit_word::checksum(start_sum, slice)
 }
@@ -136,6 +139,9 @@ pub extern "C" fn etherparse_u32_16bit_word_checksum(start_sum: u32, slice: &[u8
     ensures value { result ≡ 65535 - folded_sum (start_sum + little_endian_word_sum slice.now) }
     ensures network_order { start_sum ≡ 0
         → swap_bytes w16 result ≡ 65535 - folded_sum (network_order_word_sum slice.now) }
+    ensures all_ones { start_sum ≡ 0 → (SumsToAllOnes slice.now ↔ (result ≡ 0)) }
+    ensures one_byte { SumsToAllOnes slice.now
+        → (changed : List ℕ) → ChangesOneByte slice.now changed → ¬ SumsToAllOnes changed }
 {
     u32_16bit_word::checksum(start_sum, slice)
 }

@@ -1,10 +1,12 @@
 //! The IPv4 header (RFC 791 section 3.1).
 
-ghost use Rattle.std.specs.Prelude.{ℕ, ◌≡◌, ◌↔◌, ◌+◌, ◌-◌, ◌*◌, ◌^◌, ◌<◌, ◌++◌, List, IfSome, IsSome, IsTrue};
+ghost use Rattle.std.specs.Prelude.{ℕ, ◌≡◌, ◌↔◌, ◌+◌, ◌-◌, ◌*◌, ◌^◌, ◌<◌, ◌≤◌, ◌++◌, List, IfSome, IsSome, IsTrue};
 ghost use Rattle.std.specs.Prelude.{drop, length, replicate, take};
-ghost use Rattle.etherparse.specs.Ipv4Header.{AgreeButForReservedBit, Ipv4Reading, OfIpv4Header, ReadsIpv4};
-ghost use Rattle.etherparse.specs.Ipv4Header.{with_reserved_bit_cleared};
+ghost use Rattle.etherparse.specs.HeaderChecksum.{IsWrittenInPlace};
+ghost use Rattle.etherparse.specs.Ipv4Header.{AgreeButForReservedBit, HasIpv4Layout, Ipv4Reading, OfIpv4Header};
+ghost use Rattle.etherparse.specs.Ipv4Header.{ReadsIpv4, with_reserved_bit_cleared};
 ghost use Rattle.etherparse.specs.Ipv4Options.{IsOptionsLen};
+ghost use Rattle.etherparse.specs.Reading.{BeginsWith};
 ghost use Rattle.etherparse.specs.WordSums.{SumsToAllOnes, updated_checksum};
 ghost use Rattle.etherparse.specs.declared.net.ipv4_header.Ipv4Header.{Ipv4Header as Header};
 ghost use Rattle.etherparse_c.specs.Answer.{GivesAnswer, no_rest};
@@ -108,6 +110,7 @@ pub extern "C" fn etherparse_ipv4_read(slice: &[u8]) -> Ipv4ReadAnswer
     ensures same_header { result.error ≡ no_error → (bytes : List ℕ) →
         OfIpv4Header bytes (λ header. StandFor result.fields header
         ↔ AgreeButForReservedBit bytes (take result.rest.offset slice.now)) }
+    ensures within { AreWithinBounds result.fields }
 {
     match Ipv4Header::from_slice(slice) {
         Ok((header, rest)) => {
@@ -134,6 +137,7 @@ pub extern "C" fn etherparse_ipv4_read(slice: &[u8]) -> Ipv4ReadAnswer
 #[unsafe(no_mangle)]
 pub extern "C" fn etherparse_ipv4_write(fields: &Ipv4Fields) -> Ipv4Bytes
     ensures accepted { (0 < result.len) ↔ AreWithinBounds fields.now }
+    ensures within { result.len ≤ 60 }
     ensures layout { 0 < result.len → AreWrittenFor fields.now (take result.len result.bytes) }
     ensures only { 0 < result.len → (bytes : List ℕ) → AreWrittenFor fields.now bytes →
         bytes ≡ take result.len result.bytes }
@@ -165,6 +169,10 @@ pub extern "C" fn etherparse_ipv4_lengths(total_len: u16, options_len: u8) -> Ip
     ensures accepted { (0 < result.header_len) ↔ IsOptionsLen options_len }
     ensures value { IsOptionsLen options_len → (header : Header) → header.total_len ≡ total_len →
         length header.options ≡ options_len → AreIpv4Lengths result header }
+    ensures header_len_within { result.header_len ≤ 60 }
+    ensures ihl_within { result.ihl ≤ 15 }
+    ensures max_payload_len_at_least { 0 < result.header_len → 65475 ≤ result.max_payload_len }
+    ensures max_payload_len_within { result.max_payload_len ≤ 65515 }
     ensures refused { ¬ IsOptionsLen options_len → result ≡ no_ipv4_lengths }
 {
     if options_len > 40 || options_len % 4 != 0 {
@@ -198,6 +206,8 @@ pub extern "C" fn etherparse_ipv4_lengths(total_len: u16, options_len: u8) -> Ip
 pub extern "C" fn etherparse_ipv4_header_checksum(fields: &Ipv4Fields, checksum: &mut u16) -> bool
     ensures accepted { IsTrue result ↔ AreWithinBounds fields.now }
     ensures value { IsTrue result → IsChecksumOf fields.now checksum.new }
+    ensures whatever_is_stored { IsTrue result → (stored : ℕ) →
+        IsChecksumOf (record fields.now { header_checksum = stored }) checksum.new }
     ensures within { IsTrue result → checksum.new < 65535 }
     ensures refused { ¬ AreWithinBounds fields.now → checksum.new ≡ checksum.old }
 {
@@ -232,6 +242,11 @@ pub extern "C" fn etherparse_ipv4_set_time_to_live(
     // A receiver of the header as it is written finds the checksum right where it was right before.
     ensures all_ones { IsTrue result → (before after : List ℕ) → AreWrittenFor fields.old before →
         AreWrittenFor fields.new after → (SumsToAllOnes before ↔ SumsToAllOnes after) }
+
+    // In a packet that is bytes 8, 10 and 11 and no other.
+    ensures in_place { IsTrue result → (old new : Header) → StandFor fields.old old →
+        StandFor fields.new new → (packet rest : List ℕ) →
+        BeginsWith HasIpv4Layout packet old rest → IsWrittenInPlace packet new rest }
     ensures refused { ¬ AreWithinBounds fields.old → fields.new ≡ fields.old }
 {
     let Some(mut header) = header_of(fields) else {
@@ -296,6 +311,7 @@ fn written_with<const N: usize>(fields: &Ipv4Fields) -> Ipv4Bytes
     requires found { fields.now.options_len ≡ N }
     requires fits { IsOptionsLen N }
     ensures accepted { (0 < result.len) ↔ AreWithinBounds fields.now }
+    ensures within { result.len ≤ 60 }
     ensures layout { 0 < result.len → AreWrittenFor fields.now (take result.len result.bytes) }
     ensures only { 0 < result.len → (bytes : List ℕ) → AreWrittenFor fields.now bytes →
         bytes ≡ take result.len result.bytes }
@@ -334,6 +350,7 @@ fn fields_with(header: &Ipv4Header, options: [u8; 40]) -> Ipv4Fields
     ensures same { StandFor result header.now }
     ensures padded { result.options
         ≡ header.now.options ++ replicate (40 - length header.now.options) 0 }
+    ensures within { AreWithinBounds result }
 {
     Ipv4Fields {
         dscp: header.dscp.value(),

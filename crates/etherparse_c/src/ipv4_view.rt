@@ -1,7 +1,9 @@
 //! The view of an IPv4 header (RFC 791 section 3.1): its bytes stay where they are.
 
-ghost use Rattle.std.specs.Prelude.{ℕ, ◌≡◌, List, Result};
+ghost use Rattle.std.specs.Prelude.{ℕ, ◌≡◌, ◌≤◌, ◌-◌, List, Result, slice_index};
+ghost use Rattle.etherparse.specs.FirstByte.{ihl_of};
 ghost use Rattle.etherparse.specs.Ipv4Header.{HasIpv4Layout, OfIpv4Header, ViewsIpv4};
+ghost use Rattle.etherparse.specs.Ipv4Options.{IsOptionsLen};
 ghost use Rattle.etherparse.specs.Reading.{BeginsWith};
 ghost use Rattle.etherparse.specs.declared.err.ipv4.HeaderSliceError.{HeaderSliceError as SliceError};
 ghost use Rattle.etherparse.specs.declared.net.ipv4_header.Ipv4Header.{Ipv4Header as Header};
@@ -71,6 +73,18 @@ pub extern "C" fn etherparse_ipv4_view(slice: &[u8]) -> Ipv4ViewAnswer
     ensures shows { (header : Header) → (rest : List ℕ) →
         BeginsWith HasIpv4Layout slice.now header rest → (result.error ≡ no_error)
         × ((result.rest ≡ rest_of slice.now rest) × ShowsIpv4 result.view header) }
+    ensures lower_half_of_byte_0 { result.error ≡ no_error → result.view.ihl ≡ ihl_of slice.now }
+    ensures byte_8 { result.error ≡ no_error →
+        result.view.time_to_live ≡ slice_index slice.now 8 }
+    ensures byte_9 { result.error ≡ no_error →
+        result.view.protocol ≡ slice_index slice.now 9 }
+
+    // What stands from byte 20 up to the rest is as long as options can be.
+    ensures options_len { result.error ≡ no_error →
+        (20 ≤ result.rest.offset) × IsOptionsLen (result.rest.offset - 20) }
+    ensures dscp_within { result.view.dscp ≤ 63 }
+    ensures ecn_within { result.view.ecn ≤ 3 }
+    ensures fragment_offset_within { result.view.fragment_offset ≤ 8191 }
 {
     match Ipv4HeaderSlice::from_slice(slice) {
         Ok(view) => {
@@ -88,6 +102,12 @@ pub extern "C" fn etherparse_ipv4_view(slice: &[u8]) -> Ipv4ViewAnswer
 #[inline(always)]
 fn getters_of(view: &Ipv4HeaderSlice) -> Ipv4View
     ensures value { OfIpv4Header view.now.slice.now (ShowsIpv4 result) }
+    ensures lower_half_of_byte_0 { result.ihl ≡ ihl_of view.now.slice.now }
+    ensures byte_8 { result.time_to_live ≡ slice_index view.now.slice.now 8 }
+    ensures byte_9 { result.protocol ≡ slice_index view.now.slice.now 9 }
+    ensures dscp_within { result.dscp ≤ 63 }
+    ensures ecn_within { result.ecn ≤ 3 }
+    ensures fragment_offset_within { result.fragment_offset ≤ 8191 }
 {
     Ipv4View {
         ihl: view.ihl(),

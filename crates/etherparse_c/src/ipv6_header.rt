@@ -1,9 +1,11 @@
 //! The IPv6 header (RFC 8200 section 3).
 
-ghost use Rattle.std.specs.Prelude.{ℕ, ◌≡◌, ◌↔◌, ◌^◌, ◌<◌, List, IfSome, IsSome, take};
+ghost use Rattle.std.specs.Prelude.{ℕ, ◌≡◌, ◌↔◌, ◌^◌, ◌<◌, ◌≤◌, List, IfSome, IsSome, drop, take};
+ghost use Rattle.etherparse.specs.ExtensionHeaderChain.{BeginsWithChain, HasIpv6Chain};
 ghost use Rattle.etherparse.specs.Ipv6Header.{Ipv6Reading, ReadsIpv6};
+ghost use Rattle.etherparse.specs.declared.net.ipv6_header.Ipv6Header.{Ipv6Header as Header};
 ghost use Rattle.etherparse_c.specs.Answer.{GivesAnswer, no_rest};
-ghost use Rattle.etherparse_c.specs.Error.{ipv6_error_in_c};
+ghost use Rattle.etherparse_c.specs.Error.{ipv6_error_in_c, no_error};
 ghost use Rattle.etherparse_c.specs.Ipv6Answers.{AreWrittenForIpv6, GivesIpv6Reading};
 ghost use Rattle.etherparse_c.specs.Ipv6Answers.{no_ipv6_bytes, no_ipv6_fields};
 ghost use Rattle.etherparse_c.specs.Ipv6Fields.{StandForIpv6};
@@ -62,6 +64,13 @@ pub extern "C" fn etherparse_ipv6_read(slice: &[u8]) -> Ipv6ReadAnswer
     ensures reads { GivesAnswer (ReadsIpv6 slice.now) (GivesIpv6Reading result slice.now) }
     ensures only { (other : Ipv6Reading) → ReadsIpv6 slice.now other →
         GivesIpv6Reading result slice.now other }
+
+    // Extension headers at the front of the rest are a chain of the whole slice.
+    ensures chain { result.error ≡ no_error → (header : Header) →
+        StandForIpv6 result.fields header → (headers : List (List ℕ)) (last : ℕ) (rest : List ℕ) →
+        BeginsWithChain (drop result.rest.offset slice.now) header.next_header headers last rest →
+        HasIpv6Chain slice.now header headers last rest }
+    ensures within { result.fields.flow_label < 2 ^ 20 }
 {
     match Ipv6Header::from_slice(slice) {
         Ok((header, rest)) => {
@@ -79,6 +88,7 @@ pub extern "C" fn etherparse_ipv6_read(slice: &[u8]) -> Ipv6ReadAnswer
 #[unsafe(no_mangle)]
 pub extern "C" fn etherparse_ipv6_write(fields: &Ipv6Fields) -> Ipv6Bytes
     ensures accepted { (0 < result.len) ↔ (fields.now.flow_label < 2 ^ 20) }
+    ensures within { result.len ≤ 40 }
     ensures layout { 0 < result.len → AreWrittenForIpv6 fields.now (take result.len result.bytes) }
     ensures only { 0 < result.len → (bytes : List ℕ) → AreWrittenForIpv6 fields.now bytes →
         bytes ≡ take result.len result.bytes }
@@ -122,6 +132,7 @@ fn header_of(fields: &Ipv6Fields) -> Option<Ipv6Header>
 #[inline(always)]
 fn fields_of(header: &Ipv6Header) -> Ipv6Fields
     ensures same { StandForIpv6 result header.now }
+    ensures within { result.flow_label < 2 ^ 20 }
 {
     Ipv6Fields {
         flow_label: header.flow_label.value(),

@@ -11,7 +11,7 @@ returns-then-is_empty c =
       fields = c.fields_with.ensures.same;
       padded = c.fields_with.ensures.padded;
     }) in
-    record { reads = a.is.is; only = a.is.only; cleared = λ none. a.cleared; same_header = λ none. a.same_header }
+    record { reads = a.is.is; only = a.is.only; cleared = λ none. a.cleared; same_header = λ none. a.same_header; within = c.fields_with.ensures.within }
 
 pub returns-in-Ok : goal.returns-in-Ok
 returns-in-Ok c =
@@ -22,4 +22,4 @@ returns-in-Ok c =
       fields = c.fields_with-in-Ok.ensures.same;
       padded = c.fields_with-in-Ok.ensures.padded;
     }) in
-    record { reads = a.is.is; only = a.is.only; cleared = λ none. a.cleared; same_header = λ none. a.same_header }
+    record { reads = a.is.is; only = a.is.only; cleared = λ none. a.cleared; same_header = λ none. a.same_header; within = c.fields_with-in-Ok.ensures.within }
