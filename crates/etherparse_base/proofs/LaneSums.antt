@@ -2,12 +2,45 @@
 use Rattle.std.proofs.Common.{ℕ, List, [], ◌∷◌, ◌≡◌, ◌<◌, ◌+◌, ◌-◌, ◌*◌, ◌/◌, ◌%◌, ◌^◌, ◌∙◌, ap, arith, get_or, length, map, refl, replicate}
 use Rattle.std.specs.Simd.Lanes.{fold_l, sum_l, zip2}
 use Rattle.std.proofs.lemmas.Simd.{sum-zip2, zip2_splat}
-use Rattle.etherparse_base.specs.WideSums.{Splits}
+use Rattle.etherparse_base.specs.WideSums.{Splits, lanes_added}
 
 -- the sum of four words
 pub four_sum : (words : List ℕ) → length words ≡ 4 → sum_l words ≡ get_or words 0 0 + get_or words 1 0 + get_or words 2 0 + get_or words 3 0
 four_sum (a ∷ b ∷ c ∷ d ∷ []) four = omega arith
 four_sum words four = absurd (omega (arith, four))
+
+-- lanes added are the same in any order
+lanes_added-comm : (xs ys : List ℕ) → lanes_added xs ys ≡ lanes_added ys xs
+lanes_added-comm [] [] = refl
+lanes_added-comm [] (y ∷ ys) = refl
+lanes_added-comm (x ∷ xs) [] = refl
+lanes_added-comm (x ∷ xs) (y ∷ ys) =
+    let first : (x + y) % 2 ^ 64 ≡ (y + x) % 2 ^ 64 = omega arith in
+    ap (λ n. n ∷ lanes_added xs ys) first ∙ ap (λ rest. (y + x) % 2 ^ 64 ∷ rest) (lanes_added-comm xs ys)
+
+-- the first and the second exchanged
+pub lanes_added-second : (xs ys zs : List ℕ) → lanes_added xs (lanes_added ys zs) ≡ lanes_added ys (lanes_added xs zs)
+lanes_added-second [] [] zs = refl
+lanes_added-second [] (y ∷ ys) zs = refl
+lanes_added-second (x ∷ xs) [] zs = refl
+lanes_added-second (x ∷ xs) (y ∷ ys) [] = refl
+lanes_added-second (x ∷ xs) (y ∷ ys) (z ∷ zs) =
+    let first : (x + (y + z) % 2 ^ 64) % 2 ^ 64 ≡ (y + (x + z) % 2 ^ 64) % 2 ^ 64 = omega arith in
+    ap (λ n. n ∷ lanes_added xs (lanes_added ys zs)) first
+    ∙ ap (λ rest. (y + (x + z) % 2 ^ 64) % 2 ^ 64 ∷ rest) (lanes_added-second xs ys zs)
+
+-- the first and the last exchanged
+pub lanes_added-last : (xs ys zs : List ℕ) → lanes_added xs (lanes_added ys zs) ≡ lanes_added zs (lanes_added ys xs)
+lanes_added-last xs ys zs =
+    ap (λ more. lanes_added xs more) (lanes_added-comm ys zs) ∙ lanes_added-second xs zs ys
+    ∙ ap (λ more. lanes_added zs more) (lanes_added-comm xs ys)
+
+-- words added to a total, whatever stands beside it
+pub lanes_added-beside : (total beside words : List ℕ) → lanes_added (lanes_added total beside) words ≡ lanes_added (lanes_added total words) beside
+lanes_added-beside total beside words =
+    lanes_added-comm (lanes_added total beside) words ∙ lanes_added-second words total beside
+    ∙ ap (λ more. lanes_added total more) (lanes_added-comm words beside) ∙ lanes_added-second total beside words
+    ∙ lanes_added-comm beside (lanes_added total words)
 
 -- lanes in which no sum overflows add as numbers do
 pub lanes_add : (xs ys : List ℕ) → sum_l xs + sum_l ys < 2 ^ 64 → zip2 (λ a b. (a + b) % 2 ^ 64) xs ys ≡ zip2 (λ a b. a + b) xs ys

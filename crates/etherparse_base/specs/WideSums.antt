@@ -45,6 +45,12 @@ pub record AddsInTurns (bytes total high : List ℕ) (sums carries : ℕ) (rest 
   pub carries_fit : carries + length rest ≤ length bytes
   pub lanes_fit : sum_l low + sum_l high + 2 ^ 30 * length rest ≤ 2 ^ 30 * length bytes
 
-abbrev pub AddsTurns : List ℕ → Turns → List ℕ → Type 0
-AddsTurns bytes at rest =
-    AddsInTurns bytes at.total at.high (sum_l at.first + sum_l at.second) at.carries rest
+-- lanes of 64 bits added, without the bits above
+abbrev pub lanes_added : List ℕ → List ℕ → List ℕ
+lanes_added xs ys = zip2 (λ x y. (x + y) % 2 ^ 64) xs ys
+
+-- the same where totals of other turns are kept beside
+abbrev pub AddsTurns : List ℕ → List ℕ → Turns → List ℕ → Type 0
+AddsTurns bytes beside at rest =
+    AddsInTurns bytes (lanes_added at.total beside) at.high
+    (sum_l at.first + sum_l at.second) at.carries rest

@@ -93,6 +93,9 @@ pub fn checksum(start_sum: u32, slice: &[u8]) -> u16
     ensures value { result ≡ 65535 - folded_sum (start_sum + little_endian_word_sum slice.now) }
     ensures network_order { start_sum ≡ 0
         → swap_bytes w16 result ≡ 65535 - folded_sum (network_order_word_sum slice.now) }
+    ensures all_ones { start_sum ≡ 0 → (SumsToAllOnes slice.now ↔ (result ≡ 0)) }
+    ensures one_byte { SumsToAllOnes slice.now
+        → (changed : List ℕ) → ChangesOneByte slice.now changed → ¬ SumsToAllOnes changed }
 {
     wide_u64::checksum(u64::from(start_sum), slice)
 }

@@ -102,7 +102,8 @@ pub(super) struct Turns {
     pub(super) high: u64x4,
 }
 
-// Adds turns, three at a time where there are as many, until there are not enough bytes for one.
+// Adds turns, three at a time where there are as many, until there are not enough bytes for one. Each of three has a total of
+// its own: with one for all, the compiler adds up the words first, and has to copy what is then lost.
 #[inline(always)]
 fn add_turns<'a>(slice: &'a [u8]) -> Summed<'a>
     requires { length slice.now ≤ 2 ^ 33 }
@@ -116,11 +117,16 @@ fn add_turns<'a>(slice: &'a [u8]) -> Summed<'a>
         total: u64x4::splat(0),
         high: u64x4::splat(0),
     };
+    let (mut a, mut b) = (u64x4::splat(0), u64x4::splat(0));
     let mut rest = slice;
     'threes: while rest.len() >= 288 {
         let second = after_turn(rest);
         let third = after_turn(second);
-        at = add_turn(add_turn(add_turn(at, rest), second), third);
+        let one = add_turn(at, rest);
+        let two = add_turn(with_total(one, a), second);
+        let three = add_turn(with_total(two, b), third);
+        (a, b) = (two.total, three.total);
+        at = with_total(three, one.total);
         rest = after_turn(third);
     }
     'ones: while rest.len() >= 96 {
@@ -129,8 +135,23 @@ fn add_turns<'a>(slice: &'a [u8]) -> Summed<'a>
     }
     let sum = add_words(add_words(at.carries, at.first), at.second);
     Summed {
-        sum: add_u64(sum, joined(at.total, at.high)),
+        sum: add_u64(sum, joined(at.total + (a + b), at.high)),
         rest,
+    }
+}
+
+// The same with another total in the lanes.
+#[inline(always)]
+fn with_total(at: Turns, total: u64x4) -> Turns
+    ensures value { result ≡ record at { total = total } }
+{
+    let (first, second) = (at.first, at.second);
+    Turns {
+        first,
+        second,
+        carries: at.carries,
+        total,
+        high: at.high,
     }
 }
 
@@ -148,8 +169,9 @@ fn after_turn(bytes: &[u8]) -> &[u8]
 #[inline(always)]
 fn add_turn(at: Turns, bytes: &[u8]) -> Turns
     requires { 96 ≤ length bytes.now }
-    ensures adds { (slice : List ℕ) → length slice ≤ 2 ^ 33 → AddsTurns slice at bytes.now
-        → AddsTurns slice result (drop 96 bytes.now) }
+    ensures adds { (slice beside : List ℕ) → length slice ≤ 2 ^ 33
+        → AddsTurns slice beside at bytes.now
+        → AddsTurns slice beside result (drop 96 bytes.now) }
 {
     let (words, rest) = split_four_words(bytes);
     let (a, rest) = split_four_words(rest);

@@ -1,8 +1,9 @@
 use Rattle.std.proofs.Common.{◌≡◌, ◌≤◌, ◌<◌, ◌+◌, ◌^◌, ◌∙◌, [], ◌∷◌, ap, arith, length, refl}
 use Rattle.std.specs.Simd.Lanes.{sum_l}
-use Rattle.etherparse_base.specs.WideSums.{AddsTurns}
+use Rattle.etherparse_base.specs.WideSums.{AddsTurns, lanes_added}
 use Rattle.etherparse_base.specs.WordSums.{folded_sum, little_endian_word_sum}
 use Rattle.etherparse_base.proofs.FoldedSums.{folded_sum-end_around_sum, folded_sum-plus}
+use Rattle.etherparse_base.proofs.LaneSums.{lanes_added-last, lanes_added-second}
 use Rattle.etherparse_base.proofs.checksum.wide_u64.add_turns.Goals as goal
 
 pub threes-init : goal.threes-init
@@ -19,16 +20,26 @@ pub threes-preserved : goal.threes-preserved
 threes-preserved c =
     let slice = c.args.slice.now in
     let few : length slice ≤ 2 ^ 33 = c.requires in
-    let one : AddsTurns slice c.add_turn.result c.after_turn-second.result.now =
-    rw c.after_turn-second.ensures.after (c.add_turn.ensures.adds slice few c.threes.invariant) in
-    let two : AddsTurns slice c.add_turn-in-threes.result c.after_turn-third.result.now =
-    rw c.after_turn-third.ensures.after (c.add_turn-in-threes.ensures.adds slice few one) in
-    rw c.after_turn-rest.ensures.after (c.add_turn-at.ensures.adds slice few two)
+    let a = c.threes.a in
+    let b = c.threes.b in
+    let one = c.add_turn-one in
+    let two = c.add_turn-two in
+    let three = c.add_turn-three in
+    let first : AddsTurns slice (lanes_added a b) one.result c.after_turn-second.result.now =
+    rw c.after_turn-second.ensures.after (one.ensures.adds slice (lanes_added a b) few c.threes.invariant) in
+    let with_a : AddsTurns slice (lanes_added one.result.total b) c.with_total.result c.after_turn-second.result.now =
+    rw (c.with_total.ensures.value, lanes_added-second a one.result.total b) first in
+    let second : AddsTurns slice (lanes_added one.result.total b) two.result c.after_turn-third.result.now =
+    rw c.after_turn-third.ensures.after (two.ensures.adds slice (lanes_added one.result.total b) few with_a) in
+    let with_b : AddsTurns slice (lanes_added one.result.total two.result.total) c.with_total-in-threes.result c.after_turn-third.result.now =
+    rw (c.with_total-in-threes.ensures.value, lanes_added-last b one.result.total two.result.total) second in
+    let third = three.ensures.adds slice (lanes_added one.result.total two.result.total) few with_b in
+    rw (c.after_turn-rest.ensures.after, c.with_total-at.ensures.value, lanes_added-second one.result.total two.result.total three.result.total, lanes_added-last two.result.total one.result.total three.result.total) third
 
 pub ones-preserved : goal.ones-preserved
 ones-preserved c =
     let few : length c.args.slice.now ≤ 2 ^ 33 = c.requires in
-    rw c.after_turn-rest-in-ones.ensures.after (c.add_turn-at-in-ones.ensures.adds c.args.slice.now few c.ones.invariant)
+    rw c.after_turn-rest-in-ones.ensures.after (c.add_turn-at.ensures.adds c.args.slice.now (lanes_added c.threes.a c.threes.b) few c.ones.invariant)
 
 pub returns : goal.returns
 returns c =
