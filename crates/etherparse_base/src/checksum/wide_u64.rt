@@ -174,17 +174,19 @@ fn add_turn(at: Turns, bytes: &[u8]) -> Turns
         → AddsTurns slice beside result (drop 96 bytes.now) }
 {
     let (words, rest) = split_four_words(bytes);
+    let words = u64x4::from_array(words);
+    let total = at.total + words;
+    let high = at.high + (words >> u64x4::splat(32));
     let (a, rest) = split_four_words(rest);
     let (b, rest) = split_four_words(rest);
     let (first, carry) = add_to_each(at.first, a, false);
     let (second, carry) = add_to_each(at.second, b, carry);
-    let words = u64x4::from_array(words);
     Turns {
         first,
         second,
         carries: at.carries.wrapping_add(u64::from(carry)),
-        total: at.total + words,
-        high: at.high + (words >> u64x4::splat(32)),
+        total,
+        high,
     }
 }
 
