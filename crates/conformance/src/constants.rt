@@ -2,7 +2,7 @@
 
 use crate::arguments::Arguments;
 use crate::case_error::CaseError;
-use crate::shown::{Bytes, Ipv4Fields, Ipv6Fields};
+use crate::shown::{Bytes, Ipv4Fields, Ipv6Fields, Named};
 use crate::tables::{
     CODE_POINTS, IP_NUMBER_NAMES, IP_NUMBERS, KNOWN_CODE_POINTS, LAYERS, VALUE_TYPES,
 };
@@ -22,10 +22,10 @@ pub fn answer_const(
     match name {
         "fields" => write_fields(answer)?,
         "headers" => write_headers(answer)?,
-        "dscp" => write_code_points(answer)?,
+        "dscp" => write!(answer, "{}", Named(&CODE_POINTS))?,
         "known" => write_known_code_points(answer)?,
-        "ipnum" => write_numbers(&IP_NUMBERS, answer)?,
-        "ip_number" => write_numbers(&IP_NUMBER_NAMES, answer)?,
+        "ipnum" => write!(answer, "{}", Named(&IP_NUMBERS))?,
+        "ip_number" => write!(answer, "{}", Named(&IP_NUMBER_NAMES))?,
         "layers" => write_names(&LAYERS, answer)?,
         "value_types" => write_names(&VALUE_TYPES, answer)?,
         _ => return Err(CaseError::BadLine),
@@ -34,85 +34,44 @@ pub fn answer_const(
 }
 
 fn write_fields(answer: &mut String) -> Result<(), AllocError> {
-    write!(
-        answer,
-        "IpDscp::ZERO={} IpDscp::MAX_U8={} ",
-        IpDscp::ZERO,
-        IpDscp::MAX_U8
-    )?;
-    write!(answer, "IpDscp::MAX={} ", IpDscp::MAX)?;
-    write!(
-        answer,
-        "IpFragOffset::ZERO={} IpFragOffset::MAX_U16={} ",
-        IpFragOffset::ZERO,
-        IpFragOffset::MAX_U16
-    )?;
-    write!(answer, "Ipv6FlowLabel::ZERO={} ", Ipv6FlowLabel::ZERO)?;
-    write!(answer, "Ipv6FlowLabel::MAX_U32={} ", Ipv6FlowLabel::MAX_U32)?;
-    write!(
-        answer,
-        "IpEcn::ZERO={} IpEcn::ONE={} ",
-        IpEcn::ZERO,
-        IpEcn::ONE
-    )?;
-    write!(
-        answer,
-        "IpEcn::TWO={} IpEcn::THREE={} ",
-        IpEcn::TWO,
-        IpEcn::THREE
-    )?;
-    write!(
-        answer,
-        "IpEcn::TRHEE={} IpEcn::MAX_U8={} ",
-        IpEcn::TRHEE,
-        IpEcn::MAX_U8
-    )?;
-    write!(answer, "Ipv4Options::MAX_LEN={}", Ipv4Options::MAX_LEN)
+    let fields = [
+        ("IpDscp::ZERO", u32::from(IpDscp::ZERO.value())),
+        ("IpDscp::MAX_U8", u32::from(IpDscp::MAX_U8)),
+        ("IpDscp::MAX", u32::from(IpDscp::MAX.value())),
+        ("IpFragOffset::ZERO", u32::from(IpFragOffset::ZERO.value())),
+        ("IpFragOffset::MAX_U16", u32::from(IpFragOffset::MAX_U16)),
+        ("Ipv6FlowLabel::ZERO", Ipv6FlowLabel::ZERO.value()),
+        ("Ipv6FlowLabel::MAX_U32", Ipv6FlowLabel::MAX_U32),
+        ("IpEcn::ZERO", u32::from(IpEcn::ZERO.value())),
+        ("IpEcn::ONE", u32::from(IpEcn::ONE.value())),
+        ("IpEcn::TWO", u32::from(IpEcn::TWO.value())),
+        ("IpEcn::THREE", u32::from(IpEcn::THREE.value())),
+        ("IpEcn::TRHEE", u32::from(IpEcn::TRHEE.value())),
+        ("IpEcn::MAX_U8", u32::from(IpEcn::MAX_U8)),
+        ("Ipv4Options::MAX_LEN", u32::from(Ipv4Options::MAX_LEN)),
+    ];
+    write!(answer, "{}", Named(&fields))
 }
 
 fn write_headers(answer: &mut String) -> Result<(), AllocError> {
-    write!(answer, "Ipv4Header::MIN_LEN={} ", Ipv4Header::MIN_LEN)?;
-    write!(
-        answer,
-        "Ipv4Header::MIN_LEN_U16={} ",
-        Ipv4Header::MIN_LEN_U16
-    )?;
-    write!(
-        answer,
-        "Ipv4Header::SERIALIZED_SIZE={} ",
-        Ipv4Header::SERIALIZED_SIZE
-    )?;
-    write!(answer, "Ipv4Header::MAX_LEN={} ", Ipv4Header::MAX_LEN)?;
-    write!(answer, "Ipv6Header::LEN={} ", Ipv6Header::LEN)?;
-    write!(
-        answer,
-        "Ipv6Header::SERIALIZED_SIZE={}",
-        Ipv6Header::SERIALIZED_SIZE
-    )
-}
-
-fn write_code_points(answer: &mut String) -> Result<(), AllocError> {
-    let mut gap = "";
-    for (name, dscp) in &CODE_POINTS {
-        write!(answer, "{gap}{name}={dscp}")?;
-        gap = " ";
-    }
-    Ok(())
+    let lengths = [
+        ("Ipv4Header::MIN_LEN", Ipv4Header::MIN_LEN),
+        (
+            "Ipv4Header::MIN_LEN_U16",
+            usize::from(Ipv4Header::MIN_LEN_U16),
+        ),
+        ("Ipv4Header::SERIALIZED_SIZE", Ipv4Header::SERIALIZED_SIZE),
+        ("Ipv4Header::MAX_LEN", Ipv4Header::MAX_LEN),
+        ("Ipv6Header::LEN", Ipv6Header::LEN),
+        ("Ipv6Header::SERIALIZED_SIZE", Ipv6Header::SERIALIZED_SIZE),
+    ];
+    write!(answer, "{}", Named(&lengths))
 }
 
 fn write_known_code_points(answer: &mut String) -> Result<(), AllocError> {
     let mut gap = "";
     for known in &KNOWN_CODE_POINTS {
         write!(answer, "{gap}{known:?}={}", u8::from(*known))?;
-        gap = " ";
-    }
-    Ok(())
-}
-
-fn write_numbers(table: &[(&str, u8)], answer: &mut String) -> Result<(), AllocError> {
-    let mut gap = "";
-    for (name, number) in table {
-        write!(answer, "{gap}{name}={number}")?;
         gap = " ";
     }
     Ok(())
@@ -145,22 +104,18 @@ pub fn answer_default(
 }
 
 fn write_default_fields(answer: &mut String) -> Result<(), AllocError> {
+    let fields = [
+        ("dscp", u32::from(IpDscp::default().value())),
+        ("frag", u32::from(IpFragOffset::default().value())),
+        ("flow", Ipv6FlowLabel::default().value()),
+        ("ecn", u32::from(IpEcn::default().value())),
+        ("ipnum", u32::from(IpNumber::default().0)),
+    ];
+    let options = Ipv4Options::default();
     write!(
         answer,
-        "dscp={} frag={} ",
-        IpDscp::default(),
-        IpFragOffset::default()
-    )?;
-    write!(
-        answer,
-        "flow={} ecn={} ",
-        Ipv6FlowLabel::default(),
-        IpEcn::default()
-    )?;
-    write!(answer, "ipnum={} ", IpNumber::default().0)?;
-    write!(
-        answer,
-        "options={}",
-        Bytes(Ipv4Options::default().as_slice())
+        "{} options={}",
+        Named(&fields),
+        Bytes(options.as_slice())
     )
 }

@@ -2,7 +2,7 @@
 
 use crate::arguments::Arguments;
 use crate::case_error::CaseError;
-use crate::shown::{Bytes, Ipv6Fields, Ipv6Refusal, TooBig};
+use crate::shown::{Bytes, Ipv6Fields, Ipv6Refusal, Named, TooBig};
 use etherparse::{Ipv6Header, Ipv6HeaderSlice};
 use std::alloc::AllocError;
 
@@ -35,40 +35,31 @@ fn answer_view(mut arguments: Arguments, answer: &mut String) -> Result<(), Case
 }
 
 fn write_view(view: &Ipv6HeaderSlice, answer: &mut String) -> Result<(), AllocError> {
+    let numbers = [
+        ("version", u32::from(view.version())),
+        ("traffic_class", u32::from(view.traffic_class())),
+        ("dscp", u32::from(view.dscp().value())),
+        ("ecn", u32::from(view.ecn().value())),
+        ("flow_label", view.flow_label().value()),
+        ("payload_length", u32::from(view.payload_length())),
+        ("next_header", u32::from(view.next_header().0)),
+        ("hop_limit", u32::from(view.hop_limit())),
+    ];
+    let (source, destination) = (view.source(), view.destination());
+    let addresses = [
+        ("source", Bytes(&source)),
+        ("destination", Bytes(&destination)),
+    ];
     write!(
         answer,
-        "ok slice={} version={} ",
+        "ok slice={} {} ",
         Bytes(view.slice()),
-        view.version()
+        Named(&numbers)
     )?;
     write!(
         answer,
-        "traffic_class={} dscp={} ",
-        view.traffic_class(),
-        view.dscp()
-    )?;
-    write!(
-        answer,
-        "ecn={} flow_label={} ",
-        view.ecn(),
-        view.flow_label()
-    )?;
-    write!(
-        answer,
-        "payload_length={} next_header={} ",
-        view.payload_length(),
-        view.next_header().0
-    )?;
-    write!(
-        answer,
-        "hop_limit={} source={} ",
-        view.hop_limit(),
-        Bytes(&view.source())
-    )?;
-    write!(
-        answer,
-        "destination={} header_len={}",
-        Bytes(&view.destination()),
+        "{} header_len={}",
+        Named(&addresses),
         view.header_len()
     )
 }

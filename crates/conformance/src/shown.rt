@@ -26,6 +26,21 @@ impl Display for Bytes<'_> {
     }
 }
 
+/// Values by their names, with a space between them.
+#[derive(Drop)]
+pub struct Named<'a, T>(pub &'a [(&'a str, T)]);
+
+impl<T: Display> Display for Named<'_, T> {
+    fn fmt<W: fmt::Write>(&self, f: &mut fmt::Formatter<W>) -> fmt::Result {
+        let mut gap = "";
+        for (name, value) in self.0 {
+            write!(f, "{gap}{name}={value}")?;
+            gap = " ";
+        }
+        Ok(())
+    }
+}
+
 /// How two values compare, and whether they are equal.
 #[derive(Drop)]
 pub struct Comparison {
@@ -222,34 +237,29 @@ impl<'a> Ipv4Fields<'a> {
 
 impl Display for Ipv4Fields<'_> {
     fn fmt<W: fmt::Write>(&self, f: &mut fmt::Formatter<W>) -> fmt::Result {
-        write!(f, "dscp={} ecn={} ", self.dscp, self.ecn)?;
-        write!(
-            f,
-            "total_len={} identification={} ",
-            self.total_len, self.identification
-        )?;
-        write!(
-            f,
-            "dont_fragment={} more_fragments={} ",
-            self.dont_fragment, self.more_fragments
-        )?;
-        write!(
-            f,
-            "fragment_offset={} time_to_live={} ",
-            self.fragment_offset, self.time_to_live
-        )?;
-        write!(
-            f,
-            "protocol={} header_checksum={} ",
-            self.protocol.0, self.header_checksum
-        )?;
-        write!(
-            f,
-            "source={} destination={} ",
-            Bytes(&self.source),
-            Bytes(&self.destination)
-        )?;
-        write!(f, "options={}", Bytes(self.options))
+        let first = [
+            ("dscp", u16::from(self.dscp.value())),
+            ("ecn", u16::from(self.ecn.value())),
+            ("total_len", self.total_len),
+            ("identification", self.identification),
+        ];
+        let flags = [
+            ("dont_fragment", self.dont_fragment),
+            ("more_fragments", self.more_fragments),
+        ];
+        let next = [
+            ("fragment_offset", self.fragment_offset.value()),
+            ("time_to_live", u16::from(self.time_to_live)),
+            ("protocol", u16::from(self.protocol.0)),
+            ("header_checksum", self.header_checksum),
+        ];
+        let last = [
+            ("source", Bytes(&self.source)),
+            ("destination", Bytes(&self.destination)),
+            ("options", Bytes(self.options)),
+        ];
+        write!(f, "{} {} ", Named(&first), Named(&flags))?;
+        write!(f, "{} {}", Named(&next), Named(&last))
     }
 }
 
@@ -260,22 +270,17 @@ pub struct Ipv6Fields<'a>(pub &'a Ipv6Header);
 impl Display for Ipv6Fields<'_> {
     fn fmt<W: fmt::Write>(&self, f: &mut fmt::Formatter<W>) -> fmt::Result {
         let header = self.0;
-        write!(
-            f,
-            "traffic_class={} flow_label={} ",
-            header.traffic_class, header.flow_label
-        )?;
-        write!(
-            f,
-            "payload_length={} next_header={} ",
-            header.payload_length, header.next_header.0
-        )?;
-        write!(f, "hop_limit={} ", header.hop_limit)?;
-        write!(
-            f,
-            "source={} destination={}",
-            Bytes(&header.source),
-            Bytes(&header.destination)
-        )
+        let numbers = [
+            ("traffic_class", u32::from(header.traffic_class)),
+            ("flow_label", header.flow_label.value()),
+            ("payload_length", u32::from(header.payload_length)),
+            ("next_header", u32::from(header.next_header.0)),
+            ("hop_limit", u32::from(header.hop_limit)),
+        ];
+        let addresses = [
+            ("source", Bytes(&header.source)),
+            ("destination", Bytes(&header.destination)),
+        ];
+        write!(f, "{} {}", Named(&numbers), Named(&addresses))
     }
 }

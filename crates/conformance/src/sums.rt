@@ -12,19 +12,9 @@ pub fn answer_u32(
     mut arguments: Arguments,
     answer: &mut String,
 ) -> Result<(), CaseError> {
-    let sum = match name {
-        "slices" => {
-            let pieces = arguments.pieces()?;
-            u32_16bit_word::add_slices(&borrowed(alloc, &pieces)?)
-        }
-        "add2" => u32_16bit_word::add_2bytes(arguments.number()?, arguments.array()?),
-        "add4" => u32_16bit_word::add_4bytes(arguments.number()?, arguments.array()?),
-        "fold" => arguments.number()?,
-        "slice" => u32_16bit_word::add_slice(arguments.number()?, &arguments.bytes()?),
-        _ => return Err(CaseError::BadLine),
-    };
+    let sum = sum_u32(alloc, name, &mut arguments)?;
     arguments.end()?;
-    if name == "add2" || name == "add4" {
+    if name.starts_with("add") {
         write!(answer, "sum={sum}")?;
         return Ok(());
     }
@@ -34,6 +24,21 @@ pub fn answer_u32(
     Ok(())
 }
 
+// The sum of such a case.
+fn sum_u32(alloc: Global, name: &str, arguments: &mut Arguments) -> Result<u32, CaseError> {
+    match name {
+        "slices" => {
+            let pieces = arguments.pieces()?;
+            Ok(u32_16bit_word::add_slices(&borrowed(alloc, &pieces)?))
+        }
+        "add2" => Ok(u32_16bit_word::add_2bytes(arguments.number()?, arguments.array()?)),
+        "add4" => Ok(u32_16bit_word::add_4bytes(arguments.number()?, arguments.array()?)),
+        "fold" => arguments.number(),
+        "slice" => Ok(u32_16bit_word::add_slice(arguments.number()?, &arguments.bytes()?)),
+        _ => Err(CaseError::BadLine),
+    }
+}
+
 /// The cases `c64.NAME`: sums in 64 bits.
 pub fn answer_u64(
     alloc: Global,
@@ -41,20 +46,9 @@ pub fn answer_u64(
     mut arguments: Arguments,
     answer: &mut String,
 ) -> Result<(), CaseError> {
-    let sum = match name {
-        "slices" => {
-            let pieces = arguments.pieces()?;
-            u64_16bit_word::add_slices(&borrowed(alloc, &pieces)?)
-        }
-        "add2" => u64_16bit_word::add_2bytes(arguments.number()?, arguments.array()?),
-        "add4" => u64_16bit_word::add_4bytes(arguments.number()?, arguments.array()?),
-        "add8" => u64_16bit_word::add_8bytes(arguments.number()?, arguments.array()?),
-        "fold" => arguments.number()?,
-        "slice" => u64_16bit_word::add_slice(arguments.number()?, &arguments.bytes()?),
-        _ => return Err(CaseError::BadLine),
-    };
+    let sum = sum_u64(alloc, name, &mut arguments)?;
     arguments.end()?;
-    if name == "add2" || name == "add4" || name == "add8" {
+    if name.starts_with("add") {
         write!(answer, "sum={sum}")?;
         return Ok(());
     }
@@ -62,6 +56,22 @@ pub fn answer_u64(
     let with_no_zero = u64_16bit_word::ones_complement_with_no_zero(sum);
     write!(answer, "oc={complement} nz={with_no_zero}")?;
     Ok(())
+}
+
+// The sum of such a case.
+fn sum_u64(alloc: Global, name: &str, arguments: &mut Arguments) -> Result<u64, CaseError> {
+    match name {
+        "slices" => {
+            let pieces = arguments.pieces()?;
+            Ok(u64_16bit_word::add_slices(&borrowed(alloc, &pieces)?))
+        }
+        "add2" => Ok(u64_16bit_word::add_2bytes(arguments.number()?, arguments.array()?)),
+        "add4" => Ok(u64_16bit_word::add_4bytes(arguments.number()?, arguments.array()?)),
+        "add8" => Ok(u64_16bit_word::add_8bytes(arguments.number()?, arguments.array()?)),
+        "fold" => arguments.number(),
+        "slice" => Ok(u64_16bit_word::add_slice(arguments.number()?, &arguments.bytes()?)),
+        _ => Err(CaseError::BadLine),
+    }
 }
 
 /// `sum STEP ..` and `sum.eq STEP .. / STEP ..`: sums that are built step by step.

@@ -19,27 +19,27 @@ use std::test::Fail;
 fn a_length_error_has_four_forms(rt: HostRuntime) -> Result<(), Fail> {
     let cases = [
         (
-            in_slice(2, 1, 0),
+            in_slice(Layer::Ipv4Header, 2, 1, 0),
             "IPv4 Header Error: Not enough data to decode 'IPv4 header'. 2 byte(s) would be required, but only 1 byte(s) are available based on the slice length.",
             "LenError { required_len: 2, len: 1, len_source: Slice, layer: Ipv4Header, layer_start_offset: 0 }",
         ),
         (
-            in_slice(2, 1, 4),
+            in_slice(Layer::Ipv4Header, 2, 1, 4),
             "IPv4 Header Error: Not enough data to decode 'IPv4 header'. 2 byte(s) would be required, but only 1 byte(s) are available based on the slice length ('IPv4 header' starts at overall parsed byte 4).",
             "LenError { required_len: 2, len: 1, len_source: Slice, layer: Ipv4Header, layer_start_offset: 4 }",
         ),
         (
-            in_slice(20, 20, 0),
+            in_slice(Layer::Ipv4Header, 20, 20, 0),
             "IPv4 Header Error: Length of 20 byte(s) is too big for an 'IPv4 header' (maximum is 20 bytes). The slice length was used to determine the length.",
             "LenError { required_len: 20, len: 20, len_source: Slice, layer: Ipv4Header, layer_start_offset: 0 }",
         ),
         (
-            in_slice(20, 20, 4),
+            in_slice(Layer::Ipv4Header, 20, 20, 4),
             "IPv4 Header Error: Length of 20 byte(s) is too big for an 'IPv4 header' (maximum is 20 bytes). The slice length was used to determine the length ('IPv4 header' starts at overall parsed byte 4).",
             "LenError { required_len: 20, len: 20, len_source: Slice, layer: Ipv4Header, layer_start_offset: 4 }",
         ),
         (
-            in_slice(1, 2, 3),
+            in_slice(Layer::Ipv4Header, 1, 2, 3),
             "IPv4 Header Error: Length of 2 byte(s) is too big for an 'IPv4 header' (maximum is 1 bytes). The slice length was used to determine the length ('IPv4 header' starts at overall parsed byte 3).",
             "LenError { required_len: 1, len: 2, len_source: Slice, layer: Ipv4Header, layer_start_offset: 3 }",
         ),
@@ -93,19 +93,22 @@ fn a_code_point_is_not_known(rt: HostRuntime) -> Result<(), Fail> {
 
 #[test]
 fn an_offset_is_added_to_a_length_alone(rt: HostRuntime) {
-    assert_eq!(rt; in_slice(2, 1, 20).add_offset(100), in_slice(2, 1, 120));
     assert_eq!(rt;
-        in_slice(2, 1, usize::MAX - 1).add_offset(1),
-        in_slice(2, 1, usize::MAX)
+        in_slice(Layer::Ipv4Header, 2, 1, 20).add_offset(100),
+        in_slice(Layer::Ipv4Header, 2, 1, 120)
+    );
+    assert_eq!(rt;
+        in_slice(Layer::Ipv4Header, 2, 1, usize::MAX - 1).add_offset(1),
+        in_slice(Layer::Ipv4Header, 2, 1, usize::MAX)
     );
 
     assert_eq!(rt;
-        ipv4::HeaderSliceError::Len(icmp_in_slice(3)).add_slice_offset(200),
-        ipv4::HeaderSliceError::Len(icmp_in_slice(203))
+        ipv4::HeaderSliceError::Len(in_slice(Layer::Icmpv4, 1, 2, 3)).add_slice_offset(200),
+        ipv4::HeaderSliceError::Len(in_slice(Layer::Icmpv4, 1, 2, 203))
     );
     assert_eq!(rt;
-        ipv6::HeaderSliceError::Len(icmp_in_slice(3)).add_slice_offset(200),
-        ipv6::HeaderSliceError::Len(icmp_in_slice(203))
+        ipv6::HeaderSliceError::Len(in_slice(Layer::Icmpv4, 1, 2, 3)).add_slice_offset(200),
+        ipv6::HeaderSliceError::Len(in_slice(Layer::Icmpv4, 1, 2, 203))
     );
 
     let version_number = 1;
@@ -126,8 +129,8 @@ fn an_offset_is_added_to_a_length_alone(rt: HostRuntime) {
 #[test]
 fn an_offset_is_added_to_either_place_of_a_chain(rt: HostRuntime) {
     assert_eq!(rt;
-        ipv6::ChainError::Len(in_chain(16, 3, 8)).add_slice_offset(40),
-        ipv6::ChainError::Len(in_chain(16, 3, 48))
+        ipv6::ChainError::Len(in_slice(Layer::Ipv6ExtHeader, 16, 3, 8)).add_slice_offset(40),
+        ipv6::ChainError::Len(in_slice(Layer::Ipv6ExtHeader, 16, 3, 48))
     );
     for (limit, next_header, place, offset) in [
         (32, 0, 256, 40),
@@ -158,10 +161,10 @@ fn errors_of_a_chain_are_equal_where_all_fields_are(rt: HostRuntime) {
         too_many(4, 0, 24),
         too_many(3, 60, 24),
         too_many(3, 0, 32),
-        ipv6::ChainError::Len(in_chain(2, 0, 24)),
-        ipv6::ChainError::Len(in_chain(2, 1, 24)),
-        ipv6::ChainError::Len(in_chain(8, 0, 24)),
-        ipv6::ChainError::Len(in_chain(2, 0, 32)),
+        ipv6::ChainError::Len(in_slice(Layer::Ipv6ExtHeader, 2, 0, 24)),
+        ipv6::ChainError::Len(in_slice(Layer::Ipv6ExtHeader, 2, 1, 24)),
+        ipv6::ChainError::Len(in_slice(Layer::Ipv6ExtHeader, 8, 0, 24)),
+        ipv6::ChainError::Len(in_slice(Layer::Ipv6ExtHeader, 2, 0, 32)),
     ];
     for (i, first) in errors.iter().enumerate() {
         for (j, other) in errors.iter().enumerate() {
@@ -278,7 +281,7 @@ fn ipv6_errors(rt: HostRuntime) -> Result<(), Fail> {
 fn errors_of_a_chain(rt: HostRuntime) -> Result<(), Fail> {
     let cases = [
         (
-            ipv6::ChainError::Len(in_chain(16, 3, 48)),
+            ipv6::ChainError::Len(in_slice(Layer::Ipv6ExtHeader, 16, 3, 48)),
             "IPv6 Extension Header Error: Not enough data to decode 'IPv6 extension header'. 16 byte(s) would be required, but only 3 byte(s) are available based on the slice length ('IPv6 extension header' starts at overall parsed byte 48).",
             "Len(LenError { required_len: 16, len: 3, len_source: Slice, layer: Ipv6ExtHeader, layer_start_offset: 48 })",
         ),
@@ -343,41 +346,15 @@ fn each_error_is_an_error(_rt: HostRuntime) {
 
 fn is_error<T: Error>() {}
 
-// Of an IPv4 header in a slice.
-fn in_slice(required_len: usize, len: usize, layer_start_offset: usize) -> LenError
+// Of a layer in a slice.
+fn in_slice(layer: Layer, required_len: usize, len: usize, layer_start_offset: usize) -> LenError
     ensures start { result.layer_start_offset ≡ layer_start_offset }
 {
     LenError {
         required_len,
         len,
         len_source: LenSource::Slice,
-        layer: Layer::Ipv4Header,
-        layer_start_offset,
-    }
-}
-
-// Of an ICMP packet of 2 bytes where 1 is the most.
-fn icmp_in_slice(layer_start_offset: usize) -> LenError
-    ensures start { result.layer_start_offset ≡ layer_start_offset }
-{
-    LenError {
-        required_len: 1,
-        len: 2,
-        len_source: LenSource::Slice,
-        layer: Layer::Icmpv4,
-        layer_start_offset,
-    }
-}
-
-// Of an extension header in a slice.
-fn in_chain(required_len: usize, len: usize, layer_start_offset: usize) -> LenError
-    ensures start { result.layer_start_offset ≡ layer_start_offset }
-{
-    LenError {
-        required_len,
-        len,
-        len_source: LenSource::Slice,
-        layer: Layer::Ipv6ExtHeader,
+        layer,
         layer_start_offset,
     }
 }

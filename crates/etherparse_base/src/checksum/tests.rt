@@ -183,47 +183,15 @@ fn an_odd_piece_is_padded_by_itself(rt: HostRuntime) {
 
 #[test]
 fn a_sum_is_kept_in_64_bits(rt: HostRuntime) -> Result<(), Fail> {
-    let none = Sum16BitWords::new();
-    assert_eq!(rt; none, Sum16BitWords::default());
-    assert_eq!(rt; none.clone()?, none);
-    assert_eq!(rt;
-        format!(in rt.alloc(); "{none:?}")?.as_str(),
-        "Sum16BitWords { sum: 0 }"
-    );
-    assert_eq!(rt; none.ones_complement(), 0xffff);
-    assert_eq!(rt; none.to_ones_complement_with_no_zero(), 0xffff);
-
-    let once = Sum16BitWords::new().add_2bytes([255; 2]);
-    let twice = once.clone()?.add_2bytes([255; 2]);
-    assert_eq!(rt; (once.ones_complement(), twice.ones_complement()), (0, 0));
-    assert_eq!(rt; once.to_ones_complement_with_no_zero(), 0xffff);
-    assert_ne!(rt; once, twice);
-
-    let mut one = Sum16BitWords::new().add_4bytes([255; 4]);
-    let mut two = one.add_4bytes([255; 4]);
-    assert_ne!(rt; one, two);
-    let four = two.add_4bytes([255; 4]).add_4bytes([255; 4]);
-    let at_once = Sum16BitWords::new().add_8bytes([252, 255, 255, 255, 3, 0, 0, 0]);
-    assert_eq!(rt; four, at_once);
-    assert_eq!(rt; (four.ones_complement(), at_once.ones_complement()), (0, 0));
+    let mut sum = Sum16BitWords::new();
+    for _ in 0..4 {
+        sum = sum.add_4bytes([255; 4]);
+    }
+    let at_once = Sum16BitWords::default().add_8bytes([252, 255, 255, 255, 3, 0, 0, 0]);
+    assert!(rt; sum.clone()? == at_once);
+    let text = format!(in rt.alloc(); "{sum:?}")?;
+    assert_eq!(rt; text.as_str(), "Sum16BitWords { sum: 17179869180 }");
     Ok(())
-}
-
-#[test]
-fn a_sum_adds_as_many_bytes_as_its_calls_say(rt: HostRuntime) {
-    let mut none = Sum16BitWords::new();
-    let four = none.add_4bytes([0x12, 0x34, 0x56, 0x78]);
-    assert_eq!(rt; four.ones_complement(), 0x5397);
-    let eight = none.add_8bytes([0x12, 0x34, 0x56, 0x78, 0x23, 0x22, 0x34, 0x11]);
-    assert_eq!(rt; eight.ones_complement(), 0x2040);
-    let sixteen = none.add_16bytes([
-        0x12, 0x34, 0x56, 0x78, 0x9a, 0xbc, 0xde, 0xf0, 0x0f, 0xed, 0xcb, 0xa9, 0x87, 0x65, 0x43,
-        0x21,
-    ]);
-    assert_eq!(rt; sixteen.ones_complement(), 0x8877);
-    assert_eq!(rt; none, Sum16BitWords::new());
-    let two = none.add_2bytes([0xf0, 0x0f]);
-    assert_eq!(rt; two.to_ones_complement_with_no_zero(), 0xf00f);
 }
 
 #[test]
@@ -250,25 +218,9 @@ fn wide_words_sum_as_words_of_two_bytes(rt: HostRuntime) -> Result<(), Fail> {
 
 #[test]
 fn many_bytes_keep_every_carry(rt: HostRuntime) -> Result<(), Fail> {
-    for (pair, whole, in_pieces) in [([0xff, 0xff], 0, 0x38c7), ([0xff, 0xfe], 0xa186, 0x4cdb)] {
-        let mut bytes = Vec::new(rt.alloc());
-        for _ in 0..100_000 {
-            bytes.push(pair[0])?;
-            bytes.push(pair[1])?;
-        }
-        let mut pieces = Vec::new(rt.alloc());
-        for piece in bytes.chunks(999) {
-            pieces.push(piece)?;
-        }
+    for byte in [0xff, 0xfe] {
+        let bytes = vec![in rt.alloc(); byte; 200_000]?;
         assert_sums_as_plain(&rt, &bytes);
-        let of_64 = u64_16bit_word::add_slice(0, &bytes);
-        let of_32 = u32_16bit_word::add_slice(0, &bytes);
-        assert_eq!(rt; u64_16bit_word::ones_complement(of_64), whole);
-        assert_eq!(rt; u32_16bit_word::ones_complement(of_32), whole);
-        let of_64 = u64_16bit_word::add_slices(&pieces);
-        let of_32 = u32_16bit_word::add_slices(&pieces);
-        assert_eq!(rt; u64_16bit_word::ones_complement(of_64), in_pieces);
-        assert_eq!(rt; u32_16bit_word::ones_complement(of_32), in_pieces);
     }
     Ok(())
 }

@@ -196,78 +196,15 @@ mod tests {
     use crate::testing::hash_of;
     use std::test::Fail;
 
-    // Each known code point with its number, in the order of the numbers.
-    static KNOWN: [(IpDscpKnown, u8); 23] = [
-        (IpDscpKnown::ClassSelector0, 0),
-        (IpDscpKnown::LowerEffort, 1),
-        (IpDscpKnown::ClassSelector1, 8),
-        (IpDscpKnown::AfGroup11, 10),
-        (IpDscpKnown::AfGroup12, 12),
-        (IpDscpKnown::AfGroup13, 14),
-        (IpDscpKnown::ClassSelector2, 16),
-        (IpDscpKnown::AfGroup21, 18),
-        (IpDscpKnown::AfGroup22, 20),
-        (IpDscpKnown::AfGroup23, 22),
-        (IpDscpKnown::ClassSelector3, 24),
-        (IpDscpKnown::AfGroup31, 26),
-        (IpDscpKnown::AfGroup32, 28),
-        (IpDscpKnown::AfGroup33, 30),
-        (IpDscpKnown::ClassSelector4, 32),
-        (IpDscpKnown::AfGroup41, 34),
-        (IpDscpKnown::AfGroup42, 36),
-        (IpDscpKnown::AfGroup43, 38),
-        (IpDscpKnown::ClassSelector5, 40),
-        (IpDscpKnown::VoiceAdmit, 44),
-        (IpDscpKnown::ExpeditedForwarding, 46),
-        (IpDscpKnown::ClassSelector6, 48),
-        (IpDscpKnown::ClassSelector7, 56),
-    ];
-
     #[test]
-    fn just_these_numbers_are_known(rt: HostRuntime) -> Result<(), Fail> {
-        for number in 0..64u8 {
-            let dscp = IpDscp::try_new(number)?;
-            let made = IpDscpKnown::try_from_ip_dscp(dscp);
-            assert_eq!(rt; IpDscpKnown::try_from(dscp), made);
-            match KNOWN.iter().find(|row| row.1 == number) {
-                Some((known, _)) => {
-                    assert_eq!(rt; made, Ok(*known));
-                    assert_eq!(rt; u8::from(*known), number);
-                    assert_eq!(rt; IpDscp::from(*known), dscp);
-                }
-                None => assert_eq!(rt; made, Err(IpDscpUnknownValueError { value: number })),
-            }
+    fn order_goes_by_the_number(rt: HostRuntime) -> Result<(), Fail> {
+        for (lower, greater) in [
+            (IpDscpKnown::LowerEffort, IpDscpKnown::ClassSelector1),
+            (IpDscpKnown::VoiceAdmit, IpDscpKnown::ExpeditedForwarding),
+        ] {
+            assert!(rt; lower < greater);
+            assert_eq!(rt; hash_of(&lower.clone()?), hash_of(&lower));
         }
-        Ok(())
-    }
-
-    #[test]
-    fn equality_order_and_hash_are_those_of_the_numbers(rt: HostRuntime) -> Result<(), Fail> {
-        for (known, number) in &KNOWN {
-            assert_eq!(rt; known.clone()?, *known);
-            for (other, other_number) in &KNOWN {
-                assert_eq!(rt; known.cmp(other), number.cmp(other_number));
-                assert_eq!(rt; known < other, number < other_number);
-                assert_eq!(rt; known == other, number == other_number);
-                assert_eq!(rt; hash_of(known) == hash_of(other), number == other_number);
-            }
-        }
-        assert!(rt; IpDscpKnown::LowerEffort < IpDscpKnown::ClassSelector1);
-        assert!(rt; IpDscpKnown::VoiceAdmit < IpDscpKnown::ExpeditedForwarding);
-        assert_eq!(rt;
-            format!(in rt.alloc(); "{:?}", IpDscpKnown::AfGroup11)?.as_str(),
-            "AfGroup11"
-        );
-        Ok(())
-    }
-
-    #[test]
-    fn a_refusal_has_the_number(rt: HostRuntime) -> Result<(), Fail> {
-        let refusal = IpDscpKnown::try_from(IpDscp::try_new(9)?).expect_err(&rt, "not known");
-        assert_eq!(rt;
-            format!(in rt.alloc(); "{refusal}")?.as_str(),
-            "Error DSCP value '9' is not known."
-        );
         Ok(())
     }
 }

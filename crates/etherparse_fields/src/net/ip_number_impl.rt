@@ -501,16 +501,9 @@ mod tests {
     use std::test::Fail;
 
     #[test]
-    fn the_number_is_kept(rt: HostRuntime) -> Result<(), Fail> {
-        assert_eq!(rt; IpNumber::default(), IpNumber(255));
-        for number in [0u8, 17, 255] {
-            let ip_number = IpNumber::from(number);
-            assert_eq!(rt; (ip_number.0, u8::from(ip_number)), (number, number));
-        }
-        assert_eq!(rt;
-            format!(in rt.alloc(); "{:?}", IpNumber(17))?.as_str(),
-            "IpNumber(17)"
-        );
+    fn a_number_is_listed_for_programmers(rt: HostRuntime) -> Result<(), Fail> {
+        let text = format!(in rt.alloc(); "{:?}", IpNumber::from(17))?;
+        assert_eq!(rt; text.as_str(), "IpNumber(17)");
         Ok(())
     }
 }

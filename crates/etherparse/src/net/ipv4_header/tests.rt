@@ -10,17 +10,14 @@ use std::hash::Hash;
 use std::process::Abort;
 use std::test::Fail;
 
-// That both names of the reader answer the header and what follows it.
+// That the reader answers the header and what follows it.
 fn assert_reads(rt: &impl Abort, slice: &[u8], header: &Ipv4Header, rest: &[u8]) {
     let (actual, actual_rest) = Ipv4Header::from_slice(slice).expect(rt, "a header in front");
     assert_eq!(rt; actual, *header);
     assert_eq!(rt; actual_rest, rest);
-    let (actual, actual_rest) = Ipv4Header::read_from_slice(slice).expect(rt, "a header in front");
-    assert_eq!(rt; actual, *header);
-    assert_eq!(rt; actual_rest, rest);
 }
 
-// That the view and both names of the reader refuse the slice with the same error.
+// That the view and the reader refuse the slice with the same error.
 fn assert_refuses(rt: &impl Abort, slice: &[u8], expected: &HeaderSliceError) {
     assert_eq!(rt;
         Ipv4HeaderSlice::from_slice(slice).expect_err(rt, "no header"),
@@ -28,10 +25,6 @@ fn assert_refuses(rt: &impl Abort, slice: &[u8], expected: &HeaderSliceError) {
     );
     assert_eq!(rt;
         Ipv4Header::from_slice(slice).expect_err(rt, "no header"),
-        *expected
-    );
-    assert_eq!(rt;
-        Ipv4Header::read_from_slice(slice).expect_err(rt, "no header"),
         *expected
     );
 }
@@ -221,43 +214,6 @@ fn a_new_header_has_room_for_65515_bytes(rt: HostRuntime) {
 }
 
 #[test]
-fn a_payload_length_is_set_or_refused_with_no_change(rt: HostRuntime) -> Result<(), Fail> {
-    let mut header = greatest();
-    let error = ValueTooBigError {
-        actual: 65476,
-        max_allowed: 65475,
-        value_type: ValueType::Ipv4PayloadLength,
-    };
-    assert_eq!(rt; header.set_payload_len(65476), Err(error));
-    assert_eq!(rt; header, greatest());
-    assert_eq!(rt; header.set_payload_len(65475), Ok(()));
-    assert_eq!(rt; header.total_len, 65535);
-
-    header.options = Ipv4Options::from([1, 2, 3, 4]);
-    header.total_len = 100;
-    assert_eq!(rt; header.set_payload_len(100), Ok(()));
-    assert_eq!(rt; header.total_len, 124);
-    assert_eq!(rt; header.payload_len(), Ok(100));
-    Ok(())
-}
-
-#[test]
-fn options_are_set_or_refused_with_no_change(rt: HostRuntime) -> Result<(), Fail> {
-    let mut header = with_options();
-    header.total_len = 100;
-    let unchanged = header.clone()?;
-    assert_eq!(rt;
-        header.set_options(&[1, 2, 3]),
-        Err(BadOptionsLen { bad_len: 3 })
-    );
-    assert_eq!(rt; header, unchanged);
-    assert_eq!(rt; header.set_options(&[8, 7, 6, 5, 4, 3, 2, 1]), Ok(()));
-    assert_eq!(rt; header.options(), [8, 7, 6, 5, 4, 3, 2, 1].as_slice());
-    assert_eq!(rt; header.total_len, 100);
-    Ok(())
-}
-
-#[test]
 fn a_fragment_has_more_after_it_or_an_offset(rt: HostRuntime) -> Result<(), Fail> {
     let mut header = Ipv4Header::default();
     assert!(rt; !header.is_fragmenting_payload());
@@ -309,18 +265,6 @@ fn both_zeros_sum_to_all_ones_where_zero_is_computed(rt: HostRuntime) {
         let sum = u64_16bit_word::add_slice(0, header.to_bytes().as_slice());
         assert_eq!(rt; u64_16bit_word::ones_complement(sum), complement);
     }
-}
-
-#[test]
-fn a_time_to_live_is_set_with_the_checksum_and_nothing_else(rt: HostRuntime) {
-    let mut header = with_options();
-    header.set_time_to_live(16);
-    let mut expected = with_options();
-    expected.time_to_live = 16;
-    expected.header_checksum = 0x9eef;
-    assert_eq!(rt; header, expected);
-    header.set_time_to_live(17);
-    assert_eq!(rt; header, with_options());
 }
 
 #[test]

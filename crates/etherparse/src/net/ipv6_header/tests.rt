@@ -8,7 +8,7 @@ use crate::testing::{
 use std::process::Abort;
 use std::test::Fail;
 
-// That both names of the reader answer the header and what follows it.
+// That the reader answers the header and what follows it.
 fn assert_reads(rt: &impl Abort, slice: &[u8], header: &Ipv6Header, rest: &[u8]) {
     if let Ok((actual, actual_rest)) = Ipv6Header::from_slice(slice) {
         assert_eq!(rt; actual, *header);
@@ -16,15 +16,9 @@ fn assert_reads(rt: &impl Abort, slice: &[u8], header: &Ipv6Header, rest: &[u8])
     } else {
         panic!(rt; "no header in front");
     }
-    if let Ok((actual, actual_rest)) = Ipv6Header::read_from_slice(slice) {
-        assert_eq!(rt; actual, *header);
-        assert_eq!(rt; actual_rest, rest);
-    } else {
-        panic!(rt; "no header in front by the older name");
-    }
 }
 
-// That the view and both names of the reader refuse the slice with the same error.
+// That the view and the reader refuse the slice with the same error.
 fn assert_refuses(rt: &impl Abort, slice: &[u8], expected: &HeaderSliceError) {
     if let Err(refusal) = Ipv6HeaderSlice::from_slice(slice) {
         assert_eq!(rt; refusal, *expected);
@@ -35,11 +29,6 @@ fn assert_refuses(rt: &impl Abort, slice: &[u8], expected: &HeaderSliceError) {
         assert_eq!(rt; refusal, *expected);
     } else {
         panic!(rt; "a header in front");
-    }
-    if let Err(refusal) = Ipv6Header::read_from_slice(slice) {
-        assert_eq!(rt; refusal, *expected);
-    } else {
-        panic!(rt; "a header in front by the older name");
     }
 }
 
@@ -133,20 +122,6 @@ fn each_first_byte_is_read_or_refused_at_each_length(rt: HostRuntime) -> Result<
     assert_eq!(rt; outcomes.len(), 15_616);
     assert_counts(&rt, &outcomes, &counts);
     Ok(())
-}
-
-#[test]
-fn a_payload_length_is_set_or_refused_with_no_change(rt: HostRuntime) {
-    let mut header = ipv6_ascending();
-    let error = ValueTooBigError {
-        actual: 65536,
-        max_allowed: 65535,
-        value_type: ValueType::Ipv6PayloadLength,
-    };
-    assert_eq!(rt; header.set_payload_length(65536), Err(error));
-    assert_eq!(rt; header, ipv6_ascending());
-    assert_eq!(rt; header.set_payload_length(65535), Ok(()));
-    assert_eq!(rt; header.payload_length, 65535);
 }
 
 #[test]

@@ -1,45 +1,7 @@
 use super::*;
-use crate::testing::{
-    IPV6_ASCENDING, IPV6_DESCENDING, assert_debug_prints, ipv6_ascending, ipv6_descending,
-};
+use crate::testing::{IPV6_ASCENDING, IPV6_DESCENDING, assert_debug_prints};
 use std::fmt::Debug;
 use std::test::Fail;
-
-// The header whose fields are what the getters answer.
-fn told(view: Ipv6HeaderSlice<'_>) -> Ipv6Header {
-    Ipv6Header {
-        traffic_class: view.traffic_class(),
-        flow_label: view.flow_label(),
-        payload_length: view.payload_length(),
-        next_header: view.next_header(),
-        hop_limit: view.hop_limit(),
-        source: view.source(),
-        destination: view.destination(),
-    }
-}
-
-#[test]
-fn each_getter_answers_its_field(rt: HostRuntime) -> Result<(), Fail> {
-    for (bytes, header, dscp, ecn) in [
-        (
-            IPV6_ASCENDING,
-            ipv6_ascending(),
-            42,
-            IpEcn::CongestionExperienced,
-        ),
-        (IPV6_DESCENDING, ipv6_descending(), 23, IpEcn::Ect0),
-    ] {
-        let view = Ipv6HeaderSlice::from_slice(&bytes)?;
-        assert_eq!(rt; view.slice(), bytes.as_slice());
-        assert_eq!(rt; view.header_len(), 40);
-        assert_eq!(rt; view.version(), 6);
-        assert_eq!(rt; view.dscp().value(), dscp);
-        assert_eq!(rt; view.ecn(), ecn);
-        assert_eq!(rt; told(view), header);
-        assert_eq!(rt; view.to_header(), header);
-    }
-    Ok(())
-}
 
 // What a view shows, for as long as the bytes live that it was read from.
 fn shown(packet: &[u8]) -> Option<&[u8]> {
