@@ -62,6 +62,14 @@ fn a_slice_has_one_complement_in_all_sums(rt: HostRuntime) {
         assert_eq!(rt; u64_16bit_word::ones_complement(of_64), *complement);
         assert_eq!(rt; u32_16bit_word::ones_complement(of_32), *complement);
         assert_eq!(rt; sum.ones_complement(), *complement);
+        assert_eq!(rt;
+            u64_16bit_word::checksum(u64::from(*start), slice),
+            *complement
+        );
+        assert_eq!(rt;
+            u32_16bit_word::checksum(u32::from(*start), slice),
+            *complement
+        );
     }
 }
 
@@ -299,6 +307,8 @@ fn assert_sums_as_plain(rt: &impl Abort, slice: &[u8]) {
     let of_32 = u32_16bit_word::add_slice(0, slice);
     assert_eq!(rt; u64_16bit_word::ones_complement(of_64), complement);
     assert_eq!(rt; u32_16bit_word::ones_complement(of_32), complement);
+    assert_eq!(rt; u64_16bit_word::checksum(0, slice), complement);
+    assert_eq!(rt; u32_16bit_word::checksum(0, slice), complement);
 }
 
 // Bytes without a pattern, the same in each run.
