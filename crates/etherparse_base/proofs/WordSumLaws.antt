@@ -74,11 +74,10 @@ all_ones_from_zero start result bytes sum from_zero =
     let ones = all_ones_swapped (folded_sum result) (folded_sum-within result) in
     (λ e. ones.0 (swapped ∙ e), λ e. sym swapped ∙ ones.1 e)
 
--- the complement of a sum from 0 is 0 where the words sum to all ones
-pub zero_from_zero : (start : ℕ) (bytes : List ℕ) → start ≡ 0 → SumsToAllOnes bytes ↔ (65535 - folded_sum (start + little_endian_word_sum bytes) ≡ 0)
-zero_from_zero start bytes from_zero =
-    let sum = start + little_endian_word_sum bytes in
-    let ones = all_ones_from_zero start sum bytes refl from_zero in
+-- the complement is 0 exactly where the words sum to all ones
+pub complement_all_ones : (sum : ℕ) (bytes : List ℕ) → folded_sum sum ≡ folded_sum (little_endian_word_sum bytes) → SumsToAllOnes bytes ↔ (65535 - folded_sum sum ≡ 0)
+complement_all_ones sum bytes same =
+    let ones = all_ones_from_zero 0 sum bytes (same ∙ ap folded_sum (omega arith)) refl in
     let within = folded_sum-within sum in
     (λ all. omega (arith, ones.0 all), λ none. ones.1 (omega (arith, none, within)))
 

@@ -49,7 +49,7 @@ pub record AddsInTurns (bytes total high : List ℕ) (sums carries : ℕ) (rest 
 abbrev pub lanes_added : List ℕ → List ℕ → List ℕ
 lanes_added xs ys = zip2 (λ x y. (x + y) % 2 ^ 64) xs ys
 
--- the same where totals of other turns are kept beside
+-- turns stand for the bytes before the rest, where totals kept beside are added to theirs
 abbrev pub AddsTurns : List ℕ → List ℕ → Turns → List ℕ → Type 0
 AddsTurns bytes beside at rest =
     AddsInTurns bytes (lanes_added at.total beside) at.high

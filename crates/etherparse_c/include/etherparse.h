@@ -47,8 +47,8 @@ uint16_t etherparse_u32_16bit_word_ones_complement(uint32_t sum);
 uint16_t etherparse_u64_16bit_word_ones_complement_with_no_zero(uint64_t sum);
 uint16_t etherparse_u32_16bit_word_ones_complement_with_no_zero(uint32_t sum);
 
-/* The checksum of a slice after what was summed: add_slice and ones_complement in one call. From the sum 0 it is 0 exactly
- * where the words of the slice sum to all ones. */
+/* The checksum of a slice after what was summed: add_slice and ones_complement in one call. It is 0 exactly where all the words
+ * together sum to all ones. */
 uint16_t etherparse_u64_16bit_word_checksum(uint64_t start_sum, const uint8_t *at, size_t len);
 uint16_t etherparse_u32_16bit_word_checksum(uint32_t start_sum, const uint8_t *at, size_t len);
 
@@ -161,13 +161,12 @@ struct etherparse_ipv4_read_answer etherparse_ipv4_read(const uint8_t *at, size_
 struct etherparse_ipv4_bytes etherparse_ipv4_write(const struct etherparse_ipv4_fields *fields);
 
 /* The lengths of a header with this total length and so many bytes of options: those of a view have options_len =
- * rest.offset - 20, which options can have. All is 0 where options can not be of this length. */
+ * rest.offset - 20, a length that options can have. All is 0 where options can not be of this length. */
 struct etherparse_ipv4_lengths etherparse_ipv4_lengths(uint16_t total_len, uint8_t options_len);
 
 /* Writes the checksum that a header of these fields should have, as a number whose high byte a header has first, and returns
  * true. Where a field is out of its bounds it returns false and writes nothing. The stored header_checksum, whatever it is,
- * counts as 0.
- * Neither pointer is null, checksum points to no part of fields, and each bool is 0 or 1. */
+ * counts as 0. Neither pointer is null, checksum points to no part of fields, and each bool is 0 or 1. */
 bool etherparse_ipv4_header_checksum(const struct etherparse_ipv4_fields *fields, uint16_t *checksum);
 
 /* Sets the time to live, updates the stored header_checksum for it by etherparse_update_2bytes, and returns true. Where a field
@@ -241,7 +240,7 @@ struct etherparse_ipv6_bytes etherparse_ipv6_write(const struct etherparse_ipv6_
 
 /* Skips all extension headers at the front of a slice, of which the first has this number: 0, 43, 44, 51, 60, 135, 139 and 140
  * can be skipped. With any other number there is none, and the rest is the whole slice. Those of a packet are at the front of
- * the rest after its header, and the first has the next_header of that; offsets then count from there.
+ * the rest after its header, and the first has the next_header of that; offsets then count from the front of that rest.
  *
  * The error is a LEN, of the first header that is incomplete. Where fewer than 2 bytes are left, 2 are required. */
 struct etherparse_ipv6_walk_answer etherparse_ipv6_walk(const uint8_t *at, size_t len, uint8_t next_header);

@@ -68,11 +68,14 @@ pub extern "C" fn etherparse_u64_16bit_word_ones_complement_with_no_zero(sum: u6
 #[unsafe(no_mangle)]
 pub extern "C" fn etherparse_u64_16bit_word_checksum(start_sum: u64, slice: &[u8]) -> u16
     ensures value { result ≡ 65535 - folded_sum (start_sum + little_endian_word_sum slice.now) }
-    ensures network_order { start_sum ≡ 0
-        → swap_bytes w16 result ≡ 65535 - folded_sum (network_order_word_sum slice.now) }
-    ensures all_ones { start_sum ≡ 0 → (SumsToAllOnes slice.now ↔ (result ≡ 0)) }
-    ensures one_byte { SumsToAllOnes slice.now
-        → (changed : List ℕ) → ChangesOneByte slice.now changed → ¬ SumsToAllOnes changed }
+    ensures network_order { (bytes : List ℕ)
+        → folded_sum (start_sum + little_endian_word_sum slice.now)
+        ≡ folded_sum (little_endian_word_sum bytes)
+        → swap_bytes w16 result ≡ 65535 - folded_sum (network_order_word_sum bytes) }
+    ensures all_ones { (bytes : List ℕ)
+        → folded_sum (start_sum + little_endian_word_sum slice.now)
+        ≡ folded_sum (little_endian_word_sum bytes)
+        → (SumsToAllOnes bytes ↔ (result ≡ 0)) }
 {
     u64_16bit_word::checksum(start_sum, slice)
 }
@@ -137,11 +140,14 @@ pub extern "C" fn etherparse_u32_16bit_word_ones_complement_with_no_zero(sum: u3
 #[unsafe(no_mangle)]
 pub extern "C" fn etherparse_u32_16bit_word_checksum(start_sum: u32, slice: &[u8]) -> u16
     ensures value { result ≡ 65535 - folded_sum (start_sum + little_endian_word_sum slice.now) }
-    ensures network_order { start_sum ≡ 0
-        → swap_bytes w16 result ≡ 65535 - folded_sum (network_order_word_sum slice.now) }
-    ensures all_ones { start_sum ≡ 0 → (SumsToAllOnes slice.now ↔ (result ≡ 0)) }
-    ensures one_byte { SumsToAllOnes slice.now
-        → (changed : List ℕ) → ChangesOneByte slice.now changed → ¬ SumsToAllOnes changed }
+    ensures network_order { (bytes : List ℕ)
+        → folded_sum (start_sum + little_endian_word_sum slice.now)
+        ≡ folded_sum (little_endian_word_sum bytes)
+        → swap_bytes w16 result ≡ 65535 - folded_sum (network_order_word_sum bytes) }
+    ensures all_ones { (bytes : List ℕ)
+        → folded_sum (start_sum + little_endian_word_sum slice.now)
+        ≡ folded_sum (little_endian_word_sum bytes)
+        → (SumsToAllOnes bytes ↔ (result ≡ 0)) }
 {
     u32_16bit_word::checksum(start_sum, slice)
 }

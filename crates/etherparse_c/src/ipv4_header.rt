@@ -243,7 +243,7 @@ pub extern "C" fn etherparse_ipv4_set_time_to_live(
     ensures all_ones { IsTrue result → (before after : List ℕ) → AreWrittenFor fields.old before →
         AreWrittenFor fields.new after → (SumsToAllOnes before ↔ SumsToAllOnes after) }
 
-    // In a packet that is bytes 8, 10 and 11 and no other.
+    // In a packet that begins with the header, it is enough to write bytes 8, 10 and 11.
     ensures in_place { IsTrue result → (old new : Header) → StandFor fields.old old →
         StandFor fields.new new → (packet rest : List ℕ) →
         BeginsWith HasIpv4Layout packet old rest → IsWrittenInPlace packet new rest }

@@ -1,6 +1,6 @@
 //! The view of an IPv4 header (RFC 791 section 3.1): its bytes stay where they are.
 
-ghost use Rattle.std.specs.Prelude.{ℕ, ◌≡◌, ◌≤◌, ◌-◌, List, Result, slice_index};
+ghost use Rattle.std.specs.Prelude.{ℕ, ◌≡◌, ◌<◌, ◌≤◌, ◌-◌, ◌^◌, List, Result, slice_index};
 ghost use Rattle.etherparse.specs.FirstByte.{ihl_of};
 ghost use Rattle.etherparse.specs.Ipv4Header.{HasIpv4Layout, OfIpv4Header, ViewsIpv4};
 ghost use Rattle.etherparse.specs.Ipv4Options.{IsOptionsLen};
@@ -82,9 +82,9 @@ pub extern "C" fn etherparse_ipv4_view(slice: &[u8]) -> Ipv4ViewAnswer
     // What stands from byte 20 up to the rest is as long as options can be.
     ensures options_len { result.error ≡ no_error →
         (20 ≤ result.rest.offset) × IsOptionsLen (result.rest.offset - 20) }
-    ensures dscp_within { result.view.dscp ≤ 63 }
-    ensures ecn_within { result.view.ecn ≤ 3 }
-    ensures fragment_offset_within { result.view.fragment_offset ≤ 8191 }
+    ensures dscp_within { result.view.dscp < 2 ^ 6 }
+    ensures ecn_within { result.view.ecn < 2 ^ 2 }
+    ensures fragment_offset_within { result.view.fragment_offset < 2 ^ 13 }
 {
     match Ipv4HeaderSlice::from_slice(slice) {
         Ok(view) => {
@@ -105,9 +105,9 @@ fn getters_of(view: &Ipv4HeaderSlice) -> Ipv4View
     ensures lower_half_of_byte_0 { result.ihl ≡ ihl_of view.now.slice.now }
     ensures byte_8 { result.time_to_live ≡ slice_index view.now.slice.now 8 }
     ensures byte_9 { result.protocol ≡ slice_index view.now.slice.now 9 }
-    ensures dscp_within { result.dscp ≤ 63 }
-    ensures ecn_within { result.ecn ≤ 3 }
-    ensures fragment_offset_within { result.fragment_offset ≤ 8191 }
+    ensures dscp_within { result.dscp < 2 ^ 6 }
+    ensures ecn_within { result.ecn < 2 ^ 2 }
+    ensures fragment_offset_within { result.fragment_offset < 2 ^ 13 }
 {
     Ipv4View {
         ihl: view.ihl(),

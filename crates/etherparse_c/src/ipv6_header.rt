@@ -65,7 +65,7 @@ pub extern "C" fn etherparse_ipv6_read(slice: &[u8]) -> Ipv6ReadAnswer
     ensures only { (other : Ipv6Reading) → ReadsIpv6 slice.now other →
         GivesIpv6Reading result slice.now other }
 
-    // Extension headers at the front of the rest are a chain of the whole slice.
+    // With extension headers at the front of the rest, the slice is the header, these, and what follows them.
     ensures chain { result.error ≡ no_error → (header : Header) →
         StandForIpv6 result.fields header → (headers : List (List ℕ)) (last : ℕ) (rest : List ℕ) →
         BeginsWithChain (drop result.rest.offset slice.now) header.next_header headers last rest →

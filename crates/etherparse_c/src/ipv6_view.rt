@@ -1,6 +1,6 @@
 //! The view of an IPv6 header (RFC 8200 section 3): its bytes stay where they are.
 
-ghost use Rattle.std.specs.Prelude.{ℕ, ◌≡◌, ◌≤◌, List, Result, drop, slice_index};
+ghost use Rattle.std.specs.Prelude.{ℕ, ◌≡◌, ◌<◌, ◌^◌, List, Result, drop, slice_index};
 ghost use Rattle.etherparse.specs.ExtensionHeaderChain.{BeginsWithChain, HasIpv6Chain};
 ghost use Rattle.etherparse.specs.Ipv6Header.{IsIpv6Layout, OfIpv6Header, ViewsIpv6};
 ghost use Rattle.etherparse.specs.Reading.{BeginsWith};
@@ -62,7 +62,7 @@ pub extern "C" fn etherparse_ipv6_view(slice: &[u8]) -> Ipv6ViewAnswer
         BeginsWith IsIpv6Layout slice.now header rest → (result.error ≡ no_error)
         × ((result.rest ≡ rest_of slice.now rest) × ShowsIpv6 result.view header) }
 
-    // Extension headers at the front of the rest are a chain of the whole slice.
+    // With extension headers at the front of the rest, the slice is the header, these, and what follows them.
     ensures chain { result.error ≡ no_error → (header : Header) →
         ShowsIpv6 result.view header → (headers : List (List ℕ)) (last : ℕ) (rest : List ℕ) →
         BeginsWithChain (drop result.rest.offset slice.now) header.next_header headers last rest →
@@ -70,9 +70,9 @@ pub extern "C" fn etherparse_ipv6_view(slice: &[u8]) -> Ipv6ViewAnswer
     ensures byte_6 { result.error ≡ no_error →
         result.view.next_header ≡ slice_index slice.now 6 }
     ensures byte_7 { result.error ≡ no_error → result.view.hop_limit ≡ slice_index slice.now 7 }
-    ensures dscp_within { result.view.dscp ≤ 63 }
-    ensures ecn_within { result.view.ecn ≤ 3 }
-    ensures flow_label_within { result.view.flow_label ≤ 1048575 }
+    ensures dscp_within { result.view.dscp < 2 ^ 6 }
+    ensures ecn_within { result.view.ecn < 2 ^ 2 }
+    ensures flow_label_within { result.view.flow_label < 2 ^ 20 }
 {
     match Ipv6HeaderSlice::from_slice(slice) {
         Ok(view) => {
@@ -92,9 +92,9 @@ fn getters_of(view: &Ipv6HeaderSlice) -> Ipv6View
     ensures value { OfIpv6Header view.now.slice.now (ShowsIpv6 result) }
     ensures byte_6 { result.next_header ≡ slice_index view.now.slice.now 6 }
     ensures byte_7 { result.hop_limit ≡ slice_index view.now.slice.now 7 }
-    ensures dscp_within { result.dscp ≤ 63 }
-    ensures ecn_within { result.ecn ≤ 3 }
-    ensures flow_label_within { result.flow_label ≤ 1048575 }
+    ensures dscp_within { result.dscp < 2 ^ 6 }
+    ensures ecn_within { result.ecn < 2 ^ 2 }
+    ensures flow_label_within { result.flow_label < 2 ^ 20 }
 {
     Ipv6View {
         flow_label: view.flow_label().value(),

@@ -16,19 +16,19 @@ impl Number for u16 {}
 
 impl Number for u32 {}
 
-/// Asserts what is printed of the least and the greatest value of a field by `{}`, by `{:08}` and by `{:?}`, and that a clone
+/// Asserts what is printed of values of a field by `{}`, by `{:08}` and by `{:?}`, and that a clone
 /// hashes as its source does. The bounds are the traits that each field and its number have.
 pub(crate) fn assert_field<F, N>(
     rt: &impl Abort,
     alloc: Global,
-    ends: &[(F, &str)],
+    values: &[(F, &str)],
 ) -> Result<(), Fail>
 where
     F: Copy + Debug + Display + Drop + Hash + Into<N> + Ord,
     F: TryFrom<N, Error = ValueTooBigError<N>>,
     N: Number + From<F> + TryInto<F, Error = ValueTooBigError<N>>,
 {
-    for (field, text) in ends {
+    for (field, text) in values {
         let printed = format!(in alloc; "{field} {field:08} {field:?}")?;
         assert_eq!(rt; printed.as_str(), *text);
         assert_eq!(rt; hash_of(&field.clone()?), hash_of(field));

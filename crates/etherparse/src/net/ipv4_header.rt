@@ -405,8 +405,8 @@ fn add_fours(bytes: [u8; 16]) -> Sum16BitWords
         .add_4bytes([m, n, o, p])
 }
 
-// The sum with the bytes of the options. Where the compiler knows their number, it asks for no word whether it is there, and
-// keeps no header in memory to find them in.
+// The sum with the bytes of the options. Of a length that the compiler knows they are summed where they are; else it puts the
+// whole header into memory first, and tests for each word whether it is there.
 #[inline(always)]
 fn add_options(fixed: Sum16BitWords, options: &[u8]) -> Sum16BitWords
     requires options_len { IsOptionsLen (length options.now) }

@@ -97,21 +97,6 @@ pub fn ones_complement(sum: u64) -> u16
     complement_u64(sum)
 }
 
-/// [`ones_complement`] of [`add_slice`], as one call.
-///
-/// The Rust crate has no such call.
-#[inline(always)]
-pub fn checksum(start_sum: u64, slice: &[u8]) -> u16
-    ensures value { result ≡ 65535 - folded_sum (start_sum + little_endian_word_sum slice.now) }
-    ensures network_order { start_sum ≡ 0
-        → swap_bytes w16 result ≡ 65535 - folded_sum (network_order_word_sum slice.now) }
-    ensures all_ones { start_sum ≡ 0 → (SumsToAllOnes slice.now ↔ (result ≡ 0)) }
-    ensures one_byte { SumsToAllOnes slice.now
-        → (changed : List ℕ) → ChangesOneByte slice.now changed → ¬ SumsToAllOnes changed }
-{
-    wide_u64::checksum(start_sum, slice)
-}
-
 /// The same with 0xffff in place of 0, as UDP has it: a checksum of 0 says there that there is none (RFC 768).
 #[inline]
 pub fn ones_complement_with_no_zero(sum: u64) -> u16
@@ -123,4 +108,22 @@ pub fn ones_complement_with_no_zero(sum: u64) -> u16
 {
     let checksum = ones_complement(sum);
     if checksum == 0 { 0xffff } else { checksum }
+}
+
+/// [`ones_complement`] of [`add_slice`], as one call: the checksum of a slice after an earlier sum.
+///
+/// The Rust crate has no such call.
+#[inline(always)]
+pub fn checksum(start_sum: u64, slice: &[u8]) -> u16
+    ensures value { result ≡ 65535 - folded_sum (start_sum + little_endian_word_sum slice.now) }
+    ensures network_order { (bytes : List ℕ)
+        → folded_sum (start_sum + little_endian_word_sum slice.now)
+        ≡ folded_sum (little_endian_word_sum bytes)
+        → swap_bytes w16 result ≡ 65535 - folded_sum (network_order_word_sum bytes) }
+    ensures all_ones { (bytes : List ℕ)
+        → folded_sum (start_sum + little_endian_word_sum slice.now)
+        ≡ folded_sum (little_endian_word_sum bytes)
+        → (SumsToAllOnes bytes ↔ (result ≡ 0)) }
+{
+    wide_u64::checksum(start_sum, slice)
 }

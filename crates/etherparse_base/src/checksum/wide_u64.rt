@@ -32,7 +32,7 @@ pub(super) fn add_slice(start_sum: u64, slice: &[u8]) -> u64
     }
 }
 
-/// The complement of that sum in sixteen bits. Of few bytes it is made with no call, so nothing is put aside for one.
+/// The complement of that sum in sixteen bits. A short slice is summed without a call, so no register is saved for one.
 #[inline(always)]
 pub(super) fn checksum(start_sum: u64, slice: &[u8]) -> u16
     ensures value { result ≡ 65535 - folded_sum (start_sum + little_endian_word_sum slice.now) }
@@ -103,7 +103,7 @@ pub(super) struct Turns {
 }
 
 // Adds turns, three at a time where there are as many, until there are not enough bytes for one. Each of three has a total of
-// its own: with one for all, the compiler adds up the words first, and has to copy what is then lost.
+// its own: with one total for all three, the compiler adds their words first, and copies each of them.
 #[inline(always)]
 fn add_turns<'a>(slice: &'a [u8]) -> Summed<'a>
     requires { length slice.now ≤ 2 ^ 33 }
@@ -117,42 +117,36 @@ fn add_turns<'a>(slice: &'a [u8]) -> Summed<'a>
         total: u64x4::splat(0),
         high: u64x4::splat(0),
     };
-    let (mut a, mut b) = (u64x4::splat(0), u64x4::splat(0));
+    let (mut second_total, mut third_total) = (u64x4::splat(0), u64x4::splat(0));
     let mut rest = slice;
     'threes: while rest.len() >= 288 {
-        let second = after_turn(rest);
-        let third = after_turn(second);
-        let one = add_turn(at, rest);
-        let two = add_turn(with_total(one, a), second);
-        let three = add_turn(with_total(two, b), third);
-        (a, b) = (two.total, three.total);
-        at = with_total(three, one.total);
-        rest = after_turn(third);
+        let after_first = after_turn(rest);
+        let after_second = after_turn(after_first);
+        let first = add_turn(at, rest);
+        let second = add_turn(with_total(first, second_total), after_first);
+        let third = add_turn(with_total(second, third_total), after_second);
+        (second_total, third_total) = (second.total, third.total);
+        at = with_total(third, first.total);
+        rest = after_turn(after_second);
     }
     'ones: while rest.len() >= 96 {
         at = add_turn(at, rest);
         rest = after_turn(rest);
     }
     let sum = add_words(add_words(at.carries, at.first), at.second);
+    let total = at.total + (second_total + third_total);
     Summed {
-        sum: add_u64(sum, joined(at.total + (a + b), at.high)),
+        sum: add_u64(sum, joined(total, at.high)),
         rest,
     }
 }
 
-// The same with another total in the lanes.
+// Turns with another total.
 #[inline(always)]
 fn with_total(at: Turns, total: u64x4) -> Turns
     ensures value { result ≡ record at { total = total } }
 {
-    let (first, second) = (at.first, at.second);
-    Turns {
-        first,
-        second,
-        carries: at.carries,
-        total,
-        high: at.high,
-    }
+    Turns { total, ..at }
 }
 
 // What follows the bytes of a turn.
@@ -199,7 +193,7 @@ fn add_rest<'a>(start_sum: u64, at: Summed<'a>) -> u64
 {
     let at = add_two_words(add_four_words(at));
     let (word, rest) = split_if_word(at.rest);
-    add_three_words(at.sum, word, last_bytes(rest), start_sum)
+    add_three_words(at.sum, word, last_seven_bytes(rest), start_sum)
 }
 
 // Adds four words at a time, until fewer are left.
@@ -254,7 +248,7 @@ fn split_if_word(bytes: &[u8]) -> (u64, &[u8])
 
 // The sum of what is left after the last word of eight bytes. Where nothing is left, no smaller word is looked for.
 #[inline(always)]
-fn last_bytes(bytes: &[u8]) -> u64
+fn last_seven_bytes(bytes: &[u8]) -> u64
     requires { length bytes.now < 8 }
     ensures stands_for { StandsFor result bytes.now [] }
 {
@@ -262,12 +256,12 @@ fn last_bytes(bytes: &[u8]) -> u64
         return 0;
     }
     let (half, rest) = split_if_half_word(bytes);
-    half + last_few_bytes(rest)
+    half + last_three_bytes(rest)
 }
 
-// The same after the last word of four bytes.
+// The same after the last word of four bytes: at most three bytes.
 #[inline(always)]
-fn last_few_bytes(bytes: &[u8]) -> u64
+fn last_three_bytes(bytes: &[u8]) -> u64
     requires { length bytes.now < 4 }
     ensures stands_for { StandsFor result bytes.now [] }
     ensures fits { result < 2 ^ 17 }

@@ -218,11 +218,11 @@ mod tests {
 
     #[test]
     fn least_greatest_and_the_number_above(rt: HostRuntime) -> Result<(), Fail> {
-        let ends = [
+        let values = [
             (IpDscp::try_new(0)?, "0 00000000 IpDscp(0)"),
             (IpDscp::try_new(63)?, "63 00000063 IpDscp(63)"),
         ];
         assert_refuses::<IpDscp, u8>(&rt, 64, 63, ValueType::IpDscp);
-        assert_field::<IpDscp, u8>(&rt, rt.alloc(), &ends)
+        assert_field::<IpDscp, u8>(&rt, rt.alloc(), &values)
     }
 }

@@ -197,7 +197,7 @@ mod tests {
     use std::test::Fail;
 
     #[test]
-    fn order_goes_by_the_number(rt: HostRuntime) -> Result<(), Fail> {
+    fn order_goes_by_the_number_and_clones_hash_alike(rt: HostRuntime) -> Result<(), Fail> {
         for (lower, greater) in [
             (IpDscpKnown::LowerEffort, IpDscpKnown::ClassSelector1),
             (IpDscpKnown::VoiceAdmit, IpDscpKnown::ExpeditedForwarding),

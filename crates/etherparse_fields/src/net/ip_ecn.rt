@@ -127,13 +127,13 @@ mod tests {
 
     #[test]
     fn least_greatest_and_the_number_above(rt: HostRuntime) -> Result<(), Fail> {
-        let ends = [
+        let values = [
             (IpEcn::try_new(0)?, "0 00000000 NotEct"),
             (IpEcn::try_new(1)?, "1 00000001 Ect1"),
             (IpEcn::try_new(2)?, "2 00000002 Ect0"),
             (IpEcn::try_new(3)?, "3 00000003 CongestionExperienced"),
         ];
         assert_refuses::<IpEcn, u8>(&rt, 4, 3, ValueType::IpEcn);
-        assert_field::<IpEcn, u8>(&rt, rt.alloc(), &ends)
+        assert_field::<IpEcn, u8>(&rt, rt.alloc(), &values)
     }
 }

@@ -121,7 +121,7 @@ mod tests {
 
     #[test]
     fn least_greatest_and_the_number_above(rt: HostRuntime) -> Result<(), Fail> {
-        let ends = [
+        let values = [
             (IpFragOffset::try_new(0)?, "0 00000000 IpFragOffset(0)"),
             (
                 IpFragOffset::try_new(8191)?,
@@ -129,6 +129,6 @@ mod tests {
             ),
         ];
         assert_refuses::<IpFragOffset, u16>(&rt, 8192, 8191, ValueType::IpFragmentOffset);
-        assert_field::<IpFragOffset, u16>(&rt, rt.alloc(), &ends)
+        assert_field::<IpFragOffset, u16>(&rt, rt.alloc(), &values)
     }
 }

@@ -112,7 +112,7 @@ mod tests {
 
     #[test]
     fn least_greatest_and_the_number_above(rt: HostRuntime) -> Result<(), Fail> {
-        let ends = [
+        let values = [
             (Ipv6FlowLabel::try_new(0)?, "0 00000000 Ipv6FlowLabel(0)"),
             (
                 Ipv6FlowLabel::try_new(1048575)?,
@@ -120,6 +120,6 @@ mod tests {
             ),
         ];
         assert_refuses::<Ipv6FlowLabel, u32>(&rt, 1048576, 1048575, ValueType::Ipv6FlowLabel);
-        assert_field::<Ipv6FlowLabel, u32>(&rt, rt.alloc(), &ends)
+        assert_field::<Ipv6FlowLabel, u32>(&rt, rt.alloc(), &values)
     }
 }

@@ -20,26 +20,26 @@ pub threes-preserved : goal.threes-preserved
 threes-preserved c =
     let slice = c.args.slice.now in
     let few : length slice ≤ 2 ^ 33 = c.requires in
-    let a = c.threes.a in
-    let b = c.threes.b in
-    let one = c.add_turn-one in
-    let two = c.add_turn-two in
-    let three = c.add_turn-three in
-    let first : AddsTurns slice (lanes_added a b) one.result c.after_turn-second.result.now =
-    rw c.after_turn-second.ensures.after (one.ensures.adds slice (lanes_added a b) few c.threes.invariant) in
-    let with_a : AddsTurns slice (lanes_added one.result.total b) c.with_total.result c.after_turn-second.result.now =
-    rw (c.with_total.ensures.value, lanes_added-second a one.result.total b) first in
-    let second : AddsTurns slice (lanes_added one.result.total b) two.result c.after_turn-third.result.now =
-    rw c.after_turn-third.ensures.after (two.ensures.adds slice (lanes_added one.result.total b) few with_a) in
-    let with_b : AddsTurns slice (lanes_added one.result.total two.result.total) c.with_total-in-threes.result c.after_turn-third.result.now =
-    rw (c.with_total-in-threes.ensures.value, lanes_added-last b one.result.total two.result.total) second in
-    let third = three.ensures.adds slice (lanes_added one.result.total two.result.total) few with_b in
-    rw (c.after_turn-rest.ensures.after, c.with_total-at.ensures.value, lanes_added-second one.result.total two.result.total three.result.total, lanes_added-last two.result.total one.result.total three.result.total) third
+    let a = c.add_turn-first.result.total in
+    let b = c.add_turn-second.result.total in
+    let v = c.add_turn-third.result.total in
+    let b' = c.threes.second_total in
+    let v' = c.threes.third_total in
+    let first : AddsTurns slice (lanes_added b' v') c.add_turn-first.result c.after_turn-after_first.result.now =
+    rw c.after_turn-after_first.ensures.after (c.add_turn-first.ensures.adds slice (lanes_added b' v') few c.threes.invariant) in
+    let with_second : AddsTurns slice (lanes_added a v') c.with_total.result c.after_turn-after_first.result.now =
+    rw (c.with_total.ensures.value, lanes_added-second b' a v') first in
+    let second : AddsTurns slice (lanes_added a v') c.add_turn-second.result c.after_turn-after_second.result.now =
+    rw c.after_turn-after_second.ensures.after (c.add_turn-second.ensures.adds slice (lanes_added a v') few with_second) in
+    let with_third : AddsTurns slice (lanes_added a b) c.with_total-in-threes.result c.after_turn-after_second.result.now =
+    rw (c.with_total-in-threes.ensures.value, lanes_added-last v' a b) second in
+    let third = c.add_turn-third.ensures.adds slice (lanes_added a b) few with_third in
+    rw (c.after_turn-rest.ensures.after, c.with_total-at.ensures.value, lanes_added-second a b v, lanes_added-last b a v) third
 
 pub ones-preserved : goal.ones-preserved
 ones-preserved c =
     let few : length c.args.slice.now ≤ 2 ^ 33 = c.requires in
-    rw c.after_turn-rest-in-ones.ensures.after (c.add_turn-at.ensures.adds c.args.slice.now (lanes_added c.threes.a c.threes.b) few c.ones.invariant)
+    rw c.after_turn-rest-in-ones.ensures.after (c.add_turn-at.ensures.adds c.args.slice.now (lanes_added c.threes.second_total c.threes.third_total) few c.ones.invariant)
 
 pub returns : goal.returns
 returns c =

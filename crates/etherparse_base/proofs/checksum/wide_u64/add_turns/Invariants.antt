@@ -3,13 +3,13 @@ use Rattle.etherparse_base.specs.WideSums.{AddsTurns, lanes_added}
 use Rattle.etherparse_base.proofs.checksum.wide_u64.add_turns.Given as goal
 
 abbrev pub invariant-threes : goal.invariant-threes
-invariant-threes l = AddsTurns l.fn.slice (lanes_added l.a l.b) l.at l.rest
+invariant-threes l = AddsTurns l.fn.slice (lanes_added l.second_total l.third_total) l.at l.rest
 
 abbrev pub decreases-threes : goal.decreases-threes
 decreases-threes l = length l.rest
 
 abbrev pub invariant-ones : goal.invariant-ones
-invariant-ones l = AddsTurns l.fn.slice (lanes_added l.a l.b) l.at l.rest
+invariant-ones l = AddsTurns l.fn.slice (lanes_added l.second_total l.third_total) l.at l.rest
 
 abbrev pub decreases-ones : goal.decreases-ones
 decreases-ones l = length l.rest
