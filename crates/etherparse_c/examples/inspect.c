@@ -1,4 +1,4 @@
-/* Views, reads and writes headers, walks past extension headers and sums bytes, and shows what is refused. */
+/* Views, reads, makes and writes headers, walks past extension headers and sums bytes, and shows what is refused. */
 
 #include "etherparse.h"
 
@@ -188,6 +188,26 @@ static void show_checksums(void)
     printf("checksum dd2f with 3285 for 5555: %04x\n", etherparse_update_2bytes(0xdd2f, 0x5555, 0x3285));
 }
 
+/* Headers of fields no two of which are alike. */
+static void show_made(void)
+{
+    const struct etherparse_ipv4_fields ipv4 = {
+        .dscp = 10, .ecn = 1, .total_len = 0x0102, .identification = 0x0304, .dont_fragment = true, .fragment_offset = 0x1506,
+        .time_to_live = 7, .protocol = 8, .header_checksum = 0x090a, .source = {11, 12, 13, 14},
+        .destination = {15, 16, 17, 18}, .options_len = 4, .options = {19, 20, 21, 22},
+    };
+    const struct etherparse_ipv6_fields ipv6 = {
+        .source = {0x20, 1, 2, 3, 4, 5, 6, 7, 8, 9, 10, 11, 12, 13, 14, 15},
+        .destination = {0x30, 17, 18, 19, 20, 21, 22, 23, 24, 25, 26, 27, 28, 29, 30, 31},
+        .flow_label = 0x34567, .payload_length = 0x89ab, .traffic_class = 0x12, .next_header = 0xcd, .hop_limit = 0xef,
+    };
+    struct etherparse_ipv4_bytes first = etherparse_ipv4_write(&ipv4);
+    struct etherparse_ipv6_bytes second = etherparse_ipv6_write(&ipv6);
+    printf("made of fields\n");
+    print_hex("IPv4", first.bytes, first.len);
+    print_hex("IPv6", second.bytes, second.len);
+}
+
 /* Fields out of their bounds are those of no header. */
 static void show_refused_fields(void)
 {
@@ -251,6 +271,7 @@ int main(void)
     show_limited_walk("", 24, 0, 4);
 
     show_checksums();
+    show_made();
     show_refused_fields();
     return 0;
 }

@@ -1,4 +1,4 @@
-//! Views, reads and writes headers, walks past extension headers and sums bytes, and shows what is refused.
+//! Views, reads, makes and writes headers, walks past extension headers and sums bytes, and shows what is refused.
 
 #[path = "../include/etherparse.rs"]
 mod etherparse;
@@ -294,6 +294,41 @@ fn show_checksums() {
     println!("checksum dd2f with 3285 for 5555: {updated:04x}");
 }
 
+// Headers of fields no two of which are alike.
+fn show_made() {
+    let mut options = [0; 40];
+    options[..4].copy_from_slice(&[19, 20, 21, 22]);
+    let ipv4 = Ipv4Fields {
+        dscp: 10,
+        ecn: 1,
+        total_len: 0x0102,
+        identification: 0x0304,
+        dont_fragment: true,
+        more_fragments: false,
+        fragment_offset: 0x1506,
+        time_to_live: 7,
+        protocol: 8,
+        header_checksum: 0x090a,
+        source: [11, 12, 13, 14],
+        destination: [15, 16, 17, 18],
+        options_len: 4,
+        options,
+    };
+    let ipv6 = Ipv6Fields {
+        source: [0x20, 1, 2, 3, 4, 5, 6, 7, 8, 9, 10, 11, 12, 13, 14, 15],
+        destination: [0x30, 17, 18, 19, 20, 21, 22, 23, 24, 25, 26, 27, 28, 29, 30, 31],
+        flow_label: 0x34567,
+        payload_length: 0x89ab,
+        traffic_class: 0x12,
+        next_header: 0xcd,
+        hop_limit: 0xef,
+    };
+    let (first, second) = (write_ipv4(&ipv4), write_ipv6(&ipv6));
+    println!("made of fields");
+    print_hex("IPv4", &first.bytes[..usize::from(first.len)]);
+    print_hex("IPv6", &second.bytes[..usize::from(second.len)]);
+}
+
 // Fields out of their bounds are those of no header.
 fn show_refused_fields() {
     let mut ipv4 = read_ipv4(&padded("45", 20)).fields;
@@ -351,5 +386,6 @@ fn main() {
     show_limited_walk(&[0; 24], 0, 4);
 
     show_checksums();
+    show_made();
     show_refused_fields();
 }

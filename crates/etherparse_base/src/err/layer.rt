@@ -97,6 +97,8 @@ impl Layer {
 impl fmt::Display for Layer {
     ghost output = { λ layer. Some (layer_text layer) };
 
+    ghost styled_output = { λ layer _. Some (layer_text layer) };
+
     fn fmt<W: fmt::Write>(&self, f: &mut fmt::Formatter<W>) -> fmt::Result {
         f.write_str(match self {
             Layer::LinuxSllHeader => "Linux Cooked Capture v1 header",

@@ -44,6 +44,8 @@ pub enum ValueType {
 impl fmt::Display for ValueType {
     ghost output = { λ value_type. Some (value_type_text value_type) };
 
+    ghost styled_output = { λ value_type _. Some (value_type_text value_type) };
+
     fn fmt<W: fmt::Write>(&self, f: &mut fmt::Formatter<W>) -> fmt::Result {
         f.write_str(match self {
             ValueType::VlanId => "VLAN ID",

@@ -1,5 +1,5 @@
 ghost use Rattle.std.specs.Prelude.{ℕ, ◌≡◌, ◌≤◌, Some};
-ghost use Rattle.std.specs.Fmt.{decimal};
+ghost use Rattle.std.specs.Fmt.{decimal, styled_decimal};
 ghost use Rattle.etherparse_base.specs.ValueTooBigError.{TakesUpTo};
 ghost use Rattle.etherparse_base.specs.declared.err.value_type.ValueType.TheVariants as value_type;
 
@@ -182,6 +182,8 @@ impl Default for IpDscp {
 /// Writes the number in decimal digits.
 impl fmt::Display for IpDscp {
     ghost output = { λ dscp. Some (decimal dscp) };
+
+    ghost styled_output = { λ dscp style. Some (styled_decimal style dscp) };
 
     #[inline]
     fn fmt<W: fmt::Write>(&self, f: &mut fmt::Formatter<W>) -> fmt::Result {

@@ -1,5 +1,5 @@
 ghost use Rattle.std.specs.Prelude.{◌≡◌, ◌≤◌, Some};
-ghost use Rattle.std.specs.Fmt.{decimal};
+ghost use Rattle.std.specs.Fmt.{decimal, styled_decimal};
 ghost use Rattle.etherparse_base.specs.ValueTooBigError.{TakesUpTo};
 ghost use Rattle.etherparse_base.specs.declared.err.value_type.ValueType.TheVariants as value_type;
 ghost use Rattle.etherparse_fields.specs.IpEcn.{ecn_value};
@@ -91,6 +91,8 @@ impl Default for IpEcn {
 /// Writes the number in decimal digits.
 impl fmt::Display for IpEcn {
     ghost output = { λ ecn. Some (decimal (ecn_value ecn)) };
+
+    ghost styled_output = { λ ecn style. Some (styled_decimal style (ecn_value ecn)) };
 
     #[inline]
     fn fmt<W: fmt::Write>(&self, f: &mut fmt::Formatter<W>) -> fmt::Result {

@@ -1,5 +1,5 @@
 ghost use Rattle.std.specs.Prelude.{ℕ, ◌≡◌, ◌*◌, ◌≤◌, Some};
-ghost use Rattle.std.specs.Fmt.{decimal};
+ghost use Rattle.std.specs.Fmt.{decimal, styled_decimal};
 ghost use Rattle.etherparse_base.specs.ValueTooBigError.{TakesUpTo};
 ghost use Rattle.etherparse_base.specs.declared.err.value_type.ValueType.TheVariants as value_type;
 
@@ -85,6 +85,8 @@ impl Default for IpFragOffset {
 /// Writes the number of 8 byte units in decimal digits.
 impl fmt::Display for IpFragOffset {
     ghost output = { λ offset. Some (decimal offset) };
+
+    ghost styled_output = { λ offset style. Some (styled_decimal style offset) };
 
     #[inline]
     fn fmt<W: fmt::Write>(&self, f: &mut fmt::Formatter<W>) -> fmt::Result {

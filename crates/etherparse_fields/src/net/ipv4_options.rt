@@ -5,6 +5,7 @@ ghost use Rattle.std.specs.Cmp.{partial_equiv_from_equiv};
 ghost use Rattle.std.specs.Cmp.Lexicographic.{pointwise, slice_cmp};
 ghost use Rattle.std.specs.Cmp.Lexicographic.{nat_list_cmp_total, nat_list_eq_equiv, texts_po, texts_ties};
 ghost use Rattle.std.specs.Cmp.Rules.{hashing};
+ghost use Rattle.std.specs.Fmt.{debug_list, decimal};
 ghost use Rattle.std.specs.Hash as fed;
 ghost use Rattle.std.proofs.Common.{rules};
 ghost use Rattle.etherparse_base.specs.Bytes.{IsBytes};
@@ -181,6 +182,8 @@ impl Clone for Ipv4Options {
 
 /// Writes the bytes as a list.
 impl fmt::Debug for Ipv4Options {
+    ghost debug_output = { debug_list (λ byte. Some (decimal byte)) };
+
     fn fmt<W: fmt::Write>(&self, f: &mut fmt::Formatter<W>) -> fmt::Result {
         fmt::Debug::fmt(&self.as_slice(), f)
     }

@@ -1,5 +1,5 @@
 ghost use Rattle.std.specs.Prelude.{ℕ, ◌≡◌, ◌≤◌, Some};
-ghost use Rattle.std.specs.Fmt.{decimal};
+ghost use Rattle.std.specs.Fmt.{decimal, styled_decimal};
 ghost use Rattle.etherparse_base.specs.ValueTooBigError.{TakesUpTo};
 ghost use Rattle.etherparse_base.specs.declared.err.value_type.ValueType.TheVariants as value_type;
 
@@ -76,6 +76,8 @@ impl Default for Ipv6FlowLabel {
 /// Writes the number in decimal digits.
 impl fmt::Display for Ipv6FlowLabel {
     ghost output = { λ label. Some (decimal label) };
+
+    ghost styled_output = { λ label style. Some (styled_decimal style label) };
 
     #[inline]
     fn fmt<W: fmt::Write>(&self, f: &mut fmt::Formatter<W>) -> fmt::Result {

@@ -1,4 +1,5 @@
-//! Every first byte at every length from 0 to 60: what is printed is what the readers of the library answer, put into words here.
+//! Every first byte at every length from 0 to 60, and a header of each version at every length above: what is printed is what the
+//! readers of the library answer, put into words here.
 
 use super::*;
 use etherparse::Ipv4Header;
@@ -179,5 +180,32 @@ fn every_front_prints_what_is_read(rt: HostRuntime) -> Result<(), Fail> {
 fn every_front_of_a_packet_of_zeros_prints_what_is_read(rt: HostRuntime) -> Result<(), Fail> {
     // After an IPv6 header, and after each hop-by-hop header, there is to be a hop-by-hop header. So one is incomplete.
     assert_eq!(rt; run_on_every_front(&rt, 0)?, 231);
+    Ok(())
+}
+
+// Runs on every front of more than 60 bytes.
+fn run_on_longer_fronts(
+    rt: &(impl Abort + AllocGlobal),
+    packet: &[u8; 2048],
+) -> Result<(), AllocError> {
+    let digits = format!(in rt.alloc(); "{}", Hex(packet))?;
+    let digits = digits.as_bytes();
+    assert_eq!(rt; digits.len(), 4096);
+    for len in 61..=2048 {
+        let (status, text) = outcome(rt.alloc(), &packet[..len])?;
+        assert_eq!(rt; status, Status::Done);
+        expect(rt, &digits[..2 * len], status, text.as_str());
+    }
+    Ok(())
+}
+
+#[test]
+fn every_longer_front_prints_what_is_read(rt: HostRuntime) -> Result<(), Fail> {
+    // An IPv4 header with no options, and an IPv6 header with the next header 59, after which there is none.
+    for first in [0x45, 0x60] {
+        let mut packet = [59; 2048];
+        packet[0] = first;
+        run_on_longer_fronts(&rt, &packet)?;
+    }
     Ok(())
 }
