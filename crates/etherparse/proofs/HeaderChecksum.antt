@@ -6,7 +6,7 @@ use Rattle.std.proofs.lemmas.Bool.{cases_eq}
 use Rattle.std.proofs.lemmas.List.{length-take-le, take_all, take-append-drop}
 use Rattle.etherparse_base.specs.WordSums.{SumsToAllOnes, folded_sum, little_endian_word_sum, network_order_word_sum}
 use Rattle.etherparse_base.proofs.FoldedSums.{folded_sum-plus, folded_sum-positive, folded_sum-within}
-use Rattle.etherparse_base.proofs.WordSumLaws.{little_endian_word_sum-append, swap_bytes-folded_sum}
+use Rattle.etherparse_base.proofs.WordSumLaws.{complement_swapped, little_endian_word_sum-append}
 use Rattle.etherparse.proofs.Ipv4Layout.{flags_word, front_spelling, front_spells, ranges_of, spelled, spelling}
 use Rattle.etherparse.specs.HeaderChecksum.{header_checksum_of, with_checksum_cleared}
 use Rattle.etherparse.specs.Ipv4Header.{IsIpv4Layout}
@@ -82,17 +82,6 @@ time_to_live_changes h t c protocol r p q same k l =
       some_after = rw before (omega arith);
     }
 
--- a complement with its bytes exchanged
-complement_swapped : (n : ℕ) → n ≤ 65535 → swap_bytes w16 (65535 - n) ≡ 65535 - swap_bytes w16 n
-complement_swapped n h = omega arith
-
--- a checksum that was summed low byte first, with its bytes exchanged, is that of the words in network order
-swapped_checksum : (sum : ℕ) (q : List ℕ) → folded_sum sum ≡ folded_sum (little_endian_word_sum q)
-    → swap_bytes w16 (65535 - folded_sum sum) ≡ 65535 - folded_sum (network_order_word_sum q)
-swapped_checksum sum q e =
-    complement_swapped (folded_sum sum) (folded_sum-within sum)
-    ∙ ap (λ n. 65535 - n) (ap (λ n. swap_bytes w16 n) e ∙ swap_bytes-folded_sum q)
-
 -- three parts that are summed one after the other
 summed : (first second third a b c : ℕ) → folded_sum first ≡ folded_sum (0 + a) → folded_sum second ≡ folded_sum (first + b)
     → folded_sum third ≡ folded_sum (second + c) → folded_sum third ≡ folded_sum (a + b + c)
@@ -127,7 +116,7 @@ computed_of h front most rest last options first second sum f o len m r l x y z 
     let whole : front ++ options ≡ spelling h0 (flags_word h0 0) = front_spells h0 front options (front ++ options) refl o f in
     let folded : folded_sum sum ≡ folded_sum (little_endian_word_sum (front ++ options)) =
     summed first second sum _ _ _ x y z ∙ ap folded_sum (sym (parts_sum front most rest last options len m r l)) in
-    let swapped = swapped_checksum sum (front ++ options) folded in
+    let swapped = complement_swapped sum (front ++ options) folded in
     let some : 0 < network_order_word_sum (front ++ options) = rw whole (spelling_not_zero h0 (flags_word h0 0)) in
     record {
       value = λ stored p layout.

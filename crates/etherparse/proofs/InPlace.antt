@@ -8,17 +8,11 @@ use Rattle.etherparse_base.specs.Bytes.{IsBytes}
 use Rattle.etherparse_base.specs.WordSums.{SumsToAllOnes}
 use Rattle.etherparse.proofs.HeaderChecksum.{with_time_to_live}
 use Rattle.etherparse.proofs.Ipv4Layout.{ranges_of, spelled, spells}
+use Rattle.etherparse.proofs.Parts.{set_is_bytes}
 use Rattle.etherparse.specs.HeaderChecksum.{IsWrittenInPlace, with_time_to_live_and_checksum}
 use Rattle.etherparse.specs.Ipv4Header.{HasIpv4Layout, IsIpv4Layout}
 use Rattle.etherparse.specs.Reading.{BeginsWith}
 use Rattle.etherparse.specs.declared.net.ipv4_header.Ipv4Header.{Ipv4Header}
-
--- bytes with one of them replaced by a byte
-set_is_bytes : (p : List ℕ) (i b : ℕ) → i < length p → b < 256 → IsBytes p → IsBytes (slice_set p i b)
-set_is_bytes p i b within is_byte bytes k = elim (cases_eq k i) [
-  | inl here ↦ rw (get_or-set_at p i k b 0 here within) is_byte
-  | inr other ↦ rw (get_or-set_other p i k b 0 other) (bytes k)
-]
 
 -- a part of a packet is written as the packet is
 set_in_front : (s p t : List ℕ) (i b : ℕ) → s ≡ p ++ t → i < length p → slice_set s i b ≡ slice_set p i b ++ t

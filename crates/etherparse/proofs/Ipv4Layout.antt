@@ -14,7 +14,7 @@ use Rattle.etherparse_fields.specs.IpEcn.{ecn_value}
 use Rattle.etherparse_fields.specs.Ipv4Options.{IsOptionsLen}
 use Rattle.etherparse_fields.specs.declared.net.ip_ecn.IpEcn.{IpEcn}
 use Rattle.etherparse_fields.specs.declared.net.ip_ecn.IpEcn.TheVariants.{CongestionExperienced, Ect0, Ect1, NotEct}
-use Rattle.etherparse.proofs.Parts.{get_or-slice_range, length-part, listed, part_is_bytes}
+use Rattle.etherparse.proofs.Parts.{get_or-slice_range, length-part, listed, part_is_bytes, same_append, set_is_bytes}
 use Rattle.etherparse.specs.FirstByte.{ihl_of, version_of}
 use Rattle.etherparse.specs.Ipv4Header.{HasIpv4Layout, IsIpv4Layout, ipv4_ihl, with_reserved_bit_cleared}
 use Rattle.etherparse.specs.declared.net.ipv4_header.Ipv4Header.{Ipv4Header}
@@ -150,12 +150,6 @@ parts_of p =
     drop_split p 12 16 (omega arith) ∙ ap (λ x. slice_range p 12 16 ++ x) (
     drop_split p 16 20 (omega arith))))))))
 
--- nine parts, each with its equation
-same_joined : (a a' b b' c c' d d' e e' f f' g g' h h' i i' : List ℕ) → a ≡ a' → b ≡ b' → c ≡ c' → d ≡ d' → e ≡ e' → f ≡ f'
-    → g ≡ g' → h ≡ h' → i ≡ i' → a ++ (b ++ (c ++ (d ++ (e ++ (f ++ (g ++ (h ++ i)))))))
-    ≡ a' ++ (b' ++ (c' ++ (d' ++ (e' ++ (f' ++ (g' ++ (h' ++ i')))))))
-same_joined a a' b b' c c' d d' e e' f f' g g' h h' i i' m n o p q r s t u = cc
-
 -- two bytes in network byte order
 word_at : (p : List ℕ) (a n : ℕ) → a + 2 ≤ length p → IsBytes p → from_be_bytes w16 (slice_range p a (a + 2)) ≡ n
     → slice_range p a (a + 2) ≡ to_be_bytes w16 n
@@ -165,25 +159,17 @@ word_at p a n h bytes e = sym (be_bytes_2 (slice_range p a (a + 2)) n (length-pa
 pub spelled : (h : Ipv4Header) (r : ℕ) (p : List ℕ) → IsIpv4Layout h r p → p ≡ spelling h (flags_word h r)
 spelled h r p l =
     let long : 20 ≤ length p = omega (arith, l.len) in
-    parts_of p ∙ same_joined
-    (slice_range p 0 2) ((4 * 2 ^ 4 + ipv4_ihl h) ∷ (h.dscp * 2 ^ 2 + ecn_value h.ecn) ∷ [])
-    (slice_range p 2 4) (to_be_bytes w16 h.total_len)
-    (slice_range p 4 6) (to_be_bytes w16 h.identification)
-    (slice_range p 6 8) (to_be_bytes w16 (flags_word h r))
-    (slice_range p 8 10) (h.time_to_live ∷ h.protocol ∷ [])
-    (slice_range p 10 12) (to_be_bytes w16 h.header_checksum)
-    (slice_range p 12 16) h.source
-    (slice_range p 16 20) h.destination
-    (drop 20 p) h.options
-    (listed p 0 2 (omega arith) ∙ (let a = l.version_ihl in let b = l.dscp_ecn in cc))
-    (word_at p 2 _ (omega arith) l.are_bytes l.total_len)
-    (word_at p 4 _ (omega arith) l.are_bytes l.identification)
-    (word_at p 6 _ (omega arith) l.are_bytes l.flags_fragment_offset)
-    (listed p 8 2 (omega arith) ∙ (let a = l.time_to_live in let b = l.protocol in cc))
-    (word_at p 10 _ (omega arith) l.are_bytes l.header_checksum)
-    l.source
-    l.destination
-    l.options
+    let first : slice_range p 0 2 ≡ (4 * 2 ^ 4 + ipv4_ihl h) ∷ (h.dscp * 2 ^ 2 + ecn_value h.ecn) ∷ [] =
+    listed p 0 2 (omega arith) ∙ (let a = l.version_ihl in let b = l.dscp_ecn in cc) in
+    let fifth : slice_range p 8 10 ≡ h.time_to_live ∷ h.protocol ∷ [] =
+    listed p 8 2 (omega arith) ∙ (let a = l.time_to_live in let b = l.protocol in cc) in
+    parts_of p ∙ same_append first
+    (same_append (word_at p 2 _ (omega arith) l.are_bytes l.total_len)
+    (same_append (word_at p 4 _ (omega arith) l.are_bytes l.identification)
+    (same_append (word_at p 6 _ (omega arith) l.are_bytes l.flags_fragment_offset)
+    (same_append fifth
+    (same_append (word_at p 10 _ (omega arith) l.are_bytes l.header_checksum)
+    (same_append l.source (same_append l.destination l.options)))))))
 
 -- a header has one list of bytes for each reserved bit
 pub same_bytes : (h : Ipv4Header) (r : ℕ) (p q : List ℕ) → IsIpv4Layout h r p → IsIpv4Layout h r q → p ≡ q
@@ -276,16 +262,9 @@ ranges_of h r p l =
 -- with the reserved bit cleared the bytes are in the layout of the same header
 pub cleared_layout : (h : Ipv4Header) (r : ℕ) (p : List ℕ) → IsIpv4Layout h r p → IsIpv4Layout h 0 (with_reserved_bit_cleared p)
 cleared_layout h r p l =
-    spells h 0 (with_reserved_bit_cleared p) (ranges_of h r p l) l.options_len (omega arith) cleared_are_bytes (cleared_spells h r p l)
-  where
-    cleared_are_bytes : IsBytes (with_reserved_bit_cleared p)
-    cleared_are_bytes i =
-        let byte = l.are_bytes 6 in
-        let v : ℕ = get_or p 6 0 % 2 ^ 7 in
-        elim (cases_eq i 6) [
-          | inl here ↦ rw (get_or-set_at p 6 i v 0 here (omega (arith, l.len))) (omega arith)
-          | inr other ↦ rw (get_or-set_other p 6 i v 0 other) (l.are_bytes i)
-        ]
+    let byte = l.are_bytes 6 in
+    let bytes = set_is_bytes p 6 (get_or p 6 0 % 2 ^ 7) (omega (arith, l.len)) (omega arith) l.are_bytes in
+    spells h 0 (with_reserved_bit_cleared p) (ranges_of h r p l) l.options_len (omega arith) bytes (cleared_spells h r p l)
 
 -- headers are the same exactly where their bytes are, but for the reserved bit
 pub same_header_cleared : (g h : Ipv4Header) (o p : List ℕ) → HasIpv4Layout g o → HasIpv4Layout h p

@@ -6,7 +6,7 @@ use Rattle.std.specs.Int.{from_be_bytes, to_be_bytes, w16, w32}
 use Rattle.std.proofs.lemmas.Nat.{be_bytes_2, be_bytes_4, from_be_bytes-to_be_bytes_2, from_be_bytes-to_be_bytes_4}
 use Rattle.std.proofs.lemmas.List.Folds.{drop_split}
 use Rattle.etherparse_base.specs.Bytes.{IsBytes}
-use Rattle.etherparse.proofs.Parts.{get_or-slice_range, length-part, listed, part_is_bytes}
+use Rattle.etherparse.proofs.Parts.{get_or-slice_range, length-part, listed, part_is_bytes, same_append}
 use Rattle.etherparse.specs.Ipv6Header.{IsIpv6Layout}
 use Rattle.etherparse.specs.FirstByte.{version_of}
 use Rattle.etherparse.specs.declared.net.ipv6_header.Ipv6Header.{Ipv6Header}
@@ -18,11 +18,6 @@ pub same_fields : (g h : Ipv6Header) → g.traffic_class ≡ h.traffic_class →
 same_fields g h t f n x m s d =
     let e : record { traffic_class = g.traffic_class; flow_label = g.flow_label; payload_length = g.payload_length; next_header = g.next_header; hop_limit = g.hop_limit; source = g.source; destination = g.destination }
     ≡ record { traffic_class = h.traffic_class; flow_label = h.flow_label; payload_length = h.payload_length; next_header = h.next_header; hop_limit = h.hop_limit; source = h.source; destination = h.destination } = cc in e
-
--- five parts, each with its equation
-same_joined : (a a' b b' c c' d d' e e' : List ℕ) → a ≡ a' → b ≡ b' → c ≡ c' → d ≡ d' → e ≡ e'
-    → a ++ (b ++ (c ++ (d ++ e))) ≡ a' ++ (b' ++ (c' ++ (d' ++ e')))
-same_joined a a' b b' c c' d d' e e' p q r s t = cc
 
 -- the parts of a word are those of the number that it stands for
 pub version_of_word : (a b c d t f : ℕ) → b < 256 → c < 256 → d < 256 → t < 256 → f < 1048576
@@ -93,17 +88,14 @@ parts_of p e =
 
 -- a byte list in the layout is the header's spelling
 pub spelled : (h : Ipv6Header) (p : List ℕ) → IsIpv6Layout h p → p ≡ spelling h
-spelled h p l = parts_of p l.len ∙ same_joined
-    (slice_range p 0 4) (to_be_bytes w32 (6 * 2 ^ 28 + h.traffic_class * 2 ^ 20 + h.flow_label))
-    (slice_range p 4 6) (to_be_bytes w16 h.payload_length)
-    (slice_range p 6 8) (h.next_header ∷ h.hop_limit ∷ [])
-    (slice_range p 8 24) h.source
-    (slice_range p 24 40) h.destination
+spelled h p l =
+    let third : slice_range p 6 8 ≡ h.next_header ∷ h.hop_limit ∷ [] =
+    listed p 6 2 (omega (arith, l.len)) ∙ (let nh = l.next_header in let hl = l.hop_limit in cc) in
+    parts_of p l.len ∙ same_append
     (sym (be_bytes_4 (slice_range p 0 4) _ (length-part p 0 4 (omega (arith, l.len))) (λ i. part_is_bytes p 0 4 i l.are_bytes) (sym l.version_traffic_class_flow_label)))
+    (same_append
     (sym (be_bytes_2 (slice_range p 4 6) _ (length-part p 4 6 (omega (arith, l.len))) (λ i. part_is_bytes p 4 6 i l.are_bytes) (sym l.payload_length)))
-    (listed p 6 2 (omega (arith, l.len)) ∙ (let nh = l.next_header in let hl = l.hop_limit in cc))
-    l.source
-    l.destination
+    (same_append third (same_append l.source l.destination)))
 
 -- a header has one list of bytes
 pub same_bytes : (h : Ipv6Header) (p q : List ℕ) → IsIpv6Layout h p → IsIpv6Layout h q → p ≡ q

@@ -1,8 +1,9 @@
 -- Parts of a list: fronts, ranges, and what follows them.
-use Rattle.std.proofs.Common.{ℕ, ◌≡◌, ◌+◌, ◌-◌, ◌<◌, ◌≤◌, List, map, ◌++◌, length, get_or, take, drop, refl, sym, ap, ◌∙◌, inl, inr, lit<, arith}
+use Rattle.std.proofs.Common.{ℕ, ◌≡◌, ◌+◌, ◌-◌, ◌<◌, ◌≤◌, List, map, ◌++◌, length, get_or, get_or-set_other, take, drop, refl, sym, ap, ◌∙◌, inl, inr, lit<, arith}
 use Rattle.std.specs.List.{slice_range, range_with_len}
-use Rattle.std.proofs.lemmas.Bool.{cases_lt}
-use Rattle.std.proofs.lemmas.Grind.{common_steps}
+use Rattle.std.specs.Prelude.{slice_set}
+use Rattle.std.proofs.lemmas.Bool.{cases_eq, cases_lt}
+use Rattle.std.proofs.lemmas.Grind.{common_steps, get_or-set_at}
 use Rattle.std.proofs.lemmas.List.{drop_at, get_or-append_right, get_or_append_left, get_or_past, length-take, take_at}
 use Rattle.std.proofs.lemmas.List.FromFn.{fill_by_all}
 use Rattle.etherparse_base.specs.Bytes.{IsBytes}
@@ -39,13 +40,20 @@ same_back p q x y e h = sym (drop_at p x (length q) e) ∙ (ap (λ s. drop (leng
 pub spread : (xs : List ℕ) (n : ℕ) → length xs ≡ n → xs ≡ map (λ i. get_or xs i 0) (range_with_len 0 n)
 spread xs n e = fill_by_all (λ i. get_or xs i 0) xs n 0 e (λ k below. refl)
 
--- three parts, each with its equation
-pub same_three : (a a' b b' c c' : List ℕ) → a ≡ a' → b ≡ b' → c ≡ c' → a' ++ (b' ++ c') ≡ a ++ (b ++ c)
-same_three a a' b b' c c' p q r = cc
+-- two parts, each with its equation
+pub same_append : {a a' b b' : List ℕ} → a ≡ a' → b ≡ b' → a ++ b ≡ a' ++ b'
+same_append e f = cc
 
 -- bytes and bytes after them are bytes
 pub append_is_bytes : (xs ys : List ℕ) → IsBytes xs → IsBytes ys → IsBytes (xs ++ ys)
 append_is_bytes xs ys h k i = elim (cases_lt i (length xs)) [
   | inl below ↦ rw (get_or_append_left xs ys 0 i below) (h i)
   | inr past ↦ rw (get_or-append_right xs ys (length xs) i 0 refl past) (k (i - length xs))
+]
+
+-- bytes with one of them replaced by a byte
+pub set_is_bytes : (p : List ℕ) (i b : ℕ) → i < length p → b < 256 → IsBytes p → IsBytes (slice_set p i b)
+set_is_bytes p i b within is_byte bytes k = elim (cases_eq k i) [
+  | inl here ↦ rw (get_or-set_at p i k b 0 here within) is_byte
+  | inr other ↦ rw (get_or-set_other p i k b 0 other) (bytes k)
 ]

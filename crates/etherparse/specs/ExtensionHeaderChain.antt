@@ -3,7 +3,6 @@ use Rattle.std.specs.Prelude.{ℕ, ◌≡◌, ◌==◌, ◌+◌, ◌*◌, ◌<�
 use Rattle.std.specs.Prelude.{slice_index, nat_lt, if◌then◌else◌, Result, Ok, Err}
 use Rattle.std.specs.List.{concat}
 use Rattle.std.specs.Result.{result_map_both}
-use Rattle.std.specs.Borrow.{Bor}
 use Rattle.etherparse_base.specs.declared.err.ipv6.chain_error.ChainError.{ChainError}
 use Rattle.etherparse_base.specs.declared.err.ipv6.chain_error.ChainError.TheVariants as chain_error
 use Rattle.etherparse_base.specs.declared.err.layer.Layer.TheVariants as layer
@@ -116,10 +115,6 @@ IsWalkOf s first answer =
 abbrev pub turn_count : List (List ℕ) → ℕ
 turn_count headers = length headers + 1
 
--- what a walk answers, apart from where the rest lies in memory
-abbrev pub number_and_rest : Result (ℕ × Bor (List ℕ)) LenError → WalkAnswer
-number_and_rest r = result_map_both (λ x. (x.0, x.1.now)) (λ e. e) r
-
 -- A walk with a limit goes past at most so many extension headers; the limit is our own.
 
 -- a number and the bytes that it tells of, or why a walk with a limit came to no such number
@@ -173,7 +168,3 @@ with_error_in_len answer = result_map_both (λ x. x) (λ e. chain_error.Len e) a
 abbrev pub chain_error_place : ChainError → ℕ
 chain_error_place (chain_error.Len e) = e.layer_start_offset
 chain_error_place (chain_error.TooMany limit number place) = place
-
--- what a walk with a limit answers, apart from where the rest lies in memory
-abbrev pub limited_walk_answer : Result (ℕ × Bor (List ℕ)) ChainError → LimitedWalkAnswer
-limited_walk_answer r = result_map_both (λ x. (x.0, x.1.now)) (λ e. e) r

@@ -42,6 +42,6 @@ pub record HasOtherVersion (min_len expected : ℕ) (s : List ℕ) (version : �
   pub other : version_of s ≢ expected
   pub found : version ≡ version_of s
 
--- what a reader answers, apart from where the rest lies in memory
-abbrev pub header_and_rest : {H E : Type 0} → Result (H × Bor (List ℕ)) E → Result (H × List ℕ) E
-header_and_rest r = result_map_both (λ x. (x.0, x.1.now)) (λ e. e) r
+-- what a reader or a walk answers, apart from where the rest lies in memory
+abbrev pub found_and_rest : {A E : Type 0} → Result (A × Bor (List ℕ)) E → Result (A × List ℕ) E
+found_and_rest r = result_map_both (λ x. (x.0, x.1.now)) (λ e. e) r

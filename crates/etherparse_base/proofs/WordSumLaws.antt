@@ -3,6 +3,7 @@ use Rattle.std.proofs.Common.{ℕ, zero, suc, List, [], ◌∷◌, ◌++◌, ◌
 use Rattle.std.proofs.lemmas.List.Sums.{sum_by-append, sum_by-cons}
 use Rattle.std.specs.Int.{swap_bytes}
 use Rattle.etherparse_base.specs.WordSums.{
+  AddsSlice,
   ChangesOneByte,
   SumsToAllOnes,
   folded_sum,
@@ -126,6 +127,16 @@ one_byte_breaks bytes changed are_bytes ones change again =
     let after_ones : network_order_word_sum after % 65535 ≡ 0 = all_ones_multiple (network_order_word_sum after) (rw change.changed at again) in
     change.differs (same_byte (network_order_word_sum bytes) (network_order_word_sum after) by_weight.factor (slice_index bytes change.place) change.byte
     by_weight.is_weight (are_bytes change.place) change.is_byte by_weight.sum before_ones after_ones)
+
+-- all that is known of a sum to which words were added, by its fold
+pub adds_slice : (start answer : ℕ) (bytes : List ℕ) → ((k : ℕ) → slice_index bytes k < 256)
+    → folded_sum answer ≡ folded_sum (start + little_endian_word_sum bytes) → AddsSlice start bytes answer
+adds_slice start answer bytes are_bytes sum = record {
+  sum = sum;
+  network_order = network_order_from_zero start answer bytes sum;
+  all_ones = all_ones_from_zero start answer bytes sum;
+  one_byte = λ ones changed change again. one_byte_breaks bytes changed are_bytes ones change again;
+}
 
 -- behind an even number of bytes a new word begins
 pub little_endian_word_sum-append : (front rest : List ℕ) → length front % 2 ≡ 0 → little_endian_word_sum (front ++ rest) ≡ little_endian_word_sum front + little_endian_word_sum rest

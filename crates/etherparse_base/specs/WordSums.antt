@@ -1,7 +1,8 @@
 -- Sums of words of sixteen bits, and the checksum that is made of them (RFC 1071).
-use Rattle.std.specs.Prelude.{ℕ, zero, suc, ◌≡◌, ◌≢◌, ◌<◌, ◌+◌, ◌-◌, ◌*◌, ◌%◌}
+use Rattle.std.specs.Prelude.{ℕ, zero, suc, ◌≡◌, ◌≢◌, ◌<◌, ◌+◌, ◌-◌, ◌*◌, ◌%◌, ◌↔◌}
 use Rattle.std.specs.Prelude.{List, [], ◌∷◌, if◌then◌else◌, length, nat_lt, slice_index, slice_set}
 use Rattle.std.specs.Prelude.{sum_by}
+use Rattle.std.specs.Int.{swap_bytes, w16}
 
 -- The sum of two numbers of which none is above the greatest, with the end-around carry: what goes
 -- beyond the greatest is added at the low end (RFC 1071 section 1).
@@ -60,3 +61,14 @@ pub record ChangesOneByte (before after : List ℕ) : Type 0 where
   pub is_byte : byte < 256
   pub differs : byte ≢ slice_index before place
   pub changed : after ≡ slice_set before place byte
+
+-- What is known of a sum to which the words of some bytes were added: its fold; from 0 also the sum
+-- of the words in network order, and when it is all ones. Bytes that sum to all ones do not with one
+-- of them changed.
+pub record AddsSlice (start : ℕ) (bytes : List ℕ) (answer : ℕ) : Type 0 where
+  pub sum : folded_sum answer ≡ folded_sum (start + little_endian_word_sum bytes)
+  pub network_order : start ≡ 0
+      → swap_bytes w16 (folded_sum answer) ≡ folded_sum (network_order_word_sum bytes)
+  pub all_ones : start ≡ 0 → (SumsToAllOnes bytes ↔ (folded_sum answer ≡ 65535))
+  pub one_byte : SumsToAllOnes bytes
+      → (changed : List ℕ) → ChangesOneByte bytes changed → ¬ SumsToAllOnes changed

@@ -2,7 +2,7 @@
 
 ghost use Rattle.std.specs.Prelude.{ℕ, List, ◌∷◌, ◌++◌, ◌≡◌, ◌≤◌, ◌<◌, ◌↔◌, ◌+◌, ◌-◌, ◌%◌, length, map};
 ghost use Rattle.std.specs.Int.{swap_bytes, w16};
-ghost use Rattle.etherparse.specs.WordSums.{ChangesOneByte, SumsToAllOnes, folded_sum};
+ghost use Rattle.etherparse.specs.WordSums.{AddsSlice, SumsToAllOnes, folded_sum};
 ghost use Rattle.etherparse.specs.WordSums.{little_endian_word_sum, network_order_word_sum};
 ghost use Rattle.etherparse.specs.WordSums.{ones_complement_sum, updated_checksum, with_no_zero};
 
@@ -11,13 +11,7 @@ use etherparse::checksum::{u32_16bit_word, u64_16bit_word, update_2bytes};
 /// Adds the words of a slice to a sum of 64 bits, which begins at 0. An odd last byte is a word with a byte 0 behind it.
 #[unsafe(no_mangle)]
 pub extern "C" fn etherparse_u64_16bit_word_add_slice(start_sum: u64, slice: &[u8]) -> u64
-    ensures sum { folded_sum result ≡ folded_sum (start_sum + little_endian_word_sum slice.now) }
-    ensures network_order { start_sum ≡ 0
-        → swap_bytes w16 (folded_sum result) ≡ folded_sum (network_order_word_sum slice.now) }
-    ensures all_ones { start_sum ≡ 0
-        → (SumsToAllOnes slice.now ↔ (folded_sum result ≡ 65535)) }
-    ensures one_byte { SumsToAllOnes slice.now
-        → (changed : List ℕ) → ChangesOneByte slice.now changed → ¬ SumsToAllOnes changed }
+    ensures adds { AddsSlice start_sum slice.now result }
 {
     u64_16bit_word::add_slice(start_sum, slice)
 }
@@ -83,13 +77,7 @@ pub extern "C" fn etherparse_u64_16bit_word_checksum(start_sum: u64, slice: &[u8
 /// Adds the words of a slice to a sum of 32 bits, which begins at 0. An odd last byte is a word with a byte 0 behind it.
 #[unsafe(no_mangle)]
 pub extern "C" fn etherparse_u32_16bit_word_add_slice(start_sum: u32, slice: &[u8]) -> u32
-    ensures sum { folded_sum result ≡ folded_sum (start_sum + little_endian_word_sum slice.now) }
-    ensures network_order { start_sum ≡ 0
-        → swap_bytes w16 (folded_sum result) ≡ folded_sum (network_order_word_sum slice.now) }
-    ensures all_ones { start_sum ≡ 0
-        → (SumsToAllOnes slice.now ↔ (folded_sum result ≡ 65535)) }
-    ensures one_byte { SumsToAllOnes slice.now
-        → (changed : List ℕ) → ChangesOneByte slice.now changed → ¬ SumsToAllOnes changed }
+    ensures adds { AddsSlice start_sum slice.now result }
 {
     u32_16bit_word::add_slice(start_sum, slice)
 }

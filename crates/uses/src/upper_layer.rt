@@ -1,7 +1,8 @@
 //! A filter on IPv6 packets: the upper layer, past any extension headers.
 
 ghost use Rattle.std.specs.Prelude.{◌≡◌, ◌↔◌, IfErr, IfNone, IfOk, IfSome, IsTrue, length};
-ghost use Rattle.etherparse.specs.ExtensionHeaderChain.{IsWalkOf, number_and_rest};
+ghost use Rattle.etherparse.specs.ExtensionHeaderChain.{IsWalkOf};
+ghost use Rattle.etherparse.specs.Reading.{found_and_rest};
 ghost use Rattle.etherparse.specs.WordSums.{ones_complement_sum};
 ghost use Rattle.uses.specs.UpperLayer.{HasNoUdp, HasUdp, HasUpperLayer, RefusesUpperLayer, udp_pieces};
 
@@ -71,7 +72,7 @@ fn sums_to_all_ones(header: &Ipv6Header, len: u32, datagram: &[u8]) -> bool
 
 /// The walk past all extension headers, one skip at a time.
 pub fn walked_by_skips(slice: &[u8], first: IpNumber) -> Result<(IpNumber, &[u8]), LenError>
-    ensures walk { IsWalkOf slice.now first (number_and_rest result) }
+    ensures walk { IsWalkOf slice.now first (found_and_rest result) }
 {
     let mut number = first;
     let mut rest = slice;

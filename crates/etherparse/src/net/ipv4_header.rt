@@ -10,6 +10,25 @@ use crate::err::{Layer, LenError, ValueTooBigError, ValueType};
 use crate::{IpDscp, IpEcn, IpFragOffset, IpNumber, Ipv4HeaderSlice, Ipv4Options, LenSource};
 use arrayvec::ArrayVec;
 
+// A call with the number of bytes of options as one that the compiler knows: what is copied or summed then takes no call.
+macro_rules! by_options_len {
+    ($options:ident, $function:ident($($argument:ident),*)) => {
+        match $options.len() {
+            0 => $function::<0>($($argument),*),
+            4 => $function::<4>($($argument),*),
+            8 => $function::<8>($($argument),*),
+            12 => $function::<12>($($argument),*),
+            16 => $function::<16>($($argument),*),
+            20 => $function::<20>($($argument),*),
+            24 => $function::<24>($($argument),*),
+            28 => $function::<28>($($argument),*),
+            32 => $function::<32>($($argument),*),
+            36 => $function::<36>($($argument),*),
+            _ => $function::<40>($($argument),*),
+        }
+    };
+}
+
 /// An IPv4 header with its options (RFC 791 section 3.1).
 ///
 /// The reserved bit of the flags is no field: it is read as 0 or 1, and written as 0.
@@ -53,7 +72,7 @@ impl Ipv4Header {
     ghost use Rattle.etherparse.specs.Ipv4Header.{AgreeButForReservedBit, HasIpv4Layout, IsFragment, IsIpv4Layout, Ipv4Reading, OfIpv4Header, ReadsIpv4, ViewsIpv4};
     ghost use Rattle.etherparse.specs.Ipv4Header.{default_ipv4_header, ipv4_header_len, ipv4_ihl, ipv4_max_payload_len};
     ghost use Rattle.etherparse.specs.Ipv4Header.{ipv4_payload_len, with_reserved_bit_cleared};
-    ghost use Rattle.etherparse.specs.Reading.{BeginsWith, header_and_rest};
+    ghost use Rattle.etherparse.specs.Reading.{BeginsWith, found_and_rest};
     ghost use Rattle.etherparse_base.specs.declared.err.value_type.ValueType.TheVariants as value_type;
 
     /// The length of a header with no options, in bytes.
@@ -105,19 +124,12 @@ impl Ipv4Header {
             });
         }
         Ok(Ipv4Header {
-            dscp: IpDscp::ZERO,
-            ecn: IpEcn::ZERO,
             total_len: Ipv4Header::MIN_LEN_U16 + payload_len,
-            identification: 0,
-            dont_fragment: true,
-            more_fragments: false,
-            fragment_offset: IpFragOffset::ZERO,
             time_to_live,
             protocol,
-            header_checksum: 0,
             source,
             destination,
-            options: Ipv4Options::new(),
+            ..Ipv4Header::default()
         })
     }
 
@@ -229,9 +241,9 @@ impl Ipv4Header {
     /// Those of [`Ipv4Header::from_slice`].
     #[inline]
     pub fn read_from_slice(slice: &[u8]) -> Result<(Ipv4Header, &[u8]), HeaderSliceError>
-        ensures reads { ReadsIpv4 slice.now (header_and_rest result) }
+        ensures reads { ReadsIpv4 slice.now (found_and_rest result) }
         ensures only { (other : Ipv4Reading) → ReadsIpv4 slice.now other →
-            other ≡ header_and_rest result }
+            other ≡ found_and_rest result }
 
         // What was read is written again, with the reserved bit 0.
         ensures cleared { IfOk result (λ x. (front : List ℕ) → slice.now ≡ front ++ x.1.now →
@@ -253,9 +265,9 @@ impl Ipv4Header {
     /// below 5; `Len` where the slice has fewer bytes than the IHL says.
     #[inline(always)]
     pub fn from_slice(slice: &[u8]) -> Result<(Ipv4Header, &[u8]), HeaderSliceError>
-        ensures reads { ReadsIpv4 slice.now (header_and_rest result) }
+        ensures reads { ReadsIpv4 slice.now (found_and_rest result) }
         ensures only { (other : Ipv4Reading) → ReadsIpv4 slice.now other →
-            other ≡ header_and_rest result }
+            other ≡ found_and_rest result }
 
         // What was read is written again, with the reserved bit 0.
         ensures cleared { IfOk result (λ x. (front : List ℕ) → slice.now ≡ front ++ x.1.now →
@@ -412,19 +424,7 @@ fn add_options(fixed: Sum16BitWords, options: &[u8]) -> Sum16BitWords
     requires options_len { IsOptionsLen (length options.now) }
     ensures sum { folded_sum result ≡ folded_sum (fixed + little_endian_word_sum options.now) }
 {
-    match options.len() {
-        0 => fixed,
-        4 => add_options_of::<4>(fixed, options),
-        8 => add_options_of::<8>(fixed, options),
-        12 => add_options_of::<12>(fixed, options),
-        16 => add_options_of::<16>(fixed, options),
-        20 => add_options_of::<20>(fixed, options),
-        24 => add_options_of::<24>(fixed, options),
-        28 => add_options_of::<28>(fixed, options),
-        32 => add_options_of::<32>(fixed, options),
-        36 => add_options_of::<36>(fixed, options),
-        _ => add_options_of::<40>(fixed, options),
-    }
+    by_options_len!(options, add_options_of(fixed, options))
 }
 
 // The same for N bytes of options.
@@ -466,19 +466,7 @@ fn joined(front: &[u8], options: &[u8]) -> ArrayVec<u8, 60>
     ensures parts { result.items ≡ front.now ++ options.now }
     ensures are_bytes { IsBytes (front.now ++ options.now) }
 {
-    match options.len() {
-        0 => joined_of::<0>(front, options),
-        4 => joined_of::<4>(front, options),
-        8 => joined_of::<8>(front, options),
-        12 => joined_of::<12>(front, options),
-        16 => joined_of::<16>(front, options),
-        20 => joined_of::<20>(front, options),
-        24 => joined_of::<24>(front, options),
-        28 => joined_of::<28>(front, options),
-        32 => joined_of::<32>(front, options),
-        36 => joined_of::<36>(front, options),
-        _ => joined_of::<40>(front, options),
-    }
+    by_options_len!(options, joined_of(front, options))
 }
 
 // The same for N bytes of options. A number that the compiler knows is copied with no call.

@@ -32,7 +32,7 @@ impl Ipv6Header {
     ghost use Rattle.std.specs.Int.{to_be_bytes, w16, w32};
     ghost use Rattle.etherparse.specs.ExtensionHeaderChain.{BeginsWithChain, HasIpv6Chain};
     ghost use Rattle.etherparse.specs.Ipv6Header.{Ipv6Reading, IsIpv6Layout, ReadsIpv6, ViewsIpv6};
-    ghost use Rattle.etherparse.specs.Reading.{header_and_rest};
+    ghost use Rattle.etherparse.specs.Reading.{found_and_rest};
     ghost use Rattle.etherparse.specs.TrafficClass.{traffic_class_dscp, traffic_class_ecn, traffic_class_of};
     ghost use Rattle.etherparse_base.specs.declared.err.value_type.ValueType.TheVariants as value_type;
     ghost use Rattle.etherparse_fields.specs.IpEcn.{ecn_value};
@@ -58,9 +58,9 @@ impl Ipv6Header {
     /// Those of [`Ipv6Header::from_slice`].
     #[inline]
     pub fn read_from_slice(slice: &[u8]) -> Result<(Ipv6Header, &[u8]), HeaderSliceError>
-        ensures reads { ReadsIpv6 slice.now (header_and_rest result) }
+        ensures reads { ReadsIpv6 slice.now (found_and_rest result) }
         ensures only { (other : Ipv6Reading) → ReadsIpv6 slice.now other →
-            other ≡ header_and_rest result }
+            other ≡ found_and_rest result }
         ensures chain { IfOk result (λ x. (headers : List (List ℕ)) (last : ℕ) (rest : List ℕ) →
             BeginsWithChain x.1.now x.0.next_header headers last rest →
             HasIpv6Chain slice.now x.0 headers last rest) }
@@ -75,9 +75,9 @@ impl Ipv6Header {
     /// `Len` where the slice has fewer than 40 bytes; else `Content` where the version is not 6.
     #[inline]
     pub fn from_slice(slice: &[u8]) -> Result<(Ipv6Header, &[u8]), HeaderSliceError>
-        ensures reads { ReadsIpv6 slice.now (header_and_rest result) }
+        ensures reads { ReadsIpv6 slice.now (found_and_rest result) }
         ensures only { (other : Ipv6Reading) → ReadsIpv6 slice.now other →
-            other ≡ header_and_rest result }
+            other ≡ found_and_rest result }
         ensures chain { IfOk result (λ x. (headers : List (List ℕ)) (last : ℕ) (rest : List ℕ) →
             BeginsWithChain x.1.now x.0.next_header headers last rest →
             HasIpv6Chain slice.now x.0 headers last rest) }

@@ -3,20 +3,14 @@
 
 ghost use Rattle.std.specs.Prelude.{ℕ, List, ◌≡◌, ◌↔◌, ◌+◌};
 ghost use Rattle.std.specs.Int.{swap_bytes, w16};
-ghost use Rattle.etherparse_base.specs.WordSums.{ChangesOneByte, SumsToAllOnes, folded_sum};
+ghost use Rattle.etherparse_base.specs.WordSums.{AddsSlice, SumsToAllOnes, folded_sum};
 ghost use Rattle.etherparse_base.specs.WordSums.{little_endian_word_sum, network_order_word_sum};
 
 use super::{u32_16bit_word, u64_16bit_word};
 
 /// The 64-bit sum.
 pub(super) fn add_slice_u64(start_sum: u64, slice: &[u8]) -> u64
-    ensures sum { folded_sum result ≡ folded_sum (start_sum + little_endian_word_sum slice.now) }
-    ensures network_order { start_sum ≡ 0
-        → swap_bytes w16 (folded_sum result) ≡ folded_sum (network_order_word_sum slice.now) }
-    ensures all_ones { start_sum ≡ 0
-        → (SumsToAllOnes slice.now ↔ (folded_sum result ≡ 65535)) }
-    ensures one_byte { SumsToAllOnes slice.now
-        → (changed : List ℕ) → ChangesOneByte slice.now changed → ¬ SumsToAllOnes changed }
+    ensures adds { AddsSlice start_sum slice.now result }
 {
     add_words_u64(start_sum, slice)
 }
@@ -39,13 +33,7 @@ fn add_words_u64(start_sum: u64, slice: &[u8]) -> u64
 
 /// The 32-bit sum.
 pub(super) fn add_slice_u32(start_sum: u32, slice: &[u8]) -> u32
-    ensures sum { folded_sum result ≡ folded_sum (start_sum + little_endian_word_sum slice.now) }
-    ensures network_order { start_sum ≡ 0
-        → swap_bytes w16 (folded_sum result) ≡ folded_sum (network_order_word_sum slice.now) }
-    ensures all_ones { start_sum ≡ 0
-        → (SumsToAllOnes slice.now ↔ (folded_sum result ≡ 65535)) }
-    ensures one_byte { SumsToAllOnes slice.now
-        → (changed : List ℕ) → ChangesOneByte slice.now changed → ¬ SumsToAllOnes changed }
+    ensures adds { AddsSlice start_sum slice.now result }
 {
     add_words_u32(start_sum, slice)
 }

@@ -1,6 +1,6 @@
 ghost use Rattle.std.specs.Prelude.{ℕ, List, ◌≡◌, ◌↔◌, ◌+◌, ◌-◌, drop, take};
 ghost use Rattle.std.specs.Int.{from_le_bytes, swap_bytes, w16, w32, w64};
-ghost use Rattle.etherparse_base.specs.WordSums.{ChangesOneByte, SumsToAllOnes, end_around_sum};
+ghost use Rattle.etherparse_base.specs.WordSums.{AddsSlice, SumsToAllOnes, end_around_sum};
 ghost use Rattle.etherparse_base.specs.WordSums.{folded_sum, little_endian_word_sum};
 ghost use Rattle.etherparse_base.specs.WordSums.{network_order_word_sum, with_no_zero};
 
@@ -37,12 +37,7 @@ impl Sum16BitWords {
     /// The answer is one of the sums that have the right complement. Which one, is no promise.
     #[inline]
     pub fn add_slice(self, slice: &[u8]) -> Sum16BitWords
-        ensures sum { folded_sum result ≡ folded_sum (self + little_endian_word_sum slice.now) }
-        ensures network_order { self ≡ 0
-            → swap_bytes w16 (folded_sum result) ≡ folded_sum (network_order_word_sum slice.now) }
-        ensures all_ones { self ≡ 0 → (SumsToAllOnes slice.now ↔ (folded_sum result ≡ 65535)) }
-        ensures one_byte { SumsToAllOnes slice.now
-            → (changed : List ℕ) → ChangesOneByte slice.now changed → ¬ SumsToAllOnes changed }
+        ensures adds { AddsSlice self slice.now result }
     {
         Sum16BitWords {
             sum: u64_16bit_word::add_slice(self.sum, slice),

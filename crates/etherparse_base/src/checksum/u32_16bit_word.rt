@@ -4,7 +4,7 @@
 
 ghost use Rattle.std.specs.Prelude.{ℕ, List, ◌∷◌, ◌++◌, ◌≡◌, ◌↔◌, ◌+◌, ◌-◌, ◌%◌, length, map};
 ghost use Rattle.std.specs.Int.{from_le_bytes, swap_bytes, w16, w32};
-ghost use Rattle.etherparse_base.specs.WordSums.{ChangesOneByte, SumsToAllOnes, end_around_sum};
+ghost use Rattle.etherparse_base.specs.WordSums.{AddsSlice, SumsToAllOnes, end_around_sum};
 ghost use Rattle.etherparse_base.specs.WordSums.{folded_sum, little_endian_word_sum};
 ghost use Rattle.etherparse_base.specs.WordSums.{network_order_word_sum, ones_complement_sum};
 ghost use Rattle.etherparse_base.specs.WordSums.{with_no_zero};
@@ -37,13 +37,7 @@ pub fn add_4bytes(start: u32, value: [u8; 4]) -> u32
 /// The answer is one of the numbers that have the right complement. Which one, is no promise.
 #[inline(always)]
 pub fn add_slice(start_sum: u32, slice: &[u8]) -> u32
-    ensures sum { folded_sum result ≡ folded_sum (start_sum + little_endian_word_sum slice.now) }
-    ensures network_order { start_sum ≡ 0
-        → swap_bytes w16 (folded_sum result) ≡ folded_sum (network_order_word_sum slice.now) }
-    ensures all_ones { start_sum ≡ 0
-        → (SumsToAllOnes slice.now ↔ (folded_sum result ≡ 65535)) }
-    ensures one_byte { SumsToAllOnes slice.now
-        → (changed : List ℕ) → ChangesOneByte slice.now changed → ¬ SumsToAllOnes changed }
+    ensures adds { AddsSlice start_sum slice.now result }
 {
     halve_u64(wide_u64::add_slice(u64::from(start_sum), slice))
 }

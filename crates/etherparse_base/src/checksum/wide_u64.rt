@@ -71,25 +71,17 @@ fn none_of<'a>(slice: &'a [u8]) -> Summed<'a>
     }
 }
 
-// Adds the words of many bytes, most of them in turns.
+// Adds the words of many bytes: most of them in turns, unless there are so many that a lane could overflow.
 #[inline(never)]
 fn add_many(start_sum: u64, slice: &[u8]) -> u64
     ensures sum { folded_sum result ≡ folded_sum (start_sum + little_endian_word_sum slice.now) }
 {
-    add_rest(start_sum, add_most(slice))
-}
-
-// Adds turns, unless there are so many bytes that a lane could overflow.
-#[inline(always)]
-fn add_most<'a>(slice: &'a [u8]) -> Summed<'a>
-    ensures adds { folded_sum (result.sum + little_endian_word_sum result.rest.now)
-        ≡ folded_sum (little_endian_word_sum slice.now) }
-{
-    if slice.len() > MOST {
+    let at = if slice.len() > MOST {
         none_of(slice)
     } else {
         add_turns(slice)
-    }
+    };
+    add_rest(start_sum, at)
 }
 
 // What turns have summed: eight sums with the carries out of them, and four lanes.

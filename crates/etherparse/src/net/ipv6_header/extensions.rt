@@ -33,7 +33,8 @@ impl Ipv6Header {
     ghost use Rattle.etherparse_base.specs.LenError.{len_error_moved};
     ghost use Rattle.etherparse_fields.specs.ExtensionHeaders.{IsSkippable};
     ghost use Rattle.etherparse.specs.ExtensionHeaderChain.{Ends, FollowsChain, IsWalkOf, WalkAnswer, Walks, incomplete_header_error};
-    ghost use Rattle.etherparse.specs.ExtensionHeaderChain.{next_header_of, number_and_rest, required_len_of, turn_count};
+    ghost use Rattle.etherparse.specs.ExtensionHeaderChain.{next_header_of, required_len_of, turn_count};
+    ghost use Rattle.etherparse.specs.Reading.{found_and_rest};
 
     /// Skips the extension header of a number at the front of a slice: the number of what follows it, and all the bytes
     /// after it. A number of no header that can be skipped is answered with the whole slice.
@@ -47,17 +48,17 @@ impl Ipv6Header {
         next_header: IpNumber,
     ) -> Result<(IpNumber, &[u8]), LenError>
         ensures kept { ¬ IsSkippable next_header →
-            number_and_rest result ≡ Ok (next_header, slice.now) }
+            found_and_rest result ≡ Ok (next_header, slice.now) }
         ensures accepted { IsSkippable next_header →
             (IsOk result ↔ (required_len_of next_header slice.now ≤ length slice.now)) }
         ensures skipped { IsSkippable next_header →
             required_len_of next_header slice.now ≤ length slice.now →
-            number_and_rest result ≡ Ok (
+            found_and_rest result ≡ Ok (
               next_header_of slice.now,
               drop (required_len_of next_header slice.now) slice.now,
             ) }
         ensures refused { IsSkippable next_header →
-            length slice.now < required_len_of next_header slice.now → number_and_rest result
+            length slice.now < required_len_of next_header slice.now → found_and_rest result
             ≡ Err (incomplete_header_error next_header slice.now 0) }
 
         // For callers that skip one header after another: a chain before this slice goes on, or the walk of the whole ends.
@@ -121,9 +122,9 @@ impl Ipv6Header {
         slice: &[u8],
         next_header: IpNumber,
     ) -> Result<(IpNumber, &[u8]), LenError>
-        ensures walks { Walks slice.now next_header (number_and_rest result) }
+        ensures walks { Walks slice.now next_header (found_and_rest result) }
         ensures only { (other : WalkAnswer) → Walks slice.now next_header other →
-            other ≡ number_and_rest result }
+            other ≡ found_and_rest result }
         ensures shorter { IfOk result (λ x. length x.1.now ≤ length slice.now) }
         ensures within { IfErr result (λ e. e.layer_start_offset ≤ length slice.now) }
     {
@@ -140,13 +141,13 @@ impl Ipv6Header {
         slice: &[u8],
         next_header: IpNumber,
     ) -> (Result<(IpNumber, &[u8]), LenError>, usize)
-        ensures walks { Walks slice.now next_header (number_and_rest result.0) }
+        ensures walks { Walks slice.now next_header (found_and_rest result.0) }
         ensures only { (other : WalkAnswer) → Walks slice.now next_header other →
-            other ≡ number_and_rest result.0 }
+            other ≡ found_and_rest result.0 }
         ensures shorter { IfOk result.0 (λ x. length x.1.now ≤ length slice.now) }
         ensures within { IfErr result.0 (λ e. e.layer_start_offset ≤ length slice.now) }
         ensures turns { (headers : List (List ℕ)) →
-            Ends slice.now next_header headers (number_and_rest result.0) →
+            Ends slice.now next_header headers (found_and_rest result.0) →
             result.1 ≡ turn_count headers }
         ensures few_turns { result.1 ≤ length slice.now / 8 + 1 }
     {

@@ -1,12 +1,12 @@
-use Rattle.std.proofs.Common.{arith}
-use Rattle.etherparse.proofs.Parts.{append_is_bytes, same_three, spread}
+use Rattle.std.proofs.Common.{arith, sym}
+use Rattle.etherparse.proofs.Parts.{append_is_bytes, same_append, spread}
 use Rattle.etherparse.proofs.net.ipv6_header.joined.Goals as goal
 
 pub returns-clause-parts : goal.returns-clause-parts
-returns-clause-parts c = same_three _ _ _ _ _ _
+returns-clause-parts c = sym (same_append
     (spread c.args.front.now 8 c.requires.front_len)
-    (spread c.args.source.now 16 c.requires.source_len)
-    (spread c.args.destination.now 16 c.requires.destination_len)
+    (same_append (spread c.args.source.now 16 c.requires.source_len)
+    (spread c.args.destination.now 16 c.requires.destination_len)))
 
 pub returns-clause-are_bytes : goal.returns-clause-are_bytes
 returns-clause-are_bytes c =

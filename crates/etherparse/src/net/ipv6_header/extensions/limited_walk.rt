@@ -7,7 +7,8 @@ use crate::{IpNumber, Ipv6Header};
 impl Ipv6Header {
     ghost use Rattle.std.specs.Prelude.{◌≡◌, ◌+◌, ◌/◌, ◌≤◌, IfErr, IfOk, length};
     ghost use Rattle.etherparse.specs.ExtensionHeaderChain.{LimitedWalkAnswer, WalkAnswer, Walks, WalksUpTo};
-    ghost use Rattle.etherparse.specs.ExtensionHeaderChain.{chain_error_place, limited_walk_answer, with_error_in_len};
+    ghost use Rattle.etherparse.specs.ExtensionHeaderChain.{chain_error_place, with_error_in_len};
+    ghost use Rattle.etherparse.specs.Reading.{found_and_rest};
 
     /// Skips the extension headers at the front of a slice, of which the first has this number, but no more than `limit` of
     /// them: the first number that can not be skipped, and all the bytes after the header that gave it.
@@ -25,12 +26,12 @@ impl Ipv6Header {
         next_header: IpNumber,
         limit: usize,
     ) -> Result<(IpNumber, &[u8]), ChainError>
-        ensures walks { WalksUpTo limit slice.now next_header (limited_walk_answer result) }
+        ensures walks { WalksUpTo limit slice.now next_header (found_and_rest result) }
         ensures only { (other : LimitedWalkAnswer) → WalksUpTo limit slice.now next_header other →
-            other ≡ limited_walk_answer result }
+            other ≡ found_and_rest result }
         ensures as_without_limit { length slice.now / 8 + 1 ≤ limit → (answer : WalkAnswer) →
             Walks slice.now next_header answer →
-            limited_walk_answer result ≡ with_error_in_len answer }
+            found_and_rest result ≡ with_error_in_len answer }
         ensures shorter { IfOk result (λ x. length x.1.now ≤ length slice.now) }
         ensures within { IfErr result (λ e. chain_error_place e ≤ length slice.now) }
     {

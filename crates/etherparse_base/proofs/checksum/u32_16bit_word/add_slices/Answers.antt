@@ -7,10 +7,6 @@ use Rattle.etherparse_base.proofs.checksum.u32_16bit_word.add_slices.Goals as go
 pub returns-clause-sum : goal.returns-clause-sum
 returns-clause-sum c = grind (arith, common_steps)
 
-pub returns-clause-exchanged : goal.returns-clause-exchanged
-returns-clause-exchanged c = λ before after first second is.
-    returns-clause-sum c ∙ ap ones_complement_sum is ∙ sym (ones_complement_sum-exchanged before after first second)
-
 pub returns-clause-cut : goal.returns-clause-cut
 returns-clause-cut c = λ before after front back is even.
     returns-clause-sum c ∙ ap ones_complement_sum is ∙ sym (ones_complement_sum-cut before after front back even)

@@ -35,33 +35,3 @@ threes-preserved c =
     rw (c.with_total-in-threes.ensures.value, lanes_added-last v' a b) second in
     let third = c.add_turn-third.ensures.adds slice (lanes_added a b) few with_third in
     rw (c.after_turn-rest.ensures.after, c.with_total-at.ensures.value, lanes_added-second a b v, lanes_added-last b a v) third
-
-pub ones-preserved : goal.ones-preserved
-ones-preserved c =
-    let few : length c.args.slice.now ≤ 2 ^ 33 = c.requires in
-    rw c.after_turn-rest-in-ones.ensures.after (c.add_turn-at.ensures.adds c.args.slice.now (lanes_added c.threes.second_total c.threes.third_total) few c.ones.invariant)
-
-pub returns : goal.returns
-returns c =
-    let i = c.ones.invariant in
-    let first = sum_l c.ones.at.first in
-    let second = sum_l c.ones.at.second in
-    let carries = c.ones.at.carries in
-    let left = little_endian_word_sum c.ones.rest.now in
-    let one = c.add_words in
-    let both = c.add_words-sum in
-    let lanes = c.joined in
-    let few : length c.args.slice.now ≤ 2 ^ 33 = c.requires in
-    let below : sum_l i.low + sum_l c.ones.at.high < 2 ^ 64 = omega (arith, i.lanes_fit, few) in
-    let halves : lanes.result ≡ sum_l i.low + sum_l c.ones.at.high = lanes.ensures.halves i.low i.splits below in
-    let all : folded_sum c.add_u64.result ≡ folded_sum (both.result + lanes.result) = ap folded_sum c.add_u64.ensures.sum
-    ∙ folded_sum-end_around_sum 18446744073709551615 281479271743489 both.result lanes.result refl in
-    let more = lanes.result + left in
-    let order : both.result + lanes.result + left ≡ both.result + more = omega arith in
-    let order' : one.result + second + more ≡ one.result + (second + more) = omega arith in
-    let order'' : carries + first + (second + more) ≡ first + second + carries + (sum_l i.low + sum_l c.ones.at.high) + left = omega (arith, halves) in
-    record {
-      adds = folded_sum-plus c.add_u64.result (both.result + lanes.result) left all ∙ ap folded_sum order
-          ∙ folded_sum-plus both.result (one.result + second) more both.ensures.folded ∙ ap folded_sum order'
-          ∙ folded_sum-plus one.result (carries + first) (second + more) one.ensures.folded ∙ ap folded_sum order'' ∙ i.folded;
-    }

@@ -1,12 +1,6 @@
-use Rattle.std.proofs.lemmas.Result.{err_from_is_err_and}
 use Rattle.etherparse.proofs.ExtensionHeaderChain.{chain_after_header}
 use Rattle.etherparse.proofs.Ipv6Reading.{read_front, read_once}
 use Rattle.etherparse.proofs.net.ipv6_header.Ipv6Header.from_slice.Goals as goal
-
-pub returns-in_err-from_slice-clause-only : goal.returns-in_err-from_slice-clause-only
-returns-in_err-from_slice-clause-only c =
-    let p = err_from_is_err_and c.from_residual.result c.from_residual.ensures.1 in
-    rw (p.1, p.2) (λ other o. read_once c.args.slice.now other _ o c.in_err-from_slice.ensures.views)
 
 pub returns-clause-reads : goal.returns-clause-reads
 returns-clause-reads c = read_front _ _ _ _ c.in_ok-from_slice.ensures.views.whole c.to_header-header.ensures.layout
