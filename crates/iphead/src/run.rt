@@ -9,6 +9,7 @@ use crate::decode::decode_input;
 use crate::input::read_digits;
 use crate::lines::{write_error, write_ipv4, write_ipv6, write_upper_layer};
 use crate::status::Status;
+use arrayvec::ArrayVec;
 use etherparse::{IpNumber, Ipv4HeaderSlice, Ipv6Header, Ipv6HeaderSlice};
 use std::io;
 use std::io::{Read, Write};
@@ -16,20 +17,33 @@ use std::io::{Read, Write};
 // The greatest number of extension headers that are walked past.
 const MAX_EXTENSION_HEADERS: usize = 32;
 
+// What is to be written.
+type Text = ArrayVec<u8, 2048>;
+
 /// Reads the hex digits of a header and prints its fields, one a line, or one line that says why not.
 ///
 /// Blanks between the digits are dropped. It takes at most 4096 digits among at most 65536 bytes, reads in pieces of 512
-/// bytes, walks past at most 32 extension headers, and takes no memory. A read or a write that fails ends it at once.
+/// bytes, walks past at most 32 extension headers, and takes no memory. The whole text is written at the end, by one call of
+/// `write_all`. A read or a write that fails ends it at once.
 pub fn run<R: Read, W: Write>(reader: &mut R, writer: &mut W) -> Status
     ensures output { result ≢ Status.Failed → IfSome (R.remaining reader.old) (λ input.
         Writes (IsOutput input) result (W.contents writer.old) (W.contents writer.new)) }
 {
-    let reported = match read_digits(reader) {
-        Ok(Some(digits)) => report(digits.as_slice(), writer),
-        Ok(None) => report_too_long(writer),
-        Err(e) => Err(e),
+    answer(reader, writer).unwrap_or(Status::Failed)
+}
+
+// The same, where a read or a write that fails is an error.
+fn answer<R: Read, W: Write>(reader: &mut R, writer: &mut W) -> io::Result<Status>
+    ensures { IfOk result (λ status. IfSome (R.remaining reader.old) (λ input.
+        Writes (IsOutput input) status (W.contents writer.old) (W.contents writer.new))) }
+{
+    let mut text = Text::new();
+    let status = match read_digits(reader)? {
+        Some(digits) => report(digits.as_slice(), &mut text)?,
+        None => report_too_long(&mut text)?,
     };
-    reported.unwrap_or(Status::Failed)
+    writer.write_all(text.as_slice())?;
+    Ok(status)
 }
 
 // Says that the input is too long.
