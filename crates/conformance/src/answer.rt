@@ -1,5 +1,4 @@
 use crate::arguments::Arguments;
-use crate::case_error::CaseError;
 use crate::{constants, equality, fields, ipv4, ipv6, kinds, offsets, options, sums, texts, walks};
 use std::alloc::{AllocError, Global};
 use std::str;
@@ -7,20 +6,20 @@ use std::str;
 /// Puts the answer to a line in the place of what was answered before: `bad line`, where it is no case.
 pub fn answer_line(alloc: Global, line: &[u8], answer: &mut String) -> Result<(), AllocError> {
     answer.clear();
-    match answer_case(alloc, line, answer) {
-        Ok(()) => Ok(()),
-        Err(CaseError::BadLine) => {
-            answer.clear();
-            answer.push_str("bad line")
+    if let Ok(text) = str::from_utf8(line) {
+        let mut arguments = Arguments::new(alloc, text);
+        answer_case(&mut arguments, answer)?;
+        if arguments.were_all_good() {
+            return Ok(());
         }
-        Err(CaseError::OutOfMemory) => Err(AllocError),
     }
+    answer.clear();
+    answer.push_str("bad line")
 }
 
-fn answer_case(alloc: Global, line: &[u8], answer: &mut String) -> Result<(), CaseError> {
-    let line = str::from_utf8(line).map_err(|_| CaseError::BadLine)?;
-    let mut arguments = Arguments::new(alloc, line);
-    let operation = arguments.word()?;
+// Of a bad case anything may be written.
+fn answer_case(arguments: &mut Arguments, answer: &mut String) -> Result<(), AllocError> {
+    let operation = arguments.any_word();
     let (group, name) = operation.split_once('.').unwrap_or((operation, ""));
     match group {
         "dscp" => fields::answer_dscp(name, arguments, answer),
@@ -42,10 +41,13 @@ fn answer_case(alloc: Global, line: &[u8], answer: &mut String) -> Result<(), Ca
         "eq" => equality::answer(name, arguments, answer),
         "const" => constants::answer_const(name, arguments, answer),
         "default" => constants::answer_default(name, arguments, answer),
-        "c32" => sums::answer_u32(alloc, name, arguments, answer),
-        "c64" => sums::answer_u64(alloc, name, arguments, answer),
+        "c32" => sums::answer_u32(name, arguments, answer),
+        "c64" => sums::answer_u64(name, arguments, answer),
         "sum" => sums::answer_steps(name, arguments, answer),
         "upd" => sums::answer_update(name, arguments, answer),
-        _ => Err(CaseError::BadLine),
+        _ => {
+            arguments.refuse();
+            Ok(())
+        }
     }
 }

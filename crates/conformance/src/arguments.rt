@@ -1,24 +1,28 @@
-ghost use Rattle.std.specs.Prelude.{◌≡◌, ◌==◌, ◌↔◌, length, IsOk, IfOk, IsSome, IsNone, IfSome, MatchOption};
+ghost use Rattle.std.specs.Prelude.{◌≡◌, ◌==◌, ◌↔◌, length, IsNone, IsSome, IfSome, MatchOption};
+ghost use Rattle.std.specs.Bool.{OnTrue};
 ghost use Rattle.std.specs.List.{position_or_len, before_first, after_first};
 
 mod errors;
 mod headers;
 mod sums;
 
-use crate::case_error::CaseError;
 use crate::tables::{LAYERS, LEN_SOURCES, VALUE_TYPES};
 use etherparse::LenSource;
 use etherparse::err::{Layer, ValueType};
-use hex::FromHex;
-use std::alloc::Global;
+use hex::{FromHex, FromHexError};
+use std::alloc::{AllocError, Global};
 use std::str::FromStr;
 
 /// What is left of a case, cut at single spaces.
+///
+/// A word that is not there, or is none of those that were asked for, makes the case a bad one and gives some value all the
+/// same, so that what reads a case need not stop in its midst.
 #[derive(Drop)]
 pub struct Arguments<'a> {
     alloc: Global,
     /// The text from the next word on; none where no word is left.
     pub rest: Option<&'a str>,
+    is_bad: bool,
 }
 
 impl<'a> Arguments<'a> {
@@ -27,118 +31,173 @@ impl<'a> Arguments<'a> {
         Arguments {
             alloc,
             rest: Some(line),
+            is_bad: false,
         }
     }
 
-    /// The next word, which may be empty.
-    pub fn word(&mut self) -> Result<&'a str, CaseError>
-        ensures left { IsOk result ↔ IsSome self.old.rest }
-        ensures first { IfOk result (λ word. IfSome self.old.rest (λ text.
+    /// The allocator that holds what is read.
+    pub fn alloc(&self) -> Global {
+        self.alloc
+    }
+
+    /// The next word, which may be empty; none where no word is left.
+    pub fn word(&mut self) -> Option<&'a str>
+        ensures left { IsSome result ↔ IsSome self.old.rest }
+        ensures first { IfSome result (λ word. IfSome self.old.rest (λ text.
             word.now ≡ before_first (λ b. b == 32) text.now)) }
         ensures others { IfSome self.old.rest (λ text. MatchOption self.new.rest
             (position_or_len (λ b. b == 32) text.now ≡ length text.now)
             (λ others. others.now ≡ after_first (λ b. b == 32) text.now)) }
     {
-        let rest = self.rest.ok_or(CaseError::BadLine)?;
+        let rest = self.rest?;
         match rest.split_once(' ') {
             Some((word, others)) => {
                 self.rest = Some(others);
-                Ok(word)
+                Some(word)
             }
             None => {
                 self.rest = None;
-                Ok(rest)
+                Some(rest)
             }
         }
     }
 
-    /// Refuses the case where words are left.
-    pub fn end(&self) -> Result<(), CaseError>
-        ensures { IsOk result ↔ IsNone self.now.rest }
+    /// Makes the case a bad one.
+    pub fn refuse(&mut self) {
+        self.is_bad = true;
+    }
+
+    /// Whether no word is left, and each was as it was asked for.
+    pub fn were_all_good(&self) -> bool
+        ensures { OnTrue result (IsNone self.now.rest) }
     {
-        if self.rest.is_some() {
-            return Err(CaseError::BadLine);
+        !self.is_bad && self.rest.is_none()
+    }
+
+    /// The next word; an empty one where no word is left.
+    pub fn any_word(&mut self) -> &'a str {
+        match self.word() {
+            Some(word) => word,
+            None => {
+                self.refuse();
+                ""
+            }
         }
-        Ok(())
     }
 
     /// Refuses the case where the next word is not this one.
-    pub fn expect_word(&mut self, word: &str) -> Result<(), CaseError> {
-        if self.word()? != word {
-            return Err(CaseError::BadLine);
+    pub fn expect_word(&mut self, word: &str) {
+        if self.any_word() != word {
+            self.refuse();
         }
-        Ok(())
+    }
+
+    /// What was made of words, or a default value where they were refused.
+    pub fn accepted<T: Default, E: Drop>(&mut self, made: Result<T, E>) -> T {
+        match made {
+            Ok(value) => value,
+            Err(_) => {
+                self.refuse();
+                T::default()
+            }
+        }
     }
 
     /// A number of any width, in decimal digits without a sign or leading zeros.
-    pub fn number<T: FromStr>(&mut self) -> Result<T, CaseError>
+    pub fn number<T: FromStr + Default>(&mut self) -> T
     where
         T::Err: Drop,
     {
-        let word = self.word()?;
+        let word = self.any_word();
         if !is_canonical(word) {
-            return Err(CaseError::BadLine);
+            self.refuse();
         }
-        word.parse::<T>().map_err(|_| CaseError::BadLine)
+        self.accepted(word.parse::<T>())
     }
 
     /// A flag: `0` or `1`.
-    pub fn flag(&mut self) -> Result<bool, CaseError> {
-        match self.word()? {
-            "0" => Ok(false),
-            "1" => Ok(true),
-            _ => Err(CaseError::BadLine),
+    pub fn flag(&mut self) -> bool {
+        let word = self.any_word();
+        if word != "0" && word != "1" {
+            self.refuse();
         }
+        word == "1"
     }
 
     /// Bytes, however many, in lower-case hex digits; `-` where there is none.
-    pub fn bytes(&mut self) -> Result<Vec<u8>, CaseError> {
-        let digits = self.digits()?;
-        Ok(hex::decode(self.alloc, digits)?)
+    pub fn bytes(&mut self) -> Result<Vec<u8>, AllocError> {
+        let word = self.any_word();
+        self.decoded(word)
     }
 
     /// Exactly `N` bytes, as [`Arguments::bytes`] has them.
-    pub fn array<const N: usize>(&mut self) -> Result<[u8; N], CaseError> {
-        let digits = self.digits()?;
-        Ok(<[u8; N] as FromHex>::from_hex(digits)?)
+    pub fn array<const N: usize>(&mut self) -> [u8; N] {
+        let word = self.any_word();
+        self.decoded_array(word)
     }
 
-    fn digits(&mut self) -> Result<&'a str, CaseError> {
-        match self.word()? {
-            "-" => Ok(""),
-            "" => Err(CaseError::BadLine),
-            word if word.bytes().any(|b| b.is_ascii_uppercase()) => Err(CaseError::BadLine),
-            word => Ok(word),
+    // The bytes of a word.
+    fn decoded(&mut self, word: &str) -> Result<Vec<u8>, AllocError> {
+        match hex::decode(self.alloc, self.digits(word)) {
+            Ok(bytes) => Ok(bytes),
+            Err(FromHexError::OutOfMemory) => Err(AllocError),
+            Err(_) => {
+                self.refuse();
+                Ok(Vec::new(self.alloc))
+            }
         }
     }
 
+    // The `N` bytes of a word.
+    fn decoded_array<const N: usize>(&mut self, word: &str) -> [u8; N] {
+        match <[u8; N] as FromHex>::from_hex(self.digits(word)) {
+            Ok(bytes) => bytes,
+            Err(_) => {
+                self.refuse();
+                [0; N]
+            }
+        }
+    }
+
+    fn digits<'b>(&mut self, word: &'b str) -> &'b str {
+        if word == "-" {
+            return "";
+        }
+        if word.is_empty() || word.bytes().any(|b| b.is_ascii_uppercase()) {
+            self.refuse();
+        }
+        word
+    }
+
     /// A layer by its name.
-    pub fn layer(&mut self) -> Result<Layer, CaseError> {
-        named(&LAYERS, self.word()?)
+    pub fn layer(&mut self) -> Layer {
+        self.named(&LAYERS, Layer::LinuxSllHeader)
     }
 
     /// A value type by its name.
-    pub fn value_type(&mut self) -> Result<ValueType, CaseError> {
-        named(&VALUE_TYPES, self.word()?)
+    pub fn value_type(&mut self) -> ValueType {
+        self.named(&VALUE_TYPES, ValueType::VlanId)
     }
 
     /// A source of a length by its name.
-    pub fn len_source(&mut self) -> Result<LenSource, CaseError> {
-        named(&LEN_SOURCES, self.word()?)
+    pub fn len_source(&mut self) -> LenSource {
+        self.named(&LEN_SOURCES, LenSource::Slice)
+    }
+
+    // What a table has under the next word, or else another value.
+    fn named<T: Copy>(&mut self, table: &[(&str, T)], other: T) -> T {
+        let name = self.any_word();
+        for (known, value) in table {
+            if *known == name {
+                return *value;
+            }
+        }
+        self.refuse();
+        other
     }
 }
 
 // Whether a word has the form of a number: digits, the first of which is 0 only if it is all.
 fn is_canonical(word: &str) -> bool {
     word == "0" || !word.starts_with('0') && word.bytes().all(|b| b.is_ascii_digit())
-}
-
-// What a table has under a name.
-fn named<T: Copy>(table: &[(&str, T)], name: &str) -> Result<T, CaseError> {
-    for (known, value) in table {
-        if *known == name {
-            return Ok(*value);
-        }
-    }
-    Err(CaseError::BadLine)
 }

@@ -1,8 +1,7 @@
 //! The named constants, the variants in their order, and the defaults.
 
 use crate::arguments::Arguments;
-use crate::case_error::CaseError;
-use crate::shown::{Bytes, Ipv4Fields, Ipv6Fields, Named};
+use crate::shown::{Bytes, Ipv4Fields, Ipv6Fields, Named, write_shown};
 use crate::tables::{
     CODE_POINTS, IP_NUMBER_NAMES, IP_NUMBERS, KNOWN_CODE_POINTS, LAYERS, VALUE_TYPES,
 };
@@ -15,22 +14,23 @@ use std::fmt::Debug;
 /// The cases `const.NAME`, which have no arguments.
 pub fn answer_const(
     name: &str,
-    arguments: Arguments,
+    arguments: &mut Arguments,
     answer: &mut String,
-) -> Result<(), CaseError> {
-    arguments.end()?;
+) -> Result<(), AllocError> {
     match name {
-        "fields" => write_fields(answer)?,
-        "headers" => write_headers(answer)?,
-        "dscp" => write!(answer, "{}", Named(&CODE_POINTS))?,
-        "known" => write_known_code_points(answer)?,
-        "ipnum" => write!(answer, "{}", Named(&IP_NUMBERS))?,
-        "ip_number" => write!(answer, "{}", Named(&IP_NUMBER_NAMES))?,
-        "layers" => write_names(&LAYERS, answer)?,
-        "value_types" => write_names(&VALUE_TYPES, answer)?,
-        _ => return Err(CaseError::BadLine),
+        "fields" => write_fields(answer),
+        "headers" => write_headers(answer),
+        "dscp" => write_code_points(answer),
+        "known" => write_known_code_points(answer),
+        "ipnum" => write_numbers(&IP_NUMBERS, answer),
+        "ip_number" => write_numbers(&IP_NUMBER_NAMES, answer),
+        "layers" => write_names(&LAYERS, answer),
+        "value_types" => write_names(&VALUE_TYPES, answer),
+        _ => {
+            arguments.refuse();
+            Ok(())
+        }
     }
-    Ok(())
 }
 
 fn write_fields(answer: &mut String) -> Result<(), AllocError> {
@@ -50,7 +50,7 @@ fn write_fields(answer: &mut String) -> Result<(), AllocError> {
         ("IpEcn::MAX_U8", u32::from(IpEcn::MAX_U8)),
         ("Ipv4Options::MAX_LEN", u32::from(Ipv4Options::MAX_LEN)),
     ];
-    write!(answer, "{}", Named(&fields))
+    write_shown(&Named(&fields), answer)
 }
 
 fn write_headers(answer: &mut String) -> Result<(), AllocError> {
@@ -65,7 +65,15 @@ fn write_headers(answer: &mut String) -> Result<(), AllocError> {
         ("Ipv6Header::LEN", Ipv6Header::LEN),
         ("Ipv6Header::SERIALIZED_SIZE", Ipv6Header::SERIALIZED_SIZE),
     ];
-    write!(answer, "{}", Named(&lengths))
+    write_shown(&Named(&lengths), answer)
+}
+
+fn write_code_points(answer: &mut String) -> Result<(), AllocError> {
+    write_shown(&Named(&CODE_POINTS), answer)
+}
+
+fn write_numbers(table: &[(&str, u8)], answer: &mut String) -> Result<(), AllocError> {
+    write_shown(&Named(table), answer)
 }
 
 fn write_known_code_points(answer: &mut String) -> Result<(), AllocError> {
@@ -90,17 +98,18 @@ fn write_names<T: Debug>(table: &[(&str, T)], answer: &mut String) -> Result<(),
 /// The cases `default.NAME`, which have no arguments.
 pub fn answer_default(
     name: &str,
-    arguments: Arguments,
+    arguments: &mut Arguments,
     answer: &mut String,
-) -> Result<(), CaseError> {
-    arguments.end()?;
+) -> Result<(), AllocError> {
     match name {
-        "fields" => write_default_fields(answer)?,
-        "v4" => write!(answer, "{}", Ipv4Fields::of_header(&Ipv4Header::default()))?,
-        "v6" => write!(answer, "{}", Ipv6Fields(&Ipv6Header::default()))?,
-        _ => return Err(CaseError::BadLine),
+        "fields" => write_default_fields(answer),
+        "v4" => write_shown(&Ipv4Fields::of_header(&Ipv4Header::default()), answer),
+        "v6" => write_shown(&Ipv6Fields(&Ipv6Header::default()), answer),
+        _ => {
+            arguments.refuse();
+            Ok(())
+        }
     }
-    Ok(())
 }
 
 fn write_default_fields(answer: &mut String) -> Result<(), AllocError> {

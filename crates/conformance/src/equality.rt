@@ -1,64 +1,72 @@
 //! Whether two errors are equal.
 
 use crate::arguments::Arguments;
-use crate::case_error::CaseError;
+use std::alloc::AllocError;
 use std::fmt::{Debug, Display};
 use std::hash::Hash;
 use std::str::FromStr;
 
 /// The cases `eq.NAME`, each with the two errors on both sides of a `/`.
-pub fn answer(name: &str, mut arguments: Arguments, answer: &mut String) -> Result<(), CaseError> {
+pub fn answer(
+    name: &str,
+    arguments: &mut Arguments,
+    answer: &mut String,
+) -> Result<(), AllocError> {
     let is_equal = match name {
         "len" => {
-            let first = arguments.len_error()?;
-            arguments.expect_word("/")?;
-            first == arguments.len_error()?
+            let first = arguments.len_error();
+            arguments.expect_word("/");
+            first == arguments.len_error()
         }
         "swse" => {
-            let first = arguments.space_error()?;
-            arguments.expect_word("/")?;
-            first == arguments.space_error()?
+            let first = arguments.space_error();
+            arguments.expect_word("/");
+            first == arguments.space_error()
         }
         "v4" => {
-            let first = arguments.ipv4_error()?;
-            arguments.expect_word("/")?;
-            first == arguments.ipv4_error()?
+            let first = arguments.ipv4_error();
+            arguments.expect_word("/");
+            first == arguments.ipv4_error()
         }
         "v6" => {
-            let first = arguments.ipv6_error()?;
-            arguments.expect_word("/")?;
-            first == arguments.ipv6_error()?
+            let first = arguments.ipv6_error();
+            arguments.expect_word("/");
+            first == arguments.ipv6_error()
         }
         "chain" => {
-            let first = arguments.chain_error()?;
-            arguments.expect_word("/")?;
-            first == arguments.chain_error()?
+            let first = arguments.chain_error();
+            arguments.expect_word("/");
+            first == arguments.chain_error()
         }
-        "too_big" => are_equal_too_big_errors(&mut arguments)?,
-        _ => return Err(CaseError::BadLine),
+        "too_big" => are_equal_too_big_errors(arguments),
+        _ => {
+            arguments.refuse();
+            false
+        }
     };
-    arguments.end()?;
-    write!(answer, "eq={is_equal}")?;
-    Ok(())
+    write!(answer, "eq={is_equal}")
 }
 
 // Of two `ValueTooBigError` of the width that the first argument names.
-fn are_equal_too_big_errors(arguments: &mut Arguments) -> Result<bool, CaseError> {
-    match arguments.word()? {
+fn are_equal_too_big_errors(arguments: &mut Arguments) -> bool {
+    match arguments.any_word() {
         "u8" => are_equal_at_width::<u8>(arguments),
         "u16" => are_equal_at_width::<u16>(arguments),
         "u32" => are_equal_at_width::<u32>(arguments),
         "usize" => are_equal_at_width::<usize>(arguments),
-        _ => Err(CaseError::BadLine),
+        _ => {
+            arguments.refuse();
+            false
+        }
     }
 }
 
-fn are_equal_at_width<T>(arguments: &mut Arguments) -> Result<bool, CaseError>
+fn are_equal_at_width<T>(arguments: &mut Arguments) -> bool
 where
-    T: FromStr + Clone + Display + Debug + Eq + Hash + Drop,
+    T: FromStr + Default + Clone + Display + Debug + Eq + Hash + Drop,
     T::Err: Drop,
 {
-    let first = arguments.too_big_error::<T>()?;
-    arguments.expect_word("/")?;
-    Ok(first == arguments.too_big_error::<T>()?)
+    let first = arguments.too_big_error::<T>();
+    arguments.expect_word("/");
+    first == arguments.too_big_error::<T>()
 }

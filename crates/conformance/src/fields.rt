@@ -1,54 +1,62 @@
 //! The fields that have fewer values than their machine number, and the known code points among them.
 
 use crate::arguments::Arguments;
-use crate::case_error::CaseError;
-use crate::shown::{Comparison, TooBig};
+use crate::shown::{Comparison, TooBig, write_shown};
 use etherparse::{IpDscp, IpDscpKnown, IpEcn, IpFragOffset, Ipv6FlowLabel, Ipv6Header};
 use std::alloc::AllocError;
+use std::fmt::Display;
 
 /// `dscp.new V` and `dscp.try V`: a differentiated services code point from its number.
 pub fn answer_dscp(
     name: &str,
-    mut arguments: Arguments,
+    arguments: &mut Arguments,
     answer: &mut String,
-) -> Result<(), CaseError> {
-    let number: u8 = arguments.number()?;
-    arguments.end()?;
+) -> Result<(), AllocError> {
+    let number: u8 = arguments.number();
     let made = match name {
         "new" => IpDscp::try_new(number),
         "try" => IpDscp::try_from(number),
-        _ => return Err(CaseError::BadLine),
+        _ => {
+            arguments.refuse();
+            return Ok(());
+        }
     };
     match made {
-        Ok(dscp) => write!(
-            answer,
-            "ok value={} into={} text={dscp}",
-            dscp.value(),
-            u8::from(dscp)
-        )?,
-        Err(e) => write!(answer, "{}", TooBig(&e))?,
+        Ok(dscp) => write_field(&dscp, dscp.value(), u8::from(dscp), answer),
+        Err(e) => write_shown(&TooBig(&e), answer),
     }
-    Ok(())
+}
+
+// A field, with its number as it has it and as it is converted.
+fn write_field<F: Display, N: Display + Drop>(
+    field: &F,
+    value: N,
+    into: N,
+    answer: &mut String,
+) -> Result<(), AllocError> {
+    write!(answer, "ok value={value} into={into} text={field}")
 }
 
 /// `known V`: the known code point of a number, and both numbers of it. `known.cmp A B`: two of them against each other.
 pub fn answer_known(
     name: &str,
-    mut arguments: Arguments,
+    arguments: &mut Arguments,
     answer: &mut String,
-) -> Result<(), CaseError> {
+) -> Result<(), AllocError> {
     match name {
-        "" => write_known(arguments.dscp()?, answer)?,
+        "" => write_known(arguments.dscp(), answer),
         "cmp" => {
             let comparison = Comparison::of(
-                &arguments.known_code_point()?,
-                &arguments.known_code_point()?,
+                &arguments.known_code_point(),
+                &arguments.known_code_point(),
             );
-            write!(answer, "{comparison}")?;
+            write!(answer, "{comparison}")
         }
-        _ => return Err(CaseError::BadLine),
+        _ => {
+            arguments.refuse();
+            Ok(())
+        }
     }
-    arguments.end()
 }
 
 fn write_known(dscp: IpDscp, answer: &mut String) -> Result<(), AllocError> {
@@ -66,94 +74,81 @@ fn write_known(dscp: IpDscp, answer: &mut String) -> Result<(), AllocError> {
 /// `frag.new V` and `frag.try V`: a fragment offset from its number.
 pub fn answer_frag(
     name: &str,
-    mut arguments: Arguments,
+    arguments: &mut Arguments,
     answer: &mut String,
-) -> Result<(), CaseError> {
-    let number: u16 = arguments.number()?;
-    arguments.end()?;
+) -> Result<(), AllocError> {
+    let number: u16 = arguments.number();
     let made = match name {
         "new" => IpFragOffset::try_new(number),
         "try" => IpFragOffset::try_from(number),
-        _ => return Err(CaseError::BadLine),
+        _ => {
+            arguments.refuse();
+            return Ok(());
+        }
     };
     match made {
         Ok(offset) => {
-            write!(
-                answer,
-                "ok value={} into={} text={offset}",
-                offset.value(),
-                u16::from(offset)
-            )?;
-            write!(answer, " bytes={}", offset.byte_offset())?;
+            write_field(&offset, offset.value(), u16::from(offset), answer)?;
+            write!(answer, " bytes={}", offset.byte_offset())
         }
-        Err(e) => write!(answer, "{}", TooBig(&e))?,
+        Err(e) => write_shown(&TooBig(&e), answer),
     }
-    Ok(())
 }
 
 /// `flow.new V` and `flow.try V`: a flow label from its number.
 pub fn answer_flow(
     name: &str,
-    mut arguments: Arguments,
+    arguments: &mut Arguments,
     answer: &mut String,
-) -> Result<(), CaseError> {
-    let number: u32 = arguments.number()?;
-    arguments.end()?;
+) -> Result<(), AllocError> {
+    let number: u32 = arguments.number();
     let made = match name {
         "new" => Ipv6FlowLabel::try_new(number),
         "try" => Ipv6FlowLabel::try_from(number),
-        _ => return Err(CaseError::BadLine),
+        _ => {
+            arguments.refuse();
+            return Ok(());
+        }
     };
     match made {
-        Ok(label) => write!(
-            answer,
-            "ok value={} into={} text={label}",
-            label.value(),
-            u32::from(label)
-        )?,
-        Err(e) => write!(answer, "{}", TooBig(&e))?,
+        Ok(label) => write_field(&label, label.value(), u32::from(label), answer),
+        Err(e) => write_shown(&TooBig(&e), answer),
     }
-    Ok(())
 }
 
 /// `ecn.new V` and `ecn.try V`: an explicit congestion notification from its number.
 pub fn answer_ecn(
     name: &str,
-    mut arguments: Arguments,
+    arguments: &mut Arguments,
     answer: &mut String,
-) -> Result<(), CaseError> {
-    let number: u8 = arguments.number()?;
-    arguments.end()?;
+) -> Result<(), AllocError> {
+    let number: u8 = arguments.number();
     let made = match name {
         "new" => IpEcn::try_new(number),
         "try" => IpEcn::try_from(number),
-        _ => return Err(CaseError::BadLine),
+        _ => {
+            arguments.refuse();
+            return Ok(());
+        }
     };
     match made {
         Ok(ecn) => {
-            write!(
-                answer,
-                "ok value={} into={} text={ecn}",
-                ecn.value(),
-                u8::from(ecn)
-            )?;
-            write!(answer, " variant={ecn:?}")?;
+            write_field(&ecn, ecn.value(), u8::from(ecn), answer)?;
+            write!(answer, " variant={ecn:?}")
         }
-        Err(e) => write!(answer, "{}", TooBig(&e))?,
+        Err(e) => write_shown(&TooBig(&e), answer),
     }
-    Ok(())
 }
 
 /// `ipnum N`: the number of a protocol or an extension header.
 pub fn answer_ip_number(
     name: &str,
-    mut arguments: Arguments,
+    arguments: &mut Arguments,
     answer: &mut String,
-) -> Result<(), CaseError> {
-    let number = arguments.ip_number()?;
-    arguments.end()?;
+) -> Result<(), AllocError> {
+    let number = arguments.ip_number();
     if !name.is_empty() {
-        return Err(CaseError::BadLine);
+        arguments.refuse();
     }
     let value = number.0;
     let into = u8::from(number);
@@ -163,28 +158,28 @@ pub fn answer_ip_number(
         "ext={} skippable={}",
         number.is_ipv6_ext_header_value(),
         Ipv6Header::is_skippable_header_extension(number)
-    )?;
-    Ok(())
+    )
 }
 
 /// `field.cmp FIELD A B`: two values of a field against each other.
 pub fn answer_field(
     name: &str,
-    mut arguments: Arguments,
+    arguments: &mut Arguments,
     answer: &mut String,
-) -> Result<(), CaseError> {
+) -> Result<(), AllocError> {
     if name != "cmp" {
-        return Err(CaseError::BadLine);
+        arguments.refuse();
     }
-    let comparison = match arguments.word()? {
-        "dscp" => Comparison::of(&arguments.dscp()?, &arguments.dscp()?),
-        "frag" => Comparison::of(&arguments.fragment_offset()?, &arguments.fragment_offset()?),
-        "flow" => Comparison::of(&arguments.flow_label()?, &arguments.flow_label()?),
-        "ecn" => Comparison::of(&arguments.ecn()?, &arguments.ecn()?),
-        "ipnum" => Comparison::of(&arguments.ip_number()?, &arguments.ip_number()?),
-        _ => return Err(CaseError::BadLine),
+    let comparison = match arguments.any_word() {
+        "dscp" => Comparison::of(&arguments.dscp(), &arguments.dscp()),
+        "frag" => Comparison::of(&arguments.fragment_offset(), &arguments.fragment_offset()),
+        "flow" => Comparison::of(&arguments.flow_label(), &arguments.flow_label()),
+        "ecn" => Comparison::of(&arguments.ecn(), &arguments.ecn()),
+        "ipnum" => Comparison::of(&arguments.ip_number(), &arguments.ip_number()),
+        _ => {
+            arguments.refuse();
+            return Ok(());
+        }
     };
-    arguments.end()?;
-    write!(answer, "{comparison}")?;
-    Ok(())
+    write!(answer, "{comparison}")
 }

@@ -1,14 +1,17 @@
 //! IPv4 headers and their views.
 
 use crate::arguments::Arguments;
-use crate::case_error::CaseError;
-use crate::shown::{BadOptions, Bytes, Ipv4Fields, Ipv4Refusal, Len, TooBig};
+use crate::shown::{BadOptions, Bytes, Ipv4Fields, Ipv4Refusal, Len, TooBig, write_shown};
 use etherparse::err::LenError;
 use etherparse::{Ipv4Header, Ipv4HeaderSlice};
 use std::alloc::AllocError;
 
 /// The cases `v4.NAME`.
-pub fn answer(name: &str, arguments: Arguments, answer: &mut String) -> Result<(), CaseError> {
+pub fn answer(
+    name: &str,
+    arguments: &mut Arguments,
+    answer: &mut String,
+) -> Result<(), AllocError> {
     match name {
         "view" => answer_view(arguments, answer),
         "view_header" => answer_view_header(arguments, answer),
@@ -21,19 +24,20 @@ pub fn answer(name: &str, arguments: Arguments, answer: &mut String) -> Result<(
         "set_options" => answer_set_options(arguments, answer),
         "set_ttl" => answer_set_time_to_live(arguments, answer),
         "eq" => answer_equality(arguments, answer),
-        _ => Err(CaseError::BadLine),
+        _ => {
+            arguments.refuse();
+            Ok(())
+        }
     }
 }
 
 // A view of the front of a slice, through every getter.
-fn answer_view(mut arguments: Arguments, answer: &mut String) -> Result<(), CaseError> {
+fn answer_view(arguments: &mut Arguments, answer: &mut String) -> Result<(), AllocError> {
     let bytes = arguments.bytes()?;
-    arguments.end()?;
     match Ipv4HeaderSlice::from_slice(&bytes) {
-        Ok(view) => write_view(&view, answer)?,
-        Err(e) => write!(answer, "{}", Ipv4Refusal(&e))?,
+        Ok(view) => write_view(&view, answer),
+        Err(e) => write_shown(&Ipv4Refusal(&e), answer),
     }
-    Ok(())
 }
 
 fn write_view(view: &Ipv4HeaderSlice, answer: &mut String) -> Result<(), AllocError> {
@@ -59,46 +63,45 @@ fn write_payload_len(
 }
 
 // The header of a view of the front of a slice.
-fn answer_view_header(mut arguments: Arguments, answer: &mut String) -> Result<(), CaseError> {
+fn answer_view_header(arguments: &mut Arguments, answer: &mut String) -> Result<(), AllocError> {
     let bytes = arguments.bytes()?;
-    arguments.end()?;
     match Ipv4HeaderSlice::from_slice(&bytes) {
-        Ok(view) => write!(answer, "ok {}", Ipv4Fields::of_header(&view.to_header()))?,
-        Err(e) => write!(answer, "{}", Ipv4Refusal(&e))?,
+        Ok(view) => write!(answer, "ok {}", Ipv4Fields::of_header(&view.to_header())),
+        Err(e) => write_shown(&Ipv4Refusal(&e), answer),
     }
-    Ok(())
 }
 
 // Two views that are accepted, against each other.
-fn answer_view_equality(mut arguments: Arguments, answer: &mut String) -> Result<(), CaseError> {
+fn answer_view_equality(arguments: &mut Arguments, answer: &mut String) -> Result<(), AllocError> {
     let (first, second) = (arguments.bytes()?, arguments.bytes()?);
-    arguments.end()?;
-    let first = Ipv4HeaderSlice::from_slice(&first).map_err(|_| CaseError::BadLine)?;
-    let second = Ipv4HeaderSlice::from_slice(&second).map_err(|_| CaseError::BadLine)?;
-    write!(answer, "eq={}", first == second)?;
-    Ok(())
+    match (
+        Ipv4HeaderSlice::from_slice(&first),
+        Ipv4HeaderSlice::from_slice(&second),
+    ) {
+        (Ok(first), Ok(second)) => write!(answer, "eq={}", first == second),
+        _ => {
+            arguments.refuse();
+            Ok(())
+        }
+    }
 }
 
 // The header at the front of a slice, and its bytes again.
-fn answer_header(mut arguments: Arguments, answer: &mut String) -> Result<(), CaseError> {
+fn answer_header(arguments: &mut Arguments, answer: &mut String) -> Result<(), AllocError> {
     let bytes = arguments.bytes()?;
-    arguments.end()?;
     match Ipv4Header::from_slice(&bytes) {
-        Ok((header, rest)) => write_header(&header, rest, answer)?,
-        Err(e) => write!(answer, "{}", Ipv4Refusal(&e))?,
+        Ok((header, rest)) => write_header(&header, rest, answer),
+        Err(e) => write_shown(&Ipv4Refusal(&e), answer),
     }
-    Ok(())
 }
 
 // The same by the older name.
-fn answer_read(mut arguments: Arguments, answer: &mut String) -> Result<(), CaseError> {
+fn answer_read(arguments: &mut Arguments, answer: &mut String) -> Result<(), AllocError> {
     let bytes = arguments.bytes()?;
-    arguments.end()?;
     match Ipv4Header::read_from_slice(&bytes) {
-        Ok((header, rest)) => write_header(&header, rest, answer)?,
-        Err(e) => write!(answer, "{}", Ipv4Refusal(&e))?,
+        Ok((header, rest)) => write_header(&header, rest, answer),
+        Err(e) => write_shown(&Ipv4Refusal(&e), answer),
     }
-    Ok(())
 }
 
 fn write_header(header: &Ipv4Header, rest: &[u8], answer: &mut String) -> Result<(), AllocError> {
@@ -112,9 +115,8 @@ fn write_header(header: &Ipv4Header, rest: &[u8], answer: &mut String) -> Result
 }
 
 // What a header says of itself beyond its fields.
-fn answer_info(mut arguments: Arguments, answer: &mut String) -> Result<(), CaseError> {
+fn answer_info(arguments: &mut Arguments, answer: &mut String) -> Result<(), AllocError> {
     let header = arguments.ipv4_header()?;
-    arguments.end()?;
     let (ihl, header_len) = (header.ihl(), header.header_len());
     let max_payload_len = header.max_payload_len();
     write!(
@@ -132,65 +134,60 @@ fn answer_info(mut arguments: Arguments, answer: &mut String) -> Result<(), Case
         "options={options} bytes={} ",
         Bytes(bytes.as_slice())
     )?;
-    write_payload_len(&header.payload_len(), answer)?;
-    Ok(())
+    write_payload_len(&header.payload_len(), answer)
 }
 
 // A header for a payload.
-fn answer_new(mut arguments: Arguments, answer: &mut String) -> Result<(), CaseError> {
-    let payload_len = arguments.number()?;
-    let time_to_live = arguments.number()?;
-    let protocol = arguments.ip_number()?;
-    let (source, destination) = (arguments.array()?, arguments.array()?);
-    arguments.end()?;
+fn answer_new(arguments: &mut Arguments, answer: &mut String) -> Result<(), AllocError> {
+    let payload_len = arguments.number();
+    let time_to_live = arguments.number();
+    let protocol = arguments.ip_number();
+    let (source, destination) = (arguments.array(), arguments.array());
     match Ipv4Header::new(payload_len, time_to_live, protocol, source, destination) {
-        Ok(header) => write!(answer, "ok {}", Ipv4Fields::of_header(&header))?,
-        Err(e) => write!(answer, "{}", TooBig(&e))?,
+        Ok(header) => write!(answer, "ok {}", Ipv4Fields::of_header(&header)),
+        Err(e) => write_shown(&TooBig(&e), answer),
     }
-    Ok(())
 }
 
 // A header with the total length of a payload, or as it was.
-fn answer_set_payload_len(mut arguments: Arguments, answer: &mut String) -> Result<(), CaseError> {
-    let payload_len: usize = arguments.number()?;
+fn answer_set_payload_len(
+    arguments: &mut Arguments,
+    answer: &mut String,
+) -> Result<(), AllocError> {
+    let payload_len: usize = arguments.number();
     let mut header = arguments.ipv4_header()?;
-    arguments.end()?;
     match header.set_payload_len(payload_len) {
         Ok(()) => write!(answer, "ok")?,
-        Err(e) => write!(answer, "{}", TooBig(&e))?,
+        Err(e) => write_shown(&TooBig(&e), answer)?,
     }
-    write!(answer, " ; {}", Ipv4Fields::of_header(&header))?;
-    Ok(())
+    write!(answer, " ; {}", Ipv4Fields::of_header(&header))
 }
 
 // A header with other options, or as it was.
-fn answer_set_options(mut arguments: Arguments, answer: &mut String) -> Result<(), CaseError> {
+fn answer_set_options(arguments: &mut Arguments, answer: &mut String) -> Result<(), AllocError> {
     let options = arguments.bytes()?;
     let mut header = arguments.ipv4_header()?;
-    arguments.end()?;
     match header.set_options(&options) {
         Ok(()) => write!(answer, "ok")?,
-        Err(e) => write!(answer, "{}", BadOptions(&e))?,
+        Err(e) => write_shown(&BadOptions(&e), answer)?,
     }
-    write!(answer, " ; {}", Ipv4Fields::of_header(&header))?;
-    Ok(())
+    write!(answer, " ; {}", Ipv4Fields::of_header(&header))
 }
 
 // A header with another time to live, and its checksum updated.
-fn answer_set_time_to_live(mut arguments: Arguments, answer: &mut String) -> Result<(), CaseError> {
-    let time_to_live = arguments.number()?;
+fn answer_set_time_to_live(
+    arguments: &mut Arguments,
+    answer: &mut String,
+) -> Result<(), AllocError> {
+    let time_to_live = arguments.number();
     let mut header = arguments.ipv4_header()?;
-    arguments.end()?;
     header.set_time_to_live(time_to_live);
-    write!(answer, "ok ; {}", Ipv4Fields::of_header(&header))?;
-    Ok(())
+    write!(answer, "ok ; {}", Ipv4Fields::of_header(&header))
 }
 
 // Two headers against each other.
-fn answer_equality(mut arguments: Arguments, answer: &mut String) -> Result<(), CaseError> {
+fn answer_equality(arguments: &mut Arguments, answer: &mut String) -> Result<(), AllocError> {
     let first = arguments.ipv4_header()?;
     let second = arguments.ipv4_header()?;
-    arguments.end()?;
-    write!(answer, "eq={}", first == second)?;
-    Ok(())
+    write!(answer, "eq={}", first == second)
 }

@@ -1,13 +1,16 @@
 //! IPv6 headers and their views.
 
 use crate::arguments::Arguments;
-use crate::case_error::CaseError;
-use crate::shown::{Bytes, Ipv6Fields, Ipv6Refusal, Named, TooBig};
+use crate::shown::{Bytes, Ipv6Fields, Ipv6Refusal, Named, TooBig, write_shown};
 use etherparse::{Ipv6Header, Ipv6HeaderSlice};
 use std::alloc::AllocError;
 
 /// The cases `v6.NAME`.
-pub fn answer(name: &str, arguments: Arguments, answer: &mut String) -> Result<(), CaseError> {
+pub fn answer(
+    name: &str,
+    arguments: &mut Arguments,
+    answer: &mut String,
+) -> Result<(), AllocError> {
     match name {
         "view" => answer_view(arguments, answer),
         "view_header" => answer_view_header(arguments, answer),
@@ -19,19 +22,20 @@ pub fn answer(name: &str, arguments: Arguments, answer: &mut String) -> Result<(
         "set_ecn" => answer_set_ecn(arguments, answer),
         "set_dscp" => answer_set_dscp(arguments, answer),
         "eq" => answer_equality(arguments, answer),
-        _ => Err(CaseError::BadLine),
+        _ => {
+            arguments.refuse();
+            Ok(())
+        }
     }
 }
 
 // A view of the front of a slice, through every getter.
-fn answer_view(mut arguments: Arguments, answer: &mut String) -> Result<(), CaseError> {
+fn answer_view(arguments: &mut Arguments, answer: &mut String) -> Result<(), AllocError> {
     let bytes = arguments.bytes()?;
-    arguments.end()?;
     match Ipv6HeaderSlice::from_slice(&bytes) {
-        Ok(view) => write_view(&view, answer)?,
-        Err(e) => write!(answer, "{}", Ipv6Refusal(&e))?,
+        Ok(view) => write_view(&view, answer),
+        Err(e) => write_shown(&Ipv6Refusal(&e), answer),
     }
-    Ok(())
 }
 
 fn write_view(view: &Ipv6HeaderSlice, answer: &mut String) -> Result<(), AllocError> {
@@ -65,46 +69,45 @@ fn write_view(view: &Ipv6HeaderSlice, answer: &mut String) -> Result<(), AllocEr
 }
 
 // The header of a view of the front of a slice.
-fn answer_view_header(mut arguments: Arguments, answer: &mut String) -> Result<(), CaseError> {
+fn answer_view_header(arguments: &mut Arguments, answer: &mut String) -> Result<(), AllocError> {
     let bytes = arguments.bytes()?;
-    arguments.end()?;
     match Ipv6HeaderSlice::from_slice(&bytes) {
-        Ok(view) => write!(answer, "ok {}", Ipv6Fields(&view.to_header()))?,
-        Err(e) => write!(answer, "{}", Ipv6Refusal(&e))?,
+        Ok(view) => write!(answer, "ok {}", Ipv6Fields(&view.to_header())),
+        Err(e) => write_shown(&Ipv6Refusal(&e), answer),
     }
-    Ok(())
 }
 
 // Two views that are accepted, against each other.
-fn answer_view_equality(mut arguments: Arguments, answer: &mut String) -> Result<(), CaseError> {
+fn answer_view_equality(arguments: &mut Arguments, answer: &mut String) -> Result<(), AllocError> {
     let (first, second) = (arguments.bytes()?, arguments.bytes()?);
-    arguments.end()?;
-    let first = Ipv6HeaderSlice::from_slice(&first).map_err(|_| CaseError::BadLine)?;
-    let second = Ipv6HeaderSlice::from_slice(&second).map_err(|_| CaseError::BadLine)?;
-    write!(answer, "eq={}", first == second)?;
-    Ok(())
+    match (
+        Ipv6HeaderSlice::from_slice(&first),
+        Ipv6HeaderSlice::from_slice(&second),
+    ) {
+        (Ok(first), Ok(second)) => write!(answer, "eq={}", first == second),
+        _ => {
+            arguments.refuse();
+            Ok(())
+        }
+    }
 }
 
 // The header at the front of a slice, and its bytes again.
-fn answer_header(mut arguments: Arguments, answer: &mut String) -> Result<(), CaseError> {
+fn answer_header(arguments: &mut Arguments, answer: &mut String) -> Result<(), AllocError> {
     let bytes = arguments.bytes()?;
-    arguments.end()?;
     match Ipv6Header::from_slice(&bytes) {
-        Ok((header, rest)) => write_header(&header, rest, answer)?,
-        Err(e) => write!(answer, "{}", Ipv6Refusal(&e))?,
+        Ok((header, rest)) => write_header(&header, rest, answer),
+        Err(e) => write_shown(&Ipv6Refusal(&e), answer),
     }
-    Ok(())
 }
 
 // The same by the older name.
-fn answer_read(mut arguments: Arguments, answer: &mut String) -> Result<(), CaseError> {
+fn answer_read(arguments: &mut Arguments, answer: &mut String) -> Result<(), AllocError> {
     let bytes = arguments.bytes()?;
-    arguments.end()?;
     match Ipv6Header::read_from_slice(&bytes) {
-        Ok((header, rest)) => write_header(&header, rest, answer)?,
-        Err(e) => write!(answer, "{}", Ipv6Refusal(&e))?,
+        Ok((header, rest)) => write_header(&header, rest, answer),
+        Err(e) => write_shown(&Ipv6Refusal(&e), answer),
     }
-    Ok(())
 }
 
 fn write_header(header: &Ipv6Header, rest: &[u8], answer: &mut String) -> Result<(), AllocError> {
@@ -118,60 +121,50 @@ fn write_header(header: &Ipv6Header, rest: &[u8], answer: &mut String) -> Result
 }
 
 // What a header tells besides its fields, and its bytes.
-fn answer_info(mut arguments: Arguments, answer: &mut String) -> Result<(), CaseError> {
-    let header = arguments.ipv6_header()?;
-    arguments.end()?;
+fn answer_info(arguments: &mut Arguments, answer: &mut String) -> Result<(), AllocError> {
+    let header = arguments.ipv6_header();
     write!(answer, "dscp={} ecn={} ", header.dscp(), header.ecn())?;
     write!(
         answer,
         "header_len={} bytes={}",
         header.header_len(),
         Bytes(&header.to_bytes())
-    )?;
-    Ok(())
+    )
 }
 
 // A header with another payload length, or as it was.
 fn answer_set_payload_length(
-    mut arguments: Arguments,
+    arguments: &mut Arguments,
     answer: &mut String,
-) -> Result<(), CaseError> {
-    let size: usize = arguments.number()?;
-    let mut header = arguments.ipv6_header()?;
-    arguments.end()?;
+) -> Result<(), AllocError> {
+    let size: usize = arguments.number();
+    let mut header = arguments.ipv6_header();
     match header.set_payload_length(size) {
         Ok(()) => write!(answer, "ok")?,
-        Err(e) => write!(answer, "{}", TooBig(&e))?,
+        Err(e) => write_shown(&TooBig(&e), answer)?,
     }
-    write!(answer, " ; {}", Ipv6Fields(&header))?;
-    Ok(())
+    write!(answer, " ; {}", Ipv6Fields(&header))
 }
 
 // A header with another explicit congestion notification.
-fn answer_set_ecn(mut arguments: Arguments, answer: &mut String) -> Result<(), CaseError> {
-    let ecn = arguments.ecn()?;
-    let mut header = arguments.ipv6_header()?;
-    arguments.end()?;
+fn answer_set_ecn(arguments: &mut Arguments, answer: &mut String) -> Result<(), AllocError> {
+    let ecn = arguments.ecn();
+    let mut header = arguments.ipv6_header();
     header.set_ecn(ecn);
-    write!(answer, "ok ; {}", Ipv6Fields(&header))?;
-    Ok(())
+    write!(answer, "ok ; {}", Ipv6Fields(&header))
 }
 
 // A header with another differentiated services code point.
-fn answer_set_dscp(mut arguments: Arguments, answer: &mut String) -> Result<(), CaseError> {
-    let dscp = arguments.dscp()?;
-    let mut header = arguments.ipv6_header()?;
-    arguments.end()?;
+fn answer_set_dscp(arguments: &mut Arguments, answer: &mut String) -> Result<(), AllocError> {
+    let dscp = arguments.dscp();
+    let mut header = arguments.ipv6_header();
     header.set_dscp(dscp);
-    write!(answer, "ok ; {}", Ipv6Fields(&header))?;
-    Ok(())
+    write!(answer, "ok ; {}", Ipv6Fields(&header))
 }
 
 // Two headers against each other.
-fn answer_equality(mut arguments: Arguments, answer: &mut String) -> Result<(), CaseError> {
-    let first = arguments.ipv6_header()?;
-    let second = arguments.ipv6_header()?;
-    arguments.end()?;
-    write!(answer, "eq={}", first == second)?;
-    Ok(())
+fn answer_equality(arguments: &mut Arguments, answer: &mut String) -> Result<(), AllocError> {
+    let first = arguments.ipv6_header();
+    let second = arguments.ipv6_header();
+    write!(answer, "eq={}", first == second)
 }

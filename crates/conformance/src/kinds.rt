@@ -1,39 +1,42 @@
 //! The layers and the value types.
 
 use crate::arguments::Arguments;
-use crate::case_error::CaseError;
-use crate::shown::Comparison;
+use crate::shown::{Comparison, write_shown};
+use std::alloc::AllocError;
 
 /// `layer NAME` and `layer.cmp A B`.
 pub fn answer_layer(
     name: &str,
-    mut arguments: Arguments,
+    arguments: &mut Arguments,
     answer: &mut String,
-) -> Result<(), CaseError> {
-    let layer = arguments.layer()?;
+) -> Result<(), AllocError> {
+    let layer = arguments.layer();
     match name {
-        "" => write!(answer, "{} ; {layer}", layer.error_title())?,
-        "cmp" => write!(answer, "{}", Comparison::of(&layer, &arguments.layer()?))?,
-        _ => return Err(CaseError::BadLine),
+        "" => write!(answer, "{} ; {layer}", layer.error_title()),
+        "cmp" => write_shown(&Comparison::of(&layer, &arguments.layer()), answer),
+        _ => {
+            arguments.refuse();
+            Ok(())
+        }
     }
-    arguments.end()
 }
 
 /// `value_type NAME` and `value_type.cmp A B`.
 pub fn answer_value_type(
     name: &str,
-    mut arguments: Arguments,
+    arguments: &mut Arguments,
     answer: &mut String,
-) -> Result<(), CaseError> {
-    let value_type = arguments.value_type()?;
+) -> Result<(), AllocError> {
+    let value_type = arguments.value_type();
     match name {
-        "" => write!(answer, "{value_type}")?,
-        "cmp" => write!(
+        "" => write!(answer, "{value_type}"),
+        "cmp" => write_shown(
+            &Comparison::of(&value_type, &arguments.value_type()),
             answer,
-            "{}",
-            Comparison::of(&value_type, &arguments.value_type()?)
-        )?,
-        _ => return Err(CaseError::BadLine),
+        ),
+        _ => {
+            arguments.refuse();
+            Ok(())
+        }
     }
-    arguments.end()
 }

@@ -3,7 +3,6 @@
 
 mod answer;
 mod arguments;
-mod case_error;
 mod constants;
 mod equality;
 mod fields;

@@ -1,81 +1,93 @@
 //! Errors of what starts further on in a packet.
 
-ghost use Rattle.std.specs.Prelude.{◌+◌, ◌^◌, ◌<◌, OnOk};
+ghost use Rattle.std.specs.Prelude.{◌+◌, ◌^◌, ◌<◌};
+ghost use Rattle.std.specs.Bool.{OnTrue};
 
 use crate::arguments::Arguments;
-use crate::case_error::CaseError;
-use crate::shown::{ChainRefusal, Ipv4Refusal, Ipv6Refusal, Len};
+use crate::shown::{ChainRefusal, Ipv4Refusal, Ipv6Refusal, Len, write_shown};
 use etherparse::err::{ipv4, ipv6};
+use std::alloc::AllocError;
 
 /// The cases `off.NAME OFFSET ERROR`: each makes an error of its arguments and adds the offset to its place.
-pub fn answer(name: &str, mut arguments: Arguments, answer: &mut String) -> Result<(), CaseError> {
-    let offset = arguments.number()?;
+pub fn answer(
+    name: &str,
+    arguments: &mut Arguments,
+    answer: &mut String,
+) -> Result<(), AllocError> {
+    let offset = arguments.number();
     match name {
         "len" => {
-            let error = arguments.len_error()?;
-            expect_room(offset, error.layer_start_offset)?;
-            write!(answer, "{}", Len(&error.add_offset(offset)))?;
+            let error = arguments.len_error();
+            if has_room(offset, error.layer_start_offset) {
+                return write_shown(&Len(&error.add_offset(offset)), answer);
+            }
         }
         "v4" => {
-            let moved = moved_ipv4(offset, arguments.ipv4_error()?)?;
-            write!(answer, "{}", Ipv4Refusal(&moved))?;
+            if let Some(moved) = moved_ipv4(offset, arguments.ipv4_error()) {
+                return write_shown(&Ipv4Refusal(&moved), answer);
+            }
         }
         "v6" => {
-            let moved = moved_ipv6(offset, arguments.ipv6_error()?)?;
-            write!(answer, "{}", Ipv6Refusal(&moved))?;
+            if let Some(moved) = moved_ipv6(offset, arguments.ipv6_error()) {
+                return write_shown(&Ipv6Refusal(&moved), answer);
+            }
         }
         "chain" => {
-            let moved = moved_chain(offset, arguments.chain_error()?)?;
-            write!(answer, "{}", ChainRefusal(&moved))?;
+            if let Some(moved) = moved_chain(offset, arguments.chain_error()) {
+                return write_shown(&ChainRefusal(&moved), answer);
+            }
         }
-        _ => return Err(CaseError::BadLine),
+        _ => {}
     }
-    arguments.end()
+    arguments.refuse();
+    Ok(())
 }
 
-fn moved_ipv4(
-    offset: usize,
-    error: ipv4::HeaderSliceError,
-) -> Result<ipv4::HeaderSliceError, CaseError> {
+fn moved_ipv4(offset: usize, error: ipv4::HeaderSliceError) -> Option<ipv4::HeaderSliceError> {
     match error {
         ipv4::HeaderSliceError::Len(e) => {
-            expect_room(offset, e.layer_start_offset)?;
-            Ok(ipv4::HeaderSliceError::Len(e).add_slice_offset(offset))
+            if !has_room(offset, e.layer_start_offset) {
+                return None;
+            }
+            Some(ipv4::HeaderSliceError::Len(e).add_slice_offset(offset))
         }
         ipv4::HeaderSliceError::Content(e) => {
-            Ok(ipv4::HeaderSliceError::Content(e).add_slice_offset(offset))
+            Some(ipv4::HeaderSliceError::Content(e).add_slice_offset(offset))
         }
     }
 }
 
-fn moved_ipv6(
-    offset: usize,
-    error: ipv6::HeaderSliceError,
-) -> Result<ipv6::HeaderSliceError, CaseError> {
+fn moved_ipv6(offset: usize, error: ipv6::HeaderSliceError) -> Option<ipv6::HeaderSliceError> {
     match error {
         ipv6::HeaderSliceError::Len(e) => {
-            expect_room(offset, e.layer_start_offset)?;
-            Ok(ipv6::HeaderSliceError::Len(e).add_slice_offset(offset))
+            if !has_room(offset, e.layer_start_offset) {
+                return None;
+            }
+            Some(ipv6::HeaderSliceError::Len(e).add_slice_offset(offset))
         }
         ipv6::HeaderSliceError::Content(e) => {
-            Ok(ipv6::HeaderSliceError::Content(e).add_slice_offset(offset))
+            Some(ipv6::HeaderSliceError::Content(e).add_slice_offset(offset))
         }
     }
 }
 
-fn moved_chain(offset: usize, error: ipv6::ChainError) -> Result<ipv6::ChainError, CaseError> {
+fn moved_chain(offset: usize, error: ipv6::ChainError) -> Option<ipv6::ChainError> {
     match error {
         ipv6::ChainError::Len(e) => {
-            expect_room(offset, e.layer_start_offset)?;
-            Ok(ipv6::ChainError::Len(e).add_slice_offset(offset))
+            if !has_room(offset, e.layer_start_offset) {
+                return None;
+            }
+            Some(ipv6::ChainError::Len(e).add_slice_offset(offset))
         }
         ipv6::ChainError::TooMany {
             limit,
             next_header,
             layer_start_offset,
         } => {
-            expect_room(offset, layer_start_offset)?;
-            Ok(ipv6::ChainError::TooMany {
+            if !has_room(offset, layer_start_offset) {
+                return None;
+            }
+            Some(ipv6::ChainError::TooMany {
                 limit,
                 next_header,
                 layer_start_offset,
@@ -85,12 +97,9 @@ fn moved_chain(offset: usize, error: ipv6::ChainError) -> Result<ipv6::ChainErro
     }
 }
 
-// Refuses the case where the place of an error does not fit after the offset is added.
-fn expect_room(offset: usize, place: usize) -> Result<(), CaseError>
-    ensures room { OnOk result (place + offset < 2 ^ 64) }
+// Whether the place of an error fits after the offset is added.
+fn has_room(offset: usize, place: usize) -> bool
+    ensures room { OnTrue result (place + offset < 2 ^ 64) }
 {
-    if offset > usize::MAX - place {
-        return Err(CaseError::BadLine);
-    }
-    Ok(())
+    offset <= usize::MAX - place
 }

@@ -1,83 +1,91 @@
 //! The options of an IPv4 header.
 
 use crate::arguments::Arguments;
-use crate::case_error::CaseError;
-use crate::shown::{BadOptions, Bytes, Comparison};
+use crate::shown::{BadOptions, Bytes, Comparison, write_shown};
 use etherparse::Ipv4Options;
 use std::alloc::AllocError;
 
 /// `opt B` and the cases `opt.NAME`.
-pub fn answer(name: &str, arguments: Arguments, answer: &mut String) -> Result<(), CaseError> {
+pub fn answer(
+    name: &str,
+    arguments: &mut Arguments,
+    answer: &mut String,
+) -> Result<(), AllocError> {
     match name {
         "" => answer_made(arguments, answer),
         "arr" => answer_array(arguments, answer),
         "set" => answer_set(arguments, answer),
         "cmp" => answer_comparison(arguments, answer),
-        _ => Err(CaseError::BadLine),
+        _ => {
+            arguments.refuse();
+            Ok(())
+        }
     }
 }
 
 // Options from a slice of any length.
-fn answer_made(mut arguments: Arguments, answer: &mut String) -> Result<(), CaseError> {
+fn answer_made(arguments: &mut Arguments, answer: &mut String) -> Result<(), AllocError> {
     let bytes = arguments.bytes()?;
-    arguments.end()?;
     match Ipv4Options::try_from(bytes.as_slice()) {
-        Ok(options) => write_options(&options, answer)?,
-        Err(e) => write!(answer, "{}", BadOptions(&e))?,
+        Ok(options) => write_options(&options, answer),
+        Err(e) => write_shown(&BadOptions(&e), answer),
     }
-    Ok(())
 }
 
 // Options from an array, whose length is one that is accepted.
-fn answer_array(mut arguments: Arguments, answer: &mut String) -> Result<(), CaseError> {
+fn answer_array(arguments: &mut Arguments, answer: &mut String) -> Result<(), AllocError> {
     let bytes = arguments.bytes()?;
-    arguments.end()?;
-    let options = from_array(&bytes).ok_or(CaseError::BadLine)?;
-    write_options(&options, answer)?;
+    if let Some(options) = from_array(&bytes) {
+        return write_options(&options, answer);
+    }
+    arguments.refuse();
     Ok(())
 }
 
 // Options with one byte written.
-fn answer_set(mut arguments: Arguments, answer: &mut String) -> Result<(), CaseError> {
+fn answer_set(arguments: &mut Arguments, answer: &mut String) -> Result<(), AllocError> {
     let mut options = arguments.options()?;
-    let index: usize = arguments.number()?;
-    let value: u8 = arguments.number()?;
-    arguments.end()?;
-    let byte = options
-        .as_mut_slice()
-        .get_mut(index)
-        .ok_or(CaseError::BadLine)?;
-    *byte = value;
-    write_options(&options, answer)?;
-    Ok(())
+    let index: usize = arguments.number();
+    let value: u8 = arguments.number();
+    match options.as_mut_slice().get_mut(index) {
+        Some(byte) => *byte = value,
+        None => arguments.refuse(),
+    }
+    write_options(&options, answer)
 }
 
 // Two options against each other.
-fn answer_comparison(mut arguments: Arguments, answer: &mut String) -> Result<(), CaseError> {
+fn answer_comparison(arguments: &mut Arguments, answer: &mut String) -> Result<(), AllocError> {
     let first = arguments.options()?;
     let second = arguments.options()?;
-    arguments.end()?;
-    write!(answer, "{}", Comparison::of(&first, &second))?;
-    Ok(())
+    write_shown(&Comparison::of(&first, &second), answer)
 }
 
 // The options of an array as long as these bytes, for the lengths that have a conversion.
 fn from_array(bytes: &[u8]) -> Option<Ipv4Options> {
     let options = match bytes.len() {
-        0 => Ipv4Options::from(*bytes.first_chunk::<0>()?),
-        4 => Ipv4Options::from(*bytes.first_chunk::<4>()?),
-        8 => Ipv4Options::from(*bytes.first_chunk::<8>()?),
-        12 => Ipv4Options::from(*bytes.first_chunk::<12>()?),
-        16 => Ipv4Options::from(*bytes.first_chunk::<16>()?),
-        20 => Ipv4Options::from(*bytes.first_chunk::<20>()?),
-        24 => Ipv4Options::from(*bytes.first_chunk::<24>()?),
-        28 => Ipv4Options::from(*bytes.first_chunk::<28>()?),
-        32 => Ipv4Options::from(*bytes.first_chunk::<32>()?),
-        36 => Ipv4Options::from(*bytes.first_chunk::<36>()?),
-        40 => Ipv4Options::from(*bytes.first_chunk::<40>()?),
+        0 => Ipv4Options::from(front::<0>(bytes)),
+        4 => Ipv4Options::from(front::<4>(bytes)),
+        8 => Ipv4Options::from(front::<8>(bytes)),
+        12 => Ipv4Options::from(front::<12>(bytes)),
+        16 => Ipv4Options::from(front::<16>(bytes)),
+        20 => Ipv4Options::from(front::<20>(bytes)),
+        24 => Ipv4Options::from(front::<24>(bytes)),
+        28 => Ipv4Options::from(front::<28>(bytes)),
+        32 => Ipv4Options::from(front::<32>(bytes)),
+        36 => Ipv4Options::from(front::<36>(bytes)),
+        40 => Ipv4Options::from(front::<40>(bytes)),
         _ => return None,
     };
     Some(options)
+}
+
+// The first `N` bytes, of which there are so many.
+fn front<const N: usize>(bytes: &[u8]) -> [u8; N] {
+    match bytes.first_chunk::<N>() {
+        Some(front) => *front,
+        None => [0; N],
+    }
 }
 
 fn write_options(options: &Ipv4Options, answer: &mut String) -> Result<(), AllocError> {

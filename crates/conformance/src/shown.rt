@@ -5,10 +5,16 @@ ghost use Rattle.std.specs.Prelude.{◌≡◌};
 use etherparse::err::ipv4::BadOptionsLen;
 use etherparse::err::{LenError, ValueTooBigError, ipv4, ipv6};
 use etherparse::{IpDscp, IpEcn, IpFragOffset, IpNumber, Ipv4Header, Ipv4HeaderSlice, Ipv6Header};
+use std::alloc::AllocError;
 use std::cmp::Ordering;
 use std::fmt;
 use std::fmt::{Debug, Display};
 use std::hash::Hash;
+
+/// Writes a value by itself.
+pub fn write_shown<T: Display>(shown: &T, answer: &mut String) -> Result<(), AllocError> {
+    write!(answer, "{shown}")
+}
 
 /// Bytes in lower-case hex digits, `-` where there is none.
 #[derive(Drop)]

@@ -4,7 +4,7 @@ use etherparse::err::{Layer, ValueType};
 use etherparse::{IpDscp, IpDscpKnown, IpNumber, LenSource, ip_number};
 
 /// The layers, in their order.
-pub const LAYERS: [(&str, Layer); 25] = [
+pub static LAYERS: [(&str, Layer); 25] = [
     ("LinuxSllHeader", Layer::LinuxSllHeader),
     ("Ethernet2Header", Layer::Ethernet2Header),
     ("EtherPayload", Layer::EtherPayload),
@@ -33,7 +33,7 @@ pub const LAYERS: [(&str, Layer); 25] = [
 ];
 
 /// The value types, in their order.
-pub const VALUE_TYPES: [(&str, ValueType); 16] = [
+pub static VALUE_TYPES: [(&str, ValueType); 16] = [
     ("VlanId", ValueType::VlanId),
     ("VlanPcp", ValueType::VlanPcp),
     ("MacsecAn", ValueType::MacsecAn),
@@ -53,7 +53,7 @@ pub const VALUE_TYPES: [(&str, ValueType); 16] = [
 ];
 
 /// Where a length may come from.
-pub const LEN_SOURCES: [(&str, LenSource); 7] = [
+pub static LEN_SOURCES: [(&str, LenSource); 7] = [
     ("Slice", LenSource::Slice),
     ("MacsecShortLength", LenSource::MacsecShortLength),
     ("Ipv4HeaderTotalLen", LenSource::Ipv4HeaderTotalLen),
@@ -91,7 +91,7 @@ pub const CODE_POINTS: [(&str, IpDscp); 23] = [
 ];
 
 /// The known code points, in their order.
-pub const KNOWN_CODE_POINTS: [IpDscpKnown; 23] = [
+pub static KNOWN_CODE_POINTS: [IpDscpKnown; 23] = [
     IpDscpKnown::ClassSelector0,
     IpDscpKnown::LowerEffort,
     IpDscpKnown::ClassSelector1,

@@ -1,8 +1,7 @@
 //! The walk past IPv6 extension headers.
 
 use crate::arguments::Arguments;
-use crate::case_error::CaseError;
-use crate::shown::{Bytes, ChainRefusal, Len};
+use crate::shown::{Bytes, ChainRefusal, Len, write_shown};
 use etherparse::err::LenError;
 use etherparse::err::ipv6::ChainError;
 use etherparse::{IpNumber, Ipv6Header};
@@ -11,51 +10,46 @@ use std::alloc::AllocError;
 /// `skip B N`: one extension header at the front of a slice.
 pub fn answer_skip(
     name: &str,
-    mut arguments: Arguments,
+    arguments: &mut Arguments,
     answer: &mut String,
-) -> Result<(), CaseError> {
+) -> Result<(), AllocError> {
     let bytes = arguments.bytes()?;
-    let number = arguments.ip_number()?;
-    arguments.end()?;
+    let number = arguments.ip_number();
     if !name.is_empty() {
-        return Err(CaseError::BadLine);
+        arguments.refuse();
     }
-    write_answer(
-        &Ipv6Header::skip_header_extension_in_slice(&bytes, number),
-        answer,
-    )?;
-    Ok(())
+    let walked = Ipv6Header::skip_header_extension_in_slice(&bytes, number);
+    write_answer(&walked, answer)
 }
 
 /// `walk B N` and `walk.counted B N`: all extension headers at the front of a slice. `walk.limit B N LIMIT`: so many at most.
 pub fn answer_walk(
     name: &str,
-    mut arguments: Arguments,
+    arguments: &mut Arguments,
     answer: &mut String,
-) -> Result<(), CaseError> {
+) -> Result<(), AllocError> {
     let bytes = arguments.bytes()?;
-    let number = arguments.ip_number()?;
+    let number = arguments.ip_number();
     match name {
         "" => {
-            arguments.end()?;
             let walked = Ipv6Header::skip_all_header_extensions_in_slice(&bytes, number);
-            write_answer(&walked, answer)?;
+            write_answer(&walked, answer)
         }
         "counted" => {
-            arguments.end()?;
             let (walked, turns) = Ipv6Header::skip_all_header_extensions_counted(&bytes, number);
             write_answer(&walked, answer)?;
-            write!(answer, " turns={turns}")?;
+            write!(answer, " turns={turns}")
         }
         "limit" => {
-            let limit = arguments.number()?;
-            arguments.end()?;
+            let limit = arguments.number();
             let walked = Ipv6Header::skip_header_extensions_up_to(&bytes, number, limit);
-            write_limited_answer(&walked, answer)?;
+            write_limited_answer(&walked, answer)
         }
-        _ => return Err(CaseError::BadLine),
+        _ => {
+            arguments.refuse();
+            Ok(())
+        }
     }
-    Ok(())
 }
 
 fn write_answer(
@@ -64,7 +58,7 @@ fn write_answer(
 ) -> Result<(), AllocError> {
     match walked {
         Ok((next, rest)) => write!(answer, "ok next={} rest={}", next.0, Bytes(rest)),
-        Err(e) => write!(answer, "{}", Len(e)),
+        Err(e) => write_shown(&Len(e), answer),
     }
 }
 
@@ -74,6 +68,6 @@ fn write_limited_answer(
 ) -> Result<(), AllocError> {
     match walked {
         Ok((next, rest)) => write!(answer, "ok next={} rest={}", next.0, Bytes(rest)),
-        Err(e) => write!(answer, "{}", ChainRefusal(e)),
+        Err(e) => write_shown(&ChainRefusal(e), answer),
     }
 }

@@ -1,5 +1,4 @@
 use super::Arguments;
-use crate::case_error::CaseError;
 use etherparse::err::{LenError, SliceWriteSpaceError, ValueTooBigError, ipv4, ipv6};
 use std::fmt::{Debug, Display};
 use std::hash::Hash;
@@ -7,86 +6,98 @@ use std::str::FromStr;
 
 impl<'a> Arguments<'a> {
     /// A `LenError`: `required len LENSOURCE LAYER offset`.
-    pub fn len_error(&mut self) -> Result<LenError, CaseError> {
-        Ok(LenError {
-            required_len: self.number()?,
-            len: self.number()?,
-            len_source: self.len_source()?,
-            layer: self.layer()?,
-            layer_start_offset: self.number()?,
-        })
+    pub fn len_error(&mut self) -> LenError {
+        LenError {
+            required_len: self.number(),
+            len: self.number(),
+            len_source: self.len_source(),
+            layer: self.layer(),
+            layer_start_offset: self.number(),
+        }
     }
 
     /// A `SliceWriteSpaceError`: `required len LAYER offset`.
-    pub fn space_error(&mut self) -> Result<SliceWriteSpaceError, CaseError> {
-        Ok(SliceWriteSpaceError {
-            required_len: self.number()?,
-            len: self.number()?,
-            layer: self.layer()?,
-            layer_start_offset: self.number()?,
-        })
+    pub fn space_error(&mut self) -> SliceWriteSpaceError {
+        SliceWriteSpaceError {
+            required_len: self.number(),
+            len: self.number(),
+            layer: self.layer(),
+            layer_start_offset: self.number(),
+        }
     }
 
     /// An IPv4 `HeaderSliceError`: `len` and a `LenError`, `version V` or `ihl I`.
-    pub fn ipv4_error(&mut self) -> Result<ipv4::HeaderSliceError, CaseError> {
-        match self.word()? {
-            "len" => Ok(ipv4::HeaderSliceError::Len(self.len_error()?)),
-            "version" => Ok(ipv4::HeaderSliceError::Content(self.ipv4_version_error()?)),
-            "ihl" => Ok(ipv4::HeaderSliceError::Content(self.ipv4_ihl_error()?)),
-            _ => Err(CaseError::BadLine),
+    pub fn ipv4_error(&mut self) -> ipv4::HeaderSliceError {
+        let kind = self.any_word();
+        if kind == "version" {
+            return ipv4::HeaderSliceError::Content(self.ipv4_version_error());
         }
+        if kind == "ihl" {
+            return ipv4::HeaderSliceError::Content(self.ipv4_ihl_error());
+        }
+        if kind != "len" {
+            self.refuse();
+        }
+        ipv4::HeaderSliceError::Len(self.len_error())
     }
 
     /// An IPv6 `HeaderSliceError`: `len` and a `LenError`, or `version V`.
-    pub fn ipv6_error(&mut self) -> Result<ipv6::HeaderSliceError, CaseError> {
-        match self.word()? {
-            "len" => Ok(ipv6::HeaderSliceError::Len(self.len_error()?)),
-            "version" => Ok(ipv6::HeaderSliceError::Content(self.ipv6_version_error()?)),
-            _ => Err(CaseError::BadLine),
+    pub fn ipv6_error(&mut self) -> ipv6::HeaderSliceError {
+        let kind = self.any_word();
+        if kind == "version" {
+            return ipv6::HeaderSliceError::Content(self.ipv6_version_error());
         }
+        if kind != "len" {
+            self.refuse();
+        }
+        ipv6::HeaderSliceError::Len(self.len_error())
     }
 
     /// A `ChainError`: `len` and a `LenError`, or `too_many limit next offset`.
-    pub fn chain_error(&mut self) -> Result<ipv6::ChainError, CaseError> {
-        match self.word()? {
-            "len" => Ok(ipv6::ChainError::Len(self.len_error()?)),
-            "too_many" => Ok(ipv6::ChainError::TooMany {
-                limit: self.number()?,
-                next_header: self.number()?,
-                layer_start_offset: self.number()?,
-            }),
-            _ => Err(CaseError::BadLine),
+    pub fn chain_error(&mut self) -> ipv6::ChainError {
+        let kind = self.any_word();
+        if kind == "too_many" {
+            return ipv6::ChainError::TooMany {
+                limit: self.number(),
+                next_header: self.number(),
+                layer_start_offset: self.number(),
+            };
         }
+        if kind != "len" {
+            self.refuse();
+        }
+        ipv6::ChainError::Len(self.len_error())
     }
 
     /// The IPv4 `HeaderError` of a version.
-    pub fn ipv4_version_error(&mut self) -> Result<ipv4::HeaderError, CaseError> {
-        let version_number = self.number()?;
-        Ok(ipv4::HeaderError::UnexpectedVersion { version_number })
+    pub fn ipv4_version_error(&mut self) -> ipv4::HeaderError {
+        ipv4::HeaderError::UnexpectedVersion {
+            version_number: self.number(),
+        }
     }
 
     /// The IPv4 `HeaderError` of an IHL.
-    pub fn ipv4_ihl_error(&mut self) -> Result<ipv4::HeaderError, CaseError> {
-        let ihl = self.number()?;
-        Ok(ipv4::HeaderError::HeaderLengthSmallerThanHeader { ihl })
+    pub fn ipv4_ihl_error(&mut self) -> ipv4::HeaderError {
+        ipv4::HeaderError::HeaderLengthSmallerThanHeader { ihl: self.number() }
     }
 
     /// The IPv6 `HeaderError` of a version.
-    pub fn ipv6_version_error(&mut self) -> Result<ipv6::HeaderError, CaseError> {
-        let version_number = self.number()?;
-        Ok(ipv6::HeaderError::UnexpectedVersion { version_number })
+    pub fn ipv6_version_error(&mut self) -> ipv6::HeaderError {
+        ipv6::HeaderError::UnexpectedVersion {
+            version_number: self.number(),
+        }
     }
 
     /// A `ValueTooBigError`: `actual max_allowed VALUETYPE`.
-    pub fn too_big_error<T>(&mut self) -> Result<ValueTooBigError<T>, CaseError>
+    pub fn too_big_error<T>(&mut self) -> ValueTooBigError<T>
     where
-        T: FromStr + Clone + Display + Debug + Eq + Hash + Drop,
+        T: FromStr + Default + Clone + Display + Debug + Eq + Hash + Drop,
         T::Err: Drop,
     {
-        Ok(ValueTooBigError {
-            actual: self.number()?,
-            max_allowed: self.number()?,
-            value_type: self.value_type()?,
-        })
+        ValueTooBigError {
+            actual: self.number(),
+            max_allowed: self.number(),
+            value_type: self.value_type(),
+        }
     }
 }

@@ -1,22 +1,21 @@
 use super::Arguments;
-use crate::case_error::CaseError;
 use etherparse::checksum::Sum16BitWords;
-use std::alloc::Global;
+use std::alloc::AllocError;
 
 impl<'a> Arguments<'a> {
     /// The bytes of each word that is left, however many words.
-    pub fn pieces(&mut self) -> Result<Vec<Vec<u8>>, CaseError> {
+    pub fn pieces(&mut self) -> Result<Vec<Vec<u8>>, AllocError> {
         let mut pieces = Vec::new(self.alloc);
         if let Some(rest) = self.rest.take() {
             for word in rest.split(' ') {
-                pieces.push(Arguments::new(self.alloc, word).bytes()?)?;
+                pieces.push(self.decoded(word)?)?;
             }
         }
         Ok(pieces)
     }
 
     /// The sum of the steps that are left; more than one, where a `/` stands between them.
-    pub fn sums(&mut self) -> Result<Vec<Sum16BitWords>, CaseError> {
+    pub fn sums(&mut self) -> Result<Vec<Sum16BitWords>, AllocError> {
         let mut sums = Vec::new(self.alloc);
         let mut sum = Sum16BitWords::new();
         if let Some(rest) = self.rest.take() {
@@ -25,25 +24,30 @@ impl<'a> Arguments<'a> {
                     sums.push(sum)?;
                     sum = Sum16BitWords::new();
                 } else {
-                    sum = added(self.alloc, sum, word)?;
+                    sum = self.added(sum, word)?;
                 }
             }
         }
         sums.push(sum)?;
         Ok(sums)
     }
-}
 
-// The sum with the bytes of a step: how many there are, or `s` for a slice, a colon, and the bytes.
-fn added(alloc: Global, mut sum: Sum16BitWords, step: &str) -> Result<Sum16BitWords, CaseError> {
-    let (kind, bytes) = step.split_once(':').ok_or(CaseError::BadLine)?;
-    let mut bytes = Arguments::new(alloc, bytes);
-    match kind {
-        "s" => Ok(sum.add_slice(&bytes.bytes()?)),
-        "2" => Ok(sum.add_2bytes(bytes.array()?)),
-        "4" => Ok(sum.add_4bytes(bytes.array()?)),
-        "8" => Ok(sum.add_8bytes(bytes.array()?)),
-        "16" => Ok(sum.add_16bytes(bytes.array()?)),
-        _ => Err(CaseError::BadLine),
+    // The sum with the bytes of a step: how many there are, or `s` for a slice, a colon, and the bytes.
+    fn added(&mut self, mut sum: Sum16BitWords, step: &str) -> Result<Sum16BitWords, AllocError> {
+        let (kind, digits) = step.split_once(':').unwrap_or(("", step));
+        match kind {
+            "s" => {
+                let bytes = self.decoded(digits)?;
+                Ok(sum.add_slice(&bytes))
+            }
+            "2" => Ok(sum.add_2bytes(self.decoded_array(digits))),
+            "4" => Ok(sum.add_4bytes(self.decoded_array(digits))),
+            "8" => Ok(sum.add_8bytes(self.decoded_array(digits))),
+            "16" => Ok(sum.add_16bytes(self.decoded_array(digits))),
+            _ => {
+                self.refuse();
+                Ok(sum)
+            }
+        }
     }
 }
