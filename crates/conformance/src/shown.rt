@@ -87,13 +87,14 @@ pub struct Len<'a>(pub &'a LenError);
 
 impl Display for Len<'_> {
     fn fmt<W: fmt::Write>(&self, f: &mut fmt::Formatter<W>) -> fmt::Result {
+        let e = self.0;
         let LenError {
             required_len,
             len,
             len_source,
             layer,
             layer_start_offset,
-        } = self.0;
+        } = e;
         write!(
             f,
             "err len required={required_len} len={len} source={len_source:?} layer={layer:?} offset={layer_start_offset}"

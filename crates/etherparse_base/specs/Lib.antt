@@ -4,6 +4,7 @@ pub mod Ipv4Errors
 pub mod Ipv6Errors
 pub mod Layer
 pub mod LenError
+pub mod LenErrorFields
 pub mod LenSource
 pub mod SliceWriteSpaceError
 pub mod ValueTooBigError

@@ -79,10 +79,7 @@ pub fn ipv6_next_hop(packet: &[u8]) -> Result<Option<[u8; 40]>, ipv6::HeaderSlic
     ensures last { IfOk result (λ sent. IfNone sent (IsLastIpv6Hop packet.now)) }
     ensures refused { IfErr result (RefusesIpv6 packet.now) }
 {
-    let mut header = match Ipv6Header::from_slice(packet) {
-        Ok((header, _)) => header,
-        Err(e) => return Err(e),
-    };
+    let (mut header, _) = Ipv6Header::from_slice(packet)?;
     if header.hop_limit <= 1 {
         return Ok(None);
     }
@@ -109,10 +106,8 @@ pub fn ipv6_rewritten(packet: &[u8]) -> Result<([u8; 40], &[u8]), ipv6::HeaderSl
     ensures whole { IfOk result (λ x. packet.now ≡ x.0 ++ x.1.now) }
     ensures refused { IfErr result (RefusesIpv6 packet.now) }
 {
-    match Ipv6Header::from_slice(packet) {
-        Ok((header, rest)) => Ok((header.to_bytes(), rest)),
-        Err(e) => Err(e),
-    }
+    let (header, rest) = Ipv6Header::from_slice(packet)?;
+    Ok((header.to_bytes(), rest))
 }
 
 /// Lets an IPv4 header announce a payload of 100 bytes. There is room for them, whatever its options, which stay.

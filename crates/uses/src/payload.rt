@@ -15,10 +15,8 @@ pub fn ipv6_payload(packet: &[u8]) -> Result<&[u8], ipv6::HeaderSliceError>
     ensures cut { IfOk result (λ payload. HasIpv6Payload packet.now payload.now) }
     ensures refused { IfErr result (RefusesIpv6 packet.now) }
 {
-    match Ipv6Header::from_slice(packet) {
-        Ok((header, rest)) => Ok(&rest[..usize::from(header.payload_length).min(rest.len())]),
-        Err(e) => Err(e),
-    }
+    let (header, rest) = Ipv6Header::from_slice(packet)?;
+    Ok(&rest[..usize::from(header.payload_length).min(rest.len())])
 }
 
 /// What follows an IPv4 header, as far as its total length says and the capture has. A total length below that of the

@@ -16,10 +16,7 @@ pub fn upper_layer(packet: &[u8]) -> Result<(IpNumber, &[u8]), HeaderSliceError>
     ensures found { IfOk result (λ x. HasUpperLayer packet.now x.0 x.1.now) }
     ensures refused { IfErr result (RefusesUpperLayer packet.now) }
 {
-    let (header, rest) = match Ipv6Header::from_slice(packet) {
-        Ok(read) => read,
-        Err(e) => return Err(e),
-    };
+    let (header, rest) = Ipv6Header::from_slice(packet)?;
     match Ipv6Header::skip_all_header_extensions_in_slice(rest, header.next_header) {
         Ok(upper) => Ok(upper),
         Err(e) => Err(HeaderSliceError::Len(e.add_offset(Ipv6Header::LEN))),
@@ -34,10 +31,7 @@ pub fn is_udp_right(packet: &[u8]) -> Result<Option<bool>, HeaderSliceError>
     ensures none { IfOk result (λ found. IfNone found (HasNoUdp packet.now)) }
     ensures refused { IfErr result (RefusesUpperLayer packet.now) }
 {
-    let (header, rest) = match Ipv6Header::from_slice(packet) {
-        Ok(read) => read,
-        Err(e) => return Err(e),
-    };
+    let (header, rest) = Ipv6Header::from_slice(packet)?;
     let (number, datagram) = match Ipv6Header::skip_all_header_extensions_in_slice(
         rest,
         header.next_header,

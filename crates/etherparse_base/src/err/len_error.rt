@@ -8,6 +8,7 @@ use super::Layer;
 use crate::LenSource;
 use std::error::Error;
 use std::fmt;
+use std::marker::Model;
 
 /// A length that does not fit the layer: too small where `required_len` is above `len`, and else too great.
 #[derive(Clone, Debug, PartialEq, Eq, Hash, Drop)]
@@ -22,6 +23,29 @@ pub struct LenError {
     pub layer: Layer,
     /// Where the layer starts, in bytes from the start of the parsed data.
     pub layer_start_offset: usize,
+}
+
+/// A contract sees the fields. Without this `impl` the check refuses `?` on what holds a reference beside an `IpNumber`.
+impl Model for LenError {
+    ghost use Rattle.etherparse_base.specs.LenErrorFields.{LenErrorFields};
+
+    ghost Value = { LenErrorFields };
+
+    ghost view = { λ e. record {
+      required_len = e.required_len;
+      len = e.len;
+      len_source = e.len_source;
+      layer = e.layer;
+      layer_start_offset = e.layer_start_offset;
+    } };
+
+    ghost inverse = { λ e. record {
+      required_len = e.required_len;
+      len = e.len;
+      len_source = e.len_source;
+      layer = e.layer;
+      layer_start_offset = e.layer_start_offset;
+    } };
 }
 
 impl LenError {
