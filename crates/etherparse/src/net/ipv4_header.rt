@@ -1,4 +1,4 @@
-ghost use Rattle.std.specs.Prelude.{◌≡◌, ◌≤◌, ◌+◌, ◌++◌, length};
+ghost use Rattle.std.specs.Prelude.{◌≡◌, ◌≤◌, ◌+◌, ◌++◌, ◌<◌, IfOk, IfErr, length};
 ghost use Rattle.etherparse_base.specs.Bytes.{IsBytes};
 ghost use Rattle.etherparse_base.specs.WordSums.{folded_sum, little_endian_word_sum};
 ghost use Rattle.etherparse_fields.specs.Ipv4Options.{IsOptionsLen};
@@ -147,6 +147,7 @@ impl Ipv4Header {
     pub fn header_len(&self) -> usize
         ensures value { result ≡ ipv4_header_len self.now }
         ensures within { result ≤ 60 }
+        ensures in_words { result ≡ 4 * ipv4_ihl self.now }
     {
         Ipv4Header::MIN_LEN + self.options.len()
     }
@@ -160,6 +161,8 @@ impl Ipv4Header {
     #[inline]
     pub fn payload_len(&self) -> Result<u16, LenError>
         ensures value { result ≡ ipv4_payload_len self.now }
+        ensures of_total { IfOk result (λ len. ipv4_header_len self.now + len ≡ self.now.total_len) }
+        ensures short { IfErr result (λ e. self.now.total_len < ipv4_header_len self.now) }
     {
         payload_len_between(self.header_len() as u16, self.total_len)
     }
@@ -444,6 +447,8 @@ const _: () = prove!(Ipv4Header::MAX_LEN == 60 && Ipv4Header::SERIALIZED_SIZE ==
 #[inline]
 pub(super) fn payload_len_between(header_len: u16, total_len: u16) -> Result<u16, LenError>
     ensures value { result ≡ payload_len_of header_len total_len }
+    ensures of_total { IfOk result (λ len. header_len + len ≡ total_len) }
+    ensures short { IfErr result (λ e. total_len < header_len) }
 {
     if header_len <= total_len {
         Ok(total_len - header_len)

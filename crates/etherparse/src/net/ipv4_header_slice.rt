@@ -26,7 +26,8 @@ pub struct Ipv4HeaderSlice<'a> {
 }
 
 impl<'a> Ipv4HeaderSlice<'a> {
-    ghost use Rattle.std.specs.Prelude.{ℕ, ◌≡◌, ◌%◌, ◌≤◌, ◌↔◌, List, Result, IsOkAnd, IsTrue, drop, length, slice_index};
+    ghost use Rattle.std.specs.Prelude.{ℕ, ◌≡◌, ◌%◌, ◌≤◌, ◌↔◌, List, Result, IsOkAnd, IsTrue, drop, length, slice_index, slice_range};
+    ghost use Rattle.std.specs.Int.{from_be_bytes, w16};
     ghost use Rattle.etherparse_base.specs.declared.err.ipv4.header_slice_error.HeaderSliceError.{HeaderSliceError};
     ghost use Rattle.etherparse.specs.Ipv4Header.{HasIpv4Layout, IsFragment, OfIpv4Header, ViewsIpv4, ipv4_ihl, ipv4_payload_len};
     ghost use Rattle.etherparse.specs.Ipv4HeaderSlice.{ipv4_view_bytes};
@@ -105,6 +106,7 @@ impl<'a> Ipv4HeaderSlice<'a> {
     #[inline]
     pub fn total_len(&self) -> u16
         ensures value { OfIpv4Header self.now.slice.now (λ header. result ≡ header.total_len) }
+        ensures bytes_2_3 { result ≡ from_be_bytes w16 (slice_range self.now.slice.now 2 4) }
     {
         u16::from_be_bytes([self.slice[2], self.slice[3]])
     }
@@ -127,6 +129,7 @@ impl<'a> Ipv4HeaderSlice<'a> {
     #[inline]
     pub fn identification(&self) -> u16
         ensures value { OfIpv4Header self.now.slice.now (λ header. result ≡ header.identification) }
+        ensures bytes_4_5 { result ≡ from_be_bytes w16 (slice_range self.now.slice.now 4 6) }
     {
         u16::from_be_bytes([self.slice[4], self.slice[5]])
     }
@@ -190,6 +193,7 @@ impl<'a> Ipv4HeaderSlice<'a> {
     pub fn header_checksum(&self) -> u16
         ensures value { OfIpv4Header self.now.slice.now (λ header.
             result ≡ header.header_checksum) }
+        ensures bytes_10_11 { result ≡ from_be_bytes w16 (slice_range self.now.slice.now 10 12) }
     {
         u16::from_be_bytes([self.slice[10], self.slice[11]])
     }
@@ -198,6 +202,7 @@ impl<'a> Ipv4HeaderSlice<'a> {
     #[inline]
     pub fn source(&self) -> [u8; 4]
         ensures value { OfIpv4Header self.now.slice.now (λ header. result ≡ header.source) }
+        ensures bytes_12_to_15 { result ≡ slice_range self.now.slice.now 12 16 }
     {
         *self.slice[12..16].first_chunk::<4>().unwrap()
     }
@@ -206,6 +211,7 @@ impl<'a> Ipv4HeaderSlice<'a> {
     #[inline]
     pub fn destination(&self) -> [u8; 4]
         ensures value { OfIpv4Header self.now.slice.now (λ header. result ≡ header.destination) }
+        ensures bytes_16_to_19 { result ≡ slice_range self.now.slice.now 16 20 }
     {
         *self.slice[16..20].first_chunk::<4>().unwrap()
     }
@@ -215,6 +221,7 @@ impl<'a> Ipv4HeaderSlice<'a> {
     pub fn options(&self) -> &'a [u8]
         ensures value { OfIpv4Header self.now.slice.now (λ header. result.now ≡ header.options) }
         ensures options_len { IsOptionsLen (length result.now) }
+        ensures from_byte_20 { result.now ≡ drop 20 self.now.slice.now }
     {
         &self.slice[Ipv4Header::MIN_LEN..]
     }

@@ -68,6 +68,7 @@ impl Ipv6Header {
             IfErr result (λ e.
             IsWalkOf s first (Err (len_error_moved (length s - length slice.now) e))) }
         ensures at_front { IfErr result (λ e. e.layer_start_offset ≡ 0) }
+        ensures shorter { IsSkippable next_header → IfOk result (λ x. length x.1.now < length slice.now) }
     {
         let len = match next_header.0 {
             FRAGMENT => 8,
