@@ -4,11 +4,11 @@ use Rattle.std.specs.Prelude.{◌↔◌, ◌⊎◌, ◌*◌}
 use Rattle.std.specs.Int.{from_bool, swap_bytes, w16}
 use Rattle.std.proofs.lemmas.Bool.{cases_eq}
 use Rattle.std.proofs.lemmas.List.{length-take-le, take_all, take-append-drop}
-use Rattle.etherparse_base.specs.WordSums.{SumsToAllOnes, folded_sum, little_endian_word_sum, network_order_word_sum}
-use Rattle.etherparse_base.proofs.FoldedSums.{folded_sum-plus, folded_sum-positive, folded_sum-within}
-use Rattle.etherparse_base.proofs.WordSumLaws.{complement_swapped, little_endian_word_sum-append}
+use Rattle.etherparse_base.specs.WordSums.{SumsToAllOnes, UpdatesChecksum, folded_sum, little_endian_word_sum, network_order_word_sum}
+use Rattle.etherparse_base.proofs.FoldedSums.{folded_sum-plus, folded_sum-positive}
+use Rattle.etherparse_base.proofs.WordSumLaws.{complement_swapped, little_endian_word_sum-append, network_order_word_sum-append}
 use Rattle.etherparse.proofs.Ipv4Layout.{flags_word, front_spelling, front_spells, ranges_of, spelled, spelling}
-use Rattle.etherparse.specs.HeaderChecksum.{header_checksum_of, with_checksum_cleared}
+use Rattle.etherparse.specs.HeaderChecksum.{KeepsChecksum, header_checksum_of, with_checksum_cleared}
 use Rattle.etherparse.specs.Ipv4Header.{IsIpv4Layout}
 use Rattle.etherparse.specs.declared.net.ipv4_header.Ipv4Header.{Ipv4Header}
 
@@ -58,21 +58,31 @@ right_checksum h r p l =
     let right = all_ones_with others h.header_checksum some (omega arith) in
     rw (checksum_apart h r p l) right
 
--- a header with another time to live and another checksum
+-- a header with another time to live, source or destination, and another checksum
 abbrev pub with_time_to_live : ℕ → ℕ → Ipv4Header → Ipv4Header
 with_time_to_live time_to_live checksum h = record h { time_to_live = time_to_live; header_checksum = checksum }
 
--- what another time to live changes in the sum of the other words: the word that it shares with the protocol
-pub record TimeToLiveChanges (sum old new after : ℕ) : Type 0 where
+abbrev pub with_source : List ℕ → ℕ → Ipv4Header → Ipv4Header
+with_source source checksum h = record h { source = source; header_checksum = checksum }
+
+abbrev pub with_destination : List ℕ → ℕ → Ipv4Header → Ipv4Header
+with_destination destination checksum h = record h { destination = destination; header_checksum = checksum }
+
+-- of the words but the checksum, those that sum to the old number become others
+pub record SumChanges (sum old new after : ℕ) : Type 0 where
   pub within : old ≤ sum
   pub some : 0 < sum
   pub replaced : after ≡ sum - old + new
   pub some_after : 0 < sum - old + new
 
-pub time_to_live_changes : (h : Ipv4Header) (t c protocol r : ℕ) (p q : List ℕ) → protocol ≡ h.protocol → IsIpv4Layout h r p → IsIpv4Layout (with_time_to_live t c h) r q
-    → TimeToLiveChanges (network_order_word_sum (with_checksum_cleared p)) (h.time_to_live * 2 ^ 8 + protocol) (t * 2 ^ 8 + protocol)
-    (network_order_word_sum (with_checksum_cleared q))
-time_to_live_changes h t c protocol r p q same k l =
+-- what a header with a field and the checksum changed is in its words
+abbrev pub HeaderChanges : Ipv4Header → Ipv4Header → ℕ → ℕ → Type 0
+HeaderChanges h g old new = (r : ℕ) (p q : List ℕ) → IsIpv4Layout h r p → IsIpv4Layout g r q
+    → SumChanges (network_order_word_sum (with_checksum_cleared p)) old new (network_order_word_sum (with_checksum_cleared q))
+
+pub time_to_live_changes : (h : Ipv4Header) (t c protocol : ℕ) → protocol ≡ h.protocol
+    → HeaderChanges h (with_time_to_live t c h) (h.time_to_live * 2 ^ 8 + protocol) (t * 2 ^ 8 + protocol)
+time_to_live_changes h t c protocol same r p q k l =
     let before = cleared_spells h r p k in
     let after = cleared_spells (with_time_to_live t c h) r q l in
     record {
@@ -81,6 +91,55 @@ time_to_live_changes h t c protocol r p q same k l =
       replaced = rw before (rw after (omega arith));
       some_after = rw before (omega arith);
     }
+
+-- an address in front of other bytes
+address_apart : (h : Ipv4Header) (r : ℕ) (p address rest : List ℕ) → IsIpv4Layout h r p → length address ≡ 4
+    → network_order_word_sum (address ++ rest) ≡ network_order_word_sum address + network_order_word_sum rest
+address_apart h r p address rest l four = network_order_word_sum-append address rest (omega (arith, four))
+
+pub source_changes : (h : Ipv4Header) (source : List ℕ) (c : ℕ)
+    → HeaderChanges h (with_source source c h) (network_order_word_sum h.source) (network_order_word_sum source)
+source_changes h source c r p q k l =
+    let before = cleared_spells h r p k in
+    let after = cleared_spells (with_source source c h) r q l in
+    let old = address_apart h r p h.source (h.destination ++ h.options) k (ranges_of h r p k).source in
+    let new = address_apart h r p source (h.destination ++ h.options) k (ranges_of (with_source source c h) r q l).source in
+    record {
+      within = rw before (omega (arith, old));
+      some = rw before (omega arith);
+      replaced = rw before (rw after (omega (arith, old, new)));
+      some_after = rw before (omega (arith, old));
+    }
+
+pub destination_changes : (h : Ipv4Header) (destination : List ℕ) (c : ℕ)
+    → HeaderChanges h (with_destination destination c h) (network_order_word_sum h.destination) (network_order_word_sum destination)
+destination_changes h destination c r p q k l =
+    let before = cleared_spells h r p k in
+    let after = cleared_spells (with_destination destination c h) r q l in
+    let source = address_apart h r p h.source (h.destination ++ h.options) k (ranges_of h r p k).source in
+    let other = address_apart h r p h.source (destination ++ h.options) k (ranges_of h r p k).source in
+    let old = address_apart h r p h.destination h.options k (ranges_of h r p k).destination in
+    let new = address_apart h r p destination h.options k (ranges_of (with_destination destination c h) r q l).destination in
+    record {
+      within = rw before (omega (arith, source, old));
+      some = rw before (omega arith);
+      replaced = rw before (rw after (omega (arith, source, other, old, new)));
+      some_after = rw before (omega (arith, source, old));
+    }
+
+-- a checksum that is updated for the change is right as the one before
+pub keeps_checksum : (h g : Ipv4Header) (old new : ℕ) → UpdatesChecksum h.header_checksum old new g.header_checksum → HeaderChanges h g old new → KeepsChecksum h g
+keeps_checksum h g old new updates header_changes = record {
+  stays_computed = λ r p q k l computed.
+      let changes = header_changes r p q k l in
+      updates.anew _ changes.within computed changes.some_after ∙ ap (λ n. 65535 - folded_sum n) (sym changes.replaced);
+  all_ones = λ r p q k l.
+      let changes = header_changes r p q k l in
+      let same : folded_sum (network_order_word_sum q) ≡ folded_sum (network_order_word_sum p) =
+      ap folded_sum (checksum_apart g r q l ∙ ap (λ n. n + g.header_checksum) changes.replaced)
+      ∙ updates.received _ changes.within changes.some changes.some_after ∙ ap folded_sum (sym (checksum_apart h r p k)) in
+      (λ right. same ∙ right, λ right. sym same ∙ right);
+}
 
 -- three parts that are summed one after the other
 summed : (first second third a b c : ℕ) → folded_sum first ≡ folded_sum (0 + a) → folded_sum second ≡ folded_sum (first + b)

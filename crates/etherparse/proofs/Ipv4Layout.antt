@@ -1,20 +1,19 @@
 -- Laws of the IPv4 layout.
-use Rattle.std.proofs.Common.{ℕ, zero, suc, ◌≡◌, ◌+◌, ◌-◌, ◌*◌, ◌/◌, ◌%◌, ◌^◌, ◌<◌, ◌≤◌, List, [], ◌∷◌, ◌++◌, length, get_or, get_or-set_other, take, drop, refl, sym, subst, ap, ◌∙◌, inl, inr, arith, rules, append_assoc, length-append, length-drop, Bool, true, false}
+use Rattle.std.proofs.Common.{ℕ, zero, suc, ◌≡◌, ◌+◌, ◌-◌, ◌*◌, ◌/◌, ◌%◌, ◌^◌, ◌<◌, ◌≤◌, List, [], ◌∷◌, ◌++◌, length, get_or, take, drop, refl, sym, subst, ap, ◌∙◌, arith, rules, append_assoc, length-append, length-drop, Bool, true, false}
 use Rattle.std.specs.Prelude.{◌↔◌, bit_and, not, nat_eq}
 use Rattle.std.specs.List.{slice_range}
 use Rattle.std.specs.Int.{from_be_bytes, from_bool, to_be_bytes, w16}
-use Rattle.std.proofs.lemmas.Bool.{cases_eq, eq-eqb, ne_eqb}
+use Rattle.std.proofs.lemmas.Bool.{eq-eqb, ne_eqb}
 use Rattle.std.proofs.lemmas.List.{drop_at, take_at}
-use Rattle.std.proofs.lemmas.Grind.{get_or-set_at}
 use Rattle.std.proofs.lemmas.List.Folds.{drop_split}
-use Rattle.std.proofs.lemmas.Nat.{be_bytes_2, from_be_bytes-to_be_bytes_2}
+use Rattle.std.proofs.lemmas.Nat.{from_be_bytes-to_be_bytes_2}
 use Rattle.std.proofs.lemmas.Nat.Bits.{and_pow}
 use Rattle.etherparse_base.specs.Bytes.{IsBytes}
 use Rattle.etherparse_fields.specs.IpEcn.{ecn_value}
 use Rattle.etherparse_fields.specs.Ipv4Options.{IsOptionsLen}
 use Rattle.etherparse_fields.specs.declared.net.ip_ecn.IpEcn.{IpEcn}
 use Rattle.etherparse_fields.specs.declared.net.ip_ecn.IpEcn.TheVariants.{CongestionExperienced, Ect0, Ect1, NotEct}
-use Rattle.etherparse.proofs.Parts.{get_or-slice_range, length-part, listed, part_is_bytes, same_append, set_is_bytes}
+use Rattle.etherparse.proofs.Parts.{get_or-slice_range, length-part, listed, part_is_bytes, same_append, set_is_bytes, word_at}
 use Rattle.etherparse.specs.FirstByte.{ihl_of, version_of}
 use Rattle.etherparse.specs.Ipv4Header.{HasIpv4Layout, IsIpv4Layout, ipv4_ihl, with_reserved_bit_cleared}
 use Rattle.etherparse.specs.declared.net.ipv4_header.Ipv4Header.{Ipv4Header}
@@ -91,9 +90,7 @@ pub same_fields : (g h : Ipv4Header) → g.dscp ≡ h.dscp → g.ecn ≡ h.ecn �
     → g.dont_fragment ≡ h.dont_fragment → g.more_fragments ≡ h.more_fragments → g.fragment_offset ≡ h.fragment_offset
     → g.time_to_live ≡ h.time_to_live → g.protocol ≡ h.protocol → g.header_checksum ≡ h.header_checksum
     → g.source ≡ h.source → g.destination ≡ h.destination → g.options ≡ h.options → g ≡ h
-same_fields g h a b c d e f i j k l m n o =
-    let same : record { dscp = g.dscp; ecn = g.ecn; total_len = g.total_len; identification = g.identification; dont_fragment = g.dont_fragment; more_fragments = g.more_fragments; fragment_offset = g.fragment_offset; time_to_live = g.time_to_live; protocol = g.protocol; header_checksum = g.header_checksum; source = g.source; destination = g.destination; options = g.options }
-    ≡ record { dscp = h.dscp; ecn = h.ecn; total_len = h.total_len; identification = h.identification; dont_fragment = h.dont_fragment; more_fragments = h.more_fragments; fragment_offset = h.fragment_offset; time_to_live = h.time_to_live; protocol = h.protocol; header_checksum = h.header_checksum; source = h.source; destination = h.destination; options = h.options } = cc in same
+same_fields g h a b c d e f i j k l m n o = search rules
 
 -- the halves of byte 1
 dscp_of : (h : Ipv4Header) (r : ℕ) (p : List ℕ) → IsIpv4Layout h r p → get_or p 1 0 / 4 ≡ h.dscp
@@ -149,11 +146,6 @@ parts_of p =
     drop_split p 10 12 (omega arith) ∙ ap (λ x. slice_range p 10 12 ++ x) (
     drop_split p 12 16 (omega arith) ∙ ap (λ x. slice_range p 12 16 ++ x) (
     drop_split p 16 20 (omega arith))))))))
-
--- two bytes in network byte order
-word_at : (p : List ℕ) (a n : ℕ) → a + 2 ≤ length p → IsBytes p → from_be_bytes w16 (slice_range p a (a + 2)) ≡ n
-    → slice_range p a (a + 2) ≡ to_be_bytes w16 n
-word_at p a n h bytes e = sym (be_bytes_2 (slice_range p a (a + 2)) n (length-part p a (a + 2) h ∙ omega arith) (λ i. part_is_bytes p a (a + 2) i bytes) (sym e))
 
 -- a byte list in the layout is the header's spelling
 pub spelled : (h : Ipv4Header) (r : ℕ) (p : List ℕ) → IsIpv4Layout h r p → p ≡ spelling h (flags_word h r)

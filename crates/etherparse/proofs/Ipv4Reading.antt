@@ -1,5 +1,5 @@
 -- Some bytes have one answer of an IPv4 reader.
-use Rattle.std.proofs.Common.{ℕ, ◌≡◌, ◌-◌, ◌*◌, ◌%◌, ◌/◌, ◌≤◌, inl, inr, List, ◌++◌, length, take, drop, get_or, sym, ap, subst, ◌∙◌, arith, length-append, Ok, Err, Result}
+use Rattle.std.proofs.Common.{ℕ, ◌≡◌, ◌+◌, ◌-◌, ◌*◌, ◌%◌, ◌/◌, ◌≤◌, inl, inr, List, ◌++◌, length, take, drop, get_or, sym, ap, subst, ◌∙◌, arith, length-append, Ok, Err, Result}
 use Rattle.std.specs.Prelude.{◌↔◌}
 use Rattle.std.specs.List.{slice_range}
 use Rattle.std.proofs.lemmas.List.{append_cancel_right, drop-append-le, drop_at, get_or_append_left, length-drop, length-take-le, take-append-drop, take-take, take_at, take_rest}
@@ -7,10 +7,11 @@ use Rattle.etherparse_base.specs.Bytes.{IsBytes}
 use Rattle.etherparse_base.specs.declared.err.ipv4.header_error.HeaderError.TheVariants.{HeaderLengthSmallerThanHeader, UnexpectedVersion}
 use Rattle.etherparse_base.specs.declared.err.ipv4.header_slice_error.HeaderSliceError.{HeaderSliceError}
 use Rattle.etherparse_base.specs.declared.err.ipv4.header_slice_error.HeaderSliceError.TheVariants.{Content, Len}
+use Rattle.etherparse.proofs.Fronts.{begins_once, cut_behind}
 use Rattle.etherparse.proofs.Ipv4Layout.{cleared_layout, header_at, ihl_of-layout, length-layout, one_header, same_header_cleared, version_of-layout}
-use Rattle.etherparse.proofs.Parts.{get_or-slice_range, part_is_bytes, same_back, same_front}
+use Rattle.etherparse.proofs.Parts.{get_or-slice_range, part_is_bytes, same_front}
 use Rattle.etherparse.specs.FirstByte.{ihl_of, version_of}
-use Rattle.etherparse.specs.Ipv4Header.{HasIpv4Layout, IsIpv4Layout, Ipv4Reading, OfIpv4Header, ReadsIpv4, RefusesIpv4, ViewsIpv4, with_reserved_bit_cleared}
+use Rattle.etherparse.specs.Ipv4Header.{HasIpv4Layout, IsIpv4Layout, Ipv4Reading, OfIpv4Header, ReadsIpv4, RefusesIpv4, ViewsIpv4, ipv4_header_len, with_reserved_bit_cleared}
 use Rattle.etherparse.specs.Reading.{BeginsWith}
 use Rattle.etherparse.specs.declared.net.ipv4_header.Ipv4Header.{Ipv4Header}
 
@@ -60,13 +61,7 @@ same_length g h o p t u s d e k l = omega (
 
 pub read_once : (s : List ℕ) (a b : Ipv4Reading) → ReadsIpv4 s a → ReadsIpv4 s b → a ≡ b
 read_once s (Ok x) (Ok y) p q =
-    let len = same_length x.0 y.0 p.front q.front x.1 y.1 s p.whole q.whole p.layout q.layout in
-    let whole : p.front ++ x.1 ≡ q.front ++ y.1 = sym p.whole ∙ q.whole in
-    let header : x.0 ≡ y.0 = one_header x.0 y.0 q.front
-    (subst (λ o. HasIpv4Layout x.0 o) (same_front p.front q.front x.1 y.1 len whole) p.layout) q.layout in
-    let rest : x.1 ≡ y.1 = same_back p.front q.front x.1 y.1 len whole in
-    let pair : (x.0, x.1) ≡ (y.0, y.1) = cc in
-    ap Ok pair
+    ap Ok (begins_once HasIpv4Layout one_header s x y p q (same_length x.0 y.0 p.front q.front x.1 y.1 s p.whole q.whole p.layout q.layout))
 read_once s (Ok x) (Err f) p q = absurd (not_refused x.0 p.front x.1 s p.whole p.layout f q)
 read_once s (Err e) (Ok y) p q = absurd (not_refused y.0 q.front y.1 s q.whole q.layout e p)
 read_once s (Err e) (Err f) p q = ap Err (refused_once s e f p q)
@@ -101,6 +96,7 @@ pub record ReadsFront (s : List ℕ) (x : Ipv4Header × List ℕ) : Type 0 where
   pub cleared : (front : List ℕ) → s ≡ front ++ x.1 → IsIpv4Layout x.0 0 (with_reserved_bit_cleared front)
   pub same_header : (front : List ℕ) → s ≡ front ++ x.1 → (others : List ℕ)
       → OfIpv4Header others (λ other. (other ≡ x.0) ↔ (with_reserved_bit_cleared others ≡ with_reserved_bit_cleared front))
+  pub cut : (n : ℕ) → n ≤ length x.1 → BeginsWith HasIpv4Layout (take (ipv4_header_len x.0 + n) s) x.0 (take n x.1)
 
 pub reads_front : (s p t : List ℕ) (h : Ipv4Header) (n : ℕ) → s ≡ p ++ t → HasIpv4Layout h p → n ≡ length p
     → ReadsFront s (h, take (length s - n) (drop n s))
@@ -115,6 +111,7 @@ reads_front s p t h n e l len =
       only = λ other o. read_once s other _ o reads;
       cleared = λ front cut. let k = front_is front cut in cleared_layout h k.reserved front k.layout;
       same_header = λ front cut others other k. same_header_cleared other h others front k (front_is front cut);
+      cut = cut_behind HasIpv4Layout (ipv4_header_len h) s h _ reads l.layout.len;
     }
 
 -- the options are at the front of the room that they could have

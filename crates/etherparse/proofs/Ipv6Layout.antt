@@ -1,5 +1,5 @@
 -- Laws of the IPv6 layout.
-use Rattle.std.proofs.Common.{ℕ, ◌≡◌, ◌+◌, ◌*◌, ◌/◌, ◌%◌, ◌^◌, ◌<◌, List, [], ◌∷◌, ◌++◌, length, get_or, take, drop, refl, sym, ap, ◌∙◌, arith, length-append}
+use Rattle.std.proofs.Common.{ℕ, ◌≡◌, ◌+◌, ◌*◌, ◌/◌, ◌%◌, ◌^◌, ◌<◌, List, [], ◌∷◌, ◌++◌, length, get_or, take, drop, refl, sym, ap, ◌∙◌, arith, length-append, rules}
 use Rattle.std.specs.List.{slice_range}
 use Rattle.std.proofs.lemmas.List.{length-drop, take_all, take_at, drop_at}
 use Rattle.std.specs.Int.{from_be_bytes, to_be_bytes, w16, w32}
@@ -15,9 +15,7 @@ use Rattle.etherparse.specs.declared.net.ipv6_header.Ipv6Header.{Ipv6Header}
 pub same_fields : (g h : Ipv6Header) → g.traffic_class ≡ h.traffic_class → g.flow_label ≡ h.flow_label
     → g.payload_length ≡ h.payload_length → g.next_header ≡ h.next_header → g.hop_limit ≡ h.hop_limit
     → g.source ≡ h.source → g.destination ≡ h.destination → g ≡ h
-same_fields g h t f n x m s d =
-    let e : record { traffic_class = g.traffic_class; flow_label = g.flow_label; payload_length = g.payload_length; next_header = g.next_header; hop_limit = g.hop_limit; source = g.source; destination = g.destination }
-    ≡ record { traffic_class = h.traffic_class; flow_label = h.flow_label; payload_length = h.payload_length; next_header = h.next_header; hop_limit = h.hop_limit; source = h.source; destination = h.destination } = cc in e
+same_fields g h t f n x m s d = search rules
 
 -- the parts of a word are those of the number that it stands for
 pub version_of_word : (a b c d t f : ℕ) → b < 256 → c < 256 → d < 256 → t < 256 → f < 1048576

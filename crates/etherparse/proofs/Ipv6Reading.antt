@@ -5,7 +5,8 @@ use Rattle.etherparse_base.specs.Bytes.{IsBytes}
 use Rattle.etherparse_base.specs.declared.err.ipv6.header_error.HeaderError.TheVariants.{UnexpectedVersion}
 use Rattle.etherparse_base.specs.declared.err.ipv6.header_slice_error.HeaderSliceError.{HeaderSliceError}
 use Rattle.etherparse_base.specs.declared.err.ipv6.header_slice_error.HeaderSliceError.TheVariants.{Len, Content}
-use Rattle.etherparse.proofs.Parts.{get_or-slice_range, length-part, part_is_bytes, same_back, same_front}
+use Rattle.etherparse.proofs.Fronts.{begins_once}
+use Rattle.etherparse.proofs.Parts.{get_or-slice_range, length-part, part_is_bytes, same_front}
 use Rattle.etherparse.proofs.Ipv6Layout.{header_at, same_header, version_of-layout}
 use Rattle.etherparse.specs.Ipv6Header.{Ipv6Reading, IsIpv6Layout, ReadsIpv6, RefusesIpv6, ViewsIpv6}
 use Rattle.etherparse.specs.Reading.{BeginsWith}
@@ -28,13 +29,7 @@ not_refused h p r s e l (Content (UnexpectedVersion v)) q =
     q.other (ap version_of e ∙ (rw first (version_of-layout h p l)))
 
 pub read_once : (s : List ℕ) (a b : Ipv6Reading) → ReadsIpv6 s a → ReadsIpv6 s b → a ≡ b
-read_once s (Ok x) (Ok y) p q =
-    let whole : p.front ++ x.1 ≡ q.front ++ y.1 = sym p.whole ∙ q.whole in
-    let len : length p.front ≡ length q.front = p.layout.len ∙ sym q.layout.len in
-    let header : x.0 ≡ y.0 = same_header x.0 y.0 q.front
-    (subst (λ s. IsIpv6Layout x.0 s) (same_front p.front q.front x.1 y.1 len whole) p.layout) q.layout in
-    let rest : x.1 ≡ y.1 = same_back p.front q.front x.1 y.1 len whole in
-    let pair : (x.0, x.1) ≡ (y.0, y.1) = cc in ap Ok pair
+read_once s (Ok x) (Ok y) p q = ap Ok (begins_once IsIpv6Layout same_header s x y p q (p.layout.len ∙ sym q.layout.len))
 read_once s (Ok x) (Err f) p q = absurd (not_refused x.0 p.front x.1 s p.whole p.layout f q)
 read_once s (Err e) (Ok y) p q = absurd (not_refused y.0 q.front y.1 s q.whole q.layout e p)
 read_once s (Err e) (Err f) p q = ap Err (refused_once s e f p q)

@@ -1,5 +1,6 @@
 pub mod ExtensionHeaderChain
 mod Fields
+pub mod Fronts
 pub mod HeaderChecksum
 pub mod InPlace
 pub mod Ipv4Layout
@@ -7,7 +8,7 @@ mod Ipv4Reading
 pub mod Ipv6Layout
 mod Ipv6Reading
 mod LimitedWalk
-mod Parts
+pub mod Parts
 mod SkippedHeaders
 pub use Rattle.etherparse_base.proofs.FoldedSums
 pub use Rattle.etherparse_base.proofs.WordSumLaws

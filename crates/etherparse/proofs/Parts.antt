@@ -1,11 +1,13 @@
 -- Parts of a list: fronts, ranges, and what follows them.
-use Rattle.std.proofs.Common.{ℕ, ◌≡◌, ◌+◌, ◌-◌, ◌<◌, ◌≤◌, List, map, ◌++◌, length, get_or, get_or-set_other, take, drop, refl, sym, ap, ◌∙◌, inl, inr, lit<, arith}
-use Rattle.std.specs.List.{slice_range, range_with_len}
+use Rattle.std.proofs.Common.{ℕ, zero, suc, ◌≡◌, ◌+◌, ◌-◌, ◌<◌, ◌≤◌, List, [], ◌∷◌, map, ◌++◌, length, get_or, get_or-set_other, take, drop, refl, sym, ap, ◌∙◌, inl, inr, lit<, arith, w16}
+use Rattle.std.specs.Int.{from_be_bytes, to_be_bytes}
+use Rattle.std.specs.List.{concat, slice_range, range_with_len}
 use Rattle.std.specs.Prelude.{slice_set}
 use Rattle.std.proofs.lemmas.Bool.{cases_eq, cases_lt}
 use Rattle.std.proofs.lemmas.Grind.{common_steps, get_or-set_at}
 use Rattle.std.proofs.lemmas.List.{drop_at, get_or-append_right, get_or_append_left, get_or_past, length-take, take_at}
 use Rattle.std.proofs.lemmas.List.FromFn.{fill_by_all}
+use Rattle.std.proofs.lemmas.Nat.{be_bytes_2}
 use Rattle.etherparse_base.specs.Bytes.{IsBytes}
 
 -- an item of a part
@@ -57,3 +59,17 @@ set_is_bytes p i b within is_byte bytes k = elim (cases_eq k i) [
   | inl here ↦ rw (get_or-set_at p i k b 0 here within) is_byte
   | inr other ↦ rw (get_or-set_other p i k b 0 other) (bytes k)
 ]
+
+-- two bytes in network byte order
+pub word_at : (p : List ℕ) (a n : ℕ) → a + 2 ≤ length p → IsBytes p → from_be_bytes w16 (slice_range p a (a + 2)) ≡ n
+    → slice_range p a (a + 2) ≡ to_be_bytes w16 n
+word_at p a n h bytes e = sym (be_bytes_2 (slice_range p a (a + 2)) n (length-part p a (a + 2) h ∙ omega arith) (λ i. part_is_bytes p a (a + 2) i bytes) (sym e))
+
+pub word_is_bytes : (n : ℕ) → IsBytes (to_be_bytes w16 n)
+word_is_bytes n zero = omega arith
+word_is_bytes n (suc zero) = omega arith
+word_is_bytes n (suc (suc i)) = omega arith
+
+pub words_are_bytes : (ns : List ℕ) → IsBytes (concat (map (λ n. to_be_bytes w16 n) ns))
+words_are_bytes [] i = omega arith
+words_are_bytes (n ∷ ns) i = append_is_bytes (to_be_bytes w16 n) (concat (map (λ n. to_be_bytes w16 n) ns)) (word_is_bytes n) (words_are_bytes ns) i

@@ -3,6 +3,7 @@ use Rattle.std.specs.Prelude.{ℕ, ◌≡◌, ◌==◌, ◌+◌, ◌*◌, ◌<�
 use Rattle.std.specs.Prelude.{slice_index, nat_lt, if◌then◌else◌, Result, Ok, Err}
 use Rattle.std.specs.List.{concat}
 use Rattle.std.specs.Result.{result_map_both}
+use Rattle.etherparse_base.specs.LenError.{len_error_moved}
 use Rattle.etherparse_base.specs.declared.err.ipv6.chain_error.ChainError.{ChainError}
 use Rattle.etherparse_base.specs.declared.err.ipv6.chain_error.ChainError.TheVariants as chain_error
 use Rattle.etherparse_base.specs.declared.err.layer.Layer.TheVariants as layer
@@ -110,6 +111,11 @@ unfoldable pub IsWalkOf : List ℕ → ℕ → WalkAnswer → Type 0
 IsWalkOf s first answer =
     Walks s first answer × ((other : WalkAnswer) → Walks s first other → other ≡ answer)
 
+-- the answer of a walk behind a chain as that of a walk of the whole: an error is moved
+abbrev pub walk_answer_moved : ℕ → WalkAnswer → WalkAnswer
+walk_answer_moved offset answer =
+    result_map_both (λ x. x) (λ e. len_error_moved offset e) answer
+
 -- The turns of a walk past these headers, where a turn is one test of a number: that of the first
 -- number, and of the number that each header gives.
 abbrev pub turn_count : List (List ℕ) → ℕ
@@ -168,3 +174,15 @@ with_error_in_len answer = result_map_both (λ x. x) (λ e. chain_error.Len e) a
 abbrev pub chain_error_place : ChainError → ℕ
 chain_error_place (chain_error.Len e) = e.layer_start_offset
 chain_error_place (chain_error.TooMany limit number place) = place
+
+-- the error of a walk behind a chain of so many headers as that of a walk of the whole
+abbrev pub chain_error_moved_behind : ℕ → ℕ → ChainError → ChainError
+chain_error_moved_behind skipped offset (chain_error.Len e) =
+    chain_error.Len (len_error_moved offset e)
+chain_error_moved_behind skipped offset (chain_error.TooMany limit number place) =
+    chain_error.TooMany (skipped + limit) number (place + offset)
+
+-- the answer of such a walk as that of a walk of the whole
+abbrev pub limited_walk_answer_moved : ℕ → ℕ → LimitedWalkAnswer → LimitedWalkAnswer
+limited_walk_answer_moved skipped offset answer =
+    result_map_both (λ x. x) (λ e. chain_error_moved_behind skipped offset e) answer

@@ -1,5 +1,5 @@
 -- How a header stands at the front of a slice, and how a slice is refused, for both versions.
-use Rattle.std.specs.Prelude.{ℕ, ◌≡◌, ◌≢◌, ◌<◌, ◌≤◌, List, ◌++◌, length, Result}
+use Rattle.std.specs.Prelude.{ℕ, ◌≡◌, ◌≢◌, ◌<◌, ◌≤◌, List, ◌++◌, length, Result, Ok, Err}
 use Rattle.std.specs.Result.{result_map_both}
 use Rattle.std.specs.Borrow.{Bor}
 use Rattle.etherparse_base.specs.declared.err.layer.Layer.{Layer}
@@ -35,6 +35,13 @@ too_short_error layer required_len len = record {
 pub record IsTooShort (layer : Layer) (required_len : ℕ) (s : List ℕ) (e : LenError) : Type 0 where
   pub few : length s < required_len
   pub error : e ≡ too_short_error layer required_len (length s)
+
+-- Reading of a header that always has so many bytes, for a layer above: the front of the slice is
+-- this header, and the rest follows; or the slice is too short.
+abbrev pub ReadsFixed : {H : Type 0} → (H → List ℕ → Type 0) → Layer → ℕ → List ℕ
+    → Result (H × List ℕ) LenError → Type 0
+ReadsFixed Layout layer len s (Ok x) = BeginsWith Layout s x.0 x.1
+ReadsFixed Layout layer len s (Err e) = IsTooShort layer len s e
 
 -- the slice has the least length of a header, and is refused since its version is another one
 pub record HasOtherVersion (min_len expected : ℕ) (s : List ℕ) (version : ℕ) : Type 0 where

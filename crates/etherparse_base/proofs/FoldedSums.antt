@@ -1,7 +1,7 @@
 -- Folded sums: which numbers have the same one.
-use Rattle.std.proofs.Common.{ℕ, zero, suc, Bool, true, false, ◌≡◌, ◌<◌, ◌≤◌, ◌+◌, ◌-◌, ◌*◌, ◌%◌, ◌∙◌, ap, arith, ltb-true, nat_lt, refl, sym}
+use Rattle.std.proofs.Common.{ℕ, zero, suc, Bool, true, false, List, ◌≡◌, ◌<◌, ◌≤◌, ◌+◌, ◌-◌, ◌*◌, ◌%◌, ◌∙◌, ap, arith, ltb-true, nat_lt, refl, sym}
 use Rattle.std.specs.Prelude.{if◌then◌else◌}
-use Rattle.etherparse_base.specs.WordSums.{end_around_sum, folded_sum, updated_checksum}
+use Rattle.etherparse_base.specs.WordSums.{StandsForWords, end_around_sum, folded_sum, little_endian_word_sum}
 
 -- numbers that differ by a multiple of 65535, unless one of them alone is 0
 pub same_fold : (a b k : ℕ) → a ≡ b + 65535 * k → (b ≡ 0 → a ≡ 0) → folded_sum a ≡ folded_sum b
@@ -24,6 +24,10 @@ folded_sum-plus (suc a) (suc b) n e =
     let same : 1 + (suc a + n - 1) % 65535 ≡ 1 + (suc b + n - 1) % 65535 = omega (arith, e) in
     folded_sum-positive (suc a + n) (omega arith) ∙ same ∙ sym (folded_sum-positive (suc b + n) (omega arith))
 
+-- all ones in the place of 0 leave a sum above 0 as it is
+pub folded_sum-all_ones : (n zeros : ℕ) → 0 < n → zeros ≡ 0 → folded_sum (n + 65535) ≡ folded_sum (n + zeros)
+folded_sum-all_ones n zeros some none = folded_sum-positive (n + 65535) (omega arith) ∙ omega (arith, none) ∙ sym (folded_sum-positive (n + zeros) (omega arith))
+
 -- a fold has sixteen bits
 pub folded_sum-within : (n : ℕ) → folded_sum n ≤ 65535
 folded_sum-within zero = omega arith
@@ -45,24 +49,7 @@ folded_sum-folded_sum : (n : ℕ) → folded_sum (folded_sum n) ≡ folded_sum n
 folded_sum-folded_sum zero = refl
 folded_sum-folded_sum (suc n) = folded_sum-positive (1 + n % 65535) (omega arith) ∙ omega arith
 
--- the checksum of a sum, updated, is that of the sum with the new word in the place of the old
-pub updated_checksum-computed : (sum checksum old new : ℕ) → old < 65536 → old ≤ sum → checksum ≡ 65535 - folded_sum sum → 0 < sum - old + new
-    → updated_checksum checksum old new ≡ 65535 - folded_sum (sum - old + new)
-updated_checksum-computed sum checksum old new fits within computed some =
-    let change : ℕ = (65535 - old) + new in
-    let folded : (65535 - checksum) + (65535 - old) + new ≡ folded_sum sum + change = omega (arith, computed, folded_sum-within sum) in
-    let plus = folded_sum-plus (folded_sum sum) sum change (folded_sum-folded_sum sum) in
-    let same = same_fold (sum + change) (sum - old + new) 1 (omega (arith, fits, within)) (λ z. absurd (omega (arith, z, some))) in
-    ap (λ n. 65535 - folded_sum n) folded ∙ ap (λ n. 65535 - n) (plus ∙ same)
-
--- an updated checksum, with the words that it is over, folds as the old one did with theirs
-folded_with : (sum checksum old new n : ℕ) → checksum < 65536 → old < 65536 → new < 65536 → old ≤ sum → 0 < sum → 0 < sum - old + new
-    → n ≡ (65535 - checksum) + (65535 - old) + new → folded_sum (sum - old + new + (65535 - folded_sum n)) ≡ folded_sum (sum + checksum)
-folded_with sum checksum old new zero a b c within before after e =
-    folded_sum-positive (sum - old + new + 65535) (omega arith) ∙ omega arith ∙ sym (folded_sum-positive (sum + checksum) (omega arith))
-folded_with sum checksum old new (suc n) a b c within before after e =
-    folded_sum-positive (sum - old + new + (65535 - (1 + n % 65535))) (omega arith) ∙ omega arith ∙ sym (folded_sum-positive (sum + checksum) (omega arith))
-
-pub folded_sum-updated : (sum checksum old new : ℕ) → checksum < 65536 → old < 65536 → new < 65536 → old ≤ sum → 0 < sum → 0 < sum - old + new
-    → folded_sum (sum - old + new + updated_checksum checksum old new) ≡ folded_sum (sum + checksum)
-folded_sum-updated sum checksum old new a b c within before after = folded_with sum checksum old new _ a b c within before after refl
+-- a sum to which words were added, in a longer one
+pub stands_for_words : (start answer : ℕ) (bytes : List ℕ) → folded_sum answer ≡ folded_sum (start + little_endian_word_sum bytes) → StandsForWords start bytes answer
+stands_for_words start answer bytes e n =
+    ap folded_sum (omega arith) ∙ folded_sum-plus answer (start + little_endian_word_sum bytes) n e ∙ ap folded_sum (omega arith)

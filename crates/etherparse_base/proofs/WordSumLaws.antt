@@ -1,7 +1,7 @@
 -- Laws of the sums of words: the other order of bytes, a changed byte, pieces exchanged or cut.
 use Rattle.std.proofs.Common.{ℕ, zero, suc, List, [], ◌∷◌, ◌++◌, ◌≡◌, ◌↔◌, ◌⊎◌, ◌<◌, ◌≤◌, ◌+◌, ◌-◌, ◌*◌, ◌/◌, ◌%◌, ◌∙◌, ap, arith, inl, inr, length, refl, slice_index, slice_set, sum_by, sym, w16}
 use Rattle.std.proofs.lemmas.List.Sums.{sum_by-append, sum_by-cons}
-use Rattle.std.specs.Int.{swap_bytes}
+use Rattle.std.specs.Int.{swap_bytes, to_be_bytes}
 use Rattle.etherparse_base.specs.WordSums.{
   AddsSlice,
   ChangesOneByte,
@@ -12,7 +12,7 @@ use Rattle.etherparse_base.specs.WordSums.{
   ones_complement_sum,
   weighted_byte_sum,
 }
-use Rattle.etherparse_base.proofs.FoldedSums.{folded_sum-within}
+use Rattle.etherparse_base.proofs.FoldedSums.{folded_sum-within, stands_for_words}
 
 -- each of the two sums is 256 times the other, but for multiples of 65535
 record OtherOrder (bytes : List ℕ) : Type 0 where
@@ -133,17 +133,52 @@ pub adds_slice : (start answer : ℕ) (bytes : List ℕ) → ((k : ℕ) → slic
     → folded_sum answer ≡ folded_sum (start + little_endian_word_sum bytes) → AddsSlice start bytes answer
 adds_slice start answer bytes are_bytes sum = record {
   sum = sum;
+  in_a_sum = stands_for_words start answer bytes sum;
   network_order = network_order_from_zero start answer bytes sum;
   all_ones = all_ones_from_zero start answer bytes sum;
   one_byte = λ ones changed change again. one_byte_breaks bytes changed are_bytes ones change again;
 }
 
 -- behind an even number of bytes a new word begins
+weighted_byte_sum-append : (weight other : ℕ) (front rest : List ℕ) → length front % 2 ≡ 0
+    → weighted_byte_sum weight other (front ++ rest) ≡ weighted_byte_sum weight other front + weighted_byte_sum weight other rest
+weighted_byte_sum-append weight other [] rest h = omega arith
+weighted_byte_sum-append weight other (x ∷ []) rest h = absurd (omega arith)
+weighted_byte_sum-append weight other (x ∷ y ∷ front) rest h =
+    let more = weighted_byte_sum-append weight other front rest (omega arith) in omega arith
+
 pub little_endian_word_sum-append : (front rest : List ℕ) → length front % 2 ≡ 0 → little_endian_word_sum (front ++ rest) ≡ little_endian_word_sum front + little_endian_word_sum rest
-little_endian_word_sum-append [] rest h = omega arith
-little_endian_word_sum-append (x ∷ []) rest h = absurd (omega arith)
-little_endian_word_sum-append (x ∷ y ∷ front) rest h =
-    let more = little_endian_word_sum-append front rest (omega arith) in omega arith
+little_endian_word_sum-append front rest even = weighted_byte_sum-append 1 256 front rest even
+
+pub network_order_word_sum-append : (front rest : List ℕ) → length front % 2 ≡ 0 → network_order_word_sum (front ++ rest) ≡ network_order_word_sum front + network_order_word_sum rest
+network_order_word_sum-append front rest even = weighted_byte_sum-append 256 1 front rest even
+
+-- in either order of their bytes words sum to all ones or not
+pub sums_to_all_ones : (bytes : List ℕ) → SumsToAllOnes bytes ↔ (folded_sum (little_endian_word_sum bytes) ≡ 65535)
+sums_to_all_ones bytes = all_ones_from_zero 0 (little_endian_word_sum bytes) bytes (ap folded_sum (omega arith)) refl
+
+-- a word that is written over two bytes 0 is added to the sum
+pub little_endian_word_sum-written : (bytes : List ℕ) (place first second : ℕ) → place % 2 ≡ 0 → suc place < length bytes
+    → slice_index bytes place ≡ 0 → slice_index bytes (suc place) ≡ 0
+    → little_endian_word_sum (slice_set (slice_set bytes place first) (suc place) second) ≡ little_endian_word_sum bytes + (first + 256 * second)
+little_endian_word_sum-written [] place first second even within a b = absurd (omega arith)
+little_endian_word_sum-written (x ∷ []) place first second even within a b = absurd (omega arith)
+little_endian_word_sum-written (x ∷ y ∷ bytes) zero first second even within a b = omega (arith, a, b)
+little_endian_word_sum-written (x ∷ y ∷ bytes) (suc zero) first second even within a b = absurd (omega arith)
+little_endian_word_sum-written (x ∷ y ∷ bytes) (suc (suc place)) first second even within a b =
+    let more = little_endian_word_sum-written bytes place first second (omega arith) (omega arith) a b in omega (arith, more)
+
+-- a sum of words has a complement as it is stored, with its two bytes exchanged
+pub little_endian_word_sum-swapped : (checksum : ℕ) → checksum < 65536 → little_endian_word_sum (to_be_bytes w16 (swap_bytes w16 checksum)) ≡ checksum
+little_endian_word_sum-swapped checksum fits = omega arith
+
+-- bytes sum to all ones once their checksum is stored where they have two bytes 0
+pub sums_to_all_ones-written : (bytes : List ℕ) (place first second checksum : ℕ) → place % 2 ≡ 0 → suc place < length bytes
+    → slice_index bytes place ≡ 0 → slice_index bytes (suc place) ≡ 0 → first + 256 * second ≡ checksum
+    → folded_sum (little_endian_word_sum bytes + checksum) ≡ 65535 → SumsToAllOnes (slice_set (slice_set bytes place first) (suc place) second)
+sums_to_all_ones-written bytes place first second checksum even within a b is completed =
+    (sums_to_all_ones (slice_set (slice_set bytes place first) (suc place) second)).1
+    (rw (little_endian_word_sum-written bytes place first second even within a b) (rw is completed))
 
 -- pieces in another order
 pub ones_complement_sum-exchanged : (before after : List (List ℕ)) (first second : List ℕ) → ones_complement_sum (before ++ second ∷ first ∷ after) ≡ ones_complement_sum (before ++ first ∷ second ∷ after)

@@ -1,5 +1,5 @@
 -- Sums of words of sixteen bits, and the checksum that is made of them (RFC 1071).
-use Rattle.std.specs.Prelude.{ℕ, zero, suc, ◌≡◌, ◌≢◌, ◌<◌, ◌+◌, ◌-◌, ◌*◌, ◌%◌, ◌↔◌}
+use Rattle.std.specs.Prelude.{ℕ, zero, suc, ◌≡◌, ◌≢◌, ◌<◌, ◌≤◌, ◌+◌, ◌-◌, ◌*◌, ◌%◌, ◌↔◌}
 use Rattle.std.specs.Prelude.{List, [], ◌∷◌, if◌then◌else◌, length, nat_lt, slice_index, slice_set}
 use Rattle.std.specs.Prelude.{sum_by}
 use Rattle.std.specs.Int.{swap_bytes, w16}
@@ -46,12 +46,42 @@ abbrev pub with_no_zero : ℕ → ℕ
 with_no_zero zero = 65535
 with_no_zero (suc n) = suc n
 
+-- With this checksum among its words, each sum that folds as this one does is all ones.
+abbrev pub Completes : ℕ → ℕ → Type 0
+Completes sum checksum =
+    (n : ℕ) → folded_sum n ≡ folded_sum sum → folded_sum (n + checksum) ≡ 65535
+
+-- the same, but of a sum of 0
+abbrev pub CompletesAboveZero : ℕ → ℕ → Type 0
+CompletesAboveZero sum checksum =
+    (n : ℕ) → 0 < n → folded_sum n ≡ folded_sum sum → folded_sum (n + checksum) ≡ 65535
+
+-- In any longer sum the answer is as good as the words of the bytes and the start: adds one after
+-- the other are told apart so, the last one first.
+abbrev pub StandsForWords : ℕ → List ℕ → ℕ → Type 0
+StandsForWords start bytes answer = (n : ℕ)
+    → folded_sum (n + answer) ≡ folded_sum (n + little_endian_word_sum bytes + start)
+
 -- The checksum after a change of one word: the complement of the ones-complement sum of the old
 -- checksum's complement, the old word's complement and the new word (RFC 1624 section 3,
 -- equation 3).
 abbrev pub updated_checksum : ℕ → ℕ → ℕ → ℕ
 updated_checksum checksum old new =
     65535 - folded_sum ((65535 - checksum) + (65535 - old) + new)
+
+-- the same after a change of some words at once, each of which is complemented
+abbrev pub updated_checksum_of_words : ℕ → ℕ → List ℕ → List ℕ → ℕ
+updated_checksum_of_words words checksum old new = 65535 - folded_sum ((65535 - checksum)
+    + (words * 65535 - network_order_word_sum old) + network_order_word_sum new)
+
+-- What is known of a checksum that was updated where words that sum to the old number were changed
+-- to words that sum to the new one. The checksum of a sum becomes that of the sum after the change;
+-- and what a receiver sums, the checksum with the words, has the fold that it had.
+pub record UpdatesChecksum (checksum old new answer : ℕ) : Type 0 where
+  pub anew : (sum : ℕ) → old ≤ sum → checksum ≡ 65535 - folded_sum sum → 0 < sum - old + new
+      → answer ≡ 65535 - folded_sum (sum - old + new)
+  pub received : (sum : ℕ) → old ≤ sum → 0 < sum → 0 < sum - old + new
+      → folded_sum (sum - old + new + answer) ≡ folded_sum (sum + checksum)
 
 -- the bytes after are those before with another byte at one place
 pub record ChangesOneByte (before after : List ℕ) : Type 0 where
@@ -67,6 +97,7 @@ pub record ChangesOneByte (before after : List ℕ) : Type 0 where
 -- of them changed.
 pub record AddsSlice (start : ℕ) (bytes : List ℕ) (answer : ℕ) : Type 0 where
   pub sum : folded_sum answer ≡ folded_sum (start + little_endian_word_sum bytes)
+  pub in_a_sum : StandsForWords start bytes answer
   pub network_order : start ≡ 0
       → swap_bytes w16 (folded_sum answer) ≡ folded_sum (network_order_word_sum bytes)
   pub all_ones : start ≡ 0 → (SumsToAllOnes bytes ↔ (folded_sum answer ≡ 65535))

@@ -1,8 +1,8 @@
 //! Checksums of the internet protocols (RFC 1071), summed in 64 bits and in 32 bits.
 
-ghost use Rattle.std.specs.Prelude.{ℕ, List, ◌∷◌, ◌++◌, ◌≡◌, ◌≤◌, ◌<◌, ◌↔◌, ◌+◌, ◌-◌, ◌%◌, length, map};
+ghost use Rattle.std.specs.Prelude.{ℕ, List, ◌∷◌, ◌++◌, ◌≡◌, ◌↔◌, ◌+◌, ◌-◌, ◌%◌, length, map};
 ghost use Rattle.std.specs.Int.{swap_bytes, w16};
-ghost use Rattle.etherparse.specs.WordSums.{AddsSlice, SumsToAllOnes, folded_sum};
+ghost use Rattle.etherparse.specs.WordSums.{AddsSlice, SumsToAllOnes, UpdatesChecksum, folded_sum};
 ghost use Rattle.etherparse.specs.WordSums.{little_endian_word_sum, network_order_word_sum};
 ghost use Rattle.etherparse.specs.WordSums.{ones_complement_sum, updated_checksum, with_no_zero};
 
@@ -145,10 +145,7 @@ pub extern "C" fn etherparse_u32_16bit_word_checksum(start_sum: u32, slice: &[u8
 #[unsafe(no_mangle)]
 pub extern "C" fn etherparse_update_2bytes(checksum: u16, old: u16, new: u16) -> u16
     ensures value { result ≡ updated_checksum checksum old new }
-    ensures anew { (sum : ℕ) → old ≤ sum → checksum ≡ 65535 - folded_sum sum
-        → 0 < sum - old + new → result ≡ 65535 - folded_sum (sum - old + new) }
-    ensures received { (sum : ℕ) → old ≤ sum → 0 < sum → 0 < sum - old + new
-        → folded_sum (sum - old + new + result) ≡ folded_sum (sum + checksum) }
+    ensures updates { UpdatesChecksum checksum old new result }
 {
     update_2bytes(checksum, old.to_be_bytes(), new.to_be_bytes())
 }

@@ -3,4 +3,5 @@ pub mod Forward
 pub mod Payload
 pub mod Queue
 pub mod Tunnel
+pub mod Udp
 pub mod UpperLayer

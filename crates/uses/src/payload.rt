@@ -1,10 +1,11 @@
 //! A capture reader: the payloads of packets, cut as their headers say.
 
-ghost use Rattle.std.specs.Prelude.{◌≡◌, ◌*◌, IfErr, IfOk, IfSome, IsSome};
+ghost use Rattle.std.specs.Prelude.{◌≡◌, ◌+◌, ◌*◌, IfErr, IfOk, IfSome, IsSome, take};
 ghost use Rattle.etherparse.specs.Ipv4Header.{OfIpv4Header, RefusesIpv4};
 ghost use Rattle.etherparse.specs.declared.err.LenError.{LenError as LengthError};
 ghost use Rattle.etherparse.specs.declared.err.ipv4.HeaderSliceError.TheVariants.{Len};
-ghost use Rattle.etherparse.specs.Ipv6Header.{RefusesIpv6};
+ghost use Rattle.etherparse.specs.Ipv6Header.{IsIpv6Layout, RefusesIpv6};
+ghost use Rattle.etherparse.specs.Reading.{BeginsWith};
 ghost use Rattle.uses.specs.Payload.{HasIpv4Payload, HasIpv6Payload, IsShortBy, RefusesIpv4Payload};
 
 use etherparse::err::{ipv4, ipv6};
@@ -17,6 +18,22 @@ pub fn ipv6_payload(packet: &[u8]) -> Result<&[u8], ipv6::HeaderSliceError>
 {
     let (header, rest) = Ipv6Header::from_slice(packet)?;
     Ok(&rest[..usize::from(header.payload_length).min(rest.len())])
+}
+
+/// An IPv6 header and its payload, where the packet is as long as the header says; what stands behind it is cut off.
+pub fn ipv6_packet(packet: &[u8]) -> Option<(Ipv6Header, &[u8])>
+    ensures cut { IfSome result (λ x. BeginsWith IsIpv6Layout
+        (take (40 + x.0.payload_length) packet.now) x.0 x.1.now) }
+{
+    let (header, rest) = match Ipv6Header::from_slice(packet) {
+        Ok(read) => read,
+        Err(_) => return None,
+    };
+    let len = usize::from(header.payload_length);
+    if rest.len() < len {
+        return None;
+    }
+    Some((header, &rest[..len]))
 }
 
 /// What follows an IPv4 header, as far as its total length says and the capture has. A total length below that of the

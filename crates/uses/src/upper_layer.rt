@@ -1,7 +1,7 @@
 //! A filter on IPv6 packets: the upper layer, past any extension headers.
 
-ghost use Rattle.std.specs.Prelude.{◌≡◌, ◌↔◌, IfErr, IfNone, IfOk, IfSome, IsTrue, length};
-ghost use Rattle.etherparse.specs.ExtensionHeaderChain.{IsWalkOf};
+ghost use Rattle.std.specs.Prelude.{◌≡◌, ◌≤◌, ◌↔◌, IfErr, IfNone, IfOk, IfSome, IsTrue, length};
+ghost use Rattle.etherparse.specs.ExtensionHeaderChain.{FollowsChain, IsWalkOf};
 ghost use Rattle.etherparse.specs.Reading.{found_and_rest};
 ghost use Rattle.etherparse.specs.WordSums.{ones_complement_sum};
 ghost use Rattle.uses.specs.UpperLayer.{HasNoUdp, HasUdp, HasUpperLayer, RefusesUpperLayer, udp_pieces};
@@ -62,6 +62,23 @@ fn sums_to_all_ones(header: &Ipv6Header, len: u32, datagram: &[u8]) -> bool
         datagram,
     ]);
     u64_16bit_word::ones_complement(sum) == 0
+}
+
+/// The walk past all extension headers of a slice, from behind those that were skipped before: their rest, and its number.
+pub fn walked_on<'a>(
+    slice: &[u8],
+    first: IpNumber,
+    rest: &'a [u8],
+    number: IpNumber,
+) -> Result<(IpNumber, &'a [u8]), LenError>
+    requires behind { FollowsChain slice.now first number rest.now }
+    requires within { length rest.now ≤ length slice.now }
+    ensures walk { IsWalkOf slice.now first (found_and_rest result) }
+{
+    match Ipv6Header::skip_all_header_extensions_in_slice(rest, number) {
+        Ok(upper) => Ok(upper),
+        Err(e) => Err(e.add_offset(slice.len() - rest.len())),
+    }
 }
 
 /// The walk past all extension headers, one skip at a time.

@@ -4,7 +4,7 @@ ghost use Rattle.etherparse_base.specs.WordSums.{folded_sum, little_endian_word_
 ghost use Rattle.etherparse_fields.specs.Ipv4Options.{IsOptionsLen};
 ghost use Rattle.etherparse.specs.Ipv4Header.{payload_len_of};
 
-use crate::checksum::{Sum16BitWords, update_2bytes};
+use crate::checksum::{Sum16BitWords, update_2bytes, update_4bytes};
 use crate::err::ipv4::{BadOptionsLen, HeaderSliceError};
 use crate::err::{Layer, LenError, ValueTooBigError, ValueType};
 use crate::{IpDscp, IpEcn, IpFragOffset, IpNumber, Ipv4HeaderSlice, Ipv4Options, LenSource};
@@ -63,12 +63,16 @@ pub struct Ipv4Header {
 }
 
 impl Ipv4Header {
-    ghost use Rattle.std.specs.Prelude.{ℕ, ◌≡◌, ◌+◌, ◌*◌, ◌/◌, ◌^◌, ◌<◌, ◌≤◌, ◌↔◌, ◌⊎◌, List, [], ◌∷◌, ◌++◌, Ok, IsOk, IfOk, OnOk, OnErr, IfErr, IsTrue, length};
+    ghost use Rattle.std.specs.Prelude.{ℕ, ◌≡◌, ◌+◌, ◌*◌, ◌/◌, ◌^◌, ◌<◌, ◌≤◌, ◌↔◌, ◌⊎◌, List, [], ◌∷◌, ◌++◌, Ok, IsOk, IfOk, OnOk, OnErr, IfErr, IsTrue, length, take};
     ghost use Rattle.std.specs.Int.{from_bool, to_be_bytes, w16};
     ghost use Rattle.etherparse_base.specs.WordSums.{SumsToAllOnes, updated_checksum};
+    ghost use Rattle.etherparse_base.specs.WordSums.{updated_checksum_of_words};
     ghost use Rattle.etherparse_fields.specs.IpEcn.{ecn_value};
     ghost use Rattle.etherparse_fields.specs.Ipv4Options.{IsOptionsLen};
-    ghost use Rattle.etherparse.specs.HeaderChecksum.{IsWrittenInPlace, header_checksum_of};
+    ghost use Rattle.etherparse.specs.HeaderChecksum.{BecomesPacketOf, IsWrittenInPlace};
+    ghost use Rattle.etherparse.specs.HeaderChecksum.{KeepsChecksum, header_checksum_of};
+    ghost use Rattle.etherparse.specs.HeaderChecksum.{with_destination_and_checksum};
+    ghost use Rattle.etherparse.specs.HeaderChecksum.{with_source_and_checksum};
     ghost use Rattle.etherparse.specs.Ipv4Header.{AgreeButForReservedBit, HasIpv4Layout, IsFragment, IsIpv4Layout, Ipv4Reading, OfIpv4Header, ReadsIpv4, ViewsIpv4};
     ghost use Rattle.etherparse.specs.Ipv4Header.{default_ipv4_header, ipv4_header_len, ipv4_ihl, ipv4_max_payload_len};
     ghost use Rattle.etherparse.specs.Ipv4Header.{ipv4_payload_len, with_reserved_bit_cleared};
@@ -256,6 +260,10 @@ impl Ipv4Header {
         ensures same_header { IfOk result (λ x. (front : List ℕ) → slice.now ≡ front ++ x.1.now →
             (bytes : List ℕ) → OfIpv4Header bytes (λ header. (header ≡ x.0)
             ↔ AgreeButForReservedBit bytes front)) }
+
+        // A packet that is cut behind the header begins with it still.
+        ensures cut { IfOk result (λ x. (n : ℕ) → n ≤ length x.1.now → BeginsWith HasIpv4Layout
+            (take (ipv4_header_len x.0 + n) slice.now) x.0 (take n x.1.now)) }
     {
         Ipv4Header::from_slice(slice)
     }
@@ -280,6 +288,10 @@ impl Ipv4Header {
         ensures same_header { IfOk result (λ x. (front : List ℕ) → slice.now ≡ front ++ x.1.now →
             (bytes : List ℕ) → OfIpv4Header bytes (λ header. (header ≡ x.0)
             ↔ AgreeButForReservedBit bytes front)) }
+
+        // A packet that is cut behind the header begins with it still.
+        ensures cut { IfOk result (λ x. (n : ℕ) → n ≤ length x.1.now → BeginsWith HasIpv4Layout
+            (take (ipv4_header_len x.0 + n) slice.now) x.0 (take n x.1.now)) }
     {
         let view = Ipv4HeaderSlice::from_slice(slice)?;
         let len = view.slice.len();
@@ -305,6 +317,8 @@ impl Ipv4Header {
             ReadsIpv4 (result.items ++ rest) (Ok (self.now, rest)) }
         ensures viewed_again { (rest : List ℕ) →
             ViewsIpv4 (result.items ++ rest) (Ok result.items) }
+        ensures read_alone { ReadsIpv4 result.items (Ok (self.now, [])) }
+        ensures viewed_alone { ViewsIpv4 result.items (Ok result.items) }
 
         // A receiver finds the checksum right where it is the computed one, in either form of zero.
         ensures sums_to_all_ones { SumsToAllOnes result.items
@@ -346,16 +360,8 @@ impl Ipv4Header {
               (time_to_live * 2 ^ 8 + self.old.protocol);
         } }
 
-        // A stored checksum that is the computed one stays so.
-        ensures stays_computed { (reserved : ℕ) (before after : List ℕ)
-            → IsIpv4Layout self.old reserved before → IsIpv4Layout self.new reserved after
-            → self.old.header_checksum ≡ header_checksum_of before
-            → self.new.header_checksum ≡ header_checksum_of after }
-
-        // A receiver finds the checksum right where it was right before.
-        ensures all_ones { (reserved : ℕ) (before after : List ℕ)
-            → IsIpv4Layout self.old reserved before → IsIpv4Layout self.new reserved after
-            → (SumsToAllOnes before ↔ SumsToAllOnes after) }
+        // A right checksum stays right, and a wrong one wrong.
+        ensures keeps_checksum { KeepsChecksum self.old self.new }
 
         // In a packet that is bytes 8, 10 and 11 and no other.
         ensures in_place { (packet rest : List ℕ) → BeginsWith HasIpv4Layout packet self.old rest
@@ -368,6 +374,56 @@ impl Ipv4Header {
             [time_to_live, protocol],
         );
         self.time_to_live = time_to_live;
+    }
+
+    /// Sets the source address, and updates the stored checksum for it by [`update_4bytes`]. A right
+    /// checksum stays right, and a wrong one wrong.
+    ///
+    /// The Rust crate has no such call.
+    #[inline]
+    pub fn set_source(&mut self, source: [u8; 4])
+        ensures set { self.new ≡ record self.old {
+          source = source;
+          header_checksum = updated_checksum_of_words 2 self.old.header_checksum
+              self.old.source source;
+        } }
+
+        // A right checksum stays right, and a wrong one wrong.
+        ensures keeps_checksum { KeepsChecksum self.old self.new }
+
+        // In a packet that is bytes 10 and 11 and the address, and no other.
+        ensures in_place { (packet rest : List ℕ) → BeginsWith HasIpv4Layout packet self.old rest
+            → BecomesPacketOf packet (with_source_and_checksum source
+            self.new.header_checksum packet) self.new rest }
+    {
+        are_bytes(&source);
+        self.header_checksum = update_4bytes(self.header_checksum, self.source, source);
+        self.source = source;
+    }
+
+    /// Sets the destination address, and updates the stored checksum for it by [`update_4bytes`]. A
+    /// right checksum stays right, and a wrong one wrong.
+    ///
+    /// The Rust crate has no such call.
+    #[inline]
+    pub fn set_destination(&mut self, destination: [u8; 4])
+        ensures set { self.new ≡ record self.old {
+          destination = destination;
+          header_checksum = updated_checksum_of_words 2 self.old.header_checksum
+              self.old.destination destination;
+        } }
+
+        // A right checksum stays right, and a wrong one wrong.
+        ensures keeps_checksum { KeepsChecksum self.old self.new }
+
+        // In a packet that is bytes 10 and 11 and the address, and no other.
+        ensures in_place { (packet rest : List ℕ) → BeginsWith HasIpv4Layout packet self.old rest
+            → BecomesPacketOf packet (with_destination_and_checksum destination
+            self.new.header_checksum packet) self.new rest }
+    {
+        are_bytes(&destination);
+        self.header_checksum = update_4bytes(self.header_checksum, self.destination, destination);
+        self.destination = destination;
     }
 
     // What stands before the options, with this checksum.
@@ -405,6 +461,12 @@ impl Ipv4Header {
         ]
     }
 }
+
+// A proof knows that the items of a slice are bytes; of an array that is passed it learns it here.
+#[inline(always)]
+fn are_bytes(bytes: &[u8])
+    ensures { IsBytes bytes.now }
+{}
 
 // The sum of sixteen bytes by words of four: of fields of two bytes each, words of eight take longer to put together.
 #[inline(always)]

@@ -29,7 +29,9 @@ impl<'a> Ipv4HeaderSlice<'a> {
     ghost use Rattle.std.specs.Prelude.{ℕ, ◌≡◌, ◌%◌, ◌≤◌, ◌↔◌, List, Result, IsOkAnd, IsTrue, drop, length, slice_index, slice_range};
     ghost use Rattle.std.specs.Int.{from_be_bytes, w16};
     ghost use Rattle.etherparse_base.specs.declared.err.ipv4.header_slice_error.HeaderSliceError.{HeaderSliceError};
-    ghost use Rattle.etherparse.specs.Ipv4Header.{HasIpv4Layout, IsFragment, OfIpv4Header, ViewsIpv4, ipv4_ihl, ipv4_payload_len};
+    ghost use Rattle.etherparse.specs.Ipv4Header.{HasIpv4Layout, IsFragment, IsIpv4Layout};
+    ghost use Rattle.etherparse.specs.Ipv4Header.{OfIpv4Header, ViewsIpv4, ipv4_ihl};
+    ghost use Rattle.etherparse.specs.Ipv4Header.{ipv4_payload_len, with_reserved_bit_cleared};
     ghost use Rattle.etherparse.specs.Ipv4HeaderSlice.{ipv4_view_bytes};
     ghost use Rattle.etherparse.specs.Reading.{BeginsWith};
     ghost use Rattle.etherparse.specs.declared.net.ipv4_header.Ipv4Header.{Ipv4Header as Header};
@@ -231,6 +233,9 @@ impl<'a> Ipv4HeaderSlice<'a> {
     pub fn to_header(&self) -> Ipv4Header
         ensures layout { HasIpv4Layout result self.now.slice.now }
         ensures only { OfIpv4Header self.now.slice.now (λ header. header ≡ result) }
+
+        // It is written as the bytes are, with the reserved bit 0.
+        ensures cleared { IsIpv4Layout result 0 (with_reserved_bit_cleared self.now.slice.now) }
     {
         self.header_with(options_of(self.options()))
     }

@@ -28,11 +28,11 @@ pub struct Ipv6Header {
 }
 
 impl Ipv6Header {
-    ghost use Rattle.std.specs.Prelude.{ℕ, ◌≡◌, ◌+◌, ◌*◌, ◌^◌, ◌<◌, ◌≤◌, ◌↔◌, List, [], ◌∷◌, ◌++◌, Ok, IsOk, IfOk, OnOk, OnErr, IfErr};
+    ghost use Rattle.std.specs.Prelude.{ℕ, ◌≡◌, ◌+◌, ◌*◌, ◌^◌, ◌<◌, ◌≤◌, ◌↔◌, List, [], ◌∷◌, ◌++◌, Ok, IsOk, IfOk, OnOk, OnErr, IfErr, length, take};
     ghost use Rattle.std.specs.Int.{to_be_bytes, w16, w32};
     ghost use Rattle.etherparse.specs.ExtensionHeaderChain.{BeginsWithChain, HasIpv6Chain};
     ghost use Rattle.etherparse.specs.Ipv6Header.{Ipv6Reading, IsIpv6Layout, ReadsIpv6, ViewsIpv6};
-    ghost use Rattle.etherparse.specs.Reading.{found_and_rest};
+    ghost use Rattle.etherparse.specs.Reading.{BeginsWith, found_and_rest};
     ghost use Rattle.etherparse.specs.TrafficClass.{traffic_class_dscp, traffic_class_ecn, traffic_class_of};
     ghost use Rattle.etherparse_base.specs.declared.err.value_type.ValueType.TheVariants as value_type;
     ghost use Rattle.etherparse_fields.specs.IpEcn.{ecn_value};
@@ -64,6 +64,10 @@ impl Ipv6Header {
         ensures chain { IfOk result (λ x. (headers : List (List ℕ)) (last : ℕ) (rest : List ℕ) →
             BeginsWithChain x.1.now x.0.next_header headers last rest →
             HasIpv6Chain slice.now x.0 headers last rest) }
+
+        // A packet that is cut behind the header begins with it still.
+        ensures cut { IfOk result (λ x. (n : ℕ) → n ≤ length x.1.now →
+            BeginsWith IsIpv6Layout (take (40 + n) slice.now) x.0 (take n x.1.now)) }
     {
         Ipv6Header::from_slice(slice)
     }
@@ -81,6 +85,10 @@ impl Ipv6Header {
         ensures chain { IfOk result (λ x. (headers : List (List ℕ)) (last : ℕ) (rest : List ℕ) →
             BeginsWithChain x.1.now x.0.next_header headers last rest →
             HasIpv6Chain slice.now x.0 headers last rest) }
+
+        // A packet that is cut behind the header begins with it still.
+        ensures cut { IfOk result (λ x. (n : ℕ) → n ≤ length x.1.now →
+            BeginsWith IsIpv6Layout (take (40 + n) slice.now) x.0 (take n x.1.now)) }
     {
         let header = Ipv6HeaderSlice::from_slice(slice)?.to_header();
         Ok((header, &slice[Ipv6Header::LEN..]))
@@ -155,6 +163,8 @@ impl Ipv6Header {
         ensures only { (bytes : List ℕ) → IsIpv6Layout self.now bytes → bytes ≡ result }
         ensures read_again { (rest : List ℕ) → ReadsIpv6 (result ++ rest) (Ok (self.now, rest)) }
         ensures viewed_again { (rest : List ℕ) → ViewsIpv6 (result ++ rest) (Ok result) }
+        ensures read_alone { ReadsIpv6 result (Ok (self.now, [])) }
+        ensures viewed_alone { ViewsIpv6 result (Ok result) }
     {
         joined(&self.front(), &self.source, &self.destination)
     }

@@ -18,7 +18,9 @@ pub struct Ipv6HeaderSlice<'a> {
 }
 
 impl<'a> Ipv6HeaderSlice<'a> {
-    ghost use Rattle.std.specs.Prelude.{ℕ, ◌≡◌, List, Result, IsOkAnd, slice_index};
+    ghost use Rattle.std.specs.Prelude.{ℕ, ◌≡◌, ◌+◌, ◌*◌, ◌/◌, ◌%◌, ◌^◌, List, Result, IsOkAnd};
+    ghost use Rattle.std.specs.Prelude.{slice_index, slice_range};
+    ghost use Rattle.std.specs.Int.{from_be_bytes, w16};
     ghost use Rattle.etherparse_base.specs.declared.err.ipv6.header_slice_error.HeaderSliceError.{HeaderSliceError};
     ghost use Rattle.etherparse.specs.Ipv6Header.{IsIpv6Layout, OfIpv6Header, ViewsIpv6};
     ghost use Rattle.etherparse.specs.Ipv6HeaderSlice.{ipv6_view_bytes};
@@ -80,6 +82,8 @@ impl<'a> Ipv6HeaderSlice<'a> {
     #[inline]
     pub fn traffic_class(&self) -> u8
         ensures value { OfIpv6Header self.now.slice.now (λ header. result ≡ header.traffic_class) }
+        ensures bytes_0_1 { result ≡ (slice_index self.now.slice.now 0 * 2 ^ 8
+            + slice_index self.now.slice.now 1) / 2 ^ 4 % 2 ^ 8 }
     {
         (self.slice[0] & 0xf) * 16 + (self.slice[1] >> 4)
     }
@@ -106,6 +110,8 @@ impl<'a> Ipv6HeaderSlice<'a> {
     #[inline]
     pub fn flow_label(&self) -> Ipv6FlowLabel
         ensures value { OfIpv6Header self.now.slice.now (λ header. result ≡ header.flow_label) }
+        ensures bytes_1_to_3 { result ≡ slice_index self.now.slice.now 1 % 2 ^ 4 * 2 ^ 16
+            + slice_index self.now.slice.now 2 * 2 ^ 8 + slice_index self.now.slice.now 3 }
     {
         let bytes = [0, self.slice[1] & 0xf, self.slice[2], self.slice[3]];
         Ipv6FlowLabel::try_new(u32::from_be_bytes(bytes)).unwrap()
@@ -115,6 +121,7 @@ impl<'a> Ipv6HeaderSlice<'a> {
     #[inline]
     pub fn payload_length(&self) -> u16
         ensures value { OfIpv6Header self.now.slice.now (λ header. result ≡ header.payload_length) }
+        ensures bytes_4_5 { result ≡ from_be_bytes w16 (slice_range self.now.slice.now 4 6) }
     {
         u16::from_be_bytes([self.slice[4], self.slice[5]])
     }
@@ -141,6 +148,7 @@ impl<'a> Ipv6HeaderSlice<'a> {
     #[inline]
     pub fn source(&self) -> [u8; 16]
         ensures value { OfIpv6Header self.now.slice.now (λ header. result ≡ header.source) }
+        ensures bytes_8_to_23 { result ≡ slice_range self.now.slice.now 8 24 }
     {
         *self.slice[8..24].first_chunk::<16>().unwrap()
     }
@@ -149,6 +157,7 @@ impl<'a> Ipv6HeaderSlice<'a> {
     #[inline]
     pub fn destination(&self) -> [u8; 16]
         ensures value { OfIpv6Header self.now.slice.now (λ header. result ≡ header.destination) }
+        ensures bytes_24_to_39 { result ≡ slice_range self.now.slice.now 24 40 }
     {
         *self.slice[24..].first_chunk::<16>().unwrap()
     }

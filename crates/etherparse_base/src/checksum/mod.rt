@@ -12,4 +12,4 @@ mod wide_u64;
 mod words;
 
 pub use sum_16bit_words::Sum16BitWords;
-pub use update::update_2bytes;
+pub use update::{update_2bytes, update_4bytes, update_16bytes};

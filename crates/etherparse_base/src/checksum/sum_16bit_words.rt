@@ -1,6 +1,7 @@
 ghost use Rattle.std.specs.Prelude.{ℕ, List, ◌≡◌, ◌↔◌, ◌+◌, ◌-◌, drop, take};
 ghost use Rattle.std.specs.Int.{from_le_bytes, swap_bytes, w16, w32, w64};
-ghost use Rattle.etherparse_base.specs.WordSums.{AddsSlice, SumsToAllOnes, end_around_sum};
+ghost use Rattle.etherparse_base.specs.WordSums.{AddsSlice, Completes, CompletesAboveZero};
+ghost use Rattle.etherparse_base.specs.WordSums.{StandsForWords, SumsToAllOnes, end_around_sum};
 ghost use Rattle.etherparse_base.specs.WordSums.{folded_sum, little_endian_word_sum};
 ghost use Rattle.etherparse_base.specs.WordSums.{network_order_word_sum, with_no_zero};
 
@@ -50,6 +51,7 @@ impl Sum16BitWords {
     pub fn add_2bytes(self, value: [u8; 2]) -> Sum16BitWords
         ensures sum { result ≡ end_around_sum u64.MAX self (from_le_bytes w16 value) }
         ensures folded { folded_sum result ≡ folded_sum (self + little_endian_word_sum value) }
+        ensures in_a_sum { StandsForWords self value result }
     {
         Sum16BitWords {
             sum: u64_16bit_word::add_2bytes(self.sum, value),
@@ -64,6 +66,7 @@ impl Sum16BitWords {
     pub fn add_4bytes(&mut self, value: [u8; 4]) -> Sum16BitWords
         ensures sum { result ≡ end_around_sum u64.MAX self.old (from_le_bytes w32 value) }
         ensures folded { folded_sum result ≡ folded_sum (self.old + little_endian_word_sum value) }
+        ensures in_a_sum { StandsForWords self.old value result }
         ensures unchanged { self.new ≡ self.old }
     {
         Sum16BitWords {
@@ -79,6 +82,7 @@ impl Sum16BitWords {
     pub fn add_8bytes(&mut self, value: [u8; 8]) -> Sum16BitWords
         ensures sum { result ≡ end_around_sum u64.MAX self.old (from_le_bytes w64 value) }
         ensures folded { folded_sum result ≡ folded_sum (self.old + little_endian_word_sum value) }
+        ensures in_a_sum { StandsForWords self.old value result }
         ensures unchanged { self.new ≡ self.old }
     {
         Sum16BitWords {
@@ -94,6 +98,7 @@ impl Sum16BitWords {
         ensures sum { let half = end_around_sum u64.MAX self.old (from_le_bytes w64 (take 8 bytes))
             in result ≡ end_around_sum u64.MAX half (from_le_bytes w64 (drop 8 bytes)) }
         ensures folded { folded_sum result ≡ folded_sum (self.old + little_endian_word_sum bytes) }
+        ensures in_a_sum { StandsForWords self.old bytes result }
         ensures unchanged { self.new ≡ self.old }
     {
         let first = [
@@ -111,6 +116,7 @@ impl Sum16BitWords {
     #[inline]
     pub fn ones_complement(&self) -> u16
         ensures value { result ≡ 65535 - folded_sum self.now }
+        ensures completes { Completes self.now result }
         ensures network_order { (bytes : List ℕ)
             → folded_sum self.now ≡ folded_sum (little_endian_word_sum bytes)
             → swap_bytes w16 result ≡ 65535 - folded_sum (network_order_word_sum bytes) }
@@ -122,6 +128,7 @@ impl Sum16BitWords {
     #[inline]
     pub fn to_ones_complement_with_no_zero(&self) -> u16
         ensures value { result ≡ with_no_zero (65535 - folded_sum self.now) }
+        ensures completes { CompletesAboveZero self.now result }
         ensures network_order { (bytes : List ℕ)
             → folded_sum self.now ≡ folded_sum (little_endian_word_sum bytes)
             → swap_bytes w16 result

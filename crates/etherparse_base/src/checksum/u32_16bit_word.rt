@@ -4,7 +4,8 @@
 
 ghost use Rattle.std.specs.Prelude.{ℕ, List, ◌∷◌, ◌++◌, ◌≡◌, ◌↔◌, ◌+◌, ◌-◌, ◌%◌, length, map};
 ghost use Rattle.std.specs.Int.{from_le_bytes, swap_bytes, w16, w32};
-ghost use Rattle.etherparse_base.specs.WordSums.{AddsSlice, SumsToAllOnes, end_around_sum};
+ghost use Rattle.etherparse_base.specs.WordSums.{AddsSlice, Completes, CompletesAboveZero};
+ghost use Rattle.etherparse_base.specs.WordSums.{StandsForWords, SumsToAllOnes, end_around_sum};
 ghost use Rattle.etherparse_base.specs.WordSums.{folded_sum, little_endian_word_sum};
 ghost use Rattle.etherparse_base.specs.WordSums.{network_order_word_sum, ones_complement_sum};
 ghost use Rattle.etherparse_base.specs.WordSums.{with_no_zero};
@@ -18,6 +19,7 @@ use super::wide_u64;
 pub fn add_2bytes(start: u32, value: [u8; 2]) -> u32
     ensures sum { result ≡ end_around_sum u32.MAX start (from_le_bytes w16 value) }
     ensures folded { folded_sum result ≡ folded_sum (start + little_endian_word_sum value) }
+    ensures in_a_sum { StandsForWords start value result }
 {
     add_u32(start, u32::from(u16::from_le_bytes(value)))
 }
@@ -28,6 +30,7 @@ pub fn add_2bytes(start: u32, value: [u8; 2]) -> u32
 pub fn add_4bytes(start: u32, value: [u8; 4]) -> u32
     ensures sum { result ≡ end_around_sum u32.MAX start (from_le_bytes w32 value) }
     ensures folded { folded_sum result ≡ folded_sum (start + little_endian_word_sum value) }
+    ensures in_a_sum { StandsForWords start value result }
 {
     add_u32(start, u32::from_le_bytes(value))
 }
@@ -72,6 +75,7 @@ pub fn add_slices(pieces: &[&[u8]]) -> u32
 #[inline]
 pub fn ones_complement(sum: u32) -> u16
     ensures value { result ≡ 65535 - folded_sum sum }
+    ensures completes { Completes sum result }
     ensures network_order { (bytes : List ℕ)
         → folded_sum sum ≡ folded_sum (little_endian_word_sum bytes)
         → swap_bytes w16 result ≡ 65535 - folded_sum (network_order_word_sum bytes) }
@@ -83,6 +87,7 @@ pub fn ones_complement(sum: u32) -> u16
 #[inline]
 pub fn ones_complement_with_no_zero(sum: u32) -> u16
     ensures value { result ≡ with_no_zero (65535 - folded_sum sum) }
+    ensures completes { CompletesAboveZero sum result }
     ensures network_order { (bytes : List ℕ)
         → folded_sum sum ≡ folded_sum (little_endian_word_sum bytes)
         → swap_bytes w16 result
@@ -98,6 +103,7 @@ pub fn ones_complement_with_no_zero(sum: u32) -> u16
 #[inline(always)]
 pub fn checksum(start_sum: u32, slice: &[u8]) -> u16
     ensures value { result ≡ 65535 - folded_sum (start_sum + little_endian_word_sum slice.now) }
+    ensures completes { Completes (start_sum + little_endian_word_sum slice.now) result }
     ensures network_order { (bytes : List ℕ)
         → folded_sum (start_sum + little_endian_word_sum slice.now)
         ≡ folded_sum (little_endian_word_sum bytes)

@@ -6,7 +6,8 @@
 
 ghost use Rattle.std.specs.Prelude.{ℕ, List, ◌∷◌, ◌++◌, ◌≡◌, ◌↔◌, ◌+◌, ◌-◌, ◌%◌, length, map};
 ghost use Rattle.std.specs.Int.{from_le_bytes, swap_bytes, w16, w32, w64};
-ghost use Rattle.etherparse_base.specs.WordSums.{AddsSlice, SumsToAllOnes, end_around_sum};
+ghost use Rattle.etherparse_base.specs.WordSums.{AddsSlice, Completes, CompletesAboveZero};
+ghost use Rattle.etherparse_base.specs.WordSums.{StandsForWords, SumsToAllOnes, end_around_sum};
 ghost use Rattle.etherparse_base.specs.WordSums.{folded_sum, little_endian_word_sum};
 ghost use Rattle.etherparse_base.specs.WordSums.{network_order_word_sum, ones_complement_sum};
 ghost use Rattle.etherparse_base.specs.WordSums.{with_no_zero};
@@ -20,6 +21,7 @@ use super::wide_u64;
 pub fn add_2bytes(start: u64, value: [u8; 2]) -> u64
     ensures sum { result ≡ end_around_sum u64.MAX start (from_le_bytes w16 value) }
     ensures folded { folded_sum result ≡ folded_sum (start + little_endian_word_sum value) }
+    ensures in_a_sum { StandsForWords start value result }
 {
     add_u64(start, u64::from(u16::from_le_bytes(value)))
 }
@@ -30,6 +32,7 @@ pub fn add_2bytes(start: u64, value: [u8; 2]) -> u64
 pub fn add_4bytes(start: u64, value: [u8; 4]) -> u64
     ensures sum { result ≡ end_around_sum u64.MAX start (from_le_bytes w32 value) }
     ensures folded { folded_sum result ≡ folded_sum (start + little_endian_word_sum value) }
+    ensures in_a_sum { StandsForWords start value result }
 {
     add_u64(start, u64::from(u32::from_le_bytes(value)))
 }
@@ -40,6 +43,7 @@ pub fn add_4bytes(start: u64, value: [u8; 4]) -> u64
 pub fn add_8bytes(start: u64, value: [u8; 8]) -> u64
     ensures sum { result ≡ end_around_sum u64.MAX start (from_le_bytes w64 value) }
     ensures folded { folded_sum result ≡ folded_sum (start + little_endian_word_sum value) }
+    ensures in_a_sum { StandsForWords start value result }
 {
     add_u64(start, u64::from_le_bytes(value))
 }
@@ -84,6 +88,7 @@ pub fn add_slices(pieces: &[&[u8]]) -> u64
 #[inline]
 pub fn ones_complement(sum: u64) -> u16
     ensures value { result ≡ 65535 - folded_sum sum }
+    ensures completes { Completes sum result }
     ensures network_order { (bytes : List ℕ)
         → folded_sum sum ≡ folded_sum (little_endian_word_sum bytes)
         → swap_bytes w16 result ≡ 65535 - folded_sum (network_order_word_sum bytes) }
@@ -95,6 +100,7 @@ pub fn ones_complement(sum: u64) -> u16
 #[inline]
 pub fn ones_complement_with_no_zero(sum: u64) -> u16
     ensures value { result ≡ with_no_zero (65535 - folded_sum sum) }
+    ensures completes { CompletesAboveZero sum result }
     ensures network_order { (bytes : List ℕ)
         → folded_sum sum ≡ folded_sum (little_endian_word_sum bytes)
         → swap_bytes w16 result
@@ -110,6 +116,7 @@ pub fn ones_complement_with_no_zero(sum: u64) -> u16
 #[inline(always)]
 pub fn checksum(start_sum: u64, slice: &[u8]) -> u16
     ensures value { result ≡ 65535 - folded_sum (start_sum + little_endian_word_sum slice.now) }
+    ensures completes { Completes (start_sum + little_endian_word_sum slice.now) result }
     ensures network_order { (bytes : List ℕ)
         → folded_sum (start_sum + little_endian_word_sum slice.now)
         ≡ folded_sum (little_endian_word_sum bytes)

@@ -1,8 +1,10 @@
 //! A checksum after a change of what it is over, from the change alone (RFC 1624).
 
-ghost use Rattle.std.specs.Prelude.{ℕ, ◌≡◌, ◌≤◌, ◌<◌, ◌+◌, ◌-◌};
+ghost use Rattle.std.specs.Prelude.{◌≡◌, ◌≤◌, ◌+◌, ◌-◌, ◌*◌};
 ghost use Rattle.std.specs.Int.{from_be_bytes, w16};
-ghost use Rattle.etherparse_base.specs.WordSums.{folded_sum, updated_checksum};
+ghost use Rattle.etherparse_base.specs.WordSums.{UpdatesChecksum, folded_sum};
+ghost use Rattle.etherparse_base.specs.WordSums.{network_order_word_sum, updated_checksum};
+ghost use Rattle.etherparse_base.specs.WordSums.{updated_checksum_of_words};
 
 use super::u32_16bit_word::ones_complement;
 
@@ -17,20 +19,60 @@ use super::u32_16bit_word::ones_complement;
 pub fn update_2bytes(checksum: u16, old: [u8; 2], new: [u8; 2]) -> u16
     ensures value { result ≡ updated_checksum checksum (from_be_bytes w16 old)
         (from_be_bytes w16 new) }
-
-    // The checksum of a sum of words becomes that of the sum with the new word in the place of the old.
-    ensures anew { (sum : ℕ) → from_be_bytes w16 old ≤ sum → checksum ≡ 65535 - folded_sum sum
-        → 0 < sum - from_be_bytes w16 old + from_be_bytes w16 new
-        → result ≡ 65535 - folded_sum (sum - from_be_bytes w16 old + from_be_bytes w16 new) }
-
-    // What a receiver sums, the checksum with the words, has the fold that it had.
-    ensures received { (sum : ℕ) → from_be_bytes w16 old ≤ sum → 0 < sum
-        → 0 < sum - from_be_bytes w16 old + from_be_bytes w16 new
-        → folded_sum (sum - from_be_bytes w16 old + from_be_bytes w16 new + result)
-        ≡ folded_sum (sum + checksum) }
+    ensures updates { UpdatesChecksum checksum (from_be_bytes w16 old) (from_be_bytes w16 new)
+        result }
 {
     let sum = u32::from(!checksum)
         + u32::from(!u16::from_be_bytes(old))
         + u32::from(u16::from_be_bytes(new));
     ones_complement(sum)
+}
+
+/// [`update_2bytes`] for two words at once, as an IPv4 address. It is right also where between two
+/// single updates all words would be 0.
+///
+/// The Rust crate has no such call.
+#[inline]
+pub fn update_4bytes(checksum: u16, old: [u8; 4], new: [u8; 4]) -> u16
+    ensures value { result ≡ updated_checksum_of_words 2 checksum old new }
+    ensures updates { UpdatesChecksum checksum (network_order_word_sum old)
+        (network_order_word_sum new) result }
+{
+    ones_complement(u32::from(!checksum) + (131070 - two_words(old)) + two_words(new))
+}
+
+/// [`update_2bytes`] for eight words at once, as an IPv6 address. It is right also where between
+/// two single updates all words would be 0.
+///
+/// The Rust crate has no such call.
+#[inline]
+pub fn update_16bytes(checksum: u16, old: [u8; 16], new: [u8; 16]) -> u16
+    ensures value { result ≡ updated_checksum_of_words 8 checksum old new }
+    ensures updates { UpdatesChecksum checksum (network_order_word_sum old)
+        (network_order_word_sum new) result }
+{
+    ones_complement(u32::from(!checksum) + (524280 - eight_words(old)) + eight_words(new))
+}
+
+// The sum of two words, each with the high byte first.
+#[inline(always)]
+fn two_words(bytes: [u8; 4]) -> u32
+    ensures sum { result ≡ network_order_word_sum bytes }
+    ensures within { result ≤ 2 * 65535 }
+{
+    let [a, b, c, d] = bytes;
+    u32::from(u16::from_be_bytes([a, b])) + u32::from(u16::from_be_bytes([c, d]))
+}
+
+// The sum of eight words, each with the high byte first.
+#[inline(always)]
+fn eight_words(bytes: [u8; 16]) -> u32
+    ensures sum { result ≡ network_order_word_sum bytes }
+    ensures within { result ≤ 8 * 65535 }
+{
+    let [a, b, c, d, e, f, g, h, i, j, k, l, m, n, o, p] = bytes;
+    two_words([a, b, c, d])
+        + two_words([e, f, g, h])
+        + two_words([i, j, k, l])
+        + two_words([m, n, o, p])
 }

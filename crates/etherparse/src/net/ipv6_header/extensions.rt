@@ -33,7 +33,8 @@ impl Ipv6Header {
     ghost use Rattle.etherparse_base.specs.LenError.{len_error_moved};
     ghost use Rattle.etherparse_fields.specs.ExtensionHeaders.{IsSkippable};
     ghost use Rattle.etherparse.specs.ExtensionHeaderChain.{Ends, FollowsChain, IsWalkOf, WalkAnswer, Walks, incomplete_header_error};
-    ghost use Rattle.etherparse.specs.ExtensionHeaderChain.{next_header_of, required_len_of, turn_count};
+    ghost use Rattle.etherparse.specs.ExtensionHeaderChain.{next_header_of, required_len_of};
+    ghost use Rattle.etherparse.specs.ExtensionHeaderChain.{turn_count, walk_answer_moved};
     ghost use Rattle.etherparse.specs.Reading.{found_and_rest};
 
     /// Skips the extension header of a number at the front of a slice: the number of what follows it, and all the bytes
@@ -128,6 +129,11 @@ impl Ipv6Header {
             other ≡ found_and_rest result }
         ensures shorter { IfOk result (λ x. length x.1.now ≤ length slice.now) }
         ensures within { IfErr result (λ e. e.layer_start_offset ≤ length slice.now) }
+
+        // Behind a chain of a slice it is the walk of that slice.
+        ensures follows { (s : List ℕ) → (first : ℕ) → FollowsChain s first next_header slice.now →
+            IsWalkOf s first (walk_answer_moved (length s - length slice.now)
+            (found_and_rest result)) }
     {
         Ipv6Header::skip_all_header_extensions_counted(slice, next_header).0
     }
@@ -151,6 +157,11 @@ impl Ipv6Header {
             Ends slice.now next_header headers (found_and_rest result.0) →
             result.1 ≡ turn_count headers }
         ensures few_turns { result.1 ≤ length slice.now / 8 + 1 }
+
+        // Behind a chain of a slice it is the walk of that slice.
+        ensures follows { (s : List ℕ) → (first : ℕ) → FollowsChain s first next_header slice.now →
+            IsWalkOf s first (walk_answer_moved (length s - length slice.now)
+            (found_and_rest result.0)) }
     {
         let mut number = next_header;
         let mut place = 0;

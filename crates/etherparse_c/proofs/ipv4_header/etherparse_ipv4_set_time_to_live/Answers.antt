@@ -10,14 +10,14 @@ pub returns-clause-stays_computed : goal.returns-clause-stays_computed
 returns-clause-stays_computed c = λ some.
     let within = c.in-Some.ensures.within in
     stays_right c.args.fields.now _ _ c.in-Some.header c.set_time_to_live.new.self c.in-Some.ensures.value c.set_time_to_live.ensures.set
-    within.0 within.1 c.set_time_to_live.ensures.stays_computed
+    within.0 within.1 c.set_time_to_live.ensures.keeps_checksum.stays_computed
 
 pub returns-clause-all_ones : goal.returns-clause-all_ones
 returns-clause-all_ones c = λ some before after k l.
     let changed = stands_changed c.args.fields.now _ _ c.in-Some.header c.set_time_to_live.new.self c.in-Some.ensures.value c.set_time_to_live.ensures.set in
     let old = one_ipv4_header c.args.fields.now k.header c.in-Some.header k.same c.in-Some.ensures.value in
     let new = one_ipv4_header _ l.header c.set_time_to_live.new.self l.same changed in
-    c.set_time_to_live.ensures.all_ones 0 before after
+    c.set_time_to_live.ensures.keeps_checksum.all_ones 0 before after
     (subst (λ h. IsIpv4Layout h 0 before) old k.layout) (subst (λ h. IsIpv4Layout h 0 after) new l.layout)
 
 pub returns-clause-in_place : goal.returns-clause-in_place

@@ -1,6 +1,5 @@
 use Rattle.std.proofs.Common.{ℕ, List, [], ◌∷◌, ap, arith, get_or, length, ◌+◌, ◌≡◌, ◌∙◌}
 use Rattle.etherparse_base.specs.WordSums.{folded_sum, little_endian_word_sum}
-use Rattle.etherparse_base.proofs.FoldedSums.{folded_sum-plus}
 use Rattle.etherparse.proofs.net.ipv4_header.add_fours.Goals as goal
 
 -- the words of the four bytes at a place
@@ -13,15 +12,7 @@ by_fours (a ∷ b ∷ c ∷ d ∷ e ∷ f ∷ g ∷ h ∷ i ∷ j ∷ k ∷ l �
 by_fours p sixteen = absurd (omega (arith, sixteen))
 
 pub returns : goal.returns
-returns c =
-    let p : List ℕ = c.args.bytes in
-    let a = words_at p 0 in
-    let b = words_at p 4 in
-    let d = words_at p 8 in
-    let one = c.add_4bytes.ensures.folded ∙ ap (λ n. folded_sum (n + a)) c.new.ensures.zero in
-    let two = c.add_4bytes-2.ensures.folded ∙ folded_sum-plus c.add_4bytes.result (0 + a) b one in
-    let three = c.add_4bytes-3.ensures.folded ∙ folded_sum-plus c.add_4bytes-2.result (0 + a + b) d two in
-    record {
-      sum = c.add_4bytes-4.ensures.folded ∙ folded_sum-plus c.add_4bytes-3.result (0 + a + b + d) (words_at p 12) three
-          ∙ ap folded_sum (by_fours p c.requires);
-    }
+returns c = record {
+  sum = ap folded_sum (omega arith) ∙ c.add_4bytes-4.ensures.in_a_sum 0 ∙ c.add_4bytes-3.ensures.in_a_sum _ ∙ c.add_4bytes-2.ensures.in_a_sum _
+      ∙ c.add_4bytes.ensures.in_a_sum _ ∙ ap folded_sum (omega (arith, c.new.ensures.zero, by_fours c.args.bytes c.requires));
+}

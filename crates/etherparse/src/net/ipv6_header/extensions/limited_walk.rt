@@ -5,9 +5,12 @@ use crate::err::ipv6::ChainError;
 use crate::{IpNumber, Ipv6Header};
 
 impl Ipv6Header {
-    ghost use Rattle.std.specs.Prelude.{◌≡◌, ◌+◌, ◌/◌, ◌≤◌, IfErr, IfOk, length};
-    ghost use Rattle.etherparse.specs.ExtensionHeaderChain.{LimitedWalkAnswer, WalkAnswer, Walks, WalksUpTo};
-    ghost use Rattle.etherparse.specs.ExtensionHeaderChain.{chain_error_place, with_error_in_len};
+    ghost use Rattle.std.specs.Prelude.{ℕ, ◌≡◌, ◌+◌, ◌-◌, ◌/◌, ◌≤◌, List, IfErr, IfOk, length};
+    ghost use Rattle.etherparse.specs.ExtensionHeaderChain.{BeginsWithChain, LimitedWalkAnswer};
+    ghost use Rattle.etherparse.specs.ExtensionHeaderChain.{WalkAnswer, Walks, WalksUpTo};
+    ghost use Rattle.etherparse.specs.ExtensionHeaderChain.{chain_error_place};
+    ghost use Rattle.etherparse.specs.ExtensionHeaderChain.{limited_walk_answer_moved};
+    ghost use Rattle.etherparse.specs.ExtensionHeaderChain.{with_error_in_len};
     ghost use Rattle.etherparse.specs.Reading.{found_and_rest};
 
     /// Skips the extension headers at the front of a slice, of which the first has this number, but no more than `limit` of
@@ -34,6 +37,12 @@ impl Ipv6Header {
             found_and_rest result ≡ with_error_in_len answer }
         ensures shorter { IfOk result (λ x. length x.1.now ≤ length slice.now) }
         ensures within { IfErr result (λ e. chain_error_place e ≤ length slice.now) }
+
+        // Behind a chain of a slice it is the walk of that slice; the limit counts its headers too.
+        ensures follows { (s : List ℕ) → (first : ℕ) → (headers : List (List ℕ)) →
+            BeginsWithChain s first headers next_header slice.now →
+            WalksUpTo (length headers + limit) s first (limited_walk_answer_moved (length headers)
+            (length s - length slice.now) (found_and_rest result)) }
     {
         let mut number = next_header;
         let mut place = 0;

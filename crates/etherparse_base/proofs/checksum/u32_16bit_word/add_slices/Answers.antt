@@ -1,7 +1,7 @@
 use Rattle.std.proofs.Common.{◌∙◌, ap, arith, sym}
 use Rattle.std.proofs.lemmas.Grind.{common_steps}
 use Rattle.etherparse_base.specs.WordSums.{ones_complement_sum}
-use Rattle.etherparse_base.proofs.WordSumLaws.{ones_complement_sum-cut, ones_complement_sum-exchanged}
+use Rattle.etherparse_base.proofs.WordSumLaws.{ones_complement_sum-cut}
 use Rattle.etherparse_base.proofs.checksum.u32_16bit_word.add_slices.Goals as goal
 
 pub returns-clause-sum : goal.returns-clause-sum

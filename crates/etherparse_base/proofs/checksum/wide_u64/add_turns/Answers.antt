@@ -1,8 +1,6 @@
-use Rattle.std.proofs.Common.{◌≡◌, ◌≤◌, ◌<◌, ◌+◌, ◌^◌, ◌∙◌, [], ◌∷◌, ap, arith, length, refl}
-use Rattle.std.specs.Simd.Lanes.{sum_l}
+use Rattle.std.proofs.Common.{◌≤◌, ◌^◌, [], ◌∷◌, ap, arith, length, refl}
 use Rattle.etherparse_base.specs.WideSums.{AddsTurns, lanes_added}
-use Rattle.etherparse_base.specs.WordSums.{folded_sum, little_endian_word_sum}
-use Rattle.etherparse_base.proofs.FoldedSums.{folded_sum-end_around_sum, folded_sum-plus}
+use Rattle.etherparse_base.specs.WordSums.{folded_sum}
 use Rattle.etherparse_base.proofs.LaneSums.{lanes_added-last, lanes_added-second}
 use Rattle.etherparse_base.proofs.checksum.wide_u64.add_turns.Goals as goal
 

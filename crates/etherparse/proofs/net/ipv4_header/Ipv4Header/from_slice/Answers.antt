@@ -18,14 +18,14 @@ header_with-requires-then-slice-ge-MAX_LEN c =
 pub returns : goal.returns
 returns c =
     let a = reads_front _ _ _ _ _ c.in_ok-view.ensures.views.whole c.to_header.ensures.layout refl in
-    record { reads = a.reads; only = a.only; cleared = a.cleared; same_header = a.same_header }
+    record { reads = a.reads; only = a.only; cleared = a.cleared; same_header = a.same_header; cut = a.cut }
 
 pub returns-then-len-eq-MIN_LEN : goal.returns-then-len-eq-MIN_LEN
 returns-then-len-eq-MIN_LEN c =
     let a = reads_front _ _ _ _ _ c.in_ok-view.ensures.views.whole c.header_with.ensures.layout refl in
-    record { reads = a.reads; only = a.only; cleared = a.cleared; same_header = a.same_header }
+    record { reads = a.reads; only = a.only; cleared = a.cleared; same_header = a.same_header; cut = a.cut }
 
 pub returns-then-slice-ge-MAX_LEN : goal.returns-then-slice-ge-MAX_LEN
 returns-then-slice-ge-MAX_LEN c =
     let a = reads_front _ _ _ _ _ c.in_ok-view.ensures.views.whole c.header_with-then-slice-ge-MAX_LEN.ensures.layout refl in
-    record { reads = a.reads; only = a.only; cleared = a.cleared; same_header = a.same_header }
+    record { reads = a.reads; only = a.only; cleared = a.cleared; same_header = a.same_header; cut = a.cut }

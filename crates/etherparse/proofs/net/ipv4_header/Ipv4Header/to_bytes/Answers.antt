@@ -1,4 +1,5 @@
-use Rattle.std.proofs.Common.{ap, arith, length, refl, subst, sym}
+use Rattle.std.proofs.Common.{[], ap, arith, length, refl, subst, sym}
+use Rattle.std.proofs.lemmas.List.{append-nil}
 use Rattle.etherparse_base.specs.Bytes.{IsBytes}
 use Rattle.etherparse.proofs.HeaderChecksum.{right_checksum}
 use Rattle.etherparse.proofs.Ipv4Layout.{HasFieldRanges, front_spells, same_bytes, spells}
@@ -35,5 +36,7 @@ returns c =
         whole = refl;
         layout = record { reserved = 0; layout = layout };
       };
+      read_alone = record { front = c.joined.result.items; whole = sym (append-nil _); layout = record { reserved = 0; layout = layout } };
+      viewed_alone = record { header = h; rest = []; whole = sym (append-nil _); layout = record { reserved = 0; layout = layout } };
       sums_to_all_ones = right_checksum h 0 _ layout;
     }

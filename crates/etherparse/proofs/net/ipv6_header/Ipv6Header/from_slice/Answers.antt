@@ -1,5 +1,7 @@
 use Rattle.etherparse.proofs.ExtensionHeaderChain.{chain_after_header}
+use Rattle.etherparse.proofs.Fronts.{cut_behind}
 use Rattle.etherparse.proofs.Ipv6Reading.{read_front, read_once}
+use Rattle.etherparse.specs.Ipv6Header.{IsIpv6Layout}
 use Rattle.etherparse.proofs.net.ipv6_header.Ipv6Header.from_slice.Goals as goal
 
 pub returns-clause-reads : goal.returns-clause-reads
@@ -13,3 +15,8 @@ pub returns-clause-chain : goal.returns-clause-chain
 returns-clause-chain c =
     let read = read_front _ _ _ _ c.in_ok-from_slice.ensures.views.whole c.to_header-header.ensures.layout in
     chain_after_header _ read.front _ _ read.whole read.layout
+
+pub returns-clause-cut : goal.returns-clause-cut
+returns-clause-cut c =
+    let read = read_front _ _ _ _ c.in_ok-from_slice.ensures.views.whole c.to_header-header.ensures.layout in
+    cut_behind IsIpv6Layout 40 _ _ _ read read.layout.len

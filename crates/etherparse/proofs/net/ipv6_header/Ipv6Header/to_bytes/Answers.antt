@@ -1,4 +1,5 @@
-use Rattle.std.proofs.Common.{arith, refl, subst, sym, ◌∙◌}
+use Rattle.std.proofs.Common.{[], arith, refl, subst, sym, ◌∙◌}
+use Rattle.std.proofs.lemmas.List.{append-nil}
 use Rattle.etherparse_base.specs.Bytes.{IsBytes}
 use Rattle.etherparse.proofs.Ipv6Layout.{same_bytes, spells}
 use Rattle.etherparse.proofs.net.ipv6_header.Ipv6Header.to_bytes.Goals as goal
@@ -15,4 +16,6 @@ returns c =
       only = λ bytes other. same_bytes h bytes c.joined.result other layout;
       read_again = λ rest. record { front = c.joined.result; whole = refl; layout = layout };
       viewed_again = λ rest. record { header = h; rest = rest; whole = refl; layout = layout };
+      read_alone = record { front = c.joined.result; whole = sym (append-nil _); layout = layout };
+      viewed_alone = record { header = h; rest = []; whole = sym (append-nil _); layout = layout };
     }

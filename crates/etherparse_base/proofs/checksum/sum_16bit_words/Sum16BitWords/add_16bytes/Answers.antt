@@ -1,6 +1,6 @@
 use Rattle.std.proofs.Common.{[], ◌∷◌, ◌≡◌, ◌+◌, ◌∙◌, ap, arith, get_or, length}
 use Rattle.etherparse_base.specs.WordSums.{folded_sum, little_endian_word_sum}
-use Rattle.etherparse_base.proofs.FoldedSums.{folded_sum-plus}
+use Rattle.etherparse_base.proofs.FoldedSums.{folded_sum-plus, stands_for_words}
 use Rattle.etherparse_base.proofs.WordNumbers.{sixteen_bytes}
 use Rattle.etherparse_base.proofs.checksum.sum_16bit_words.Sum16BitWords.add_16bytes.Goals as goal
 
@@ -15,3 +15,6 @@ returns-clause-folded c =
     let sixteen : length value ≡ 16 = omega arith in
     let together : start + first + last ≡ start + little_endian_word_sum value = omega (arith, sixteen_bytes value sixteen) in
     whole ∙ folded_sum-plus c.add_8bytes.result (start + first) last half ∙ ap folded_sum together
+
+pub returns-clause-in_a_sum : goal.returns-clause-in_a_sum
+returns-clause-in_a_sum c = stands_for_words _ _ c.args.bytes (returns-clause-folded c)

@@ -1,0 +1,38 @@
+-- The UDP header (RFC 768).
+use Rattle.std.specs.Prelude.{ℕ, ◌≡◌, List, [], ◌∷◌, ◌++◌, length, slice_range, Result}
+use Rattle.std.specs.Int.{from_be_bytes, to_be_bytes, w16, w32}
+use Rattle.etherparse.specs.Bytes.{IsBytes}
+use Rattle.etherparse.specs.Reading.{ReadsFixed}
+use Rattle.etherparse.specs.declared.err.LenError.{LenError}
+use Rattle.etherparse.specs.declared.err.Layer.TheVariants as layer
+use Rattle.etherparse.specs.declared.net.ipv4_header.Ipv4Header.{Ipv4Header}
+use Rattle.etherparse.specs.declared.net.ipv6_header.Ipv6Header.{Ipv6Header}
+use Rattle.uses.specs.declared.udp.UdpHeader.{UdpHeader}
+
+-- The 8 bytes of a header, in network byte order: the source port; the destination port; the
+-- length; the checksum.
+pub record IsUdpLayout (header : UdpHeader) (bytes : List ℕ) : Type 0 where
+  pub len : length bytes ≡ 8
+  pub are_bytes : IsBytes bytes
+  pub source_port : from_be_bytes w16 (slice_range bytes 0 2) ≡ header.source_port
+  pub destination_port : from_be_bytes w16 (slice_range bytes 2 4) ≡ header.destination_port
+  pub length : from_be_bytes w16 (slice_range bytes 4 6) ≡ header.length
+  pub checksum : from_be_bytes w16 (slice_range bytes 6 8) ≡ header.checksum
+
+-- a header and the bytes after it, or why there is no header
+abbrev pub UdpReading : Type 0
+UdpReading = Result (UdpHeader × List ℕ) LenError
+
+-- reading: the front of the slice is this header, and the rest follows; or the slice is too short
+abbrev pub ReadsUdp : List ℕ → UdpReading → Type 0
+ReadsUdp s reading = ReadsFixed IsUdpLayout layer.UdpHeader 8 s reading
+
+-- What the checksum is over: the addresses, a byte 0, the number of UDP, the length, the datagram.
+abbrev pub udp_pieces_v4 : Ipv4Header → ℕ → List ℕ → List ℕ → List (List ℕ)
+udp_pieces_v4 ip len header payload =
+    ip.source ∷ ip.destination ∷ (0 ∷ 17 ∷ to_be_bytes w16 len) ∷ header ∷ payload ∷ []
+
+-- the same over IPv6 (RFC 8200 section 8.1)
+abbrev pub udp_pieces_v6 : Ipv6Header → ℕ → List ℕ → List ℕ → List (List ℕ)
+udp_pieces_v6 ip len header payload = ip.source ∷ ip.destination
+    ∷ (to_be_bytes w32 len ++ (0 ∷ 0 ∷ 0 ∷ 17 ∷ [])) ∷ header ∷ payload ∷ []
