@@ -35,6 +35,7 @@ lanes_turn bytes total high words sums carries rest after i four stands_for smal
       };
       folded = ap folded_sum apart ∙ stands_for n ∙ i.folded;
       carries_fit = omega (arith, i.carries_fit, shorter);
+      eighths = omega (arith, i.eighths, shorter);
       lanes_fit = omega (arith, low_sum, high_sum, i.lanes_fit, small, shorter);
     } in
     rw shifted next
@@ -60,5 +61,6 @@ sums_turn bytes total high first second carries a b first' carry second' carry' 
           ∙ stands_for_b (first + second + carries + (sum_l i.low + sum_l high) + a)
           ∙ stands_for_a (first + second + carries + (sum_l i.low + sum_l high)) ∙ i.folded;
       carries_fit = omega (arith, i.carries_fit, small, shorter, shorter');
+      eighths = omega (arith, i.eighths, shorter, shorter');
       lanes_fit = omega (arith, i.lanes_fit, shorter, shorter');
     }

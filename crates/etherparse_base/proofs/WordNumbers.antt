@@ -1,22 +1,67 @@
 -- Bytes that are read as one number, low byte first, in a sum of words.
-use Rattle.std.proofs.Common.{ℕ, List, [], ◌∷◌, ◌≡◌, ◌+◌, ◌*◌, ◌∙◌, arith, get_or, length, w32, w64}
+use Rattle.std.proofs.Common.{ℕ, zero, suc, List, [], ◌∷◌, ◌≡◌, ◌<◌, ◌+◌, ◌-◌, ◌*◌, ◌/◌, ◌^◌, ◌∙◌, ap, arith, drop, get_or, length, refl, slice_index, sym, w32, w64}
+use Rattle.std.proofs.Math.Nat.{zero-div}
+use Rattle.std.proofs.lemmas.Nat.{shr-shr}
 use Rattle.std.specs.Int.{from_le_bytes}
 use Rattle.etherparse_base.specs.WordSums.{end_around_sum, folded_sum, little_endian_word_sum}
 use Rattle.etherparse_base.proofs.FoldedSums.{folded_sum-end_around_sum, same_fold}
 
+-- the number of bytes, the low byte first
+abbrev number : List ℕ → ℕ
+number [] = 0
+number (byte ∷ bytes) = byte + 256 * number bytes
+
+-- how many times 65535 it is above the sum of their words
+abbrev above_words : List ℕ → ℕ
+above_words [] = 0
+above_words (low ∷ []) = 0
+above_words (low ∷ high ∷ bytes) = number bytes + above_words bytes
+
+number_is : (bytes : List ℕ) → number bytes ≡ little_endian_word_sum bytes + 65535 * above_words bytes
+number_is [] = refl
+number_is (low ∷ []) = omega arith
+number_is (low ∷ high ∷ bytes) = omega (arith, number_is bytes)
+
+number_zero : (bytes : List ℕ) → little_endian_word_sum bytes ≡ 0 → number bytes ≡ 0
+number_zero [] z = refl
+number_zero (low ∷ []) z = omega (arith, z)
+number_zero (low ∷ high ∷ bytes) z = omega (arith, z, number_zero bytes (omega (arith, z)))
+
 -- a number adds to a sum what the words of its bytes do
+adds_number : (n value : ℕ) (bytes : List ℕ) → value ≡ number bytes → folded_sum (n + value) ≡ folded_sum (n + little_endian_word_sum bytes)
+adds_number n value bytes e =
+    let is = number_is bytes in
+    same_fold (n + value) (n + little_endian_word_sum bytes) (above_words bytes) (omega (arith, e, is)) (λ z. omega (arith, e, z, number_zero bytes (omega (arith, z))))
+
 four_bytes : (n : ℕ) (bytes : List ℕ) → length bytes ≡ 4 → folded_sum (n + from_le_bytes w32 bytes) ≡ folded_sum (n + little_endian_word_sum bytes)
-four_bytes n (a ∷ b ∷ c ∷ d ∷ []) four =
-    let bytes = a ∷ b ∷ c ∷ d ∷ [] in
-    same_fold (n + from_le_bytes w32 bytes) (n + little_endian_word_sum bytes) (c + 256 * d) (omega arith) (λ z. omega (arith, z))
+four_bytes n (a ∷ b ∷ c ∷ d ∷ []) four = adds_number n _ (a ∷ b ∷ c ∷ d ∷ []) (omega arith)
 four_bytes n bytes four = absurd (omega (arith, four))
 
+eight_number : (bytes : List ℕ) → length bytes ≡ 8 → from_le_bytes w64 bytes ≡ number bytes
+eight_number (a ∷ b ∷ c ∷ d ∷ e ∷ f ∷ g ∷ h ∷ []) eight = omega arith
+eight_number bytes eight = absurd (omega (arith, eight))
+
 eight_bytes : (n : ℕ) (bytes : List ℕ) → length bytes ≡ 8 → folded_sum (n + from_le_bytes w64 bytes) ≡ folded_sum (n + little_endian_word_sum bytes)
-eight_bytes n (a ∷ b ∷ c ∷ d ∷ e ∷ f ∷ g ∷ h ∷ []) eight =
-    let bytes = a ∷ b ∷ c ∷ d ∷ e ∷ f ∷ g ∷ h ∷ [] in
-    same_fold (n + from_le_bytes w64 bytes) (n + little_endian_word_sum bytes) (c + 256 * d + 65537 * (e + 256 * f) + 4295032833 * (g + 256 * h))
-    (omega arith) (λ z. omega (arith, z))
-eight_bytes n bytes eight = absurd (omega (arith, eight))
+eight_bytes n bytes eight = adds_number n _ bytes (eight_number bytes eight)
+
+-- a number without its low bytes is that of the others
+number-drop : (count : ℕ) (bytes : List ℕ) → ((i : ℕ) → slice_index bytes i < 256) → number bytes / 2 ^ (8 * count) ≡ number (drop count bytes)
+number-drop zero bytes are_bytes = omega arith
+number-drop (suc count) [] are_bytes = zero-div (2 ^ (8 * suc count))
+number-drop (suc count) (byte ∷ bytes) are_bytes =
+    let whole = number (byte ∷ bytes) in
+    let first : whole / 2 ^ 8 ≡ number bytes = omega (arith, are_bytes 0) in
+    let bits : 8 * suc count ≡ 8 + 8 * count = omega arith in
+    ap (λ b. whole / 2 ^ b) bits ∙ sym (shr-shr whole 8 (8 * count)) ∙ ap (λ n. n / 2 ^ (8 * count)) first ∙ number-drop count bytes (λ i. are_bytes (suc i))
+
+-- the last of eight bytes as a number: that of all eight without the bits of the others
+pub last_bytes : (n count : ℕ) (bytes : List ℕ) → length bytes ≡ 8 → ((i : ℕ) → slice_index bytes i < 256) → count < 8
+    → folded_sum (n + from_le_bytes w64 bytes / 2 ^ 8 / 2 ^ (56 - 8 * count)) ≡ folded_sum (n + little_endian_word_sum (drop (8 - count) bytes))
+last_bytes n count bytes eight are_bytes few =
+    let whole = from_le_bytes w64 bytes in
+    let bits : 8 + (56 - 8 * count) ≡ 8 * (8 - count) = omega (arith, few) in
+    adds_number n _ (drop (8 - count) bytes) (shr-shr whole 8 (56 - 8 * count) ∙ ap (λ b. whole / 2 ^ b) bits
+    ∙ ap (λ v. v / 2 ^ (8 * (8 - count))) (eight_number bytes eight) ∙ number-drop (8 - count) bytes are_bytes)
 
 -- the same, where the number is added with the end-around carry
 pub add_four_bytes : (greatest k start : ℕ) (bytes : List ℕ) → greatest ≡ 65535 * k → length bytes ≡ 4 → folded_sum (end_around_sum greatest start (from_le_bytes w32 bytes)) ≡ folded_sum (start + little_endian_word_sum bytes)

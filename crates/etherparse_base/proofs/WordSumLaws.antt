@@ -1,5 +1,6 @@
 -- Laws of the sums of words: the other order of bytes, a changed byte, pieces exchanged or cut.
-use Rattle.std.proofs.Common.{ℕ, zero, suc, List, [], ◌∷◌, ◌++◌, ◌≡◌, ◌↔◌, ◌⊎◌, ◌<◌, ◌≤◌, ◌+◌, ◌-◌, ◌*◌, ◌/◌, ◌%◌, ◌∙◌, ap, arith, inl, inr, length, refl, slice_index, slice_set, sum_by, sym, w16}
+use Rattle.std.proofs.Common.{ℕ, zero, suc, List, [], ◌∷◌, ◌++◌, ◌≡◌, ◌↔◌, ◌⊎◌, ◌<◌, ◌≤◌, ◌+◌, ◌-◌, ◌*◌, ◌/◌, ◌%◌, ◌∙◌, ap, arith, drop, inl, inr, length, refl, slice_index, slice_set, sum_by, sym, take, w16}
+use Rattle.std.proofs.lemmas.List.{length-take, take-append-drop}
 use Rattle.std.proofs.lemmas.List.Sums.{sum_by-append, sum_by-cons}
 use Rattle.std.specs.Int.{swap_bytes, to_be_bytes}
 use Rattle.etherparse_base.specs.WordSums.{
@@ -179,6 +180,18 @@ pub sums_to_all_ones-written : (bytes : List ℕ) (place first second checksum :
 sums_to_all_ones-written bytes place first second checksum even within a b is completed =
     (sums_to_all_ones (slice_set (slice_set bytes place first) (suc place) second)).1
     (rw (little_endian_word_sum-written bytes place first second even within a b) (rw is completed))
+
+-- where there are no bytes
+pub little_endian_word_sum-none : (bytes : List ℕ) → length bytes ≡ 0 → little_endian_word_sum bytes ≡ 0
+little_endian_word_sum-none [] none = refl
+little_endian_word_sum-none (byte ∷ bytes) none = absurd (omega (arith, none))
+
+-- the words of bytes cut at an even place
+pub little_endian_word_sum-cut : (count : ℕ) (bytes : List ℕ) → count % 2 ≡ 0 → count ≤ length bytes
+    → little_endian_word_sum (take count bytes) + little_endian_word_sum (drop count bytes) ≡ little_endian_word_sum bytes
+little_endian_word_sum-cut count bytes even within =
+    let front : length (take count bytes) % 2 ≡ 0 = rw (length-take count bytes) (omega (arith, even, within)) in
+    sym (little_endian_word_sum-append (take count bytes) (drop count bytes) front) ∙ ap little_endian_word_sum (take-append-drop count bytes)
 
 -- pieces in another order
 pub ones_complement_sum-exchanged : (before after : List (List ℕ)) (first second : List ℕ) → ones_complement_sum (before ++ second ∷ first ∷ after) ≡ ones_complement_sum (before ++ first ∷ second ∷ after)

@@ -43,6 +43,7 @@ pub record AddsInTurns (bytes total high : List ℕ) (sums carries : ℕ) (rest 
   pub folded : folded_sum (sums + carries + (sum_l low + sum_l high) + little_endian_word_sum rest)
       ≡ folded_sum (little_endian_word_sum bytes)
   pub carries_fit : carries + length rest ≤ length bytes
+  pub eighths : length rest % 8 ≡ length bytes % 8
   pub lanes_fit : sum_l low + sum_l high + 2 ^ 30 * length rest ≤ 2 ^ 30 * length bytes
 
 -- lanes of 64 bits added, without the bits above

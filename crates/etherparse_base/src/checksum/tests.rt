@@ -210,7 +210,7 @@ fn wide_words_sum_as_words_of_two_bytes(rt: HostRuntime) -> Result<(), Fail> {
             assert_sums_as_plain(&rt, bytes.get(offset..offset + len).ok_or("too few")?);
         }
     }
-    for len in 280..500 {
+    for len in 1270..1480 {
         assert_sums_as_plain(&rt, bytes.get(..len).ok_or("too few")?);
     }
     for drawn in bytes.chunks(4) {

@@ -1,21 +1,21 @@
-//! The sum of a slice by words of eight bytes: four at a time, and twelve a turn where there are many.
+//! The sum of a slice by words of eight bytes: eight a turn, and twelve where there are many.
 //!
 //! Of each twelve, four go into four lanes: each lane has the total of its words and, apart, the sum of their high halves, from
 //! which the sum of the low halves comes back in the end. The other eight go into eight sums, with the carry out of each into
 //! the next, and that out of the last counted. The 32-bit sum of a slice is this one, halved.
 
-ghost use Rattle.std.specs.Prelude.{List, [], ℕ, drop, ◌≡◌, ◌<◌, ◌≤◌, ◌+◌, ◌-◌, ◌*◌, ◌^◌, length};
+ghost use Rattle.std.specs.Prelude.{List, ℕ, drop, ◌≡◌, ◌<◌, ◌≤◌, ◌+◌, ◌-◌, ◌*◌, ◌%◌, ◌^◌, length};
 ghost use Rattle.std.specs.Int.{from_bool};
 ghost use Rattle.std.specs.Simd.Lanes.{sum_l};
-ghost use Rattle.etherparse_base.specs.WideSums.{AddsTurns, AddsWords, StandsFor};
+ghost use Rattle.etherparse_base.specs.WideSums.{AddsTurns, AddsWords};
 ghost use Rattle.etherparse_base.specs.WordSums.{folded_sum, little_endian_word_sum};
 
 use super::end_around::{add_u64, complement_u64};
-use super::words::{joined, split_four_words, split_half_word, split_quarter_word, split_word};
+use super::words::{joined, last_seven_bytes, last_three_words, split_four_words, split_odd_bytes};
 use std::simd::prelude::*;
 
 // From how many bytes on turns are the faster.
-const MANY: usize = 288;
+const MANY: usize = 1280;
 
 // Up to how many bytes no sum of halves in the lanes overflows.
 const MOST: usize = 0x2_0000_0000;
@@ -26,7 +26,7 @@ pub(super) fn add_slice(start_sum: u64, slice: &[u8]) -> u64
     ensures sum { folded_sum result ≡ folded_sum (start_sum + little_endian_word_sum slice.now) }
 {
     if slice.len() < MANY {
-        add_rest(start_sum, none_of(slice))
+        add_few(start_sum, slice)
     } else {
         add_many(start_sum, slice)
     }
@@ -38,7 +38,7 @@ pub(super) fn checksum(start_sum: u64, slice: &[u8]) -> u16
     ensures value { result ≡ 65535 - folded_sum (start_sum + little_endian_word_sum slice.now) }
 {
     if slice.len() < MANY {
-        complement_u64(add_rest(start_sum, none_of(slice)))
+        complement_u64(add_few(start_sum, slice))
     } else {
         checksum_of_many(start_sum, slice)
     }
@@ -47,6 +47,7 @@ pub(super) fn checksum(start_sum: u64, slice: &[u8]) -> u16
 // The same of many bytes.
 #[inline(never)]
 fn checksum_of_many(start_sum: u64, slice: &[u8]) -> u16
+    requires { 8 ≤ length slice.now }
     ensures value { result ≡ 65535 - folded_sum (start_sum + little_endian_word_sum slice.now) }
 {
     complement_u64(add_many(start_sum, slice))
@@ -59,14 +60,27 @@ pub(super) struct Summed<'a> {
     pub(super) rest: &'a [u8],
 }
 
-// Nothing is summed, and all is left.
+// Adds the words of few bytes.
 #[inline(always)]
-fn none_of<'a>(slice: &'a [u8]) -> Summed<'a>
+fn add_few(start_sum: u64, slice: &[u8]) -> u64
+    ensures sum { folded_sum result ≡ folded_sum (start_sum + little_endian_word_sum slice.now) }
+{
+    if slice.len() < 8 {
+        return add_u64(last_seven_bytes(slice), start_sum);
+    }
+    let (words, odd) = split_odd_bytes(slice);
+    add_rest(none_of(start_sum, words), odd)
+}
+
+// Only the start is summed, and all is left.
+#[inline(always)]
+fn none_of<'a>(start_sum: u64, slice: &'a [u8]) -> Summed<'a>
     ensures adds { folded_sum (result.sum + little_endian_word_sum result.rest.now)
-        ≡ folded_sum (little_endian_word_sum slice.now) }
+        ≡ folded_sum (start_sum + little_endian_word_sum slice.now) }
+    ensures eighths { length result.rest.now % 8 ≡ length slice.now % 8 }
 {
     Summed {
-        sum: 0,
+        sum: start_sum,
         rest: slice,
     }
 }
@@ -74,14 +88,16 @@ fn none_of<'a>(slice: &'a [u8]) -> Summed<'a>
 // Adds the words of many bytes: most of them in turns, unless there are so many that a lane could overflow.
 #[inline(never)]
 fn add_many(start_sum: u64, slice: &[u8]) -> u64
+    requires { 8 ≤ length slice.now }
     ensures sum { folded_sum result ≡ folded_sum (start_sum + little_endian_word_sum slice.now) }
 {
-    let at = if slice.len() > MOST {
-        none_of(slice)
+    let (words, odd) = split_odd_bytes(slice);
+    let at = if words.len() > MOST {
+        none_of(0, words)
     } else {
-        add_turns(slice)
+        add_turns(words)
     };
-    add_rest(start_sum, at)
+    add_u64(add_rest(at, odd), start_sum)
 }
 
 // What turns have summed: eight sums with the carries out of them, and four lanes.
@@ -101,6 +117,7 @@ fn add_turns<'a>(slice: &'a [u8]) -> Summed<'a>
     requires { length slice.now ≤ 2 ^ 33 }
     ensures adds { folded_sum (result.sum + little_endian_word_sum result.rest.now)
         ≡ folded_sum (little_endian_word_sum slice.now) }
+    ensures eighths { length result.rest.now % 8 ≡ length slice.now % 8 }
 {
     let mut at = Turns {
         first: [0; 4],
@@ -125,7 +142,7 @@ fn add_turns<'a>(slice: &'a [u8]) -> Summed<'a>
         at = add_turn(at, rest);
         rest = after_turn(rest);
     }
-    let sum = add_words(add_words(at.carries, at.first), at.second);
+    let sum = add_four(add_four(at.carries, at.first), at.second);
     let total = at.total + (second_total + third_total);
     Summed {
         sum: add_u64(sum, joined(total, at.high)),
@@ -176,159 +193,90 @@ fn add_turn(at: Turns, bytes: &[u8]) -> Turns
     }
 }
 
-// Adds what is left: four words of eight bytes at a time, then at most two, then at most one, and the bytes after it. The start
-// comes last, so that nothing else has to wait for it.
+// Adds the words that are left, eight at a time, then four, then at most three, and the bytes after
+// them.
 #[inline(always)]
-fn add_rest<'a>(start_sum: u64, at: Summed<'a>) -> u64
+fn add_rest<'a>(at: Summed<'a>, odd: u64) -> u64
+    requires { length at.rest.now % 8 ≡ 0 }
     ensures sum { folded_sum result
-        ≡ folded_sum (start_sum + at.entry.sum + little_endian_word_sum at.entry.rest.now) }
+        ≡ folded_sum (at.entry.sum + odd + little_endian_word_sum at.entry.rest.now) }
 {
-    let at = add_two_words(add_four_words(at));
-    let (word, rest) = split_if_word(at.rest);
-    add_three_words(at.sum, word, last_seven_bytes(rest), start_sum)
+    let at = add_four_words(add_eight_words(at));
+    let (a, b, c) = last_three_words(at.rest);
+    add_four(odd, [a, b, c, at.sum])
 }
 
-// Adds four words at a time, until fewer are left.
+// Adds eight words at a time, until fewer are left. Those of a turn are summed by themselves, so
+// that no turn waits for the one before.
 #[inline(always)]
-fn add_four_words<'a>(start: Summed<'a>) -> Summed<'a>
+fn add_eight_words<'a>(start: Summed<'a>) -> Summed<'a>
     ensures adds { AddsWords start.entry result }
-    ensures shorter { length result.rest.now < 32 }
+    ensures shorter { length result.rest.now < 64 }
+    ensures eighths { length result.rest.now % 8 ≡ length start.entry.rest.now % 8 }
 {
     let mut sum = start.sum;
     let mut rest = start.rest;
-    while rest.len() >= 32 {
-        let (words, after) = split_four_words(rest);
-        sum = add_words(sum, words);
+    while rest.len() >= 64 {
+        let (first, after) = split_four_words(rest);
+        let (second, after) = split_four_words(after);
+        let (turn, carry) = add_words(0, first, false);
+        let (turn, carry) = add_words(turn, second, carry);
+        sum = add_last(turn, sum, carry);
         rest = after;
     }
     Summed { sum, rest }
 }
 
-// Adds two words, where there are as many.
+// Adds four words, where there are as many.
 #[inline(always)]
-fn add_two_words<'a>(at: Summed<'a>) -> Summed<'a>
-    requires { length at.rest.now < 32 }
+fn add_four_words<'a>(at: Summed<'a>) -> Summed<'a>
+    requires { length at.rest.now < 64 }
     ensures adds { AddsWords at.entry result }
-    ensures shorter { length result.rest.now < 16 }
+    ensures shorter { length result.rest.now < 32 }
+    ensures eighths { length result.rest.now % 8 ≡ length at.entry.rest.now % 8 }
 {
-    if at.rest.len() < 16 {
+    if at.rest.len() < 32 {
         return at;
     }
-    let (a, rest) = split_word(at.rest);
-    let (b, rest) = split_word(rest);
-    let (sum, carry) = add_with_carry(at.sum, a, false);
-    let (sum, carry) = add_with_carry(sum, b, carry);
+    let (words, rest) = split_four_words(at.rest);
+    let (turn, carry) = add_words(0, words, false);
     Summed {
-        sum: sum + u64::from(carry),
+        sum: add_last(turn, at.sum, carry),
         rest,
     }
 }
 
-// The word of eight bytes at the front, or 0 where there is none, and what follows it.
+// A sum with four words more, the carry out of each added with the next, the last at the low end.
 #[inline(always)]
-fn split_if_word(bytes: &[u8]) -> (u64, &[u8])
-    requires { length bytes.now < 16 }
-    ensures stands_for { StandsFor result.0 bytes.now result.1.now }
-    ensures shorter { length result.1.now < 8 }
-{
-    if bytes.len() < 8 {
-        (0, bytes)
-    } else {
-        split_word(bytes)
-    }
-}
-
-// The sum of what is left after the last word of eight bytes. Where nothing is left, no smaller word is looked for.
-#[inline(always)]
-fn last_seven_bytes(bytes: &[u8]) -> u64
-    requires { length bytes.now < 8 }
-    ensures stands_for { StandsFor result bytes.now [] }
-{
-    if bytes.is_empty() {
-        return 0;
-    }
-    let (half, rest) = split_if_half_word(bytes);
-    half + last_three_bytes(rest)
-}
-
-// The same after the last word of four bytes: at most three bytes.
-#[inline(always)]
-fn last_three_bytes(bytes: &[u8]) -> u64
-    requires { length bytes.now < 4 }
-    ensures stands_for { StandsFor result bytes.now [] }
-    ensures fits { result < 2 ^ 17 }
-{
-    if bytes.is_empty() {
-        return 0;
-    }
-    let (quarter, rest) = split_if_quarter_word(bytes);
-    quarter + last_byte(rest)
-}
-
-// The word of four bytes, or 0.
-#[inline(always)]
-fn split_if_half_word(bytes: &[u8]) -> (u64, &[u8])
-    requires { length bytes.now < 8 }
-    ensures stands_for { StandsFor result.0 bytes.now result.1.now }
-    ensures fits { result.0 < 2 ^ 32 }
-    ensures shorter { length result.1.now < 4 }
-{
-    if bytes.len() < 4 {
-        (0, bytes)
-    } else {
-        split_half_word(bytes)
-    }
-}
-
-// The word of two bytes, or 0.
-#[inline(always)]
-fn split_if_quarter_word(bytes: &[u8]) -> (u64, &[u8])
-    requires { length bytes.now < 4 }
-    ensures stands_for { StandsFor result.0 bytes.now result.1.now }
-    ensures fits { result.0 < 2 ^ 16 }
-    ensures shorter { length result.1.now < 2 }
-{
-    if bytes.len() < 2 {
-        (0, bytes)
-    } else {
-        split_quarter_word(bytes)
-    }
-}
-
-// An odd last byte, or 0.
-#[inline(always)]
-fn last_byte(bytes: &[u8]) -> u64
-    requires { length bytes.now < 2 }
-    ensures value { result ≡ little_endian_word_sum bytes.now }
-    ensures fits { result < 2 ^ 8 }
-{
-    if bytes.len() < 1 {
-        0
-    } else {
-        u64::from(bytes[0])
-    }
-}
-
-// A sum with four words more, the carry out of each added with the next, and the last at the low end.
-#[inline(always)]
-fn add_words(sum: u64, words: [u64; 4]) -> u64
+fn add_four(sum: u64, words: [u64; 4]) -> u64
     ensures folded { folded_sum result ≡ folded_sum (sum + sum_l words) }
 {
-    let (sum, carry) = add_with_carry(sum, words[0], false);
-    let (sum, carry) = add_with_carry(sum, words[1], carry);
-    let (sum, carry) = add_with_carry(sum, words[2], carry);
-    let (sum, carry) = add_with_carry(sum, words[3], carry);
+    let (sum, carry) = add_words(sum, words, false);
     sum + u64::from(carry)
 }
 
-// The same with three words.
+// The same with a carry into the first and out of the last.
 #[inline(always)]
-fn add_three_words(sum: u64, a: u64, b: u64, c: u64) -> u64
-    ensures folded { folded_sum result ≡ folded_sum (sum + a + b + c) }
+fn add_words(sum: u64, words: [u64; 4], carry: bool) -> (u64, bool)
+    requires { sum + from_bool carry < 2 ^ 64 }
+    ensures folded { (n : ℕ) → folded_sum (n + (result.0 + from_bool result.1))
+        ≡ folded_sum (n + (sum + sum_l words + from_bool carry)) }
+    ensures fits { result.0 + from_bool result.1 < 2 ^ 64 }
 {
-    let (sum, carry) = add_with_carry(sum, a, false);
-    let (sum, carry) = add_with_carry(sum, b, carry);
-    let (sum, carry) = add_with_carry(sum, c, carry);
+    let (sum, carry) = add_with_carry(sum, words[0], carry);
+    let (sum, carry) = add_with_carry(sum, words[1], carry);
+    let (sum, carry) = add_with_carry(sum, words[2], carry);
+    add_with_carry(sum, words[3], carry)
+}
+
+// A sum with a word more and a carry, and the carry out of it at the low end.
+#[inline(always)]
+fn add_last(sum: u64, word: u64, carry: bool) -> u64
+    requires { sum + from_bool carry < 2 ^ 64 }
+    ensures folded { (n : ℕ) → folded_sum (n + result)
+        ≡ folded_sum (n + (sum + word + from_bool carry)) }
+{
+    let (sum, carry) = add_with_carry(sum, word, carry);
     sum + u64::from(carry)
 }
 

@@ -1,8 +1,10 @@
 //! Words at the front of a slice, each with the low byte first, and four lanes of them.
 
-ghost use Rattle.std.specs.Prelude.{ℕ, ◌≡◌, ◌<◌, ◌≤◌, ◌+◌, ◌^◌, List, drop, length};
+ghost use Rattle.std.specs.Prelude.{ℕ, ◌≡◌, ◌<◌, ◌≤◌, ◌+◌, ◌-◌, ◌*◌, ◌%◌, ◌^◌};
+ghost use Rattle.std.specs.Prelude.{List, [], drop, length};
 ghost use Rattle.std.specs.Simd.Lanes.{sum_l};
 ghost use Rattle.etherparse_base.specs.WideSums.{Splits, StandsFor, halves_sum};
+ghost use Rattle.etherparse_base.specs.WordSums.{folded_sum, little_endian_word_sum};
 
 use std::simd::prelude::*;
 
@@ -18,28 +20,138 @@ pub(super) fn split_word(bytes: &[u8]) -> (u64, &[u8])
     (u64::from_le_bytes(*word), rest)
 }
 
-/// The word of four bytes at the front, and what follows it.
+/// The whole words of eight bytes, and the number of the bytes after them. These are read as the
+/// end of the last eight bytes, so no branch asks how many they are.
 #[inline(always)]
-pub(super) fn split_half_word(bytes: &[u8]) -> (u64, &[u8])
-    requires { 4 ≤ length bytes.now }
-    ensures stands_for { StandsFor result.0 bytes.now result.1.now }
-    ensures fits { result.0 < 2 ^ 32 }
-    ensures shorter { length result.1.now + 4 ≡ length bytes.now }
+pub(super) fn split_odd_bytes(bytes: &[u8]) -> (&[u8], u64)
+    requires { 8 ≤ length bytes.now }
+    ensures stands_for { (n : ℕ) → folded_sum (n + result.1 + little_endian_word_sum result.0.now)
+        ≡ folded_sum (n + little_endian_word_sum bytes.now) }
+    ensures eighths { length result.0.now % 8 ≡ 0 }
 {
-    let (word, rest) = bytes.split_first_chunk::<4>().unwrap();
-    (u64::from(u32::from_le_bytes(*word)), rest)
+    let count = bytes.len() % 8;
+    let last = number_of_last(&bytes[bytes.len() - 8..], count);
+    (&bytes[..bytes.len() - count], last)
 }
 
-/// The word of two bytes at the front, and what follows it.
+// The last of eight bytes, fewer than all, as a number.
 #[inline(always)]
-pub(super) fn split_quarter_word(bytes: &[u8]) -> (u64, &[u8])
-    requires { 2 ≤ length bytes.now }
-    ensures stands_for { StandsFor result.0 bytes.now result.1.now }
-    ensures fits { result.0 < 2 ^ 16 }
-    ensures shorter { length result.1.now + 2 ≡ length bytes.now }
+fn number_of_last(bytes: &[u8], count: usize) -> u64
+    requires eight { length bytes.now ≡ 8 }
+    requires few { count < 8 }
+    ensures stands_for { (n : ℕ) → folded_sum (n + result)
+        ≡ folded_sum (n + little_endian_word_sum (drop (8 - count) bytes.now)) }
 {
-    let (word, rest) = bytes.split_first_chunk::<2>().unwrap();
-    (u64::from(u16::from_le_bytes(*word)), rest)
+    let word = u64::from_le_bytes(*bytes.first_chunk::<8>().unwrap());
+    (word >> 8) >> (56 - 8 * count)
+}
+
+/// The words of fewer than thirty-two bytes, and 0 for those that are not there.
+#[inline(always)]
+pub(super) fn last_three_words(bytes: &[u8]) -> (u64, u64, u64)
+    requires few { length bytes.now < 32 }
+    requires eighths { length bytes.now % 8 ≡ 0 }
+    ensures stands_for { StandsFor (result.0 + result.1 + result.2) bytes.now [] }
+{
+    (
+        word_or_zero(bytes, 0),
+        word_or_zero(bytes, 8),
+        word_or_zero(bytes, 16),
+    )
+}
+
+// The word at a place, or 0 where there is none.
+#[inline(always)]
+fn word_or_zero(bytes: &[u8], place: usize) -> u64
+    requires few { place ≤ 16 }
+    requires eighths { length bytes.now % 8 ≡ place % 8 }
+    ensures stands_for { StandsFor result (drop place bytes.now) (drop (place + 8) bytes.now) }
+{
+    split_word(eight_or_zeros(bytes, place)).0
+}
+
+// The eight bytes at a place, or zeros. Only an address depends on which: no branch is made of it.
+#[inline(always)]
+fn eight_or_zeros(bytes: &[u8], place: usize) -> &[u8]
+    requires few { place ≤ 16 }
+    requires eighths { length bytes.now % 8 ≡ place % 8 }
+    ensures eight { length result.now ≡ 8 }
+    ensures sum { little_endian_word_sum result.now
+        + little_endian_word_sum (drop (place + 8) bytes.now)
+        ≡ little_endian_word_sum (drop place bytes.now) }
+{
+    if bytes.len() < place + 8 {
+        &ZEROS
+    } else {
+        &bytes[place..place + 8]
+    }
+}
+
+/// The sum of fewer than eight bytes.
+#[inline(always)]
+pub(super) fn last_seven_bytes(bytes: &[u8]) -> u64
+    requires { length bytes.now < 8 }
+    ensures stands_for { StandsFor result bytes.now [] }
+{
+    let (half, rest) = front_or_zeros(bytes, 4);
+    let (quarter, rest) = front_or_zeros(rest, 2);
+    half_word(half) + quarter_word(quarter) + last_byte(rest)
+}
+
+// Zeros for bytes that are not there.
+static ZEROS: [u8; 8] = [0; 8];
+
+// So many bytes at the front, and what follows them; where there are fewer, zeros, and all.
+#[inline(always)]
+fn front_or_zeros<'a>(bytes: &'a [u8], count: usize) -> (&'a [u8], &'a [u8])
+    requires even { count % 2 ≡ 0 }
+    requires within { count ≤ 8 }
+    ensures front { length result.0.now ≡ count }
+    ensures sum { little_endian_word_sum result.0.now + little_endian_word_sum result.1.now
+        ≡ little_endian_word_sum bytes.now }
+    ensures shorter { length bytes.now < 2 * count → length result.1.now < count }
+{
+    if bytes.len() < count {
+        (&ZEROS[..count], bytes)
+    } else {
+        bytes.split_at(count)
+    }
+}
+
+// The number of four bytes.
+#[inline(always)]
+fn half_word(bytes: &[u8]) -> u64
+    requires { 4 ≡ length bytes.now }
+    ensures stands_for { StandsFor result bytes.now [] }
+    ensures fits { result < 2 ^ 32 }
+{
+    let (word, _) = bytes.split_first_chunk::<4>().unwrap();
+    u64::from(u32::from_le_bytes(*word))
+}
+
+// The number of two bytes.
+#[inline(always)]
+fn quarter_word(bytes: &[u8]) -> u64
+    requires { 2 ≡ length bytes.now }
+    ensures stands_for { StandsFor result bytes.now [] }
+    ensures fits { result < 2 ^ 16 }
+{
+    let (word, _) = bytes.split_first_chunk::<2>().unwrap();
+    u64::from(u16::from_le_bytes(*word))
+}
+
+// An odd last byte, or 0.
+#[inline(always)]
+fn last_byte(bytes: &[u8]) -> u64
+    requires { length bytes.now < 2 }
+    ensures value { result ≡ little_endian_word_sum bytes.now }
+    ensures fits { result < 2 ^ 8 }
+{
+    if bytes.len() < 1 {
+        0
+    } else {
+        u64::from(bytes[0])
+    }
 }
 
 /// The four words of eight bytes at the front, and what follows them.

@@ -11,6 +11,7 @@ threes-init c = record {
   splits = record { lanes = refl; is_total = refl };
   folded = ap folded_sum (omega arith);
   carries_fit = omega arith;
+  eighths = refl;
   lanes_fit = omega arith;
 }
 

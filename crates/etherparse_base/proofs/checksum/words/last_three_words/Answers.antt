@@ -1,0 +1,17 @@
+use Rattle.std.proofs.Common.{◌≡◌, ◌+◌, ◌∙◌, ap, arith, drop, length-drop}
+use Rattle.etherparse_base.specs.WordSums.{folded_sum, little_endian_word_sum}
+use Rattle.etherparse_base.proofs.WordSumLaws.{little_endian_word_sum-none}
+use Rattle.etherparse_base.proofs.checksum.words.last_three_words.Goals as goal
+
+pub returns : goal.returns
+returns c =
+    let bytes = c.args.bytes.now in
+    let a = c.word_or_zero in
+    let b = c.word_or_zero-2 in
+    let v = c.word_or_zero-3 in
+    let none = little_endian_word_sum-none (drop 24 bytes) (omega (arith, length-drop 24 bytes, c.requires.few, c.requires.eighths)) in
+    record {
+      stands_for = λ n.
+          let apart : n + (a.result + b.result + v.result) + 0 ≡ n + a.result + b.result + v.result + little_endian_word_sum (drop 24 bytes) = omega (arith, none) in
+          ap folded_sum apart ∙ v.ensures.stands_for (n + a.result + b.result) ∙ b.ensures.stands_for (n + a.result) ∙ a.ensures.stands_for n;
+    }
