@@ -9,6 +9,7 @@ pub mod Ipv6Layout
 mod Ipv6Reading
 mod LimitedWalk
 pub mod Parts
+mod SkippableNumbers
 mod SkippedHeaders
 pub use Rattle.etherparse_base.proofs.FoldedSums
 pub use Rattle.etherparse_base.proofs.WordSumLaws

@@ -4,6 +4,7 @@ pub mod HeaderChecksum
 pub mod Ipv4Header
 pub mod Ipv4HeaderSlice
 pub mod Ipv6Header
+pub mod Ipv6HeaderFields
 pub mod Ipv6HeaderSlice
 pub mod Reading
 pub mod TrafficClass

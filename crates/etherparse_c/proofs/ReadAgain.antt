@@ -1,6 +1,7 @@
 -- What the fields that were read say of the bytes that they were read from.
-use Rattle.std.proofs.Common.{ℕ, ◌≡◌, List, Ok, length, length-append, take, refl, sym, subst, ap, ◌∙◌, arith}
-use Rattle.std.specs.Prelude.{◌↔◌}
+use Rattle.std.proofs.Common.{ℕ, ◌≡◌, ◌+◌, List, Ok, length, length-append, take, drop, refl, sym, subst, ap, ◌∙◌, arith}
+use Rattle.std.proofs.lemmas.List.{drop-take}
+use Rattle.std.specs.Prelude.{◌-◌, ◌↔◌, slice_range}
 use Rattle.etherparse.proofs.HeaderChecksum.{right_checksum}
 use Rattle.etherparse.proofs.Ipv4Layout.{cleared_layout, same_header_cleared}
 use Rattle.etherparse.specs.Ipv4Header.{AgreeButForReservedBit, HasIpv4Layout, IsIpv4Layout, Ipv4Reading, OfIpv4Header, ReadsIpv4}
@@ -48,3 +49,15 @@ reads_front answer s rest h b only has =
             λ agrees. subst (λ x. StandFor answer.fields x) (sym (agree.1 agrees)) has.fields,
           );
     }
+
+-- the options of a header that was read stand between its first 20 bytes and the rest
+pub options_at : (s rest : List ℕ) (h : Ipv4Header) (offset : ℕ) → ReadsIpv4 s (Ok (h, rest))
+    → offset ≡ length s - length rest → slice_range s 20 offset ≡ h.options
+options_at s rest h offset b e =
+    let len = ap length b.whole ∙ length-append b.front rest in
+    let l = b.layout.layout in
+    let front = first_bytes s b.front rest offset b.whole (omega (arith, len)) in
+    let more : 20 + (offset - 20) ≡ offset = omega (arith, len, l.len) in
+    let cut : drop 20 (take offset s) ≡ slice_range s 20 offset =
+    subst (λ n. drop 20 (take n s) ≡ slice_range s 20 offset) more (drop-take 20 (offset - 20) s) in
+    sym cut ∙ ap (λ p. drop 20 p) (sym front) ∙ l.options

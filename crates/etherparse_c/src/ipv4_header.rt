@@ -16,7 +16,7 @@ ghost use Rattle.etherparse_c.specs.Ipv4Answers.{no_ipv4_bytes, no_ipv4_fields, 
 ghost use Rattle.etherparse_c.specs.Ipv4Fields.{AreWithinBounds, IsChecksumOf, StandFor};
 
 use crate::answer::{Error, Rest};
-use crate::room::filled;
+use crate::room::{filled, filled_by_words};
 use etherparse::err::ipv4::HeaderSliceError;
 use etherparse::{IpDscp, IpEcn, IpFragOffset, IpNumber, Ipv4Header, Ipv4Options};
 
@@ -115,8 +115,10 @@ pub extern "C" fn etherparse_ipv4_read(slice: &[u8]) -> Ipv4ReadAnswer
     match Ipv4Header::from_slice(slice) {
         Ok((header, rest)) => {
             let rest = Rest::of(slice, rest);
+            // From the slice itself: those of the header would be copied twice.
+            let options = &slice[Ipv4Header::MIN_LEN..rest.offset];
             // Most headers have no options, and nothing is copied then.
-            if header.options.is_empty() {
+            if options.is_empty() {
                 return Ipv4ReadAnswer {
                     error: Error::none(),
                     rest,
@@ -126,7 +128,7 @@ pub extern "C" fn etherparse_ipv4_read(slice: &[u8]) -> Ipv4ReadAnswer
             return Ipv4ReadAnswer {
                 error: Error::none(),
                 rest,
-                fields: fields_with(&header, filled::<40>(header.options.as_slice())),
+                fields: fields_with(&header, filled_by_words(options)),
             };
         }
         Err(e) => return refused(&e),

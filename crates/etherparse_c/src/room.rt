@@ -1,6 +1,7 @@
 //! Bytes at the front of an array, which has room for the longest.
 
-ghost use Rattle.std.specs.Prelude.{◌≡◌, ◌≤◌, ◌-◌, ◌++◌, length, replicate};
+ghost use Rattle.std.specs.Prelude.{ℕ, ◌≡◌, ◌<◌, ◌≤◌, ◌+◌, ◌-◌, ◌%◌, ◌++◌, length, replicate, slice_index};
+ghost use Rattle.etherparse.specs.Ipv4Options.{IsOptionsLen};
 
 /// These bytes, and 0 in the rest of the array.
 #[inline(always)]
@@ -11,4 +12,32 @@ pub(crate) fn filled<const N: usize>(bytes: &[u8]) -> [u8; N]
     let mut room = [0; N];
     room[..bytes.len()].copy_from_slice(bytes);
     room
+}
+
+/// The same of options, by words of 4, so that no branch tells how many there are.
+#[inline(always)]
+pub(crate) fn filled_by_words(options: &[u8]) -> [u8; 40]
+    requires options_len { IsOptionsLen (length options.now) }
+    requires some { 0 < length options.now }
+    ensures value { result ≡ options.now ++ replicate (40 - length options.now) 0 }
+{
+    let mut room = [0; 40];
+    for word in 0..10 {
+        room[4 * word..4 * word + 4].copy_from_slice(&word_at(options, 4 * word));
+    }
+    room
+}
+
+// The word that starts at a place, or 0 behind the last one, which is then read again.
+#[inline(always)]
+fn word_at(options: &[u8], start: usize) -> [u8; 4]
+    requires options_len { IsOptionsLen (length options.now) }
+    requires some { 0 < length options.now }
+    requires in_words { start % 4 ≡ 0 }
+    ensures value { (i : ℕ) → i < 4 → slice_index result i ≡ slice_index options.now (start + i) }
+{
+    let last = options.len() - 4;
+    let place = start.min(last);
+    let word = *options[place..place + 4].first_chunk::<4>().unwrap();
+    if start <= last { word } else { [0; 4] }
 }

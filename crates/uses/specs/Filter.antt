@@ -2,8 +2,10 @@
 use Rattle.std.specs.Prelude.{ℕ, ◌≡◌, ◌≢◌, ◌<◌, ◌≤◌, ◌⊎◌, List, length, slice_range}
 use Rattle.std.specs.Int.{from_be_bytes, w16}
 use Rattle.etherparse.specs.Ipv4Header.{HasIpv4Layout, IsFragment}
+use Rattle.etherparse.specs.Ipv6Header.{IsIpv6Layout, RefusesIpv6}
 use Rattle.etherparse.specs.Reading.{BeginsWith}
 use Rattle.etherparse.specs.TrafficClass.{traffic_class_dscp}
+use Rattle.etherparse.specs.declared.err.ipv6.HeaderSliceError.{HeaderSliceError}
 use Rattle.etherparse.specs.declared.net.ipv4_header.Ipv4Header.{Ipv4Header}
 use Rattle.etherparse.specs.declared.net.ipv6_header.Ipv6Header.{Ipv6Header}
 
@@ -33,3 +35,15 @@ pub record IsIpv4For (class : ℕ) (address : List ℕ) (header : Ipv4Header) : 
 pub record IsIpv6For (class : ℕ) (address : List ℕ) (header : Ipv6Header) : Type 0 where
   pub dscp : traffic_class_dscp header.traffic_class ≡ class
   pub destination : header.destination ≡ address
+
+-- the packet begins with an IPv6 header of which the fact holds
+pub record StartsWithIpv6 (packet : List ℕ) (P : Ipv6Header → Type 0) : Type 0 where
+  pub header : Ipv6Header
+  pub rest : List ℕ
+  pub begins : BeginsWith IsIpv6Layout packet header rest
+  pub holds : P header
+
+-- the packet begins with no IPv6 header
+pub record IsRefusedIpv6 (packet : List ℕ) : Type 0 where
+  pub error : HeaderSliceError
+  pub refused : RefusesIpv6 packet error

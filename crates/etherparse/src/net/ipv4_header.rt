@@ -4,6 +4,7 @@ ghost use Rattle.etherparse_base.specs.WordSums.{folded_sum, little_endian_word_
 ghost use Rattle.etherparse_fields.specs.Ipv4Options.{IsOptionsLen};
 ghost use Rattle.etherparse.specs.Ipv4Header.{payload_len_of};
 
+use super::ipv4_header_slice::options_of;
 use crate::checksum::{Sum16BitWords, update_2bytes, update_4bytes};
 use crate::err::ipv4::{BadOptionsLen, HeaderSliceError};
 use crate::err::{Layer, LenError, ValueTooBigError, ValueType};
@@ -305,7 +306,7 @@ impl Ipv4Header {
             let options = Ipv4Options::from_front(bytes, len - Ipv4Header::MIN_LEN);
             return Ok((view.header_with(options), rest));
         }
-        Ok((view.to_header(), rest))
+        Ok((view.header_with(options_of(view.options())), rest))
     }
 
     /// The bytes of the header, in network byte order, with the reserved bit 0 and the checksum that the header has.

@@ -303,33 +303,23 @@ fn length_error(required_len: usize, len: usize) -> HeaderSliceError
     })
 }
 
-// The options of these bytes. It stands apart, as it has a case for each number of them.
-#[inline(never)]
-fn options_of(bytes: &[u8]) -> Ipv4Options
+// The options of these bytes, by words of 4. Behind the last word it is read again, so that no
+// branch tells how many there are.
+#[inline(always)]
+pub(super) fn options_of(bytes: &[u8]) -> Ipv4Options
     requires { IsOptionsLen (length bytes.now) }
     ensures { result ≡ bytes.now }
 {
-    match bytes.len() {
-        4 => Ipv4Options::from(whole::<4>(bytes)),
-        8 => Ipv4Options::from(whole::<8>(bytes)),
-        12 => Ipv4Options::from(whole::<12>(bytes)),
-        16 => Ipv4Options::from(whole::<16>(bytes)),
-        20 => Ipv4Options::from(whole::<20>(bytes)),
-        24 => Ipv4Options::from(whole::<24>(bytes)),
-        28 => Ipv4Options::from(whole::<28>(bytes)),
-        32 => Ipv4Options::from(whole::<32>(bytes)),
-        36 => Ipv4Options::from(whole::<36>(bytes)),
-        _ => Ipv4Options::try_from(bytes).unwrap(),
+    if bytes.is_empty() {
+        return Ipv4Options::new();
     }
-}
-
-// Bytes of a number that is known to the compiler.
-#[inline(always)]
-fn whole<const N: usize>(bytes: &[u8]) -> [u8; N]
-    requires { length bytes.now ≡ N }
-    ensures { result ≡ bytes.now }
-{
-    *bytes.first_chunk::<N>().unwrap()
+    let last = bytes.len() - 4;
+    let mut room = [0; 40];
+    for word in 0..10 {
+        let place = (4 * word).min(last);
+        room[4 * word..4 * word + 4].copy_from_slice(&bytes[place..place + 4]);
+    }
+    Ipv4Options::from_front(&room, bytes.len())
 }
 
 #[cfg(test)]

@@ -6,6 +6,7 @@ mod extensions;
 use crate::err::ipv6::HeaderSliceError;
 use crate::err::{ValueTooBigError, ValueType};
 use crate::{IpDscp, IpEcn, IpNumber, Ipv6FlowLabel, Ipv6HeaderSlice};
+use std::marker::Model;
 
 /// An IPv6 header without its extension headers (RFC 8200 section 3).
 #[derive(Clone, Debug, PartialEq, Eq, Drop)]
@@ -25,6 +26,33 @@ pub struct Ipv6Header {
     pub source: [u8; 16],
     /// The address of the receiver.
     pub destination: [u8; 16],
+}
+
+/// A contract sees the fields. Without this `impl` the check refuses `.ok()?` and `.map(..)` on what reads a header.
+impl Model for Ipv6Header {
+    ghost use Rattle.etherparse.specs.Ipv6HeaderFields.{Ipv6HeaderFields};
+
+    ghost Value = { Ipv6HeaderFields };
+
+    ghost view = { λ header. record {
+      traffic_class = header.traffic_class;
+      flow_label = header.flow_label;
+      payload_length = header.payload_length;
+      next_header = header.next_header;
+      hop_limit = header.hop_limit;
+      source = header.source;
+      destination = header.destination;
+    } };
+
+    ghost inverse = { λ header. record {
+      traffic_class = header.traffic_class;
+      flow_label = header.flow_label;
+      payload_length = header.payload_length;
+      next_header = header.next_header;
+      hop_limit = header.hop_limit;
+      source = header.source;
+      destination = header.destination;
+    } };
 }
 
 impl Ipv6Header {

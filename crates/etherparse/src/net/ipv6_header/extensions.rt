@@ -1,8 +1,9 @@
 //! The walk past IPv6 extension headers.
 
-ghost use Rattle.std.specs.Prelude.{◌≡◌, ◌<◌, ◌≤◌, drop, length, slice_index};
+ghost use Rattle.std.specs.Prelude.{ℕ, ◌≡◌, ◌+◌, ◌*◌, ◌≤◌, ◌↔◌, drop, length};
 ghost use Rattle.etherparse_base.specs.declared.err.layer.Layer.TheVariants as layer;
-ghost use Rattle.etherparse.specs.ExtensionHeaderChain.{required_len_of};
+ghost use Rattle.etherparse_fields.specs.ExtensionHeaders.{IsSkippable};
+ghost use Rattle.etherparse.specs.ExtensionHeaderChain.{extension_header_len, required_len_of};
 ghost use Rattle.etherparse.specs.Reading.{too_short_error};
 
 mod limited_walk;
@@ -11,22 +12,22 @@ use super::Ipv6Header;
 use crate::err::{Layer, LenError};
 use crate::{IpNumber, LenSource};
 
-// The numbers of the extension headers that can be skipped, as IANA assigns them.
-const HOP_BY_HOP: u8 = 0;
+// How many bytes a unit of an extension header's second byte stands for, by the header's number: 8,
+// in an authentication header (51) 4, in a fragment header (44) none. Where that byte is 0, each of
+// them has 8 bytes. All other numbers have `NOT_SKIPPABLE`. No branch tells the numbers apart, so
+// the time of a walk hardly depends on which are mixed.
+const UNITS: [u8; 256] = [
+    8, 1, 1, 1, 1, 1, 1, 1, 1, 1, 1, 1, 1, 1, 1, 1, 1, 1, 1, 1, 1, 1, 1, 1, 1, 1, 1, 1, 1, 1, 1, 1,
+    1, 1, 1, 1, 1, 1, 1, 1, 1, 1, 1, 8, 0, 1, 1, 1, 1, 1, 1, 4, 1, 1, 1, 1, 1, 1, 1, 1, 8, 1, 1, 1,
+    1, 1, 1, 1, 1, 1, 1, 1, 1, 1, 1, 1, 1, 1, 1, 1, 1, 1, 1, 1, 1, 1, 1, 1, 1, 1, 1, 1, 1, 1, 1, 1,
+    1, 1, 1, 1, 1, 1, 1, 1, 1, 1, 1, 1, 1, 1, 1, 1, 1, 1, 1, 1, 1, 1, 1, 1, 1, 1, 1, 1, 1, 1, 1, 1,
+    1, 1, 1, 1, 1, 1, 1, 8, 1, 1, 1, 8, 8, 1, 1, 1, 1, 1, 1, 1, 1, 1, 1, 1, 1, 1, 1, 1, 1, 1, 1, 1,
+    1, 1, 1, 1, 1, 1, 1, 1, 1, 1, 1, 1, 1, 1, 1, 1, 1, 1, 1, 1, 1, 1, 1, 1, 1, 1, 1, 1, 1, 1, 1, 1,
+    1, 1, 1, 1, 1, 1, 1, 1, 1, 1, 1, 1, 1, 1, 1, 1, 1, 1, 1, 1, 1, 1, 1, 1, 1, 1, 1, 1, 1, 1, 1, 1,
+    1, 1, 1, 1, 1, 1, 1, 1, 1, 1, 1, 1, 1, 1, 1, 1, 1, 1, 1, 1, 1, 1, 1, 1, 1, 1, 1, 1, 1, 1, 1, 1,
+];
 
-const ROUTING: u8 = 43;
-
-const FRAGMENT: u8 = 44;
-
-const AUTHENTICATION: u8 = 51;
-
-const DESTINATION_OPTIONS: u8 = 60;
-
-const MOBILITY: u8 = 135;
-
-const HOST_IDENTITY: u8 = 139;
-
-const SHIM6: u8 = 140;
+const NOT_SKIPPABLE: u8 = 1;
 
 impl Ipv6Header {
     ghost use Rattle.std.specs.Prelude.{ℕ, ◌≡◌, ◌+◌, ◌/◌, ◌<◌, ◌≤◌, ◌↔◌, ◌-◌, List, Ok, Err, IfErr, IfOk, IsFalse, IsOk, IsTrue, drop, length};
@@ -71,21 +72,14 @@ impl Ipv6Header {
         ensures at_front { IfErr result (λ e. e.layer_start_offset ≡ 0) }
         ensures shorter { IsSkippable next_header → IfOk result (λ x. length x.1.now < length slice.now) }
     {
-        let len = match next_header.0 {
-            FRAGMENT => 8,
-            AUTHENTICATION => (second_byte(slice) + 2) * 4,
-            HOP_BY_HOP | ROUTING | DESTINATION_OPTIONS | MOBILITY | HOST_IDENTITY | SHIM6 => {
-                (second_byte(slice) + 1) * 8
-            }
-            _ => return Ok((next_header, slice)),
-        };
-        if slice.len() < 2 {
-            return Err(incomplete_header(2, slice.len(), 0));
+        if !Ipv6Header::is_skippable_header_extension(next_header) {
+            return Ok((next_header, slice));
         }
-        if slice.len() < len {
-            return Err(incomplete_header(len, slice.len(), 0));
+        let required_len = required_len_at(slice, 0, next_header);
+        if slice.len() < required_len {
+            return Err(incomplete_header(required_len, slice.len(), 0));
         }
-        Ok((IpNumber(slice[0]), &slice[len..]))
+        Ok((IpNumber(slice[0]), &slice[required_len..]))
     }
 
     /// Whether this is the number of an extension header that can be skipped, since it is known how to tell its length and
@@ -100,17 +94,7 @@ impl Ipv6Header {
             FollowsChain s first ip_protocol_number rest →
             IsFalse result → IsWalkOf s first (Ok (ip_protocol_number, rest)) }
     {
-        matches!(
-            ip_protocol_number.0,
-            HOP_BY_HOP
-                | ROUTING
-                | FRAGMENT
-                | AUTHENTICATION
-                | DESTINATION_OPTIONS
-                | MOBILITY
-                | HOST_IDENTITY
-                | SHIM6
-        )
+        unit_of(ip_protocol_number) != NOT_SKIPPABLE
     }
 
     /// Skips all extension headers at the front of a slice, of which the first has this number: the first number that can
@@ -182,33 +166,27 @@ impl Ipv6Header {
     }
 }
 
-// The second byte of a slice, or 0 where it has none.
+// What `UNITS` has for a number.
 #[inline(always)]
-fn second_byte(slice: &[u8]) -> usize
-    ensures value { result ≡ slice_index slice.now 1 }
-    ensures within { result < 256 }
+fn unit_of(number: IpNumber) -> u8
+    ensures skippable { result ≡ 1 ↔ ¬ IsSkippable number }
+    ensures len { IsSkippable number → (second_byte : ℕ) →
+        extension_header_len number second_byte ≡ second_byte * result + 8 }
 {
-    if slice.len() < 2 {
-        0
-    } else {
-        usize::from(slice[1])
-    }
+    UNITS[usize::from(number.0)]
 }
 
 // How many bytes the header of this number requires that starts at a place of the slice.
 #[inline(always)]
 fn required_len_at(slice: &[u8], place: usize, number: IpNumber) -> usize
-    requires { place ≤ length slice.now }
+    requires within { place ≤ length slice.now }
+    requires skippable { IsSkippable number }
     ensures value { result ≡ required_len_of number (drop place slice.now) }
 {
     if slice.len() - place < 2 {
         return 2;
     }
-    match number.0 {
-        FRAGMENT => 8,
-        AUTHENTICATION => (usize::from(slice[place + 1]) + 2) * 4,
-        _ => (usize::from(slice[place + 1]) + 1) * 8,
-    }
+    usize::from(slice[place + 1]) * usize::from(unit_of(number)) + 8
 }
 
 // The error of a header that starts at a place where too few bytes are left.

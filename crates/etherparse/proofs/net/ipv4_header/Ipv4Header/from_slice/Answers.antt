@@ -15,11 +15,6 @@ header_with-requires-then-slice-ge-MAX_LEN c =
     c.from_front-options.ensures.value
     ∙ options_in_room c.args.slice.now view.slice.now _ _ c.in_ok-view.ensures.views.whole (omega (arith, view.ihl, view.len)) (omega (arith, view.len)) room
 
-pub returns : goal.returns
-returns c =
-    let a = reads_front _ _ _ _ _ c.in_ok-view.ensures.views.whole c.to_header.ensures.layout refl in
-    record { reads = a.reads; only = a.only; cleared = a.cleared; same_header = a.same_header; cut = a.cut }
-
 pub returns-then-len-eq-MIN_LEN : goal.returns-then-len-eq-MIN_LEN
 returns-then-len-eq-MIN_LEN c =
     let a = reads_front _ _ _ _ _ c.in_ok-view.ensures.views.whole c.header_with.ensures.layout refl in
@@ -28,4 +23,9 @@ returns-then-len-eq-MIN_LEN c =
 pub returns-then-slice-ge-MAX_LEN : goal.returns-then-slice-ge-MAX_LEN
 returns-then-slice-ge-MAX_LEN c =
     let a = reads_front _ _ _ _ _ c.in_ok-view.ensures.views.whole c.header_with-then-slice-ge-MAX_LEN.ensures.layout refl in
+    record { reads = a.reads; only = a.only; cleared = a.cleared; same_header = a.same_header; cut = a.cut }
+
+pub returns : goal.returns
+returns c =
+    let a = reads_front _ _ _ _ _ c.in_ok-view.ensures.views.whole c.header_with-2.ensures.layout refl in
     record { reads = a.reads; only = a.only; cleared = a.cleared; same_header = a.same_header; cut = a.cut }

@@ -1,4 +1,4 @@
-use Rattle.std.proofs.Common.{[], arith, refl, subst, sym, ◌∙◌}
+use Rattle.std.proofs.Common.{[], arith, length, refl, subst, sym, ◌≡◌, ◌++◌, ◌∙◌}
 use Rattle.std.proofs.lemmas.List.{append-nil}
 use Rattle.etherparse_base.specs.Bytes.{IsBytes}
 use Rattle.etherparse.proofs.Ipv6Layout.{same_bytes, spells}
@@ -7,10 +7,13 @@ use Rattle.etherparse.proofs.net.ipv6_header.Ipv6Header.to_bytes.Goals as goal
 pub returns : goal.returns
 returns c =
     let h = c.args.self.now in
-    let layout = spells h c.joined.result c.front.ensures.traffic_class c.front.ensures.flow_label
-    c.front.ensures.payload_length (omega arith) (omega arith)
+    let parts : c.joined.result ≡ c.front.result ++ (h.source ++ h.destination) =
+    subst (λ h. c.joined.result ≡ c.front.result ++ (h.source ++ h.destination)) c.self.view_is c.joined.ensures.parts in
+    let layout = spells h c.joined.result c.front.ensures.traffic_class c.front.ensures.flow_label c.front.ensures.payload_length
+    (subst (λ h. length h.source ≡ 16) c.self.view_is (omega arith))
+    (subst (λ h. length h.destination ≡ 16) c.self.view_is (omega arith))
     (subst IsBytes (sym c.joined.ensures.parts) c.joined.ensures.are_bytes)
-    (c.joined.ensures.parts ∙ rw c.front.ensures.value refl) in
+    (parts ∙ rw c.front.ensures.value refl) in
     record {
       layout = layout;
       only = λ bytes other. same_bytes h bytes c.joined.result other layout;

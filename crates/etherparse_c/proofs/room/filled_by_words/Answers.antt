@@ -1,0 +1,24 @@
+use Rattle.std.proofs.Common.{ℕ, ◌≡◌, ◌+◌, ◌-◌, ◌<◌, ◌++◌, List, arith, refl, get_or, length, replicate, sym, ◌∙◌, inl, inr}
+use Rattle.std.proofs.lemmas.Bool.{cases_lt}
+use Rattle.std.proofs.lemmas.Grind.{common_steps}
+use Rattle.std.proofs.lemmas.List.{ext_get_or, get_or-append_right, get_or_append_left, get_or_past, get_or-replicate}
+use Rattle.etherparse_c.proofs.room.filled_by_words.Goals as goal
+
+-- a list with 0 after it has the items that it has, and 0 where it has none
+padded : (xs : List ℕ) (n i : ℕ) → i < length xs + n
+    → get_or (xs ++ replicate n 0) i 0 ≡ get_or xs i 0
+padded xs n i within = elim (cases_lt i (length xs)) [
+  | inl below ↦ get_or_append_left xs (replicate n 0) 0 i below
+  | inr past ↦ get_or-append_right xs (replicate n 0) _ i 0 refl past
+      ∙ get_or-replicate n _ 0 0 (omega arith) ∙ sym (get_or_past xs i 0 past)
+]
+
+pub returns : goal.returns
+returns c =
+    let len = c.loop-word.invariant.0 in
+    let options = c.args.options.now in
+    record {
+      value = ext_get_or 0 _ _ (grind (arith, common_steps, len)) (
+          λ i below. c.loop-word.invariant.1 i (omega (arith, len))
+          ∙ sym (padded options (40 - length options) i (omega (arith, len))));
+    }
