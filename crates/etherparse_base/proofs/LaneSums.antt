@@ -2,7 +2,7 @@
 use Rattle.std.proofs.Common.{ℕ, List, [], ◌∷◌, ◌≡◌, ◌<◌, ◌+◌, ◌-◌, ◌*◌, ◌/◌, ◌%◌, ◌^◌, ◌∙◌, ap, arith, get_or, length, map, refl, replicate}
 use Rattle.std.specs.Simd.Lanes.{fold_l, sum_l, zip2}
 use Rattle.std.proofs.lemmas.Simd.{sum-zip2, zip2_splat}
-use Rattle.etherparse_base.specs.WideSums.{Splits, lanes_added}
+use Rattle.etherparse_base.specs.Private.WideSums.{Splits, lanes_added}
 
 -- the sum of four words
 pub four_sum : (words : List ℕ) → length words ≡ 4 → sum_l words ≡ get_or words 0 0 + get_or words 1 0 + get_or words 2 0 + get_or words 3 0

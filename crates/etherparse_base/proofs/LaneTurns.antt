@@ -1,11 +1,18 @@
 -- What a turn of the loop that sums in lanes keeps.
-use Rattle.std.proofs.Common.{ℕ, List, ◌≡◌, ◌<◌, ◌≤◌, ◌+◌, ◌*◌, ◌/◌, ◌%◌, ◌^◌, ◌∙◌, ap, arith, length, replicate, sym}
+use Rattle.std.proofs.Common.{ℕ, List, ◌≡◌, ◌<◌, ◌≤◌, ◌+◌, ◌*◌, ◌/◌, ◌%◌, ◌^◌, ◌∙◌, ap, arith, length, map, replicate, sym}
 use Rattle.std.specs.Simd.Lanes.{sum_l, zip2}
 use Rattle.std.proofs.lemmas.List.{length-map}
 use Rattle.std.proofs.lemmas.Simd.{length-zip2, sum-zip2, zip2_splat}
-use Rattle.etherparse_base.specs.WideSums.{AddsInTurns, StandsFor, halves_sum, high_halves, low_halves}
+use Rattle.etherparse_base.specs.Private.WideSums.{AddsInTurns, StandsFor, halves_sum}
 use Rattle.etherparse_base.specs.WordSums.{folded_sum, little_endian_word_sum}
 use Rattle.etherparse_base.proofs.LaneSums.{lanes_add, totals_more}
+
+-- the halves of words of eight bytes
+abbrev low_halves : List ℕ → List ℕ
+low_halves words = map (λ w. w % 2 ^ 32) words
+
+abbrev high_halves : List ℕ → List ℕ
+high_halves words = map (λ w. w / 2 ^ 32) words
 
 -- four words of eight bytes more in the lanes
 pub lanes_turn : (bytes total high words : List ℕ) (sums carries : ℕ) (rest after : List ℕ)

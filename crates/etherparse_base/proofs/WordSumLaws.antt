@@ -5,15 +5,21 @@ use Rattle.std.proofs.lemmas.List.Sums.{sum_by-append, sum_by-cons}
 use Rattle.std.specs.Int.{swap_bytes, to_be_bytes}
 use Rattle.etherparse_base.specs.WordSums.{
   AddsSlice,
+  AddsSlices,
   ChangesOneByte,
+  Complements,
+  ComplementsWithNoZero,
+  IsSumOf,
   SumsToAllOnes,
+  checksum_of,
   folded_sum,
   little_endian_word_sum,
   network_order_word_sum,
   ones_complement_sum,
   weighted_byte_sum,
+  with_no_zero,
 }
-use Rattle.etherparse_base.proofs.FoldedSums.{folded_sum-within, stands_for_words}
+use Rattle.etherparse_base.proofs.FoldedSums.{folded_sum-all_ones, folded_sum-positive, folded_sum-within, stands_for_words}
 
 -- each of the two sums is 256 times the other, but for multiples of 65535
 record OtherOrder (bytes : List ℕ) : Type 0 where
@@ -77,20 +83,59 @@ all_ones_from_zero start result bytes sum from_zero =
     (λ e. ones.0 (swapped ∙ e), λ e. sym swapped ∙ ones.1 e)
 
 -- the complement is 0 exactly where the words sum to all ones
-pub complement_all_ones : (sum : ℕ) (bytes : List ℕ) → folded_sum sum ≡ folded_sum (little_endian_word_sum bytes) → SumsToAllOnes bytes ↔ (65535 - folded_sum sum ≡ 0)
+pub complement_all_ones : (sum : ℕ) (bytes : List ℕ) → IsSumOf sum bytes → SumsToAllOnes bytes ↔ (checksum_of sum ≡ 0)
 complement_all_ones sum bytes same =
     let ones = all_ones_from_zero 0 sum bytes (same ∙ ap folded_sum (omega arith)) refl in
     let within = folded_sum-within sum in
     (λ all. omega (arith, ones.0 all), λ none. ones.1 (omega (arith, none, within)))
 
 -- the complement with its two bytes exchanged is that of the sum in network order
-pub complement_swapped : (sum : ℕ) (bytes : List ℕ) → folded_sum sum ≡ folded_sum (little_endian_word_sum bytes) → swap_bytes w16 (65535 - folded_sum sum) ≡ 65535 - folded_sum (network_order_word_sum bytes)
+pub complement_swapped : (sum : ℕ) (bytes : List ℕ) → IsSumOf sum bytes → swap_bytes w16 (checksum_of sum) ≡ checksum_of (network_order_word_sum bytes)
 complement_swapped sum bytes same =
     let within = folded_sum-within sum in
     let swapped : swap_bytes w16 (folded_sum sum) ≡ folded_sum (network_order_word_sum bytes) = ap (swap_bytes w16) same ∙ swap_bytes-folded_sum bytes in
     let whole = swap_bytes-small (folded_sum sum) (omega (arith, within)) in
-    let complement = swap_bytes-small (65535 - folded_sum sum) (omega arith) in
+    let complement = swap_bytes-small (checksum_of sum) (omega arith) in
     omega (arith, within, swapped, whole, complement)
+
+-- a sum is all ones with the complement of its fold
+completed : (n fold : ℕ) → folded_sum n ≡ fold → folded_sum (n + (65535 - fold)) ≡ 65535
+completed zero fold e = folded_sum-positive (0 + (65535 - fold)) (omega (arith, e)) ∙ omega (arith, e)
+completed (suc n) fold e = folded_sum-positive (suc n + (65535 - fold)) (omega arith) ∙ omega (arith, e)
+
+-- all that is known of a checksum, by its value
+pub complements : (sum checksum : ℕ) → checksum ≡ checksum_of sum → Complements sum checksum
+complements sum checksum value = record {
+  value = value;
+  completes = λ n same. ap (λ c. folded_sum (n + c)) value ∙ completed n (folded_sum sum) same;
+  network_order = λ bytes same. ap (swap_bytes w16) value ∙ complement_swapped sum bytes same;
+  all_ones = λ bytes same.
+      let ones = complement_all_ones sum bytes same in (λ all. value ∙ ones.0 all, λ none. ones.1 (sym value ∙ none));
+}
+
+-- all ones in the place of 0: in a sum above 0, and with their two bytes exchanged
+with_no_zero-completes : (n checksum : ℕ) → 0 < n → folded_sum (n + checksum) ≡ 65535 → folded_sum (n + with_no_zero checksum) ≡ 65535
+with_no_zero-completes n zero some all = folded_sum-all_ones n zero some refl ∙ all
+with_no_zero-completes n (suc checksum) some all = all
+
+pub with_no_zero-positive : (n : ℕ) → 0 < n → n ≡ with_no_zero n
+with_no_zero-positive zero some = absurd (omega arith)
+with_no_zero-positive (suc n) some = refl
+
+with_no_zero-swapped : (checksum : ℕ) → checksum ≤ 65535 → swap_bytes w16 (with_no_zero checksum) ≡ with_no_zero (swap_bytes w16 checksum)
+with_no_zero-swapped zero within = refl
+with_no_zero-swapped (suc checksum) within =
+    let swapped = swap_bytes-small (suc checksum) (omega arith) in
+    with_no_zero-positive (swap_bytes w16 (suc checksum)) (omega (arith, swapped))
+
+pub complements_with_no_zero : (sum checksum : ℕ) → checksum ≡ with_no_zero (checksum_of sum) → ComplementsWithNoZero sum checksum
+complements_with_no_zero sum checksum value = record {
+  value = value;
+  completes = λ n some same.
+      ap (λ c. folded_sum (n + c)) value ∙ with_no_zero-completes n (checksum_of sum) some (completed n (folded_sum sum) same);
+  network_order = λ bytes same. ap (swap_bytes w16) value
+      ∙ with_no_zero-swapped (checksum_of sum) (omega arith) ∙ ap with_no_zero (complement_swapped sum bytes same);
+}
 
 -- a changed byte changes the sum by its weight
 record ChangesBy (weight other : ℕ) (bytes : List ℕ) (place byte : ℕ) : Type 0 where
@@ -194,7 +239,8 @@ little_endian_word_sum-cut count bytes even within =
     sym (little_endian_word_sum-append (take count bytes) (drop count bytes) front) ∙ ap little_endian_word_sum (take-append-drop count bytes)
 
 -- pieces in another order
-pub ones_complement_sum-exchanged : (before after : List (List ℕ)) (first second : List ℕ) → ones_complement_sum (before ++ second ∷ first ∷ after) ≡ ones_complement_sum (before ++ first ∷ second ∷ after)
+ones_complement_sum-exchanged : (before after : List (List ℕ)) (first second : List ℕ)
+    → ones_complement_sum (before ++ second ∷ first ∷ after) ≡ ones_complement_sum (before ++ first ∷ second ∷ after)
 ones_complement_sum-exchanged before after first second =
     let sums : sum_by little_endian_word_sum (before ++ second ∷ first ∷ after) ≡ sum_by little_endian_word_sum (before ++ first ∷ second ∷ after) =
     rw (
@@ -208,7 +254,7 @@ ones_complement_sum-exchanged before after first second =
     ap folded_sum sums
 
 -- a piece cut in two
-pub ones_complement_sum-cut : (before after : List (List ℕ)) (front rest : List ℕ) → length front % 2 ≡ 0 → ones_complement_sum (before ++ front ∷ rest ∷ after) ≡ ones_complement_sum (before ++ (front ++ rest) ∷ after)
+ones_complement_sum-cut : (before after : List (List ℕ)) (front rest : List ℕ) → length front % 2 ≡ 0 → ones_complement_sum (before ++ front ∷ rest ∷ after) ≡ ones_complement_sum (before ++ (front ++ rest) ∷ after)
 ones_complement_sum-cut before after front rest even =
     let sums : sum_by little_endian_word_sum (before ++ front ∷ rest ∷ after) ≡ sum_by little_endian_word_sum (before ++ (front ++ rest) ∷ after) =
     rw (
@@ -220,3 +266,14 @@ ones_complement_sum-cut before after front rest even =
       little_endian_word_sum-append front rest even,
     ) (omega arith) in
     ap folded_sum sums
+
+-- all that is known of the sum of pieces, by its fold
+pub adds_slices : (pieces : List (List ℕ)) (answer : ℕ) → folded_sum answer ≡ ones_complement_sum pieces → AddsSlices pieces answer
+adds_slices pieces answer sum = record {
+  sum = sum;
+  exchanged = λ before after first second is.
+      sum ∙ ap ones_complement_sum is ∙ sym (ones_complement_sum-exchanged before after first second);
+  cut = λ before after front back is even.
+      sum ∙ ap ones_complement_sum is ∙ sym (ones_complement_sum-cut before after front back even);
+  joined = λ before after front back is even. sum ∙ ap ones_complement_sum is ∙ ones_complement_sum-cut before after front back even;
+}

@@ -6,8 +6,8 @@ pub mod Layer
 pub mod LenError
 pub mod LenErrorFields
 pub mod LenSource
+pub mod Private
 pub mod SliceWriteSpaceError
 pub mod ValueTooBigError
 pub mod ValueType
-pub mod WideSums
 pub mod WordSums

@@ -1,7 +1,7 @@
 -- Sums of words of sixteen bits, and the checksum that is made of them (RFC 1071).
 use Rattle.std.specs.Prelude.{ℕ, zero, suc, ◌≡◌, ◌≢◌, ◌<◌, ◌≤◌, ◌+◌, ◌-◌, ◌*◌, ◌%◌, ◌↔◌}
-use Rattle.std.specs.Prelude.{List, [], ◌∷◌, if◌then◌else◌, length, nat_lt, slice_index, slice_set}
-use Rattle.std.specs.Prelude.{sum_by}
+use Rattle.std.specs.Prelude.{List, [], ◌∷◌, ◌++◌, if◌then◌else◌, length, nat_lt, slice_index}
+use Rattle.std.specs.Prelude.{slice_set, sum_by}
 use Rattle.std.specs.Int.{swap_bytes, w16}
 
 -- The sum of two numbers of which none is above the greatest, with the end-around carry: what goes
@@ -41,20 +41,18 @@ SumsToAllOnes bytes = folded_sum (network_order_word_sum bytes) ≡ 65535
 abbrev pub ones_complement_sum : List (List ℕ) → ℕ
 ones_complement_sum pieces = folded_sum (sum_by little_endian_word_sum pieces)
 
+-- the checksum of a sum: its ones-complement in sixteen bits (RFC 1071 section 1)
+abbrev pub checksum_of : ℕ → ℕ
+checksum_of sum = 65535 - folded_sum sum
+
 -- a checksum that is never 0, which in UDP says that there is none: all ones stand for it (RFC 768)
 abbrev pub with_no_zero : ℕ → ℕ
 with_no_zero zero = 65535
 with_no_zero (suc n) = suc n
 
--- With this checksum among its words, each sum that folds as this one does is all ones.
-abbrev pub Completes : ℕ → ℕ → Type 0
-Completes sum checksum =
-    (n : ℕ) → folded_sum n ≡ folded_sum sum → folded_sum (n + checksum) ≡ 65535
-
--- the same, but of a sum of 0
-abbrev pub CompletesAboveZero : ℕ → ℕ → Type 0
-CompletesAboveZero sum checksum =
-    (n : ℕ) → 0 < n → folded_sum n ≡ folded_sum sum → folded_sum (n + checksum) ≡ 65535
+-- the number is one in which the sum of the words of these bytes can be kept
+abbrev pub IsSumOf : ℕ → List ℕ → Type 0
+IsSumOf sum bytes = folded_sum sum ≡ folded_sum (little_endian_word_sum bytes)
 
 -- In any longer sum the answer is as good as the words of the bytes and the start: adds one after
 -- the other are told apart so, the last one first.
@@ -67,19 +65,19 @@ StandsForWords start bytes answer = (n : ℕ)
 -- equation 3).
 abbrev pub updated_checksum : ℕ → ℕ → ℕ → ℕ
 updated_checksum checksum old new =
-    65535 - folded_sum ((65535 - checksum) + (65535 - old) + new)
+    checksum_of ((65535 - checksum) + (65535 - old) + new)
 
 -- the same after a change of some words at once, each of which is complemented
 abbrev pub updated_checksum_of_words : ℕ → ℕ → List ℕ → List ℕ → ℕ
-updated_checksum_of_words words checksum old new = 65535 - folded_sum ((65535 - checksum)
+updated_checksum_of_words words checksum old new = checksum_of ((65535 - checksum)
     + (words * 65535 - network_order_word_sum old) + network_order_word_sum new)
 
 -- What is known of a checksum that was updated where words that sum to the old number were changed
 -- to words that sum to the new one. The checksum of a sum becomes that of the sum after the change;
 -- and what a receiver sums, the checksum with the words, has the fold that it had.
 pub record UpdatesChecksum (checksum old new answer : ℕ) : Type 0 where
-  pub anew : (sum : ℕ) → old ≤ sum → checksum ≡ 65535 - folded_sum sum → 0 < sum - old + new
-      → answer ≡ 65535 - folded_sum (sum - old + new)
+  pub anew : (sum : ℕ) → old ≤ sum → checksum ≡ checksum_of sum → 0 < sum - old + new
+      → answer ≡ checksum_of (sum - old + new)
   pub received : (sum : ℕ) → old ≤ sum → 0 < sum → 0 < sum - old + new
       → folded_sum (sum - old + new + answer) ≡ folded_sum (sum + checksum)
 
@@ -103,3 +101,36 @@ pub record AddsSlice (start : ℕ) (bytes : List ℕ) (answer : ℕ) : Type 0 wh
   pub all_ones : start ≡ 0 → (SumsToAllOnes bytes ↔ (folded_sum answer ≡ 65535))
   pub one_byte : SumsToAllOnes bytes
       → (changed : List ℕ) → ChangesOneByte bytes changed → ¬ SumsToAllOnes changed
+
+-- What is known of the sum of pieces: its fold. It is that of the pieces with two neighbours
+-- exchanged too, with a piece cut behind an even number of bytes, and with two pieces joined there.
+pub record AddsSlices (pieces : List (List ℕ)) (answer : ℕ) : Type 0 where
+  pub sum : folded_sum answer ≡ ones_complement_sum pieces
+  pub exchanged : (before after : List (List ℕ)) (first second : List ℕ)
+      → pieces ≡ before ++ first ∷ second ∷ after
+      → folded_sum answer ≡ ones_complement_sum (before ++ second ∷ first ∷ after)
+  pub cut : (before after : List (List ℕ)) (front back : List ℕ)
+      → pieces ≡ before ++ (front ++ back) ∷ after → length front % 2 ≡ 0
+      → folded_sum answer ≡ ones_complement_sum (before ++ front ∷ back ∷ after)
+  pub joined : (before after : List (List ℕ)) (front back : List ℕ)
+      → pieces ≡ before ++ front ∷ back ∷ after → length front % 2 ≡ 0
+      → folded_sum answer ≡ ones_complement_sum (before ++ (front ++ back) ∷ after)
+
+-- What is known of the checksum of a sum. Each sum of this fold is all ones with the checksum among
+-- its words. Of bytes whose sum it is, the checksum has its two bytes exchanged where their words are
+-- read in network order, and is 0 exactly where these sum to all ones.
+pub record Complements (sum checksum : ℕ) : Type 0 where
+  pub value : checksum ≡ checksum_of sum
+  pub completes : (n : ℕ) → folded_sum n ≡ folded_sum sum → folded_sum (n + checksum) ≡ 65535
+  pub network_order : (bytes : List ℕ) → IsSumOf sum bytes
+      → swap_bytes w16 checksum ≡ checksum_of (network_order_word_sum bytes)
+  pub all_ones : (bytes : List ℕ) → IsSumOf sum bytes
+      → (SumsToAllOnes bytes ↔ (checksum ≡ 0))
+
+-- the same of the checksum that is never 0; it completes no sum of 0
+pub record ComplementsWithNoZero (sum checksum : ℕ) : Type 0 where
+  pub value : checksum ≡ with_no_zero (checksum_of sum)
+  pub completes : (n : ℕ) → 0 < n → folded_sum n ≡ folded_sum sum
+      → folded_sum (n + checksum) ≡ 65535
+  pub network_order : (bytes : List ℕ) → IsSumOf sum bytes
+      → swap_bytes w16 checksum ≡ with_no_zero (checksum_of (network_order_word_sum bytes))

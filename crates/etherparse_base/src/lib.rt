@@ -1,11 +1,10 @@
-//! What every layer of the header crates speaks of: where a length came from, the errors with their texts, and checksums.
+//! What every layer of the header crates speaks of: where a length came from, the errors with their
+//! texts, and checksums.
 #![tactic(auto)]
 
 pub mod checksum;
 pub mod err;
 mod laws;
 mod len_source;
-#[cfg(test)]
-mod tests;
 
 pub use len_source::LenSource;

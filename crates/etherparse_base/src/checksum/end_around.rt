@@ -1,7 +1,8 @@
-//! Sums with the end-around carry: what goes beyond the width is added at the low end (RFC 1071 section 1).
+//! Sums with the end-around carry: what goes beyond the width is added at the low end (RFC 1071
+//! section 1).
 
-ghost use Rattle.std.specs.Prelude.{◌≡◌, ◌+◌, ◌-◌};
-ghost use Rattle.etherparse_base.specs.WordSums.{end_around_sum, folded_sum};
+ghost use Rattle.std.specs.Prelude.{◌≡◌};
+ghost use Rattle.etherparse_base.specs.WordSums.{checksum_of, end_around_sum, folded_sum};
 
 /// The sum of two numbers of 64 bits.
 #[inline(always)]
@@ -49,7 +50,7 @@ pub(super) fn halve_u32(sum: u32) -> u16
 /// The complement of the fold of a sum of 64 bits.
 #[inline(always)]
 pub(super) fn complement_u64(sum: u64) -> u16
-    ensures value { result ≡ 65535 - folded_sum sum }
+    ensures value { result ≡ checksum_of sum }
 {
     !halve_u32(halve_u64(sum))
 }

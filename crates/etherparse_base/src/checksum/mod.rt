@@ -1,10 +1,7 @@
 //! Checksums of the internet protocols: ones-complement sums of words of sixteen bits (RFC 1071).
 
 mod end_around;
-mod plain;
 mod sum_16bit_words;
-#[cfg(test)]
-mod tests;
 pub mod u32_16bit_word;
 pub mod u64_16bit_word;
 mod update;

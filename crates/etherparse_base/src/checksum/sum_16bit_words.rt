@@ -1,16 +1,17 @@
-ghost use Rattle.std.specs.Prelude.{ℕ, List, ◌≡◌, ◌↔◌, ◌+◌, ◌-◌, drop, take};
-ghost use Rattle.std.specs.Int.{from_le_bytes, swap_bytes, w16, w32, w64};
-ghost use Rattle.etherparse_base.specs.WordSums.{AddsSlice, Completes, CompletesAboveZero};
-ghost use Rattle.etherparse_base.specs.WordSums.{StandsForWords, SumsToAllOnes, end_around_sum};
-ghost use Rattle.etherparse_base.specs.WordSums.{folded_sum, little_endian_word_sum};
-ghost use Rattle.etherparse_base.specs.WordSums.{network_order_word_sum, with_no_zero};
+ghost use Rattle.std.specs.Prelude.{ℕ, ◌≡◌, ◌+◌, drop, take};
+ghost use Rattle.std.specs.Int.{from_le_bytes, w16, w32, w64};
+ghost use Rattle.etherparse_base.specs.WordSums.{AddsSlice, Complements, ComplementsWithNoZero};
+ghost use Rattle.etherparse_base.specs.WordSums.{StandsForWords, end_around_sum, folded_sum};
+ghost use Rattle.etherparse_base.specs.WordSums.{little_endian_word_sum};
 
 use super::u64_16bit_word;
 use std::marker::Model;
 
-/// The sum of words of sixteen bits, for the checksum of a header (RFC 1071). Each call answers a new sum.
+/// The sum of words of sixteen bits, for the checksum of a header (RFC 1071). Each call answers a
+/// new sum.
 ///
-/// Sums are equal where the numbers of 64 bits are that they are kept in: equal complements do not make them equal.
+/// Sums are equal where the numbers of 64 bits are that they are kept in: equal complements do not
+/// make them equal.
 #[derive(Clone, Debug, PartialEq, Eq, Drop)]
 pub struct Sum16BitWords {
     sum: u64,
@@ -33,7 +34,8 @@ impl Sum16BitWords {
         Sum16BitWords { sum: 0 }
     }
 
-    /// Adds the words of a slice. An odd last byte is paired with a byte 0 behind it (RFC 1071 section 1).
+    /// Adds the words of a slice. An odd last byte is paired with a byte 0 behind it (RFC 1071
+    /// section 1).
     ///
     /// The answer is one of the sums that have the right complement. Which one, is no promise.
     #[inline]
@@ -45,8 +47,8 @@ impl Sum16BitWords {
         }
     }
 
-    /// Adds two bytes as one number, the low byte first. A carry out of the 64 bits is added at the low end (RFC 1071
-    /// section 1).
+    /// Adds two bytes as one number, the low byte first. A carry out of the 64 bits is added at the
+    /// low end (RFC 1071 section 1).
     #[inline]
     pub fn add_2bytes(self, value: [u8; 2]) -> Sum16BitWords
         ensures sum { result ≡ end_around_sum u64.MAX self (from_le_bytes w16 value) }
@@ -58,8 +60,8 @@ impl Sum16BitWords {
         }
     }
 
-    /// Adds four bytes as one number, the low byte first. A carry out of the 64 bits is added at the low end (RFC 1071
-    /// section 1).
+    /// Adds four bytes as one number, the low byte first. A carry out of the 64 bits is added at
+    /// the low end (RFC 1071 section 1).
     ///
     /// It changes nothing: what it answers is the new sum.
     #[inline]
@@ -74,8 +76,8 @@ impl Sum16BitWords {
         }
     }
 
-    /// Adds eight bytes as one number, the low byte first. A carry out of the 64 bits is added at the low end (RFC 1071
-    /// section 1).
+    /// Adds eight bytes as one number, the low byte first. A carry out of the 64 bits is added at
+    /// the low end (RFC 1071 section 1).
     ///
     /// It changes nothing: what it answers is the new sum.
     #[inline]
@@ -90,7 +92,8 @@ impl Sum16BitWords {
         }
     }
 
-    /// Adds sixteen bytes: the first eight, and then the last eight, as [`Sum16BitWords::add_8bytes`] does.
+    /// Adds sixteen bytes: the first eight, and then the last eight, as
+    /// [`Sum16BitWords::add_8bytes`] does.
     ///
     /// It changes nothing: what it answers is the new sum.
     #[inline]
@@ -110,29 +113,22 @@ impl Sum16BitWords {
         self.add_8bytes(first).add_8bytes(last)
     }
 
-    /// The checksum of what was summed, the ones-complement of the sum in sixteen bits: 0 where the words sum to all ones.
+    /// The checksum of what was summed, the ones-complement of the sum in sixteen bits: 0 where the
+    /// words sum to all ones.
     ///
     /// `to_le_bytes` gives its two bytes in the order in which a header has them.
     #[inline]
     pub fn ones_complement(&self) -> u16
-        ensures value { result ≡ 65535 - folded_sum self.now }
-        ensures completes { Completes self.now result }
-        ensures network_order { (bytes : List ℕ)
-            → folded_sum self.now ≡ folded_sum (little_endian_word_sum bytes)
-            → swap_bytes w16 result ≡ 65535 - folded_sum (network_order_word_sum bytes) }
+        ensures complements { Complements self.now result }
     {
         u64_16bit_word::ones_complement(self.sum)
     }
 
-    /// The same with 0xffff in place of 0, as UDP has it: a checksum of 0 says there that there is none (RFC 768).
+    /// The same with 0xffff in place of 0, as UDP has it: a checksum of 0 says there that there is
+    /// none (RFC 768).
     #[inline]
     pub fn to_ones_complement_with_no_zero(&self) -> u16
-        ensures value { result ≡ with_no_zero (65535 - folded_sum self.now) }
-        ensures completes { CompletesAboveZero self.now result }
-        ensures network_order { (bytes : List ℕ)
-            → folded_sum self.now ≡ folded_sum (little_endian_word_sum bytes)
-            → swap_bytes w16 result
-            ≡ with_no_zero (65535 - folded_sum (network_order_word_sum bytes)) }
+        ensures complements { ComplementsWithNoZero self.now result }
     {
         u64_16bit_word::ones_complement_with_no_zero(self.sum)
     }

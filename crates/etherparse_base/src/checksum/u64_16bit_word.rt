@@ -1,22 +1,21 @@
 //! The sum of words of sixteen bits in 64 bits, and its complement, the checksum (RFC 1071).
 //!
-//! A sum begins at 0 and is handed from add to add, in any order. Words are read with the low byte first, so the low byte of
-//! the complement is the one that stands first in a header. Sums that differ by a multiple of 65535 have one complement, unless
-//! one of them is 0.
+//! A sum begins at 0 and is handed from add to add, in any order. Words are read with the low byte
+//! first, so the low byte of the complement is the one that stands first in a header. Sums that
+//! differ by a multiple of 65535 have one complement, unless one of them is 0.
 
-ghost use Rattle.std.specs.Prelude.{ℕ, List, ◌∷◌, ◌++◌, ◌≡◌, ◌↔◌, ◌+◌, ◌-◌, ◌%◌, length, map};
-ghost use Rattle.std.specs.Int.{from_le_bytes, swap_bytes, w16, w32, w64};
-ghost use Rattle.etherparse_base.specs.WordSums.{AddsSlice, Completes, CompletesAboveZero};
-ghost use Rattle.etherparse_base.specs.WordSums.{StandsForWords, SumsToAllOnes, end_around_sum};
-ghost use Rattle.etherparse_base.specs.WordSums.{folded_sum, little_endian_word_sum};
-ghost use Rattle.etherparse_base.specs.WordSums.{network_order_word_sum, ones_complement_sum};
-ghost use Rattle.etherparse_base.specs.WordSums.{with_no_zero};
+ghost use Rattle.std.specs.Prelude.{◌≡◌, ◌+◌, map};
+ghost use Rattle.std.specs.Int.{from_le_bytes, w16, w32, w64};
+ghost use Rattle.etherparse_base.specs.WordSums.{AddsSlice, AddsSlices, Complements};
+ghost use Rattle.etherparse_base.specs.WordSums.{ComplementsWithNoZero, StandsForWords};
+ghost use Rattle.etherparse_base.specs.WordSums.{end_around_sum, folded_sum};
+ghost use Rattle.etherparse_base.specs.WordSums.{little_endian_word_sum};
 
 use super::end_around::{add_u64, complement_u64};
 use super::wide_u64;
 
-/// Adds two bytes as one number, the low byte first. A carry out of the 64 bits is added at the low end (RFC 1071
-/// section 1).
+/// Adds two bytes as one number, the low byte first. A carry out of the 64 bits is added at the low
+/// end (RFC 1071 section 1).
 #[inline]
 pub fn add_2bytes(start: u64, value: [u8; 2]) -> u64
     ensures sum { result ≡ end_around_sum u64.MAX start (from_le_bytes w16 value) }
@@ -26,8 +25,8 @@ pub fn add_2bytes(start: u64, value: [u8; 2]) -> u64
     add_u64(start, u64::from(u16::from_le_bytes(value)))
 }
 
-/// Adds four bytes as one number, the low byte first. A carry out of the 64 bits is added at the low end (RFC 1071
-/// section 1).
+/// Adds four bytes as one number, the low byte first. A carry out of the 64 bits is added at the
+/// low end (RFC 1071 section 1).
 #[inline]
 pub fn add_4bytes(start: u64, value: [u8; 4]) -> u64
     ensures sum { result ≡ end_around_sum u64.MAX start (from_le_bytes w32 value) }
@@ -37,8 +36,8 @@ pub fn add_4bytes(start: u64, value: [u8; 4]) -> u64
     add_u64(start, u64::from(u32::from_le_bytes(value)))
 }
 
-/// Adds eight bytes as one number, the low byte first. A carry out of the 64 bits is added at the low end (RFC 1071
-/// section 1).
+/// Adds eight bytes as one number, the low byte first. A carry out of the 64 bits is added at the
+/// low end (RFC 1071 section 1).
 #[inline]
 pub fn add_8bytes(start: u64, value: [u8; 8]) -> u64
     ensures sum { result ≡ end_around_sum u64.MAX start (from_le_bytes w64 value) }
@@ -48,7 +47,8 @@ pub fn add_8bytes(start: u64, value: [u8; 8]) -> u64
     add_u64(start, u64::from_le_bytes(value))
 }
 
-/// Adds the words of a slice. An odd last byte is paired with a byte 0 behind it (RFC 1071 section 1).
+/// Adds the words of a slice. An odd last byte is paired with a byte 0 behind it (RFC 1071 section
+/// 1).
 ///
 /// The answer is one of the numbers that have the right complement. Which one, is no promise.
 #[inline(always)]
@@ -62,18 +62,7 @@ pub fn add_slice(start_sum: u64, slice: &[u8]) -> u64
 ///
 /// The Rust crate has no such call.
 pub fn add_slices(pieces: &[&[u8]]) -> u64
-    ensures sum { folded_sum result ≡ ones_complement_sum (map (λ piece. piece.now) pieces.now) }
-    ensures exchanged { (before after : List (List ℕ)) (first second : List ℕ)
-        → map (λ piece. piece.now) pieces.now ≡ before ++ first ∷ second ∷ after
-        → folded_sum result ≡ ones_complement_sum (before ++ second ∷ first ∷ after) }
-    ensures cut { (before after : List (List ℕ)) (front back : List ℕ)
-        → map (λ piece. piece.now) pieces.now ≡ before ++ (front ++ back) ∷ after
-        → length front % 2 ≡ 0
-        → folded_sum result ≡ ones_complement_sum (before ++ front ∷ back ∷ after) }
-    ensures joined { (before after : List (List ℕ)) (front back : List ℕ)
-        → map (λ piece. piece.now) pieces.now ≡ before ++ front ∷ back ∷ after
-        → length front % 2 ≡ 0
-        → folded_sum result ≡ ones_complement_sum (before ++ (front ++ back) ∷ after) }
+    ensures adds { AddsSlices (map (λ piece. piece.now) pieces.now) result }
 {
     let mut sum = 0;
     for piece in pieces {
@@ -82,29 +71,22 @@ pub fn add_slices(pieces: &[&[u8]]) -> u64
     sum
 }
 
-/// The checksum of what was summed, the ones-complement of the sum in sixteen bits: 0 where the words sum to all ones.
+/// The checksum of what was summed, the ones-complement of the sum in sixteen bits: 0 where the
+/// words sum to all ones.
 ///
 /// `to_le_bytes` gives its two bytes in the order in which a header has them.
 #[inline]
 pub fn ones_complement(sum: u64) -> u16
-    ensures value { result ≡ 65535 - folded_sum sum }
-    ensures completes { Completes sum result }
-    ensures network_order { (bytes : List ℕ)
-        → folded_sum sum ≡ folded_sum (little_endian_word_sum bytes)
-        → swap_bytes w16 result ≡ 65535 - folded_sum (network_order_word_sum bytes) }
+    ensures complements { Complements sum result }
 {
     complement_u64(sum)
 }
 
-/// The same with 0xffff in place of 0, as UDP has it: a checksum of 0 says there that there is none (RFC 768).
+/// The same with 0xffff in place of 0, as UDP has it: a checksum of 0 says there that there is none
+/// (RFC 768).
 #[inline]
 pub fn ones_complement_with_no_zero(sum: u64) -> u16
-    ensures value { result ≡ with_no_zero (65535 - folded_sum sum) }
-    ensures completes { CompletesAboveZero sum result }
-    ensures network_order { (bytes : List ℕ)
-        → folded_sum sum ≡ folded_sum (little_endian_word_sum bytes)
-        → swap_bytes w16 result
-        ≡ with_no_zero (65535 - folded_sum (network_order_word_sum bytes)) }
+    ensures complements { ComplementsWithNoZero sum result }
 {
     let checksum = ones_complement(sum);
     if checksum == 0 { 0xffff } else { checksum }
@@ -115,16 +97,7 @@ pub fn ones_complement_with_no_zero(sum: u64) -> u16
 /// The Rust crate has no such call.
 #[inline(always)]
 pub fn checksum(start_sum: u64, slice: &[u8]) -> u16
-    ensures value { result ≡ 65535 - folded_sum (start_sum + little_endian_word_sum slice.now) }
-    ensures completes { Completes (start_sum + little_endian_word_sum slice.now) result }
-    ensures network_order { (bytes : List ℕ)
-        → folded_sum (start_sum + little_endian_word_sum slice.now)
-        ≡ folded_sum (little_endian_word_sum bytes)
-        → swap_bytes w16 result ≡ 65535 - folded_sum (network_order_word_sum bytes) }
-    ensures all_ones { (bytes : List ℕ)
-        → folded_sum (start_sum + little_endian_word_sum slice.now)
-        ≡ folded_sum (little_endian_word_sum bytes)
-        → (SumsToAllOnes bytes ↔ (result ≡ 0)) }
+    ensures complements { Complements (start_sum + little_endian_word_sum slice.now) result }
 {
     wide_u64::checksum(start_sum, slice)
 }

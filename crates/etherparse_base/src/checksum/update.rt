@@ -8,11 +8,12 @@ ghost use Rattle.etherparse_base.specs.WordSums.{updated_checksum_of_words};
 
 use super::u32_16bit_word::ones_complement;
 
-/// The checksum after one of the words that it is over was changed from `old` to `new` (RFC 1624 section 3, equation 3). The
-/// words are given as they stand in the packet, and the checksum is a number that was read as they are, the high byte first.
+/// The checksum after one of the words that it is over was changed from `old` to `new` (RFC 1624
+/// section 3, equation 3). The words are given as they stand in the packet, and the checksum is a
+/// number that was read as they are, the high byte first.
 ///
-/// A right checksum becomes the one that would be computed anew, unless all words are 0 now: it is 0 then, and 0xffff computed
-/// anew. A wrong one is not made right.
+/// A right checksum becomes the one that would be computed anew, unless all words are 0 now: it is
+/// 0 then, and 0xffff computed anew. A wrong one is not made right.
 ///
 /// The Rust crate has no such call.
 #[inline]
@@ -38,7 +39,7 @@ pub fn update_4bytes(checksum: u16, old: [u8; 4], new: [u8; 4]) -> u16
     ensures updates { UpdatesChecksum checksum (network_order_word_sum old)
         (network_order_word_sum new) result }
 {
-    ones_complement(u32::from(!checksum) + (131070 - two_words(old)) + two_words(new))
+    ones_complement(u32::from(!checksum) + (2 * 65535 - two_words(old)) + two_words(new))
 }
 
 /// [`update_2bytes`] for eight words at once, as an IPv6 address. It is right also where between
@@ -51,7 +52,7 @@ pub fn update_16bytes(checksum: u16, old: [u8; 16], new: [u8; 16]) -> u16
     ensures updates { UpdatesChecksum checksum (network_order_word_sum old)
         (network_order_word_sum new) result }
 {
-    ones_complement(u32::from(!checksum) + (524280 - eight_words(old)) + eight_words(new))
+    ones_complement(u32::from(!checksum) + (8 * 65535 - eight_words(old)) + eight_words(new))
 }
 
 // The sum of two words, each with the high byte first.

@@ -1,43 +1,50 @@
 //! The sum of a slice by words of eight bytes: eight a turn, and twelve where there are many.
 //!
-//! Of each twelve, four go into four lanes: each lane has the total of its words and, apart, the sum of their high halves, from
-//! which the sum of the low halves comes back in the end. The other eight go into eight sums, with the carry out of each into
-//! the next, and that out of the last counted. The 32-bit sum of a slice is this one, halved.
+//! Of each twelve, four go into four lanes: each lane has the total of its words and, apart, the
+//! sum of their high halves, from which the sum of the low halves comes back in the end. The other
+//! eight go into eight sums, with the carry out of each into the next, and that out of the last
+//! counted. The 32-bit sum of a slice is this one, halved.
 
 ghost use Rattle.std.specs.Prelude.{List, ℕ, drop, ◌≡◌, ◌<◌, ◌≤◌, ◌+◌, ◌-◌, ◌*◌, ◌%◌, ◌^◌, length};
 ghost use Rattle.std.specs.Int.{from_bool};
 ghost use Rattle.std.specs.Simd.Lanes.{sum_l};
-ghost use Rattle.etherparse_base.specs.WideSums.{AddsTurns, AddsWords};
-ghost use Rattle.etherparse_base.specs.WordSums.{folded_sum, little_endian_word_sum};
+ghost use Rattle.etherparse_base.specs.Private.WideSums.{AddsTurns};
+ghost use Rattle.etherparse_base.specs.WordSums.{checksum_of, folded_sum, little_endian_word_sum};
 
 use super::end_around::{add_u64, complement_u64};
-use super::words::{joined, last_seven_bytes, last_three_words, split_four_words, split_odd_bytes};
+use super::words::{
+    halves_sum_of, last_seven_bytes, last_three_words, split_four_words, split_odd_bytes,
+};
 use std::simd::prelude::*;
 
+// How many bytes a turn sums.
+const TURN_LEN: usize = 96;
+
 // From how many bytes on turns are the faster.
-const MANY: usize = 1280;
+const TURNS_FROM: usize = 1280;
 
 // Up to how many bytes no sum of halves in the lanes overflows.
-const MOST: usize = 0x2_0000_0000;
+const TURNS_UP_TO: usize = 0x2_0000_0000;
 
 /// The sum of a start and the words of a slice.
 #[inline(always)]
 pub(super) fn add_slice(start_sum: u64, slice: &[u8]) -> u64
     ensures sum { folded_sum result ≡ folded_sum (start_sum + little_endian_word_sum slice.now) }
 {
-    if slice.len() < MANY {
+    if slice.len() < TURNS_FROM {
         add_few(start_sum, slice)
     } else {
         add_many(start_sum, slice)
     }
 }
 
-/// The complement of that sum in sixteen bits. A short slice is summed without a call, so no register is saved for one.
+/// The complement of that sum in sixteen bits. A short slice is summed without a call, so no
+/// register is saved for one.
 #[inline(always)]
 pub(super) fn checksum(start_sum: u64, slice: &[u8]) -> u16
-    ensures value { result ≡ 65535 - folded_sum (start_sum + little_endian_word_sum slice.now) }
+    ensures value { result ≡ checksum_of (start_sum + little_endian_word_sum slice.now) }
 {
-    if slice.len() < MANY {
+    if slice.len() < TURNS_FROM {
         complement_u64(add_few(start_sum, slice))
     } else {
         checksum_of_many(start_sum, slice)
@@ -48,7 +55,7 @@ pub(super) fn checksum(start_sum: u64, slice: &[u8]) -> u16
 #[inline(never)]
 fn checksum_of_many(start_sum: u64, slice: &[u8]) -> u16
     requires { 8 ≤ length slice.now }
-    ensures value { result ≡ 65535 - folded_sum (start_sum + little_endian_word_sum slice.now) }
+    ensures value { result ≡ checksum_of (start_sum + little_endian_word_sum slice.now) }
 {
     complement_u64(add_many(start_sum, slice))
 }
@@ -69,12 +76,12 @@ fn add_few(start_sum: u64, slice: &[u8]) -> u64
         return add_u64(last_seven_bytes(slice), start_sum);
     }
     let (words, odd) = split_odd_bytes(slice);
-    add_rest(none_of(start_sum, words), odd)
+    add_rest(nothing_summed(start_sum, words), odd)
 }
 
 // Only the start is summed, and all is left.
 #[inline(always)]
-fn none_of<'a>(start_sum: u64, slice: &'a [u8]) -> Summed<'a>
+fn nothing_summed<'a>(start_sum: u64, slice: &'a [u8]) -> Summed<'a>
     ensures adds { folded_sum (result.sum + little_endian_word_sum result.rest.now)
         ≡ folded_sum (start_sum + little_endian_word_sum slice.now) }
     ensures eighths { length result.rest.now % 8 ≡ length slice.now % 8 }
@@ -85,15 +92,16 @@ fn none_of<'a>(start_sum: u64, slice: &'a [u8]) -> Summed<'a>
     }
 }
 
-// Adds the words of many bytes: most of them in turns, unless there are so many that a lane could overflow.
+// Adds the words of many bytes: most of them in turns, unless there are so many that a lane could
+// overflow.
 #[inline(never)]
 fn add_many(start_sum: u64, slice: &[u8]) -> u64
     requires { 8 ≤ length slice.now }
     ensures sum { folded_sum result ≡ folded_sum (start_sum + little_endian_word_sum slice.now) }
 {
     let (words, odd) = split_odd_bytes(slice);
-    let at = if words.len() > MOST {
-        none_of(0, words)
+    let at = if words.len() > TURNS_UP_TO {
+        nothing_summed(0, words)
     } else {
         add_turns(words)
     };
@@ -110,8 +118,9 @@ pub(super) struct Turns {
     pub(super) high: u64x4,
 }
 
-// Adds turns, three at a time where there are as many, until there are not enough bytes for one. Each of three has a total of
-// its own: with one total for all three, the compiler adds their words first, and copies each of them.
+// Adds turns, three at a time where there are as many, until there are not enough bytes for one.
+// Each of three has a total of its own: with one total for all three, the compiler adds their words
+// first, and copies each of them.
 #[inline(always)]
 fn add_turns<'a>(slice: &'a [u8]) -> Summed<'a>
     requires { length slice.now ≤ 2 ^ 33 }
@@ -128,7 +137,7 @@ fn add_turns<'a>(slice: &'a [u8]) -> Summed<'a>
     };
     let (mut second_total, mut third_total) = (u64x4::splat(0), u64x4::splat(0));
     let mut rest = slice;
-    'threes: while rest.len() >= 288 {
+    'threes: while rest.len() >= 3 * TURN_LEN {
         let after_first = after_turn(rest);
         let after_second = after_turn(after_first);
         let first = add_turn(at, rest);
@@ -138,14 +147,14 @@ fn add_turns<'a>(slice: &'a [u8]) -> Summed<'a>
         at = with_total(third, first.total);
         rest = after_turn(after_second);
     }
-    'ones: while rest.len() >= 96 {
+    'ones: while rest.len() >= TURN_LEN {
         at = add_turn(at, rest);
         rest = after_turn(rest);
     }
     let sum = add_four(add_four(at.carries, at.first), at.second);
     let total = at.total + (second_total + third_total);
     Summed {
-        sum: add_u64(sum, joined(total, at.high)),
+        sum: add_u64(sum, halves_sum_of(total, at.high)),
         rest,
     }
 }
@@ -161,20 +170,20 @@ fn with_total(at: Turns, total: u64x4) -> Turns
 // What follows the bytes of a turn.
 #[inline(always)]
 fn after_turn(bytes: &[u8]) -> &[u8]
-    requires { 96 ≤ length bytes.now }
-    ensures after { result.now ≡ drop 96 bytes.now }
-    ensures shorter { length result.now + 96 ≡ length bytes.now }
+    requires { TURN_LEN ≤ length bytes.now }
+    ensures after { result.now ≡ drop TURN_LEN bytes.now }
+    ensures shorter { length result.now + TURN_LEN ≡ length bytes.now }
 {
-    &bytes[96..]
+    &bytes[TURN_LEN..]
 }
 
 // Adds twelve words of eight bytes: four in the lanes, eight to the sums.
 #[inline(always)]
 fn add_turn(at: Turns, bytes: &[u8]) -> Turns
-    requires { 96 ≤ length bytes.now }
+    requires { TURN_LEN ≤ length bytes.now }
     ensures adds { (slice beside : List ℕ) → length slice ≤ 2 ^ 33
         → AddsTurns slice beside at bytes.now
-        → AddsTurns slice beside result (drop 96 bytes.now) }
+        → AddsTurns slice beside result (drop TURN_LEN bytes.now) }
 {
     let (words, rest) = split_four_words(bytes);
     let words = u64x4::from_array(words);
@@ -210,7 +219,8 @@ fn add_rest<'a>(at: Summed<'a>, odd: u64) -> u64
 // that no turn waits for the one before.
 #[inline(always)]
 fn add_eight_words<'a>(start: Summed<'a>) -> Summed<'a>
-    ensures adds { AddsWords start.entry result }
+    ensures adds { folded_sum (result.sum + little_endian_word_sum result.rest.now)
+        ≡ folded_sum (start.entry.sum + little_endian_word_sum start.entry.rest.now) }
     ensures shorter { length result.rest.now < 64 }
     ensures eighths { length result.rest.now % 8 ≡ length start.entry.rest.now % 8 }
 {
@@ -231,7 +241,8 @@ fn add_eight_words<'a>(start: Summed<'a>) -> Summed<'a>
 #[inline(always)]
 fn add_four_words<'a>(at: Summed<'a>) -> Summed<'a>
     requires { length at.rest.now < 64 }
-    ensures adds { AddsWords at.entry result }
+    ensures adds { folded_sum (result.sum + little_endian_word_sum result.rest.now)
+        ≡ folded_sum (at.entry.sum + little_endian_word_sum at.entry.rest.now) }
     ensures shorter { length result.rest.now < 32 }
     ensures eighths { length result.rest.now % 8 ≡ length at.entry.rest.now % 8 }
 {
@@ -280,7 +291,8 @@ fn add_last(sum: u64, word: u64, carry: bool) -> u64
     sum + u64::from(carry)
 }
 
-// Each sum with its word, with a carry into the first, the carry out of each into the next, and that out of the last.
+// Each sum with its word, with a carry into the first, the carry out of each into the next, and
+// that out of the last.
 #[inline(always)]
 fn add_to_each(sums: [u64; 4], words: [u64; 4], carry: bool) -> ([u64; 4], bool)
     ensures folded { (n : ℕ) → folded_sum (n + (sum_l result.0 + from_bool result.1))
@@ -293,7 +305,8 @@ fn add_to_each(sums: [u64; 4], words: [u64; 4], carry: bool) -> ([u64; 4], bool)
     ([a, b, c, d], carry)
 }
 
-// The sum of two words and a carry, and the carry out of it. The compiler makes one instruction of this form.
+// The sum of two words and a carry, and the carry out of it. The compiler makes one instruction of
+// this form.
 #[inline(always)]
 fn add_with_carry(a: u64, b: u64, carry: bool) -> (u64, bool)
     ensures sum { result.0 + 2 ^ 64 * from_bool result.1 ≡ a + b + from_bool carry }

@@ -3,7 +3,7 @@
 ghost use Rattle.std.specs.Prelude.{ℕ, ◌≡◌, ◌<◌, ◌≤◌, ◌+◌, ◌-◌, ◌*◌, ◌%◌, ◌^◌};
 ghost use Rattle.std.specs.Prelude.{List, [], drop, length};
 ghost use Rattle.std.specs.Simd.Lanes.{sum_l};
-ghost use Rattle.etherparse_base.specs.WideSums.{Splits, StandsFor, halves_sum};
+ghost use Rattle.etherparse_base.specs.Private.WideSums.{Splits, StandsFor, halves_sum};
 ghost use Rattle.etherparse_base.specs.WordSums.{folded_sum, little_endian_word_sum};
 
 use std::simd::prelude::*;
@@ -172,9 +172,10 @@ pub(super) fn split_four_words(bytes: &[u8]) -> ([u64; 4], &[u8])
     ([a, b, c, d], rest)
 }
 
-/// The sum of all halves of the words in the lanes, from the totals of the words and the sums of their high halves.
+/// The sum of all halves of the words in the lanes, from the totals of the words and the sums of
+/// their high halves.
 #[inline(always)]
-pub(super) fn joined(total: u64x4, high: u64x4) -> u64
+pub(super) fn halves_sum_of(total: u64x4, high: u64x4) -> u64
     requires { length high ≡ 4 }
     ensures halves { (low : List ℕ) → Splits total low high → sum_l low + sum_l high < 2 ^ 64
         → result ≡ sum_l low + sum_l high }

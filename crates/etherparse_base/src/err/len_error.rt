@@ -10,7 +10,8 @@ use std::error::Error;
 use std::fmt;
 use std::marker::Model;
 
-/// A length that does not fit the layer: too small where `required_len` is above `len`, and else too great.
+/// A length that does not fit the layer: too small where `required_len` is above `len`, and else
+/// too great.
 #[derive(Clone, Debug, PartialEq, Eq, Hash, Drop)]
 pub struct LenError {
     /// The least length that was needed, or the greatest that was allowed, in bytes.
@@ -25,7 +26,8 @@ pub struct LenError {
     pub layer_start_offset: usize,
 }
 
-/// A contract sees the fields. Without this `impl` the check refuses `?` on what holds a reference beside an `IpNumber`.
+/// A contract sees the fields. Without this `impl` the check refuses `?` on what holds a reference
+/// beside an `IpNumber`.
 impl Model for LenError {
     ghost use Rattle.etherparse_base.specs.LenErrorFields.{LenErrorFields};
 
@@ -49,8 +51,8 @@ impl Model for LenError {
 }
 
 impl LenError {
-    /// The error of the same layer in data that starts `offset` bytes earlier: `layer_start_offset` grows by `offset`, and
-    /// every other field stays. The sum has to fit `usize`.
+    /// The error of the same layer in data that starts `offset` bytes earlier: `layer_start_offset`
+    /// grows by `offset`, and every other field stays. The sum has to fit `usize`.
     #[inline]
     pub fn add_offset(self, offset: usize) -> LenError
         requires fits { HasRoomFor offset self }

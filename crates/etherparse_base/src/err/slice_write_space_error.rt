@@ -7,7 +7,8 @@ use super::Layer;
 use std::error::Error;
 use std::fmt;
 
-/// A slice with too little room for what is written to it. No call of these crates answers it: it is for the layers above.
+/// A slice with too little room for what is written to it. No call of these crates answers it: it
+/// is for the layers above.
 #[derive(Clone, Debug, PartialEq, Eq, Hash, Drop)]
 pub struct SliceWriteSpaceError {
     /// The length that was needed, in bytes.

@@ -6,7 +6,8 @@ use crate::err::LenError;
 use std::error::Error;
 use std::fmt;
 
-/// Why a walk past extension headers, which has a limit, found no end of their chain (RFC 8200 section 4).
+/// Why a walk past extension headers, which has a limit, found no end of their chain (RFC 8200
+/// section 4).
 ///
 /// The Rust crate has no such type.
 #[derive(Clone, Debug, PartialEq, Eq, Hash, Drop)]
@@ -25,8 +26,8 @@ pub enum ChainError {
 }
 
 impl ChainError {
-    /// The error of a chain that starts `offset` bytes further on: the place of either variant grows by `offset`, and all else
-    /// stays. The sum has to fit `usize`.
+    /// The error of a chain that starts `offset` bytes further on: the place of either variant
+    /// grows by `offset`, and all else stays. The sum has to fit `usize`.
     #[inline]
     pub fn add_slice_offset(self, offset: usize) -> ChainError
         requires fits { ChainErrorHasRoomFor offset self }
@@ -47,7 +48,8 @@ impl ChainError {
     }
 }
 
-/// Says what a `Len` says, or how many headers were allowed and where the next one starts, also at byte 0.
+/// Says what a `Len` says, or how many headers were allowed and where the next one starts, also at
+/// byte 0.
 impl fmt::Display for ChainError {
     ghost output = { λ e. Some (chain_error_text e) };
 

@@ -17,8 +17,8 @@ pub enum HeaderSliceError {
 }
 
 impl HeaderSliceError {
-    /// The error of a header that starts `offset` bytes further on: a `Len` by [`LenError::add_offset`], whose sum has to fit
-    /// `usize`, and a `Content` as it is.
+    /// The error of a header that starts `offset` bytes further on: a `Len` by
+    /// [`LenError::add_offset`], whose sum has to fit `usize`, and a `Content` as it is.
     #[inline]
     pub fn add_slice_offset(self, offset: usize) -> HeaderSliceError
         requires fits { Ipv6HasRoomFor offset self }

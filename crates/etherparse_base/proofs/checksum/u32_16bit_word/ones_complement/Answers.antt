@@ -1,8 +1,6 @@
-use Rattle.std.proofs.Common.{◌-◌, ◌∙◌, ap, w16}
-use Rattle.std.specs.Int.{swap_bytes}
-use Rattle.etherparse_base.proofs.WordSumLaws.{complement_swapped}
+use Rattle.std.proofs.Common.{◌-◌, ap}
+use Rattle.etherparse_base.proofs.WordSumLaws.{complements}
 use Rattle.etherparse_base.proofs.checksum.u32_16bit_word.ones_complement.Goals as goal
 
-pub returns-clause-network_order : goal.returns-clause-network_order
-returns-clause-network_order c = λ bytes same.
-    ap (λ fold. swap_bytes w16 (65535 - fold)) c.halve_u32.ensures.folded ∙ complement_swapped c.args.sum bytes same
+pub returns : goal.returns
+returns c = record { complements = complements c.args.sum _ (ap (λ fold. 65535 - fold) c.halve_u32.ensures.folded) }

@@ -1,16 +1,11 @@
-use Rattle.std.proofs.Common.{◌∙◌, ap, arith, sym}
+use Rattle.std.proofs.Common.{◌≡◌, arith, map}
 use Rattle.std.proofs.lemmas.Grind.{common_steps}
-use Rattle.etherparse_base.specs.WordSums.{ones_complement_sum}
-use Rattle.etherparse_base.proofs.WordSumLaws.{ones_complement_sum-cut}
+use Rattle.etherparse_base.specs.WordSums.{folded_sum, ones_complement_sum}
+use Rattle.etherparse_base.proofs.WordSumLaws.{adds_slices}
 use Rattle.etherparse_base.proofs.checksum.u64_16bit_word.add_slices.Goals as goal
 
-pub returns-clause-sum : goal.returns-clause-sum
-returns-clause-sum c = grind (arith, common_steps)
-
-pub returns-clause-cut : goal.returns-clause-cut
-returns-clause-cut c = λ before after front back is even.
-    returns-clause-sum c ∙ ap ones_complement_sum is ∙ sym (ones_complement_sum-cut before after front back even)
-
-pub returns-clause-joined : goal.returns-clause-joined
-returns-clause-joined c = λ before after front back is even.
-    returns-clause-sum c ∙ ap ones_complement_sum is ∙ ones_complement_sum-cut before after front back even
+pub returns : goal.returns
+returns c =
+    let pieces = map (λ piece. piece.now) c.args.pieces.now in
+    let sum : folded_sum c.loop-piece.sum ≡ ones_complement_sum pieces = grind (arith, common_steps) in
+    record { adds = adds_slices pieces c.loop-piece.sum sum }

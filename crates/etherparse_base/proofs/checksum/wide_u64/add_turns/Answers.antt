@@ -1,5 +1,5 @@
 use Rattle.std.proofs.Common.{◌≤◌, ◌^◌, [], ◌∷◌, ap, arith, length, refl}
-use Rattle.etherparse_base.specs.WideSums.{AddsTurns, lanes_added}
+use Rattle.etherparse_base.specs.Private.WideSums.{AddsTurns, lanes_added}
 use Rattle.etherparse_base.specs.WordSums.{folded_sum}
 use Rattle.etherparse_base.proofs.LaneSums.{lanes_added-last, lanes_added-second}
 use Rattle.etherparse_base.proofs.checksum.wide_u64.add_turns.Goals as goal

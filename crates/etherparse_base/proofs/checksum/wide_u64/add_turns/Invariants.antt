@@ -1,5 +1,5 @@
 use Rattle.std.proofs.Common.{length}
-use Rattle.etherparse_base.specs.WideSums.{AddsTurns, lanes_added}
+use Rattle.etherparse_base.specs.Private.WideSums.{AddsTurns, lanes_added}
 use Rattle.etherparse_base.proofs.checksum.wide_u64.add_turns.Given as goal
 
 abbrev pub invariant-threes : goal.invariant-threes

@@ -1,5 +1,5 @@
 use Rattle.etherparse_base.proofs.LaneSums.{joined_lanes}
-use Rattle.etherparse_base.proofs.checksum.words.joined.Goals as goal
+use Rattle.etherparse_base.proofs.checksum.words.halves_sum_of.Goals as goal
 
 pub returns : goal.returns
 returns c = record {

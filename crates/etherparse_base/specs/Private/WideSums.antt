@@ -1,8 +1,7 @@
--- What the sum by wide words keeps on its way through a slice. No public clause cites it.
+-- What the sum by wide words keeps on its way through a slice.
 use Rattle.std.specs.Prelude.{ℕ, ◌≡◌, ◌≤◌, ◌+◌, ◌*◌, ◌/◌, ◌%◌, ◌^◌, List, length, map}
 use Rattle.std.specs.Simd.Lanes.{sum_l, zip2}
 use Rattle.etherparse_base.specs.WordSums.{folded_sum, little_endian_word_sum}
-use Rattle.etherparse_base.specs.declared.checksum.wide_u64.Summed.{Summed}
 use Rattle.etherparse_base.specs.declared.checksum.wide_u64.Turns.{Turns}
 
 -- a number stands for the bytes in front of the rest: whatever it is added to, the fold is that of
@@ -12,21 +11,9 @@ StandsFor number bytes rest =
     (n : ℕ) → folded_sum (n + number + little_endian_word_sum rest)
     ≡ folded_sum (n + little_endian_word_sum bytes)
 
--- what was added to the sum are the words of the bytes before the rest
-abbrev pub AddsWords : Summed → Summed → Type 0
-AddsWords before after =
-    folded_sum (after.sum + little_endian_word_sum after.rest.now)
-    ≡ folded_sum (before.sum + little_endian_word_sum before.rest.now)
-
--- the low and the high halves of words of eight bytes, and the sum of all
-abbrev pub low_halves : List ℕ → List ℕ
-low_halves words = map (λ w. w % 2 ^ 32) words
-
-abbrev pub high_halves : List ℕ → List ℕ
-high_halves words = map (λ w. w / 2 ^ 32) words
-
+-- the sum of the low and of the high halves of words of eight bytes
 abbrev pub halves_sum : List ℕ → ℕ
-halves_sum words = sum_l (low_halves words) + sum_l (high_halves words)
+halves_sum words = sum_l (map (λ w. w % 2 ^ 32) words) + sum_l (map (λ w. w / 2 ^ 32) words)
 
 -- In each lane the total of the words, without the bits above 64: the sum of their low halves, and
 -- 2 ^ 32 times that of their high halves.

@@ -1,8 +1,0 @@
-use Rattle.std.proofs.Common.{arith}
-use Rattle.etherparse_base.proofs.WordSumLaws.{adds_slice}
-use Rattle.etherparse_base.proofs.checksum.plain.add_slice_u32.Goals as goal
-
-pub returns : goal.returns
-returns c = record {
-  adds = adds_slice c.args.start_sum c.add_words_u32.result c.args.slice.now (λ k. omega (arith, c.type_inv.slice k)) c.add_words_u32.ensures.sum;
-}
