@@ -1,4 +1,5 @@
--- The room for options in memory is its 40 bytes in a row, and back; its front can be lent as a slice.
+-- The room for options in memory is its 40 bytes in a row, and back;
+-- its front can be lent as a slice.
 use mathlib.Core.Path.{◌≡◌, refl, sym, ◌∙◌}
 use Prim.Native.Nat.{ℕ, zero, ◌+◌, ◌≤◌}
 use native.Mathlib.Omega.{arith}
@@ -16,8 +17,8 @@ use types.Logic.{Logic, sem}
 use types.SemTy.{cells}
 use types.Mut.{open_ref}
 use types.Kit.{Item, mean, ‵, raw, ◌⊛◌, !, ◌$◌, ◌∵◌, given, some, later}
-use types.Kit.{qed, by, done, move, drop, use1, use2, split, join, group, learn, check, rewrite, updating, now, show}
-use types.Kit.{fsplit, fsplit3, fjoin, feq_i, feq_l, pick, await}
+use types.Kit.{qed, by, done, move, drop, use1, use2, split, join, group, learn, check, rewrite}
+use types.Kit.{updating, now, show, fsplit, fsplit3, fjoin, feq_i, feq_l, pick, await}
 use denote.Array.{Array, Array-Lawful}
 use denote.ArrayMemory.{Array-apart, Array-whole}
 use denote.Builtin.{u8}
@@ -34,7 +35,7 @@ use denote.Struct.Members.{Member, raw_tys, lawful_Lones}
 use denote.Struct.Parts.{shape_of, Struct-left, left_Struct}
 use denote.Struct.Recorded.{Recorded-part}
 use denote.Struct.Struct.{Struct}
-use Rattle.etherparse_fields.specs.Buffer.{with_front}
+use Rattle.etherparse_fields.specs.Private.Buffer.{with_front}
 use Rattle.etherparse_fields.specs.contracts.net.ipv4_options.buffer.Buffer.{the_row, the_type}
 
 -- the one field, as the machine has it
@@ -64,7 +65,7 @@ module _ {M : Type 1} {𝓤 : Ura M} (𝓛 : Logic 𝓤) (b o : ℕ) where
 
   as_tuple : (v : the_row.Denot) → part_at the_row full_share v b o ≡ Tuple v
   as_tuple v =
-      Recorded-part (Struct (shape the_type)) the_type.D the_type.to the_type.to_one full_share v b o
+      let T = the_type in Recorded-part (Struct (shape T)) T.D T.to T.to_one full_share v b o
 
   bytes_out : (v : the_row.Denot) → ent 𝓤 (sem 𝓛 ((mem the_row).own_at v b o))
       (guard 𝓤 (length v.bytes ≡ 40) (sep 𝓤 (sem 𝓛 (Bytes v.bytes)) Husk))
@@ -111,16 +112,15 @@ module _ {M : Type 1} {𝓤 : Ura M} (𝓛 : Logic 𝓤) (κ : Lft) (q : Share)
   Rest = sep 𝓤 (sem 𝓛 (After (length front))) (Husk 𝓛 b o)
 
   whole : len ≤ 40 → length v.bytes ≡ 40 → (ws : List ℕ) → length ws ≡ length front
-      → ent 𝓤 (sep 𝓤 (sem 𝓛 (Bytes 𝓛 b o ws)) Rest) (sem 𝓛 ((mem the_row).own_at (with_front v ws) b o))
+      → ent 𝓤 (sep 𝓤 (sem 𝓛 (Bytes 𝓛 b o ws)) Rest)
+      (sem 𝓛 ((mem the_row).own_at (with_front v ws) b o))
   whole within long ws same =
       let count : length front ≡ len = length-take-le len v.bytes (omega arith) in
-      let joined = length-append ws (after (length ws) v.bytes) in
-      let left = length-drop (length ws) v.bytes in
       qed 𝓛 (‵ (Bytes 𝓛 b o ws) ∷ ‵ (After (length front)) ∷ raw (Husk 𝓛 b o) ∷ []) ∵
       rewrite ! 1 (λ (n : ℕ). ‵ (After n)) (sym same) refl $
       use2 𝓛 (‵ (Bytes 𝓛 b o (ws ++ back))) (join_app 𝓛 (mem u8) ws back b (first o)) $
       rewrite ! 0 (λ (n : ℕ). ‵ (Bytes 𝓛 b o (ws ++ after n v.bytes))) (sym (same ∙ count)) refl $
-      by ! (bytes_in 𝓛 b o (with_front v ws) (omega arith))
+      by ! (bytes_in 𝓛 b o (with_front v ws) (simp (length-append, length-drop) (omega arith)))
 
   -- the room as it is passed, and its front as it is returned under the name δ
   abbrev room : MutBor the_row.Denot
@@ -141,7 +141,8 @@ module _ {M : Type 1} {𝓤 : Ura M} (𝓛 : Logic 𝓤) (κ : Lft) (q : Share)
   lends within vs =
       qed 𝓛 (‵ ((MutRef (named 0) κ the_row).own_val room vs) ∷ ‵ (flft κ q) ∷ []) ∵
       updating ! $ fsplit3 ! $ drop ! $ open_ref ! tt (mem the_row) {b = b} {o = o} $
-      use1 𝓛 (given (length v.bytes ≡ 40) (‵ (Bytes 𝓛 b o v.bytes) ⊛ raw (Husk 𝓛 b o))) (bytes_out 𝓛 b o v) $
+      use1 𝓛 (given (length v.bytes ≡ 40) (‵ (Bytes 𝓛 b o v.bytes) ⊛ raw (Husk 𝓛 b o)))
+      (bytes_out 𝓛 b o v) $
       learn ! (λ long. split ! $
       let count : length front ≡ len = length-take-le len v.bytes (omega arith) in
       let fits : Room u8 (length front) = (omega arith, omega arith) in

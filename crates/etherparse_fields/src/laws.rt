@@ -1,5 +1,5 @@
-//! Laws of derived calls, and of a write through a lent slice, which no clause of theirs says. Nothing calls them: they are
-//! there to be proved.
+//! Laws of derived calls, of hashes, and of a write through a lent slice, which no clause of theirs
+//! says. Nothing calls them: they are there to be proved.
 ghost use Rattle.std.specs.Prelude.{◌≡◌, ◌<◌, ◌↔◌, IsTrue, Ok, fold, length};
 ghost use Rattle.std.specs.Ordering.{nat_cmp};
 ghost use Rattle.std.specs.Hash as fed;
@@ -46,6 +46,12 @@ fn known_code_point_below(a: &IpDscpKnown, b: &IpDscpKnown) -> bool
     ensures by_code_point { IsTrue result ↔ (code_point_of a.now < code_point_of b.now) }
 {
     a < b
+}
+
+fn known_code_point_hash<H: Hasher>(a: &IpDscpKnown, state: &mut H)
+    ensures by_code_point { state.new ≡ fold H.write state.old (fed.u8 (code_point_of a.now)) }
+{
+    a.hash(state);
 }
 
 fn known_code_point_clone(a: &IpDscpKnown) -> Result<IpDscpKnown, AllocError>
@@ -179,6 +185,12 @@ fn ip_number_clone(a: &IpNumber) -> Result<IpNumber, AllocError>
     ensures same_value { result ≡ Ok a.now }
 {
     a.clone()
+}
+
+fn options_hash<H: Hasher>(a: &Ipv4Options, state: &mut H)
+    ensures by_bytes { state.new ≡ fold H.write state.old (fed.slice fed.u8 a.now) }
+{
+    a.hash(state);
 }
 
 fn options_written(options: &mut Ipv4Options, bytes: &[u8])

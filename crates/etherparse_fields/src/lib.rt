@@ -1,4 +1,5 @@
-//! Fields of IP headers with fewer values than their machine number, the numbers of protocols, and IPv4 options.
+//! Fields of IP headers with fewer values than their machine number, the numbers of protocols, and
+//! IPv4 options.
 #![tactic(auto)]
 
 mod laws;

@@ -1,6 +1,6 @@
 //! What several tests share.
 
-use etherparse_base::err::{ValueTooBigError, ValueType};
+use etherparse_base::err::ValueTooBigError;
 use std::alloc::Global;
 use std::fmt::{Debug, Display};
 use std::hash::{DefaultHasher, Hash, Hasher};
@@ -34,25 +34,6 @@ where
         assert_eq!(rt; hash_of(&field.clone()?), hash_of(field));
     }
     Ok(())
-}
-
-/// Asserts that a number is refused, with all three fields of the error.
-pub(crate) fn assert_refuses<F, N>(
-    rt: &impl Abort,
-    number: N,
-    max_allowed: N,
-    value_type: ValueType,
-)
-where
-    F: Debug + Drop + Eq + TryFrom<N, Error = ValueTooBigError<N>>,
-    N: Number,
-{
-    let refusal = ValueTooBigError {
-        actual: number,
-        max_allowed,
-        value_type,
-    };
-    assert_eq!(rt; F::try_from(number), Err(refusal));
 }
 
 /// What the default hasher makes of a value.

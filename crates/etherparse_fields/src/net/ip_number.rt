@@ -1,4 +1,5 @@
-//! The constants of [`IpNumber`] by themselves, to be named without the type, and nine of them by a short name too.
+//! The constants of [`IpNumber`] by themselves, to be named without the type,
+//! and nine of them by a short name too.
 
 #[cfg(test)]
 mod tests;

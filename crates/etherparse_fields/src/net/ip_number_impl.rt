@@ -3,11 +3,13 @@ ghost use Rattle.etherparse_fields.specs.ExtensionHeaders.{IsExtensionHeaderValu
 
 use std::marker::Model;
 
-/// The number of the protocol or extension header that follows an IP header, as IANA assigns it: the "protocol" field of
-/// IPv4 (RFC 791 section 3.1), the "next header" field of IPv6 (RFC 8200 section 3).
+/// The number of the protocol or extension header that follows an IP header, as IANA assigns it:
+/// the "protocol" field of IPv4 (RFC 791 section 3.1),
+/// the "next header" field of IPv6 (RFC 8200 section 3).
 ///
-/// The constants have the names of the Rust crate, for the numbers that IANA's registry of protocol numbers had assigned. No
-/// constant is there for 99, 143 to 252 and 255. The module [`crate::ip_number`] has them too.
+/// The constants have the names of the Rust crate, for the numbers that IANA's registry of protocol
+/// numbers had assigned. No constant is there for 99, 143 to 252 and 255. The module
+/// [`crate::ip_number`] has them too.
 ///
 /// Equality, order and hash are those of the number.
 #[derive(Clone, Copy, Debug, PartialEq, Eq, PartialOrd, Ord, Hash)]
@@ -455,8 +457,8 @@ impl IpNumber {
     /// The second number for experiments and tests.
     pub const EXPERIMENTAL_AND_TESTING_1: IpNumber = IpNumber(254);
 
-    /// Whether the number is that of an IPv6 extension header (IANA's registry of IPv6 extension header types, RFC 7045): 0,
-    /// 43, 44, 50, 51, 60, 135, 139, 140, 253 or 254.
+    /// Whether the number is that of an IPv6 extension header (IANA's registry of IPv6 extension
+    /// header types, RFC 7045): 0, 43, 44, 50, 51, 60, 135, 139, 140, 253 or 254.
     pub fn is_ipv6_ext_header_value(self) -> bool
         ensures value { IsTrue result ↔ IsExtensionHeaderValue self }
     {

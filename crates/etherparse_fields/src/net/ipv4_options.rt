@@ -3,7 +3,8 @@ ghost use Rattle.std.specs.Prelude.{length, nat_eq, refl, take};
 ghost use Rattle.std.specs.Ordering.{nat_cmp};
 ghost use Rattle.std.specs.Cmp.{partial_equiv_from_equiv};
 ghost use Rattle.std.specs.Cmp.Lexicographic.{pointwise, slice_cmp};
-ghost use Rattle.std.specs.Cmp.Lexicographic.{nat_list_cmp_total, nat_list_eq_equiv, texts_po, texts_ties};
+ghost use Rattle.std.specs.Cmp.Lexicographic.{nat_list_cmp_total, nat_list_eq_equiv};
+ghost use Rattle.std.specs.Cmp.Lexicographic.{texts_po, texts_ties};
 ghost use Rattle.std.specs.Cmp.Rules.{hashing};
 ghost use Rattle.std.specs.Fmt.{debug_list, decimal};
 ghost use Rattle.std.specs.Hash as fed;
@@ -55,10 +56,11 @@ impl Ipv4Options {
         }
     }
 
-    /// The options in the first `len` bytes of an array. `len` has to be at most 40 and a multiple of 4. What follows them in
-    /// the array is no part of them.
+    /// The options in the first `len` bytes of an array. `len` has to be at most 40 and a multiple
+    /// of 4. What follows them in the array is no part of them.
     ///
-    /// The Rust crate has no such call. Copying 40 bytes, a number that the compiler knows, is faster than copying `len`.
+    /// The Rust crate has no such call. Copying 40 bytes, a number that the compiler knows, is
+    /// faster than copying `len`.
     #[inline(always)]
     pub fn from_front(bytes: &[u8; 40], len: usize) -> Ipv4Options
         requires { IsOptionsLen len }
@@ -227,7 +229,8 @@ impl PartialOrd for Ipv4Options {
     }
 }
 
-/// The order of lists: the first byte in which two differ decides, and a beginning is less than the whole.
+/// The order of lists: the first byte in which two differ decides,
+/// and a beginning is less than the whole.
 impl Ord for Ipv4Options {
     ghost cmp = { slice_cmp nat_cmp };
 

@@ -1,6 +1,7 @@
 use crate::{IpNumber, ip_number};
 
-// The number of each constant of `IpNumber`, that of the constant of the module with the same name, and what they have to be.
+// The number of each constant of `IpNumber`, that of the constant of the module with the same name,
+// and what they have to be.
 static NUMBERS: [(u8, u8, u8); 144] = [
     (
         IpNumber::IPV6_HEADER_HOP_BY_HOP.0,
@@ -248,18 +249,5 @@ fn each_constant_has_its_number(rt: HostRuntime) {
     }
     for (number, expected) in &SHORT_NAMES {
         assert_eq!(rt; number, expected);
-    }
-}
-
-#[test]
-fn eleven_numbers_are_of_extension_headers(rt: HostRuntime) {
-    let expected = [0, 43, 44, 50, 51, 60, 135, 139, 140, 253, 254];
-    for number in 0..=255u8 {
-        let is_expected = expected.contains(&number);
-        assert_eq!(rt;
-            IpNumber(number).is_ipv6_ext_header_value(),
-            is_expected,
-            "{number}"
-        );
     }
 }

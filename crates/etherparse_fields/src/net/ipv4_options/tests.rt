@@ -3,10 +3,9 @@ use crate::testing::hash_of;
 use std::test::Fail;
 
 #[test]
-fn unused_bytes_are_not_seen(rt: HostRuntime) -> Result<(), Fail> {
+fn unused_bytes_are_not_hashed(rt: HostRuntime) -> Result<(), Fail> {
     let options = Ipv4Options::from([7; 4]);
     let in_front = Ipv4Options::from_front(&[7; 40], 4);
-    assert!(rt; in_front == options);
     assert_eq!(rt; hash_of(&in_front.clone()?), hash_of(&options));
     Ok(())
 }

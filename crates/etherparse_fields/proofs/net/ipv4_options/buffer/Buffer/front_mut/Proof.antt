@@ -1,4 +1,5 @@
--- The borrow checker follows no loan of a part of an array, so this is a walk along the two statements of the body.
+-- The borrow checker follows no loan of a part of an array, so this is a walk along the two
+-- statements of the body.
 use mathlib.Core.Path.{refl}
 use Prim.Native.Nat.{◌≤◌}
 use mathlib.Core.List.{[], ◌∷◌}
@@ -39,7 +40,8 @@ front_mut_spec 𝓤 𝓛 𝓜 𝓡 wired =
       (Goes-dropped 𝓛 1 (plain (λ _. usize)) yes (λ κs x w. refl), tt),
     )
     f.Key.name code.function (code.unfolded 𝓤 𝓛.H 𝓜 𝓡 wired)
-    (λ κs. (mut_vals, (uint_vals w64, tt))) (λ κs. (mut_Tells (named 0) κs.0 the_row, (uint_Tells w64, tt)))
+    (λ κs. (mut_vals, (uint_vals w64, tt)))
+    (λ κs. (mut_Tells (named 0) κs.0 the_row, (uint_Tells w64, tt)))
     (λ κs qs bounds a _ are.
     let κ = κs.0 in
     let q = qs.0 in
@@ -56,7 +58,8 @@ front_mut_spec 𝓤 𝓛 𝓜 𝓡 wired =
     qed 𝓛 ((tokens ⊛ owned) ∷ given (len ≤ 40) (‵ ftrue) ∷ []) ∵
     move ! (1 ∷ []) $ learn ! (λ within. drop ! $
     split ! $ split ! $ move ! (2 ∷ []) $ split3 ! $ keep ! (0 ∷ 3 ∷ []) $
-    enter ! _ _ _ _ _ $ alloc_all ! (λ l. pass_all ! refl ((tt, tt), ((tt, record { fits = fits }), tt)) $
+    enter ! _ _ _ _ _ $ alloc_all ! (λ l.
+    pass_all ! refl ((tt, tt), ((tt, record { fits = fits }), tt)) $
     -- [self; the token; the locals]
     sets ! (addr ! (through ! refl (fld ! refl (stop !)))) refl (tt, tt) $
     sets ! (agg ! (and_then ! (get ! refl) (and_then ! (get ! refl) (no_more !)))) refl
@@ -67,6 +70,7 @@ front_mut_spec 𝓤 𝓛 𝓜 𝓡 wired =
     -- [the slice; the token; what self ends as; the locals]
     returns ! (look_at ! 0 refl) $ free_all ! refl $ keep ! (0 ∷ 1 ∷ 2 ∷ []) $
     let front = slice 𝓛 κ q b o self.ghost_name v len δ in
-    suffices ! _ (ends_at 𝓛 f.ended stayed c y (slice_val (b, first o) len) front (tt, (tt, tt)) (tt, (tt, tt))) $
+    let returned = slice_val (b, first o) len in
+    suffices ! _ (ends_at 𝓛 f.ended stayed c y returned front (tt, (tt, tt)) (tt, (tt, tt))) $
     nothing ! $ nothing ! $ fjoin ! $ nothing ! $ fjoin ! $ join ! $ move ! (1 ∷ []) $
     nothing ! $ move ! (1 ∷ 0 ∷ []) $ join ! $ join ! $ frame ! $ says ! refl $ done !))))
