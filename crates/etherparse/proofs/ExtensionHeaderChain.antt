@@ -2,30 +2,37 @@
 use Rattle.std.proofs.Common.{ℕ, ◌≡◌, ◌+◌, ◌-◌, ◌*◌, ◌<◌, ◌≤◌, List, [], ◌∷◌, ◌++◌, length, get_or, take, drop, refl, sym, ap, subst, ◌∙◌, arith, add-zero, append_assoc, length-append, length-drop, Ok, Err}
 use Rattle.std.specs.List.{concat}
 use Rattle.std.proofs.lemmas.Bool.Decides.{nat_tests}
-use Rattle.std.proofs.lemmas.List.{append-nil, drop-drop, drop_at, get_or-drop, get_or-take, get_or_append_left, length-take-le, take-append-drop, take_at}
+use Rattle.std.proofs.lemmas.List.{append-nil, drop-drop, get_or-drop, get_or-take, get_or_append_left, length-take-le, take-append-drop}
 use Rattle.std.proofs.lemmas.List.Folds.{concat-append}
 use Rattle.etherparse_base.specs.declared.err.len_error.LenError.{LenError}
 use Rattle.etherparse_fields.specs.ExtensionHeaders.{IsSkippable}
-use Rattle.etherparse.specs.ExtensionHeaderChain.{BeginsWithChain, Ends, EndsAfterChain, EndsIncomplete, HasIpv6Chain, IsExtensionHeader, IsExtensionHeaderChain, WalkAnswer, Walks}
-use Rattle.etherparse.specs.ExtensionHeaderChain.{incomplete_header_error, next_header_of, required_len_of, turn_count}
-use Rattle.etherparse.specs.Ipv6Header.{IsIpv6Layout}
+use Rattle.etherparse.proofs.Parts.{same_back, same_front}
+use Rattle.etherparse.specs.ExtensionHeaderChain.{BeginsWithChain, Ends, EndsAfterChain, EndsIncomplete, IsExtensionHeader, IsExtensionHeaderChain, IsOnlyWalkOf, IsWalkOf, WalkAnswer, Walks}
+use Rattle.etherparse.specs.ExtensionHeaderChain.{extension_header_len, incomplete_header_error, next_header_of, required_len_of, turn_count}
+use Rattle.etherparse.specs.Ipv6Header.{HasIpv6Chain, IsIpv6Layout}
 use Rattle.etherparse.specs.declared.net.ipv6_header.Ipv6Header.{Ipv6Header}
 
 -- a header has at least eight bytes
-pub required_len_of-at_least : (n : ℕ) (s : List ℕ) → 2 ≤ length s → 8 ≤ required_len_of n s
-required_len_of-at_least n s h = grind (arith, nat_tests)
+extension_header_len-at_least : (n second_byte : ℕ) → 8 ≤ extension_header_len n second_byte
+extension_header_len-at_least n second_byte = grind (arith, nat_tests)
 
--- two bytes are the least that is required
+pub whole_at_least : (n : ℕ) (p : List ℕ) → IsExtensionHeader n p → 8 ≤ length p
+whole_at_least n p h = rw h.len (extension_header_len-at_least n (get_or p 1 0))
+
+-- where two bytes are there, they tell what is required; two are the least
+required_len_of-told : (n : ℕ) (s : List ℕ) → 2 ≤ length s → required_len_of n s ≡ extension_header_len n (get_or s 1 0)
+required_len_of-told n s h = grind (arith, nat_tests)
+
 pub two_required : (n : ℕ) (s : List ℕ) → required_len_of n s ≤ length s → 2 ≤ length s
 two_required n s h = grind (arith, nat_tests)
 
--- what is required is told by the first two bytes
-pub required_len_of-append : (n : ℕ) (p t : List ℕ) → 2 ≤ length p → required_len_of n (p ++ t) ≡ required_len_of n p
-required_len_of-append n p t h =
-    let one : 1 < length p = omega arith in
-    let byte : get_or (p ++ t) 1 0 ≡ get_or p 1 0 = get_or_append_left p t 0 1 one in
-    let len : length (p ++ t) ≡ length p + length t = length-append p t in
-    grind (arith, nat_tests)
+-- a whole header in front has as many bytes as are required
+whole_in_front : (n : ℕ) (s p t : List ℕ) → IsExtensionHeader n p → s ≡ p ++ t → length p ≡ required_len_of n s
+whole_in_front n s p t h e =
+    let long = whole_at_least n p h in
+    let byte : get_or s 1 0 ≡ get_or p 1 0 = ap (λ x. get_or x 1 0) e ∙ get_or_append_left p t 0 1 (omega arith) in
+    let two : 2 ≤ length s = omega (arith, ap length e, length-append p t) in
+    h.len ∙ ap (extension_header_len n) (sym byte) ∙ sym (required_len_of-told n s two)
 
 -- a chain with one header more
 chain-push : (n : ℕ) (ps : List (List ℕ)) (m : ℕ) (p : List ℕ) → IsExtensionHeaderChain n ps m → IsExtensionHeader m p
@@ -44,40 +51,32 @@ nothing_skipped s n = record { chain = refl; whole = refl }
 pub header_in_front : (n k : ℕ) (s : List ℕ) → IsSkippable n → k ≡ required_len_of n s → k ≤ length s → IsExtensionHeader n (take k s)
 header_in_front n k s skippable is fits =
     let two : 2 ≤ length s = two_required n s (rw (← is) fits) in
-    let long : 8 ≤ k = rw is (required_len_of-at_least n s two) in
-    let len : length (take k s) ≡ k = length-take-le k s fits in
-    let same : required_len_of n (take k s ++ drop k s) ≡ required_len_of n (take k s) = required_len_of-append n (take k s) (drop k s) (omega arith) in
-    record { skippable = skippable; enough = omega arith; len = len ∙ is ∙ (rw take-append-drop at same) }
+    let told : k ≡ extension_header_len n (get_or s 1 0) = is ∙ required_len_of-told n s two in
+    let long : 8 ≤ k = rw told (extension_header_len-at_least n (get_or s 1 0)) in
+    let byte : get_or (take k s) 1 0 ≡ get_or s 1 0 = get_or-take k s 1 0 (omega arith) in
+    record { skippable = skippable; len = length-take-le k s fits ∙ told ∙ ap (extension_header_len n) (sym byte) }
 
 -- one header more is skipped, where what is left has as many bytes as it requires
 pub one_more_skipped : (s : List ℕ) (n : ℕ) (ps : List (List ℕ)) (m : ℕ) (r : List ℕ) (k : ℕ) → BeginsWithChain s n ps m r → IsSkippable m
     → k ≡ required_len_of m r → k ≤ length r → BeginsWithChain s n (ps ++ take k r ∷ []) (get_or r 0 0) (drop k r)
 one_more_skipped s n ps m r k b skippable is fits =
     let header : IsExtensionHeader m (take k r) = header_in_front m k r skippable is fits in
-    let some : 0 < k = omega (arith, header.enough, length-take-le k r fits) in
+    let some : 0 < k = omega (arith, whole_at_least m (take k r) header, length-take-le k r fits) in
     let first : get_or (take k r) 0 0 ≡ get_or r 0 0 = get_or-take k r 0 0 some in
     let parts : concat (ps ++ take k r ∷ []) ++ drop k r ≡ concat ps ++ r =
     ap (λ t. t ++ drop k r) (concat-push ps (take k r)) ∙ append_assoc (concat ps) (take k r) (drop k r) ∙ ap (λ t. concat ps ++ t) (take-append-drop k r) in
     record { chain = rw first at (chain-push n ps m (take k r) b.chain header); whole = b.whole ∙ sym parts }
 
--- where a whole header stands in front, no more is required than is there
+-- so no more is required than is there
 header_fits : (n : ℕ) (s q t : List ℕ) → IsExtensionHeader n q → s ≡ q ++ t → required_len_of n s ≤ length s
-header_fits n s q t h e =
-    let same : required_len_of n (q ++ t) ≡ required_len_of n q = required_len_of-append n q t h.enough in
-    let len : length s ≡ length q + length t = ap length e ∙ length-append q t in
-    let again : required_len_of n s ≡ required_len_of n q = ap (required_len_of n) e ∙ same in
-    let whole = h.len in
-    omega arith
+header_fits n s q t h e = omega (arith, whole_in_front n s q t h e, ap length e, length-append q t)
 
 -- two whole headers of one number in front are the same
 same_header : (n : ℕ) (s p t q u : List ℕ) → IsExtensionHeader n p → IsExtensionHeader n q → s ≡ p ++ t → s ≡ q ++ u → (q ≡ p) × (t ≡ u)
 same_header n s p t q u hp hq ep eq =
-    let np : required_len_of n s ≡ required_len_of n p = ap (required_len_of n) ep ∙ required_len_of-append n p t hp.enough in
-    let nq : required_len_of n s ≡ required_len_of n q = ap (required_len_of n) eq ∙ required_len_of-append n q u hq.enough in
-    let len : length q ≡ length p = hq.len ∙ sym nq ∙ np ∙ sym hp.len in (
-      sym (take_at q u (length p) len) ∙ ap (take (length p)) (sym eq ∙ ep) ∙ take_at p t (length p) refl,
-      sym (drop_at p t (length p) refl) ∙ ap (drop (length p)) (sym ep ∙ eq) ∙ drop_at q u (length p) len,
-    )
+    let len : length q ≡ length p = whole_in_front n s q u hq eq ∙ sym (whole_in_front n s p t hp ep) in
+    let whole : q ++ u ≡ p ++ t = sym eq ∙ ep in
+    (same_front q p u t len whole, sym (same_back q p u t len whole))
 
 -- a chain that goes no further: it has as many headers as a limit allows, or its last number is not skippable, or the header of
 -- it is incomplete
@@ -157,86 +156,100 @@ ends_once s n ps qs (Err e) (Err f) p q =
 pub walks_once : (s : List ℕ) (n : ℕ) (a b : WalkAnswer) → Walks s n a → Walks s n b → b ≡ a
 walks_once s n a b p q = (ends_once s n p.headers q.headers a b p.ends q.ends).1
 
--- the headers that are skipped up to a place, in as many turns
-pub record SkippedUpTo (s : List ℕ) (n place m turns : ℕ) : Type 0 where
+pub is_only_walk_of : (s : List ℕ) (n : ℕ) (a : WalkAnswer) → Walks s n a → IsOnlyWalkOf s n a
+is_only_walk_of s n (Ok x) w = record {
+  walks = w;
+  only = λ other o. walks_once s n (Ok x) other w o;
+  shorter = omega (arith, ap length w.ends.begins.whole, length-append (concat w.headers) x.1);
+  within = tt;
+}
+is_only_walk_of s n (Err e) w = record {
+  walks = w;
+  only = λ other o. walks_once s n (Err e) other w o;
+  shorter = tt;
+  within = rw w.ends.error (omega (arith, ap length w.ends.begins.whole, length-append (concat w.headers) w.ends.rest));
+}
+
+pub is_walk_of : (s : List ℕ) (n : ℕ) (a : WalkAnswer) → Walks s n a → IsWalkOf s n a
+unfolding IsWalkOf
+is_walk_of s n a w = is_only_walk_of s n a w
+
+-- the headers that are skipped up to an offset, in as many turns
+pub record SkippedUpTo (s : List ℕ) (n offset m turns : ℕ) : Type 0 where
   pub headers : List (List ℕ)
-  pub begins : BeginsWithChain s n headers m (drop place s)
-  pub within : place ≤ length s
+  pub begins : BeginsWithChain s n headers m (drop offset s)
+  pub within : offset ≤ length s
   pub counted : length headers ≡ turns
-  pub eighth : 8 * turns ≤ place
+  pub eighth : 8 * turns ≤ offset
 
 pub none_skipped : (s : List ℕ) (n : ℕ) → SkippedUpTo s n 0 n 0
 none_skipped s n = record { headers = []; begins = nothing_skipped s n; within = omega arith; counted = refl; eighth = omega arith }
 
-pub one_skipped : (s : List ℕ) (n place m turns k : ℕ) → SkippedUpTo s n place m turns → IsSkippable m → k ≡ required_len_of m (drop place s)
-    → k ≤ length s - place → SkippedUpTo s n (place + k) (get_or s place 0) (turns + 1)
-one_skipped s n place m turns k u skippable is fits =
-    let left : length (drop place s) ≡ length s - place = length-drop place s in
-    let enough : k ≤ length (drop place s) = omega arith in
-    let more = one_more_skipped s n u.headers m (drop place s) k u.begins skippable is enough in
-    let byte : get_or (drop place s) 0 0 ≡ get_or s place 0 = get_or-drop place s 0 0 ∙ ap (λ i. get_or s i 0) (add-zero place) in
-    let two : 2 ≤ length (drop place s) = two_required m (drop place s) (rw (← is) enough) in
-    let long : 8 ≤ k = rw is (required_len_of-at_least m (drop place s) two) in
+pub one_skipped : (s : List ℕ) (n offset m turns k : ℕ) → SkippedUpTo s n offset m turns → IsSkippable m → k ≡ required_len_of m (drop offset s)
+    → k ≤ length s - offset → SkippedUpTo s n (offset + k) (get_or s offset 0) (turns + 1)
+one_skipped s n offset m turns k u skippable is fits =
+    let left : length (drop offset s) ≡ length s - offset = length-drop offset s in
+    let enough : k ≤ length (drop offset s) = omega arith in
+    let more = one_more_skipped s n u.headers m (drop offset s) k u.begins skippable is enough in
+    let byte : get_or (drop offset s) 0 0 ≡ get_or s offset 0 = get_or-drop offset s 0 0 ∙ ap (λ i. get_or s i 0) (add-zero offset) in
+    let header : IsExtensionHeader m (take k (drop offset s)) = header_in_front m k (drop offset s) skippable is enough in
+    let long : 8 ≤ k = omega (arith, whole_at_least m (take k (drop offset s)) header, length-take-le k (drop offset s) enough) in
     record {
-      headers = u.headers ++ take k (drop place s) ∷ [];
-      begins = rw (byte, drop-drop k place s) at more;
+      headers = u.headers ++ take k (drop offset s) ∷ [];
+      begins = rw (byte, drop-drop k offset s) at more;
       within = let b = u.within in omega arith;
-      counted = length-append u.headers (take k (drop place s) ∷ []) ∙ ap (λ t. t + 1) u.counted;
+      counted = length-append u.headers (take k (drop offset s) ∷ []) ∙ ap (λ t. t + 1) u.counted;
       eighth = let b = u.eighth in omega arith;
     }
 
--- the place is as many bytes as the headers have
-pub place_of : (s : List ℕ) (n place m turns : ℕ) (u : SkippedUpTo s n place m turns) → length (concat u.headers) ≡ place
-place_of s n place m turns u =
-    let whole : length s ≡ length (concat u.headers) + length (drop place s) = ap length u.begins.whole ∙ length-append (concat u.headers) (drop place s) in
-    let left : length (drop place s) ≡ length s - place = length-drop place s in
+-- the offset is as many bytes as the headers have
+pub offset_of : (s : List ℕ) (n offset m turns : ℕ) (u : SkippedUpTo s n offset m turns) → length (concat u.headers) ≡ offset
+offset_of s n offset m turns u =
+    let whole : length s ≡ length (concat u.headers) + length (drop offset s) = ap length u.begins.whole ∙ length-append (concat u.headers) (drop offset s) in
+    let left : length (drop offset s) ≡ length s - offset = length-drop offset s in
     let b = u.within in
     omega arith
 
--- what is promised of a walk: that it has this answer, and no other, and its turns
-pub record IsWalk (s : List ℕ) (n : ℕ) (a : WalkAnswer) (turns : ℕ) : Type 0 where
+-- what is promised of a walk, and of its turns
+pub record IsCountedWalk (s : List ℕ) (n : ℕ) (a : WalkAnswer) (turns : ℕ) : Type 0 where
   pub walks : Walks s n a
-  pub only : (other : WalkAnswer) → Walks s n other → other ≡ a
   pub counted : (headers : List (List ℕ)) → Ends s n headers a → turns ≡ turn_count headers
 
 -- it holds where the walk ends with what is skipped, in one turn more
-walk_of : (s : List ℕ) (n place m turns : ℕ) (a : WalkAnswer) (u : SkippedUpTo s n place m turns) → Ends s n u.headers a → IsWalk s n a (turns + 1)
-walk_of s n place m turns a u ends =
-    let walks : Walks s n a = record { headers = u.headers; ends = ends } in
-    record {
-      walks = walks;
-      only = λ other o. walks_once s n a other walks o;
-      counted = λ headers other. ap (λ k. k + 1) (sym u.counted) ∙ ap turn_count (sym (ends_once s n u.headers headers a a ends other).0);
-    }
+walk_of : (s : List ℕ) (n offset m turns : ℕ) (a : WalkAnswer) (u : SkippedUpTo s n offset m turns) → Ends s n u.headers a → IsCountedWalk s n a (turns + 1)
+walk_of s n offset m turns a u ends = record {
+  walks = record { headers = u.headers; ends = ends };
+  counted = λ headers other. ap (λ k. k + 1) (sym u.counted) ∙ ap turn_count (sym (ends_once s n u.headers headers a a ends other).0);
+}
 
 -- the ends of a walk after what is skipped
-pub ends_after : (s : List ℕ) (n place m turns : ℕ) (r : List ℕ) (u : SkippedUpTo s n place m turns) → r ≡ drop place s → (IsSkippable m → ⊥)
+pub ends_after : (s : List ℕ) (n offset m turns : ℕ) (r : List ℕ) (u : SkippedUpTo s n offset m turns) → r ≡ drop offset s → (IsSkippable m → ⊥)
     → EndsAfterChain s n u.headers m r
-ends_after s n place m turns r u e upper = record { begins = rw e u.begins; upper = upper }
+ends_after s n offset m turns r u e upper = record { begins = rw e u.begins; upper = upper }
 
-pub ends_incomplete : (s : List ℕ) (n place m turns : ℕ) (e : LenError) (u : SkippedUpTo s n place m turns) → IsSkippable m
-    → length s - place < required_len_of m (drop place s) → e ≡ incomplete_header_error m (drop place s) place → EndsIncomplete s n u.headers e
-ends_incomplete s n place m turns e u skippable short error =
-    let left : length (drop place s) ≡ length s - place = length-drop place s in
+pub ends_incomplete : (s : List ℕ) (n offset m turns : ℕ) (e : LenError) (u : SkippedUpTo s n offset m turns) → IsSkippable m
+    → length s - offset < required_len_of m (drop offset s) → e ≡ incomplete_header_error m (drop offset s) offset → EndsIncomplete s n u.headers e
+ends_incomplete s n offset m turns e u skippable short error =
+    let left : length (drop offset s) ≡ length s - offset = length-drop offset s in
     record {
       last = m;
-      rest = drop place s;
+      rest = drop offset s;
       begins = u.begins;
       skippable = skippable;
       short = omega arith;
-      error = error ∙ ap (λ k. incomplete_header_error m (drop place s) k) (sym (place_of s n place m turns u));
+      error = error ∙ ap (λ k. incomplete_header_error m (drop offset s) k) (sym (offset_of s n offset m turns u));
     }
 
 -- a walk that ends after what is skipped
-pub walk_ends_after : (s : List ℕ) (n place m turns : ℕ) (r : List ℕ) → SkippedUpTo s n place m turns → r ≡ drop place s → (IsSkippable m → ⊥)
-    → IsWalk s n (Ok (m, r)) (turns + 1)
-walk_ends_after s n place m turns r u e upper = walk_of s n place m turns (Ok (m, r)) u (ends_after s n place m turns r u e upper)
+pub walk_ends_after : (s : List ℕ) (n offset m turns : ℕ) (r : List ℕ) → SkippedUpTo s n offset m turns → r ≡ drop offset s → (IsSkippable m → ⊥)
+    → IsCountedWalk s n (Ok (m, r)) (turns + 1)
+walk_ends_after s n offset m turns r u e upper = walk_of s n offset m turns (Ok (m, r)) u (ends_after s n offset m turns r u e upper)
 
 -- a walk that ends at a header that is incomplete
-pub walk_ends_incomplete : (s : List ℕ) (n place m turns : ℕ) (e : LenError) → SkippedUpTo s n place m turns → IsSkippable m
-    → length s - place < required_len_of m (drop place s) → e ≡ incomplete_header_error m (drop place s) place → IsWalk s n (Err e) (turns + 1)
-walk_ends_incomplete s n place m turns e u skippable short error =
-    walk_of s n place m turns (Err e) u (ends_incomplete s n place m turns e u skippable short error)
+pub walk_ends_incomplete : (s : List ℕ) (n offset m turns : ℕ) (e : LenError) → SkippedUpTo s n offset m turns → IsSkippable m
+    → length s - offset < required_len_of m (drop offset s) → e ≡ incomplete_header_error m (drop offset s) offset → IsCountedWalk s n (Err e) (turns + 1)
+walk_ends_incomplete s n offset m turns e u skippable short error =
+    walk_of s n offset m turns (Err e) u (ends_incomplete s n offset m turns e u skippable short error)
 
 -- a chain at the front of what follows an IPv6 header
 pub chain_after_header : (s front r : List ℕ) (h : Ipv6Header) → s ≡ front ++ r → IsIpv6Layout h front

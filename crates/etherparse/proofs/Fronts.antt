@@ -18,7 +18,7 @@ begins_once Layout one_header s x y p q len =
 -- with a header at its front a slice is not too short for it
 not_too_short : {H : Type 0} (Layout : H → List ℕ → Type 0) (layer : Layer) (n : ℕ) (s : List ℕ) (header : H) (rest : List ℕ) (e : LenError)
     (b : BeginsWith Layout s header rest) → length b.front ≡ n → IsTooShort layer n s e → ⊥
-not_too_short Layout layer n s header rest e b len short = omega (arith, short.few, ap length b.whole, length-append b.front rest, len)
+not_too_short Layout layer n s header rest e b len short = omega (arith, short.short, ap length b.whole, length-append b.front rest, len)
 
 -- what the first bytes are in the layout of is at the front
 pub begins_with_front : {H : Type 0} (Layout : H → List ℕ → Type 0) (n : ℕ) (header : H) (s : List ℕ) → Layout header (take n s)

@@ -1,15 +1,14 @@
 -- The checksum of a header: what it is the sum of, and which stored checksum makes the bytes sum to all ones.
-use Rattle.std.proofs.Common.{ℕ, zero, suc, ◌≡◌, ◌+◌, ◌-◌, ◌<◌, ◌≤◌, ◌^◌, List, ◌++◌, drop, length, take, refl, sym, ap, ◌∙◌, inl, inr, arith, length-append, length-drop}
+use Rattle.std.proofs.Common.{ℕ, zero, suc, ◌≡◌, ◌+◌, ◌-◌, ◌<◌, ◌≤◌, ◌^◌, List, ◌++◌, length, refl, sym, ap, ◌∙◌, inl, inr, arith}
 use Rattle.std.specs.Prelude.{◌↔◌, ◌⊎◌, ◌*◌}
-use Rattle.std.specs.Int.{from_bool, swap_bytes, w16}
+use Rattle.std.specs.Int.{from_bool}
 use Rattle.std.proofs.lemmas.Bool.{cases_eq}
-use Rattle.std.proofs.lemmas.List.{length-take-le, take_all, take-append-drop}
-use Rattle.etherparse_base.specs.WordSums.{SumsToAllOnes, UpdatesChecksum, folded_sum, little_endian_word_sum, network_order_word_sum}
-use Rattle.etherparse_base.proofs.FoldedSums.{folded_sum-plus, folded_sum-positive}
-use Rattle.etherparse_base.proofs.WordSumLaws.{complement_swapped, little_endian_word_sum-append, network_order_word_sum-append}
+use Rattle.etherparse_base.specs.WordSums.{IsSumOf, StandsForWords, SumsToAllOnes, UpdatesChecksum, checksum_of, folded_sum, little_endian_word_sum, network_order_word_sum}
+use Rattle.etherparse_base.proofs.FoldedSums.{folded_sum-positive}
+use Rattle.etherparse_base.proofs.WordSumLaws.{little_endian_word_sum-append, network_order_word_sum-append}
 use Rattle.etherparse.proofs.Ipv4Layout.{flags_word, front_spelling, front_spells, ranges_of, spelled, spelling}
 use Rattle.etherparse.specs.HeaderChecksum.{KeepsChecksum, header_checksum_of, with_checksum_cleared}
-use Rattle.etherparse.specs.Ipv4Header.{IsIpv4Layout}
+use Rattle.etherparse.specs.Ipv4Header.{IsIpv4LayoutWith}
 use Rattle.etherparse.specs.declared.net.ipv4_header.Ipv4Header.{Ipv4Header}
 
 -- a header with another checksum
@@ -17,12 +16,12 @@ abbrev pub with_checksum : ℕ → Ipv4Header → Ipv4Header
 with_checksum checksum h = record h { header_checksum = checksum }
 
 -- with its checksum cleared, the bytes of a header are spelled with 0 for it
-pub cleared_spells : (h : Ipv4Header) (r : ℕ) (p : List ℕ) → IsIpv4Layout h r p
+pub cleared_spells : (h : Ipv4Header) (r : ℕ) (p : List ℕ) → IsIpv4LayoutWith h r p
     → with_checksum_cleared p ≡ spelling (with_checksum 0 h) (flags_word h r)
 cleared_spells h r p l = ap (λ x. with_checksum_cleared x) (spelled h r p l)
 
 -- the words of a header are those without its checksum, and its checksum
-pub checksum_apart : (h : Ipv4Header) (r : ℕ) (p : List ℕ) → IsIpv4Layout h r p
+pub checksum_apart : (h : Ipv4Header) (r : ℕ) (p : List ℕ) → IsIpv4LayoutWith h r p
     → network_order_word_sum p ≡ network_order_word_sum (with_checksum_cleared p) + h.header_checksum
 checksum_apart h r p l =
     let fits = (ranges_of h r p l).header_checksum in
@@ -34,7 +33,7 @@ spelling_not_zero h flags = omega arith
 
 -- which number makes a sum all ones: the complement, or all ones where that is 0
 all_ones_with : (s c : ℕ) → 0 < s → c ≤ 65535
-    → (folded_sum (s + c) ≡ 65535) ↔ ((c ≡ 65535 - folded_sum s) ⊎ ((c ≡ 65535) × (65535 - folded_sum s ≡ 0)))
+    → (folded_sum (s + c) ≡ 65535) ↔ ((c ≡ checksum_of s) ⊎ ((c ≡ 65535) × (checksum_of s ≡ 0)))
 all_ones_with zero c pos fits = absurd (omega (arith, pos))
 all_ones_with (suc n) c pos fits =
     let whole = folded_sum-positive (suc n + c) (omega arith) in (
@@ -49,7 +48,7 @@ all_ones_with (suc n) c pos fits =
     )
 
 -- the bytes of a header sum to all ones where its checksum is the computed one, in either form of zero
-pub right_checksum : (h : Ipv4Header) (r : ℕ) (p : List ℕ) → IsIpv4Layout h r p
+pub right_checksum : (h : Ipv4Header) (r : ℕ) (p : List ℕ) → IsIpv4LayoutWith h r p
     → SumsToAllOnes p ↔ ((h.header_checksum ≡ header_checksum_of p) ⊎ ((h.header_checksum ≡ 65535) × (header_checksum_of p ≡ 0)))
 right_checksum h r p l =
     let others : ℕ = network_order_word_sum (with_checksum_cleared p) in
@@ -77,7 +76,7 @@ pub record SumChanges (sum old new after : ℕ) : Type 0 where
 
 -- what a header with a field and the checksum changed is in its words
 abbrev pub HeaderChanges : Ipv4Header → Ipv4Header → ℕ → ℕ → Type 0
-HeaderChanges h g old new = (r : ℕ) (p q : List ℕ) → IsIpv4Layout h r p → IsIpv4Layout g r q
+HeaderChanges h g old new = (r : ℕ) (p q : List ℕ) → IsIpv4LayoutWith h r p → IsIpv4LayoutWith g r q
     → SumChanges (network_order_word_sum (with_checksum_cleared p)) old new (network_order_word_sum (with_checksum_cleared q))
 
 pub time_to_live_changes : (h : Ipv4Header) (t c protocol : ℕ) → protocol ≡ h.protocol
@@ -93,7 +92,7 @@ time_to_live_changes h t c protocol same r p q k l =
     }
 
 -- an address in front of other bytes
-address_apart : (h : Ipv4Header) (r : ℕ) (p address rest : List ℕ) → IsIpv4Layout h r p → length address ≡ 4
+address_apart : (h : Ipv4Header) (r : ℕ) (p address rest : List ℕ) → IsIpv4LayoutWith h r p → length address ≡ 4
     → network_order_word_sum (address ++ rest) ≡ network_order_word_sum address + network_order_word_sum rest
 address_apart h r p address rest l four = network_order_word_sum-append address rest (omega (arith, four))
 
@@ -132,7 +131,7 @@ pub keeps_checksum : (h g : Ipv4Header) (old new : ℕ) → UpdatesChecksum h.he
 keeps_checksum h g old new updates header_changes = record {
   stays_computed = λ r p q k l computed.
       let changes = header_changes r p q k l in
-      updates.anew _ changes.within computed changes.some_after ∙ ap (λ n. 65535 - folded_sum n) (sym changes.replaced);
+      updates.anew _ changes.within computed changes.some_after ∙ ap checksum_of (sym changes.replaced);
   all_ones = λ r p q k l.
       let changes = header_changes r p q k l in
       let same : folded_sum (network_order_word_sum q) ≡ folded_sum (network_order_word_sum p) =
@@ -141,44 +140,20 @@ keeps_checksum h g old new updates header_changes = record {
       (λ right. same ∙ right, λ right. sym same ∙ right);
 }
 
--- three parts that are summed one after the other
-summed : (first second third a b c : ℕ) → folded_sum first ≡ folded_sum (0 + a) → folded_sum second ≡ folded_sum (first + b)
-    → folded_sum third ≡ folded_sum (second + c) → folded_sum third ≡ folded_sum (a + b + c)
-summed first second third a b c x y z =
-    z ∙ folded_sum-plus second (a + b) c (y ∙ folded_sum-plus first a b (x ∙ ap folded_sum (omega arith)))
-
--- the fixed fields, which are cut behind the sixteenth byte, and the options
-parts_sum : (front most rest last options : List ℕ) → length front ≡ 20 → most ≡ take 16 front → rest ≡ drop 16 front → last ≡ take 4 rest
-    → little_endian_word_sum (front ++ options) ≡ little_endian_word_sum most + little_endian_word_sum last + little_endian_word_sum options
-parts_sum front most rest last options len m r l =
-    let four : length rest ≡ 4 = ap length r ∙ (length-drop 16 front ∙ omega arith) in
-    let cut : front ≡ most ++ last = sym (take-append-drop 16 front) ∙ ap (λ x. x ++ drop 16 front) (sym m)
-    ∙ ap (λ x. most ++ x) (sym (l ∙ take_all 4 rest (omega arith) ∙ r)) in
-    let sixteen : length most ≡ 16 = ap length m ∙ length-take-le 16 front (omega arith) in
-    ap (λ x. little_endian_word_sum (x ++ options)) cut
-    ∙ little_endian_word_sum-append (most ++ last) options (omega (arith, length-append most last, ap length cut))
-    ∙ ap (λ x. x + little_endian_word_sum options) (little_endian_word_sum-append most last (omega arith))
-
--- what is known of the sum that is computed of a header
-pub record ComputedOf (h : Ipv4Header) (sum : ℕ) : Type 0 where
-  pub value : (stored : ℕ) (p : List ℕ) → IsIpv4Layout (with_checksum stored h) 0 p
-      → swap_bytes w16 (65535 - folded_sum sum) ≡ header_checksum_of p
-  pub within : swap_bytes w16 (65535 - folded_sum sum) < 65535
-
-pub computed_of : (h : Ipv4Header) (front most rest last options : List ℕ) (first second sum : ℕ)
+-- the complement of the sum of the fixed fields and of the options, in network order, is the computed checksum
+pub computed_of : (h : Ipv4Header) (front options : List ℕ) (fixed sum answer : ℕ)
     → front ≡ front_spelling (with_checksum 0 h) (from_bool h.dont_fragment * 2 ^ 14 + from_bool h.more_fragments * 2 ^ 13 + h.fragment_offset) (h.source ++ h.destination)
-    → options ≡ h.options → length front ≡ 20 → most ≡ take 16 front → rest ≡ drop 16 front → last ≡ take 4 rest
-    → folded_sum first ≡ folded_sum (0 + little_endian_word_sum most) → folded_sum second ≡ folded_sum (first + little_endian_word_sum last)
-    → folded_sum sum ≡ folded_sum (second + little_endian_word_sum options) → ComputedOf h sum
-computed_of h front most rest last options first second sum f o len m r l x y z =
+    → options ≡ h.options → length front ≡ 20 → StandsForWords 0 front fixed → StandsForWords fixed options sum
+    → ((bytes : List ℕ) → IsSumOf sum bytes → answer ≡ checksum_of (network_order_word_sum bytes))
+    → ((stored : ℕ) (p : List ℕ) → IsIpv4LayoutWith (with_checksum stored h) 0 p → answer ≡ header_checksum_of p) × (answer < 65535)
+computed_of h front options fixed sum answer f o len first second complement =
     let h0 : Ipv4Header = with_checksum 0 h in
     let whole : front ++ options ≡ spelling h0 (flags_word h0 0) = front_spells h0 front options (front ++ options) refl o f in
     let folded : folded_sum sum ≡ folded_sum (little_endian_word_sum (front ++ options)) =
-    summed first second sum _ _ _ x y z ∙ ap folded_sum (sym (parts_sum front most rest last options len m r l)) in
-    let swapped = complement_swapped sum (front ++ options) folded in
-    let some : 0 < network_order_word_sum (front ++ options) = rw whole (spelling_not_zero h0 (flags_word h0 0)) in
-    record {
-      value = λ stored p layout.
-          swapped ∙ ap (λ q. 65535 - folded_sum (network_order_word_sum q)) (whole ∙ sym (cleared_spells (with_checksum stored h) 0 p layout));
-      within = omega (arith, swapped, folded_sum-positive (network_order_word_sum (front ++ options)) some);
-    }
+    ap folded_sum (omega arith) ∙ second 0 ∙ first (0 + little_endian_word_sum options)
+    ∙ ap folded_sum (omega (arith, little_endian_word_sum-append front options (omega (arith, len)))) in
+    let computed = complement (front ++ options) folded in
+    let some : 0 < network_order_word_sum (front ++ options) = rw whole (spelling_not_zero h0 (flags_word h0 0)) in (
+      λ stored p layout. computed ∙ ap (λ q. checksum_of (network_order_word_sum q)) (whole ∙ sym (cleared_spells (with_checksum stored h) 0 p layout)),
+      omega (arith, computed, folded_sum-positive (network_order_word_sum (front ++ options)) some),
+    )

@@ -15,7 +15,7 @@ use Rattle.etherparse_fields.specs.declared.net.ip_ecn.IpEcn.{IpEcn}
 use Rattle.etherparse_fields.specs.declared.net.ip_ecn.IpEcn.TheVariants.{CongestionExperienced, Ect0, Ect1, NotEct}
 use Rattle.etherparse.proofs.Parts.{get_or-slice_range, length-part, listed, part_is_bytes, same_append, set_is_bytes, word_at}
 use Rattle.etherparse.specs.FirstByte.{ihl_of, version_of}
-use Rattle.etherparse.specs.Ipv4Header.{HasIpv4Layout, IsIpv4Layout, ipv4_ihl, with_reserved_bit_cleared}
+use Rattle.etherparse.specs.Ipv4Header.{IsIpv4Layout, IsIpv4LayoutWith, ipv4_ihl, with_reserved_bit_cleared}
 use Rattle.etherparse.specs.declared.net.ipv4_header.Ipv4Header.{Ipv4Header}
 
 -- a bool as a number
@@ -37,17 +37,17 @@ ecn_value-lt Ect0 = omega arith
 ecn_value-lt CongestionExperienced = omega arith
 
 -- the length and the first byte of a header
-pub version_of-layout : (h : Ipv4Header) (p : List ℕ) → HasIpv4Layout h p → version_of p ≡ 4
+pub version_of-layout : (h : Ipv4Header) (p : List ℕ) → IsIpv4Layout h p → version_of p ≡ 4
 version_of-layout h p l = omega (arith, l.layout.version_ihl, l.layout.options_len.fits)
 
-pub ihl_of-layout : (h : Ipv4Header) (p : List ℕ) → HasIpv4Layout h p → ihl_of p ≡ ipv4_ihl h
+pub ihl_of-layout : (h : Ipv4Header) (p : List ℕ) → IsIpv4Layout h p → ihl_of p ≡ ipv4_ihl h
 ihl_of-layout h p l = omega (arith, l.layout.version_ihl, l.layout.options_len.fits)
 
-pub length-layout : (h : Ipv4Header) (p : List ℕ) → HasIpv4Layout h p → length p ≡ 4 * ihl_of p
+pub length-layout : (h : Ipv4Header) (p : List ℕ) → IsIpv4Layout h p → length p ≡ 4 * ihl_of p
 length-layout h p l = let i = ihl_of-layout h p l in omega (arith, l.layout.len, l.layout.options_len.in_words)
 
 -- the flags and the fragment offset as a number
-flags_of : (h : Ipv4Header) (r : ℕ) (p : List ℕ) → IsIpv4Layout h r p
+flags_of : (h : Ipv4Header) (r : ℕ) (p : List ℕ) → IsIpv4LayoutWith h r p
     → get_or p 6 0 * 2 ^ 8 + get_or p 7 0 ≡ r * 2 ^ 15 + from_bool h.dont_fragment * 2 ^ 14 + from_bool h.more_fragments * 2 ^ 13 + h.fragment_offset
 flags_of h r p l =
     let e = l.flags_fragment_offset in
@@ -68,15 +68,15 @@ fragment_offset_of : (b c r df mf off : ℕ) → c < 256 → df < 2 → mf < 2 �
     → b * 2 ^ 8 + c ≡ r * 2 ^ 15 + df * 2 ^ 14 + mf * 2 ^ 13 + off → b % 32 * 2 ^ 8 + c ≡ off
 fragment_offset_of b c r df mf off hc hd hm ho e = omega arith
 
-pub dont_fragment_of-layout : (h : Ipv4Header) (r : ℕ) (p : List ℕ) → IsIpv4Layout h r p → get_or p 6 0 / 64 % 2 ≡ from_bool h.dont_fragment
+pub dont_fragment_of-layout : (h : Ipv4Header) (r : ℕ) (p : List ℕ) → IsIpv4LayoutWith h r p → get_or p 6 0 / 64 % 2 ≡ from_bool h.dont_fragment
 dont_fragment_of-layout h r p l = dont_fragment_of _ _ _ _ _ _ (l.are_bytes 7) (from_bool-lt h.dont_fragment) (from_bool-lt h.more_fragments)
     l.fragment_offset_fits (flags_of h r p l)
 
-pub more_fragments_of-layout : (h : Ipv4Header) (r : ℕ) (p : List ℕ) → IsIpv4Layout h r p → get_or p 6 0 / 32 % 2 ≡ from_bool h.more_fragments
+pub more_fragments_of-layout : (h : Ipv4Header) (r : ℕ) (p : List ℕ) → IsIpv4LayoutWith h r p → get_or p 6 0 / 32 % 2 ≡ from_bool h.more_fragments
 more_fragments_of-layout h r p l = more_fragments_of _ _ _ _ _ _ (l.are_bytes 7) (from_bool-lt h.dont_fragment) (from_bool-lt h.more_fragments)
     l.fragment_offset_fits (flags_of h r p l)
 
-pub fragment_offset_of-layout : (h : Ipv4Header) (r : ℕ) (p : List ℕ) → IsIpv4Layout h r p → get_or p 6 0 % 32 * 2 ^ 8 + get_or p 7 0 ≡ h.fragment_offset
+pub fragment_offset_of-layout : (h : Ipv4Header) (r : ℕ) (p : List ℕ) → IsIpv4LayoutWith h r p → get_or p 6 0 % 32 * 2 ^ 8 + get_or p 7 0 ≡ h.fragment_offset
 fragment_offset_of-layout h r p l = fragment_offset_of _ _ _ _ _ _ (l.are_bytes 7) (from_bool-lt h.dont_fragment) (from_bool-lt h.more_fragments)
     l.fragment_offset_fits (flags_of h r p l)
 
@@ -93,17 +93,17 @@ pub same_fields : (g h : Ipv4Header) → g.dscp ≡ h.dscp → g.ecn ≡ h.ecn �
 same_fields g h a b c d e f i j k l m n o = search rules
 
 -- the halves of byte 1
-dscp_of : (h : Ipv4Header) (r : ℕ) (p : List ℕ) → IsIpv4Layout h r p → get_or p 1 0 / 4 ≡ h.dscp
+dscp_of : (h : Ipv4Header) (r : ℕ) (p : List ℕ) → IsIpv4LayoutWith h r p → get_or p 1 0 / 4 ≡ h.dscp
 dscp_of h r p l = omega (arith, l.dscp_ecn, ecn_value-lt h.ecn)
 
-ecn_of : (h : Ipv4Header) (r : ℕ) (p : List ℕ) → IsIpv4Layout h r p → get_or p 1 0 % 4 ≡ ecn_value h.ecn
+ecn_of : (h : Ipv4Header) (r : ℕ) (p : List ℕ) → IsIpv4LayoutWith h r p → get_or p 1 0 % 4 ≡ ecn_value h.ecn
 ecn_of h r p l = omega (arith, l.dscp_ecn, ecn_value-lt h.ecn)
 
 same_ecn : (a b : IpEcn) → ecn_value a ≡ ecn_value b → a ≡ b
 same_ecn a b e = search rules
 
 -- bytes have one header
-same_header : (g h : Ipv4Header) (q r : ℕ) (p : List ℕ) → IsIpv4Layout g q p → IsIpv4Layout h r p → g ≡ h
+same_header : (g h : Ipv4Header) (q r : ℕ) (p : List ℕ) → IsIpv4LayoutWith g q p → IsIpv4LayoutWith h r p → g ≡ h
 same_header g h q r p k l =
     same_fields g h
     (sym (dscp_of g q p k) ∙ dscp_of h r p l)
@@ -120,7 +120,7 @@ same_header g h q r p k l =
     (sym k.destination ∙ l.destination)
     (sym k.options ∙ l.options)
 
-pub one_header : (g h : Ipv4Header) (p : List ℕ) → HasIpv4Layout g p → HasIpv4Layout h p → g ≡ h
+pub one_header : (g h : Ipv4Header) (p : List ℕ) → IsIpv4Layout g p → IsIpv4Layout h p → g ≡ h
 one_header g h p k l = same_header g h k.reserved l.reserved p k.layout l.layout
 
 -- the flags and the fragment offset
@@ -148,7 +148,7 @@ parts_of p =
     drop_split p 16 20 (omega arith))))))))
 
 -- a byte list in the layout is the header's spelling
-pub spelled : (h : Ipv4Header) (r : ℕ) (p : List ℕ) → IsIpv4Layout h r p → p ≡ spelling h (flags_word h r)
+pub spelled : (h : Ipv4Header) (r : ℕ) (p : List ℕ) → IsIpv4LayoutWith h r p → p ≡ spelling h (flags_word h r)
 spelled h r p l =
     let long : 20 ≤ length p = omega (arith, l.len) in
     let first : slice_range p 0 2 ≡ (4 * 2 ^ 4 + ipv4_ihl h) ∷ (h.dscp * 2 ^ 2 + ecn_value h.ecn) ∷ [] =
@@ -164,7 +164,7 @@ spelled h r p l =
     (same_append l.source (same_append l.destination l.options)))))))
 
 -- a header has one list of bytes for each reserved bit
-pub same_bytes : (h : Ipv4Header) (r : ℕ) (p q : List ℕ) → IsIpv4Layout h r p → IsIpv4Layout h r q → p ≡ q
+pub same_bytes : (h : Ipv4Header) (r : ℕ) (p q : List ℕ) → IsIpv4LayoutWith h r p → IsIpv4LayoutWith h r q → p ≡ q
 same_bytes h r p q k l = spelled h r p k ∙ sym (spelled h r q l)
 
 -- what the fields that are written as numbers need to be written back, and the lengths of the addresses
@@ -179,7 +179,7 @@ pub record HasFieldRanges (header : Ipv4Header) : Type 0 where
 
 -- the spelling of a header is in its layout
 pub spells : (h : Ipv4Header) (r : ℕ) (p : List ℕ) → HasFieldRanges h → IsOptionsLen (length h.options) → r < 2 → IsBytes p
-    → p ≡ spelling h (flags_word h r) → IsIpv4Layout h r p
+    → p ≡ spelling h (flags_word h r) → IsIpv4LayoutWith h r p
 spells h r p f o b bytes e =
     let behind = h.source ++ (h.destination ++ h.options) in
     let len : length (spelling h (flags_word h r)) ≡ 20 + length h.options =
@@ -216,7 +216,7 @@ kept_byte : (r df mf off : ℕ) → (r * 2 ^ 15 + df * 2 ^ 14 + mf * 2 ^ 13 + of
 kept_byte r df mf off = omega arith
 
 -- the spelling of a header with the reserved bit cleared
-pub cleared_spells : (h : Ipv4Header) (r : ℕ) (p : List ℕ) → IsIpv4Layout h r p
+pub cleared_spells : (h : Ipv4Header) (r : ℕ) (p : List ℕ) → IsIpv4LayoutWith h r p
     → with_reserved_bit_cleared p ≡ spelling h (flags_word h 0)
 cleared_spells h r p l =
     let high = cleared_byte r (from_bool h.dont_fragment) (from_bool h.more_fragments) h.fragment_offset l.reserved_fits
@@ -231,7 +231,7 @@ cleared_spells h r p l =
     ∷ (to_be_bytes w16 h.header_checksum ++ (h.source ++ (h.destination ++ h.options)))))))) low
 
 -- the ranges of a header's fields are in its layout
-pub ranges_of : (h : Ipv4Header) (r : ℕ) (p : List ℕ) → IsIpv4Layout h r p → HasFieldRanges h
+pub ranges_of : (h : Ipv4Header) (r : ℕ) (p : List ℕ) → IsIpv4LayoutWith h r p → HasFieldRanges h
 ranges_of h r p l =
     let long : 20 ≤ length p = omega (arith, l.len) in
     let word_fits = λ (a n : ℕ) (e : from_be_bytes w16 (slice_range p a (a + 2)) ≡ n). word_lt p a n l.are_bytes e in
@@ -252,19 +252,19 @@ ranges_of h r p l =
         omega arith
 
 -- with the reserved bit cleared the bytes are in the layout of the same header
-pub cleared_layout : (h : Ipv4Header) (r : ℕ) (p : List ℕ) → IsIpv4Layout h r p → IsIpv4Layout h 0 (with_reserved_bit_cleared p)
+pub cleared_layout : (h : Ipv4Header) (r : ℕ) (p : List ℕ) → IsIpv4LayoutWith h r p → IsIpv4LayoutWith h 0 (with_reserved_bit_cleared p)
 cleared_layout h r p l =
     let byte = l.are_bytes 6 in
     let bytes = set_is_bytes p 6 (get_or p 6 0 % 2 ^ 7) (omega (arith, l.len)) (omega arith) l.are_bytes in
     spells h 0 (with_reserved_bit_cleared p) (ranges_of h r p l) l.options_len (omega arith) bytes (cleared_spells h r p l)
 
 -- headers are the same exactly where their bytes are, but for the reserved bit
-pub same_header_cleared : (g h : Ipv4Header) (o p : List ℕ) → HasIpv4Layout g o → HasIpv4Layout h p
+pub same_header_cleared : (g h : Ipv4Header) (o p : List ℕ) → IsIpv4Layout g o → IsIpv4Layout h p
     → (g ≡ h) ↔ (with_reserved_bit_cleared o ≡ with_reserved_bit_cleared p)
 same_header_cleared g h o p k l = (
   λ e. cleared_spells g k.reserved o k.layout ∙ ap (λ x. spelling x (flags_word x 0)) e ∙ sym (cleared_spells h l.reserved p l.layout),
   λ e. same_header g h 0 0 (with_reserved_bit_cleared p)
-      (subst (λ x. IsIpv4Layout g 0 x) e (cleared_layout g k.reserved o k.layout)) (cleared_layout h l.reserved p l.layout),
+      (subst (λ x. IsIpv4LayoutWith g 0 x) e (cleared_layout g k.reserved o k.layout)) (cleared_layout h l.reserved p l.layout),
 )
 
 -- each number in range is one of a bool, or of a code point
@@ -287,7 +287,7 @@ flags_split b c hb hc = omega arith
 
 -- what starts with version 4, has an IHL of 5 or more and the length that it says is in the layout of a header
 pub header_at : (p : List ℕ) → version_of p ≡ 4 → 5 ≤ ihl_of p → length p ≡ 4 * ihl_of p → IsBytes p
-    → (h : Ipv4Header) × HasIpv4Layout h p
+    → (h : Ipv4Header) × IsIpv4Layout h p
 header_at p version ihl len bytes =
     let b6 = bytes 6 in
     let b7 = bytes 7 in

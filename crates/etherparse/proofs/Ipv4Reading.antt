@@ -1,6 +1,5 @@
 -- Some bytes have one answer of an IPv4 reader.
-use Rattle.std.proofs.Common.{ℕ, ◌≡◌, ◌+◌, ◌-◌, ◌*◌, ◌%◌, ◌/◌, ◌≤◌, inl, inr, List, ◌++◌, length, take, drop, get_or, sym, ap, subst, ◌∙◌, arith, length-append, Ok, Err, Result}
-use Rattle.std.specs.Prelude.{◌↔◌}
+use Rattle.std.proofs.Common.{ℕ, ◌≡◌, ◌-◌, ◌*◌, ◌%◌, ◌/◌, ◌≤◌, inl, inr, List, ◌++◌, length, take, drop, get_or, refl, sym, ap, subst, ◌∙◌, arith, length-append, Ok, Err, Result}
 use Rattle.std.specs.List.{slice_range}
 use Rattle.std.proofs.lemmas.List.{append_cancel_right, drop-append-le, drop_at, get_or_append_left, length-drop, length-take-le, take-append-drop, take-take, take_at, take_rest}
 use Rattle.etherparse_base.specs.Bytes.{IsBytes}
@@ -11,46 +10,46 @@ use Rattle.etherparse.proofs.Fronts.{begins_once, cut_behind}
 use Rattle.etherparse.proofs.Ipv4Layout.{cleared_layout, header_at, ihl_of-layout, length-layout, one_header, same_header_cleared, version_of-layout}
 use Rattle.etherparse.proofs.Parts.{get_or-slice_range, part_is_bytes, same_front}
 use Rattle.etherparse.specs.FirstByte.{ihl_of, version_of}
-use Rattle.etherparse.specs.Ipv4Header.{HasIpv4Layout, IsIpv4Layout, Ipv4Reading, OfIpv4Header, ReadsIpv4, RefusesIpv4, ViewsIpv4, ipv4_header_len, with_reserved_bit_cleared}
+use Rattle.etherparse.specs.Ipv4Header.{IsIpv4Layout, IsIpv4ReadingOf, Ipv4Reading, ReadsIpv4, RefusesIpv4, ViewsIpv4, ipv4_header_len}
 use Rattle.etherparse.specs.Reading.{BeginsWith}
 use Rattle.etherparse.specs.declared.net.ipv4_header.Ipv4Header.{Ipv4Header}
 
 -- some bytes are refused for one reason
 refused_once : (s : List ℕ) (e f : HeaderSliceError) → RefusesIpv4 s e → RefusesIpv4 s f → e ≡ f
 refused_once s (Len a) (Len b) (inl p) (inl q) = ap Len (p.error ∙ sym q.error)
-refused_once s (Len a) (Len b) (inl p) (inr q) = absurd (omega (arith, p.few, q.enough))
-refused_once s (Len a) (Len b) (inr p) (inl q) = absurd (omega (arith, p.enough, q.few))
+refused_once s (Len a) (Len b) (inl p) (inr q) = absurd (omega (arith, p.short, q.enough))
+refused_once s (Len a) (Len b) (inr p) (inl q) = absurd (omega (arith, p.enough, q.short))
 refused_once s (Len a) (Len b) (inr p) (inr q) = ap Len (p.short.error ∙ sym q.short.error)
-refused_once s (Len a) (Content (UnexpectedVersion w)) (inl p) q = absurd (omega (arith, p.few, q.enough))
+refused_once s (Len a) (Content (UnexpectedVersion w)) (inl p) q = absurd (omega (arith, p.short, q.enough))
 refused_once s (Len a) (Content (UnexpectedVersion w)) (inr p) q = absurd (q.other p.version)
-refused_once s (Len a) (Content (HeaderLengthSmallerThanHeader i)) (inl p) q = absurd (omega (arith, p.few, q.enough))
+refused_once s (Len a) (Content (HeaderLengthSmallerThanHeader i)) (inl p) q = absurd (omega (arith, p.short, q.enough))
 refused_once s (Len a) (Content (HeaderLengthSmallerThanHeader i)) (inr p) q = absurd (omega (arith, p.ihl, q.small))
-refused_once s (Content (UnexpectedVersion v)) (Len b) p (inl q) = absurd (omega (arith, p.enough, q.few))
+refused_once s (Content (UnexpectedVersion v)) (Len b) p (inl q) = absurd (omega (arith, p.enough, q.short))
 refused_once s (Content (UnexpectedVersion v)) (Len b) p (inr q) = absurd (p.other q.version)
 refused_once s (Content (UnexpectedVersion v)) (Content (UnexpectedVersion w)) p q =
     ap (λ x. Content (UnexpectedVersion x)) (p.found ∙ sym q.found)
 refused_once s (Content (UnexpectedVersion v)) (Content (HeaderLengthSmallerThanHeader i)) p q = absurd (p.other q.version)
-refused_once s (Content (HeaderLengthSmallerThanHeader i)) (Len b) p (inl q) = absurd (omega (arith, p.enough, q.few))
+refused_once s (Content (HeaderLengthSmallerThanHeader i)) (Len b) p (inl q) = absurd (omega (arith, p.enough, q.short))
 refused_once s (Content (HeaderLengthSmallerThanHeader i)) (Len b) p (inr q) = absurd (omega (arith, p.small, q.ihl))
 refused_once s (Content (HeaderLengthSmallerThanHeader i)) (Content (UnexpectedVersion w)) p q = absurd (q.other p.version)
 refused_once s (Content (HeaderLengthSmallerThanHeader i)) (Content (HeaderLengthSmallerThanHeader j)) p q =
     ap (λ x. Content (HeaderLengthSmallerThanHeader x)) (p.found ∙ sym q.found)
 
 -- the first byte of a front is that of the whole
-first_of : (h : Ipv4Header) (p t s : List ℕ) → s ≡ p ++ t → HasIpv4Layout h p → get_or s 0 0 ≡ get_or p 0 0
+first_of : (h : Ipv4Header) (p t s : List ℕ) → s ≡ p ++ t → IsIpv4Layout h p → get_or s 0 0 ≡ get_or p 0 0
 first_of h p t s e l = ap (λ x. get_or x 0 0) e ∙ get_or_append_left p t 0 0 (omega (arith, l.layout.len))
 
 -- what begins with a header is not refused
-pub not_refused : (h : Ipv4Header) (p t s : List ℕ) → s ≡ p ++ t → HasIpv4Layout h p → (e : HeaderSliceError) → RefusesIpv4 s e → ⊥
-not_refused h p t s e l (Len a) (inl q) = omega (arith, q.few, ap length e, length-append p t, l.layout.len)
+pub not_refused : (h : Ipv4Header) (p t s : List ℕ) → s ≡ p ++ t → IsIpv4Layout h p → (e : HeaderSliceError) → RefusesIpv4 s e → ⊥
+not_refused h p t s e l (Len a) (inl q) = omega (arith, q.short, ap length e, length-append p t, l.layout.len)
 not_refused h p t s e l (Len a) (inr q) =
-    omega (arith, q.short.few, ap length e, length-append p t, length-layout h p l, ap (λ x. x % 16) (first_of h p t s e l))
+    omega (arith, q.short.short, ap length e, length-append p t, length-layout h p l, ap (λ x. x % 16) (first_of h p t s e l))
 not_refused h p t s e l (Content (UnexpectedVersion v)) q = q.other (ap (λ x. x / 16) (first_of h p t s e l) ∙ version_of-layout h p l)
 not_refused h p t s e l (Content (HeaderLengthSmallerThanHeader i)) q =
     omega (arith, q.small, ihl_of-layout h p l, ap (λ x. x % 16) (first_of h p t s e l))
 
 -- two headers at one front have one length
-same_length : (g h : Ipv4Header) (o p t u s : List ℕ) → s ≡ o ++ t → s ≡ p ++ u → HasIpv4Layout g o → HasIpv4Layout h p → length o ≡ length p
+same_length : (g h : Ipv4Header) (o p t u s : List ℕ) → s ≡ o ++ t → s ≡ p ++ u → IsIpv4Layout g o → IsIpv4Layout h p → length o ≡ length p
 same_length g h o p t u s d e k l = omega (
   arith,
   length-layout g o k,
@@ -61,7 +60,7 @@ same_length g h o p t u s d e k l = omega (
 
 pub read_once : (s : List ℕ) (a b : Ipv4Reading) → ReadsIpv4 s a → ReadsIpv4 s b → a ≡ b
 read_once s (Ok x) (Ok y) p q =
-    ap Ok (begins_once HasIpv4Layout one_header s x y p q (same_length x.0 y.0 p.front q.front x.1 y.1 s p.whole q.whole p.layout q.layout))
+    ap Ok (begins_once IsIpv4Layout one_header s x y p q (same_length x.0 y.0 p.front q.front x.1 y.1 s p.whole q.whole p.layout q.layout))
 read_once s (Ok x) (Err f) p q = absurd (not_refused x.0 p.front x.1 s p.whole p.layout f q)
 read_once s (Err e) (Ok y) p q = absurd (not_refused y.0 q.front y.1 s q.whole q.layout e p)
 read_once s (Err e) (Err f) p q = ap Err (refused_once s e f p q)
@@ -74,10 +73,10 @@ viewed_once s (Err e) (Ok y) p q = absurd (not_refused q.header y q.rest s q.who
 viewed_once s (Err e) (Err f) p q = ap Err (refused_once s e f p q)
 
 -- the front that is seen is in the layout of each header at the front
-pub shown : (s front rest : List ℕ) (h : Ipv4Header) → ViewsIpv4 s (Ok front) → BeginsWith HasIpv4Layout s h rest → HasIpv4Layout h front
+pub shown : (s front rest : List ℕ) (h : Ipv4Header) → ViewsIpv4 s (Ok front) → BeginsWith IsIpv4Layout s h rest → IsIpv4Layout h front
 shown s front rest h v b =
     let len = same_length h v.header b.front front rest v.rest s b.whole v.whole b.layout v.layout in
-    subst (λ p. HasIpv4Layout h p) (same_front b.front front rest v.rest len (sym b.whole ∙ v.whole)) b.layout
+    subst (λ p. IsIpv4Layout h p) (same_front b.front front rest v.rest len (sym b.whole ∙ v.whole)) b.layout
 
 -- the front of some bytes is seen where they are of version 4, and as many as their IHL says
 pub front_viewed : (s : List ℕ) (n : ℕ) → version_of s ≡ 4 → 5 ≤ ihl_of s → n ≡ 4 * ihl_of s → n ≤ length s → IsBytes s → ViewsIpv4 s (Ok (take n s))
@@ -89,30 +88,26 @@ front_viewed s n version ihl says long bytes =
     (omega (arith, ap (λ x. x % 16) first)) (subst IsBytes part (λ i. part_is_bytes s 0 n i bytes)) in
     record { header = header.0; rest = drop n s; whole = sym (take-append-drop n s); layout = header.1 }
 
--- what the clauses of a reader say of a header at the front
-pub record ReadsFront (s : List ℕ) (x : Ipv4Header × List ℕ) : Type 0 where
-  pub reads : ReadsIpv4 s (Ok x)
-  pub only : (other : Ipv4Reading) → ReadsIpv4 s other → other ≡ Ok x
-  pub cleared : (front : List ℕ) → s ≡ front ++ x.1 → IsIpv4Layout x.0 0 (with_reserved_bit_cleared front)
-  pub same_header : (front : List ℕ) → s ≡ front ++ x.1 → (others : List ℕ)
-      → OfIpv4Header others (λ other. (other ≡ x.0) ↔ (with_reserved_bit_cleared others ≡ with_reserved_bit_cleared front))
-  pub cut : (n : ℕ) → n ≤ length x.1 → BeginsWith HasIpv4Layout (take (ipv4_header_len x.0 + n) s) x.0 (take n x.1)
-
-pub reads_front : (s p t : List ℕ) (h : Ipv4Header) (n : ℕ) → s ≡ p ++ t → HasIpv4Layout h p → n ≡ length p
-    → ReadsFront s (h, take (length s - n) (drop n s))
-reads_front s p t h n e l len =
-    let rest : t ≡ drop n s = sym (ap (λ x. drop n x) e ∙ drop_at p t n (sym len)) in
-    let whole : s ≡ p ++ take (length s - n) (drop n s) = e ∙ ap (λ x. p ++ x) (rest ∙ sym (take_rest s n)) in
-    let reads : BeginsWith HasIpv4Layout s h (take (length s - n) (drop n s)) = record { front = p; whole = whole; layout = l } in
-    let front_is = λ (front : List ℕ) (cut : s ≡ front ++ take (length s - n) (drop n s)).
-    subst (λ xs. HasIpv4Layout h xs) (append_cancel_right p front _ (sym whole ∙ cut)) l in
+-- what is promised of a reading follows from its answer
+pub is_reading_of : (s : List ℕ) (a : Ipv4Reading) → ReadsIpv4 s a → IsIpv4ReadingOf s a
+is_reading_of s (Ok x) b =
+    let front_is = λ (front : List ℕ) (whole : s ≡ front ++ x.1).
+    subst (λ p. IsIpv4Layout x.0 p) (append_cancel_right b.front front x.1 (sym b.whole ∙ whole)) b.layout in
     record {
-      reads = reads;
-      only = λ other o. read_once s other _ o reads;
-      cleared = λ front cut. let k = front_is front cut in cleared_layout h k.reserved front k.layout;
-      same_header = λ front cut others other k. same_header_cleared other h others front k (front_is front cut);
-      cut = cut_behind HasIpv4Layout (ipv4_header_len h) s h _ reads l.layout.len;
+      reads = b;
+      only = λ other o. read_once s other (Ok x) o b;
+      cleared = λ front whole. let k = front_is front whole in cleared_layout x.0 k.reserved front k.layout;
+      same_header = λ front whole bytes other k. same_header_cleared other x.0 bytes front k (front_is front whole);
+      cut = cut_behind IsIpv4Layout (ipv4_header_len x.0) s x.0 x.1 b b.layout.layout.len;
     }
+is_reading_of s (Err e) r = record { reads = r; only = λ other o. read_once s other (Err e) o r; cleared = tt; same_header = tt; cut = tt }
+
+-- what is seen in front is read
+pub front_read : (s p t : List ℕ) (h : Ipv4Header) → s ≡ p ++ t → IsIpv4Layout h p
+    → IsIpv4ReadingOf s (Ok (h, take (length s - length p) (drop (length p) s)))
+front_read s p t h e l =
+    let rest : t ≡ drop (length p) s = sym (ap (λ x. drop (length p) x) e ∙ drop_at p t (length p) refl) in
+    is_reading_of s _ (record { front = p; whole = e ∙ ap (λ x. p ++ x) (rest ∙ sym (take_rest s (length p))); layout = l })
 
 -- the options are at the front of the room that they could have
 pub options_in_room : (s p t room : List ℕ) → s ≡ p ++ t → 20 ≤ length p → length p ≤ 60 → room ≡ take 40 (take 40 (drop 20 s))

@@ -5,7 +5,7 @@ use Rattle.etherparse_base.specs.declared.err.ipv6.chain_error.ChainError.{Chain
 use Rattle.etherparse_base.specs.declared.err.ipv6.chain_error.ChainError.TheVariants as chain_error
 use Rattle.etherparse_base.specs.declared.err.len_error.LenError.{LenError}
 use Rattle.etherparse_fields.specs.ExtensionHeaders.{IsSkippable}
-use Rattle.etherparse.proofs.ExtensionHeaderChain.{GoesNoFurther, SkippedUpTo, after_chain, cut_once, ends_after, ends_incomplete, ends_once, incomplete, place_of, required_len_of-at_least}
+use Rattle.etherparse.proofs.ExtensionHeaderChain.{GoesNoFurther, SkippedUpTo, after_chain, cut_once, ends_after, ends_incomplete, ends_once, incomplete, offset_of, whole_at_least}
 use Rattle.etherparse.specs.ExtensionHeaderChain.{BeginsWithChain, EndsAfterChainUpTo, EndsAtLimit, EndsIncompleteUpTo, EndsUpTo, IsExtensionHeaderChain}
 use Rattle.etherparse.specs.ExtensionHeaderChain.{LimitedWalkAnswer, WalkAnswer, Walks, WalksUpTo}
 use Rattle.etherparse.specs.ExtensionHeaderChain.{incomplete_header_error, next_header_of, required_len_of, with_error_in_len}
@@ -30,7 +30,7 @@ incomplete_not_at_limit limit s n ps qs e f p q =
     let same = cut_once ps qs limit s n p.ends.last q.last p.ends.rest q.rest (incomplete limit s n ps e (omega arith) p.ends) (at_limit limit s n qs f q) in
     omega (arith, ap length same.0, q.full)
 
--- the limit is met at one place
+-- the limit is met at one offset
 at_limit_once : (limit : ℕ) (s : List ℕ) (n : ℕ) (ps qs : List (List ℕ)) (e f : ChainError) → EndsAtLimit limit s n ps e → EndsAtLimit limit s n qs f → f ≡ e
 at_limit_once limit s n ps qs e f p q =
     let same = cut_once ps qs limit s n p.last q.last p.rest q.rest (at_limit limit s n ps e p) (at_limit limit s n qs f q) in
@@ -61,7 +61,7 @@ ends_up_to_once limit s n ps qs (Err (chain_error.TooMany l k t)) (Err (chain_er
 length-concat : (n : ℕ) (ps : List (List ℕ)) (m : ℕ) → IsExtensionHeaderChain n ps m → 8 * length ps ≤ length (concat ps)
 length-concat n [] m c = omega arith
 length-concat n (p ∷ ps) m c =
-    let long : 8 ≤ length p = rw c.0.len (required_len_of-at_least n p c.0.enough) in
+    let long = whole_at_least n p c.0 in
     let others = length-concat (next_header_of p) ps m c.1 in
     omega (arith, length-append p (concat ps))
 
@@ -95,32 +95,32 @@ limited_walk_of limit s n ps a ends = record {
 }
 
 -- a walk with a limit that ends after what is skipped
-pub limited_walk_ends_after : (limit : ℕ) (s : List ℕ) (n place m skipped : ℕ) (r : List ℕ) → SkippedUpTo s n place m skipped → skipped ≤ limit
-    → r ≡ drop place s → (IsSkippable m → ⊥) → IsLimitedWalk limit s n (Ok (m, r))
-limited_walk_ends_after limit s n place m skipped r u within e upper =
+pub limited_walk_ends_after : (limit : ℕ) (s : List ℕ) (n offset m skipped : ℕ) (r : List ℕ) → SkippedUpTo s n offset m skipped → skipped ≤ limit
+    → r ≡ drop offset s → (IsSkippable m → ⊥) → IsLimitedWalk limit s n (Ok (m, r))
+limited_walk_ends_after limit s n offset m skipped r u within e upper =
     let counted = u.counted in
-    limited_walk_of limit s n u.headers (Ok (m, r)) (record { ends = ends_after s n place m skipped r u e upper; within = omega arith })
+    limited_walk_of limit s n u.headers (Ok (m, r)) (record { ends = ends_after s n offset m skipped r u e upper; within = omega arith })
 
 -- one that ends at a header that is incomplete
-pub limited_walk_ends_incomplete : (limit : ℕ) (s : List ℕ) (n place m skipped : ℕ) (e : LenError) → SkippedUpTo s n place m skipped → skipped < limit
-    → IsSkippable m → length s - place < required_len_of m (drop place s) → e ≡ incomplete_header_error m (drop place s) place
+pub limited_walk_ends_incomplete : (limit : ℕ) (s : List ℕ) (n offset m skipped : ℕ) (e : LenError) → SkippedUpTo s n offset m skipped → skipped < limit
+    → IsSkippable m → length s - offset < required_len_of m (drop offset s) → e ≡ incomplete_header_error m (drop offset s) offset
     → IsLimitedWalk limit s n (Err (chain_error.Len e))
-limited_walk_ends_incomplete limit s n place m skipped e u below skippable short error =
+limited_walk_ends_incomplete limit s n offset m skipped e u below skippable short error =
     let counted = u.counted in
     limited_walk_of limit s n u.headers (Err (chain_error.Len e)) (record {
-      ends = ends_incomplete s n place m skipped e u skippable short error;
+      ends = ends_incomplete s n offset m skipped e u skippable short error;
       below = omega arith;
     })
 
 -- one that ends at the limit
-pub limited_walk_ends_at_limit : (limit : ℕ) (s : List ℕ) (n place m skipped : ℕ) → SkippedUpTo s n place m skipped → skipped ≡ limit
-    → IsSkippable m → IsLimitedWalk limit s n (Err (chain_error.TooMany limit m place))
-limited_walk_ends_at_limit limit s n place m skipped u full skippable =
-    limited_walk_of limit s n u.headers (Err (chain_error.TooMany limit m place)) (record {
+pub limited_walk_ends_at_limit : (limit : ℕ) (s : List ℕ) (n offset m skipped : ℕ) → SkippedUpTo s n offset m skipped → skipped ≡ limit
+    → IsSkippable m → IsLimitedWalk limit s n (Err (chain_error.TooMany limit m offset))
+limited_walk_ends_at_limit limit s n offset m skipped u full skippable =
+    limited_walk_of limit s n u.headers (Err (chain_error.TooMany limit m offset)) (record {
       last = m;
-      rest = drop place s;
+      rest = drop offset s;
       begins = u.begins;
       full = u.counted ∙ full;
       skippable = skippable;
-      error = ap (λ k. chain_error.TooMany limit m k) (sym (place_of s n place m skipped u));
+      error = ap (λ k. chain_error.TooMany limit m k) (sym (offset_of s n offset m skipped u));
     })

@@ -6,8 +6,8 @@ use Rattle.etherparse_base.specs.LenError.{len_error_moved}
 use Rattle.etherparse_base.specs.declared.err.ipv6.chain_error.ChainError.TheVariants as chain_error
 use Rattle.etherparse_base.specs.declared.err.len_error.LenError.{LenError}
 use Rattle.etherparse_fields.specs.ExtensionHeaders.{IsSkippable}
-use Rattle.etherparse.proofs.ExtensionHeaderChain.{one_more_skipped, walks_once}
-use Rattle.etherparse.specs.ExtensionHeaderChain.{BeginsWithChain, Ends, EndsIncomplete, FollowsChain, IsExtensionHeaderChain, IsWalkOf, LimitedWalkAnswer, WalkAnswer, Walks, WalksUpTo}
+use Rattle.etherparse.proofs.ExtensionHeaderChain.{is_walk_of, one_more_skipped}
+use Rattle.etherparse.specs.ExtensionHeaderChain.{BeginsWithChain, Ends, EndsIncomplete, FollowsChain, IsExtensionHeaderChain, IsWalkBehindChains, IsWalkOf, LimitedWalkAnswer, WalkAnswer, Walks, WalksUpTo}
 use Rattle.etherparse.specs.ExtensionHeaderChain.{chain_error_moved_behind, incomplete_header_error, limited_walk_answer_moved, next_header_of, required_len_of, walk_answer_moved}
 
 -- a chain goes on by a header that has as many bytes as it requires
@@ -16,22 +16,17 @@ pub chain_goes_on : (s : List ℕ) (first n : ℕ) (r : List ℕ) (k : ℕ) → 
 chain_goes_on s first n r k f skippable is fits =
     record { headers = f.headers ++ take k r ∷ []; begins = one_more_skipped s first f.headers n r k f.begins skippable is fits }
 
--- an answer of a walk is the only one
-is_walk_of : (s : List ℕ) (first : ℕ) (a : WalkAnswer) → Walks s first a → IsWalkOf s first a
-unfolding IsWalkOf
-is_walk_of s first a w = (w, λ other o. walks_once s first a other w o)
-
 -- a walk ends behind a chain where the next number is not skippable
 pub walk_ends_behind : (s : List ℕ) (first n : ℕ) (r : List ℕ) → FollowsChain s first n r → (IsSkippable n → ⊥) → IsWalkOf s first (Ok (n, r))
 walk_ends_behind s first n r f upper =
     is_walk_of s first (Ok (n, r)) (record { headers = f.headers; ends = record { begins = f.begins; upper = upper } })
 
--- and where too few bytes are left for the next header, with the error of one skip moved to its place
+-- and where too few bytes are left for the next header, with the error of one skip moved to its offset
 pub walk_ends_short : (s : List ℕ) (first n : ℕ) (r : List ℕ) (e : LenError) → FollowsChain s first n r → IsSkippable n
     → length r < required_len_of n r → e ≡ incomplete_header_error n r 0 → IsWalkOf s first (Err (len_error_moved (length s - length r) e))
 walk_ends_short s first n r e f skippable short is =
     let parts : length s ≡ length (concat f.headers) + length r = ap length f.begins.whole ∙ length-append (concat f.headers) r in
-    let place : 0 + (length s - length r) ≡ length (concat f.headers) = omega arith in
+    let offset : 0 + (length s - length r) ≡ length (concat f.headers) = omega arith in
     is_walk_of s first _ (record {
       headers = f.headers;
       ends = record {
@@ -40,7 +35,7 @@ walk_ends_short s first n r e f skippable short is =
         begins = f.begins;
         skippable = skippable;
         short = short;
-        error = ap (len_error_moved (length s - length r)) is ∙ ap (λ p. incomplete_header_error n r p) place;
+        error = ap (len_error_moved (length s - length r)) is ∙ ap (λ p. incomplete_header_error n r p) offset;
       };
     })
 
@@ -80,9 +75,8 @@ ends_behind : (s : List ℕ) (first n : ℕ) (hs ps : List (List ℕ)) (r : List
 ends_behind s first n hs ps r (Ok x) b e = record { begins = begins_behind s first n x.0 hs ps r x.1 b e.begins; upper = e.upper }
 ends_behind s first n hs ps r (Err e) b k = incomplete_behind s first n hs ps r e b k
 
-pub walk_follows : (s : List ℕ) (first n : ℕ) (r : List ℕ) (a : WalkAnswer) → FollowsChain s first n r → Walks r n a
-    → IsWalkOf s first (walk_answer_moved (length s - length r) a)
-walk_follows s first n r a f w =
+pub walk_follows : (n : ℕ) (r : List ℕ) (a : WalkAnswer) → Walks r n a → IsWalkBehindChains r n a
+walk_follows n r a w = λ s first f.
     is_walk_of s first _ (record { headers = f.headers ++ w.headers; ends = ends_behind s first n f.headers w.headers r a f.begins w.ends })
 
 -- so does one with a limit, which counts the headers of the chain
@@ -102,7 +96,7 @@ limited_walk_follows limit s first n hs r (Err (chain_error.Len e)) b w = record
     below = omega (arith, length-append hs w.headers, w.ends.below);
   };
 }
-limited_walk_follows limit s first n hs r (Err (chain_error.TooMany told number place)) b w = record {
+limited_walk_follows limit s first n hs r (Err (chain_error.TooMany told number offset)) b w = record {
   headers = hs ++ w.headers;
   ends = record {
     last = w.ends.last;

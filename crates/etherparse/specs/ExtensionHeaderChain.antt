@@ -1,6 +1,6 @@
 -- IPv6 extension headers one after the other, and the walk past them (RFC 8200 section 4).
-use Rattle.std.specs.Prelude.{ℕ, ◌≡◌, ◌==◌, ◌+◌, ◌*◌, ◌<◌, ◌≤◌, List, [], ◌∷◌, ◌++◌, length}
-use Rattle.std.specs.Prelude.{slice_index, nat_lt, if◌then◌else◌, Result, Ok, Err}
+use Rattle.std.specs.Prelude.{ℕ, ◌≡◌, ◌==◌, ◌+◌, ◌-◌, ◌*◌, ◌<◌, ◌≤◌, List, [], ◌∷◌, ◌++◌, length}
+use Rattle.std.specs.Prelude.{slice_index, nat_lt, if◌then◌else◌, IfErr, IfOk, Result, Ok, Err}
 use Rattle.std.specs.List.{concat}
 use Rattle.std.specs.Result.{result_map_both}
 use Rattle.etherparse_base.specs.LenError.{len_error_moved}
@@ -9,9 +9,7 @@ use Rattle.etherparse_base.specs.declared.err.ipv6.chain_error.ChainError.TheVar
 use Rattle.etherparse_base.specs.declared.err.layer.Layer.TheVariants as layer
 use Rattle.etherparse_base.specs.declared.err.len_error.LenError.{LenError}
 use Rattle.etherparse_fields.specs.ExtensionHeaders.{IsSkippable}
-use Rattle.etherparse.specs.Ipv6Header.{IsIpv6Layout}
 use Rattle.etherparse.specs.Reading.{too_short_error}
-use Rattle.etherparse.specs.declared.net.ipv6_header.Ipv6Header.{Ipv6Header}
 
 -- The length in bytes of an extension header, by its number and its second byte. A fragment header
 -- has 8 (RFC 8200 section 4.5). The second byte of an authentication header counts words of four
@@ -24,17 +22,16 @@ extension_header_len number second_byte =
     else (if number == 51 then (second_byte + 2) * 4
     else (second_byte + 1) * 8)
 
+-- the bytes are one whole extension header of this number
+pub record IsExtensionHeader (number : ℕ) (header : List ℕ) : Type 0 where
+  pub skippable : IsSkippable number
+  pub len : length header ≡ extension_header_len number (slice_index header 1)
+
 -- How many bytes the header of a number requires of a slice that begins with it. Of fewer than two
 -- bytes no length can be told, and two are required, also of a fragment header: this is our own.
 abbrev pub required_len_of : ℕ → List ℕ → ℕ
 required_len_of number s =
     if nat_lt (length s) 2 then 2 else extension_header_len number (slice_index s 1)
-
--- the bytes are one whole extension header of this number
-pub record IsExtensionHeader (number : ℕ) (header : List ℕ) : Type 0 where
-  pub skippable : IsSkippable number
-  pub enough : 2 ≤ length header
-  pub len : length header ≡ required_len_of number header
 
 -- the number of what follows an extension header: its first byte
 abbrev pub next_header_of : List ℕ → ℕ
@@ -59,19 +56,11 @@ pub record FollowsChain (s : List ℕ) (first number : ℕ) (rest : List ℕ) : 
   pub headers : List (List ℕ)
   pub begins : BeginsWithChain s first headers number rest
 
--- the packet is an IPv6 header, a chain of the extension headers after it, and the rest after them
-pub record HasIpv6Chain (packet : List ℕ) (header : Ipv6Header) (headers : List (List ℕ))
-    (last : ℕ) (rest : List ℕ) : Type 0 where
-  pub front : List ℕ
-  pub layout : IsIpv6Layout header front
-  pub chain : IsExtensionHeaderChain header.next_header headers last
-  pub whole : packet ≡ front ++ (concat headers ++ rest)
-
--- the error of an extension header that is incomplete at a place: what is left there is too short
+-- the error of an extension header that is incomplete at an offset: what is left there is too short
 abbrev pub incomplete_header_error : ℕ → List ℕ → ℕ → LenError
-incomplete_header_error number rest place =
+incomplete_header_error number rest offset =
     record (too_short_error layer.Ipv6ExtHeader (required_len_of number rest) (length rest)) {
-      layer_start_offset = place;
+      layer_start_offset = offset;
     }
 
 -- a number and the bytes that it tells of, or why an extension header is incomplete
@@ -85,7 +74,7 @@ pub record EndsAfterChain (s : List ℕ) (first : ℕ) (headers : List (List ℕ
   pub upper : ¬ IsSkippable last
 
 -- The walk ends at a header that is incomplete: after a chain there are fewer bytes than the header
--- of its last number requires. The place in the error is where that header starts.
+-- of its last number requires. The offset in the error is where that header starts.
 pub record EndsIncomplete (s : List ℕ) (first : ℕ) (headers : List (List ℕ)) (e : LenError)
     : Type 0 where
   pub last : ℕ
@@ -106,15 +95,27 @@ pub record Walks (s : List ℕ) (first : ℕ) (answer : WalkAnswer) : Type 0 whe
   pub headers : List (List ℕ)
   pub ends : Ends s first headers answer
 
--- the walk of a slice from a first number has this answer, and no other
+-- The walk of a slice from a first number has this answer, and no other. What is left is no longer
+-- than the slice, and the offset of an error is within it.
+pub record IsOnlyWalkOf (s : List ℕ) (first : ℕ) (answer : WalkAnswer) : Type 0 where
+  pub walks : Walks s first answer
+  pub only : (other : WalkAnswer) → Walks s first other → other ≡ answer
+  pub shorter : IfOk answer (λ x. length x.1 ≤ length s)
+  pub within : IfErr answer (λ e. e.layer_start_offset ≤ length s)
+
+-- the same as one fact, which a proof opens by a line `unfolding`
 unfoldable pub IsWalkOf : List ℕ → ℕ → WalkAnswer → Type 0
-IsWalkOf s first answer =
-    Walks s first answer × ((other : WalkAnswer) → Walks s first other → other ≡ answer)
+IsWalkOf s first answer = IsOnlyWalkOf s first answer
 
 -- the answer of a walk behind a chain as that of a walk of the whole: an error is moved
 abbrev pub walk_answer_moved : ℕ → WalkAnswer → WalkAnswer
 walk_answer_moved offset answer =
     result_map_both (λ x. x) (λ e. len_error_moved offset e) answer
+
+-- behind a chain at the front of a slice, this is the walk of that slice
+abbrev pub IsWalkBehindChains : List ℕ → ℕ → WalkAnswer → Type 0
+IsWalkBehindChains rest number answer = (s : List ℕ) (first : ℕ) → FollowsChain s first number rest
+    → IsWalkOf s first (walk_answer_moved (length s - length rest) answer)
 
 -- The turns of a walk past these headers, where a turn is one test of a number: that of the first
 -- number, and of the number that each header gives.
@@ -156,8 +157,8 @@ abbrev pub EndsUpTo : ℕ → List ℕ → ℕ → List (List ℕ) → LimitedWa
 EndsUpTo limit s first headers (Ok x) = EndsAfterChainUpTo limit s first headers x.0 x.1
 EndsUpTo limit s first headers (Err (chain_error.Len e)) =
     EndsIncompleteUpTo limit s first headers e
-EndsUpTo limit s first headers (Err (chain_error.TooMany told number place)) =
-    EndsAtLimit limit s first headers (chain_error.TooMany told number place)
+EndsUpTo limit s first headers (Err (chain_error.TooMany told number offset)) =
+    EndsAtLimit limit s first headers (chain_error.TooMany told number offset)
 
 -- Walking with a limit: the answer after all extension headers of the slice that can be skipped, or
 -- at the first incomplete one, or at the first one above the limit.
@@ -171,16 +172,16 @@ abbrev pub with_error_in_len : WalkAnswer → LimitedWalkAnswer
 with_error_in_len answer = result_map_both (λ x. x) (λ e. chain_error.Len e) answer
 
 -- where the header starts at which a walk with a limit was given up
-abbrev pub chain_error_place : ChainError → ℕ
-chain_error_place (chain_error.Len e) = e.layer_start_offset
-chain_error_place (chain_error.TooMany limit number place) = place
+abbrev pub chain_error_offset : ChainError → ℕ
+chain_error_offset (chain_error.Len e) = e.layer_start_offset
+chain_error_offset (chain_error.TooMany limit number offset) = offset
 
 -- the error of a walk behind a chain of so many headers as that of a walk of the whole
 abbrev pub chain_error_moved_behind : ℕ → ℕ → ChainError → ChainError
 chain_error_moved_behind skipped offset (chain_error.Len e) =
     chain_error.Len (len_error_moved offset e)
-chain_error_moved_behind skipped offset (chain_error.TooMany limit number place) =
-    chain_error.TooMany (skipped + limit) number (place + offset)
+chain_error_moved_behind skipped offset (chain_error.TooMany limit number layer_start_offset) =
+    chain_error.TooMany (skipped + limit) number (layer_start_offset + offset)
 
 -- the answer of such a walk as that of a walk of the whole
 abbrev pub limited_walk_answer_moved : ℕ → ℕ → LimitedWalkAnswer → LimitedWalkAnswer

@@ -1,9 +1,8 @@
 -- The checksum of an IPv4 header (RFC 791 section 3.1, RFC 1071 section 1).
-use Rattle.std.specs.Prelude.{ℕ, ◌≡◌, ◌+◌, ◌-◌, ◌↔◌, List, ◌++◌, drop, length, take}
-use Rattle.std.specs.Prelude.{slice_index, slice_set}
+use Rattle.std.specs.Prelude.{ℕ, ◌≡◌, ◌+◌, ◌-◌, ◌↔◌, List, [], ◌∷◌, slice_set, take}
 use Rattle.std.specs.Int.{to_be_bytes, w16}
-use Rattle.etherparse_base.specs.WordSums.{SumsToAllOnes, folded_sum, network_order_word_sum}
-use Rattle.etherparse.specs.Ipv4Header.{HasIpv4Layout, IsIpv4Layout, ipv4_header_len}
+use Rattle.etherparse_base.specs.WordSums.{SumsToAllOnes, checksum_of, network_order_word_sum}
+use Rattle.etherparse.specs.Ipv4Header.{IsIpv4Layout, IsIpv4LayoutWith, ipv4_header_len}
 use Rattle.etherparse.specs.Reading.{BeginsWith}
 use Rattle.etherparse.specs.declared.net.ipv4_header.Ipv4Header.{Ipv4Header}
 
@@ -13,49 +12,40 @@ with_checksum_cleared bytes = slice_set (slice_set bytes 10 0) 11 0
 
 -- the complement of the ones-complement sum of a header's words, with its checksum field as 0
 abbrev pub header_checksum_of : List ℕ → ℕ
-header_checksum_of bytes =
-    65535 - folded_sum (network_order_word_sum (with_checksum_cleared bytes))
+header_checksum_of bytes = checksum_of (network_order_word_sum (with_checksum_cleared bytes))
 
--- the same bytes with another time to live and another checksum: bytes 8, 10 and 11
-abbrev pub with_time_to_live_and_checksum : ℕ → ℕ → List ℕ → List ℕ
-with_time_to_live_and_checksum time_to_live checksum bytes =
-    slice_set (slice_set (slice_set bytes 8 time_to_live)
-    10 (slice_index (to_be_bytes w16 checksum) 0)) 11 (slice_index (to_be_bytes w16 checksum) 1)
-
--- the same bytes with a part of them overwritten, from a place on
+-- the same bytes with a part of them overwritten, from an offset on
 abbrev pub with_part : ℕ → List ℕ → List ℕ → List ℕ
-with_part place part bytes = take place bytes ++ (part ++ drop (place + length part) bytes)
+with_part offset [] bytes = bytes
+with_part offset (byte ∷ part) bytes = with_part (offset + 1) part (slice_set bytes offset byte)
 
--- the same bytes with another address and another checksum: the source is bytes 12 to 15, the
--- destination bytes 16 to 19
-abbrev pub with_source_and_checksum : List ℕ → ℕ → List ℕ → List ℕ
-with_source_and_checksum source checksum bytes =
-    with_part 12 source (with_part 10 (to_be_bytes w16 checksum) bytes)
-
-abbrev pub with_destination_and_checksum : List ℕ → ℕ → List ℕ → List ℕ
-with_destination_and_checksum destination checksum bytes =
-    with_part 16 destination (with_part 10 (to_be_bytes w16 checksum) bytes)
+-- the same bytes with another field, from an offset on, and another checksum: bytes 10 and 11
+abbrev pub with_field_and_checksum : ℕ → List ℕ → ℕ → List ℕ → List ℕ
+with_field_and_checksum offset field checksum bytes =
+    with_part 10 (to_be_bytes w16 checksum) (with_part offset field bytes)
 
 -- What a changed header keeps of its checksum, with either reserved bit: the computed one is
 -- computed again, and a receiver finds it right where it was right before.
 pub record KeepsChecksum (old new : Ipv4Header) : Type 0 where
   pub stays_computed : (reserved : ℕ) (before after : List ℕ)
-      → IsIpv4Layout old reserved before → IsIpv4Layout new reserved after
+      → IsIpv4LayoutWith old reserved before → IsIpv4LayoutWith new reserved after
       → old.header_checksum ≡ header_checksum_of before
       → new.header_checksum ≡ header_checksum_of after
   pub all_ones : (reserved : ℕ) (before after : List ℕ)
-      → IsIpv4Layout old reserved before → IsIpv4Layout new reserved after
+      → IsIpv4LayoutWith old reserved before → IsIpv4LayoutWith new reserved after
       → SumsToAllOnes before ↔ SumsToAllOnes after
 
 -- The changed packet begins with this header and the rest, and the header's bytes sum to all ones
 -- exactly where those of the packet did.
 pub record BecomesPacketOf (packet changed : List ℕ) (header : Ipv4Header) (rest : List ℕ)
     : Type 0 where
-  pub begins : BeginsWith HasIpv4Layout changed header rest
+  pub begins : BeginsWith IsIpv4Layout changed header rest
   pub all_ones : SumsToAllOnes (take (ipv4_header_len header) packet)
       ↔ SumsToAllOnes (take (ipv4_header_len header) changed)
 
--- with the time to live and the checksum of this header written over its own
-abbrev pub IsWrittenInPlace : List ℕ → Ipv4Header → List ℕ → Type 0
-IsWrittenInPlace packet header rest = BecomesPacketOf packet
-    (with_time_to_live_and_checksum header.time_to_live header.header_checksum packet) header rest
+-- each packet of the old header becomes one of the new, where the field, from an offset on, and the
+-- checksum of the new are written over the old
+abbrev pub ChangesInPlace : Ipv4Header → Ipv4Header → ℕ → List ℕ → Type 0
+ChangesInPlace old new offset field = (packet rest : List ℕ)
+    → BeginsWith IsIpv4Layout packet old rest → BecomesPacketOf packet
+    (with_field_and_checksum offset field new.header_checksum packet) new rest

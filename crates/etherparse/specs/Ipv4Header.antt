@@ -1,9 +1,9 @@
 -- The IPv4 header (RFC 791 section 3.1; RFC 2474 section 3 for the DSCP, RFC 3168 section 5 for the
 -- ECN).
-use Rattle.std.specs.Prelude.{ℕ, ◌≡◌, ◌≢◌, ◌+◌, ◌-◌, ◌*◌, ◌/◌, ◌%◌, ◌^◌, ◌<◌, ◌≤◌, ◌⊎◌}
-use Rattle.std.specs.Prelude.{List, [], length, drop, slice_index, slice_range, slice_set}
-use Rattle.std.specs.Prelude.{replicate}
-use Rattle.std.specs.Prelude.{Result, Ok, Err, true, false, IsTrue, if◌then◌else◌, nat_le}
+use Rattle.std.specs.Prelude.{ℕ, ◌≡◌, ◌≢◌, ◌+◌, ◌-◌, ◌*◌, ◌/◌, ◌%◌, ◌^◌, ◌<◌, ◌≤◌, ◌↔◌, ◌⊎◌}
+use Rattle.std.specs.Prelude.{List, [], ◌++◌, length, drop, take}
+use Rattle.std.specs.Prelude.{slice_index, slice_range, slice_set, replicate}
+use Rattle.std.specs.Prelude.{IfOk, Result, Ok, Err, true, false, IsTrue, if◌then◌else◌, nat_le}
 use Rattle.std.specs.Int.{from_be_bytes, from_bool, w16}
 use Rattle.etherparse_base.specs.Bytes.{IsBytes}
 use Rattle.etherparse_base.specs.declared.len_source.LenSource.TheVariants.{Ipv4HeaderTotalLen}
@@ -17,7 +17,7 @@ use Rattle.etherparse_fields.specs.IpEcn.{ecn_value}
 use Rattle.etherparse_fields.specs.Ipv4Options.{IsOptionsLen}
 use Rattle.etherparse_fields.specs.declared.net.ip_ecn.IpEcn.TheVariants.{NotEct}
 use Rattle.etherparse.specs.FirstByte.{ihl_of, version_of}
-use Rattle.etherparse.specs.Reading.{BeginsAs, BeginsWith, HasOtherVersion, IsTooShort}
+use Rattle.etherparse.specs.Reading.{HasFront, BeginsWith, HasOtherVersion, IsTooShort}
 use Rattle.etherparse.specs.declared.net.ipv4_header.Ipv4Header.{Ipv4Header}
 
 -- the length of a header in bytes: 20, and its options
@@ -32,7 +32,7 @@ ipv4_ihl header = 5 + length header.options / 4
 -- with the ECN; the total length; the identification; the flags (a reserved bit, don't fragment,
 -- more fragments) with the fragment offset; the time to live; the protocol; the header checksum;
 -- the source address; the destination address; the options. The reserved bit is no field of it.
-pub record IsIpv4Layout (header : Ipv4Header) (reserved : ℕ) (bytes : List ℕ) : Type 0 where
+pub record IsIpv4LayoutWith (header : Ipv4Header) (reserved : ℕ) (bytes : List ℕ) : Type 0 where
   pub len : length bytes ≡ ipv4_header_len header
   pub are_bytes : IsBytes bytes
   pub version_ihl : slice_index bytes 0 ≡ 4 * 2 ^ 4 + ipv4_ihl header
@@ -54,13 +54,13 @@ pub record IsIpv4Layout (header : Ipv4Header) (reserved : ℕ) (bytes : List ℕ
   pub reserved_fits : reserved < 2
 
 -- the bytes are in the layout of the header, with either reserved bit
-pub record HasIpv4Layout (header : Ipv4Header) (bytes : List ℕ) : Type 0 where
+pub record IsIpv4Layout (header : Ipv4Header) (bytes : List ℕ) : Type 0 where
   pub reserved : ℕ
-  pub layout : IsIpv4Layout header reserved bytes
+  pub layout : IsIpv4LayoutWith header reserved bytes
 
 -- the fact holds of each header whose layout the bytes are in; there is at most one
 abbrev pub OfIpv4Header : List ℕ → (Ipv4Header → Type 0) → Type 0
-OfIpv4Header bytes P = (header : Ipv4Header) → HasIpv4Layout header bytes → P header
+OfIpv4Header bytes P = (header : Ipv4Header) → IsIpv4Layout header bytes → P header
 
 -- the same bytes with the reserved bit 0: it is the highest bit of byte 6
 abbrev pub with_reserved_bit_cleared : List ℕ → List ℕ
@@ -97,12 +97,26 @@ Ipv4Reading = Result (Ipv4Header × List ℕ) error.HeaderSliceError
 
 -- Reading: the front of the slice is this header, and the rest follows; or why there is none.
 abbrev pub ReadsIpv4 : List ℕ → Ipv4Reading → Type 0
-ReadsIpv4 s (Ok x) = BeginsWith HasIpv4Layout s x.0 x.1
+ReadsIpv4 s (Ok x) = BeginsWith IsIpv4Layout s x.0 x.1
 ReadsIpv4 s (Err e) = RefusesIpv4 s e
+
+-- The reading of a slice has this answer, and no other.
+pub record IsIpv4ReadingOf (s : List ℕ) (answer : Ipv4Reading) : Type 0 where
+  pub reads : ReadsIpv4 s answer
+  pub only : (other : Ipv4Reading) → ReadsIpv4 s other → other ≡ answer
+  -- What was read is written again, with the reserved bit 0.
+  pub cleared : IfOk answer (λ x. (front : List ℕ) → s ≡ front ++ x.1
+      → IsIpv4LayoutWith x.0 0 (with_reserved_bit_cleared front))
+  -- Of bytes that have a header, it is the same exactly where they agree in all but that bit.
+  pub same_header : IfOk answer (λ x. (front : List ℕ) → s ≡ front ++ x.1 → (bytes : List ℕ)
+      → OfIpv4Header bytes (λ header. (header ≡ x.0) ↔ AgreeButForReservedBit bytes front))
+  -- A packet that is cut behind the header begins with it still.
+  pub cut : IfOk answer (λ x. (n : ℕ) → n ≤ length x.1
+      → BeginsWith IsIpv4Layout (take (ipv4_header_len x.0 + n) s) x.0 (take n x.1))
 
 -- Viewing: this front of the slice is a header; or why there is none.
 abbrev pub ViewsIpv4 : List ℕ → Result (List ℕ) error.HeaderSliceError → Type 0
-ViewsIpv4 s (Ok front) = BeginsAs HasIpv4Layout s front
+ViewsIpv4 s (Ok front) = HasFront IsIpv4Layout s front
 ViewsIpv4 s (Err e) = RefusesIpv4 s e
 
 -- The header that is made with no field given. Don't fragment is set, and the protocol is 255,

@@ -1,6 +1,7 @@
 -- The IPv6 header (RFC 8200 section 3).
-use Rattle.std.specs.Prelude.{ℕ, ◌≡◌, ◌+◌, ◌*◌, ◌^◌, ◌<◌, List, length, slice_index, slice_range}
-use Rattle.std.specs.Prelude.{Result, Ok, Err, replicate}
+use Rattle.std.specs.Prelude.{ℕ, ◌≡◌, ◌+◌, ◌*◌, ◌^◌, ◌<◌, ◌≤◌, List, ◌++◌, length, take}
+use Rattle.std.specs.Prelude.{slice_index, slice_range, IfOk, Result, Ok, Err, replicate}
+use Rattle.std.specs.List.{concat}
 use Rattle.std.specs.Int.{from_be_bytes, w16, w32}
 use Rattle.etherparse_base.specs.Bytes.{IsBytes}
 use Rattle.etherparse_base.specs.declared.err.layer.Layer.TheVariants as layer
@@ -8,7 +9,8 @@ use Rattle.etherparse_base.specs.declared.err.ipv6.header_error.HeaderError.TheV
 use Rattle.etherparse_base.specs.declared.err.ipv6.header_slice_error.HeaderSliceError as error
 use Rattle.etherparse_base.specs.declared.err.ipv6.header_slice_error.HeaderSliceError.TheVariants
     as slice
-use Rattle.etherparse.specs.Reading.{BeginsAs, BeginsWith, HasOtherVersion, IsTooShort}
+use Rattle.etherparse.specs.ExtensionHeaderChain.{BeginsWithChain, IsExtensionHeaderChain}
+use Rattle.etherparse.specs.Reading.{HasFront, BeginsWith, HasOtherVersion, IsTooShort}
 use Rattle.etherparse.specs.declared.net.ipv6_header.Ipv6Header.{Ipv6Header}
 
 -- The 40 bytes of a header, in network byte order: the version, which is 6, with the traffic class
@@ -45,9 +47,30 @@ abbrev pub ReadsIpv6 : List ℕ → Ipv6Reading → Type 0
 ReadsIpv6 s (Ok x) = BeginsWith IsIpv6Layout s x.0 x.1
 ReadsIpv6 s (Err e) = RefusesIpv6 s e
 
+-- the packet is an IPv6 header, a chain of the extension headers after it, and the rest after them
+pub record HasIpv6Chain (packet : List ℕ) (header : Ipv6Header) (headers : List (List ℕ))
+    (last : ℕ) (rest : List ℕ) : Type 0 where
+  pub front : List ℕ
+  pub layout : IsIpv6Layout header front
+  pub chain : IsExtensionHeaderChain header.next_header headers last
+  pub whole : packet ≡ front ++ (concat headers ++ rest)
+
+-- The reading of a slice has this answer, and no other.
+pub record IsIpv6ReadingOf (s : List ℕ) (answer : Ipv6Reading) : Type 0 where
+  pub reads : ReadsIpv6 s answer
+  pub only : (other : Ipv6Reading) → ReadsIpv6 s other → other ≡ answer
+  -- With a chain of extension headers behind the header, the slice is the header, the chain and
+  -- what is left.
+  pub chain : IfOk answer (λ x. (headers : List (List ℕ)) (last : ℕ) (rest : List ℕ)
+      → BeginsWithChain x.1 x.0.next_header headers last rest
+      → HasIpv6Chain s x.0 headers last rest)
+  -- A packet that is cut behind the header begins with it still.
+  pub cut : IfOk answer (λ x. (n : ℕ) → n ≤ length x.1
+      → BeginsWith IsIpv6Layout (take (40 + n) s) x.0 (take n x.1))
+
 -- Viewing: this front of the slice is a header; or why there is none.
 abbrev pub ViewsIpv6 : List ℕ → Result (List ℕ) error.HeaderSliceError → Type 0
-ViewsIpv6 s (Ok front) = BeginsAs IsIpv6Layout s front
+ViewsIpv6 s (Ok front) = HasFront IsIpv6Layout s front
 ViewsIpv6 s (Err e) = RefusesIpv6 s e
 
 -- the header that is made with no field given: all is 0, but for the next header, which is reserved

@@ -15,7 +15,7 @@ pub record BeginsWith {H : Type 0} (Layout : H → List ℕ → Type 0) (s : Lis
   pub layout : Layout header front
 
 -- viewing: the slice begins with this front, which is in the layout of a header
-pub record BeginsAs {H : Type 0} (Layout : H → List ℕ → Type 0) (s front : List ℕ) : Type 0 where
+pub record HasFront {H : Type 0} (Layout : H → List ℕ → Type 0) (s front : List ℕ) : Type 0 where
   pub header : H
   pub rest : List ℕ
   pub whole : s ≡ front ++ rest
@@ -33,7 +33,7 @@ too_short_error layer required_len len = record {
 
 -- the slice is refused since it is shorter than the layer needs
 pub record IsTooShort (layer : Layer) (required_len : ℕ) (s : List ℕ) (e : LenError) : Type 0 where
-  pub few : length s < required_len
+  pub short : length s < required_len
   pub error : e ≡ too_short_error layer required_len (length s)
 
 -- Reading of a header that always has so many bytes, for a layer above: the front of the slice is

@@ -1,9 +1,10 @@
-//! Laws of the derived equality and clones of headers and views, and of the parts of the traffic class, which no clause of
-//! one call alone says. Nothing calls them: they are there to be proved.
+//! Laws of the derived equality and clones of headers and views, and of the parts of the traffic
+//! class, which no clause of one call alone says. Nothing calls them: they are there to be proved.
 
 ghost use Rattle.std.specs.Prelude.{◌≡◌, ◌↔◌, IsTrue, Ok};
 ghost use Rattle.etherparse_fields.specs.IpEcn.{ecn_value};
-ghost use Rattle.etherparse.specs.TrafficClass.{traffic_class_dscp, traffic_class_ecn, traffic_class_of};
+ghost use Rattle.etherparse.specs.TrafficClass.{traffic_class_dscp, traffic_class_ecn};
+ghost use Rattle.etherparse.specs.TrafficClass.{traffic_class_of};
 
 use crate::{IpDscp, IpEcn, Ipv4Header, Ipv4HeaderSlice, Ipv6Header, Ipv6HeaderSlice};
 use std::alloc::AllocError;

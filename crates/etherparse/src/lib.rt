@@ -19,8 +19,6 @@
 
 mod laws;
 mod net;
-#[cfg(test)]
-mod testing;
 
 pub use etherparse_base::{LenSource, checksum, err};
 pub use etherparse_fields::{

@@ -1,34 +1,13 @@
-ghost use Rattle.std.specs.Prelude.{◌≡◌, ◌≤◌, ◌+◌, ◌++◌, ◌<◌, IfOk, IfErr, length};
-ghost use Rattle.etherparse_base.specs.Bytes.{IsBytes};
-ghost use Rattle.etherparse_base.specs.WordSums.{folded_sum, little_endian_word_sum};
-ghost use Rattle.etherparse_fields.specs.Ipv4Options.{IsOptionsLen};
-ghost use Rattle.etherparse.specs.Ipv4Header.{payload_len_of};
+mod fixed_and_options;
 
 use super::ipv4_header_slice::options_of;
-use crate::checksum::{Sum16BitWords, update_2bytes, update_4bytes};
+use super::ipv4_payload_len::payload_len_between;
+use crate::checksum::{update_2bytes, update_4bytes};
 use crate::err::ipv4::{BadOptionsLen, HeaderSliceError};
-use crate::err::{Layer, LenError, ValueTooBigError, ValueType};
-use crate::{IpDscp, IpEcn, IpFragOffset, IpNumber, Ipv4HeaderSlice, Ipv4Options, LenSource};
+use crate::err::{LenError, ValueTooBigError, ValueType};
+use crate::{IpDscp, IpEcn, IpFragOffset, IpNumber, Ipv4HeaderSlice, Ipv4Options};
 use arrayvec::ArrayVec;
-
-// A call with the number of bytes of options as one that the compiler knows: what is copied or summed then takes no call.
-macro_rules! by_options_len {
-    ($options:ident, $function:ident($($argument:ident),*)) => {
-        match $options.len() {
-            0 => $function::<0>($($argument),*),
-            4 => $function::<4>($($argument),*),
-            8 => $function::<8>($($argument),*),
-            12 => $function::<12>($($argument),*),
-            16 => $function::<16>($($argument),*),
-            20 => $function::<20>($($argument),*),
-            24 => $function::<24>($($argument),*),
-            28 => $function::<28>($($argument),*),
-            32 => $function::<32>($($argument),*),
-            36 => $function::<36>($($argument),*),
-            _ => $function::<40>($($argument),*),
-        }
-    };
-}
+use fixed_and_options::{add_options, are_bytes, front_and_options, sum_of_fixed};
 
 /// An IPv4 header with its options (RFC 791 section 3.1).
 ///
@@ -41,19 +20,19 @@ pub struct Ipv4Header {
     pub ecn: IpEcn,
     /// The length of the header and what follows it, in bytes.
     pub total_len: u16,
-    /// What the fragments of one packet have in common.
+    /// Equal in all fragments of one packet.
     pub identification: u16,
-    /// Whether the packet must not be cut into fragments.
+    /// Whether routers must not fragment the packet.
     pub dont_fragment: bool,
     /// Whether more fragments follow this one.
     pub more_fragments: bool,
     /// Where the fragment stands in the packet, in units of 8 bytes.
     pub fragment_offset: IpFragOffset,
-    /// Lowered by one by each node that forwards the packet, which discards it at 0.
+    /// Decremented by every router; at 0 the packet is discarded.
     pub time_to_live: u8,
     /// The protocol of what follows the header.
     pub protocol: IpNumber,
-    /// The checksum over the header, as it was read or is to be written.
+    /// The checksum over the header, right or wrong: bytes 10 and 11, the high byte first.
     pub header_checksum: u16,
     /// The address of the sender.
     pub source: [u8; 4],
@@ -63,22 +42,26 @@ pub struct Ipv4Header {
     pub options: Ipv4Options,
 }
 
+const _: () = prove!(Ipv4Header::MIN_LEN == 20 && Ipv4Header::MIN_LEN_U16 == 20);
+
+const _: () = prove!(Ipv4Header::MAX_LEN == 60 && Ipv4Header::SERIALIZED_SIZE == 20);
+
 impl Ipv4Header {
-    ghost use Rattle.std.specs.Prelude.{ℕ, ◌≡◌, ◌+◌, ◌*◌, ◌/◌, ◌^◌, ◌<◌, ◌≤◌, ◌↔◌, ◌⊎◌, List, [], ◌∷◌, ◌++◌, Ok, IsOk, IfOk, OnOk, OnErr, IfErr, IsTrue, length, take};
+    ghost use Rattle.std.specs.Prelude.{ℕ, ◌≡◌, ◌+◌, ◌*◌, ◌/◌, ◌^◌, ◌<◌, ◌≤◌, ◌↔◌, ◌⊎◌};
+    ghost use Rattle.std.specs.Prelude.{List, [], ◌∷◌, ◌++◌, length};
+    ghost use Rattle.std.specs.Prelude.{IfErr, IfOk, IsOk, IsTrue, Ok, OnErr, OnOk};
     ghost use Rattle.std.specs.Int.{from_bool, to_be_bytes, w16};
     ghost use Rattle.etherparse_base.specs.WordSums.{SumsToAllOnes, updated_checksum};
     ghost use Rattle.etherparse_base.specs.WordSums.{updated_checksum_of_words};
     ghost use Rattle.etherparse_fields.specs.IpEcn.{ecn_value};
     ghost use Rattle.etherparse_fields.specs.Ipv4Options.{IsOptionsLen};
-    ghost use Rattle.etherparse.specs.HeaderChecksum.{BecomesPacketOf, IsWrittenInPlace};
-    ghost use Rattle.etherparse.specs.HeaderChecksum.{KeepsChecksum, header_checksum_of};
-    ghost use Rattle.etherparse.specs.HeaderChecksum.{with_destination_and_checksum};
-    ghost use Rattle.etherparse.specs.HeaderChecksum.{with_source_and_checksum};
-    ghost use Rattle.etherparse.specs.Ipv4Header.{AgreeButForReservedBit, HasIpv4Layout, IsFragment, IsIpv4Layout, Ipv4Reading, OfIpv4Header, ReadsIpv4, ViewsIpv4};
-    ghost use Rattle.etherparse.specs.Ipv4Header.{default_ipv4_header, ipv4_header_len, ipv4_ihl, ipv4_max_payload_len};
-    ghost use Rattle.etherparse.specs.Ipv4Header.{ipv4_payload_len, with_reserved_bit_cleared};
-    ghost use Rattle.etherparse.specs.Reading.{BeginsWith, found_and_rest};
-    ghost use Rattle.etherparse_base.specs.declared.err.value_type.ValueType.TheVariants as value_type;
+    ghost use Rattle.etherparse.specs.HeaderChecksum.{ChangesInPlace, KeepsChecksum};
+    ghost use Rattle.etherparse.specs.HeaderChecksum.{header_checksum_of};
+    ghost use Rattle.etherparse.specs.Ipv4Header.{IsIpv4Layout, IsFragment, IsIpv4LayoutWith};
+    ghost use Rattle.etherparse.specs.Ipv4Header.{IsIpv4ReadingOf, ReadsIpv4, ViewsIpv4};
+    ghost use Rattle.etherparse.specs.Ipv4Header.{default_ipv4_header, ipv4_header_len, ipv4_ihl};
+    ghost use Rattle.etherparse.specs.Ipv4Header.{ipv4_max_payload_len, ipv4_payload_len};
+    ghost use Rattle.etherparse.specs.Reading.{found_and_rest};
 
     /// The length of a header with no options, in bytes.
     pub const MIN_LEN: usize = 20;
@@ -92,13 +75,16 @@ impl Ipv4Header {
     /// An older name of [`Ipv4Header::MIN_LEN`].
     pub const SERIALIZED_SIZE: usize = 20;
 
-    /// The header of a payload of this length in bytes. It has no options, and what is not given is as in the default, so the
-    /// checksum is 0.
+    // The longest payload of a header with no options, in bytes: `total_len` counts both.
+    const MAX_PAYLOAD_LEN: u16 = u16::MAX - Ipv4Header::MIN_LEN_U16;
+
+    /// A header without options for a payload of this length in bytes. All else is as in the
+    /// default, so the checksum is 0: [`Ipv4Header::calc_header_checksum`] gives the right one.
     ///
     /// # Errors
     ///
-    /// A `ValueTooBigError` where the payload is above 65515 bytes, which with the header are more than `total_len` has
-    /// room for.
+    /// A `ValueTooBigError` where the payload is longer than 65515 bytes: with the header that is
+    /// more than `total_len` has room for.
     pub fn new(
         payload_len: u16,
         time_to_live: u8,
@@ -106,25 +92,24 @@ impl Ipv4Header {
         source: [u8; 4],
         destination: [u8; 4],
     ) -> Result<Ipv4Header, ValueTooBigError<u16>>
-        ensures accepted { IsOk result ↔ (payload_len ≤ 65515) }
+        ensures accepted { IsOk result ↔ (payload_len ≤ Self.MAX_PAYLOAD_LEN) }
         ensures refused { IfErr result (λ e. e ≡ record {
           actual = payload_len;
-          max_allowed = 65515;
-          value_type = value_type.Ipv4PayloadLength;
+          max_allowed = Self.MAX_PAYLOAD_LEN;
+          value_type = ValueType.Ipv4PayloadLength;
         }) }
         ensures made { IfOk result (λ header. header ≡ record default_ipv4_header {
-          total_len = 20 + payload_len;
+          total_len = Self.MIN_LEN + payload_len;
           time_to_live = time_to_live;
           protocol = protocol;
           source = source;
           destination = destination;
         }) }
     {
-        const MAX_PAYLOAD_LEN: u16 = 65515;
-        if payload_len > MAX_PAYLOAD_LEN {
+        if payload_len > Ipv4Header::MAX_PAYLOAD_LEN {
             return Err(ValueTooBigError {
                 actual: payload_len,
-                max_allowed: MAX_PAYLOAD_LEN,
+                max_allowed: Ipv4Header::MAX_PAYLOAD_LEN,
                 value_type: ValueType::Ipv4PayloadLength,
             });
         }
@@ -147,53 +132,57 @@ impl Ipv4Header {
         self.options.len_u8() / 4 + 5
     }
 
-    /// The length of the header with its options, in bytes.
+    /// The length of the header with its options in bytes, 20 to 60 in steps of 4.
     #[inline]
     pub fn header_len(&self) -> usize
         ensures value { result ≡ ipv4_header_len self.now }
-        ensures within { result ≤ 60 }
+        ensures within { result ≤ Self.MAX_LEN }
         ensures in_words { result ≡ 4 * ipv4_ihl self.now }
     {
         Ipv4Header::MIN_LEN + self.options.len()
     }
 
-    /// The length of what follows the header, in bytes, as the total length tells of it.
+    /// The length of the payload in bytes: the total length, less the header.
     ///
     /// # Errors
     ///
-    /// A `LenError` where the total length is below the length of the header: the first is its `len`, the second its
-    /// `required_len`.
+    /// A `LenError` where the total length is below the length of the header: `len` is then the
+    /// total length, `required_len` the header length.
     #[inline]
     pub fn payload_len(&self) -> Result<u16, LenError>
         ensures value { result ≡ ipv4_payload_len self.now }
-        ensures of_total { IfOk result (λ len. ipv4_header_len self.now + len ≡ self.now.total_len) }
+        ensures of_total { IfOk result (λ len.
+            ipv4_header_len self.now + len ≡ self.now.total_len) }
         ensures short { IfErr result (λ e. self.now.total_len < ipv4_header_len self.now) }
     {
         payload_len_between(self.header_len() as u16, self.total_len)
     }
 
-    /// The length of the longest payload that fits after the header, in bytes: 65515, less the options.
+    /// The length of the longest payload that fits after the header, in bytes: 65515, less the
+    /// options.
     #[inline]
     pub fn max_payload_len(&self) -> u16
         ensures value { result ≡ ipv4_max_payload_len self.now }
         ensures at_least { 65475 ≤ result }
-        ensures within { result ≤ 65515 }
+        ensures within { result ≤ Self.MAX_PAYLOAD_LEN }
     {
-        u16::MAX - Ipv4Header::MIN_LEN_U16 - u16::from(self.options.len_u8())
+        Ipv4Header::MAX_PAYLOAD_LEN - u16::from(self.options.len_u8())
     }
 
-    /// Sets the total length to that of the header and a payload of this length, in bytes.
+    /// Sets the total length to that of the header and a payload of this length, in bytes. Options
+    /// that are changed afterwards do not change it.
     ///
     /// # Errors
     ///
-    /// A `ValueTooBigError` where the payload is above [`Ipv4Header::max_payload_len`]. The header is then as it was.
+    /// A `ValueTooBigError` where the payload is above [`Ipv4Header::max_payload_len`]. The header
+    /// is then as it was.
     pub fn set_payload_len(&mut self, value: usize) -> Result<(), ValueTooBigError<usize>>
         ensures accepted { IsOk result ↔ (value ≤ ipv4_max_payload_len self.old) }
         ensures fits_any_options { value ≤ 65475 → IsOk result }
         ensures refused { IfErr result (λ e. e ≡ record {
           actual = value;
           max_allowed = ipv4_max_payload_len self.old;
-          value_type = value_type.Ipv4PayloadLength;
+          value_type = ValueType.Ipv4PayloadLength;
         }) }
         ensures set { OnOk result (self.new ≡ record self.old {
           total_len = ipv4_header_len self.old + value;
@@ -219,11 +208,13 @@ impl Ipv4Header {
         self.options.as_slice()
     }
 
-    /// Puts these bytes in the place of the options: an older way to set the field. The total length stays what it was.
+    /// Puts these bytes in the place of the options: an older way to set the field. The total
+    /// length stays what it was.
     ///
     /// # Errors
     ///
-    /// A `BadOptionsLen` where there are more than 40 bytes, or not whole words of 4 bytes. The header is then as it was.
+    /// A `BadOptionsLen` where there are more than 40 bytes, or not whole words of 4 bytes. The
+    /// header is then as it was.
     pub fn set_options(&mut self, data: &[u8]) -> Result<(), BadOptionsLen>
         ensures accepted { IsOk result ↔ IsOptionsLen (length «data».now) }
         ensures refused { IfErr result (λ e. e ≡ record { bad_len = length «data».now }) }
@@ -234,7 +225,7 @@ impl Ipv4Header {
         Ok(())
     }
 
-    /// Whether the payload is a part of one that was cut: more fragments follow it, or its offset is not 0.
+    /// Whether the payload is a fragment: more fragments follow it, or its offset is not 0.
     #[inline]
     pub fn is_fragmenting_payload(&self) -> bool
         ensures value { IsTrue result ↔ IsFragment self.now }
@@ -242,57 +233,28 @@ impl Ipv4Header {
         self.more_fragments || self.fragment_offset.value() != 0
     }
 
-    /// An older name of [`Ipv4Header::from_slice`], with its answers.
+    /// An older name of [`Ipv4Header::from_slice`].
     ///
     /// # Errors
     ///
     /// Those of [`Ipv4Header::from_slice`].
     #[inline]
     pub fn read_from_slice(slice: &[u8]) -> Result<(Ipv4Header, &[u8]), HeaderSliceError>
-        ensures reads { ReadsIpv4 slice.now (found_and_rest result) }
-        ensures only { (other : Ipv4Reading) → ReadsIpv4 slice.now other →
-            other ≡ found_and_rest result }
-
-        // What was read is written again, with the reserved bit 0.
-        ensures cleared { IfOk result (λ x. (front : List ℕ) → slice.now ≡ front ++ x.1.now →
-            IsIpv4Layout x.0 0 (with_reserved_bit_cleared front)) }
-
-        // Of bytes that have a header, it is the same exactly where they agree in all but the reserved bit.
-        ensures same_header { IfOk result (λ x. (front : List ℕ) → slice.now ≡ front ++ x.1.now →
-            (bytes : List ℕ) → OfIpv4Header bytes (λ header. (header ≡ x.0)
-            ↔ AgreeButForReservedBit bytes front)) }
-
-        // A packet that is cut behind the header begins with it still.
-        ensures cut { IfOk result (λ x. (n : ℕ) → n ≤ length x.1.now → BeginsWith HasIpv4Layout
-            (take (ipv4_header_len x.0 + n) slice.now) x.0 (take n x.1.now)) }
+        ensures reads { IsIpv4ReadingOf slice.now (found_and_rest result) }
     {
         Ipv4Header::from_slice(slice)
     }
 
-    /// The header at the front of a slice, and all the bytes after it, however many `total_len` tells of.
+    /// The header at the front of a slice, and all the bytes after it. They are not cut at
+    /// `total_len`: [`Ipv4Header::payload_len`] says how many of them are the payload.
     ///
     /// # Errors
     ///
-    /// In this order: `Len` where the slice has fewer than 20 bytes; `Content` where the version is not 4, or the IHL is
-    /// below 5; `Len` where the slice has fewer bytes than the IHL says.
+    /// In this order: `Len` where the slice has fewer than 20 bytes; `Content` where the version is
+    /// not 4, or the IHL is below 5; `Len` where the slice has fewer bytes than the IHL says.
     #[inline(always)]
     pub fn from_slice(slice: &[u8]) -> Result<(Ipv4Header, &[u8]), HeaderSliceError>
-        ensures reads { ReadsIpv4 slice.now (found_and_rest result) }
-        ensures only { (other : Ipv4Reading) → ReadsIpv4 slice.now other →
-            other ≡ found_and_rest result }
-
-        // What was read is written again, with the reserved bit 0.
-        ensures cleared { IfOk result (λ x. (front : List ℕ) → slice.now ≡ front ++ x.1.now →
-            IsIpv4Layout x.0 0 (with_reserved_bit_cleared front)) }
-
-        // Of bytes that have a header, it is the same exactly where they agree in all but the reserved bit.
-        ensures same_header { IfOk result (λ x. (front : List ℕ) → slice.now ≡ front ++ x.1.now →
-            (bytes : List ℕ) → OfIpv4Header bytes (λ header. (header ≡ x.0)
-            ↔ AgreeButForReservedBit bytes front)) }
-
-        // A packet that is cut behind the header begins with it still.
-        ensures cut { IfOk result (λ x. (n : ℕ) → n ≤ length x.1.now → BeginsWith HasIpv4Layout
-            (take (ipv4_header_len x.0 + n) slice.now) x.0 (take n x.1.now)) }
+        ensures reads { IsIpv4ReadingOf slice.now (found_and_rest result) }
     {
         let view = Ipv4HeaderSlice::from_slice(slice)?;
         let len = view.slice.len();
@@ -300,20 +262,24 @@ impl Ipv4Header {
         if len == Ipv4Header::MIN_LEN {
             return Ok((view.header_with(Ipv4Options::new()), rest));
         }
-        // A number of bytes that the compiler knows is copied with no call, so 40 are where there are as many.
+        // A number of bytes that the compiler knows is copied with no call, so 40 are where there
+        // are as many.
         if slice.len() >= Ipv4Header::MAX_LEN {
-            let bytes = slice[20..60].first_chunk::<40>().unwrap();
+            let bytes = slice[Ipv4Header::MIN_LEN..Ipv4Header::MAX_LEN]
+                .first_chunk::<40>()
+                .unwrap();
             let options = Ipv4Options::from_front(bytes, len - Ipv4Header::MIN_LEN);
             return Ok((view.header_with(options), rest));
         }
         Ok((view.header_with(options_of(view.options())), rest))
     }
 
-    /// The bytes of the header, in network byte order, with the reserved bit 0 and the checksum that the header has.
+    /// The bytes of the header, in network byte order, with the reserved bit 0 and the checksum
+    /// that the header has.
     #[inline(always)]
     pub fn to_bytes(&self) -> ArrayVec<u8, 60>
-        ensures layout { IsIpv4Layout self.now 0 result.items }
-        ensures only { (bytes : List ℕ) → IsIpv4Layout self.now 0 bytes → bytes ≡ result.items }
+        ensures layout { IsIpv4LayoutWith self.now 0 result.items }
+        ensures only { (bytes : List ℕ) → IsIpv4LayoutWith self.now 0 bytes → bytes ≡ result.items }
         ensures read_again { (rest : List ℕ) →
             ReadsIpv4 (result.items ++ rest) (Ok (self.now, rest)) }
         ensures viewed_again { (rest : List ℕ) →
@@ -326,30 +292,30 @@ impl Ipv4Header {
             ↔ ((self.now.header_checksum ≡ header_checksum_of result.items)
             ⊎ ((self.now.header_checksum ≡ 65535) × (header_checksum_of result.items ≡ 0))) }
     {
-        joined(&self.front(self.header_checksum), self.options.as_slice())
+        front_and_options(&self.front(self.header_checksum), self.options.as_slice())
     }
 
-    /// The checksum that the header should have: the complement of the ones-complement sum of its words in network byte
-    /// order, with 0 for the checksum, whatever `header_checksum` is (RFC 791 section 3.1, RFC 1071 section 1). It is never
-    /// 0xffff.
+    /// The checksum that the header should have: the complement of the ones-complement sum of its
+    /// words in network byte order, with 0 for the checksum, whatever `header_checksum` is (RFC 791
+    /// section 3.1, RFC 1071 section 1). It is never 0xffff. The reserved bit counts as 0: for a
+    /// packet that has it, sum the bytes of the view.
     pub fn calc_header_checksum(&self) -> u16
-        ensures value { (bytes : List ℕ) → IsIpv4Layout self.now 0 bytes →
+        ensures value { (bytes : List ℕ) → IsIpv4LayoutWith self.now 0 bytes →
             result ≡ header_checksum_of bytes }
         ensures whatever_is_stored { (stored : ℕ) → (bytes : List ℕ) →
-            IsIpv4Layout (record self.now { header_checksum = stored }) 0 bytes →
+            IsIpv4LayoutWith (record self.now { header_checksum = stored }) 0 bytes →
             result ≡ header_checksum_of bytes }
         ensures within { result < 65535 }
     {
-        let front = self.front(0);
-        let (most, last) = front.split_first_chunk::<16>().unwrap();
-        let fixed = add_fours(*most).add_4bytes(*last.first_chunk::<4>().unwrap());
+        let fixed = sum_of_fixed(self.front(0));
         add_options(fixed, self.options.as_slice())
             .ones_complement()
             .swap_bytes()
     }
 
-    /// Sets the time to live, and updates the stored checksum for it: [`update_2bytes`] for the word of the time to live and the
-    /// protocol (RFC 1624 section 3, equation 3). A checksum that was right is so afterwards, and one that was wrong is not.
+    /// Sets the time to live, and updates the stored checksum for the word of the time to live and
+    /// the protocol, by [`update_2bytes`] (RFC 1624 section 3, equation 3). A correct checksum
+    /// stays correct; an incorrect one is not repaired.
     ///
     /// The Rust crate has no such call.
     #[inline]
@@ -360,13 +326,10 @@ impl Ipv4Header {
               (self.old.time_to_live * 2 ^ 8 + self.old.protocol)
               (time_to_live * 2 ^ 8 + self.old.protocol);
         } }
-
-        // A right checksum stays right, and a wrong one wrong.
         ensures keeps_checksum { KeepsChecksum self.old self.new }
 
         // In a packet that is bytes 8, 10 and 11 and no other.
-        ensures in_place { (packet rest : List ℕ) → BeginsWith HasIpv4Layout packet self.old rest
-            → IsWrittenInPlace packet self.new rest }
+        ensures in_place { ChangesInPlace self.old self.new 8 (time_to_live ∷ []) }
     {
         let protocol = u8::from(self.protocol);
         self.header_checksum = update_2bytes(
@@ -377,8 +340,8 @@ impl Ipv4Header {
         self.time_to_live = time_to_live;
     }
 
-    /// Sets the source address, and updates the stored checksum for it by [`update_4bytes`]. A right
-    /// checksum stays right, and a wrong one wrong.
+    /// Sets the source address, and updates the stored checksum for it, by [`update_4bytes`]. A
+    /// correct checksum stays correct; an incorrect one is not repaired.
     ///
     /// The Rust crate has no such call.
     #[inline]
@@ -388,22 +351,18 @@ impl Ipv4Header {
           header_checksum = updated_checksum_of_words 2 self.old.header_checksum
               self.old.source source;
         } }
-
-        // A right checksum stays right, and a wrong one wrong.
         ensures keeps_checksum { KeepsChecksum self.old self.new }
 
-        // In a packet that is bytes 10 and 11 and the address, and no other.
-        ensures in_place { (packet rest : List ℕ) → BeginsWith HasIpv4Layout packet self.old rest
-            → BecomesPacketOf packet (with_source_and_checksum source
-            self.new.header_checksum packet) self.new rest }
+        // In a packet that is bytes 10 to 15 and no other.
+        ensures in_place { ChangesInPlace self.old self.new 12 source }
     {
         are_bytes(&source);
         self.header_checksum = update_4bytes(self.header_checksum, self.source, source);
         self.source = source;
     }
 
-    /// Sets the destination address, and updates the stored checksum for it by [`update_4bytes`]. A
-    /// right checksum stays right, and a wrong one wrong.
+    /// Sets the destination address, and updates the stored checksum for it, by [`update_4bytes`].
+    /// A correct checksum stays correct; an incorrect one is not repaired.
     ///
     /// The Rust crate has no such call.
     #[inline]
@@ -413,14 +372,10 @@ impl Ipv4Header {
           header_checksum = updated_checksum_of_words 2 self.old.header_checksum
               self.old.destination destination;
         } }
-
-        // A right checksum stays right, and a wrong one wrong.
         ensures keeps_checksum { KeepsChecksum self.old self.new }
 
-        // In a packet that is bytes 10 and 11 and the address, and no other.
-        ensures in_place { (packet rest : List ℕ) → BeginsWith HasIpv4Layout packet self.old rest
-            → BecomesPacketOf packet (with_destination_and_checksum destination
-            self.new.header_checksum packet) self.new rest }
+        // In a packet that is bytes 10 and 11 and bytes 16 to 19, and no other.
+        ensures in_place { ChangesInPlace self.old self.new 16 destination }
     {
         are_bytes(&destination);
         self.header_checksum = update_4bytes(self.header_checksum, self.destination, destination);
@@ -463,95 +418,6 @@ impl Ipv4Header {
     }
 }
 
-// A proof knows that the items of a slice are bytes; of an array that is passed it learns it here.
-#[inline(always)]
-fn are_bytes(bytes: &[u8])
-    ensures { IsBytes bytes.now }
-{}
-
-// The sum of sixteen bytes by words of four: of fields of two bytes each, words of eight take longer to put together.
-#[inline(always)]
-fn add_fours(bytes: [u8; 16]) -> Sum16BitWords
-    requires { length bytes ≡ 16 }
-    ensures sum { folded_sum result ≡ folded_sum (0 + little_endian_word_sum bytes) }
-{
-    let [a, b, c, d, e, f, g, h, i, j, k, l, m, n, o, p] = bytes;
-    Sum16BitWords::new()
-        .add_4bytes([a, b, c, d])
-        .add_4bytes([e, f, g, h])
-        .add_4bytes([i, j, k, l])
-        .add_4bytes([m, n, o, p])
-}
-
-// The sum with the bytes of the options. Of a length that the compiler knows they are summed where they are; else it puts the
-// whole header into memory first, and tests for each word whether it is there.
-#[inline(always)]
-fn add_options(fixed: Sum16BitWords, options: &[u8]) -> Sum16BitWords
-    requires options_len { IsOptionsLen (length options.now) }
-    ensures sum { folded_sum result ≡ folded_sum (fixed + little_endian_word_sum options.now) }
-{
-    by_options_len!(options, add_options_of(fixed, options))
-}
-
-// The same for N bytes of options.
-#[inline(always)]
-fn add_options_of<const N: usize>(fixed: Sum16BitWords, options: &[u8]) -> Sum16BitWords
-    requires options_len { length options.now ≡ N }
-    ensures sum { folded_sum result ≡ folded_sum (fixed + little_endian_word_sum options.now) }
-{
-    fixed.add_slice(&options[..N])
-}
-
-const _: () = prove!(Ipv4Header::MIN_LEN == 20 && Ipv4Header::MIN_LEN_U16 == 20);
-
-const _: () = prove!(Ipv4Header::MAX_LEN == 60 && Ipv4Header::SERIALIZED_SIZE == 20);
-
-// The length of a payload by the lengths of the header and of the packet.
-#[inline]
-pub(super) fn payload_len_between(header_len: u16, total_len: u16) -> Result<u16, LenError>
-    ensures value { result ≡ payload_len_of header_len total_len }
-    ensures of_total { IfOk result (λ len. header_len + len ≡ total_len) }
-    ensures short { IfErr result (λ e. total_len < header_len) }
-{
-    if header_len <= total_len {
-        Ok(total_len - header_len)
-    } else {
-        Err(LenError {
-            required_len: usize::from(header_len),
-            len: usize::from(total_len),
-            len_source: LenSource::Ipv4HeaderTotalLen,
-            layer: Layer::Ipv4Packet,
-            layer_start_offset: 0,
-        })
-    }
-}
-
-// The fixed fields, and the options after them.
-#[inline(always)]
-fn joined(front: &[u8], options: &[u8]) -> ArrayVec<u8, 60>
-    requires front_len { length front.now ≡ 20 }
-    requires options_len { IsOptionsLen (length options.now) }
-    ensures parts { result.items ≡ front.now ++ options.now }
-    ensures are_bytes { IsBytes (front.now ++ options.now) }
-{
-    by_options_len!(options, joined_of(front, options))
-}
-
-// The same for N bytes of options. A number that the compiler knows is copied with no call.
-#[inline(always)]
-fn joined_of<const N: usize>(front: &[u8], options: &[u8]) -> ArrayVec<u8, 60>
-    requires front_len { length front.now ≡ 20 }
-    requires options_len { length options.now ≡ N }
-    requires fits { N ≤ 40 }
-    ensures parts { result.items ≡ front.now ++ options.now }
-    ensures are_bytes { IsBytes (front.now ++ options.now) }
-{
-    let mut bytes = ArrayVec::new();
-    bytes.try_extend_from_slice(front).unwrap();
-    bytes.try_extend_from_slice(&options[..N]).unwrap();
-    bytes
-}
-
 /// The packet must not be fragmented and its protocol is 255. All else is 0, false or empty.
 impl Default for Ipv4Header {
     ghost use Rattle.std.specs.Prelude.{◌≡◌};
@@ -577,6 +443,3 @@ impl Default for Ipv4Header {
         }
     }
 }
-
-#[cfg(test)]
-mod tests;

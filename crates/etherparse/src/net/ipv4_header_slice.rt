@@ -6,9 +6,9 @@ ghost use Rattle.etherparse.specs.FirstByte.{ihl_of, version_of};
 ghost use Rattle.etherparse.specs.Ipv4Header.{RefusesIpv4};
 ghost use Rattle.etherparse.specs.Reading.{too_short_error};
 
+use super::ipv4_payload_len::payload_len_between;
 use crate::err::ipv4::{HeaderError, HeaderSliceError};
 use crate::err::{Layer, LenError};
-use crate::net::ipv4_header::payload_len_between;
 use crate::{IpDscp, IpEcn, IpFragOffset, IpNumber, Ipv4Header, Ipv4Options, LenSource};
 
 /// A view of the bytes of an IPv4 header with its options (RFC 791 section 3.1).
@@ -26,10 +26,10 @@ pub struct Ipv4HeaderSlice<'a> {
 }
 
 impl<'a> Ipv4HeaderSlice<'a> {
-    ghost use Rattle.std.specs.Prelude.{ℕ, ◌≡◌, ◌%◌, ◌≤◌, ◌↔◌, List, Result, IsOkAnd, IsTrue, drop, length, slice_index, slice_range};
+    ghost use Rattle.std.specs.Prelude.{ℕ, ◌≡◌, ◌%◌, ◌≤◌, ◌↔◌, List, Result, IsOkAnd, IsTrue};
+    ghost use Rattle.std.specs.Prelude.{drop, length, slice_index, slice_range};
     ghost use Rattle.std.specs.Int.{from_be_bytes, w16};
-    ghost use Rattle.etherparse_base.specs.declared.err.ipv4.header_slice_error.HeaderSliceError.{HeaderSliceError};
-    ghost use Rattle.etherparse.specs.Ipv4Header.{HasIpv4Layout, IsFragment, IsIpv4Layout};
+    ghost use Rattle.etherparse.specs.Ipv4Header.{IsIpv4Layout, IsFragment, IsIpv4LayoutWith};
     ghost use Rattle.etherparse.specs.Ipv4Header.{OfIpv4Header, ViewsIpv4, ipv4_ihl};
     ghost use Rattle.etherparse.specs.Ipv4Header.{ipv4_payload_len, with_reserved_bit_cleared};
     ghost use Rattle.etherparse.specs.Ipv4HeaderSlice.{ipv4_view_bytes};
@@ -40,16 +40,16 @@ impl<'a> Ipv4HeaderSlice<'a> {
     ///
     /// # Errors
     ///
-    /// In this order: `Len` where the slice has fewer than 20 bytes; `Content` where the version is not 4, or the IHL is
-    /// below 5; `Len` where the slice has fewer bytes than the IHL says.
+    /// In this order: `Len` where the slice has fewer than 20 bytes; `Content` where the version is
+    /// not 4, or the IHL is below 5; `Len` where the slice has fewer bytes than the IHL says.
     #[inline(always)]
     pub fn from_slice(slice: &'a [u8]) -> Result<Ipv4HeaderSlice<'a>, HeaderSliceError>
         ensures views { ViewsIpv4 slice.now (ipv4_view_bytes result) }
         ensures only { (other : Result (List ℕ) HeaderSliceError) → ViewsIpv4 slice.now other →
             other ≡ ipv4_view_bytes result }
         ensures shows { (header : Header) → (rest : List ℕ) →
-            BeginsWith HasIpv4Layout slice.now header rest →
-            IsOkAnd result (λ view. HasIpv4Layout header view.slice.now) }
+            BeginsWith IsIpv4Layout slice.now header rest →
+            IsOkAnd result (λ view. IsIpv4Layout header view.slice.now) }
     {
         let header_len = match header_len(slice) {
             Ok(header_len) => header_len,
@@ -113,12 +113,12 @@ impl<'a> Ipv4HeaderSlice<'a> {
         u16::from_be_bytes([self.slice[2], self.slice[3]])
     }
 
-    /// The length of what follows the header, in bytes, as the total length tells of it.
+    /// The length of the payload in bytes: the total length, less the header.
     ///
     /// # Errors
     ///
-    /// A `LenError` where the total length is below the length of the header: the first is its `len`, the second its
-    /// `required_len`.
+    /// A `LenError` where the total length is below the length of the header: `len` is then the
+    /// total length, `required_len` the header length.
     #[inline]
     pub fn payload_len(&self) -> Result<u16, LenError>
         ensures value { OfIpv4Header self.now.slice.now (λ header.
@@ -127,7 +127,7 @@ impl<'a> Ipv4HeaderSlice<'a> {
         payload_len_between(self.slice.len() as u16, self.total_len())
     }
 
-    /// What the fragments of one packet have in common: bytes 4 and 5.
+    /// Equal in all fragments of one packet: bytes 4 and 5.
     #[inline]
     pub fn identification(&self) -> u16
         ensures value { OfIpv4Header self.now.slice.now (λ header. result ≡ header.identification) }
@@ -152,7 +152,8 @@ impl<'a> Ipv4HeaderSlice<'a> {
         self.slice[6] & 0x20 != 0
     }
 
-    /// Where the fragment stands in the packet, in units of 8 bytes: the lower 5 bits of byte 6, and byte 7.
+    /// Where the fragment stands in the packet, in units of 8 bytes: the lower 5 bits of byte 6,
+    /// and byte 7.
     #[inline]
     pub fn fragments_offset(&self) -> IpFragOffset
         ensures value { OfIpv4Header self.now.slice.now (λ header.
@@ -162,7 +163,8 @@ impl<'a> Ipv4HeaderSlice<'a> {
         IpFragOffset::try_new(u16::from_be_bytes(bytes)).unwrap()
     }
 
-    /// Whether the payload is a part of one that was cut: more fragments follow it, or its offset is not 0.
+    /// Whether the payload is a part of one that was cut: more fragments follow it, or its offset
+    /// is not 0.
     #[inline]
     pub fn is_fragmenting_payload(&self) -> bool
         ensures value { OfIpv4Header self.now.slice.now (λ header.
@@ -172,7 +174,7 @@ impl<'a> Ipv4HeaderSlice<'a> {
         u16::from_be_bytes([self.slice[6], self.slice[7]]) & 0x3fff != 0
     }
 
-    /// The time to live: byte 8. Each node that forwards the packet lowers it by one, and discards the packet at 0.
+    /// The time to live: byte 8.
     #[inline]
     pub fn ttl(&self) -> u8
         ensures value { OfIpv4Header self.now.slice.now (λ header. result ≡ header.time_to_live) }
@@ -231,11 +233,11 @@ impl<'a> Ipv4HeaderSlice<'a> {
     /// The header that the bytes are in the layout of, with either reserved bit.
     #[inline]
     pub fn to_header(&self) -> Ipv4Header
-        ensures layout { HasIpv4Layout result self.now.slice.now }
+        ensures layout { IsIpv4Layout result self.now.slice.now }
         ensures only { OfIpv4Header self.now.slice.now (λ header. header ≡ result) }
 
         // It is written as the bytes are, with the reserved bit 0.
-        ensures cleared { IsIpv4Layout result 0 (with_reserved_bit_cleared self.now.slice.now) }
+        ensures cleared { IsIpv4LayoutWith result 0 (with_reserved_bit_cleared self.now.slice.now) }
     {
         self.header_with(options_of(self.options()))
     }
@@ -244,7 +246,7 @@ impl<'a> Ipv4HeaderSlice<'a> {
     #[inline(always)]
     pub(super) fn header_with(&self, options: Ipv4Options) -> Ipv4Header
         requires { options ≡ drop 20 self.now.slice.now }
-        ensures layout { HasIpv4Layout result self.now.slice.now }
+        ensures layout { IsIpv4Layout result self.now.slice.now }
         ensures only { OfIpv4Header self.now.slice.now (λ header. header ≡ result) }
     {
         Ipv4Header {
@@ -265,7 +267,8 @@ impl<'a> Ipv4HeaderSlice<'a> {
     }
 }
 
-// The length of the header at the front of a slice, or 20, where the slice has fewer bytes than that.
+// The length of the header at the front of a slice, or 20, where the slice has fewer bytes than
+// that.
 #[inline(always)]
 fn header_len(slice: &[u8]) -> Result<usize, HeaderError>
     ensures whole { IfOk result (λ len. len ≤ length slice.now → (version_of slice.now ≡ 4)
@@ -321,6 +324,3 @@ pub(super) fn options_of(bytes: &[u8]) -> Ipv4Options
     }
     Ipv4Options::from_front(&room, bytes.len())
 }
-
-#[cfg(test)]
-mod tests;

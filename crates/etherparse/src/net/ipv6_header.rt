@@ -11,16 +11,17 @@ use std::marker::Model;
 /// An IPv6 header without its extension headers (RFC 8200 section 3).
 #[derive(Clone, Debug, PartialEq, Eq, Drop)]
 pub struct Ipv6Header {
-    /// The traffic class: the DSCP in the upper 6 bits, the ECN in the lower 2 (RFC 2474, RFC 3168).
+    /// The traffic class: the DSCP in the upper 6 bits, the ECN in the lower 2 (RFC 2474, RFC
+    /// 3168).
     pub traffic_class: u8,
     /// The flow label, which marks packets that routers should treat alike.
     pub flow_label: Ipv6FlowLabel,
-    /// The length in bytes of all that follows the header, extension headers included; 0 for a jumbogram
-    /// (RFC 2675 section 3).
+    /// The length in bytes of all that follows the header, extension headers included; 0 for a
+    /// jumbogram (RFC 2675 section 3).
     pub payload_length: u16,
     /// What follows the header: an extension header or an upper-layer protocol.
     pub next_header: IpNumber,
-    /// Lowered by one by each node that forwards the packet, which discards it at 0.
+    /// Decremented by every router; at 0 the packet is discarded.
     pub hop_limit: u8,
     /// The address of the sender.
     pub source: [u8; 16],
@@ -28,7 +29,8 @@ pub struct Ipv6Header {
     pub destination: [u8; 16],
 }
 
-/// A contract sees the fields. Without this `impl` the check refuses `.ok()?` and `.map(..)` on what reads a header.
+/// A contract sees the fields. Without this `impl` the check refuses `.ok()?` and `.map(..)` on
+/// what reads a header.
 impl Model for Ipv6Header {
     ghost use Rattle.etherparse.specs.Ipv6HeaderFields.{Ipv6HeaderFields};
 
@@ -56,13 +58,14 @@ impl Model for Ipv6Header {
 }
 
 impl Ipv6Header {
-    ghost use Rattle.std.specs.Prelude.{ℕ, ◌≡◌, ◌+◌, ◌*◌, ◌^◌, ◌<◌, ◌≤◌, ◌↔◌, List, [], ◌∷◌, ◌++◌, Ok, IsOk, IfOk, OnOk, OnErr, IfErr, length, take};
+    ghost use Rattle.std.specs.Prelude.{ℕ, ◌≡◌, ◌+◌, ◌*◌, ◌^◌, ◌<◌, ◌≤◌, ◌↔◌};
+    ghost use Rattle.std.specs.Prelude.{List, [], ◌∷◌, ◌++◌, IfErr, IsOk, Ok, OnErr, OnOk};
     ghost use Rattle.std.specs.Int.{to_be_bytes, w16, w32};
-    ghost use Rattle.etherparse.specs.ExtensionHeaderChain.{BeginsWithChain, HasIpv6Chain};
-    ghost use Rattle.etherparse.specs.Ipv6Header.{Ipv6Reading, IsIpv6Layout, ReadsIpv6, ViewsIpv6};
-    ghost use Rattle.etherparse.specs.Reading.{BeginsWith, found_and_rest};
-    ghost use Rattle.etherparse.specs.TrafficClass.{traffic_class_dscp, traffic_class_ecn, traffic_class_of};
-    ghost use Rattle.etherparse_base.specs.declared.err.value_type.ValueType.TheVariants as value_type;
+    ghost use Rattle.etherparse.specs.Ipv6Header.{IsIpv6Layout, IsIpv6ReadingOf, ReadsIpv6};
+    ghost use Rattle.etherparse.specs.Ipv6Header.{ViewsIpv6};
+    ghost use Rattle.etherparse.specs.Reading.{found_and_rest};
+    ghost use Rattle.etherparse.specs.TrafficClass.{traffic_class_dscp, traffic_class_ecn};
+    ghost use Rattle.etherparse.specs.TrafficClass.{traffic_class_of};
     ghost use Rattle.etherparse_fields.specs.IpEcn.{ecn_value};
 
     /// The length of every header, in bytes.
@@ -79,44 +82,27 @@ impl Ipv6Header {
         Ipv6Header::LEN
     }
 
-    /// An older name of [`Ipv6Header::from_slice`], with its answers.
+    /// An older name of [`Ipv6Header::from_slice`].
     ///
     /// # Errors
     ///
     /// Those of [`Ipv6Header::from_slice`].
     #[inline]
     pub fn read_from_slice(slice: &[u8]) -> Result<(Ipv6Header, &[u8]), HeaderSliceError>
-        ensures reads { ReadsIpv6 slice.now (found_and_rest result) }
-        ensures only { (other : Ipv6Reading) → ReadsIpv6 slice.now other →
-            other ≡ found_and_rest result }
-        ensures chain { IfOk result (λ x. (headers : List (List ℕ)) (last : ℕ) (rest : List ℕ) →
-            BeginsWithChain x.1.now x.0.next_header headers last rest →
-            HasIpv6Chain slice.now x.0 headers last rest) }
-
-        // A packet that is cut behind the header begins with it still.
-        ensures cut { IfOk result (λ x. (n : ℕ) → n ≤ length x.1.now →
-            BeginsWith IsIpv6Layout (take (40 + n) slice.now) x.0 (take n x.1.now)) }
+        ensures reads { IsIpv6ReadingOf slice.now (found_and_rest result) }
     {
         Ipv6Header::from_slice(slice)
     }
 
-    /// The header at the front of a slice, and all the bytes after it, however many `payload_length` tells of.
+    /// The header at the front of a slice, and all the bytes after it. They are not cut at
+    /// `payload_length`.
     ///
     /// # Errors
     ///
     /// `Len` where the slice has fewer than 40 bytes; else `Content` where the version is not 6.
     #[inline]
     pub fn from_slice(slice: &[u8]) -> Result<(Ipv6Header, &[u8]), HeaderSliceError>
-        ensures reads { ReadsIpv6 slice.now (found_and_rest result) }
-        ensures only { (other : Ipv6Reading) → ReadsIpv6 slice.now other →
-            other ≡ found_and_rest result }
-        ensures chain { IfOk result (λ x. (headers : List (List ℕ)) (last : ℕ) (rest : List ℕ) →
-            BeginsWithChain x.1.now x.0.next_header headers last rest →
-            HasIpv6Chain slice.now x.0 headers last rest) }
-
-        // A packet that is cut behind the header begins with it still.
-        ensures cut { IfOk result (λ x. (n : ℕ) → n ≤ length x.1.now →
-            BeginsWith IsIpv6Layout (take (40 + n) slice.now) x.0 (take n x.1.now)) }
+        ensures reads { IsIpv6ReadingOf slice.now (found_and_rest result) }
     {
         let header = Ipv6HeaderSlice::from_slice(slice)?.to_header();
         Ok((header, &slice[Ipv6Header::LEN..]))
@@ -128,20 +114,20 @@ impl Ipv6Header {
     ///
     /// A `ValueTooBigError` where the length is above 65535. The header is then as it was.
     pub fn set_payload_length(&mut self, size: usize) -> Result<(), ValueTooBigError<usize>>
-        ensures accepted { IsOk result ↔ (size ≤ 65535) }
+        ensures accepted { IsOk result ↔ (size ≤ u16.MAX) }
         ensures refused { IfErr result (λ e. e ≡ record {
           actual = size;
-          max_allowed = 65535;
-          value_type = value_type.Ipv6PayloadLength;
+          max_allowed = u16.MAX;
+          value_type = ValueType.Ipv6PayloadLength;
         }) }
         ensures set { OnOk result (self.new ≡ record self.old { payload_length = size }) }
         ensures unchanged { OnErr result (self.new ≡ self.old) }
     {
-        const MAX_PAYLOAD_LENGTH: usize = 65535;
-        if size > MAX_PAYLOAD_LENGTH {
+        let max_allowed = usize::from(u16::MAX);
+        if size > max_allowed {
             return Err(ValueTooBigError {
                 actual: size,
-                max_allowed: MAX_PAYLOAD_LENGTH,
+                max_allowed,
                 value_type: ValueType::Ipv6PayloadLength,
             });
         }
@@ -161,7 +147,8 @@ impl Ipv6Header {
     #[inline]
     pub fn set_ecn(&mut self, ecn: IpEcn)
         ensures set { self.new ≡ record self.old {
-          traffic_class = traffic_class_of (traffic_class_dscp self.old.traffic_class) (ecn_value ecn);
+          traffic_class = traffic_class_of (traffic_class_dscp self.old.traffic_class)
+              (ecn_value ecn);
         } }
     {
         self.traffic_class = (self.traffic_class & 0b1111_1100) | ecn.value();
@@ -194,7 +181,7 @@ impl Ipv6Header {
         ensures read_alone { ReadsIpv6 result (Ok (self.now, [])) }
         ensures viewed_alone { ViewsIpv6 result (Ok result) }
     {
-        joined(&self.front(), &self.source, &self.destination)
+        front_and_addresses(&self.front(), &self.source, &self.destination)
     }
 
     // What stands before the addresses.
@@ -202,7 +189,8 @@ impl Ipv6Header {
     fn front(&self) -> [u8; 8]
         ensures value { result ≡ to_be_bytes w32
             (6 * 2 ^ 28 + self.now.traffic_class * 2 ^ 20 + self.now.flow_label)
-            ++ (to_be_bytes w16 self.now.payload_length ++ self.now.next_header ∷ self.now.hop_limit ∷ []) }
+            ++ (to_be_bytes w16 self.now.payload_length
+            ++ self.now.next_header ∷ self.now.hop_limit ∷ []) }
         ensures traffic_class { self.now.traffic_class < 2 ^ 8 }
         ensures flow_label { self.now.flow_label < 2 ^ 20 }
         ensures payload_length { self.now.payload_length < 2 ^ 16 }
@@ -243,7 +231,7 @@ impl Default for Ipv6Header {
 // Three parts, one after the other, as one literal: it is stored without a copy between.
 #[inline(always)]
 #[rattlefmt::skip]
-fn joined(front: &[u8], source: &[u8], destination: &[u8]) -> [u8; 40]
+fn front_and_addresses(front: &[u8], source: &[u8], destination: &[u8]) -> [u8; 40]
     requires front_len { length front.now ≡ 8 }
     requires source_len { length source.now ≡ 16 }
     requires destination_len { length destination.now ≡ 16 }
@@ -253,10 +241,9 @@ fn joined(front: &[u8], source: &[u8], destination: &[u8]) -> [u8; 40]
     let (f, s, d) = (front, source, destination);
     [
         f[0], f[1], f[2], f[3], f[4], f[5], f[6], f[7],
-        s[0], s[1], s[2], s[3], s[4], s[5], s[6], s[7], s[8], s[9], s[10], s[11], s[12], s[13], s[14], s[15],
-        d[0], d[1], d[2], d[3], d[4], d[5], d[6], d[7], d[8], d[9], d[10], d[11], d[12], d[13], d[14], d[15],
+        s[0], s[1], s[2], s[3], s[4], s[5], s[6], s[7],
+        s[8], s[9], s[10], s[11], s[12], s[13], s[14], s[15],
+        d[0], d[1], d[2], d[3], d[4], d[5], d[6], d[7],
+        d[8], d[9], d[10], d[11], d[12], d[13], d[14], d[15],
     ]
 }
-
-#[cfg(test)]
-mod tests;

@@ -21,7 +21,6 @@ impl<'a> Ipv6HeaderSlice<'a> {
     ghost use Rattle.std.specs.Prelude.{ℕ, ◌≡◌, ◌+◌, ◌*◌, ◌/◌, ◌%◌, ◌^◌, List, Result, IsOkAnd};
     ghost use Rattle.std.specs.Prelude.{slice_index, slice_range};
     ghost use Rattle.std.specs.Int.{from_be_bytes, w16};
-    ghost use Rattle.etherparse_base.specs.declared.err.ipv6.header_slice_error.HeaderSliceError.{HeaderSliceError};
     ghost use Rattle.etherparse.specs.Ipv6Header.{IsIpv6Layout, OfIpv6Header, ViewsIpv6};
     ghost use Rattle.etherparse.specs.Ipv6HeaderSlice.{ipv6_view_bytes};
     ghost use Rattle.etherparse.specs.Reading.{BeginsWith};
@@ -186,6 +185,3 @@ impl<'a> Ipv6HeaderSlice<'a> {
         Ipv6Header::LEN
     }
 }
-
-#[cfg(test)]
-mod tests;

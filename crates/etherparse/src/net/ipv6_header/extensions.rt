@@ -30,21 +30,25 @@ const UNITS: [u8; 256] = [
 const NOT_SKIPPABLE: u8 = 1;
 
 impl Ipv6Header {
-    ghost use Rattle.std.specs.Prelude.{ℕ, ◌≡◌, ◌+◌, ◌/◌, ◌<◌, ◌≤◌, ◌↔◌, ◌-◌, List, Ok, Err, IfErr, IfOk, IsFalse, IsOk, IsTrue, drop, length};
+    ghost use Rattle.std.specs.Prelude.{ℕ, ◌≡◌, ◌+◌, ◌/◌, ◌<◌, ◌≤◌, ◌↔◌, ◌-◌, List, Ok, Err};
+    ghost use Rattle.std.specs.Prelude.{IfErr, IfOk, IsFalse, IsOk, IsTrue, drop, length};
     ghost use Rattle.etherparse_base.specs.LenError.{len_error_moved};
     ghost use Rattle.etherparse_fields.specs.ExtensionHeaders.{IsSkippable};
-    ghost use Rattle.etherparse.specs.ExtensionHeaderChain.{Ends, FollowsChain, IsWalkOf, WalkAnswer, Walks, incomplete_header_error};
+    ghost use Rattle.etherparse.specs.ExtensionHeaderChain.{Ends, FollowsChain};
+    ghost use Rattle.etherparse.specs.ExtensionHeaderChain.{IsOnlyWalkOf, IsWalkBehindChains};
+    ghost use Rattle.etherparse.specs.ExtensionHeaderChain.{IsWalkOf, incomplete_header_error};
     ghost use Rattle.etherparse.specs.ExtensionHeaderChain.{next_header_of, required_len_of};
-    ghost use Rattle.etherparse.specs.ExtensionHeaderChain.{turn_count, walk_answer_moved};
+    ghost use Rattle.etherparse.specs.ExtensionHeaderChain.{turn_count};
     ghost use Rattle.etherparse.specs.Reading.{found_and_rest};
 
-    /// Skips the extension header of a number at the front of a slice: the number of what follows it, and all the bytes
-    /// after it. A number of no header that can be skipped is answered with the whole slice.
+    /// Skips the extension header of a number at the front of a slice: the number of what follows
+    /// it, and all the bytes after it. A number of no header that can be skipped is answered with
+    /// the whole slice.
     ///
     /// # Errors
     ///
-    /// A `LenError` where the slice is shorter than the header says, at offset 0. Where it has fewer than 2 bytes, 2 are
-    /// required.
+    /// A `LenError` where the slice is shorter than the header says, at offset 0. Where it has
+    /// fewer than 2 bytes, 2 are required.
     pub fn skip_header_extension_in_slice(
         slice: &[u8],
         next_header: IpNumber,
@@ -63,14 +67,16 @@ impl Ipv6Header {
             length slice.now < required_len_of next_header slice.now → found_and_rest result
             ≡ Err (incomplete_header_error next_header slice.now 0) }
 
-        // For callers that skip one header after another: a chain before this slice goes on, or the walk of the whole ends.
+        // For callers that skip one header after another: a chain before this slice goes on, or the
+        // walk of the whole ends.
         ensures goes_on { (s : List ℕ) → (first : ℕ) → FollowsChain s first next_header slice.now →
             IfOk result (λ x. FollowsChain s first x.0 x.1.now) }
         ensures ends { (s : List ℕ) → (first : ℕ) → FollowsChain s first next_header slice.now →
             IfErr result (λ e.
             IsWalkOf s first (Err (len_error_moved (length s - length slice.now) e))) }
         ensures at_front { IfErr result (λ e. e.layer_start_offset ≡ 0) }
-        ensures shorter { IsSkippable next_header → IfOk result (λ x. length x.1.now < length slice.now) }
+        ensures shorter { IsSkippable next_header →
+            IfOk result (λ x. length x.1.now < length slice.now) }
     {
         if !Ipv6Header::is_skippable_header_extension(next_header) {
             return Ok((next_header, slice));
@@ -82,8 +88,8 @@ impl Ipv6Header {
         Ok((IpNumber(slice[0]), &slice[required_len..]))
     }
 
-    /// Whether this is the number of an extension header that can be skipped, since it is known how to tell its length and
-    /// the number of what follows it: 0, 43, 44, 51, 60, 135, 139 and 140.
+    /// Whether this is the number of an extension header that can be skipped, since it is known how
+    /// to tell its length and the number of what follows it: 0, 43, 44, 51, 60, 135, 139 and 140.
     ///
     /// An encapsulating security payload (50) and headers for experiments (253, 254) can not.
     pub fn is_skippable_header_extension(ip_protocol_number: IpNumber) -> bool
@@ -97,33 +103,29 @@ impl Ipv6Header {
         unit_of(ip_protocol_number) != NOT_SKIPPABLE
     }
 
-    /// Skips all extension headers at the front of a slice, of which the first has this number: the first number that can
-    /// not be skipped, and all the bytes after the header that gave it.
+    /// Skips all extension headers at the front of a slice, of which the first has this number: the
+    /// first number that can not be skipped, and all the bytes after the header that gave it.
+    ///
+    /// A fragment header is skipped whatever its offset. In a fragment that is not the first, what
+    /// follows is the middle of a payload, and no header of an upper layer.
     ///
     /// # Errors
     ///
-    /// A `LenError` where a header is incomplete: the length that it requires, the bytes that are left, and the offset from
-    /// the front of the slice at which it starts. Where fewer than 2 bytes are left, 2 are required.
+    /// A `LenError` where a header is incomplete: the length that it requires, the bytes that are
+    /// left, and the offset from the front of the slice at which it starts. Where fewer than 2
+    /// bytes are left, 2 are required.
     pub fn skip_all_header_extensions_in_slice(
         slice: &[u8],
         next_header: IpNumber,
     ) -> Result<(IpNumber, &[u8]), LenError>
-        ensures walks { Walks slice.now next_header (found_and_rest result) }
-        ensures only { (other : WalkAnswer) → Walks slice.now next_header other →
-            other ≡ found_and_rest result }
-        ensures shorter { IfOk result (λ x. length x.1.now ≤ length slice.now) }
-        ensures within { IfErr result (λ e. e.layer_start_offset ≤ length slice.now) }
-
-        // Behind a chain of a slice it is the walk of that slice.
-        ensures follows { (s : List ℕ) → (first : ℕ) → FollowsChain s first next_header slice.now →
-            IsWalkOf s first (walk_answer_moved (length s - length slice.now)
-            (found_and_rest result)) }
+        ensures walks { IsOnlyWalkOf slice.now next_header (found_and_rest result) }
+        ensures follows { IsWalkBehindChains slice.now next_header (found_and_rest result) }
     {
         Ipv6Header::skip_all_header_extensions_counted(slice, next_header).0
     }
 
-    /// The answer of [`Ipv6Header::skip_all_header_extensions_in_slice`], and the number of turns that it took: one for each
-    /// number that was tested, so one more than headers were skipped, and at most one more than an eighth of the length.
+    /// The answer of [`Ipv6Header::skip_all_header_extensions_in_slice`], and how many numbers were
+    /// tested: one more than headers were skipped, and at most `slice.len() / 8 + 1`.
     ///
     /// # Errors
     ///
@@ -132,36 +134,28 @@ impl Ipv6Header {
         slice: &[u8],
         next_header: IpNumber,
     ) -> (Result<(IpNumber, &[u8]), LenError>, usize)
-        ensures walks { Walks slice.now next_header (found_and_rest result.0) }
-        ensures only { (other : WalkAnswer) → Walks slice.now next_header other →
-            other ≡ found_and_rest result.0 }
-        ensures shorter { IfOk result.0 (λ x. length x.1.now ≤ length slice.now) }
-        ensures within { IfErr result.0 (λ e. e.layer_start_offset ≤ length slice.now) }
+        ensures walks { IsOnlyWalkOf slice.now next_header (found_and_rest result.0) }
+        ensures follows { IsWalkBehindChains slice.now next_header (found_and_rest result.0) }
         ensures turns { (headers : List (List ℕ)) →
             Ends slice.now next_header headers (found_and_rest result.0) →
             result.1 ≡ turn_count headers }
         ensures few_turns { result.1 ≤ length slice.now / 8 + 1 }
-
-        // Behind a chain of a slice it is the walk of that slice.
-        ensures follows { (s : List ℕ) → (first : ℕ) → FollowsChain s first next_header slice.now →
-            IsWalkOf s first (walk_answer_moved (length s - length slice.now)
-            (found_and_rest result.0)) }
     {
         let mut number = next_header;
-        let mut place = 0;
+        let mut offset = 0;
         let mut turns = 0;
         'headers: loop {
             turns += 1;
             if !Ipv6Header::is_skippable_header_extension(number) {
-                return (Ok((number, &slice[place..])), turns);
+                return (Ok((number, &slice[offset..])), turns);
             }
-            let required_len = required_len_at(slice, place, number);
-            let left = slice.len() - place;
+            let required_len = required_len_at(slice, offset, number);
+            let left = slice.len() - offset;
             if left < required_len {
-                return (Err(incomplete_header(required_len, left, place)), turns);
+                return (Err(incomplete_header(required_len, left, offset)), turns);
             }
-            number = IpNumber(slice[place]);
-            place += required_len;
+            number = IpNumber(slice[offset]);
+            offset += required_len;
         }
     }
 }
@@ -169,31 +163,31 @@ impl Ipv6Header {
 // What `UNITS` has for a number.
 #[inline(always)]
 fn unit_of(number: IpNumber) -> u8
-    ensures skippable { result ≡ 1 ↔ ¬ IsSkippable number }
+    ensures skippable { result ≡ NOT_SKIPPABLE ↔ ¬ IsSkippable number }
     ensures len { IsSkippable number → (second_byte : ℕ) →
         extension_header_len number second_byte ≡ second_byte * result + 8 }
 {
     UNITS[usize::from(number.0)]
 }
 
-// How many bytes the header of this number requires that starts at a place of the slice.
+// How many bytes the header of this number requires that starts at an offset of the slice.
 #[inline(always)]
-fn required_len_at(slice: &[u8], place: usize, number: IpNumber) -> usize
-    requires within { place ≤ length slice.now }
+fn required_len_at(slice: &[u8], offset: usize, number: IpNumber) -> usize
+    requires within { offset ≤ length slice.now }
     requires skippable { IsSkippable number }
-    ensures value { result ≡ required_len_of number (drop place slice.now) }
+    ensures value { result ≡ required_len_of number (drop offset slice.now) }
 {
-    if slice.len() - place < 2 {
+    if slice.len() - offset < 2 {
         return 2;
     }
-    usize::from(slice[place + 1]) * usize::from(unit_of(number)) + 8
+    usize::from(slice[offset + 1]) * usize::from(unit_of(number)) + 8
 }
 
-// The error of a header that starts at a place where too few bytes are left.
+// The error of a header that starts at an offset where too few bytes are left.
 #[cold]
-fn incomplete_header(required_len: usize, len: usize, place: usize) -> LenError
+fn incomplete_header(required_len: usize, len: usize, offset: usize) -> LenError
     ensures value { result ≡ record (too_short_error layer.Ipv6ExtHeader required_len len) {
-      layer_start_offset = place;
+      layer_start_offset = offset;
     } }
 {
     LenError {
@@ -201,9 +195,6 @@ fn incomplete_header(required_len: usize, len: usize, place: usize) -> LenError
         len,
         len_source: LenSource::Slice,
         layer: Layer::Ipv6ExtHeader,
-        layer_start_offset: place,
+        layer_start_offset: offset,
     }
 }
-
-#[cfg(test)]
-mod tests;

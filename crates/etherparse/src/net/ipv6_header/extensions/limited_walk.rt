@@ -8,22 +8,24 @@ impl Ipv6Header {
     ghost use Rattle.std.specs.Prelude.{ℕ, ◌≡◌, ◌+◌, ◌-◌, ◌/◌, ◌≤◌, List, IfErr, IfOk, length};
     ghost use Rattle.etherparse.specs.ExtensionHeaderChain.{BeginsWithChain, LimitedWalkAnswer};
     ghost use Rattle.etherparse.specs.ExtensionHeaderChain.{WalkAnswer, Walks, WalksUpTo};
-    ghost use Rattle.etherparse.specs.ExtensionHeaderChain.{chain_error_place};
+    ghost use Rattle.etherparse.specs.ExtensionHeaderChain.{chain_error_offset};
     ghost use Rattle.etherparse.specs.ExtensionHeaderChain.{limited_walk_answer_moved};
     ghost use Rattle.etherparse.specs.ExtensionHeaderChain.{with_error_in_len};
     ghost use Rattle.etherparse.specs.Reading.{found_and_rest};
 
-    /// Skips the extension headers at the front of a slice, of which the first has this number, but no more than `limit` of
-    /// them: the first number that can not be skipped, and all the bytes after the header that gave it.
+    /// Skips the extension headers at the front of a slice, of which the first has this number, but
+    /// no more than `limit` of them: the first number that can not be skipped, and all the bytes
+    /// after the header that gave it.
     ///
-    /// A header has at least 8 bytes. So from a limit of `slice.len() / 8 + 1` on the answer is that of
-    /// [`Ipv6Header::skip_all_header_extensions_in_slice`].
+    /// A header has at least 8 bytes. So from a limit of `slice.len() / 8 + 1` on the answer is
+    /// that of [`Ipv6Header::skip_all_header_extensions_in_slice`].
     ///
     /// # Errors
     ///
-    /// `TooMany` where `limit` headers were skipped and the number after them is that of one more, however many bytes are
-    /// left: the limit, this number, and the offset from the front of the slice at which its header starts. Else `Len`
-    /// where a header is incomplete, with the error of [`Ipv6Header::skip_all_header_extensions_in_slice`].
+    /// `TooMany` where `limit` headers were skipped and the number after them is that of one more,
+    /// however many bytes are left: the limit, this number, and the offset from the front of the
+    /// slice at which its header starts. Else `Len` where a header is incomplete, with the error of
+    /// [`Ipv6Header::skip_all_header_extensions_in_slice`].
     pub fn skip_header_extensions_up_to(
         slice: &[u8],
         next_header: IpNumber,
@@ -36,7 +38,7 @@ impl Ipv6Header {
             Walks slice.now next_header answer →
             found_and_rest result ≡ with_error_in_len answer }
         ensures shorter { IfOk result (λ x. length x.1.now ≤ length slice.now) }
-        ensures within { IfErr result (λ e. chain_error_place e ≤ length slice.now) }
+        ensures within { IfErr result (λ e. chain_error_offset e ≤ length slice.now) }
 
         // Behind a chain of a slice it is the walk of that slice; the limit counts its headers too.
         ensures follows { (s : List ℕ) → (first : ℕ) → (headers : List (List ℕ)) →
@@ -45,30 +47,27 @@ impl Ipv6Header {
             (length s - length slice.now) (found_and_rest result)) }
     {
         let mut number = next_header;
-        let mut place = 0;
+        let mut offset = 0;
         let mut skipped = 0;
         'headers: loop {
             if !Ipv6Header::is_skippable_header_extension(number) {
-                return Ok((number, &slice[place..]));
+                return Ok((number, &slice[offset..]));
             }
             if skipped == limit {
                 return Err(ChainError::TooMany {
                     limit,
                     next_header: number.0,
-                    layer_start_offset: place,
+                    layer_start_offset: offset,
                 });
             }
-            let required_len = required_len_at(slice, place, number);
-            let left = slice.len() - place;
+            let required_len = required_len_at(slice, offset, number);
+            let left = slice.len() - offset;
             if left < required_len {
-                return Err(ChainError::Len(incomplete_header(required_len, left, place)));
+                return Err(ChainError::Len(incomplete_header(required_len, left, offset)));
             }
-            number = IpNumber(slice[place]);
-            place += required_len;
+            number = IpNumber(slice[offset]);
+            offset += required_len;
             skipped += 1;
         }
     }
 }
-
-#[cfg(test)]
-mod tests;

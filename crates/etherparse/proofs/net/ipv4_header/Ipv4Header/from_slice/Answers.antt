@@ -1,6 +1,6 @@
-use Rattle.std.proofs.Common.{[], drop, ◌≡◌, refl, sym, arith, ◌∙◌}
+use Rattle.std.proofs.Common.{[], drop, ◌≡◌, sym, arith, rules, ◌∙◌}
 use Rattle.std.proofs.lemmas.List.{drop_all}
-use Rattle.etherparse.proofs.Ipv4Reading.{options_in_room, reads_front}
+use Rattle.etherparse.proofs.Ipv4Reading.{front_read, is_reading_of, options_in_room}
 use Rattle.etherparse.proofs.net.ipv4_header.Ipv4Header.from_slice.Goals as goal
 
 pub header_with-requires : goal.header_with-requires
@@ -15,17 +15,14 @@ header_with-requires-then-slice-ge-MAX_LEN c =
     c.from_front-options.ensures.value
     ∙ options_in_room c.args.slice.now view.slice.now _ _ c.in_ok-view.ensures.views.whole (omega (arith, view.ihl, view.len)) (omega (arith, view.len)) room
 
+pub returns-in_err-view : goal.returns-in_err-view
+returns-in_err-view c = record { reads = is_reading_of _ _ (search rules) }
+
 pub returns-then-len-eq-MIN_LEN : goal.returns-then-len-eq-MIN_LEN
-returns-then-len-eq-MIN_LEN c =
-    let a = reads_front _ _ _ _ _ c.in_ok-view.ensures.views.whole c.header_with.ensures.layout refl in
-    record { reads = a.reads; only = a.only; cleared = a.cleared; same_header = a.same_header; cut = a.cut }
+returns-then-len-eq-MIN_LEN c = record { reads = front_read _ _ _ _ c.in_ok-view.ensures.views.whole c.header_with.ensures.layout }
 
 pub returns-then-slice-ge-MAX_LEN : goal.returns-then-slice-ge-MAX_LEN
-returns-then-slice-ge-MAX_LEN c =
-    let a = reads_front _ _ _ _ _ c.in_ok-view.ensures.views.whole c.header_with-then-slice-ge-MAX_LEN.ensures.layout refl in
-    record { reads = a.reads; only = a.only; cleared = a.cleared; same_header = a.same_header; cut = a.cut }
+returns-then-slice-ge-MAX_LEN c = record { reads = front_read _ _ _ _ c.in_ok-view.ensures.views.whole c.header_with-then-slice-ge-MAX_LEN.ensures.layout }
 
 pub returns : goal.returns
-returns c =
-    let a = reads_front _ _ _ _ _ c.in_ok-view.ensures.views.whole c.header_with-2.ensures.layout refl in
-    record { reads = a.reads; only = a.only; cleared = a.cleared; same_header = a.same_header; cut = a.cut }
+returns c = record { reads = front_read _ _ _ _ c.in_ok-view.ensures.views.whole c.header_with-2.ensures.layout }

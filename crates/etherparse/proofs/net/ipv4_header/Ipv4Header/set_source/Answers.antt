@@ -1,6 +1,6 @@
 use Rattle.std.proofs.Common.{arith}
 use Rattle.etherparse.proofs.HeaderChecksum.{keeps_checksum, source_changes}
-use Rattle.etherparse.proofs.InPlace.{source_in_place}
+use Rattle.etherparse.proofs.InPlace.{changes_in_place, source_field}
 use Rattle.etherparse.proofs.net.ipv4_header.Ipv4Header.set_source.Goals as goal
 
 pub returns-clause-keeps_checksum : goal.returns-clause-keeps_checksum
@@ -8,5 +8,5 @@ returns-clause-keeps_checksum c = keeps_checksum _ _ _ _ c.update_4bytes-self.en
     (source_changes c.args.self.now c.args.source c.update_4bytes-self.result)
 
 pub returns-clause-in_place : goal.returns-clause-in_place
-returns-clause-in_place c = source_in_place c.args.self.now c.args.source c.update_4bytes-self.result (omega arith)
-    c.are_bytes.ensures (omega arith) (returns-clause-keeps_checksum c)
+returns-clause-in_place c = changes_in_place _ _ _ _
+    (source_field c.args.self.now c.args.source c.update_4bytes-self.result (omega arith) c.are_bytes.ensures (omega arith)) (returns-clause-keeps_checksum c)

@@ -19,14 +19,14 @@ returns c =
       destination = omega arith;
     } in
     let options = ap length c.as_slice.ensures.value in
-    let layout = spells h 0 c.joined.result.items ranges (record { fits = omega arith; in_words = omega arith }) (omega arith)
-    (subst IsBytes (sym c.joined.ensures.parts) c.joined.ensures.are_bytes)
-    (front_spells h _ _ _ c.joined.ensures.parts c.as_slice.ensures.value front.value) in
+    let layout = spells h 0 c.front_and_options.result.items ranges (record { fits = omega arith; in_words = omega arith }) (omega arith)
+    (subst IsBytes (sym c.front_and_options.ensures.parts) c.front_and_options.ensures.are_bytes)
+    (front_spells h _ _ _ c.front_and_options.ensures.parts c.as_slice.ensures.value front.value) in
     record {
       layout = layout;
-      only = λ bytes other. same_bytes h 0 bytes c.joined.result.items other layout;
+      only = λ bytes other. same_bytes h 0 bytes c.front_and_options.result.items other layout;
       read_again = λ rest. record {
-        front = c.joined.result.items;
+        front = c.front_and_options.result.items;
         whole = refl;
         layout = record { reserved = 0; layout = layout };
       };
@@ -36,7 +36,7 @@ returns c =
         whole = refl;
         layout = record { reserved = 0; layout = layout };
       };
-      read_alone = record { front = c.joined.result.items; whole = sym (append-nil _); layout = record { reserved = 0; layout = layout } };
+      read_alone = record { front = c.front_and_options.result.items; whole = sym (append-nil _); layout = record { reserved = 0; layout = layout } };
       viewed_alone = record { header = h; rest = []; whole = sym (append-nil _); layout = record { reserved = 0; layout = layout } };
       sums_to_all_ones = right_checksum h 0 _ layout;
     }

@@ -1,6 +1,6 @@
 use Rattle.std.proofs.Common.{subst, sym, ◌∙◌}
 use Rattle.etherparse.proofs.Ipv4Layout.{header_at, same_fields}
-use Rattle.etherparse.specs.Ipv4Header.{HasIpv4Layout}
+use Rattle.etherparse.specs.Ipv4Header.{IsIpv4Layout}
 use Rattle.etherparse.proofs.net.ipv4_header_slice.Ipv4HeaderSlice.header_with.Goals as goal
 
 pub returns-clause-only : goal.returns-clause-only
@@ -23,4 +23,4 @@ pub returns-clause-layout : goal.returns-clause-layout
 returns-clause-layout c =
     let v = c.args.self.now in
     let found = header_at v.slice.now v.version v.ihl v.len v.are_bytes in
-    subst (λ h. HasIpv4Layout h v.slice.now) (returns-clause-only c found.0 found.1) found.1
+    subst (λ h. IsIpv4Layout h v.slice.now) (returns-clause-only c found.0 found.1) found.1

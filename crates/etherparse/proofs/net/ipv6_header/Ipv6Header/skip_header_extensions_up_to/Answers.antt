@@ -9,7 +9,7 @@ pub returns-then-not-is_skippable_header_extension : goal.returns-then-not-is_sk
 returns-then-not-is_skippable_header_extension c =
     let s = c.args.slice.now in
     let u = c.headers.invariant.so_far in
-    let w = limited_walk_ends_after _ _ _ _ _ _ _ u c.headers.invariant.within (take_rest s c.headers.place)
+    let w = limited_walk_ends_after _ _ _ _ _ _ _ u c.headers.invariant.within (take_rest s c.headers.offset)
     (λ h. let e = c.is_skippable_header_extension.ensures.value.1 h in absurd (cc)) in
     record { walks = w.walks; only = w.only; as_without_limit = w.as_without_limit; shorter = omega arith; within = tt; follows = λ s first headers b. limited_walk_follows _ s first _ headers _ _ b w.walks }
 

@@ -1,6 +1,6 @@
 use Rattle.std.proofs.Common.{arith, sym}
 use Rattle.etherparse.proofs.Parts.{append_is_bytes, same_append, spread}
-use Rattle.etherparse.proofs.net.ipv6_header.joined.Goals as goal
+use Rattle.etherparse.proofs.net.ipv6_header.front_and_addresses.Goals as goal
 
 pub returns-clause-parts : goal.returns-clause-parts
 returns-clause-parts c = sym (same_append

@@ -1,0 +1,97 @@
+//! The fixed fields of an IPv4 header and its options: one after the other, and summed.
+
+ghost use Rattle.std.specs.Prelude.{◌≡◌, ◌≤◌, ◌++◌, length};
+ghost use Rattle.etherparse_base.specs.Bytes.{IsBytes};
+ghost use Rattle.etherparse_base.specs.WordSums.{StandsForWords};
+ghost use Rattle.etherparse_fields.specs.Ipv4Options.{IsOptionsLen};
+
+use crate::checksum::Sum16BitWords;
+use arrayvec::ArrayVec;
+
+// A call with the number of bytes of options as one that the compiler knows: what is copied or
+// summed then takes no call.
+macro_rules! by_options_len {
+    ($options:ident, $function:ident($($argument:ident),*)) => {
+        match $options.len() {
+            0 => $function::<0>($($argument),*),
+            4 => $function::<4>($($argument),*),
+            8 => $function::<8>($($argument),*),
+            12 => $function::<12>($($argument),*),
+            16 => $function::<16>($($argument),*),
+            20 => $function::<20>($($argument),*),
+            24 => $function::<24>($($argument),*),
+            28 => $function::<28>($($argument),*),
+            32 => $function::<32>($($argument),*),
+            36 => $function::<36>($($argument),*),
+            _ => $function::<40>($($argument),*),
+        }
+    };
+}
+
+// The fixed fields, and the options after them.
+#[inline(always)]
+pub(super) fn front_and_options(front: &[u8], options: &[u8]) -> ArrayVec<u8, 60>
+    requires front_len { length front.now ≡ 20 }
+    requires options_len { IsOptionsLen (length options.now) }
+    ensures parts { result.items ≡ front.now ++ options.now }
+    ensures are_bytes { IsBytes (front.now ++ options.now) }
+{
+    by_options_len!(options, front_and_options_of(front, options))
+}
+
+// The same for N bytes of options. A number that the compiler knows is copied with no call.
+#[inline(always)]
+fn front_and_options_of<const N: usize>(front: &[u8], options: &[u8]) -> ArrayVec<u8, 60>
+    requires front_len { length front.now ≡ 20 }
+    requires options_len { length options.now ≡ N }
+    requires fits { N ≤ 40 }
+    ensures parts { result.items ≡ front.now ++ options.now }
+    ensures are_bytes { IsBytes (front.now ++ options.now) }
+{
+    let mut bytes = ArrayVec::new();
+    bytes.try_extend_from_slice(front).unwrap();
+    bytes.try_extend_from_slice(&options[..N]).unwrap();
+    bytes
+}
+
+// The sum of the fixed fields by words of four bytes: of fields of two bytes each, words of eight
+// take longer to put together.
+#[inline(always)]
+pub(super) fn sum_of_fixed(front: [u8; 20]) -> Sum16BitWords
+    requires { length front ≡ 20 }
+    ensures in_a_sum { StandsForWords 0 front result }
+{
+    let [a, b, c, d, e, f, g, h, i, j, k, l, m, n, o, p, q, r, s, t] = front;
+    Sum16BitWords::new()
+        .add_4bytes([a, b, c, d])
+        .add_4bytes([e, f, g, h])
+        .add_4bytes([i, j, k, l])
+        .add_4bytes([m, n, o, p])
+        .add_4bytes([q, r, s, t])
+}
+
+// The sum with the bytes of the options. Of a length that the compiler knows they are summed where
+// they are; else it puts the whole header into memory first, and tests for each word whether it is
+// there.
+#[inline(always)]
+pub(super) fn add_options(fixed: Sum16BitWords, options: &[u8]) -> Sum16BitWords
+    requires options_len { IsOptionsLen (length options.now) }
+    ensures in_a_sum { StandsForWords fixed options.now result }
+{
+    by_options_len!(options, add_options_of(fixed, options))
+}
+
+// The same for N bytes of options.
+#[inline(always)]
+fn add_options_of<const N: usize>(fixed: Sum16BitWords, options: &[u8]) -> Sum16BitWords
+    requires options_len { length options.now ≡ N }
+    ensures in_a_sum { StandsForWords fixed options.now result }
+{
+    fixed.add_slice(&options[..N])
+}
+
+// The items of a slice are bytes to a proof; those of an array that is passed are so from here on.
+#[inline(always)]
+pub(super) fn are_bytes(bytes: &[u8])
+    ensures { IsBytes bytes.now }
+{}
