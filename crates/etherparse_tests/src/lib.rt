@@ -1,0 +1,24 @@
+//! Tests of the library from its public paths: what no clause says, and worked values of the
+//! standards.
+//!
+//! They stand in a crate of their own, since each crate with tests is proved once more for them.
+#![tactic(auto)]
+
+#[cfg(test)]
+mod checksum;
+#[cfg(test)]
+mod errors;
+#[cfg(test)]
+mod extensions;
+#[cfg(test)]
+mod headers;
+#[cfg(test)]
+mod ipv4_header;
+#[cfg(test)]
+mod ipv4_header_slice;
+#[cfg(test)]
+mod ipv6_header;
+#[cfg(test)]
+mod ipv6_header_slice;
+#[cfg(test)]
+mod limited_walk;
