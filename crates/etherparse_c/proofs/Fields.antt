@@ -1,55 +1,64 @@
 -- The fields of a struct are those of one header.
-use Rattle.std.proofs.Common.{◌≡◌, sym, ◌∙◌, rules}
+use Rattle.std.proofs.Common.{ℕ, ◌≡◌, List, Bool, sym, subst, ap, ◌∙◌, rules}
+use Rattle.std.proofs.lemmas.Bool.Decides.{Decides-eqb, Decides-not, Decides-or, same_from_decides}
+use Rattle.std.specs.Prelude.{◌||◌, ◌==◌, ◌↔◌, IsTrue, not}
 use Rattle.etherparse.proofs.Ipv4Layout.{same_fields}
 use Rattle.etherparse.proofs.Ipv6Layout.{same_fields as same_ipv6_fields}
 use Rattle.etherparse.specs.IpEcn.{ecn_value}
+use Rattle.etherparse.specs.Ipv4Header.{IsFragment, IsIpv4LayoutWith}
+use Rattle.etherparse.specs.Ipv6Header.{IsIpv6Layout}
 use Rattle.etherparse.specs.declared.IpEcn.{IpEcn}
 use Rattle.etherparse.specs.declared.net.ipv4_header.Ipv4Header.{Ipv4Header}
 use Rattle.etherparse.specs.declared.net.ipv6_header.Ipv6Header.{Ipv6Header}
-use Rattle.etherparse_c.specs.Ipv4Fields.{StandFor}
-use Rattle.etherparse_c.specs.Ipv6Answers.{ShowsIpv6}
-use Rattle.etherparse_c.specs.Ipv6Fields.{StandForIpv6}
+use Rattle.etherparse_c.specs.Ipv4Answers.{AreWrittenForIpv4}
+use Rattle.etherparse_c.specs.Ipv4Fields.{StandForIpv4}
+use Rattle.etherparse_c.specs.Ipv6Answers.{AreWrittenForIpv6}
+use Rattle.etherparse_c.specs.Ipv6Fields.{ipv6_fields_of}
 use Rattle.etherparse_c.specs.declared.ipv4_header.Ipv4Fields.{Ipv4Fields}
 use Rattle.etherparse_c.specs.declared.ipv6_header.Ipv6Fields.{Ipv6Fields}
-use Rattle.etherparse_c.specs.declared.ipv6_view.Ipv6View.{Ipv6View}
 
 -- a code point is known by its number
 same_ecn : (a b : IpEcn) → ecn_value a ≡ ecn_value b → a ≡ b
 same_ecn a b e = search rules
 
-pub one_ipv4_header : (fields : Ipv4Fields) (g h : Ipv4Header) → StandFor fields g → StandFor fields h → g ≡ h
-one_ipv4_header fields g h a b = same_fields g h
-    (a.dscp ∙ sym b.dscp)
-    (same_ecn g.ecn h.ecn (a.ecn ∙ sym b.ecn))
-    (a.total_len ∙ sym b.total_len)
-    (a.identification ∙ sym b.identification)
-    (a.dont_fragment ∙ sym b.dont_fragment)
-    (a.more_fragments ∙ sym b.more_fragments)
-    (a.fragment_offset ∙ sym b.fragment_offset)
-    (a.time_to_live ∙ sym b.time_to_live)
-    (a.protocol ∙ sym b.protocol)
-    (a.header_checksum ∙ sym b.header_checksum)
-    (a.source ∙ sym b.source)
-    (a.destination ∙ sym b.destination)
+pub one_ipv4_header : (fields : Ipv4Fields) (g h : Ipv4Header) → StandForIpv4 fields g → StandForIpv4 fields h → g ≡ h
+one_ipv4_header fields g h a b =
+    let e = sym a.others ∙ b.others in
+    same_fields g h
+    (ap (λ (f : Ipv4Fields). f.dscp) e)
+    (same_ecn g.ecn h.ecn (ap (λ (f : Ipv4Fields). f.ecn) e))
+    (ap (λ (f : Ipv4Fields). f.total_len) e)
+    (ap (λ (f : Ipv4Fields). f.identification) e)
+    (ap (λ (f : Ipv4Fields). f.dont_fragment) e)
+    (ap (λ (f : Ipv4Fields). f.more_fragments) e)
+    (ap (λ (f : Ipv4Fields). f.fragment_offset) e)
+    (ap (λ (f : Ipv4Fields). f.time_to_live) e)
+    (ap (λ (f : Ipv4Fields). f.protocol) e)
+    (ap (λ (f : Ipv4Fields). f.header_checksum) e)
+    (ap (λ (f : Ipv4Fields). f.source) e)
+    (ap (λ (f : Ipv4Fields). f.destination) e)
     (a.options ∙ sym b.options)
 
-pub one_ipv6_header : (fields : Ipv6Fields) (g h : Ipv6Header) → StandForIpv6 fields g → StandForIpv6 fields h → g ≡ h
-one_ipv6_header fields g h a b = same_ipv6_fields g h
-    (a.traffic_class ∙ sym b.traffic_class)
-    (a.flow_label ∙ sym b.flow_label)
-    (a.payload_length ∙ sym b.payload_length)
-    (a.next_header ∙ sym b.next_header)
-    (a.hop_limit ∙ sym b.hop_limit)
-    (a.source ∙ sym b.source)
-    (a.destination ∙ sym b.destination)
+pub one_ipv6_header : (fields : Ipv6Fields) (g h : Ipv6Header) → fields ≡ ipv6_fields_of g → fields ≡ ipv6_fields_of h → g ≡ h
+one_ipv6_header fields g h a b =
+    let e = sym a ∙ b in
+    same_ipv6_fields g h
+    (ap (λ (f : Ipv6Fields). f.traffic_class) e)
+    (ap (λ (f : Ipv6Fields). f.flow_label) e)
+    (ap (λ (f : Ipv6Fields). f.payload_length) e)
+    (ap (λ (f : Ipv6Fields). f.next_header) e)
+    (ap (λ (f : Ipv6Fields). f.hop_limit) e)
+    (ap (λ (f : Ipv6Fields). f.source) e)
+    (ap (λ (f : Ipv6Fields). f.destination) e)
 
--- and so are those of a view
-pub one_shown_header : (view : Ipv6View) (g h : Ipv6Header) → ShowsIpv6 view g → ShowsIpv6 view h → g ≡ h
-one_shown_header view g h a b = same_ipv6_fields g h
-    (sym a.traffic_class ∙ b.traffic_class)
-    (sym a.flow_label ∙ b.flow_label)
-    (sym a.payload_length ∙ b.payload_length)
-    (sym a.next_header ∙ b.next_header)
-    (sym a.hop_limit ∙ b.hop_limit)
-    (sym a.source ∙ b.source)
-    (sym a.destination ∙ b.destination)
+-- what is written for the fields is in the layout of that header
+pub written_ipv4_layout : (fields : Ipv4Fields) (h : Ipv4Header) (p : List ℕ) → StandForIpv4 fields h → AreWrittenForIpv4 fields p → IsIpv4LayoutWith h 0 p
+written_ipv4_layout fields h p same w = subst (λ x. IsIpv4LayoutWith x 0 p) (one_ipv4_header fields w.header h w.same same) w.layout
+
+pub written_ipv6_layout : (fields : Ipv6Fields) (h : Ipv6Header) (p : List ℕ) → fields ≡ ipv6_fields_of h → AreWrittenForIpv6 fields p → IsIpv6Layout h p
+written_ipv6_layout fields h p same w = subst (λ x. IsIpv6Layout x p) (one_ipv6_header fields w.header h w.same same) w.layout
+
+-- the test for a fragment
+pub fragment_test : (h : Ipv4Header) (b : Bool) → (IsTrue b ↔ IsFragment h) → b ≡ (h.more_fragments || not (h.fragment_offset == 0))
+fragment_test h b is = same_from_decides b _ (is.0, is.1)
+    (Decides-or h.more_fragments _ (λ t. t, λ t. t) (Decides-not _ (Decides-eqb h.fragment_offset 0)))

@@ -1,4 +1,2 @@
 mod Answered
 mod Fields
-mod ReadAgain
-mod TimeToLive

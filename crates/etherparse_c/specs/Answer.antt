@@ -1,20 +1,17 @@
 -- What C gets of an answer of the library.
-use Rattle.std.specs.Prelude.{ℕ, ◌-◌, List, length}
+use Rattle.std.specs.Prelude.{ℕ, ◌≡◌, ◌-◌, List, length}
 use Rattle.etherparse_c.specs.declared.answer.Rest.{Rest}
 
--- The library allows an answer, and C gets that one. That it allows no other is said beside it.
-pub record GivesAnswer {A : Type 0} (Allows Gives : A → Type 0) : Type 0 where
+-- The library allows an answer, and each one that it allows is what C gets.
+pub record GivesAnswer {A C : Type 0} (Allows : A → Type 0) (in_c : A → C) (result : C)
+    : Type 0 where
   pub answer : A
   pub allowed : Allows answer
-  pub given : Gives answer
+  pub only : (each : A) → Allows each → result ≡ in_c each
 
 -- where the last bytes of a slice are, from its first byte, and how many they are
 abbrev pub rest_of : List ℕ → List ℕ → Rest
 rest_of s rest = record { offset = length s - length rest; len = length rest }
-
--- the same of all that follows a front of it
-abbrev pub rest_after : List ℕ → List ℕ → Rest
-rest_after s front = record { offset = length front; len = length s - length front }
 
 -- nowhere: there is no rest
 abbrev pub no_rest : Rest

@@ -1,6 +1,5 @@
 -- The errors of the library as C has them: each by its numbers.
 use Rattle.etherparse.specs.declared.err.LenError.{LenError}
-use Rattle.etherparse.specs.declared.err.ipv4.HeaderError as content
 use Rattle.etherparse.specs.declared.err.ipv4.HeaderError.TheVariants as ipv4_content
 use Rattle.etherparse.specs.declared.err.ipv4.HeaderSliceError as ipv4
 use Rattle.etherparse.specs.declared.err.ipv4.HeaderSliceError.TheVariants as ipv4_slice
@@ -13,14 +12,8 @@ use Rattle.etherparse_c.specs.declared.answer.Error.{Error}
 
 -- no error
 abbrev pub no_error : Error
-no_error = record {
-  kind = 0;
-  number = 0;
-  required_len = 0;
-  len = 0;
-  layer_start_offset = 0;
-  limit = 0;
-}
+no_error =
+    record { kind = 0; number = 0; required_len = 0; len = 0; layer_start_offset = 0; limit = 0 }
 
 -- the length that is required, the one that there is, and the place
 abbrev pub len_error_in_c : LenError → Error
@@ -31,17 +24,13 @@ len_error_in_c e = record no_error {
   layer_start_offset = e.layer_start_offset;
 }
 
--- of bytes that are those of no IPv4 header: another version, or an IHL that is too small
-abbrev pub ipv4_content_in_c : content.HeaderError → Error
-ipv4_content_in_c (ipv4_content.UnexpectedVersion version) =
-    record no_error { kind = 2; number = version }
-ipv4_content_in_c (ipv4_content.HeaderLengthSmallerThanHeader ihl) =
-    record no_error { kind = 3; number = ihl }
-
--- of an IPv4 header
+-- of an IPv4 header: a length, another version, or an IHL that is too small
 abbrev pub ipv4_error_in_c : ipv4.HeaderSliceError → Error
 ipv4_error_in_c (ipv4_slice.Len e) = len_error_in_c e
-ipv4_error_in_c (ipv4_slice.Content e) = ipv4_content_in_c e
+ipv4_error_in_c (ipv4_slice.Content (ipv4_content.UnexpectedVersion version)) =
+    record no_error { kind = 2; number = version }
+ipv4_error_in_c (ipv4_slice.Content (ipv4_content.HeaderLengthSmallerThanHeader ihl)) =
+    record no_error { kind = 3; number = ihl }
 
 -- of an IPv6 header: a length, or another version
 abbrev pub ipv6_error_in_c : ipv6.HeaderSliceError → Error

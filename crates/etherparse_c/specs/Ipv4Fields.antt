@@ -1,8 +1,7 @@
 -- The fields of an IPv4 header, as C has them: each a number.
-use Rattle.std.specs.Prelude.{ℕ, ◌≡◌, ◌<◌, ◌^◌, List, take}
-use Rattle.etherparse.specs.HeaderChecksum.{header_checksum_of}
+use Rattle.std.specs.Prelude.{◌≡◌, ◌<◌, ◌-◌, ◌^◌, ◌++◌, false, length, replicate, take}
 use Rattle.etherparse.specs.IpEcn.{ecn_value}
-use Rattle.etherparse.specs.Ipv4Header.{IsIpv4Layout}
+use Rattle.etherparse.specs.Ipv4Header.{default_ipv4_header}
 use Rattle.etherparse.specs.Ipv4Options.{IsOptionsLen}
 use Rattle.etherparse.specs.declared.net.ipv4_header.Ipv4Header.{Ipv4Header}
 use Rattle.etherparse_c.specs.declared.ipv4_header.Ipv4Fields.{Ipv4Fields}
@@ -14,24 +13,31 @@ pub record AreWithinBounds (fields : Ipv4Fields) : Type 0 where
   pub fragment_offset : fields.fragment_offset < 2 ^ 13
   pub options_len : IsOptionsLen fields.options_len
 
--- the fields stand for this header
-pub record StandFor (fields : Ipv4Fields) (header : Ipv4Header) : Type 0 where
-  pub dscp : header.dscp ≡ fields.dscp
-  pub ecn : ecn_value header.ecn ≡ fields.ecn
-  pub total_len : header.total_len ≡ fields.total_len
-  pub identification : header.identification ≡ fields.identification
-  pub dont_fragment : header.dont_fragment ≡ fields.dont_fragment
-  pub more_fragments : header.more_fragments ≡ fields.more_fragments
-  pub fragment_offset : header.fragment_offset ≡ fields.fragment_offset
-  pub time_to_live : header.time_to_live ≡ fields.time_to_live
-  pub protocol : header.protocol ≡ fields.protocol
-  pub header_checksum : header.header_checksum ≡ fields.header_checksum
-  pub source : header.source ≡ fields.source
-  pub destination : header.destination ≡ fields.destination
-  pub options : header.options ≡ take fields.options_len fields.options
+-- the fields of a header, with 0 after its options
+abbrev pub ipv4_fields_of : Ipv4Header → Ipv4Fields
+ipv4_fields_of header = record {
+  dscp = header.dscp;
+  ecn = ecn_value header.ecn;
+  total_len = header.total_len;
+  identification = header.identification;
+  dont_fragment = header.dont_fragment;
+  more_fragments = header.more_fragments;
+  fragment_offset = header.fragment_offset;
+  time_to_live = header.time_to_live;
+  protocol = header.protocol;
+  header_checksum = header.header_checksum;
+  source = header.source;
+  destination = header.destination;
+  options_len = length header.options;
+  options = header.options ++ replicate (40 - length header.options) 0;
+}
 
--- the checksum of the header that the fields stand for
-pub record IsChecksumOf (fields : Ipv4Fields) (checksum : ℕ) : Type 0 where
-  pub header : Ipv4Header
-  pub same : StandFor fields header
-  pub value : (bytes : List ℕ) → IsIpv4Layout header 0 bytes → checksum ≡ header_checksum_of bytes
+-- all is 0, or false
+abbrev pub zero_ipv4_header : Ipv4Header
+zero_ipv4_header = record default_ipv4_header { dont_fragment = false; protocol = 0 }
+
+-- the fields stand for this header, whatever follows the options in their array
+pub record StandForIpv4 (fields : Ipv4Fields) (header : Ipv4Header) : Type 0 where
+  pub options : header.options ≡ take fields.options_len fields.options
+  pub others : fields ≡
+      record (ipv4_fields_of header) { options_len = fields.options_len; options = fields.options }

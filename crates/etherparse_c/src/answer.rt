@@ -1,9 +1,10 @@
-//! What the answers of several calls have: an error by its numbers, and where the rest of a slice is.
+//! What the answers of several calls have: an error by its numbers, and where the rest of a slice
+//! is.
 
-ghost use Rattle.std.specs.Prelude.{◌≡◌, ◌≤◌, length};
-ghost use Rattle.etherparse_c.specs.Answer.{no_rest, rest_after, rest_of};
-ghost use Rattle.etherparse_c.specs.Error.{chain_error_in_c, ipv4_content_in_c, ipv4_error_in_c};
-ghost use Rattle.etherparse_c.specs.Error.{ipv6_error_in_c};
+ghost use Rattle.std.specs.Prelude.{ℕ, ◌≡◌, ◌≤◌, ◌+◌, List, length};
+ghost use Rattle.etherparse.specs.declared.err.ipv4.HeaderSliceError.TheVariants as ipv4_slice;
+ghost use Rattle.etherparse_c.specs.Answer.{no_rest, rest_of};
+ghost use Rattle.etherparse_c.specs.Error.{chain_error_in_c, ipv4_error_in_c, ipv6_error_in_c};
 ghost use Rattle.etherparse_c.specs.Error.{len_error_in_c, no_error};
 
 use etherparse::err::{LenError, ipv4, ipv6};
@@ -22,9 +23,11 @@ const TOO_MANY: u32 = 4;
 #[repr(C)]
 #[derive(Drop)]
 pub struct Error {
-    /// Which error it is: 0 none, 1 a length, 2 another version, 3 an IHL below 5, 4 too many extension headers.
+    /// Which error it is: 0 none, 1 a length, 2 another version, 3 an IHL below 5, 4 too many
+    /// extension headers.
     pub kind: u32,
-    /// Of kind 2 the version number, of kind 3 the IHL, of kind 4 the number of the header that is one too many.
+    /// Of kind 2 the version number, of kind 3 the IHL, of kind 4 the number of the header that is
+    /// one too many.
     pub number: u32,
     /// Of kind 1 the length that is required, in bytes.
     pub required_len: usize,
@@ -90,7 +93,7 @@ impl Error {
     // Of bytes that are those of no IPv4 header.
     #[inline(always)]
     fn of_ipv4_content(e: &ipv4::HeaderError) -> Error
-        ensures value { result ≡ ipv4_content_in_c e.now }
+        ensures value { result ≡ ipv4_error_in_c (ipv4_slice.Content e.now) }
     {
         match e {
             ipv4::HeaderError::UnexpectedVersion { version_number } => Error {
@@ -162,7 +165,8 @@ impl Rest {
     #[inline(always)]
     pub(crate) fn after(slice: &[u8], front: &[u8]) -> Rest
         requires { length front.now ≤ length slice.now }
-        ensures value { result ≡ rest_after slice.now front.now }
+        ensures value { (rest : List ℕ) → length front.now + length rest ≡ length slice.now →
+            result ≡ rest_of slice.now rest }
     {
         Rest {
             offset: front.len(),

@@ -1,14 +1,14 @@
 //! Checksums of the internet protocols (RFC 1071), summed in 64 bits and in 32 bits.
 
-ghost use Rattle.std.specs.Prelude.{ℕ, List, ◌∷◌, ◌++◌, ◌≡◌, ◌↔◌, ◌+◌, ◌-◌, ◌%◌, length, map};
-ghost use Rattle.std.specs.Int.{swap_bytes, w16};
-ghost use Rattle.etherparse.specs.WordSums.{AddsSlice, SumsToAllOnes, UpdatesChecksum, folded_sum};
-ghost use Rattle.etherparse.specs.WordSums.{little_endian_word_sum, network_order_word_sum};
-ghost use Rattle.etherparse.specs.WordSums.{ones_complement_sum, updated_checksum, with_no_zero};
+ghost use Rattle.std.specs.Prelude.{◌≡◌, ◌+◌, map};
+ghost use Rattle.etherparse.specs.WordSums.{AddsSlice, AddsSlices, Complements};
+ghost use Rattle.etherparse.specs.WordSums.{ComplementsWithNoZero, UpdatesChecksum};
+ghost use Rattle.etherparse.specs.WordSums.{little_endian_word_sum, updated_checksum};
 
 use etherparse::checksum::{u32_16bit_word, u64_16bit_word, update_2bytes};
 
-/// Adds the words of a slice to a sum of 64 bits, which begins at 0. An odd last byte is a word with a byte 0 behind it.
+/// Adds the words of a slice to a sum of 64 bits, which begins at 0. An odd last byte is a word
+/// with a byte 0 behind it.
 #[unsafe(no_mangle)]
 pub extern "C" fn etherparse_u64_16bit_word_add_slice(start_sum: u64, slice: &[u8]) -> u64
     ensures adds { AddsSlice start_sum slice.now result }
@@ -19,62 +19,40 @@ pub extern "C" fn etherparse_u64_16bit_word_add_slice(start_sum: u64, slice: &[u
 /// The sum in 64 bits of all pieces, from 0. An odd piece is padded by itself.
 #[unsafe(no_mangle)]
 pub extern "C" fn etherparse_u64_16bit_word_add_slices(pieces: &[&[u8]]) -> u64
-    ensures sum { folded_sum result ≡ ones_complement_sum (map (λ piece. piece.now) pieces.now) }
-    ensures exchanged { (before after : List (List ℕ)) (first second : List ℕ)
-        → map (λ piece. piece.now) pieces.now ≡ before ++ first ∷ second ∷ after
-        → folded_sum result ≡ ones_complement_sum (before ++ second ∷ first ∷ after) }
-    ensures cut { (before after : List (List ℕ)) (front back : List ℕ)
-        → map (λ piece. piece.now) pieces.now ≡ before ++ (front ++ back) ∷ after
-        → length front % 2 ≡ 0
-        → folded_sum result ≡ ones_complement_sum (before ++ front ∷ back ∷ after) }
-    ensures joined { (before after : List (List ℕ)) (front back : List ℕ)
-        → map (λ piece. piece.now) pieces.now ≡ before ++ front ∷ back ∷ after
-        → length front % 2 ≡ 0
-        → folded_sum result ≡ ones_complement_sum (before ++ (front ++ back) ∷ after) }
+    ensures adds { AddsSlices (map (λ piece. piece.now) pieces.now) result }
 {
     u64_16bit_word::add_slices(pieces)
 }
 
-/// The checksum of what was summed in 64 bits. Its low byte is the first of the two that a header has.
+/// The checksum of what was summed in 64 bits. Its low byte is the first of the two that a header
+/// has.
 #[unsafe(no_mangle)]
 pub extern "C" fn etherparse_u64_16bit_word_ones_complement(sum: u64) -> u16
-    ensures value { result ≡ 65535 - folded_sum sum }
-    ensures network_order { (bytes : List ℕ)
-        → folded_sum sum ≡ folded_sum (little_endian_word_sum bytes)
-        → swap_bytes w16 result ≡ 65535 - folded_sum (network_order_word_sum bytes) }
+    ensures complements { Complements sum result }
 {
     u64_16bit_word::ones_complement(sum)
 }
 
-/// The same with 0xffff in place of 0, as UDP has it: a checksum of 0 says there that there is none (RFC 768).
+/// The same with 0xffff in place of 0, as UDP has it: a checksum of 0 says there that there is none
+/// (RFC 768).
 #[unsafe(no_mangle)]
 pub extern "C" fn etherparse_u64_16bit_word_ones_complement_with_no_zero(sum: u64) -> u16
-    ensures value { result ≡ with_no_zero (65535 - folded_sum sum) }
-    ensures network_order { (bytes : List ℕ)
-        → folded_sum sum ≡ folded_sum (little_endian_word_sum bytes)
-        → swap_bytes w16 result
-        ≡ with_no_zero (65535 - folded_sum (network_order_word_sum bytes)) }
+    ensures complements { ComplementsWithNoZero sum result }
 {
     u64_16bit_word::ones_complement_with_no_zero(sum)
 }
 
-/// The checksum of a slice after what was summed in 64 bits, in one call. The Rust crate has no such call.
+/// The checksum of a slice after what was summed in 64 bits, in one call. The Rust crate has no
+/// such call.
 #[unsafe(no_mangle)]
 pub extern "C" fn etherparse_u64_16bit_word_checksum(start_sum: u64, slice: &[u8]) -> u16
-    ensures value { result ≡ 65535 - folded_sum (start_sum + little_endian_word_sum slice.now) }
-    ensures network_order { (bytes : List ℕ)
-        → folded_sum (start_sum + little_endian_word_sum slice.now)
-        ≡ folded_sum (little_endian_word_sum bytes)
-        → swap_bytes w16 result ≡ 65535 - folded_sum (network_order_word_sum bytes) }
-    ensures all_ones { (bytes : List ℕ)
-        → folded_sum (start_sum + little_endian_word_sum slice.now)
-        ≡ folded_sum (little_endian_word_sum bytes)
-        → (SumsToAllOnes bytes ↔ (result ≡ 0)) }
+    ensures complements { Complements (start_sum + little_endian_word_sum slice.now) result }
 {
     u64_16bit_word::checksum(start_sum, slice)
 }
 
-/// Adds the words of a slice to a sum of 32 bits, which begins at 0. An odd last byte is a word with a byte 0 behind it.
+/// Adds the words of a slice to a sum of 32 bits, which begins at 0. An odd last byte is a word
+/// with a byte 0 behind it.
 #[unsafe(no_mangle)]
 pub extern "C" fn etherparse_u32_16bit_word_add_slice(start_sum: u32, slice: &[u8]) -> u32
     ensures adds { AddsSlice start_sum slice.now result }
@@ -85,63 +63,40 @@ pub extern "C" fn etherparse_u32_16bit_word_add_slice(start_sum: u32, slice: &[u
 /// The sum in 32 bits of all pieces, from 0. An odd piece is padded by itself.
 #[unsafe(no_mangle)]
 pub extern "C" fn etherparse_u32_16bit_word_add_slices(pieces: &[&[u8]]) -> u32
-    ensures sum { folded_sum result ≡ ones_complement_sum (map (λ piece. piece.now) pieces.now) }
-    ensures exchanged { (before after : List (List ℕ)) (first second : List ℕ)
-        → map (λ piece. piece.now) pieces.now ≡ before ++ first ∷ second ∷ after
-        → folded_sum result ≡ ones_complement_sum (before ++ second ∷ first ∷ after) }
-    ensures cut { (before after : List (List ℕ)) (front back : List ℕ)
-        → map (λ piece. piece.now) pieces.now ≡ before ++ (front ++ back) ∷ after
-        → length front % 2 ≡ 0
-        → folded_sum result ≡ ones_complement_sum (before ++ front ∷ back ∷ after) }
-    ensures joined { (before after : List (List ℕ)) (front back : List ℕ)
-        → map (λ piece. piece.now) pieces.now ≡ before ++ front ∷ back ∷ after
-        → length front % 2 ≡ 0
-        → folded_sum result ≡ ones_complement_sum (before ++ (front ++ back) ∷ after) }
+    ensures adds { AddsSlices (map (λ piece. piece.now) pieces.now) result }
 {
     u32_16bit_word::add_slices(pieces)
 }
 
-/// The checksum of what was summed in 32 bits. Its low byte is the first of the two that a header has.
+/// The checksum of what was summed in 32 bits. Its low byte is the first of the two that a header
+/// has.
 #[unsafe(no_mangle)]
 pub extern "C" fn etherparse_u32_16bit_word_ones_complement(sum: u32) -> u16
-    ensures value { result ≡ 65535 - folded_sum sum }
-    ensures network_order { (bytes : List ℕ)
-        → folded_sum sum ≡ folded_sum (little_endian_word_sum bytes)
-        → swap_bytes w16 result ≡ 65535 - folded_sum (network_order_word_sum bytes) }
+    ensures complements { Complements sum result }
 {
     u32_16bit_word::ones_complement(sum)
 }
 
-/// The same with 0xffff in place of 0, as UDP has it: a checksum of 0 says there that there is none (RFC 768).
+/// The same with 0xffff in place of 0, as UDP has it: a checksum of 0 says there that there is none
+/// (RFC 768).
 #[unsafe(no_mangle)]
 pub extern "C" fn etherparse_u32_16bit_word_ones_complement_with_no_zero(sum: u32) -> u16
-    ensures value { result ≡ with_no_zero (65535 - folded_sum sum) }
-    ensures network_order { (bytes : List ℕ)
-        → folded_sum sum ≡ folded_sum (little_endian_word_sum bytes)
-        → swap_bytes w16 result
-        ≡ with_no_zero (65535 - folded_sum (network_order_word_sum bytes)) }
+    ensures complements { ComplementsWithNoZero sum result }
 {
     u32_16bit_word::ones_complement_with_no_zero(sum)
 }
 
-/// The checksum of a slice after what was summed in 32 bits, in one call. The Rust crate has no such call.
+/// The checksum of a slice after what was summed in 32 bits, in one call. The Rust crate has no
+/// such call.
 #[unsafe(no_mangle)]
 pub extern "C" fn etherparse_u32_16bit_word_checksum(start_sum: u32, slice: &[u8]) -> u16
-    ensures value { result ≡ 65535 - folded_sum (start_sum + little_endian_word_sum slice.now) }
-    ensures network_order { (bytes : List ℕ)
-        → folded_sum (start_sum + little_endian_word_sum slice.now)
-        ≡ folded_sum (little_endian_word_sum bytes)
-        → swap_bytes w16 result ≡ 65535 - folded_sum (network_order_word_sum bytes) }
-    ensures all_ones { (bytes : List ℕ)
-        → folded_sum (start_sum + little_endian_word_sum slice.now)
-        ≡ folded_sum (little_endian_word_sum bytes)
-        → (SumsToAllOnes bytes ↔ (result ≡ 0)) }
+    ensures complements { Complements (start_sum + little_endian_word_sum slice.now) result }
 {
     u32_16bit_word::checksum(start_sum, slice)
 }
 
-/// The checksum after one of the words that it is over was changed from `old` to `new`, all three as numbers whose high byte a
-/// header has first (RFC 1624 section 3, equation 3).
+/// The checksum after one of the words that it is over was changed from `old` to `new`, all three
+/// as numbers whose high byte a header has first (RFC 1624 section 3, equation 3).
 #[unsafe(no_mangle)]
 pub extern "C" fn etherparse_update_2bytes(checksum: u16, old: u16, new: u16) -> u16
     ensures value { result ≡ updated_checksum checksum old new }

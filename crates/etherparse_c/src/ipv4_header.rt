@@ -1,19 +1,17 @@
 //! The IPv4 header (RFC 791 section 3.1).
 
-ghost use Rattle.std.specs.Prelude.{ℕ, ◌≡◌, ◌↔◌, ◌+◌, ◌-◌, ◌*◌, ◌^◌, ◌<◌, ◌≤◌, ◌++◌, List, IfSome, IsSome, IsTrue};
-ghost use Rattle.std.specs.Prelude.{drop, length, replicate, take};
-ghost use Rattle.etherparse.specs.HeaderChecksum.{IsWrittenInPlace};
-ghost use Rattle.etherparse.specs.Ipv4Header.{AgreeButForReservedBit, HasIpv4Layout, Ipv4Reading, OfIpv4Header};
-ghost use Rattle.etherparse.specs.Ipv4Header.{ReadsIpv4, with_reserved_bit_cleared};
+ghost use Rattle.std.specs.Prelude.{ℕ, ◌≡◌, ◌↔◌, ◌+◌, ◌-◌, ◌*◌, ◌^◌, ◌++◌, List, [], Err};
+ghost use Rattle.std.specs.Prelude.{IfSome, IsSome, IsTrue, length, replicate};
+ghost use Rattle.etherparse.specs.HeaderChecksum.{KeepsChecksum, header_checksum_of};
+ghost use Rattle.etherparse.specs.Ipv4Header.{ReadsIpv4};
 ghost use Rattle.etherparse.specs.Ipv4Options.{IsOptionsLen};
-ghost use Rattle.etherparse.specs.Reading.{BeginsWith};
-ghost use Rattle.etherparse.specs.WordSums.{SumsToAllOnes, updated_checksum};
+ghost use Rattle.etherparse.specs.WordSums.{updated_checksum};
 ghost use Rattle.etherparse.specs.declared.net.ipv4_header.Ipv4Header.{Ipv4Header as Header};
-ghost use Rattle.etherparse_c.specs.Answer.{GivesAnswer, no_rest};
-ghost use Rattle.etherparse_c.specs.Error.{ipv4_error_in_c, no_error};
-ghost use Rattle.etherparse_c.specs.Ipv4Answers.{AreIpv4Lengths, AreWrittenFor, GivesIpv4Reading};
-ghost use Rattle.etherparse_c.specs.Ipv4Answers.{no_ipv4_bytes, no_ipv4_fields, no_ipv4_lengths};
-ghost use Rattle.etherparse_c.specs.Ipv4Fields.{AreWithinBounds, IsChecksumOf, StandFor};
+ghost use Rattle.etherparse_c.specs.Answer.{GivesAnswer};
+ghost use Rattle.etherparse_c.specs.Error.{no_error};
+ghost use Rattle.etherparse_c.specs.Ipv4Answers.{AreIpv4Lengths, AreWrittenForIpv4};
+ghost use Rattle.etherparse_c.specs.Ipv4Answers.{ipv4_bytes_in_c, ipv4_reading_in_c};
+ghost use Rattle.etherparse_c.specs.Ipv4Fields.{AreWithinBounds, StandForIpv4, ipv4_fields_of};
 
 use crate::answer::{Error, Rest};
 use crate::room::{filled, filled_by_words};
@@ -84,7 +82,8 @@ pub struct Ipv4Lengths {
     pub payload_len: u16,
     /// The length of the longest payload that fits after the header, in bytes.
     pub max_payload_len: u16,
-    /// The length of the header with its options, in bytes, or 0 where options can not be of this length.
+    /// The length of the header with its options, in bytes, or 0 where options can not be of this
+    /// length.
     pub header_len: u8,
     /// The same in words of 4 bytes.
     pub ihl: u8,
@@ -92,27 +91,18 @@ pub struct Ipv4Lengths {
     pub error: Error,
 }
 
-/// The fields of the header at the front of a slice, and where the bytes after it are, however many `total_len` tells of.
+/// The fields of the header at the front of a slice, and where the bytes after it are, however many
+/// `total_len` tells of.
 ///
-/// The error is, in this order, a length of fewer than 20 bytes; another version than 4; an IHL below 5; fewer bytes than the
-/// IHL says.
+/// The error is, in this order, a length of fewer than 20 bytes; another version than 4; an IHL
+/// below 5; fewer bytes than the IHL says.
 #[unsafe(no_mangle)]
 pub extern "C" fn etherparse_ipv4_read(slice: &[u8]) -> Ipv4ReadAnswer
-    ensures reads { GivesAnswer (ReadsIpv4 slice.now) (GivesIpv4Reading result slice.now) }
-    ensures only { (other : Ipv4Reading) → ReadsIpv4 slice.now other →
-        GivesIpv4Reading result slice.now other }
-
-    // What was read is written again, with the reserved bit 0.
-    ensures cleared { result.error ≡ no_error → AreWrittenFor result.fields
-        (with_reserved_bit_cleared (take result.rest.offset slice.now)) }
-
-    // Of bytes that have a header, it is that of these fields exactly where they agree in all but the reserved bit.
-    ensures same_header { result.error ≡ no_error → (bytes : List ℕ) →
-        OfIpv4Header bytes (λ header. StandFor result.fields header
-        ↔ AgreeButForReservedBit bytes (take result.rest.offset slice.now)) }
-    ensures within { AreWithinBounds result.fields }
+    ensures reads { GivesAnswer (ReadsIpv4 slice.now) (ipv4_reading_in_c slice.now) result }
 {
     match Ipv4Header::from_slice(slice) {
+        // Each arm has its `return`, which the speed rests on: as the value of the `match` the
+        // answer takes more instructions, a third more in `etherparse_ipv4_view`.
         Ok((header, rest)) => {
             let rest = Rest::of(slice, rest);
             // From the slice itself: those of the header would be copied twice.
@@ -135,16 +125,13 @@ pub extern "C" fn etherparse_ipv4_read(slice: &[u8]) -> Ipv4ReadAnswer
     }
 }
 
-/// The bytes of the header of these fields, with the reserved bit 0 and the checksum that stands in the fields.
+/// The bytes of the header of these fields, with the reserved bit 0 and the checksum that stands in
+/// the fields.
 #[unsafe(no_mangle)]
 pub extern "C" fn etherparse_ipv4_write(fields: &Ipv4Fields) -> Ipv4Bytes
-    ensures accepted { (0 < result.len) ↔ AreWithinBounds fields.now }
-    ensures within { result.len ≤ 60 }
-    ensures layout { 0 < result.len → AreWrittenFor fields.now (take result.len result.bytes) }
-    ensures only { 0 < result.len → (bytes : List ℕ) → AreWrittenFor fields.now bytes →
-        bytes ≡ take result.len result.bytes }
-    ensures padded { drop result.len result.bytes ≡ replicate (60 - result.len) 0 }
-    ensures refused { ¬ AreWithinBounds fields.now → result ≡ no_ipv4_bytes }
+    ensures layout { AreWithinBounds fields.now →
+        GivesAnswer (AreWrittenForIpv4 fields.now) ipv4_bytes_in_c result }
+    ensures refused { ¬ AreWithinBounds fields.now → result ≡ ipv4_bytes_in_c [] }
 {
     // Each number of bytes has a copy of its own, of a length that the compiler knows.
     match fields.options_len {
@@ -163,19 +150,21 @@ pub extern "C" fn etherparse_ipv4_write(fields: &Ipv4Fields) -> Ipv4Bytes
     }
 }
 
-/// The lengths of a header with so many bytes of options, and of the payload that its total length tells of.
+/// The lengths of a header with so many bytes of options, and of the payload that its total length
+/// tells of.
 ///
 /// The error is a total length below the length of the header.
 #[unsafe(no_mangle)]
 pub extern "C" fn etherparse_ipv4_lengths(total_len: u16, options_len: u8) -> Ipv4Lengths
-    ensures accepted { (0 < result.header_len) ↔ IsOptionsLen options_len }
     ensures value { IsOptionsLen options_len → (header : Header) → header.total_len ≡ total_len →
         length header.options ≡ options_len → AreIpv4Lengths result header }
-    ensures header_len_within { result.header_len ≤ 60 }
-    ensures ihl_within { result.ihl ≤ 15 }
-    ensures max_payload_len_at_least { 0 < result.header_len → 65475 ≤ result.max_payload_len }
-    ensures max_payload_len_within { result.max_payload_len ≤ 65515 }
-    ensures refused { ¬ IsOptionsLen options_len → result ≡ no_ipv4_lengths }
+    ensures refused { ¬ IsOptionsLen options_len → result ≡ record {
+      error = no_error;
+      payload_len = 0;
+      max_payload_len = 0;
+      header_len = 0;
+      ihl = 0;
+    } }
 {
     if options_len > 40 || options_len % 4 != 0 {
         return Ipv4Lengths {
@@ -202,15 +191,14 @@ pub extern "C" fn etherparse_ipv4_lengths(total_len: u16, options_len: u8) -> Ip
     }
 }
 
-/// Writes the checksum that a header of these fields should have, as a number, and answers `true`. Where a field is out of
-/// its bounds it answers `false` and writes nothing.
+/// Writes the checksum that a header of these fields should have, as a number, and answers `true`.
+/// The checksum that stands in the fields does not matter. Where a field is out of its bounds it
+/// answers `false` and writes nothing.
 #[unsafe(no_mangle)]
 pub extern "C" fn etherparse_ipv4_header_checksum(fields: &Ipv4Fields, checksum: &mut u16) -> bool
     ensures accepted { IsTrue result ↔ AreWithinBounds fields.now }
-    ensures value { IsTrue result → IsChecksumOf fields.now checksum.new }
-    ensures whatever_is_stored { IsTrue result → (stored : ℕ) →
-        IsChecksumOf (record fields.now { header_checksum = stored }) checksum.new }
-    ensures within { IsTrue result → checksum.new < 65535 }
+    ensures value { IsTrue result → (bytes : List ℕ) → AreWrittenForIpv4 fields.now bytes →
+        checksum.new ≡ header_checksum_of bytes }
     ensures refused { ¬ AreWithinBounds fields.now → checksum.new ≡ checksum.old }
 {
     match header_of(fields) {
@@ -222,8 +210,8 @@ pub extern "C" fn etherparse_ipv4_header_checksum(fields: &Ipv4Fields, checksum:
     }
 }
 
-/// Sets the time to live, and updates the stored checksum for it, and answers `true`. Where a field is out of its bounds it
-/// answers `false` and changes nothing.
+/// Sets the time to live, and updates the stored checksum for it, and answers `true`. Where a field
+/// is out of its bounds it answers `false` and changes nothing.
 #[unsafe(no_mangle)]
 pub extern "C" fn etherparse_ipv4_set_time_to_live(
     fields: &mut Ipv4Fields,
@@ -237,18 +225,9 @@ pub extern "C" fn etherparse_ipv4_set_time_to_live(
           (time_to_live * 2 ^ 8 + fields.old.protocol);
     } }
 
-    // A stored checksum that is the computed one stays so.
-    ensures stays_computed { IsTrue result → IsChecksumOf fields.old fields.old.header_checksum →
-        IsChecksumOf fields.new fields.new.header_checksum }
-
-    // A receiver of the header as it is written finds the checksum right where it was right before.
-    ensures all_ones { IsTrue result → (before after : List ℕ) → AreWrittenFor fields.old before →
-        AreWrittenFor fields.new after → (SumsToAllOnes before ↔ SumsToAllOnes after) }
-
-    // In a packet that begins with the header, it is enough to write bytes 8, 10 and 11.
-    ensures in_place { IsTrue result → (old new : Header) → StandFor fields.old old →
-        StandFor fields.new new → (packet rest : List ℕ) →
-        BeginsWith HasIpv4Layout packet old rest → IsWrittenInPlace packet new rest }
+    // A right checksum stays right, and a wrong one wrong.
+    ensures keeps_checksum { IsTrue result → (old new : Header) → StandForIpv4 fields.old old →
+        StandForIpv4 fields.new new → KeepsChecksum old new }
     ensures refused { ¬ AreWithinBounds fields.old → fields.new ≡ fields.old }
 {
     let Some(mut header) = header_of(fields) else {
@@ -264,9 +243,7 @@ pub extern "C" fn etherparse_ipv4_set_time_to_live(
 #[inline(always)]
 fn header_of(fields: &Ipv4Fields) -> Option<Ipv4Header>
     ensures accepted { IsSome result ↔ AreWithinBounds fields.now }
-    ensures value { IfSome result (StandFor fields.now) }
-    ensures within { IfSome result (λ header.
-        (header.time_to_live < 2 ^ 8) × (header.header_checksum < 2 ^ 16)) }
+    ensures value { IfSome result (StandForIpv4 fields.now) }
 {
     let options_len = usize::from(fields.options_len);
     if options_len > 40 || options_len % 4 != 0 {
@@ -281,9 +258,7 @@ fn header_with(fields: &Ipv4Fields, options_len: usize) -> Option<Ipv4Header>
     requires found { fields.now.options_len ≡ options_len }
     requires fits { IsOptionsLen options_len }
     ensures accepted { IsSome result ↔ AreWithinBounds fields.now }
-    ensures value { IfSome result (StandFor fields.now) }
-    ensures within { IfSome result (λ header.
-        (header.time_to_live < 2 ^ 8) × (header.header_checksum < 2 ^ 16)) }
+    ensures value { IfSome result (StandForIpv4 fields.now) }
 {
     let dscp = IpDscp::try_new(fields.dscp).ok()?;
     let ecn = IpEcn::try_new(fields.ecn).ok()?;
@@ -312,13 +287,9 @@ fn header_with(fields: &Ipv4Fields, options_len: usize) -> Option<Ipv4Header>
 fn written_with<const N: usize>(fields: &Ipv4Fields) -> Ipv4Bytes
     requires found { fields.now.options_len ≡ N }
     requires fits { IsOptionsLen N }
-    ensures accepted { (0 < result.len) ↔ AreWithinBounds fields.now }
-    ensures within { result.len ≤ 60 }
-    ensures layout { 0 < result.len → AreWrittenFor fields.now (take result.len result.bytes) }
-    ensures only { 0 < result.len → (bytes : List ℕ) → AreWrittenFor fields.now bytes →
-        bytes ≡ take result.len result.bytes }
-    ensures padded { drop result.len result.bytes ≡ replicate (60 - result.len) 0 }
-    ensures refused { ¬ AreWithinBounds fields.now → result ≡ no_ipv4_bytes }
+    ensures layout { AreWithinBounds fields.now →
+        GivesAnswer (AreWrittenForIpv4 fields.now) ipv4_bytes_in_c result }
+    ensures refused { ¬ AreWithinBounds fields.now → result ≡ ipv4_bytes_in_c [] }
 {
     match header_with(fields, N) {
         Some(header) => {
@@ -336,7 +307,7 @@ fn written_with<const N: usize>(fields: &Ipv4Fields) -> Ipv4Bytes
 // The answer where the fields are those of no header.
 #[inline(always)]
 fn no_bytes() -> Ipv4Bytes
-    ensures value { result ≡ no_ipv4_bytes }
+    ensures value { result ≡ ipv4_bytes_in_c [] }
 {
     Ipv4Bytes {
         bytes: [0; 60],
@@ -349,10 +320,7 @@ fn no_bytes() -> Ipv4Bytes
 fn fields_with(header: &Ipv4Header, options: [u8; 40]) -> Ipv4Fields
     requires { options
         ≡ header.now.options ++ replicate (40 - length header.now.options) 0 }
-    ensures same { StandFor result header.now }
-    ensures padded { result.options
-        ≡ header.now.options ++ replicate (40 - length header.now.options) 0 }
-    ensures within { AreWithinBounds result }
+    ensures value { result ≡ ipv4_fields_of header.now }
 {
     Ipv4Fields {
         dscp: header.dscp.value(),
@@ -375,11 +343,7 @@ fn fields_with(header: &Ipv4Header, options: [u8; 40]) -> Ipv4Fields
 // The answer where there is no header.
 #[inline(always)]
 fn refused(e: &HeaderSliceError) -> Ipv4ReadAnswer
-    ensures value { result ≡ record {
-      error = ipv4_error_in_c e.now;
-      rest = no_rest;
-      fields = no_ipv4_fields;
-    } }
+    ensures value { (s : List ℕ) → result ≡ ipv4_reading_in_c s (Err e.now) }
 {
     Ipv4ReadAnswer {
         error: Error::of_ipv4(e),

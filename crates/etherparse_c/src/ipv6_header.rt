@@ -1,14 +1,11 @@
 //! The IPv6 header (RFC 8200 section 3).
 
-ghost use Rattle.std.specs.Prelude.{ℕ, ◌≡◌, ◌↔◌, ◌^◌, ◌<◌, ◌≤◌, List, IfSome, IsSome, drop, take};
-ghost use Rattle.etherparse.specs.ExtensionHeaderChain.{BeginsWithChain, HasIpv6Chain};
-ghost use Rattle.etherparse.specs.Ipv6Header.{Ipv6Reading, ReadsIpv6};
-ghost use Rattle.etherparse.specs.declared.net.ipv6_header.Ipv6Header.{Ipv6Header as Header};
-ghost use Rattle.etherparse_c.specs.Answer.{GivesAnswer, no_rest};
-ghost use Rattle.etherparse_c.specs.Error.{ipv6_error_in_c, no_error};
-ghost use Rattle.etherparse_c.specs.Ipv6Answers.{AreWrittenForIpv6, GivesIpv6Reading};
-ghost use Rattle.etherparse_c.specs.Ipv6Answers.{no_ipv6_bytes, no_ipv6_fields};
-ghost use Rattle.etherparse_c.specs.Ipv6Fields.{StandForIpv6};
+ghost use Rattle.std.specs.Prelude.{ℕ, ◌≡◌, ◌↔◌, ◌^◌, ◌<◌, List, [], Err, IfSome, IsSome};
+ghost use Rattle.etherparse.specs.Ipv6Header.{ReadsIpv6};
+ghost use Rattle.etherparse_c.specs.Answer.{GivesAnswer};
+ghost use Rattle.etherparse_c.specs.Ipv6Answers.{AreWrittenForIpv6, ipv6_bytes_in_c};
+ghost use Rattle.etherparse_c.specs.Ipv6Answers.{ipv6_reading_in_c};
+ghost use Rattle.etherparse_c.specs.Ipv6Fields.{ipv6_fields_of};
 
 use crate::answer::{Error, Rest};
 use etherparse::err::ipv6::HeaderSliceError;
@@ -56,23 +53,17 @@ pub struct Ipv6Bytes {
     pub len: u8,
 }
 
-/// The fields of the header at the front of a slice, and where the bytes after it are, however many `payload_length` tells of.
+/// The fields of the header at the front of a slice, and where the bytes after it are, however many
+/// `payload_length` tells of.
 ///
 /// The error is a length of fewer than 40 bytes; else another version than 6.
 #[unsafe(no_mangle)]
 pub extern "C" fn etherparse_ipv6_read(slice: &[u8]) -> Ipv6ReadAnswer
-    ensures reads { GivesAnswer (ReadsIpv6 slice.now) (GivesIpv6Reading result slice.now) }
-    ensures only { (other : Ipv6Reading) → ReadsIpv6 slice.now other →
-        GivesIpv6Reading result slice.now other }
-
-    // With extension headers at the front of the rest, the slice is the header, these, and what follows them.
-    ensures chain { result.error ≡ no_error → (header : Header) →
-        StandForIpv6 result.fields header → (headers : List (List ℕ)) (last : ℕ) (rest : List ℕ) →
-        BeginsWithChain (drop result.rest.offset slice.now) header.next_header headers last rest →
-        HasIpv6Chain slice.now header headers last rest }
-    ensures within { result.fields.flow_label < 2 ^ 20 }
+    ensures reads { GivesAnswer (ReadsIpv6 slice.now) (ipv6_reading_in_c slice.now) result }
 {
     match Ipv6Header::from_slice(slice) {
+        // Each arm has its `return`, which the speed rests on: as the value of the `match` the
+        // answer takes more instructions, a third more in `etherparse_ipv4_view`.
         Ok((header, rest)) => {
             return Ipv6ReadAnswer {
                 error: Error::none(),
@@ -87,12 +78,9 @@ pub extern "C" fn etherparse_ipv6_read(slice: &[u8]) -> Ipv6ReadAnswer
 /// The bytes of the header of these fields.
 #[unsafe(no_mangle)]
 pub extern "C" fn etherparse_ipv6_write(fields: &Ipv6Fields) -> Ipv6Bytes
-    ensures accepted { (0 < result.len) ↔ (fields.now.flow_label < 2 ^ 20) }
-    ensures within { result.len ≤ 40 }
-    ensures layout { 0 < result.len → AreWrittenForIpv6 fields.now (take result.len result.bytes) }
-    ensures only { 0 < result.len → (bytes : List ℕ) → AreWrittenForIpv6 fields.now bytes →
-        bytes ≡ take result.len result.bytes }
-    ensures refused { ¬ (fields.now.flow_label < 2 ^ 20) → result ≡ no_ipv6_bytes }
+    ensures layout { fields.now.flow_label < 2 ^ 20 →
+        GivesAnswer (AreWrittenForIpv6 fields.now) ipv6_bytes_in_c result }
+    ensures refused { ¬ (fields.now.flow_label < 2 ^ 20) → result ≡ ipv6_bytes_in_c [] }
 {
     match header_of(fields) {
         Some(header) => {
@@ -114,7 +102,7 @@ pub extern "C" fn etherparse_ipv6_write(fields: &Ipv6Fields) -> Ipv6Bytes
 #[inline(always)]
 fn header_of(fields: &Ipv6Fields) -> Option<Ipv6Header>
     ensures accepted { IsSome result ↔ (fields.now.flow_label < 2 ^ 20) }
-    ensures value { IfSome result (StandForIpv6 fields.now) }
+    ensures value { IfSome result (λ header. fields.now ≡ ipv6_fields_of header) }
 {
     let flow_label = Ipv6FlowLabel::try_new(fields.flow_label).ok()?;
     Some(Ipv6Header {
@@ -131,8 +119,7 @@ fn header_of(fields: &Ipv6Fields) -> Option<Ipv6Header>
 // The fields of a header.
 #[inline(always)]
 fn fields_of(header: &Ipv6Header) -> Ipv6Fields
-    ensures same { StandForIpv6 result header.now }
-    ensures within { result.flow_label < 2 ^ 20 }
+    ensures value { result ≡ ipv6_fields_of header.now }
 {
     Ipv6Fields {
         flow_label: header.flow_label.value(),
@@ -148,11 +135,7 @@ fn fields_of(header: &Ipv6Header) -> Ipv6Fields
 // The answer where there is no header.
 #[inline(always)]
 fn refused(e: &HeaderSliceError) -> Ipv6ReadAnswer
-    ensures value { result ≡ record {
-      error = ipv6_error_in_c e.now;
-      rest = no_rest;
-      fields = no_ipv6_fields;
-    } }
+    ensures value { (s : List ℕ) → result ≡ ipv6_reading_in_c s (Err e.now) }
 {
     Ipv6ReadAnswer {
         error: Error::of_ipv6(e),

@@ -1,14 +1,9 @@
 //! The view of an IPv6 header (RFC 8200 section 3): its bytes stay where they are.
 
-ghost use Rattle.std.specs.Prelude.{ℕ, ◌≡◌, ◌<◌, ◌^◌, List, Result, drop, slice_index};
-ghost use Rattle.etherparse.specs.ExtensionHeaderChain.{BeginsWithChain, HasIpv6Chain};
-ghost use Rattle.etherparse.specs.Ipv6Header.{IsIpv6Layout, OfIpv6Header, ViewsIpv6};
-ghost use Rattle.etherparse.specs.Reading.{BeginsWith};
-ghost use Rattle.etherparse.specs.declared.err.ipv6.HeaderSliceError.{HeaderSliceError as SliceError};
-ghost use Rattle.etherparse.specs.declared.net.ipv6_header.Ipv6Header.{Ipv6Header as Header};
-ghost use Rattle.etherparse_c.specs.Answer.{GivesAnswer, no_rest, rest_of};
-ghost use Rattle.etherparse_c.specs.Error.{ipv6_error_in_c, no_error};
-ghost use Rattle.etherparse_c.specs.Ipv6Answers.{GivesIpv6View, ShowsIpv6, no_ipv6_view};
+ghost use Rattle.std.specs.Prelude.{ℕ, ◌≡◌, List, Err};
+ghost use Rattle.etherparse.specs.Ipv6Header.{OfIpv6Header, ReadsIpv6};
+ghost use Rattle.etherparse_c.specs.Answer.{GivesAnswer};
+ghost use Rattle.etherparse_c.specs.Ipv6Answers.{ipv6_view_in_c, ipv6_view_of};
 
 use crate::answer::{Error, Rest};
 use etherparse::Ipv6HeaderSlice;
@@ -55,26 +50,11 @@ pub struct Ipv6ViewAnswer {
 /// The error is a length of fewer than 40 bytes; else another version than 6.
 #[unsafe(no_mangle)]
 pub extern "C" fn etherparse_ipv6_view(slice: &[u8]) -> Ipv6ViewAnswer
-    ensures views { GivesAnswer (ViewsIpv6 slice.now) (GivesIpv6View result slice.now) }
-    ensures only { (other : Result (List ℕ) SliceError) → ViewsIpv6 slice.now other →
-        GivesIpv6View result slice.now other }
-    ensures shows { (header : Header) → (rest : List ℕ) →
-        BeginsWith IsIpv6Layout slice.now header rest → (result.error ≡ no_error)
-        × ((result.rest ≡ rest_of slice.now rest) × ShowsIpv6 result.view header) }
-
-    // With extension headers at the front of the rest, the slice is the header, these, and what follows them.
-    ensures chain { result.error ≡ no_error → (header : Header) →
-        ShowsIpv6 result.view header → (headers : List (List ℕ)) (last : ℕ) (rest : List ℕ) →
-        BeginsWithChain (drop result.rest.offset slice.now) header.next_header headers last rest →
-        HasIpv6Chain slice.now header headers last rest }
-    ensures byte_6 { result.error ≡ no_error →
-        result.view.next_header ≡ slice_index slice.now 6 }
-    ensures byte_7 { result.error ≡ no_error → result.view.hop_limit ≡ slice_index slice.now 7 }
-    ensures dscp_within { result.view.dscp < 2 ^ 6 }
-    ensures ecn_within { result.view.ecn < 2 ^ 2 }
-    ensures flow_label_within { result.view.flow_label < 2 ^ 20 }
+    ensures views { GivesAnswer (ReadsIpv6 slice.now) (ipv6_view_in_c slice.now) result }
 {
     match Ipv6HeaderSlice::from_slice(slice) {
+        // Each arm has its `return`, which the speed rests on: as the value of the `match` the
+        // answer takes more instructions, a third more in `etherparse_ipv4_view`.
         Ok(view) => {
             return Ipv6ViewAnswer {
                 error: Error::none(),
@@ -89,12 +69,7 @@ pub extern "C" fn etherparse_ipv6_view(slice: &[u8]) -> Ipv6ViewAnswer
 // What the getters of a view answer.
 #[inline(always)]
 fn getters_of(view: &Ipv6HeaderSlice) -> Ipv6View
-    ensures value { OfIpv6Header view.now.slice.now (ShowsIpv6 result) }
-    ensures byte_6 { result.next_header ≡ slice_index view.now.slice.now 6 }
-    ensures byte_7 { result.hop_limit ≡ slice_index view.now.slice.now 7 }
-    ensures dscp_within { result.dscp < 2 ^ 6 }
-    ensures ecn_within { result.ecn < 2 ^ 2 }
-    ensures flow_label_within { result.flow_label < 2 ^ 20 }
+    ensures value { OfIpv6Header view.now.slice.now (λ header. result ≡ ipv6_view_of header) }
 {
     Ipv6View {
         flow_label: view.flow_label().value(),
@@ -109,8 +84,8 @@ fn getters_of(view: &Ipv6HeaderSlice) -> Ipv6View
     }
 }
 
-// The same bytes. Read one by one they go into the answer by one load and one store; copied as a whole, they are stored in a
-// room of their own on the way.
+// The same bytes. Read one by one they go into the answer by one load and one store; copied as a
+// whole, they are stored in a room of their own on the way.
 #[inline(always)]
 fn byte_by_byte(address: [u8; 16]) -> [u8; 16]
     ensures { result ≡ address }
@@ -122,11 +97,7 @@ fn byte_by_byte(address: [u8; 16]) -> [u8; 16]
 // The answer where there is no header.
 #[inline(always)]
 fn refused(e: &HeaderSliceError) -> Ipv6ViewAnswer
-    ensures value { result ≡ record {
-      error = ipv6_error_in_c e.now;
-      rest = no_rest;
-      view = no_ipv6_view;
-    } }
+    ensures value { (s : List ℕ) → result ≡ ipv6_view_in_c s (Err e.now) }
 {
     Ipv6ViewAnswer {
         error: Error::of_ipv6(e),

@@ -1,7 +1,7 @@
 //! `etherparse` for C, and for every language that calls C functions: a static library.
 //!
-//! `include/etherparse.h` declares what is here. A slice is a pointer and a length, and no call keeps a pointer, takes memory
-//! or makes a system call.
+//! `include/etherparse.h` declares what is here. A slice is a pointer and a length, and no call
+//! keeps a pointer, takes memory or makes a system call.
 #![tactic(auto)]
 
 pub mod answer;

@@ -1,6 +1,7 @@
 //! Bytes at the front of an array, which has room for the longest.
 
-ghost use Rattle.std.specs.Prelude.{ℕ, ◌≡◌, ◌<◌, ◌≤◌, ◌+◌, ◌-◌, ◌%◌, ◌++◌, length, replicate, slice_index};
+ghost use Rattle.std.specs.Prelude.{ℕ, ◌≡◌, ◌<◌, ◌≤◌, ◌+◌, ◌-◌, ◌%◌, ◌++◌};
+ghost use Rattle.std.specs.Prelude.{length, replicate, slice_index};
 ghost use Rattle.etherparse.specs.Ipv4Options.{IsOptionsLen};
 
 /// These bytes, and 0 in the rest of the array.

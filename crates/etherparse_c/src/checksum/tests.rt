@@ -1,4 +1,5 @@
-//! Each export once, and what is not said of the exports elsewhere: that they are those of the library.
+//! Each export once, and what is not said of the exports elsewhere: that they are those of the
+//! library.
 
 use super::*;
 

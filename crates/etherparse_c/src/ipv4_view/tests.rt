@@ -1,4 +1,5 @@
-//! What a view shows that a read does not: the reserved bit stays in the bytes, and the options where they are.
+//! What a view shows that a read does not: the reserved bit stays in the bytes, and the options
+//! where they are.
 
 use super::*;
 

@@ -1,10 +1,6 @@
-use Rattle.std.proofs.Common.{rules}
-use Rattle.etherparse.proofs.HeaderChecksum.{with_checksum}
+use Rattle.etherparse_c.proofs.Fields.{written_ipv4_layout}
 use Rattle.etherparse_c.proofs.ipv4_header.etherparse_ipv4_header_checksum.Goals as goal
 
-pub returns-in-Some-clause-whatever_is_stored : goal.returns-in-Some-clause-whatever_is_stored
-returns-in-Some-clause-whatever_is_stored c = λ some stored. record {
-  header = with_checksum stored c.in-Some.header;
-  same = search rules;
-  value = c.calc_header_checksum.ensures.whatever_is_stored stored;
-}
+pub returns-in-Some-clause-value : goal.returns-in-Some-clause-value
+returns-in-Some-clause-value c = λ some bytes written. c.calc_header_checksum.ensures.value bytes
+    (written_ipv4_layout c.args.fields.now c.in-Some.header bytes c.in-Some.ensures.value written)

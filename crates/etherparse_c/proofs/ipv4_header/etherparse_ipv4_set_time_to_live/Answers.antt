@@ -1,29 +1,25 @@
-use Rattle.etherparse_c.proofs.TimeToLive.{stands_changed, stays_right}
+use Rattle.std.proofs.Common.{ℕ, ◌≡◌, ap, subst}
+use Rattle.etherparse.proofs.HeaderChecksum.{with_time_to_live}
+use Rattle.etherparse.specs.HeaderChecksum.{KeepsChecksum}
+use Rattle.etherparse.specs.declared.net.ipv4_header.Ipv4Header.{Ipv4Header}
 use Rattle.etherparse_c.proofs.Fields.{one_ipv4_header}
-use Rattle.etherparse.specs.HeaderChecksum.{IsWrittenInPlace}
-use Rattle.etherparse.specs.Ipv4Header.{HasIpv4Layout, IsIpv4Layout}
-use Rattle.etherparse.specs.Reading.{BeginsWith}
-use Rattle.std.proofs.Common.{subst, sym}
+use Rattle.etherparse_c.specs.Ipv4Fields.{StandForIpv4}
+use Rattle.etherparse_c.specs.declared.ipv4_header.Ipv4Fields.{Ipv4Fields}
 use Rattle.etherparse_c.proofs.ipv4_header.etherparse_ipv4_set_time_to_live.Goals as goal
 
-pub returns-clause-stays_computed : goal.returns-clause-stays_computed
-returns-clause-stays_computed c = λ some.
-    let within = c.in-Some.ensures.within in
-    stays_right c.args.fields.now _ _ c.in-Some.header c.set_time_to_live.new.self c.in-Some.ensures.value c.set_time_to_live.ensures.set
-    within.0 within.1 c.set_time_to_live.ensures.keeps_checksum.stays_computed
+-- fields that are changed as a header is stand for it
+changed : (fields : Ipv4Fields) (t k : ℕ) (h g : Ipv4Header) → StandForIpv4 fields h → g ≡ with_time_to_live t k h
+    → StandForIpv4 (record fields { time_to_live = g.time_to_live; header_checksum = g.header_checksum }) g
+changed fields t k h g s e = rw e (record {
+  options = s.options;
+  others = ap (λ (f : Ipv4Fields). record f { time_to_live = t; header_checksum = k }) s.others;
+})
 
-pub returns-clause-all_ones : goal.returns-clause-all_ones
-returns-clause-all_ones c = λ some before after k l.
-    let changed = stands_changed c.args.fields.now _ _ c.in-Some.header c.set_time_to_live.new.self c.in-Some.ensures.value c.set_time_to_live.ensures.set in
-    let old = one_ipv4_header c.args.fields.now k.header c.in-Some.header k.same c.in-Some.ensures.value in
-    let new = one_ipv4_header _ l.header c.set_time_to_live.new.self l.same changed in
-    c.set_time_to_live.ensures.keeps_checksum.all_ones 0 before after
-    (subst (λ h. IsIpv4Layout h 0 before) old k.layout) (subst (λ h. IsIpv4Layout h 0 after) new l.layout)
-
-pub returns-clause-in_place : goal.returns-clause-in_place
-returns-clause-in_place c = λ some old new k l packet rest begins.
-    let changed = stands_changed c.args.fields.now _ _ c.in-Some.header c.set_time_to_live.new.self c.in-Some.ensures.value c.set_time_to_live.ensures.set in
-    let before = one_ipv4_header c.args.fields.now old c.in-Some.header k c.in-Some.ensures.value in
-    let after = one_ipv4_header _ new c.set_time_to_live.new.self l changed in
-    subst (λ h. IsWrittenInPlace packet h rest) (sym after)
-    (c.set_time_to_live.ensures.in_place packet rest (subst (λ h. BeginsWith HasIpv4Layout packet h rest) before begins))
+pub returns-clause-keeps_checksum : goal.returns-clause-keeps_checksum
+returns-clause-keeps_checksum c = λ some old new before after.
+    let fields = c.args.fields.now in
+    let h = c.in-Some.header in
+    let g = c.set_time_to_live.new.self in
+    let stands = changed fields _ _ h g c.in-Some.ensures.value c.set_time_to_live.ensures.set in
+    subst (λ x. KeepsChecksum x new) (one_ipv4_header fields h old c.in-Some.ensures.value before)
+    (subst (λ x. KeepsChecksum h x) (one_ipv4_header _ g new stands after) c.set_time_to_live.ensures.keeps_checksum)
