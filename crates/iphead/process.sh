@@ -1,9 +1,15 @@
 #!/bin/sh
-# Runs the built program as a process, and holds its exit code and all that it writes against what is wanted: on the worked
-# inputs, and where standard input or output is closed, full or without an end, which no test of `run` can have. `rt ci`
-# builds it by two compilers, and both builds are run; `rt run` builds it by one.
+# Runs the built program as a process, and holds its exit code and all that it writes against what
+# is wanted: on the worked inputs, where standard input or output is closed, full or without an end,
+# and with arguments, none of which a test of `run` can have.
 #
-# It prints a line for each case, and at last 'N passed, M failed'. The exit code is 1 where one failed.
+#     ./process.sh            both builds that `rt ci` leaves in out/: iphead, and iphead.by-rattle,
+#                             which Rattle's own compiler makes after it; it fails where one of them
+#                             is missing, or the second older than the first
+#     ./process.sh iphead     the build of this name alone, as after `rt run`, which makes no other
+#
+# It prints a line for each case, and at last 'N passed, M failed'. The exit code is 1 where one
+# failed.
 set -u
 unset CDPATH
 cd "$(dirname "$0")" || exit 1
@@ -24,7 +30,8 @@ fail() {
     echo "FAILED: $build: $1: $2"
 }
 
-# judge NAME CODE WANTED: the run before it ended with the code that is wanted, wrote the file `wanted`, and told no error.
+# judge NAME CODE WANTED: the run before it ended with the code that is wanted, wrote the file
+# `wanted`, and told no error.
 judge() {
     if [ "$2" -ne "$3" ]; then
         fail "$1" "it ended with $2, and not with $3"
@@ -45,24 +52,36 @@ gives() {
     judge "$1" $? "$2"
 }
 
-# stops NAME CHARACTER BYTES: a megabyte of the character is refused once so many bytes are read, and the others are not.
-stops() {
-    echo 'error: input is too long' >"$room/wanted"
-    dd if=/dev/zero bs=1024 count=1024 2>/dev/null | tr '\0' "$2" >"$room/input"
+# megabyte CHARACTER: a megabyte of it is what comes by descriptor 3.
+megabyte() {
+    dd if=/dev/zero bs=1024 count=1024 2>/dev/null | tr '\0' "$1" >"$room/input"
     exec 3<"$room/input"
-    "$program" <&3 >"$room/output" 2>"$room/errors"
-    judge "$1" $? 2
+}
+
+# has_read NAME BYTES: of that megabyte so many bytes are read, and the others are not.
+has_read() {
     left=$(cat <&3 | wc -c)
     exec 3<&-
-    if [ "$((1048576 - left))" -eq "$3" ]; then
-        pass "$1, after $3 bytes"
+    if [ "$((1048576 - left))" -eq "$2" ]; then
+        pass "$1, after $2 bytes"
     else
-        fail "$1, after $3 bytes" "it read $((1048576 - left))"
+        fail "$1, after $2 bytes" "it read $((1048576 - left))"
     fi
 }
 
+# stops NAME CHARACTER BYTES: a megabyte of the character is refused once so many bytes are read.
+stops() {
+    echo 'error: input is too long' >"$room/wanted"
+    megabyte "$2"
+    "$program" <&3 >"$room/output" 2>"$room/errors"
+    judge "$1" $? 2
+    has_read "$1" "$3"
+}
+
 ipv6='60000000 00003b40 00000000 00000000 00000000 00000001 00000000 00000000 00000000 00000002'
+addresses=${ipv6#60000000 00003b40}
 digits='6000000000003b400000000000000000000000000000000100000000000000000000000000000002'
+ipv4='45000073 00004000 4011b861 c0a80001 c0a800c7'
 cat >"$room/lines" <<'END'
 version 6
 traffic_class 0
@@ -101,7 +120,8 @@ upper 59
 place 40
 rest 2008
 END
-    gives '32 extension headers' 0 "60000000 01000040${ipv6#60000000 00003b40} $(repeated 0 496)3b00000000000000" <<'END'
+    gives '32 extension headers' 0 \
+        "60000000 01000040$addresses $(repeated 0 496)3b00000000000000" <<'END'
 version 6
 traffic_class 0
 flow_label 0
@@ -114,7 +134,7 @@ upper 59
 place 296
 rest 0
 END
-    gives 'an IPv4 header' 0 '45000073 00004000 4011b861 c0a80001 c0a800c7' <<'END'
+    gives 'an IPv4 header' 0 "$ipv4" <<'END'
 version 4
 ihl 5
 dscp 0
@@ -179,7 +199,7 @@ END
 
 refused_headers() {
     gives 'an incomplete extension header' 1 \
-        '60000000 000b0040 00000000 00000000 00000000 00000001 00000000 00000000 00000000 00000002 2b000000 00000000 060100' <<'END'
+        "60000000 000b0040$addresses 2b000000 00000000 060100" <<'END'
 version 6
 traffic_class 0
 flow_label 0
@@ -190,7 +210,7 @@ source 00000000000000000000000000000001
 destination 00000000000000000000000000000002
 error: IPv6 Extension Header Error: Not enough data to decode 'IPv6 extension header'. 16 byte(s) would be required, but only 3 byte(s) are available based on the slice length ('IPv6 extension header' starts at overall parsed byte 48).
 END
-    gives '33 extension headers' 1 "60000000 01080040${ipv6#60000000 00003b40} $(repeated 0 528)" <<'END'
+    gives '33 extension headers' 1 "60000000 01080040$addresses $(repeated 0 528)" <<'END'
 version 6
 traffic_class 0
 flow_label 0
@@ -230,12 +250,19 @@ END
     judge 'a pipe without an end' $? 2
 }
 
-# What changes nothing.
+# What changes nothing: an argument of any kind, and what standard input and error are.
 other_ways_to_run() {
     printf '%s' "$ipv6" >"$room/input"
+    printf '%s' "$ipv4" >"$room/other"
     cp "$room/lines" "$room/wanted"
-    "$program" --help 45 no/such/file <"$room/input" >"$room/output" 2>"$room/errors"
-    judge 'arguments' $? 0
+    for argument in --version -V -v --help -h -- - '' 45 "$ipv4" no/such/file .; do
+        "$program" "$argument" <"$room/input" >"$room/output" 2>"$room/errors"
+        judge "the argument '$argument'" $? 0
+    done
+    "$program" "$room/other" <"$room/input" >"$room/output" 2>"$room/errors"
+    judge 'a file of another header as argument' $? 0
+    "$program" --version "$room/other" "$room/other" <"$room/input" >"$room/output" 2>"$room/errors"
+    judge 'three arguments' $? 0
     printf '%s' "$ipv6" | "$program" >"$room/output" 2>"$room/errors"
     judge 'a pipe' $? 0
     "$program" <"$room/input" >"$room/output" 2>&-
@@ -251,7 +278,7 @@ unreadable_input() {
     judge 'a folder as standard input' $? 3
 }
 
-# What is written before the output is full stays, and nothing comes after it.
+# What is written before the output is full stays, and nothing comes after it, nor is anything read.
 unwritable_output() {
     : >"$room/wanted"
     : >"$room/output"
@@ -271,16 +298,27 @@ unwritable_output() {
     judge 'a pipe that nobody reads' $? 3
     exec 4>&-
     rm "$room/pipe"
+    megabyte 0
+    "$program" <&3 >/dev/full 2>"$room/errors"
+    judge 'standard output full, on a megabyte of digits' $? 3
+    has_read 'standard output full, on a megabyte of digits' 4608
+    printf '%s' "$ipv6" >"$room/input"
     printf '%412s' '' >"$room/output"
     { printf '%412s' '' && dd if="$room/lines" bs=1 count=100 2>/dev/null; } >"$room/wanted"
-    sh -c "trap '' XFSZ && ulimit -f 1 && exec $program" <"$room/input" >>"$room/output" 2>"$room/errors"
+    sh -c "trap '' XFSZ && ulimit -f 1 && exec $program" \
+        <"$room/input" >>"$room/output" 2>"$room/errors"
     judge 'a file that is full after 100 bytes' $? 3
 }
 
-for program in out/iphead $(find out -name iphead.by-rattle -newer out/iphead 2>/dev/null); do
-    build=${program#out/}
+[ $# -gt 0 ] || set -- iphead iphead.by-rattle
+for build; do
+    program=out/$build
     if ! [ -x "$program" ]; then
-        fail 'the program' 'it is not built: rt ci or rt run does that'
+        fail 'the build' 'it is missing: rt ci makes both, and rt run makes iphead alone'
+        continue
+    fi
+    if [ "$build" = iphead.by-rattle ] && [ -n "$(find out/iphead -newer "$program")" ]; then
+        fail 'the build' 'it is older than iphead: rt ci makes both anew'
         continue
     fi
     printed_headers

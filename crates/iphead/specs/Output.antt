@@ -98,8 +98,7 @@ ipv4_lines h front rest_len =
 abbrev pub Outcome : Type 0
 Outcome = Status × List ℕ
 
--- What follows an IPv6 header: the number of the upper layer, where its bytes start in the packet,
--- and how many they are.
+-- after an IPv6 header: the number of the upper layer, where its bytes start, how many they are
 abbrev pub upper_layer_lines : ℕ → ℕ → ℕ → List ℕ
 upper_layer_lines number place rest_len =
     line (codes "upper") (decimal number)
@@ -110,8 +109,7 @@ upper_layer_lines number place rest_len =
 abbrev pub max_extension_headers : ℕ
 max_extension_headers = 32
 
--- The outcome of the walk over so many bytes after an IPv6 header. Places count from the header's
--- start, which is 40 bytes before that.
+-- the outcome of the walk over so many bytes after an IPv6 header, from whose start places count
 abbrev pub walk_outcome : ℕ → LimitedWalkAnswer → Outcome
 walk_outcome len (Ok x) =
     (Done, upper_layer_lines x.0 (40 + (len - length x.1)) (length x.1))
@@ -123,14 +121,10 @@ pub record Ipv6Front : Type 0 where
   pub rest : List ℕ
   pub walk : LimitedWalkAnswer
 
--- such a front of a packet is read and walked
-pub record ReadsIpv6Front (packet : List ℕ) (front : Ipv6Front) : Type 0 where
-  pub reads : ReadsIpv6 packet (Ok (front.header, front.rest))
-  pub walks : WalksUpTo max_extension_headers front.rest front.header.next_header front.walk
-
 -- reading an IPv6 packet and walking on; or why it has no header
 abbrev pub ReadsIpv6Packet : List ℕ → Result Ipv6Front HeaderSliceError → Type 0
-ReadsIpv6Packet packet (Ok front) = ReadsIpv6Front packet front
+ReadsIpv6Packet packet (Ok front) = ReadsIpv6 packet (Ok (front.header, front.rest))
+    × WalksUpTo max_extension_headers front.rest front.header.next_header front.walk
 ReadsIpv6Packet packet (Err e) = ReadsIpv6 packet (Err e)
 
 -- the outcome for an IPv6 packet: the fields of its header, and after them that of the walk
@@ -161,13 +155,9 @@ ReportsBytes (Ok bytes) outcome = MatchBool (version_of bytes == 6)
     (Reports (ReadsIpv4 bytes) (ipv4_outcome bytes) outcome)
 ReportsBytes (Err e) outcome = outcome ≡ (BadInput, error_line (codes "input is not hex"))
 
--- the outcome of too long an input
-abbrev pub too_long_outcome : Outcome
-too_long_outcome = (BadInput, error_line (codes "input is too long"))
-
 -- the outcome for an input
 pub record IsOutput (input : List ℕ) (outcome : Outcome) : Type 0 where
-  pub too_long : IsTooLong input → outcome ≡ too_long_outcome
+  pub too_long : IsTooLong input → outcome ≡ (BadInput, error_line (codes "input is too long"))
   pub short : ¬ IsTooLong input → ReportsBytes (decode_of (digits_of input)) outcome
 
 -- what the writer holds is what it held before, and after that the text of such an outcome

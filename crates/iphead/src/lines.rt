@@ -3,7 +3,8 @@ ghost use Rattle.std.specs.Io.KnownBytes.{Appends};
 ghost use Rattle.hex.specs.Hex.{encode_lower};
 ghost use Rattle.etherparse.specs.Ipv4Header.{OfIpv4Header};
 ghost use Rattle.etherparse.specs.Ipv6Header.{OfIpv6Header};
-ghost use Rattle.iphead.specs.Output.{dotted, error_line, good_or_bad, ipv4_lines, ipv6_lines, line, options_text, upper_layer_lines};
+ghost use Rattle.iphead.specs.Output.{dotted, error_line, good_or_bad, ipv4_lines, ipv6_lines};
+ghost use Rattle.iphead.specs.Output.{line, options_text, upper_layer_lines};
 
 use etherparse::checksum::u64_16bit_word;
 use etherparse::{Ipv4Header, Ipv4HeaderSlice, Ipv6HeaderSlice};
@@ -37,7 +38,8 @@ pub fn write_ipv6<W: Write>(writer: &mut W, view: &Ipv6HeaderSlice) -> io::Resul
     Ok(())
 }
 
-/// Writes what follows an IPv6 header: the number of the upper layer, where its bytes start, and how many they are.
+/// Writes what follows an IPv6 header: the number of the upper layer, where its bytes start, and
+/// how many they are.
 pub fn write_upper_layer<W: Write>(
     writer: &mut W,
     number: u8,
@@ -53,8 +55,8 @@ pub fn write_upper_layer<W: Write>(
     Ok(())
 }
 
-/// Writes the fields of an IPv4 header, one a line, the checksum that it should have, whether its bytes sum to all ones, and
-/// the number of bytes after it.
+/// Writes the fields of an IPv4 header, one a line, the checksum that it should have, whether its
+/// bytes sum to all ones, and the number of bytes after it.
 pub fn write_ipv4<W: Write>(
     writer: &mut W,
     view: &Ipv4HeaderSlice,

@@ -3,7 +3,8 @@ ghost use Rattle.hex.specs.Hex.{decode_of};
 ghost use Rattle.etherparse.specs.ExtensionHeaderChain.{WalksUpTo};
 ghost use Rattle.etherparse.specs.Ipv4Header.{ReadsIpv4};
 ghost use Rattle.iphead.specs.Output.{IsOutput, ReadsIpv6Packet, Reports, ReportsBytes, Writes};
-ghost use Rattle.iphead.specs.Output.{ipv4_outcome, ipv6_outcome, max_extension_headers, too_long_outcome, walk_outcome};
+ghost use Rattle.iphead.specs.Output.{ipv4_outcome, ipv6_outcome, max_extension_headers};
+ghost use Rattle.iphead.specs.Output.{walk_outcome};
 
 use crate::decode::decode_input;
 use crate::input::read_digits;
@@ -17,42 +18,42 @@ use std::io::{Read, Write};
 // The greatest number of extension headers that are walked past.
 const MAX_EXTENSION_HEADERS: usize = 32;
 
-// What is to be written.
-type Text = ArrayVec<u8, 2048>;
+// The room for all that is printed, in bytes. The longest output has 426: eight fields of an IPv6
+// header, and the error of the walk after it. With numbers of 20 digits it would have 474.
+const OUTPUT_ROOM: usize = 1024;
 
-/// Reads the hex digits of a header and prints its fields, one a line, or one line that says why not.
+// All that is printed.
+type Text = ArrayVec<u8, OUTPUT_ROOM>;
+
+/// Reads the hex digits of a header and prints its fields, one a line, or one line that says why
+/// not.
 ///
-/// Blanks between the digits are dropped. It takes at most 4096 digits among at most 65536 bytes, reads in pieces of 512
-/// bytes, walks past at most 32 extension headers, and takes no memory. The whole text is written at the end, by one call of
-/// `write_all`. A read or a write that fails ends it at once.
+/// Blanks between the digits are dropped. It takes at most 4096 digits among at most 65536 bytes,
+/// reads in pieces of 512 bytes, walks past at most 32 extension headers, and takes no memory. It
+/// prints by one `write_all`, once the whole output is made. A read or a write that fails ends it
+/// at once.
 pub fn run<R: Read, W: Write>(reader: &mut R, writer: &mut W) -> Status
     ensures output { result ≢ Status.Failed → IfSome (R.remaining reader.old) (λ input.
         Writes (IsOutput input) result (W.contents writer.old) (W.contents writer.new)) }
 {
-    answer(reader, writer).unwrap_or(Status::Failed)
+    try_run(reader, writer).unwrap_or(Status::Failed)
 }
 
-// The same, where a read or a write that fails is an error.
-fn answer<R: Read, W: Write>(reader: &mut R, writer: &mut W) -> io::Result<Status>
+// `run`, where a read or a write that fails is an error.
+fn try_run<R: Read, W: Write>(reader: &mut R, writer: &mut W) -> io::Result<Status>
     ensures { IfOk result (λ status. IfSome (R.remaining reader.old) (λ input.
         Writes (IsOutput input) status (W.contents writer.old) (W.contents writer.new))) }
 {
     let mut text = Text::new();
     let status = match read_digits(reader)? {
         Some(digits) => report(digits.as_slice(), &mut text)?,
-        None => report_too_long(&mut text)?,
+        None => {
+            write_error(&mut text, "input is too long")?;
+            Status::BadInput
+        }
     };
     writer.write_all(text.as_slice())?;
     Ok(status)
-}
-
-// Says that the input is too long.
-fn report_too_long<W: Write>(writer: &mut W) -> io::Result<Status>
-    ensures { IfOk result (λ status. Writes (λ outcome. outcome ≡ too_long_outcome) status
-        (W.contents writer.old) (W.contents writer.new)) }
-{
-    write_error(writer, "input is too long")?;
-    Ok(Status::BadInput)
 }
 
 // Prints what is to be said of the bytes that digits stand for.

@@ -3,7 +3,8 @@
 pub enum Status {
     /// All fields were printed.
     Done,
-    /// The bytes are no header, or the walk past its extension headers was refused; the reason was printed.
+    /// The bytes are no header, or the walk past its extension headers was refused; the reason was
+    /// printed.
     Refused,
     /// The input is no even number of hex digits or too long, and that was printed.
     BadInput,

@@ -1,5 +1,6 @@
 mod failing;
 mod fronts;
+mod longest;
 
 use super::*;
 use std::alloc::{AllocError, Global};
@@ -25,9 +26,11 @@ place 40
 rest 0
 ";
 
-// The same header with a payload length, a next header of 0, and an extension header that is whole and one that is not.
+// The same header with a payload length, a next header of 0, and an extension header that is whole
+// and one that is not.
 const INCOMPLETE: &str =
-    "60000000 000b0040 00000000 00000000 00000000 00000001 00000000 00000000 00000000 00000002 2b000000 00000000 060100";
+    "60000000 000b0040 00000000 00000000 00000000 00000001 00000000 00000000 00000000 00000002 \
+    2b000000 00000000 060100";
 
 const INCOMPLETE_LINES: &str = "version 6
 traffic_class 0
@@ -37,7 +40,9 @@ next_header 0
 hop_limit 64
 source 00000000000000000000000000000001
 destination 00000000000000000000000000000002
-error: IPv6 Extension Header Error: Not enough data to decode 'IPv6 extension header'. 16 byte(s) would be required, but only 3 byte(s) are available based on the slice length ('IPv6 extension header' starts at overall parsed byte 48).
+error: IPv6 Extension Header Error: Not enough data to decode 'IPv6 extension header'. \
+16 byte(s) would be required, but only 3 byte(s) are available based on the slice length \
+('IPv6 extension header' starts at overall parsed byte 48).
 ";
 
 // The same header, after which 33 extension headers come: one more than are walked past.
@@ -52,7 +57,8 @@ next_header 0
 hop_limit 64
 source 00000000000000000000000000000001
 destination 00000000000000000000000000000002
-error: IPv6 Extension Header Error: More than 32 extension header(s) ('0' starts at overall parsed byte 296).
+error: IPv6 Extension Header Error: More than 32 extension header(s) \
+('0' starts at overall parsed byte 296).
 ";
 
 // The same header, after which 32 extension headers come.
@@ -149,13 +155,11 @@ sum bad
 rest 0
 ";
 
-const NO_BYTES: &str =
-    "error: IPv4 Header Error: Not enough data to decode 'IPv4 header'. 20 byte(s) would be required, but only 0 byte(s) are available based on the slice length.
-";
+const NO_BYTES: &str = "error: IPv4 Header Error: Not enough data to decode 'IPv4 header'. \
+    20 byte(s) would be required, but only 0 byte(s) are available based on the slice length.\n";
 
-const ONE_BYTE_OF_IPV6: &str =
-    "error: IPv6 Header Error: Not enough data to decode 'IPv6 header'. 40 byte(s) would be required, but only 1 byte(s) are available based on the slice length.
-";
+const ONE_BYTE_OF_IPV6: &str = "error: IPv6 Header Error: Not enough data to decode 'IPv6 header'. \
+    40 byte(s) would be required, but only 1 byte(s) are available based on the slice length.\n";
 
 const NOT_HEX: &str = "error: input is not hex\n";
 
@@ -187,8 +191,8 @@ fn the_fields_of_an_ipv4_header_are_printed(rt: HostRuntime) {
     expect(&rt, OPTIONS.as_bytes(), Status::Done, OPTIONS_LINES);
 }
 
-// The flags, the stored checksum and how the bytes sum, of one header with options. The reserved bit counts in the sum, and
-// not in what is computed.
+// The flags, the stored checksum and how the bytes sum, of one header with options. The reserved
+// bit counts in the sum, and not in what is computed.
 const CHECKSUMS: [(&str, &str, &str); 3] = [
     ("2000", "4117", "good"),
     ("a000", "4117", "bad"),
@@ -202,9 +206,10 @@ fn the_checksum_of_a_header_is_computed_and_judged(rt: HostRuntime) -> Result<()
             "46c00018 0001{flags} 4006{checksum} 0a000001 0a000002 01020304 ff"
         )?;
         let lines = format!(in rt.alloc();
-            "version 4\nihl 6\ndscp 48\necn 0\ntotal_len 24\nidentification 1\ndont_fragment false\n\
-            more_fragments true\nfragment_offset 0\ntime_to_live 64\nprotocol 6\nheader_checksum {checksum}\n\
-            source 10.0.0.1\ndestination 10.0.0.2\noptions 01020304\ncomputed 4117\nsum {sum}\nrest 1\n"
+            "version 4\nihl 6\ndscp 48\necn 0\ntotal_len 24\nidentification 1\n\
+            dont_fragment false\nmore_fragments true\nfragment_offset 0\ntime_to_live 64\n\
+            protocol 6\nheader_checksum {checksum}\nsource 10.0.0.1\ndestination 10.0.0.2\n\
+            options 01020304\ncomputed 4117\nsum {sum}\nrest 1\n"
         )?;
         expect(&rt, input.as_bytes(), Status::Done, lines.as_str());
     }
@@ -229,7 +234,8 @@ fn an_incomplete_extension_header_is_told_after_the_fields(rt: HostRuntime) {
     );
 }
 
-// The digits of a header, of so many extension headers with nothing but 0 in them, and of what comes after.
+// The digits of a header, of so many extension headers with nothing but 0 in them, and of what
+// comes after.
 fn with_zero_headers(
     alloc: Global,
     header: &str,
@@ -274,21 +280,27 @@ fn refused_headers_print_their_reason_alone(rt: HostRuntime) {
     expect(&rt, b" \t\r\n", Status::Refused, NO_BYTES);
     expect(
         &rt,
-        b"40000000 00003b40 00000000 00000000 00000000 00000001 00000000 00000000 00000000 00000002",
+        b"40000000 00003b40 00000000 00000000 00000000 00000001 \
+        00000000 00000000 00000000 00000002",
         Status::Refused,
-        "error: IPv4 Header Error: The 'internet header length' value '0' present in the IPv4 header is smaller than the minimum size of an IPv4 header. The minimum allowed value is '5'.\n",
+        "error: IPv4 Header Error: The 'internet header length' value '0' present \
+        in the IPv4 header is smaller than the minimum size of an IPv4 header. \
+        The minimum allowed value is '5'.\n",
     );
     expect(
         &rt,
         b"5400000000000000000000000000000000000000",
         Status::Refused,
-        "error: IPv4 Header Error: Encountered '5' as IP version number in the IPv4 header (must be '4' in an IPv4 header).\n",
+        "error: IPv4 Header Error: Encountered '5' as IP version number in the IPv4 header \
+        (must be '4' in an IPv4 header).\n",
     );
     expect(
         &rt,
         b"46000000000000000000000000000000000000000000ff",
         Status::Refused,
-        "error: IPv4 Header Error: Not enough data to decode 'IPv4 header'. 24 byte(s) would be required, but only 23 byte(s) are available based on the slice length.\n",
+        "error: IPv4 Header Error: Not enough data to decode 'IPv4 header'. \
+        24 byte(s) would be required, \
+        but only 23 byte(s) are available based on the slice length.\n",
     );
     expect(&rt, b"60", Status::Refused, ONE_BYTE_OF_IPV6);
 }

@@ -6,7 +6,8 @@ use Rattle.iphead.proofs.lines.write_ipv4.Goals as goal
 pub returns : goal.returns
 returns g c = λ header layout.
     let shown = c.to_header.ensures.layout in
-    let computed = c.calc_header_checksum-computed.ensures.value _ (cleared_layout _ shown.reserved _ shown.layout) in
+    let cleared = cleared_layout _ shown.reserved _ shown.layout in
+    let computed = c.calc_header_checksum-computed.ensures.value _ cleared in
     rw (
       ← c.ihl.ensures.value header layout,
       ← c.dcp.ensures.value header layout,
@@ -41,4 +42,5 @@ returns g c = λ header layout.
     (appended _ _ _ _ _ c.in_ok-write_field-13.ensures
     (appended _ _ _ _ _ c.in_ok-write_options.ensures
     (appended _ _ _ _ _ (rw c.to_be_bytes-2.ensures at c.in_ok-write_hex_field-2.ensures)
-    (appended _ _ _ _ _ c.in_ok-write_field-14.ensures c.in_ok-write_field-15.ensures)))))))))))))))))
+    (appended _ _ _ _ _ c.in_ok-write_field-14.ensures
+    c.in_ok-write_field-15.ensures)))))))))))))))))

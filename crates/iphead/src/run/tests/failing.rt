@@ -1,9 +1,11 @@
-//! Readers and writers that hand over little at a time, fail at a chosen call, or never end. They watch how they are called.
+//! Readers and writers that hand over or take little at a time, fail at a chosen call, or never
+//! end. They watch how they are called.
 
 use super::*;
 use std::io::ErrorKind;
 
-// A reader that gives at most so many bytes a call, and fails at the call of a number, counted from 1.
+// A reader that gives at most so many bytes a call, and fails at the call of a number, counted
+// from 1.
 #[derive(Drop)]
 struct Source<'a> {
     left: &'a [u8],
@@ -51,19 +53,19 @@ impl Read for Source<'_> {
     }
 }
 
-// A writer that takes at most so many bytes a call, and fails at the call of a number, counted from 1: by an error, or by
-// taking nothing where that is to be `WriteZero`.
+// A writer that takes at most so many bytes a call, and fails at the call of a number, counted from
+// 1: by an error, or by taking nothing where that is to be `WriteZero`.
 #[derive(Drop)]
 struct Sink {
     taken: Vec<u8>,
     at_most: usize,
-    fails_at: u64,
+    fails_at: usize,
     kind: ErrorKind,
-    calls: u64,
+    calls: usize,
 }
 
 impl Sink {
-    fn failing(alloc: Global, at_most: usize, fails_at: u64, kind: ErrorKind) -> Sink {
+    fn failing(alloc: Global, at_most: usize, fails_at: usize, kind: ErrorKind) -> Sink {
         Sink {
             taken: Vec::new(alloc),
             at_most,
@@ -93,7 +95,7 @@ impl Write for Sink {
     }
 }
 
-// Runs over a reader, and holds against what is wanted the number of calls, the status and the text.
+// Runs over a reader, and compares the number of calls, the status and the text.
 fn expect_from(
     rt: &(impl Abort + AllocGlobal),
     mut source: Source,
@@ -112,7 +114,8 @@ fn expect_from(
     );
 }
 
-// Makes each read of a run fail in turn: it is the last one, and nothing is printed. The one after the last is not made.
+// Makes each read of a run fail in turn: it is the last one, and nothing is printed. The one after
+// the last is not made.
 fn expect_each_read_ends_it(
     rt: &(impl Abort + AllocGlobal),
     input: &[u8],
@@ -174,8 +177,9 @@ fn input_without_an_end_is_too_long(rt: HostRuntime) {
     }
 }
 
-// Makes each write of a run fail in turn: it is the last one, and what was taken by then begins the full text. One that was
-// interrupted may be tried again, and then all of the text is taken.
+// Makes each write of a run fail in turn, over a writer that takes at most so many bytes a call: it
+// is the last one, and all that came before it is taken. The one after the last is not made. One
+// that was interrupted may be tried again, and then all of the text is taken.
 fn expect_each_write_ends_it(
     rt: &(impl Abort + AllocGlobal),
     input: &[u8],
@@ -190,42 +194,41 @@ fn expect_each_write_ends_it(
         let ended = run(&mut reader, &mut sink);
         let taken = sink.taken.as_slice();
         let is_whole = ended == status && taken == text.as_bytes();
-        if sink.calls < fails_at {
+        let before = at_most.saturating_mul(fails_at - 1);
+        if text.len() <= before {
             assert!(rt; is_whole, "with no failure, for {text}");
+            assert_eq!(rt; sink.calls, fails_at - 1, "writes, for {text}");
             return;
         }
-        let is_cut = ended == Status::Failed && sink.calls == fails_at;
-        if is_cut {
-            assert!(rt;
-                text.as_bytes().starts_with(taken),
-                "at write {fails_at}, for {text}"
-            );
-        } else {
-            assert!(rt;
-                is_whole && kind == ErrorKind::Interrupted,
-                "at write {fails_at}, for {text}"
-            );
-        }
+        let is_cut = ended == Status::Failed
+            && sink.calls == fails_at
+            && taken.len() == before
+            && text.as_bytes().starts_with(taken);
+        let is_tried_again = is_whole && kind == ErrorKind::Interrupted;
+        assert!(rt;
+            is_cut || is_tried_again,
+            "at write {fails_at} of at most {at_most} bytes, for {text}"
+        );
     }
     panic!(rt; "no run met no failure");
 }
 
-// Makes them fail in three ways, over a writer that takes all it is handed and one that takes one byte a call.
+// Makes them fail in three ways, over writers that take one byte, a few, and all that they are
+// handed: the output is one write there.
 fn expect_writes_that_fail(
     rt: &(impl Abort + AllocGlobal),
     input: &[u8],
     status: Status,
     text: &str,
 ) {
-    for (kind, at_most) in [
-        (ErrorKind::Other, usize::MAX),
-        (ErrorKind::Other, 1),
-        (ErrorKind::Interrupted, usize::MAX),
-        (ErrorKind::Interrupted, 1),
-        (ErrorKind::WriteZero, usize::MAX),
-        (ErrorKind::WriteZero, 1),
+    for kind in [
+        ErrorKind::Other,
+        ErrorKind::Interrupted,
+        ErrorKind::WriteZero,
     ] {
-        expect_each_write_ends_it(rt, input, at_most, kind, status, text);
+        for at_most in [1, 7, usize::MAX] {
+            expect_each_write_ends_it(rt, input, at_most, kind, status, text);
+        }
     }
 }
 

@@ -1,5 +1,5 @@
-//! Every first byte at every length from 0 to 60, and a header of each version at every length above: what is printed is what the
-//! readers of the library answer, put into words here.
+//! Every first byte at every length from 0 to 60, and a header of each version at every length
+//! above: what is printed is what the readers of the library answer, put into words here.
 
 use super::*;
 use etherparse::Ipv4Header;
@@ -37,7 +37,8 @@ fn write_first_fields(text: &mut String, header: &Ipv4Header) -> Result<(), Allo
 fn write_later_fields(text: &mut String, header: &Ipv4Header) -> Result<(), AllocError> {
     write!(
         text,
-        "dont_fragment {}\nmore_fragments {}\nfragment_offset {}\ntime_to_live {}\nprotocol {}\nheader_checksum {:04x}\n",
+        "dont_fragment {}\nmore_fragments {}\nfragment_offset {}\ntime_to_live {}\nprotocol {}\n\
+        header_checksum {:04x}\n",
         header.dont_fragment,
         header.more_fragments,
         header.fragment_offset,
@@ -92,7 +93,8 @@ fn ipv4_outcome(alloc: Global, packet: &[u8]) -> Result<(Status, String), AllocE
 fn write_ipv6_fields(text: &mut String, header: &Ipv6Header) -> Result<(), AllocError> {
     write!(
         text,
-        "version 6\ntraffic_class {}\nflow_label {}\npayload_length {}\nnext_header {}\nhop_limit {}\n",
+        "version 6\ntraffic_class {}\nflow_label {}\npayload_length {}\nnext_header {}\n\
+        hop_limit {}\n",
         header.traffic_class,
         header.flow_label,
         header.payload_length,
@@ -171,14 +173,16 @@ fn run_on_every_front(rt: &(impl Abort + AllocGlobal), byte: u8) -> Result<u64, 
 
 #[test]
 fn every_front_prints_what_is_read(rt: HostRuntime) -> Result<(), Fail> {
-    // 231 are IPv4 headers with all that their IHL tells, and 336 are IPv6 headers, whose next header 165 is none to skip.
+    // 231 are IPv4 headers with all that their IHL tells, and 336 are IPv6 headers, whose next
+    // header 165 is none to skip.
     assert_eq!(rt; run_on_every_front(&rt, 0xa5)?, 567);
     Ok(())
 }
 
 #[test]
 fn every_front_of_a_packet_of_zeros_prints_what_is_read(rt: HostRuntime) -> Result<(), Fail> {
-    // After an IPv6 header, and after each hop-by-hop header, there is to be a hop-by-hop header. So one is incomplete.
+    // After an IPv6 header, and after each hop-by-hop header, there is to be a hop-by-hop header.
+    // So one is incomplete.
     assert_eq!(rt; run_on_every_front(&rt, 0)?, 231);
     Ok(())
 }
@@ -201,7 +205,8 @@ fn run_on_longer_fronts(
 
 #[test]
 fn every_longer_front_prints_what_is_read(rt: HostRuntime) -> Result<(), Fail> {
-    // An IPv4 header with no options, and an IPv6 header with the next header 59, after which there is none.
+    // An IPv4 header with no options, and an IPv6 header with the next header 59, after which there
+    // is none.
     for first in [0x45, 0x60] {
         let mut packet = [59; 2048];
         packet[0] = first;
