@@ -1,4 +1,4 @@
-"""sample.py ROWS: writes the cases of stdin. ROWS is what `rows.py ORACLE --final --emit ROWS` wrote (SAMPLE.md)."""
+"""sample.py ROWS: writes the cases of stdin. ROWS is what rows.py wrote (SAMPLE.md)."""
 import sys
 
 U8, U16, U32, U64 = 2**8 - 1, 2**16 - 1, 2**32 - 1, 2**64 - 1
@@ -9,20 +9,21 @@ H6_MOST = [U8, 2**20 - 1, U16, U8, U8, None, None]
 LEN = [20, 19, 'Slice', 'Ipv4Header', 4]
 LEN_MOST = [U64, U64, None, None, U64]
 BARE4, BARE6 = '45000014' + '00' * 16, '60' + '00' * 39
-LAYERS = '''LinuxSllHeader Ethernet2Header EtherPayload VlanHeader MacsecHeader MacsecPacket IpHeader Ipv4Header
-    Ipv4Packet IpAuthHeader Ipv6Header Ipv6Packet Ipv6ExtHeader Ipv6HopByHopHeader Ipv6DestOptionsHeader
-    Ipv6RouteHeader Ipv6FragHeader UdpHeader UdpPayload TcpHeader Icmpv4 Icmpv4Timestamp Icmpv4TimestampReply
-    Icmpv6 Arp'''.split()
+LAYERS = '''LinuxSllHeader Ethernet2Header EtherPayload VlanHeader MacsecHeader MacsecPacket
+    IpHeader Ipv4Header Ipv4Packet IpAuthHeader Ipv6Header Ipv6Packet Ipv6ExtHeader
+    Ipv6HopByHopHeader Ipv6DestOptionsHeader Ipv6RouteHeader Ipv6FragHeader UdpHeader UdpPayload
+    TcpHeader Icmpv4 Icmpv4Timestamp Icmpv4TimestampReply Icmpv6 Arp'''.split()
 VALUE_TYPES = '''VlanId VlanPcp MacsecAn MacsecShortLen IpFragmentOffset IpDscp IpEcn Ipv6FlowLabel
-    Ipv4PayloadLength Ipv6PayloadLength UdpPayloadLengthIpv4 UdpPayloadLengthIpv6 TcpPayloadLengthIpv4
-    TcpPayloadLengthIpv6 Icmpv6PayloadLength LinuxSllType'''.split()
+    Ipv4PayloadLength Ipv6PayloadLength UdpPayloadLengthIpv4 UdpPayloadLengthIpv6
+    TcpPayloadLengthIpv4 TcpPayloadLengthIpv6 Icmpv6PayloadLength LinuxSllType'''.split()
 KNOWN = 0, 1, 8, 10, 12, 14, 16, 18, 20, 22, 24, 26, 28, 30, 32, 34, 36, 38, 40, 44, 46, 48, 56
 SPACE = [2, 1, 'Ipv4Header', 4]
 SPACE_MOST = [U64, U64, None, U64]
-LEN_SOURCES = '''Slice MacsecShortLength Ipv4HeaderTotalLen Ipv6HeaderPayloadLen UdpHeaderLen TcpHeaderLen
-    ArpAddrLengths'''.split()
+LEN_SOURCES = '''Slice MacsecShortLength Ipv4HeaderTotalLen Ipv6HeaderPayloadLen UdpHeaderLen
+    TcpHeaderLen ArpAddrLengths'''.split()
 SKIPPABLE = [0, 43, 44, 51, 60, 135, 139, 140]
 TOO_MANY, TOO_MANY_MOST = [32, 60, 256], [U64, U8, U64]
+WIDTHS = ('u8', U8), ('u16', U16), ('u32', U32), ('usize', U64)
 lines = {}
 
 
@@ -38,13 +39,27 @@ def each_bound(front, arguments, greatest, back=''):
             say(front, *arguments[:i], n, *arguments[i + 1:], back)
 
 
+def numbers(most):
+    """0 to 64, each power of ten with its neighbours, and the greatest"""
+    powers = [10**i for i in range(20) if 10**i <= most]
+    return [*range(65), *(n for power in powers for n in (power - 1, power, power + 1)), most]
+
+
+def each_number(front, arguments, greatest):
+    """the case with each argument that is a number at all of these, the others as they are"""
+    for i, most in enumerate(greatest):
+        for n in numbers(most) if most is not None else ():
+            say(front, *arguments[:i], n, *arguments[i + 1:])
+
+
 def written(hexed, at, byte):
     """bytes with one of them written"""
     return hexed[:2 * at] + '%02x' % byte + hexed[2 * at + 2:]
 
 
 def fields():
-    for field, most, width in ('dscp', 63, U8), ('frag', 8191, U16), ('flow', 2**20 - 1, U32), ('ecn', 3, U8):
+    bounded = ('dscp', 63, U8), ('frag', 8191, U16), ('flow', 2**20 - 1, U32), ('ecn', 3, U8)
+    for field, most, width in bounded:
         for way in 'new', 'try':
             for n in 0, 1, 2, 3, most - 1, most, most + 1, width, width + 1:
                 say(f'{field}.{way}', n)
@@ -87,8 +102,8 @@ def reads():
         for first in '50', '60', '6f', '70':
             for n in 0, 1, 38, 39, 40, 41:
                 say(f'v6.{way}', (first + 'a5' * 60)[:2 * n] or '-')
-        for at, bits in (1, (0x01, 0x02, 0x04, 0x80)), (6, (0x10, 0x20, 0x40, 0x80)), (7, (0x01, 0x80)):
-            for bit in bits:
+        for at, bits in (1, '01 02 04 80'), (6, '10 20 40 80'), (7, '01 80'):
+            for bit in bytes.fromhex(bits):
                 say(f'v4.{way}', written(BARE4, at, bit))
         for at in range(1, 20):
             say(f'v4.{way}', written(BARE4, at, 0xff))
@@ -218,7 +233,7 @@ def errors():
         say(operation, kind, 20, 19, 'TcpHeaderLen', 'Ipv4Header', 4, back)
         say(operation, kind, 20, 19, 'Slice', 'Ipv6Header', 4, back)
         each_bound(f'{operation} {kind}'.strip(), LEN, LEN_MOST, back)
-    for width, most in ('u8', U8), ('u16', U16), ('u32', U32), ('usize', U64):
+    for width, most in WIDTHS:
         each_bound(f'text.too_big {width}', [4, 3, 'IpEcn'], [most, most, None])
         each_bound(f'eq.too_big {width}', [4, 3, 'IpEcn'], [most, most, None], '/ 4 3 IpEcn')
         for value_type in 'IpEcn', 'IpDscp':
@@ -235,6 +250,23 @@ def errors():
     each_bound('eq.chain too_many', TOO_MANY, TOO_MANY_MOST, '/ too_many 32 60 256')
 
 
+def texts():
+    # a length that is too small, and one that is too great
+    for lengths in (U64, 0), (0, U64):
+        each_number('text.len', [*lengths, *LEN[2:]], LEN_MOST)
+    for front in 'text.v4 len', 'text.v6 len', 'text.chain len':
+        each_number(front, LEN, LEN_MOST)
+    each_number('text.chain too_many', TOO_MANY, TOO_MANY_MOST)
+    for name in 'v4.version', 'v4.ihl', 'v6.version':
+        for front in f'text.{name}', 'text.' + name.replace('.', ' '):
+            each_number(front, [4], [U8])
+    each_number('text.bad_options', [3], [U64])
+    each_number('text.unknown', [9], [U8])
+    each_number('text.swse', SPACE, SPACE_MOST)
+    for width, most in WIDTHS:
+        each_number(f'text.too_big {width}', [4, 3, 'IpEcn'], [most, most, None])
+
+
 def counted(n):
     """n bytes that differ from their neighbours"""
     return bytes((7 * i + 1) % 256 for i in range(n)).hex() or '-'
@@ -246,17 +278,22 @@ def sums():
         for start in 0, 1, U16, most - U16, most - 1, most, most + 1:
             say(f'c{width}.fold', start)
             for n in words:
-                for word in '00' * n, '01' + '00' * (n - 1), '00' * (n - 1) + '01', 'fe' + 'ff' * (n - 1), 'ff' * n, '12' * (n - 1):
+                but_one = n - 1
+                for word in ('00' * n, '01' + '00' * but_one, '00' * but_one + '01',
+                             'fe' + 'ff' * but_one, 'ff' * n, '12' * but_one):
                     say(f'c{width}.add{n}', start, word)
             for n in [*range(10), 15, 16, 17]:
                 for piece in '00' * n, 'ff' * n, 'fffe' * (n // 2) + 'ff' * (n % 2), counted(n):
                     say(f'c{width}.slice', start, piece or '-')
-        for n in [*range(10, 131), 318, 319, 320, 321, 382, 383, 384, 385, 415, 416, 417, 511, 512, 768, 1500, 1501]:
+        for n in [*range(10, 131), *range(318, 322), *range(382, 386), *range(415, 418),
+                  511, 512, 768, 1500, 1501]:
             say(f'c{width}.slice', 0, counted(n))
             say(f'c{width}.slice', most, 'ff' * n)
-        for pieces in '', '-', '- -', '01 0203', '010203', '- 01 - 0203', '0203 01', '0102 03', '01 02 03', 'ff ff', 'ffff 00':
+        for pieces in ('', '-', '- -', '01 0203', '010203', '- 01 - 0203', '0203 01', '0102 03',
+                       '01 02 03', 'ff ff', 'ffff 00'):
             say(f'c{width}.slices', pieces)
-    steps = '2:ffff', '2:0100', '4:ffffffff', '8:' + 'ff' * 8, '8:fcffffff03000000', '16:' + 'ff' * 16, '16:' + counted(16)
+    steps = ('2:ffff', '2:0100', '4:ffffffff', '8:' + 'ff' * 8, '8:fcffffff03000000',
+             '16:' + 'ff' * 16, '16:' + counted(16))
     say('sum')
     say('sum.eq /')
     for a in steps:
@@ -274,8 +311,8 @@ def sums():
     each_bound('v4.info', H4, H4_MOST)
     for options in '-', '00000000', 'ff' * 40:
         for checksum in 0, 1, U16:
-            say('v4.info', 0, 0, 115, 0, 1, 0, 0, 64, 17, checksum, 'c0a80001', 'c0a800c7', options)
-            say('v4.info', 0, 0, 0, 0x7a00, 1, 0, 0, 0, 255, checksum, '00000000', '00000000', options)
+            say('v4.info 0 0 115 0 1 0 0 64 17', checksum, 'c0a80001 c0a800c7', options)
+            say('v4.info 0 0 0 31232 1 0 0 0 255', checksum, '00000000 00000000', options)
 
 
 def updates():
@@ -290,7 +327,8 @@ def updates():
         for checksum in 0, 1, 0x3f, 0x40, 0xb861, U16 - 1, U16:
             for protocol in 0, 17, U8:
                 for held in 0, 64, U8:
-                    say('v4.set_ttl', time, 0, 0, 115, 0, 1, 0, 0, held, protocol, checksum, 'c0a80001', 'c0a800c7', '-')
+                    say('v4.set_ttl', time, '0 0 115 0 1 0 0', held, protocol, checksum,
+                        'c0a80001 c0a800c7 -')
     each_bound('v4.set_ttl 9', H4, H4_MOST)
 
 
@@ -316,17 +354,20 @@ for name in 'fields', 'headers', 'dscp', 'known', 'ipnum', 'ip_number', 'layers'
     say('const.' + name)
 for name in 'fields', 'v4', 'v6':
     say('default.' + name)
-for part in (fields, known_code_points, options, reads, setters, equal_headers, walks, limited_walks, names, errors, offsets,
-             sums, updates):
+for part in (fields, known_code_points, options, reads, setters, equal_headers, walks,
+             limited_walks, names, errors, texts, offsets, sums, updates):
     part()
 operations = {line.split(' ')[0] for line in lines}
-for no_case in ('', ' ', 'nothing', 'dscp.new', 'dscp.new 1 2', 'dscp.new x', 'dscp.old 1', 'opt', 'opt 4', 'opt 0g',
-                'opt.arr 01', 'layer Nothing', 'layer', 'value_type IpDscp IpDscp', 'text.len 1 2 Slice',
-                'text.too_big u64 1 2 IpDscp', 'text.swse 2 1 Slice Ipv4Header 4', 'off.len 1', 'off.v5 1 version 4',
-                'known', 'known.cmp 8', 'known.new 8', 'v4.eq 1', 'v4.view_eq 45 45', 'v6.view_eq 60 60', 'const.fields 1',
-                'const.nothing', 'default.nothing', 'skip 00', 'skip.all 00 0', 'walk 00 0 0', 'walk.all 00 0', 'walk.limit 00 0',
-                'walk.limit 00 0 1 1', 'text.chain version 6', 'upd 0 0000', 'upd.x 0 0000 0000', 'v4.set_ttl 1', 'ipnum',
-                'ipnum.x 0', 'c32.add8 0 00', 'c16.fold 0', 'sum x', 'sum 3:000000', 'sum.eq', 'sum.eq / /'):
+for no_case in ('', ' ', 'nothing', 'dscp.new', 'dscp.new 1 2', 'dscp.new x', 'dscp.old 1', 'opt',
+                'opt 4', 'opt 0g', 'opt.arr 01', 'layer Nothing', 'layer',
+                'value_type IpDscp IpDscp', 'text.len 1 2 Slice', 'text.too_big u64 1 2 IpDscp',
+                'text.swse 2 1 Slice Ipv4Header 4', 'off.len 1', 'off.v5 1 version 4', 'known',
+                'known.cmp 8', 'known.new 8', 'v4.eq 1', 'v4.view_eq 45 45', 'v6.view_eq 60 60',
+                'const.fields 1', 'const.nothing', 'default.nothing', 'skip 00', 'skip.all 00 0',
+                'walk 00 0 0', 'walk.all 00 0', 'walk.limit 00 0', 'walk.limit 00 0 1 1',
+                'text.chain version 6', 'upd 0 0000', 'upd.x 0 0000 0000', 'v4.set_ttl 1', 'ipnum',
+                'ipnum.x 0', 'c32.add8 0 00', 'c16.fold 0', 'sum x', 'sum 3:000000', 'sum.eq',
+                'sum.eq / /'):
     lines[no_case] = None
 # operations of worked examples that the program `iphead` tests by itself
 LEFT_OUT = 'decode iphead'.split()

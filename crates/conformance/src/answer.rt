@@ -3,7 +3,7 @@ use crate::{constants, equality, fields, ipv4, ipv6, kinds, offsets, options, su
 use std::alloc::{AllocError, Global};
 use std::str;
 
-/// Puts the answer to a line in the place of what was answered before: `bad line`, where it is no case.
+/// Writes the answer to a line over that to the line before: `bad line`, where it is no case.
 pub fn answer_line(alloc: Global, line: &[u8], answer: &mut String) -> Result<(), AllocError> {
     answer.clear();
     if let Ok(text) = str::from_utf8(line) {
@@ -17,9 +17,9 @@ pub fn answer_line(alloc: Global, line: &[u8], answer: &mut String) -> Result<()
     answer.push_str("bad line")
 }
 
-// Of a bad case anything may be written.
+// Makes the call and writes what it gave. Of a bad case, what is written is thrown away.
 fn answer_case(arguments: &mut Arguments, answer: &mut String) -> Result<(), AllocError> {
-    let operation = arguments.any_word();
+    let operation = arguments.word();
     let (group, name) = operation.split_once('.').unwrap_or((operation, ""));
     match group {
         "dscp" => fields::answer_dscp(name, arguments, answer),

@@ -1,5 +1,5 @@
-ghost use Rattle.std.specs.Prelude.{◌≡◌, ◌==◌, ◌↔◌, length, IsNone, IsSome, IfSome, MatchOption};
-ghost use Rattle.std.specs.Bool.{OnTrue};
+ghost use Rattle.std.specs.Prelude.{◌≡◌, ◌==◌, ◌↔◌, length};
+ghost use Rattle.std.specs.Prelude.{IsTrue, IsNone, IsSome, IfSome, MatchOption};
 ghost use Rattle.std.specs.List.{position_or_len, before_first, after_first};
 
 mod errors;
@@ -13,16 +13,17 @@ use hex::{FromHex, FromHexError};
 use std::alloc::{AllocError, Global};
 use std::str::FromStr;
 
-/// What is left of a case, cut at single spaces.
+/// The words of a case that are yet to be read, with single spaces between them.
 ///
-/// A word that is not there, or is none of those that were asked for, makes the case a bad one and gives some value all the
-/// same, so that what reads a case need not stop in its midst.
+/// A word that is missing, or is not what was asked for, makes the case a bad one and reads as some
+/// value. [`Arguments::were_all_good`] tells a bad case once all its words are read.
 #[derive(Drop)]
 pub struct Arguments<'a> {
     alloc: Global,
     /// The text from the next word on; none where no word is left.
     pub rest: Option<&'a str>,
-    is_bad: bool,
+    /// Whether a word was missing or was not what was asked for.
+    pub is_bad: bool,
 }
 
 impl<'a> Arguments<'a> {
@@ -35,13 +36,13 @@ impl<'a> Arguments<'a> {
         }
     }
 
-    /// The allocator that holds what is read.
+    /// The allocator for what is read.
     pub fn alloc(&self) -> Global {
         self.alloc
     }
 
-    /// The next word, which may be empty; none where no word is left.
-    pub fn word(&mut self) -> Option<&'a str>
+    // The next word, which may be empty; none where no word is left.
+    fn next_word(&mut self) -> Option<&'a str>
         ensures left { IsSome result ↔ IsSome self.old.rest }
         ensures first { IfSome result (λ word. IfSome self.old.rest (λ text.
             word.now ≡ before_first (λ b. b == 32) text.now)) }
@@ -63,20 +64,23 @@ impl<'a> Arguments<'a> {
     }
 
     /// Makes the case a bad one.
-    pub fn refuse(&mut self) {
+    pub fn refuse(&mut self)
+        ensures bad { IsTrue self.new.is_bad }
+        ensures same_words { self.new.rest ≡ self.old.rest }
+    {
         self.is_bad = true;
     }
 
-    /// Whether no word is left, and each was as it was asked for.
+    /// Whether no word is left, and each was what was asked for.
     pub fn were_all_good(&self) -> bool
-        ensures { OnTrue result (IsNone self.now.rest) }
+        ensures { IsTrue result ↔ ¬ IsTrue self.now.is_bad × IsNone self.now.rest }
     {
         !self.is_bad && self.rest.is_none()
     }
 
     /// The next word; an empty one where no word is left.
-    pub fn any_word(&mut self) -> &'a str {
-        match self.word() {
+    pub fn word(&mut self) -> &'a str {
+        match self.next_word() {
             Some(word) => word,
             None => {
                 self.refuse();
@@ -87,12 +91,12 @@ impl<'a> Arguments<'a> {
 
     /// Refuses the case where the next word is not this one.
     pub fn expect_word(&mut self, word: &str) {
-        if self.any_word() != word {
+        if self.word() != word {
             self.refuse();
         }
     }
 
-    /// What was made of words, or a default value where they were refused.
+    /// What was made of words. Where it was refused, so is the case, and the default stands in.
     pub fn accepted<T: Default, E: Drop>(&mut self, made: Result<T, E>) -> T {
         match made {
             Ok(value) => value,
@@ -108,7 +112,7 @@ impl<'a> Arguments<'a> {
     where
         T::Err: Drop,
     {
-        let word = self.any_word();
+        let word = self.word();
         if !is_canonical(word) {
             self.refuse();
         }
@@ -117,7 +121,7 @@ impl<'a> Arguments<'a> {
 
     /// A flag: `0` or `1`.
     pub fn flag(&mut self) -> bool {
-        let word = self.any_word();
+        let word = self.word();
         if word != "0" && word != "1" {
             self.refuse();
         }
@@ -126,13 +130,13 @@ impl<'a> Arguments<'a> {
 
     /// Bytes, however many, in lower-case hex digits; `-` where there is none.
     pub fn bytes(&mut self) -> Result<Vec<u8>, AllocError> {
-        let word = self.any_word();
+        let word = self.word();
         self.decoded(word)
     }
 
     /// Exactly `N` bytes, as [`Arguments::bytes`] has them.
     pub fn array<const N: usize>(&mut self) -> [u8; N] {
-        let word = self.any_word();
+        let word = self.word();
         self.decoded_array(word)
     }
 
@@ -159,6 +163,7 @@ impl<'a> Arguments<'a> {
         }
     }
 
+    // The digits of a word: `-` has none.
     fn digits<'b>(&mut self, word: &'b str) -> &'b str {
         if word == "-" {
             return "";
@@ -184,9 +189,9 @@ impl<'a> Arguments<'a> {
         self.named(&LEN_SOURCES, LenSource::Slice)
     }
 
-    // What a table has under the next word, or else another value.
+    // What a table has under the next word; `other` where it has nothing.
     fn named<T: Copy>(&mut self, table: &[(&str, T)], other: T) -> T {
-        let name = self.any_word();
+        let name = self.word();
         for (known, value) in table {
             if *known == name {
                 return *value;

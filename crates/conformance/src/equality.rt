@@ -38,7 +38,7 @@ pub fn answer(
             arguments.expect_word("/");
             first == arguments.chain_error()
         }
-        "too_big" => are_equal_too_big_errors(arguments),
+        "too_big" => are_too_big_errors_equal(arguments),
         _ => {
             arguments.refuse();
             false
@@ -47,9 +47,9 @@ pub fn answer(
     write!(answer, "eq={is_equal}")
 }
 
-// Of two `ValueTooBigError` of the width that the first argument names.
-fn are_equal_too_big_errors(arguments: &mut Arguments) -> bool {
-    match arguments.any_word() {
+// Whether two `ValueTooBigError` of the width that the first argument names are equal.
+fn are_too_big_errors_equal(arguments: &mut Arguments) -> bool {
+    match arguments.word() {
         "u8" => are_equal_at_width::<u8>(arguments),
         "u16" => are_equal_at_width::<u16>(arguments),
         "u32" => are_equal_at_width::<u32>(arguments),

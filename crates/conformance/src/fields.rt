@@ -1,4 +1,5 @@
-//! The fields that have fewer values than their machine number, and the known code points among them.
+//! The fields that have fewer values than their machine number, the known code points among them,
+//! and the numbers of protocols.
 
 use crate::arguments::Arguments;
 use crate::shown::{Comparison, TooBig, write_shown};
@@ -37,7 +38,8 @@ fn write_field<F: Display, N: Display + Drop>(
     write!(answer, "ok value={value} into={into} text={field}")
 }
 
-/// `known V`: the known code point of a number, and both numbers of it. `known.cmp A B`: two of them against each other.
+/// `known V`: the known code point of a number, and both numbers of it. `known.cmp A B`: two of
+/// them against each other.
 pub fn answer_known(
     name: &str,
     arguments: &mut Arguments,
@@ -50,7 +52,7 @@ pub fn answer_known(
                 &arguments.known_code_point(),
                 &arguments.known_code_point(),
             );
-            write!(answer, "{comparison}")
+            write_shown(&comparison, answer)
         }
         _ => {
             arguments.refuse();
@@ -170,7 +172,7 @@ pub fn answer_field(
     if name != "cmp" {
         arguments.refuse();
     }
-    let comparison = match arguments.any_word() {
+    let comparison = match arguments.word() {
         "dscp" => Comparison::of(&arguments.dscp(), &arguments.dscp()),
         "frag" => Comparison::of(&arguments.fragment_offset(), &arguments.fragment_offset()),
         "flow" => Comparison::of(&arguments.flow_label(), &arguments.flow_label()),
@@ -181,5 +183,5 @@ pub fn answer_field(
             return Ok(());
         }
     };
-    write!(answer, "{comparison}")
+    write_shown(&comparison, answer)
 }

@@ -11,7 +11,7 @@ use std::fmt;
 use std::fmt::{Debug, Display};
 use std::hash::Hash;
 
-/// Writes a value by itself.
+/// Writes a value, and nothing else.
 pub fn write_shown<T: Display>(shown: &T, answer: &mut String) -> Result<(), AllocError> {
     write!(answer, "{shown}")
 }

@@ -39,7 +39,7 @@ pub fn answer(
 
 // The text of a `ValueTooBigError` of the width that the first argument names.
 fn answer_too_big(arguments: &mut Arguments, answer: &mut String) -> Result<(), AllocError> {
-    match arguments.any_word() {
+    match arguments.word() {
         "u8" => write_shown(&arguments.too_big_error::<u8>(), answer),
         "u16" => write_shown(&arguments.too_big_error::<u16>(), answer),
         "u32" => write_shown(&arguments.too_big_error::<u32>(), answer),

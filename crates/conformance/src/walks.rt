@@ -22,7 +22,8 @@ pub fn answer_skip(
     write_answer(&walked, answer)
 }
 
-/// `walk B N` and `walk.counted B N`: all extension headers at the front of a slice. `walk.limit B N LIMIT`: so many at most.
+/// `walk B N` and `walk.counted B N`: all extension headers at the front of a slice.
+/// `walk.limit B N LIMIT`: so many at most.
 pub fn answer_walk(
     name: &str,
     arguments: &mut Arguments,

@@ -28,7 +28,7 @@ impl<'a> Arguments<'a> {
 
     /// An IPv4 `HeaderSliceError`: `len` and a `LenError`, `version V` or `ihl I`.
     pub fn ipv4_error(&mut self) -> ipv4::HeaderSliceError {
-        let kind = self.any_word();
+        let kind = self.word();
         if kind == "version" {
             return ipv4::HeaderSliceError::Content(self.ipv4_version_error());
         }
@@ -43,7 +43,7 @@ impl<'a> Arguments<'a> {
 
     /// An IPv6 `HeaderSliceError`: `len` and a `LenError`, or `version V`.
     pub fn ipv6_error(&mut self) -> ipv6::HeaderSliceError {
-        let kind = self.any_word();
+        let kind = self.word();
         if kind == "version" {
             return ipv6::HeaderSliceError::Content(self.ipv6_version_error());
         }
@@ -55,7 +55,7 @@ impl<'a> Arguments<'a> {
 
     /// A `ChainError`: `len` and a `LenError`, or `too_many limit next offset`.
     pub fn chain_error(&mut self) -> ipv6::ChainError {
-        let kind = self.any_word();
+        let kind = self.word();
         if kind == "too_many" {
             return ipv6::ChainError::TooMany {
                 limit: self.number(),

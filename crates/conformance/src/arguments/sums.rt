@@ -32,7 +32,7 @@ impl<'a> Arguments<'a> {
         Ok(sums)
     }
 
-    // The sum with the bytes of a step: how many there are, or `s` for a slice, a colon, and the bytes.
+    // The sum with the bytes of a step: how many there are or `s` for a slice, a colon, the bytes.
     fn added(&mut self, mut sum: Sum16BitWords, step: &str) -> Result<Sum16BitWords, AllocError> {
         let (kind, digits) = step.split_once(':').unwrap_or(("", step));
         match kind {
