@@ -1,7 +1,7 @@
 -- What a packet filter asks of a packet.
 use Rattle.std.specs.Prelude.{ℕ, ◌≡◌, ◌≢◌, ◌<◌, ◌≤◌, ◌⊎◌, List, length, slice_range}
 use Rattle.std.specs.Int.{from_be_bytes, w16}
-use Rattle.etherparse.specs.Ipv4Header.{HasIpv4Layout, IsFragment}
+use Rattle.etherparse.specs.Ipv4Header.{IsIpv4Layout, IsFragment}
 use Rattle.etherparse.specs.Ipv6Header.{IsIpv6Layout, RefusesIpv6}
 use Rattle.etherparse.specs.Reading.{BeginsWith}
 use Rattle.etherparse.specs.TrafficClass.{traffic_class_dscp}
@@ -13,7 +13,7 @@ use Rattle.etherparse.specs.declared.net.ipv6_header.Ipv6Header.{Ipv6Header}
 pub record HasUdpPort (packet : List ℕ) (port : ℕ) : Type 0 where
   pub header : Ipv4Header
   pub rest : List ℕ
-  pub begins : BeginsWith HasIpv4Layout packet header rest
+  pub begins : BeginsWith IsIpv4Layout packet header rest
   pub is_udp : header.protocol ≡ 17
   pub is_whole : ¬ IsFragment header
   pub enough : 4 ≤ length rest
@@ -23,7 +23,7 @@ pub record HasUdpPort (packet : List ℕ) (port : ℕ) : Type 0 where
 pub record HasNoUdpPort (packet : List ℕ) : Type 0 where
   pub header : Ipv4Header
   pub rest : List ℕ
-  pub begins : BeginsWith HasIpv4Layout packet header rest
+  pub begins : BeginsWith IsIpv4Layout packet header rest
   pub why : (header.protocol ≢ 17) ⊎ (IsFragment header ⊎ (length rest < 4))
 
 -- an IPv4 header of this DSCP and destination

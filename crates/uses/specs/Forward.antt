@@ -1,7 +1,7 @@
 -- What a forwarder does to a packet.
-use Rattle.std.specs.Prelude.{ℕ, ◌≡◌, ◌+◌, ◌-◌, ◌*◌, ◌^◌, ◌<◌, ◌≤◌, ◌↔◌, List, Ok, ◌++◌}
-use Rattle.etherparse.specs.HeaderChecksum.{IsWrittenInPlace, with_time_to_live_and_checksum}
-use Rattle.etherparse.specs.Ipv4Header.{HasIpv4Layout, IsIpv4Layout, ReadsIpv4}
+use Rattle.std.specs.Prelude.{ℕ, ◌≡◌, ◌+◌, ◌-◌, ◌*◌, ◌^◌, ◌<◌, ◌≤◌, ◌↔◌, List, [], ◌∷◌, Ok, ◌++◌}
+use Rattle.etherparse.specs.HeaderChecksum.{BecomesPacketOf, with_field_and_checksum}
+use Rattle.etherparse.specs.Ipv4Header.{IsIpv4Layout, IsIpv4LayoutWith, ReadsIpv4}
 use Rattle.etherparse.specs.Ipv4Header.{with_reserved_bit_cleared}
 use Rattle.etherparse.specs.Ipv6Header.{IsIpv6Layout, ReadsIpv6}
 use Rattle.etherparse.specs.Reading.{BeginsWith}
@@ -14,9 +14,9 @@ use Rattle.etherparse.specs.declared.net.ipv6_header.Ipv6Header.{Ipv6Header}
 pub record IsNextIpv4Hop (packet sent : List ℕ) : Type 0 where
   pub header : Ipv4Header
   pub rest : List ℕ
-  pub begins : BeginsWith HasIpv4Layout packet header rest
+  pub begins : BeginsWith IsIpv4Layout packet header rest
   pub may_go_on : 1 < header.time_to_live
-  pub written : IsIpv4Layout (record header { time_to_live = header.time_to_live - 1 }) 0 sent
+  pub written : IsIpv4LayoutWith (record header { time_to_live = header.time_to_live - 1 }) 0 sent
   pub read_back : (after : List ℕ) → ReadsIpv4 (sent ++ after)
       (Ok (record header { time_to_live = header.time_to_live - 1 }, after))
 
@@ -24,7 +24,7 @@ pub record IsNextIpv4Hop (packet sent : List ℕ) : Type 0 where
 pub record IsLastIpv4Hop (packet : List ℕ) : Type 0 where
   pub header : Ipv4Header
   pub rest : List ℕ
-  pub begins : BeginsWith HasIpv4Layout packet header rest
+  pub begins : BeginsWith IsIpv4Layout packet header rest
   pub last : header.time_to_live ≤ 1
 
 -- the same of IPv6, by the hop limit
@@ -57,11 +57,11 @@ with_one_hop_less header = record header {
 -- reserved bit was cleared.
 pub record IsForwardedIpv4 (packet sent rest : List ℕ) : Type 0 where
   pub header : Ipv4Header
-  pub begins : BeginsWith HasIpv4Layout packet header rest
+  pub begins : BeginsWith IsIpv4Layout packet header rest
   pub may_go_on : 1 < header.time_to_live
   pub next : Ipv4Header
   pub set : next ≡ with_one_hop_less header
-  pub written : IsIpv4Layout next 0 sent
+  pub written : IsIpv4LayoutWith next 0 sent
   pub right : SumsToAllOnes (with_reserved_bit_cleared begins.front) ↔ SumsToAllOnes sent
 
 -- The packet goes on with bytes 8, 10 and 11 changed, and no other, to those of the header with one
@@ -69,9 +69,11 @@ pub record IsForwardedIpv4 (packet sent rest : List ℕ) : Type 0 where
 pub record IsForwardedInPlace (packet sent : List ℕ) : Type 0 where
   pub header : Ipv4Header
   pub rest : List ℕ
-  pub begins : BeginsWith HasIpv4Layout packet header rest
+  pub begins : BeginsWith IsIpv4Layout packet header rest
   pub may_go_on : 1 < header.time_to_live
   pub next : Ipv4Header
   pub set : next ≡ with_one_hop_less header
-  pub changed : sent ≡ with_time_to_live_and_checksum next.time_to_live next.header_checksum packet
-  pub written : IsWrittenInPlace packet next rest
+  pub changed : sent
+      ≡ with_field_and_checksum 8 (next.time_to_live ∷ []) next.header_checksum packet
+  pub written : BecomesPacketOf packet
+      (with_field_and_checksum 8 (next.time_to_live ∷ []) next.header_checksum packet) next rest

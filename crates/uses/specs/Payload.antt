@@ -1,6 +1,6 @@
 -- What a capture reader asks of a packet.
 use Rattle.std.specs.Prelude.{ℕ, ◌≡◌, ◌+◌, ◌<◌, ◌⊎◌, List, length, Ok, Err, min, take}
-use Rattle.etherparse.specs.Ipv4Header.{HasIpv4Layout, RefusesIpv4, ipv4_payload_len}
+use Rattle.etherparse.specs.Ipv4Header.{IsIpv4Layout, RefusesIpv4, ipv4_payload_len}
 use Rattle.etherparse.specs.Ipv6Header.{IsIpv6Layout}
 use Rattle.etherparse.specs.Reading.{BeginsWith}
 use Rattle.etherparse.specs.declared.err.LenError.{LenError}
@@ -13,7 +13,7 @@ use Rattle.etherparse.specs.declared.net.ipv6_header.Ipv6Header.{Ipv6Header}
 pub record HasIpv4Payload (packet payload : List ℕ) : Type 0 where
   pub header : Ipv4Header
   pub rest : List ℕ
-  pub begins : BeginsWith HasIpv4Layout packet header rest
+  pub begins : BeginsWith IsIpv4Layout packet header rest
   pub len : ℕ
   pub says : ipv4_payload_len header ≡ Ok len
   pub cut : payload ≡ take (min len (length rest)) rest
@@ -22,7 +22,7 @@ pub record HasIpv4Payload (packet payload : List ℕ) : Type 0 where
 pub record HasNoIpv4Payload (packet : List ℕ) (e : LenError) : Type 0 where
   pub header : Ipv4Header
   pub rest : List ℕ
-  pub begins : BeginsWith HasIpv4Layout packet header rest
+  pub begins : BeginsWith IsIpv4Layout packet header rest
   pub says : ipv4_payload_len header ≡ Err e
 
 -- why an IPv4 packet has no payload: it has no header, or that tells of none

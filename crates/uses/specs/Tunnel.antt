@@ -1,7 +1,7 @@
 -- What the end of a tunnel asks: an IPv4 packet within an IPv4 packet (RFC 2003).
 use Rattle.std.specs.Prelude.{ℕ, ◌≡◌, ◌⊎◌, List}
 use Rattle.etherparse.specs.Ipv4Errors.{ipv4_error_moved}
-use Rattle.etherparse.specs.Ipv4Header.{HasIpv4Layout, RefusesIpv4, ipv4_header_len}
+use Rattle.etherparse.specs.Ipv4Header.{IsIpv4Layout, RefusesIpv4, ipv4_header_len}
 use Rattle.etherparse.specs.Reading.{BeginsWith}
 use Rattle.etherparse.specs.declared.err.ipv4.HeaderSliceError.{HeaderSliceError}
 use Rattle.etherparse.specs.declared.net.ipv4_header.Ipv4Header.{Ipv4Header}
@@ -10,14 +10,14 @@ use Rattle.etherparse.specs.declared.net.ipv4_header.Ipv4Header.{Ipv4Header}
 pub record HasInnerIpv4 (packet : List ℕ) (inner : Ipv4Header) (rest : List ℕ) : Type 0 where
   pub outer : Ipv4Header
   pub payload : List ℕ
-  pub begins : BeginsWith HasIpv4Layout packet outer payload
-  pub follows : BeginsWith HasIpv4Layout payload inner rest
+  pub begins : BeginsWith IsIpv4Layout packet outer payload
+  pub follows : BeginsWith IsIpv4Layout payload inner rest
 
 -- no header follows the first one; the place of the error is that in the whole packet
 pub record RefusesInside (packet : List ℕ) (e : HeaderSliceError) : Type 0 where
   pub outer : Ipv4Header
   pub payload : List ℕ
-  pub begins : BeginsWith HasIpv4Layout packet outer payload
+  pub begins : BeginsWith IsIpv4Layout packet outer payload
   pub inside : HeaderSliceError
   pub refused : RefusesIpv4 payload inside
   pub moved : e ≡ ipv4_error_moved (ipv4_header_len outer) inside

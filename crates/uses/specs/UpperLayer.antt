@@ -3,10 +3,9 @@ use Rattle.std.specs.Prelude.{ℕ, ◌≡◌, ◌≢◌, ◌<◌, ◌≤◌, ◌
 use Rattle.std.specs.Prelude.{Bool, IsTrue, length}
 use Rattle.std.specs.Int.{to_be_bytes, w32}
 use Rattle.std.specs.List.{concat}
-use Rattle.etherparse.specs.ExtensionHeaderChain.{HasIpv6Chain, incomplete_header_error}
-use Rattle.etherparse.specs.ExtensionHeaderChain.{required_len_of}
+use Rattle.etherparse.specs.ExtensionHeaderChain.{incomplete_header_error, required_len_of}
 use Rattle.etherparse.specs.ExtensionHeaders.{IsSkippable}
-use Rattle.etherparse.specs.Ipv6Header.{RefusesIpv6}
+use Rattle.etherparse.specs.Ipv6Header.{HasIpv6Chain, RefusesIpv6}
 use Rattle.etherparse.specs.LenError.{len_error_moved}
 use Rattle.etherparse.specs.WordSums.{ones_complement_sum}
 use Rattle.etherparse.specs.declared.err.LenError.{LenError}

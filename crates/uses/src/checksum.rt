@@ -6,7 +6,8 @@ ghost use Rattle.etherparse.specs.WordSums.{SumsToAllOnes, ones_complement_sum, 
 use etherparse::Ipv4HeaderSlice;
 use etherparse::checksum::u64_16bit_word;
 
-/// Whether the checksum of a UDP datagram is right, from the pseudo-header of its addresses, its header and its payload.
+/// Whether the checksum of a UDP datagram is right, from the pseudo-header of its addresses, its
+/// header and its payload.
 pub fn is_udp_checksum_right(pseudo_header: &[u8], header: &[u8], payload: &[u8]) -> bool
     ensures right { IsTrue result ↔ (ones_complement_sum
         (pseudo_header.now ∷ header.now ∷ payload.now ∷ []) ≡ 65535) }
@@ -15,8 +16,9 @@ pub fn is_udp_checksum_right(pseudo_header: &[u8], header: &[u8], payload: &[u8]
     u64_16bit_word::ones_complement(sum) == 0
 }
 
-/// The checksum that a UDP datagram is sent with, from the same pieces with 0 for the checksum. It is never 0, which would say
-/// that there is none. `to_le_bytes` gives the bytes of the header in their order.
+/// The checksum that a UDP datagram is sent with, from the same pieces with 0 for the checksum. It
+/// is never 0, which would say that there is none. `to_le_bytes` gives the bytes of the header in
+/// their order.
 pub fn udp_checksum(pseudo_header: &[u8], header: &[u8], payload: &[u8]) -> u16
     ensures made { result ≡ with_no_zero (65535 - ones_complement_sum
         (pseudo_header.now ∷ header.now ∷ payload.now ∷ [])) }

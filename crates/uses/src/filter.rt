@@ -1,7 +1,8 @@
 //! A packet filter: what a packet is, told from its bytes.
 
-ghost use Rattle.std.specs.Prelude.{ℕ, ◌≡◌, ◌<◌, ◌≤◌, ◌↔◌, List, IfErr, IfNone, IfOk, IfSome, IsFalse, IsTrue};
-ghost use Rattle.etherparse.specs.Ipv4Header.{HasIpv4Layout, OfIpv4Header, RefusesIpv4};
+ghost use Rattle.std.specs.Prelude.{ℕ, ◌≡◌, ◌<◌, ◌≤◌, ◌↔◌, List, IfErr, IfNone, IfOk, IfSome};
+ghost use Rattle.std.specs.Prelude.{IsFalse, IsTrue};
+ghost use Rattle.etherparse.specs.Ipv4Header.{IsIpv4Layout, OfIpv4Header, RefusesIpv4};
 ghost use Rattle.etherparse.specs.Ipv6Header.{IsIpv6Layout, OfIpv6Header, RefusesIpv6};
 ghost use Rattle.etherparse.specs.Reading.{BeginsWith};
 ghost use Rattle.etherparse.specs.declared.err.ipv4.HeaderSliceError.{HeaderSliceError as Error4};
@@ -15,8 +16,8 @@ use etherparse::err::ipv4::HeaderSliceError;
 use etherparse::err::ipv6;
 use etherparse::{IpDscp, IpNumber, Ipv4Header, Ipv4HeaderSlice, Ipv6Header, Ipv6HeaderSlice};
 
-/// The destination port of a UDP packet that is no fragment; `None` for another protocol, a fragment, or fewer than 4 bytes
-/// behind the header; the reader's error where there is no header.
+/// The destination port of a UDP packet that is no fragment; `None` for another protocol, a
+/// fragment, or fewer than 4 bytes behind the header; the reader's error where there is no header.
 pub fn udp_port(packet: &[u8]) -> Result<Option<u16>, HeaderSliceError>
     ensures found { IfOk result (λ found. IfSome found (HasUdpPort packet.now)) }
     ensures none { IfOk result (λ found. IfNone found (HasNoUdpPort packet.now)) }
@@ -40,7 +41,7 @@ pub fn is_ipv4_view_for(view: &Ipv4HeaderSlice, dscp: IpDscp, destination: [u8; 
 /// Whether a packet begins with an IPv4 header of this DSCP and destination.
 pub fn is_ipv4_marked_for(packet: &[u8], dscp: IpDscp, destination: [u8; 4]) -> bool
     ensures header { (header : Header4) → (rest : List ℕ) →
-        BeginsWith HasIpv4Layout packet.now header rest →
+        BeginsWith IsIpv4Layout packet.now header rest →
         (IsTrue result ↔ IsIpv4For dscp destination header) }
     ensures refused { (e : Error4) → RefusesIpv4 packet.now e → IsFalse result }
 {
@@ -68,9 +69,12 @@ pub fn next_header(packet: &[u8]) -> Result<IpNumber, ipv6::HeaderSliceError>
 
 /// Whether a packet begins with an IPv6 header and may go further.
 pub fn goes_on(packet: &[u8]) -> bool
-    ensures yes { IsTrue result → StartsWithIpv6 packet.now (λ header. 1 < header.hop_limit) }
+    ensures yes { (header : Header6) → (rest : List ℕ) →
+        BeginsWith IsIpv6Layout packet.now header rest → 1 < header.hop_limit → IsTrue result }
     ensures no { (header : Header6) → (rest : List ℕ) →
         BeginsWith IsIpv6Layout packet.now header rest → header.hop_limit ≤ 1 → IsFalse result }
+    ensures no_header { IsTrue result → StartsWithIpv6 packet.now (λ header.
+        1 < header.hop_limit) }
 {
     Ipv6Header::from_slice(packet).is_ok_and(|(header, _)| header.hop_limit > 1)
 }

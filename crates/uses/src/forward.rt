@@ -1,8 +1,10 @@
 //! A forwarder: headers that are read, changed and written.
 
-ghost use Rattle.std.specs.Prelude.{ℕ, ◌≡◌, ◌+◌, List, ◌++◌, length, IfErr, IfNone, IfOk, IfSome, OnErr};
+ghost use Rattle.std.specs.Prelude.{ℕ, ◌≡◌, ◌+◌, List, ◌++◌, length, IfErr, IfNone, IfOk, IfSome};
+ghost use Rattle.std.specs.Prelude.{OnErr};
 ghost use Rattle.std.specs.Bool.{OnFalse, OnTrue};
-ghost use Rattle.etherparse.specs.Ipv4Header.{HasIpv4Layout, RefusesIpv4, with_reserved_bit_cleared};
+ghost use Rattle.etherparse.specs.Ipv4Header.{IsIpv4Layout, RefusesIpv4};
+ghost use Rattle.etherparse.specs.Ipv4Header.{with_reserved_bit_cleared};
 ghost use Rattle.etherparse.specs.Ipv6Header.{IsIpv6Layout, RefusesIpv6};
 ghost use Rattle.etherparse.specs.Reading.{BeginsWith};
 ghost use Rattle.etherparse.specs.TrafficClass.{traffic_class_dscp, traffic_class_of};
@@ -15,10 +17,12 @@ use arrayvec::ArrayVec;
 use etherparse::err::{ipv4, ipv6};
 use etherparse::{IpDscp, IpEcn, Ipv4Header, Ipv6Header};
 
-/// The header of an IPv4 packet with one hop less to go, or `None` where it may go no further. The checksum is still the
-/// one that was read: it has to be computed anew before the header is sent, or updated as [`ipv4_forwarded`] does.
+/// The header of an IPv4 packet with one hop less to go, or `None` where it may go no further. The
+/// checksum is still the one that was read: it has to be computed anew before the header is sent,
+/// or updated as [`ipv4_forwarded`] does.
 pub fn ipv4_next_hop(packet: &[u8]) -> Result<Option<ArrayVec<u8, 60>>, ipv4::HeaderSliceError>
-    ensures next { IfOk result (λ sent. IfSome sent (λ bytes. IsNextIpv4Hop packet.now bytes.items)) }
+    ensures next { IfOk result (λ sent. IfSome sent (λ bytes.
+        IsNextIpv4Hop packet.now bytes.items)) }
     ensures last { IfOk result (λ sent. IfNone sent (IsLastIpv4Hop packet.now)) }
     ensures refused { IfErr result (RefusesIpv4 packet.now) }
 {
@@ -30,9 +34,10 @@ pub fn ipv4_next_hop(packet: &[u8]) -> Result<Option<ArrayVec<u8, 60>>, ipv4::He
     Ok(Some(header.to_bytes()))
 }
 
-/// An IPv4 packet with one hop less to go: the bytes of its header, written again with the checksum updated, and what
-/// follows it; `None` where it may go no further. What is written has the reserved bit 0, so the checksum is right exactly
-/// where it was for the header with that bit cleared.
+/// An IPv4 packet with one hop less to go: the bytes of its header, written again with the checksum
+/// updated, and what follows it; `None` where it may go no further. What is written has the
+/// reserved bit 0, so the checksum is right exactly where it was for the header with that bit
+/// cleared.
 pub fn ipv4_forwarded(
     packet: &[u8],
 ) -> Result<Option<(ArrayVec<u8, 60>, &[u8])>, ipv4::HeaderSliceError>
@@ -50,8 +55,9 @@ pub fn ipv4_forwarded(
     Ok(Some((header.to_bytes(), rest)))
 }
 
-/// Takes one hop from an IPv4 packet in place, in bytes 8, 10 and 11 alone; `false` where it may go no further. The reserved
-/// bit stays, so the checksum is right exactly where it was. A packet that goes no further is as it was.
+/// Takes one hop from an IPv4 packet in place, in bytes 8, 10 and 11 alone; `false` where it may go
+/// no further. The reserved bit stays, so the checksum is right exactly where it was. A packet that
+/// goes no further is as it was.
 pub fn ipv4_forward_in_place(packet: &mut [u8]) -> Result<bool, ipv4::HeaderSliceError>
     ensures next { IfOk result (λ goes_on.
         OnTrue goes_on (IsForwardedInPlace packet.old packet.new)) }
@@ -90,7 +96,7 @@ pub fn ipv6_next_hop(packet: &[u8]) -> Result<Option<[u8; 40]>, ipv6::HeaderSlic
 /// The bytes of an IPv4 header that was read and is written again, and what follows it.
 pub fn ipv4_rewritten(packet: &[u8]) -> Result<(ArrayVec<u8, 60>, &[u8]), ipv4::HeaderSliceError>
     ensures rest { IfOk result (λ x. (header : Header4) ×
-        BeginsWith HasIpv4Layout packet.now header x.1.now) }
+        BeginsWith IsIpv4Layout packet.now header x.1.now) }
     ensures cleared { IfOk result (λ x. (front : List ℕ) → packet.now ≡ front ++ x.1.now →
         x.0.items ≡ with_reserved_bit_cleared front) }
     ensures refused { IfErr result (RefusesIpv4 packet.now) }
@@ -99,7 +105,8 @@ pub fn ipv4_rewritten(packet: &[u8]) -> Result<(ArrayVec<u8, 60>, &[u8]), ipv4::
     Ok((header.to_bytes(), rest))
 }
 
-/// The bytes of an IPv6 header that was read and is written again, and what follows it: together the packet.
+/// The bytes of an IPv6 header that was read and is written again, and what follows it: together
+/// the packet.
 pub fn ipv6_rewritten(packet: &[u8]) -> Result<([u8; 40], &[u8]), ipv6::HeaderSliceError>
     ensures rest { IfOk result (λ x. (header : Header6) ×
         BeginsWith IsIpv6Layout packet.now header x.1.now) }
@@ -110,7 +117,8 @@ pub fn ipv6_rewritten(packet: &[u8]) -> Result<([u8; 40], &[u8]), ipv6::HeaderSl
     Ok((header.to_bytes(), rest))
 }
 
-/// Lets an IPv4 header announce a payload of 100 bytes. There is room for them, whatever its options, which stay.
+/// Lets an IPv4 header announce a payload of 100 bytes. There is room for them, whatever its
+/// options, which stay.
 pub fn announce_hundred_bytes(header: &mut Ipv4Header)
     ensures set { header.new ≡ record header.old {
       total_len = 120 + length header.old.options;
@@ -119,8 +127,9 @@ pub fn announce_hundred_bytes(header: &mut Ipv4Header)
     header.set_payload_len(100).unwrap();
 }
 
-/// Marks that an IPv6 packet met congestion, and answers its class, which stays. That the sender is capable of it, so that
-/// the ECN was not `NotEct`, is for the caller to test first (RFC 3168 section 5).
+/// Marks that an IPv6 packet met congestion, and answers its class, which stays. That the sender is
+/// capable of it, so that the ECN was not `NotEct`, is for the caller to test first (RFC 3168
+/// section 5).
 pub fn mark_congestion(header: &mut Ipv6Header) -> IpDscp
     ensures class { result ≡ traffic_class_dscp header.old.traffic_class }
     ensures set { header.new ≡ record header.old {

@@ -1,5 +1,5 @@
-//! Callers of `etherparse` as its users write them, each with a contract that says what the user wants to know, proved from
-//! the public contracts of the library.
+//! Callers of `etherparse` as its users write them, each with a contract that says what the user
+//! wants to know, proved from the public contracts of the library.
 #![tactic(auto)]
 
 pub mod checksum;

@@ -1,11 +1,14 @@
 //! A capture reader: the payloads of packets, cut as their headers say.
 
-ghost use Rattle.std.specs.Prelude.{◌≡◌, ◌+◌, ◌*◌, IfErr, IfOk, IfSome, IsSome, take};
+ghost use Rattle.std.specs.Prelude.{ℕ, ◌≡◌, ◌≤◌, ◌+◌, ◌*◌, ◌↔◌, List, IfErr, IfOk, IfSome, IsSome};
+ghost use Rattle.std.specs.Prelude.{length};
+ghost use Rattle.std.specs.Prelude.{take};
 ghost use Rattle.etherparse.specs.Ipv4Header.{OfIpv4Header, RefusesIpv4};
 ghost use Rattle.etherparse.specs.declared.err.LenError.{LenError as LengthError};
 ghost use Rattle.etherparse.specs.declared.err.ipv4.HeaderSliceError.TheVariants.{Len};
 ghost use Rattle.etherparse.specs.Ipv6Header.{IsIpv6Layout, RefusesIpv6};
 ghost use Rattle.etherparse.specs.Reading.{BeginsWith};
+ghost use Rattle.etherparse.specs.declared.net.ipv6_header.Ipv6Header.{Ipv6Header as Header6};
 ghost use Rattle.uses.specs.Payload.{HasIpv4Payload, HasIpv6Payload, IsShortBy, RefusesIpv4Payload};
 
 use etherparse::err::{ipv4, ipv6};
@@ -20,10 +23,14 @@ pub fn ipv6_payload(packet: &[u8]) -> Result<&[u8], ipv6::HeaderSliceError>
     Ok(&rest[..usize::from(header.payload_length).min(rest.len())])
 }
 
-/// An IPv6 header and its payload, where the packet is as long as the header says; what stands behind it is cut off.
+/// An IPv6 header and its payload, where the packet is as long as the header says; what stands
+/// behind it is cut off.
 pub fn ipv6_packet(packet: &[u8]) -> Option<(Ipv6Header, &[u8])>
     ensures cut { IfSome result (λ x. BeginsWith IsIpv6Layout
         (take (40 + x.0.payload_length) packet.now) x.0 x.1.now) }
+    ensures found { (header : Header6) → (rest : List ℕ) →
+        BeginsWith IsIpv6Layout packet.now header rest →
+        (IsSome result ↔ (header.payload_length ≤ length rest)) }
 {
     let (header, rest) = match Ipv6Header::from_slice(packet) {
         Ok(read) => read,
@@ -36,8 +43,8 @@ pub fn ipv6_packet(packet: &[u8]) -> Option<(Ipv6Header, &[u8])>
     Some((header, &rest[..len]))
 }
 
-/// What follows an IPv4 header, as far as its total length says and the capture has. A total length below that of the
-/// header is refused as a length error.
+/// What follows an IPv4 header, as far as its total length says and the capture has. A total length
+/// below that of the header is refused as a length error.
 pub fn ipv4_payload(packet: &[u8]) -> Result<&[u8], ipv4::HeaderSliceError>
     ensures cut { IfOk result (λ payload. HasIpv4Payload packet.now payload.now) }
     ensures refused { IfErr result (RefusesIpv4Payload packet.now) }
@@ -49,13 +56,14 @@ pub fn ipv4_payload(packet: &[u8]) -> Result<&[u8], ipv4::HeaderSliceError>
 
 /// Where the payload of a fragment stands in the payload that was cut, in bytes.
 pub fn fragment_start(view: &Ipv4HeaderSlice) -> usize
-    ensures value { OfIpv4Header view.now.slice.now (λ header. result ≡ 8 * header.fragment_offset) }
+    ensures value { OfIpv4Header view.now.slice.now (λ header.
+        result ≡ 8 * header.fragment_offset) }
 {
     usize::from(view.fragments_offset().byte_offset())
 }
 
-/// How many bytes a reader has to wait for before it can tell more of an IPv4 header than it can now; `None` where the
-/// header is whole, or the bytes are none.
+/// How many bytes a reader has to wait for before it can tell more of an IPv4 header than it can
+/// now; `None` where the header is whole, or the bytes are none.
 pub fn missing(packet: &[u8]) -> Option<usize>
     ensures more { IfSome result (λ count. IsShortBy count packet.now) }
     ensures none { (e : LengthError) → RefusesIpv4 packet.now (Len e) → IsSome result }

@@ -1,8 +1,9 @@
 //! Address translation: another source address, and what it changes in the checksums (RFC 3022).
 
-ghost use Rattle.std.specs.Prelude.{ℕ, ◌≡◌, ◌≢◌, ◌≤◌, ◌<◌, ◌+◌, ◌-◌};
+ghost use Rattle.std.specs.Prelude.{◌≡◌};
 ghost use Rattle.etherparse.specs.HeaderChecksum.{KeepsChecksum};
-ghost use Rattle.etherparse.specs.WordSums.{folded_sum, network_order_word_sum};
+ghost use Rattle.etherparse.specs.WordSums.{updated_checksum_of_words};
+ghost use Rattle.uses.specs.Translation.{UpdatesUdpChecksum};
 
 use etherparse::Ipv4Header;
 use etherparse::checksum::update_4bytes;
@@ -11,26 +12,21 @@ use etherparse::checksum::update_4bytes;
 pub fn translate_source(header: &mut Ipv4Header, udp_checksum: u16, source: [u8; 4]) -> u16
     ensures set { header.new ≡ record header.old {
       source = source;
-      header_checksum = header.new.header_checksum;
+      header_checksum = updated_checksum_of_words 2 header.old.header_checksum
+          header.old.source source;
     } }
     ensures keeps_checksum { KeepsChecksum header.old header.new }
-    ensures none { udp_checksum ≡ 0 → result ≡ 0 }
-    ensures there { udp_checksum ≢ 0 → result ≢ 0 }
+    ensures udp { UpdatesUdpChecksum udp_checksum header.old.source source result }
 {
     let old = header.source;
     header.set_source(source);
     update_udp(udp_checksum, old, source)
 }
 
-/// The UDP checksum after one address that it is over was changed; 0, which says that there is none,
-/// stays.
+/// The UDP checksum after one address that it is over was changed; 0, which says that there is
+/// none, stays.
 pub fn update_udp(checksum: u16, old: [u8; 4], new: [u8; 4]) -> u16
-    ensures none { checksum ≡ 0 → result ≡ 0 }
-    ensures there { checksum ≢ 0 → result ≢ 0 }
-    ensures received { checksum ≢ 0 → (sum : ℕ) → network_order_word_sum old ≤ sum → 0 < sum
-        → 0 < sum - network_order_word_sum old + network_order_word_sum new
-        → folded_sum (sum - network_order_word_sum old + network_order_word_sum new + result)
-        ≡ folded_sum (sum + checksum) }
+    ensures updates { UpdatesUdpChecksum checksum old new result }
 {
     if checksum == 0 {
         return 0;

@@ -4,14 +4,16 @@ ghost use Rattle.std.specs.Prelude.{◌≡◌, ◌≤◌, ◌↔◌, IfErr, IfNo
 ghost use Rattle.etherparse.specs.ExtensionHeaderChain.{FollowsChain, IsWalkOf};
 ghost use Rattle.etherparse.specs.Reading.{found_and_rest};
 ghost use Rattle.etherparse.specs.WordSums.{ones_complement_sum};
-ghost use Rattle.uses.specs.UpperLayer.{HasNoUdp, HasUdp, HasUpperLayer, RefusesUpperLayer, udp_pieces};
+ghost use Rattle.uses.specs.UpperLayer.{HasNoUdp, HasUdp, HasUpperLayer, RefusesUpperLayer};
+ghost use Rattle.uses.specs.UpperLayer.{udp_pieces};
 
 use etherparse::checksum::u64_16bit_word;
 use etherparse::err::LenError;
 use etherparse::err::ipv6::HeaderSliceError;
 use etherparse::{IpNumber, Ipv6Header};
 
-/// The number of the upper-layer protocol of an IPv6 packet, and its bytes. An error tells places from the packet's start.
+/// The number of the upper-layer protocol of an IPv6 packet, and its bytes. An error tells places
+/// from the packet's start.
 pub fn upper_layer(packet: &[u8]) -> Result<(IpNumber, &[u8]), HeaderSliceError>
     ensures found { IfOk result (λ x. HasUpperLayer packet.now x.0 x.1.now) }
     ensures refused { IfErr result (RefusesUpperLayer packet.now) }
@@ -23,9 +25,9 @@ pub fn upper_layer(packet: &[u8]) -> Result<(IpNumber, &[u8]), HeaderSliceError>
     }
 }
 
-/// Whether the checksum of a UDP datagram over IPv6 is right, past any extension headers; `None` for another upper layer, or
-/// one of more bytes than 32 bits can tell. The destination is that of the IPv6 header, which a routing header can have
-/// changed.
+/// Whether the checksum of a UDP datagram over IPv6 is right, past any extension headers; `None`
+/// for another upper layer, or one of more bytes than 32 bits can tell. The destination is that of
+/// the IPv6 header, which a routing header can have changed.
 pub fn is_udp_right(packet: &[u8]) -> Result<Option<bool>, HeaderSliceError>
     ensures judged { IfOk result (λ found. IfSome found (HasUdp packet.now)) }
     ensures none { IfOk result (λ found. IfNone found (HasNoUdp packet.now)) }
@@ -64,7 +66,8 @@ fn sums_to_all_ones(header: &Ipv6Header, len: u32, datagram: &[u8]) -> bool
     u64_16bit_word::ones_complement(sum) == 0
 }
 
-/// The walk past all extension headers of a slice, from behind those that were skipped before: their rest, and its number.
+/// The walk past all extension headers of a slice, from behind those that were skipped before:
+/// their rest, and its number.
 pub fn walked_on<'a>(
     slice: &[u8],
     first: IpNumber,

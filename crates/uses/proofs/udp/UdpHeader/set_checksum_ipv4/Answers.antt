@@ -11,7 +11,7 @@ returns-clause-right c = λ header l.
     let zeroed = c.to_bytes-header.result in
     let checksum = c.ones_complement_with_no_zero in
     let before : ℕ = sum_by little_endian_word_sum (udp_pieces_v4 c.args.ip.now c.args.self.now.length zeroed c.args.payload.now) in
-    let summed : folded_sum c.add_slices-sum.result ≡ folded_sum before = rw c.to_be_bytes.ensures at c.add_slices-sum.ensures.sum in
+    let summed : folded_sum c.add_slices-sum.result ≡ folded_sum before = rw c.to_be_bytes.ensures at c.add_slices-sum.ensures.adds.sum in
     let stored : little_endian_word_sum header ≡ little_endian_word_sum zeroed + checksum.result =
     rw (spelled _ _ c.to_bytes-header.ensures.layout, spelled _ header l, c.swap_bytes-self.ensures) (omega (arith, little_endian_word_sum-swapped checksum.result (omega arith))) in
-    ap folded_sum (omega (arith, stored)) ∙ checksum.ensures.completes before (omega arith) (sym summed)
+    ap folded_sum (omega (arith, stored)) ∙ checksum.ensures.complements.completes before (omega arith) (sym summed)
