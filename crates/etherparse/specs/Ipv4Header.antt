@@ -31,7 +31,8 @@ ipv4_ihl header = 5 + length header.options / 4
 -- The bytes of a header, in network byte order: the version, which is 4, with the IHL; the DSCP
 -- with the ECN; the total length; the identification; the flags (a reserved bit, don't fragment,
 -- more fragments) with the fragment offset; the time to live; the protocol; the header checksum;
--- the source address; the destination address; the options. The reserved bit is no field of it.
+-- the source address; the destination address; the options. The reserved bit is no field of the
+-- header: it is given apart.
 pub record IsIpv4LayoutWith (header : Ipv4Header) (reserved : ℕ) (bytes : List ℕ) : Type 0 where
   pub len : length bytes ≡ ipv4_header_len header
   pub are_bytes : IsBytes bytes
