@@ -7,8 +7,8 @@ use Rattle.std.proofs.lemmas.List.Folds.{concat-append}
 use Rattle.etherparse_base.specs.declared.err.len_error.LenError.{LenError}
 use Rattle.etherparse_fields.specs.ExtensionHeaders.{IsSkippable}
 use Rattle.etherparse.proofs.Parts.{same_back, same_front}
-use Rattle.etherparse.specs.ExtensionHeaderChain.{BeginsWithChain, Ends, EndsAfterChain, EndsIncomplete, IsExtensionHeader, IsExtensionHeaderChain, IsOnlyWalkOf, IsWalkOf, WalkAnswer, Walks}
-use Rattle.etherparse.specs.ExtensionHeaderChain.{extension_header_len, incomplete_header_error, next_header_of, required_len_of, turn_count}
+use Rattle.etherparse.specs.ExtensionHeaderChain.{BeginsWithChain, Ends, EndsIncomplete, IsExtensionHeader, IsExtensionHeaderChain, IsOnlyWalkOf, IsWalkOf, WalkAnswer, Walks}
+use Rattle.etherparse.specs.ExtensionHeaderChain.{extension_header_len, incomplete_header_error, required_len_of}
 use Rattle.etherparse.specs.Ipv6Header.{HasIpv6Chain, IsIpv6Layout}
 use Rattle.etherparse.specs.declared.net.ipv6_header.Ipv6Header.{Ipv6Header}
 
@@ -36,9 +36,9 @@ whole_in_front n s p t h e =
 
 -- a chain with one header more
 chain-push : (n : ℕ) (ps : List (List ℕ)) (m : ℕ) (p : List ℕ) → IsExtensionHeaderChain n ps m → IsExtensionHeader m p
-    → IsExtensionHeaderChain n (ps ++ p ∷ []) (next_header_of p)
+    → IsExtensionHeaderChain n (ps ++ p ∷ []) (get_or p 0 0)
 chain-push n [] m p e h = (rw e at h, refl)
-chain-push n (q ∷ qs) m p c h = (c.0, chain-push (next_header_of q) qs m p c.1 h)
+chain-push n (q ∷ qs) m p c h = (c.0, chain-push (get_or q 0 0) qs m p c.1 h)
 
 concat-push : (ps : List (List ℕ)) (p : List ℕ) → concat (ps ++ p ∷ []) ≡ concat ps ++ p
 concat-push ps p = concat-append ps (p ∷ []) ∙ ap (λ t. concat ps ++ t) (append-nil p)
@@ -106,23 +106,23 @@ cut_once (p ∷ ps) (q ∷ qs) limit s n m k r l a b =
     let others_many = b.within in
     let same = same_header n s p (concat ps ++ r) q (concat qs ++ l) a.begins.chain.0 b.begins.chain.0
     (a.begins.whole ∙ append_assoc p (concat ps) r) (b.begins.whole ∙ append_assoc q (concat qs) l) in
-    let left : GoesNoFurther (limit - 1) (concat ps ++ r) (next_header_of p) ps m r = record {
+    let left : GoesNoFurther (limit - 1) (concat ps ++ r) (get_or p 0 0) ps m r = record {
       begins = record { chain = a.begins.chain.1; whole = refl };
       within = omega arith;
       stops = λ h below. a.stops h (omega arith);
     } in
-    let right : GoesNoFurther (limit - 1) (concat ps ++ r) (next_header_of p) qs k l = record {
+    let right : GoesNoFurther (limit - 1) (concat ps ++ r) (get_or p 0 0) qs k l = record {
       begins = record { chain = rw same.0 at b.begins.chain.1; whole = same.1 };
       within = omega arith;
       stops = λ h below. b.stops h (omega arith);
     } in
-    let others = cut_once ps qs (limit - 1) (concat ps ++ r) (next_header_of p) m k r l left right in
+    let others = cut_once ps qs (limit - 1) (concat ps ++ r) (get_or p 0 0) m k r l left right in
     (ap (λ x. x ∷ qs) same.0 ∙ ap (λ xs. p ∷ xs) others.0, others.1, others.2)
 
 -- so are those of a walk
-pub after_chain : (limit : ℕ) (s : List ℕ) (n : ℕ) (ps : List (List ℕ)) (m : ℕ) (r : List ℕ) → length ps ≤ limit → EndsAfterChain s n ps m r
+pub after_chain : (limit : ℕ) (s : List ℕ) (n : ℕ) (ps : List (List ℕ)) (m : ℕ) (r : List ℕ) → length ps ≤ limit → Ends s n ps (Ok (m, r))
     → GoesNoFurther limit s n ps m r
-after_chain limit s n ps m r within e = record { begins = e.begins; within = within; stops = λ h below. absurd (e.upper h) }
+after_chain limit s n ps m r within e = record { begins = e.0; within = within; stops = λ h below. absurd (e.1 h) }
 
 pub incomplete : (limit : ℕ) (s : List ℕ) (n : ℕ) (ps : List (List ℕ)) (e : LenError) → length ps ≤ limit → (k : EndsIncomplete s n ps e)
     → GoesNoFurther limit s n ps k.last k.rest
@@ -139,11 +139,11 @@ ends_once s n ps qs (Ok x) (Ok y) p q =
 ends_once s n ps qs (Ok x) (Err f) p q =
     let limit = length ps + length qs in
     let same = cut_once ps qs limit s n x.0 q.last x.1 q.rest (after_chain limit s n ps x.0 x.1 (omega arith) p) (incomplete limit s n qs f (omega arith) q) in
-    absurd (p.upper (subst IsSkippable same.1 q.skippable))
+    absurd (p.1 (subst IsSkippable same.1 q.skippable))
 ends_once s n ps qs (Err e) (Ok y) p q =
     let limit = length ps + length qs in
     let same = cut_once ps qs limit s n p.last y.0 p.rest y.1 (incomplete limit s n ps e (omega arith) p) (after_chain limit s n qs y.0 y.1 (omega arith) q) in
-    absurd (q.upper (subst IsSkippable (sym same.1) p.skippable))
+    absurd (q.1 (subst IsSkippable (sym same.1) p.skippable))
 ends_once s n ps qs (Err e) (Err f) p q =
     let limit = length ps + length qs in
     let same = cut_once ps qs limit s n p.last q.last p.rest q.rest (incomplete limit s n ps e (omega arith) p) (incomplete limit s n qs f (omega arith) q) in
@@ -160,7 +160,7 @@ pub is_only_walk_of : (s : List ℕ) (n : ℕ) (a : WalkAnswer) → Walks s n a 
 is_only_walk_of s n (Ok x) w = record {
   walks = w;
   only = λ other o. walks_once s n (Ok x) other w o;
-  shorter = omega (arith, ap length w.ends.begins.whole, length-append (concat w.headers) x.1);
+  shorter = omega (arith, ap length w.ends.0.whole, length-append (concat w.headers) x.1);
   within = tt;
 }
 is_only_walk_of s n (Err e) w = record {
@@ -213,19 +213,19 @@ offset_of s n offset m turns u =
 -- what is promised of a walk, and of its turns
 pub record IsCountedWalk (s : List ℕ) (n : ℕ) (a : WalkAnswer) (turns : ℕ) : Type 0 where
   pub walks : Walks s n a
-  pub counted : (headers : List (List ℕ)) → Ends s n headers a → turns ≡ turn_count headers
+  pub counted : (headers : List (List ℕ)) → Ends s n headers a → turns ≡ length headers + 1
 
 -- it holds where the walk ends with what is skipped, in one turn more
 walk_of : (s : List ℕ) (n offset m turns : ℕ) (a : WalkAnswer) (u : SkippedUpTo s n offset m turns) → Ends s n u.headers a → IsCountedWalk s n a (turns + 1)
 walk_of s n offset m turns a u ends = record {
   walks = record { headers = u.headers; ends = ends };
-  counted = λ headers other. ap (λ k. k + 1) (sym u.counted) ∙ ap turn_count (sym (ends_once s n u.headers headers a a ends other).0);
+  counted = λ headers other. ap (λ k. k + 1) (sym u.counted) ∙ ap (λ hs. length hs + 1) (sym (ends_once s n u.headers headers a a ends other).0);
 }
 
 -- the ends of a walk after what is skipped
 pub ends_after : (s : List ℕ) (n offset m turns : ℕ) (r : List ℕ) (u : SkippedUpTo s n offset m turns) → r ≡ drop offset s → (IsSkippable m → ⊥)
-    → EndsAfterChain s n u.headers m r
-ends_after s n offset m turns r u e upper = record { begins = rw e u.begins; upper = upper }
+    → Ends s n u.headers (Ok (m, r))
+ends_after s n offset m turns r u e upper = (rw e u.begins, upper)
 
 pub ends_incomplete : (s : List ℕ) (n offset m turns : ℕ) (e : LenError) (u : SkippedUpTo s n offset m turns) → IsSkippable m
     → length s - offset < required_len_of m (drop offset s) → e ≡ incomplete_header_error m (drop offset s) offset → EndsIncomplete s n u.headers e

@@ -1,40 +1,75 @@
 -- A slice that begins with a header, in any layout: that it does so once, and where it is cut.
 use Rattle.std.proofs.Common.{ℕ, ◌≡◌, ◌+◌, ◌-◌, ◌≤◌, List, ◌++◌, length, take, drop, sym, ap, subst, ◌∙◌, append_assoc, arith, length-append, Ok, Err, Result}
-use Rattle.std.proofs.lemmas.List.{length-take-le, take-append-drop, take_at, take_rest}
+use Rattle.std.proofs.lemmas.List.{drop_at, length-take-le, take-append-drop, take_at, take_rest}
 use Rattle.etherparse_base.specs.declared.err.layer.Layer.{Layer}
-use Rattle.etherparse_base.specs.declared.err.len_error.LenError.{LenError}
 use Rattle.etherparse.proofs.Parts.{same_back, same_front}
-use Rattle.etherparse.specs.Reading.{BeginsWith, IsTooShort, ReadsFixed}
+use Rattle.etherparse.specs.Reading.{BeginsWith, HasFront, IsTooShort, Reads, Views}
 
--- two fronts of one length are one, and so are the headers and the rests, where bytes are in the layout of one header
-pub begins_once : {H : Type 0} (Layout : H → List ℕ → Type 0) (one_header : (g h : H) (p : List ℕ) → Layout g p → Layout h p → g ≡ h)
-    (s : List ℕ) (x y : H × List ℕ) (p : BeginsWith Layout s x.0 x.1) (q : BeginsWith Layout s y.0 y.1) → length p.front ≡ length q.front → x ≡ y
-begins_once Layout one_header s x y p q len =
-    let whole : p.front ++ x.1 ≡ q.front ++ y.1 = sym p.whole ∙ q.whole in
-    let header : x.0 ≡ y.0 = one_header x.0 y.0 q.front (subst (λ o. Layout x.0 o) (same_front p.front q.front x.1 y.1 len whole) p.layout) q.layout in
-    let rest : x.1 ≡ y.1 = same_back p.front q.front x.1 y.1 len whole in
-    let pair : (x.0, x.1) ≡ (y.0, y.1) = cc in pair
+-- What makes a slice be read in one way: bytes have one header, headers at one front have one length, a slice with a header is
+-- not refused, and a refused one has one reason.
+pub record TellsHeaders {H E : Type 0} (Layout : H → List ℕ → Type 0) (Refuses : List ℕ → E → Type 0) : Type 0 where
+  pub one_header : (g h : H) (p : List ℕ) → Layout g p → Layout h p → g ≡ h
+  pub one_length : (s : List ℕ) (g h : H) (x y : List ℕ) (p : BeginsWith Layout s g x) (q : BeginsWith Layout s h y) → length p.front ≡ length q.front
+  pub not_refused : (s : List ℕ) (h : H) (x : List ℕ) (e : E) → BeginsWith Layout s h x → Refuses s e → ⊥
+  pub one_refusal : (s : List ℕ) (e f : E) → Refuses s e → Refuses s f → e ≡ f
 
--- with a header at its front a slice is not too short for it
-not_too_short : {H : Type 0} (Layout : H → List ℕ → Type 0) (layer : Layer) (n : ℕ) (s : List ℕ) (header : H) (rest : List ℕ) (e : LenError)
-    (b : BeginsWith Layout s header rest) → length b.front ≡ n → IsTooShort layer n s e → ⊥
-not_too_short Layout layer n s header rest e b len short = omega (arith, short.short, ap length b.whole, length-append b.front rest, len)
+-- it does so where each header has one length
+pub fixed_tells : {H : Type 0} (Layout : H → List ℕ → Type 0) (layer : Layer) (n : ℕ) → ((g h : H) (p : List ℕ) → Layout g p → Layout h p → g ≡ h)
+    → ((h : H) (p : List ℕ) → Layout h p → length p ≡ n) → TellsHeaders Layout (IsTooShort layer n)
+fixed_tells Layout layer n one_header len = record {
+  one_header = one_header;
+  one_length = λ s g h x y p q. len g p.front p.layout ∙ sym (len h q.front q.layout);
+  not_refused = λ s h x e b short. omega (arith, short.short, ap length b.whole, length-append b.front x, len h b.front b.layout);
+  one_refusal = λ s e f p q. p.error ∙ sym q.error;
+}
+
+-- two headers at the front of a slice have one front
+one_front : {H E : Type 0} (Layout : H → List ℕ → Type 0) (Refuses : List ℕ → E → Type 0) (t : TellsHeaders Layout Refuses) (s : List ℕ) (g h : H) (x y : List ℕ)
+    (p : BeginsWith Layout s g x) (q : BeginsWith Layout s h y) → p.front ≡ q.front
+one_front Layout Refuses t s g h x y p q = same_front p.front q.front x y (t.one_length s g h x y p q) (sym p.whole ∙ q.whole)
+
+-- a slice is read in one way
+pub read_once : {H E : Type 0} (Layout : H → List ℕ → Type 0) (Refuses : List ℕ → E → Type 0) (t : TellsHeaders Layout Refuses) (s : List ℕ)
+    (a b : Result (H × List ℕ) E) → Reads Layout Refuses s a → Reads Layout Refuses s b → a ≡ b
+read_once Layout Refuses t s (Ok x) (Ok y) p q =
+    let front = one_front Layout Refuses t s x.0 y.0 x.1 y.1 p q in
+    let header : x.0 ≡ y.0 = t.one_header x.0 y.0 q.front (subst (λ o. Layout x.0 o) front p.layout) q.layout in
+    let rest : x.1 ≡ y.1 = same_back p.front q.front x.1 y.1 (ap length front) (sym p.whole ∙ q.whole) in
+    let pair : (x.0, x.1) ≡ (y.0, y.1) = cc in ap Ok pair
+read_once Layout Refuses t s (Ok x) (Err f) p q = absurd (t.not_refused s x.0 x.1 f p q)
+read_once Layout Refuses t s (Err e) (Ok y) p q = absurd (t.not_refused s y.0 y.1 e q p)
+read_once Layout Refuses t s (Err e) (Err f) p q = ap Err (t.one_refusal s e f p q)
+
+-- and viewed in one way
+abbrev begins : {H : Type 0} (Layout : H → List ℕ → Type 0) (s front : List ℕ) (v : HasFront Layout s front) → BeginsWith Layout s v.header v.rest
+begins Layout s front v = record { front = front; whole = v.whole; layout = v.layout }
+
+pub viewed_once : {H E : Type 0} (Layout : H → List ℕ → Type 0) (Refuses : List ℕ → E → Type 0) (t : TellsHeaders Layout Refuses) (s : List ℕ)
+    (a b : Result (List ℕ) E) → Views Layout Refuses s a → Views Layout Refuses s b → a ≡ b
+viewed_once Layout Refuses t s (Ok x) (Ok y) p q =
+    ap Ok (one_front Layout Refuses t s p.header q.header p.rest q.rest (begins Layout s x p) (begins Layout s y q))
+viewed_once Layout Refuses t s (Ok x) (Err f) p q = absurd (t.not_refused s p.header p.rest f (begins Layout s x p) q)
+viewed_once Layout Refuses t s (Err e) (Ok y) p q = absurd (t.not_refused s q.header q.rest e (begins Layout s y q) p)
+viewed_once Layout Refuses t s (Err e) (Err f) p q = ap Err (t.one_refusal s e f p q)
+
+-- the front that is seen is in the layout of each header at the front
+pub shown : {H E : Type 0} (Layout : H → List ℕ → Type 0) (Refuses : List ℕ → E → Type 0) (t : TellsHeaders Layout Refuses) (s front rest : List ℕ) (h : H)
+    → HasFront Layout s front → BeginsWith Layout s h rest → Layout h front
+shown Layout Refuses t s front rest h v b =
+    subst (λ p. Layout h p) (one_front Layout Refuses t s h v.header rest v.rest b (begins Layout s front v)) b.layout
+
+-- a header at the front of a slice, and the bytes after it by their place
+pub begins_at : {H : Type 0} (Layout : H → List ℕ → Type 0) (n : ℕ) (s p t : List ℕ) (h : H) → s ≡ p ++ t → Layout h p → length p ≡ n
+    → BeginsWith Layout s h (take (length s - n) (drop n s))
+begins_at Layout n s p t h e l len =
+    let rest : t ≡ drop n s = sym (ap (λ x. drop n x) e ∙ drop_at p t n len) in
+    record { front = p; whole = e ∙ ap (λ x. p ++ x) (rest ∙ sym (take_rest s n)); layout = l }
 
 -- what the first bytes are in the layout of is at the front
 pub begins_with_front : {H : Type 0} (Layout : H → List ℕ → Type 0) (n : ℕ) (header : H) (s : List ℕ) → Layout header (take n s)
     → BeginsWith Layout s header (take (length s - n) (drop n s))
 begins_with_front Layout n header s layout =
     record { front = take n s; whole = sym (take-append-drop n s) ∙ ap (λ x. take n s ++ x) (sym (take_rest s n)); layout = layout }
-
--- a header of one length is read in one way
-pub fixed_read_once : {H : Type 0} (Layout : H → List ℕ → Type 0) (one_header : (g h : H) (p : List ℕ) → Layout g p → Layout h p → g ≡ h)
-    (layer : Layer) (n : ℕ) (len : (h : H) (p : List ℕ) → Layout h p → length p ≡ n) (s : List ℕ) (a b : Result (H × List ℕ) LenError)
-    → ReadsFixed Layout layer n s a → ReadsFixed Layout layer n s b → a ≡ b
-fixed_read_once Layout one_header layer n len s (Ok x) (Ok y) p q =
-    ap Ok (begins_once Layout one_header s x y p q (len x.0 p.front p.layout ∙ sym (len y.0 q.front q.layout)))
-fixed_read_once Layout one_header layer n len s (Ok x) (Err f) p q = absurd (not_too_short Layout layer n s x.0 x.1 f p (len x.0 p.front p.layout) q)
-fixed_read_once Layout one_header layer n len s (Err e) (Ok y) p q = absurd (not_too_short Layout layer n s y.0 y.1 e q (len y.0 q.front q.layout) p)
-fixed_read_once Layout one_header layer n len s (Err e) (Err f) p q = ap Err (p.error ∙ sym q.error)
 
 -- a packet that is cut some bytes behind a header begins with that header still
 pub cut_behind : {H : Type 0} (Layout : H → List ℕ → Type 0) (k : ℕ) (s : List ℕ) (header : H) (rest : List ℕ) (b : BeginsWith Layout s header rest)

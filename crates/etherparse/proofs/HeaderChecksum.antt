@@ -1,5 +1,5 @@
 -- The checksum of a header: what it is the sum of, and which stored checksum makes the bytes sum to all ones.
-use Rattle.std.proofs.Common.{ℕ, zero, suc, ◌≡◌, ◌+◌, ◌-◌, ◌<◌, ◌≤◌, ◌^◌, List, ◌++◌, length, refl, sym, ap, ◌∙◌, inl, inr, arith}
+use Rattle.std.proofs.Common.{ℕ, zero, suc, ◌≡◌, ◌+◌, ◌-◌, ◌<◌, ◌≤◌, ◌^◌, List, [], ◌∷◌, ◌++◌, length, refl, sym, ap, ◌∙◌, inl, inr, arith}
 use Rattle.std.specs.Prelude.{◌↔◌, ◌⊎◌, ◌*◌}
 use Rattle.std.specs.Int.{from_bool}
 use Rattle.std.proofs.lemmas.Bool.{cases_eq}
@@ -7,7 +7,7 @@ use Rattle.etherparse_base.specs.WordSums.{IsSumOf, StandsForWords, SumsToAllOne
 use Rattle.etherparse_base.proofs.FoldedSums.{folded_sum-positive}
 use Rattle.etherparse_base.proofs.WordSumLaws.{little_endian_word_sum-append, network_order_word_sum-append}
 use Rattle.etherparse.proofs.Ipv4Layout.{flags_word, front_spelling, front_spells, ranges_of, spelled, spelling}
-use Rattle.etherparse.specs.HeaderChecksum.{KeepsChecksum, header_checksum_of, with_checksum_cleared}
+use Rattle.etherparse.specs.HeaderChecksum.{KeepsChecksum, header_checksum_of, with_part}
 use Rattle.etherparse.specs.Ipv4Header.{IsIpv4LayoutWith}
 use Rattle.etherparse.specs.declared.net.ipv4_header.Ipv4Header.{Ipv4Header}
 
@@ -17,12 +17,12 @@ with_checksum checksum h = record h { header_checksum = checksum }
 
 -- with its checksum cleared, the bytes of a header are spelled with 0 for it
 pub cleared_spells : (h : Ipv4Header) (r : ℕ) (p : List ℕ) → IsIpv4LayoutWith h r p
-    → with_checksum_cleared p ≡ spelling (with_checksum 0 h) (flags_word h r)
-cleared_spells h r p l = ap (λ x. with_checksum_cleared x) (spelled h r p l)
+    → with_part 10 (0 ∷ 0 ∷ []) p ≡ spelling (with_checksum 0 h) (flags_word h r)
+cleared_spells h r p l = ap (λ x. with_part 10 (0 ∷ 0 ∷ []) x) (spelled h r p l)
 
 -- the words of a header are those without its checksum, and its checksum
 pub checksum_apart : (h : Ipv4Header) (r : ℕ) (p : List ℕ) → IsIpv4LayoutWith h r p
-    → network_order_word_sum p ≡ network_order_word_sum (with_checksum_cleared p) + h.header_checksum
+    → network_order_word_sum p ≡ network_order_word_sum (with_part 10 (0 ∷ 0 ∷ []) p) + h.header_checksum
 checksum_apart h r p l =
     let fits = (ranges_of h r p l).header_checksum in
     rw (cleared_spells h r p l) (rw (spelled h r p l) (omega arith))
@@ -51,7 +51,7 @@ all_ones_with (suc n) c pos fits =
 pub right_checksum : (h : Ipv4Header) (r : ℕ) (p : List ℕ) → IsIpv4LayoutWith h r p
     → SumsToAllOnes p ↔ ((h.header_checksum ≡ header_checksum_of p) ⊎ ((h.header_checksum ≡ 65535) × (header_checksum_of p ≡ 0)))
 right_checksum h r p l =
-    let others : ℕ = network_order_word_sum (with_checksum_cleared p) in
+    let others : ℕ = network_order_word_sum (with_part 10 (0 ∷ 0 ∷ []) p) in
     let some : 0 < others = rw (cleared_spells h r p l) (spelling_not_zero (with_checksum 0 h) (flags_word h r)) in
     let fits = (ranges_of h r p l).header_checksum in
     let right = all_ones_with others h.header_checksum some (omega arith) in
@@ -77,7 +77,7 @@ pub record SumChanges (sum old new after : ℕ) : Type 0 where
 -- what a header with a field and the checksum changed is in its words
 abbrev pub HeaderChanges : Ipv4Header → Ipv4Header → ℕ → ℕ → Type 0
 HeaderChanges h g old new = (r : ℕ) (p q : List ℕ) → IsIpv4LayoutWith h r p → IsIpv4LayoutWith g r q
-    → SumChanges (network_order_word_sum (with_checksum_cleared p)) old new (network_order_word_sum (with_checksum_cleared q))
+    → SumChanges (network_order_word_sum (with_part 10 (0 ∷ 0 ∷ []) p)) old new (network_order_word_sum (with_part 10 (0 ∷ 0 ∷ []) q))
 
 pub time_to_live_changes : (h : Ipv4Header) (t c protocol : ℕ) → protocol ≡ h.protocol
     → HeaderChanges h (with_time_to_live t c h) (h.time_to_live * 2 ^ 8 + protocol) (t * 2 ^ 8 + protocol)

@@ -6,7 +6,7 @@ use Rattle.etherparse_base.specs.Bytes.{IsBytes}
 use Rattle.etherparse_base.specs.declared.err.ipv4.header_error.HeaderError.TheVariants.{HeaderLengthSmallerThanHeader, UnexpectedVersion}
 use Rattle.etherparse_base.specs.declared.err.ipv4.header_slice_error.HeaderSliceError.{HeaderSliceError}
 use Rattle.etherparse_base.specs.declared.err.ipv4.header_slice_error.HeaderSliceError.TheVariants.{Content, Len}
-use Rattle.etherparse.proofs.Fronts.{begins_once, cut_behind}
+use Rattle.etherparse.proofs.Fronts.{TellsHeaders, begins_at, cut_behind, read_once}
 use Rattle.etherparse.proofs.Ipv4Layout.{cleared_layout, header_at, ihl_of-layout, length-layout, one_header, same_header_cleared, version_of-layout}
 use Rattle.etherparse.proofs.Parts.{get_or-slice_range, part_is_bytes, same_front}
 use Rattle.etherparse.specs.FirstByte.{ihl_of, version_of}
@@ -17,66 +17,51 @@ use Rattle.etherparse.specs.declared.net.ipv4_header.Ipv4Header.{Ipv4Header}
 -- some bytes are refused for one reason
 refused_once : (s : List ℕ) (e f : HeaderSliceError) → RefusesIpv4 s e → RefusesIpv4 s f → e ≡ f
 refused_once s (Len a) (Len b) (inl p) (inl q) = ap Len (p.error ∙ sym q.error)
-refused_once s (Len a) (Len b) (inl p) (inr q) = absurd (omega (arith, p.short, q.enough))
-refused_once s (Len a) (Len b) (inr p) (inl q) = absurd (omega (arith, p.enough, q.short))
-refused_once s (Len a) (Len b) (inr p) (inr q) = ap Len (p.short.error ∙ sym q.short.error)
+refused_once s (Len a) (Len b) (inl p) (inr q) = absurd (omega (arith, p.short, q.0.enough))
+refused_once s (Len a) (Len b) (inr p) (inl q) = absurd (omega (arith, p.0.enough, q.short))
+refused_once s (Len a) (Len b) (inr p) (inr q) = ap Len (p.2.error ∙ sym q.2.error)
 refused_once s (Len a) (Content (UnexpectedVersion w)) (inl p) q = absurd (omega (arith, p.short, q.enough))
-refused_once s (Len a) (Content (UnexpectedVersion w)) (inr p) q = absurd (q.other p.version)
-refused_once s (Len a) (Content (HeaderLengthSmallerThanHeader i)) (inl p) q = absurd (omega (arith, p.short, q.enough))
-refused_once s (Len a) (Content (HeaderLengthSmallerThanHeader i)) (inr p) q = absurd (omega (arith, p.ihl, q.small))
+refused_once s (Len a) (Content (UnexpectedVersion w)) (inr p) q = absurd (q.other p.0.version)
+refused_once s (Len a) (Content (HeaderLengthSmallerThanHeader i)) (inl p) q = absurd (omega (arith, p.short, q.0.enough))
+refused_once s (Len a) (Content (HeaderLengthSmallerThanHeader i)) (inr p) q = absurd (omega (arith, p.1, q.1))
 refused_once s (Content (UnexpectedVersion v)) (Len b) p (inl q) = absurd (omega (arith, p.enough, q.short))
-refused_once s (Content (UnexpectedVersion v)) (Len b) p (inr q) = absurd (p.other q.version)
+refused_once s (Content (UnexpectedVersion v)) (Len b) p (inr q) = absurd (p.other q.0.version)
 refused_once s (Content (UnexpectedVersion v)) (Content (UnexpectedVersion w)) p q =
     ap (λ x. Content (UnexpectedVersion x)) (p.found ∙ sym q.found)
-refused_once s (Content (UnexpectedVersion v)) (Content (HeaderLengthSmallerThanHeader i)) p q = absurd (p.other q.version)
-refused_once s (Content (HeaderLengthSmallerThanHeader i)) (Len b) p (inl q) = absurd (omega (arith, p.enough, q.short))
-refused_once s (Content (HeaderLengthSmallerThanHeader i)) (Len b) p (inr q) = absurd (omega (arith, p.small, q.ihl))
-refused_once s (Content (HeaderLengthSmallerThanHeader i)) (Content (UnexpectedVersion w)) p q = absurd (q.other p.version)
+refused_once s (Content (UnexpectedVersion v)) (Content (HeaderLengthSmallerThanHeader i)) p q = absurd (p.other q.0.version)
+refused_once s (Content (HeaderLengthSmallerThanHeader i)) (Len b) p (inl q) = absurd (omega (arith, p.0.enough, q.short))
+refused_once s (Content (HeaderLengthSmallerThanHeader i)) (Len b) p (inr q) = absurd (omega (arith, p.1, q.1))
+refused_once s (Content (HeaderLengthSmallerThanHeader i)) (Content (UnexpectedVersion w)) p q = absurd (q.other p.0.version)
 refused_once s (Content (HeaderLengthSmallerThanHeader i)) (Content (HeaderLengthSmallerThanHeader j)) p q =
-    ap (λ x. Content (HeaderLengthSmallerThanHeader x)) (p.found ∙ sym q.found)
+    ap (λ x. Content (HeaderLengthSmallerThanHeader x)) (p.2 ∙ sym q.2)
 
 -- the first byte of a front is that of the whole
-first_of : (h : Ipv4Header) (p t s : List ℕ) → s ≡ p ++ t → IsIpv4Layout h p → get_or s 0 0 ≡ get_or p 0 0
-first_of h p t s e l = ap (λ x. get_or x 0 0) e ∙ get_or_append_left p t 0 0 (omega (arith, l.layout.len))
+first_of : (s : List ℕ) (h : Ipv4Header) (x : List ℕ) (b : BeginsWith IsIpv4Layout s h x) → get_or s 0 0 ≡ get_or b.front 0 0
+first_of s h x b = ap (λ p. get_or p 0 0) b.whole ∙ get_or_append_left b.front x 0 0 (omega (arith, b.layout.layout.len))
 
 -- what begins with a header is not refused
-pub not_refused : (h : Ipv4Header) (p t s : List ℕ) → s ≡ p ++ t → IsIpv4Layout h p → (e : HeaderSliceError) → RefusesIpv4 s e → ⊥
-not_refused h p t s e l (Len a) (inl q) = omega (arith, q.short, ap length e, length-append p t, l.layout.len)
-not_refused h p t s e l (Len a) (inr q) =
-    omega (arith, q.short.short, ap length e, length-append p t, length-layout h p l, ap (λ x. x % 16) (first_of h p t s e l))
-not_refused h p t s e l (Content (UnexpectedVersion v)) q = q.other (ap (λ x. x / 16) (first_of h p t s e l) ∙ version_of-layout h p l)
-not_refused h p t s e l (Content (HeaderLengthSmallerThanHeader i)) q =
-    omega (arith, q.small, ihl_of-layout h p l, ap (λ x. x % 16) (first_of h p t s e l))
+pub not_refused : (s : List ℕ) (h : Ipv4Header) (x : List ℕ) (e : HeaderSliceError) → BeginsWith IsIpv4Layout s h x → RefusesIpv4 s e → ⊥
+not_refused s h x (Len a) b (inl q) = omega (arith, q.short, ap length b.whole, length-append b.front x, b.layout.layout.len)
+not_refused s h x (Len a) b (inr q) =
+    omega (arith, q.2.short, ap length b.whole, length-append b.front x, length-layout h b.front b.layout, ap (λ n. n % 16) (first_of s h x b))
+not_refused s h x (Content (UnexpectedVersion v)) b q = q.other (ap (λ n. n / 16) (first_of s h x b) ∙ version_of-layout h b.front b.layout)
+not_refused s h x (Content (HeaderLengthSmallerThanHeader i)) b q =
+    omega (arith, q.1, ihl_of-layout h b.front b.layout, ap (λ n. n % 16) (first_of s h x b))
 
--- two headers at one front have one length
-same_length : (g h : Ipv4Header) (o p t u s : List ℕ) → s ≡ o ++ t → s ≡ p ++ u → IsIpv4Layout g o → IsIpv4Layout h p → length o ≡ length p
-same_length g h o p t u s d e k l = omega (
-  arith,
-  length-layout g o k,
-  length-layout h p l,
-  ap (λ x. x % 16) (first_of g o t s d k),
-  ap (λ x. x % 16) (first_of h p u s e l),
-)
-
-pub read_once : (s : List ℕ) (a b : Ipv4Reading) → ReadsIpv4 s a → ReadsIpv4 s b → a ≡ b
-read_once s (Ok x) (Ok y) p q =
-    ap Ok (begins_once IsIpv4Layout one_header s x y p q (same_length x.0 y.0 p.front q.front x.1 y.1 s p.whole q.whole p.layout q.layout))
-read_once s (Ok x) (Err f) p q = absurd (not_refused x.0 p.front x.1 s p.whole p.layout f q)
-read_once s (Err e) (Ok y) p q = absurd (not_refused y.0 q.front y.1 s q.whole q.layout e p)
-read_once s (Err e) (Err f) p q = ap Err (refused_once s e f p q)
-
-pub viewed_once : (s : List ℕ) (a b : Result (List ℕ) HeaderSliceError) → ViewsIpv4 s a → ViewsIpv4 s b → a ≡ b
-viewed_once s (Ok x) (Ok y) p q =
-    ap Ok (same_front x y p.rest q.rest (same_length p.header q.header x y p.rest q.rest s p.whole q.whole p.layout q.layout) (sym p.whole ∙ q.whole))
-viewed_once s (Ok x) (Err f) p q = absurd (not_refused p.header x p.rest s p.whole p.layout f q)
-viewed_once s (Err e) (Ok y) p q = absurd (not_refused q.header y q.rest s q.whole q.layout e p)
-viewed_once s (Err e) (Err f) p q = ap Err (refused_once s e f p q)
-
--- the front that is seen is in the layout of each header at the front
-pub shown : (s front rest : List ℕ) (h : Ipv4Header) → ViewsIpv4 s (Ok front) → BeginsWith IsIpv4Layout s h rest → IsIpv4Layout h front
-shown s front rest h v b =
-    let len = same_length h v.header b.front front rest v.rest s b.whole v.whole b.layout v.layout in
-    subst (λ p. IsIpv4Layout h p) (same_front b.front front rest v.rest len (sym b.whole ∙ v.whole)) b.layout
+-- a slice is read in one way
+pub tells_headers : TellsHeaders IsIpv4Layout RefusesIpv4
+tells_headers = record {
+  one_header = one_header;
+  one_length = λ s g h x y p q. omega (
+    arith,
+    length-layout g p.front p.layout,
+    length-layout h q.front q.layout,
+    ap (λ n. n % 16) (first_of s g x p),
+    ap (λ n. n % 16) (first_of s h y q),
+  );
+  not_refused = not_refused;
+  one_refusal = refused_once;
+}
 
 -- the front of some bytes is seen where they are of version 4, and as many as their IHL says
 pub front_viewed : (s : List ℕ) (n : ℕ) → version_of s ≡ 4 → 5 ≤ ihl_of s → n ≡ 4 * ihl_of s → n ≤ length s → IsBytes s → ViewsIpv4 s (Ok (take n s))
@@ -95,19 +80,17 @@ is_reading_of s (Ok x) b =
     subst (λ p. IsIpv4Layout x.0 p) (append_cancel_right b.front front x.1 (sym b.whole ∙ whole)) b.layout in
     record {
       reads = b;
-      only = λ other o. read_once s other (Ok x) o b;
+      only = λ other o. read_once IsIpv4Layout RefusesIpv4 tells_headers s other (Ok x) o b;
       cleared = λ front whole. let k = front_is front whole in cleared_layout x.0 k.reserved front k.layout;
       same_header = λ front whole bytes other k. same_header_cleared other x.0 bytes front k (front_is front whole);
       cut = cut_behind IsIpv4Layout (ipv4_header_len x.0) s x.0 x.1 b b.layout.layout.len;
     }
-is_reading_of s (Err e) r = record { reads = r; only = λ other o. read_once s other (Err e) o r; cleared = tt; same_header = tt; cut = tt }
+is_reading_of s (Err e) r = record { reads = r; only = λ other o. read_once IsIpv4Layout RefusesIpv4 tells_headers s other (Err e) o r; cleared = tt; same_header = tt; cut = tt }
 
 -- what is seen in front is read
 pub front_read : (s p t : List ℕ) (h : Ipv4Header) → s ≡ p ++ t → IsIpv4Layout h p
     → IsIpv4ReadingOf s (Ok (h, take (length s - length p) (drop (length p) s)))
-front_read s p t h e l =
-    let rest : t ≡ drop (length p) s = sym (ap (λ x. drop (length p) x) e ∙ drop_at p t (length p) refl) in
-    is_reading_of s _ (record { front = p; whole = e ∙ ap (λ x. p ++ x) (rest ∙ sym (take_rest s (length p))); layout = l })
+front_read s p t h e l = is_reading_of s _ (begins_at IsIpv4Layout (length p) s p t h e l refl)
 
 -- the options are at the front of the room that they could have
 pub options_in_room : (s p t room : List ℕ) → s ≡ p ++ t → 20 ≤ length p → length p ≤ 60 → room ≡ take 40 (take 40 (drop 20 s))

@@ -1,14 +1,18 @@
 -- A slice has one walk with a limit, which is the walk without it where the limit is above an eighth of the length.
-use Rattle.std.proofs.Common.{ℕ, ◌≡◌, ◌+◌, ◌-◌, ◌*◌, ◌/◌, ◌<◌, ◌≤◌, List, [], ◌∷◌, length, drop, sym, ap, subst, ◌∙◌, arith, length-append, Ok, Err}
+use Rattle.std.proofs.Common.{ℕ, ◌≡◌, ◌+◌, ◌-◌, ◌*◌, ◌/◌, ◌<◌, ◌≤◌, List, [], ◌∷◌, length, get_or, drop, sym, ap, subst, ◌∙◌, arith, length-append, Ok, Err}
 use Rattle.std.specs.List.{concat}
+use Rattle.std.specs.Result.{result_map_both}
 use Rattle.etherparse_base.specs.declared.err.ipv6.chain_error.ChainError.{ChainError}
 use Rattle.etherparse_base.specs.declared.err.ipv6.chain_error.ChainError.TheVariants as chain_error
 use Rattle.etherparse_base.specs.declared.err.len_error.LenError.{LenError}
 use Rattle.etherparse_fields.specs.ExtensionHeaders.{IsSkippable}
 use Rattle.etherparse.proofs.ExtensionHeaderChain.{GoesNoFurther, SkippedUpTo, after_chain, cut_once, ends_after, ends_incomplete, ends_once, incomplete, offset_of, whole_at_least}
-use Rattle.etherparse.specs.ExtensionHeaderChain.{BeginsWithChain, EndsAfterChainUpTo, EndsAtLimit, EndsIncompleteUpTo, EndsUpTo, IsExtensionHeaderChain}
-use Rattle.etherparse.specs.ExtensionHeaderChain.{LimitedWalkAnswer, WalkAnswer, Walks, WalksUpTo}
-use Rattle.etherparse.specs.ExtensionHeaderChain.{incomplete_header_error, next_header_of, required_len_of, with_error_in_len}
+use Rattle.etherparse.specs.ExtensionHeaderChain.{BeginsWithChain, EndsAtLimit, EndsUpTo, IsExtensionHeaderChain, LimitedWalkAnswer, WalkAnswer, Walks, WalksUpTo}
+use Rattle.etherparse.specs.ExtensionHeaderChain.{incomplete_header_error, required_len_of}
+
+-- the answer of a walk without a limit as that of one with it
+abbrev with_error_in_len : WalkAnswer → LimitedWalkAnswer
+with_error_in_len a = result_map_both (λ x. x) (λ e. chain_error.Len e) a
 
 -- a chain of as many headers as the limit goes no further
 at_limit : (limit : ℕ) (s : List ℕ) (n : ℕ) (ps : List (List ℕ)) (e : ChainError) (k : EndsAtLimit limit s n ps e)
@@ -17,17 +21,17 @@ at_limit limit s n ps e k = let full = k.full in record { begins = k.begins; wit
 
 -- a walk that ends after a chain does not end at the limit
 after_not_at_limit : (limit : ℕ) (s : List ℕ) (n : ℕ) (ps qs : List (List ℕ)) (m : ℕ) (r : List ℕ) (f : ChainError)
-    → EndsAfterChainUpTo limit s n ps m r → EndsAtLimit limit s n qs f → ⊥
+    → EndsUpTo limit s n ps (Ok (m, r)) → EndsAtLimit limit s n qs f → ⊥
 after_not_at_limit limit s n ps qs m r f p q =
-    let same = cut_once ps qs limit s n m q.last r q.rest (after_chain limit s n ps m r p.within p.ends) (at_limit limit s n qs f q) in
-    p.ends.upper (subst IsSkippable same.1 q.skippable)
+    let same = cut_once ps qs limit s n m q.last r q.rest (after_chain limit s n ps m r p.1 p.0) (at_limit limit s n qs f q) in
+    p.0.1 (subst IsSkippable same.1 q.skippable)
 
 -- nor does one that ends at an incomplete header
 incomplete_not_at_limit : (limit : ℕ) (s : List ℕ) (n : ℕ) (ps qs : List (List ℕ)) (e : LenError) (f : ChainError)
-    → EndsIncompleteUpTo limit s n ps e → EndsAtLimit limit s n qs f → ⊥
+    → EndsUpTo limit s n ps (Err (chain_error.Len e)) → EndsAtLimit limit s n qs f → ⊥
 incomplete_not_at_limit limit s n ps qs e f p q =
-    let below = p.below in
-    let same = cut_once ps qs limit s n p.ends.last q.last p.ends.rest q.rest (incomplete limit s n ps e (omega arith) p.ends) (at_limit limit s n qs f q) in
+    let below = p.1 in
+    let same = cut_once ps qs limit s n p.0.last q.last p.0.rest q.rest (incomplete limit s n ps e (omega arith) p.0) (at_limit limit s n qs f q) in
     omega (arith, ap length same.0, q.full)
 
 -- the limit is met at one offset
@@ -41,13 +45,13 @@ at_limit_once limit s n ps qs e f p q =
 -- a walk with a limit ends in one way
 ends_up_to_once : (limit : ℕ) (s : List ℕ) (n : ℕ) (ps qs : List (List ℕ)) (a b : LimitedWalkAnswer)
     → EndsUpTo limit s n ps a → EndsUpTo limit s n qs b → b ≡ a
-ends_up_to_once limit s n ps qs (Ok x) (Ok y) p q = ap with_error_in_len (ends_once s n ps qs (Ok x) (Ok y) p.ends q.ends).1
-ends_up_to_once limit s n ps qs (Ok x) (Err (chain_error.Len f)) p q = ap with_error_in_len (ends_once s n ps qs (Ok x) (Err f) p.ends q.ends).1
+ends_up_to_once limit s n ps qs (Ok x) (Ok y) p q = ap with_error_in_len (ends_once s n ps qs (Ok x) (Ok y) p.0 q.0).1
+ends_up_to_once limit s n ps qs (Ok x) (Err (chain_error.Len f)) p q = ap with_error_in_len (ends_once s n ps qs (Ok x) (Err f) p.0 q.0).1
 ends_up_to_once limit s n ps qs (Ok x) (Err (chain_error.TooMany l k t)) p q =
     absurd (after_not_at_limit limit s n ps qs x.0 x.1 (chain_error.TooMany l k t) p q)
-ends_up_to_once limit s n ps qs (Err (chain_error.Len e)) (Ok y) p q = ap with_error_in_len (ends_once s n ps qs (Err e) (Ok y) p.ends q.ends).1
+ends_up_to_once limit s n ps qs (Err (chain_error.Len e)) (Ok y) p q = ap with_error_in_len (ends_once s n ps qs (Err e) (Ok y) p.0 q.0).1
 ends_up_to_once limit s n ps qs (Err (chain_error.Len e)) (Err (chain_error.Len f)) p q =
-    ap with_error_in_len (ends_once s n ps qs (Err e) (Err f) p.ends q.ends).1
+    ap with_error_in_len (ends_once s n ps qs (Err e) (Err f) p.0 q.0).1
 ends_up_to_once limit s n ps qs (Err (chain_error.Len e)) (Err (chain_error.TooMany l k t)) p q =
     absurd (incomplete_not_at_limit limit s n ps qs e (chain_error.TooMany l k t) p q)
 ends_up_to_once limit s n ps qs (Err (chain_error.TooMany l k t)) (Ok y) p q =
@@ -62,7 +66,7 @@ length-concat : (n : ℕ) (ps : List (List ℕ)) (m : ℕ) → IsExtensionHeader
 length-concat n [] m c = omega arith
 length-concat n (p ∷ ps) m c =
     let long = whole_at_least n p c.0 in
-    let others = length-concat (next_header_of p) ps m c.1 in
+    let others = length-concat (get_or p 0 0) ps m c.1 in
     omega (arith, length-append p (concat ps))
 
 -- so at the front of a slice it has an eighth as many headers at most
@@ -72,11 +76,11 @@ few_headers s n ps m r b = omega (arith, length-concat n ps m b.chain, ap length
 -- a walk whose limit is above an eighth of the length meets no limit
 walks_up_to : (limit : ℕ) (s : List ℕ) (n : ℕ) (a : WalkAnswer) → length s / 8 + 1 ≤ limit → Walks s n a → WalksUpTo limit s n (with_error_in_len a)
 walks_up_to limit s n (Ok x) enough w =
-    let few = few_headers s n w.headers x.0 x.1 w.ends.begins in
-    record { headers = w.headers; ends = record { ends = w.ends; within = omega arith } }
+    let few = few_headers s n w.headers x.0 x.1 w.ends.0 in
+    record { headers = w.headers; ends = (w.ends, omega arith) }
 walks_up_to limit s n (Err e) enough w =
     let few = few_headers s n w.headers w.ends.last w.ends.rest w.ends.begins in
-    record { headers = w.headers; ends = record { ends = w.ends; below = omega arith } }
+    record { headers = w.headers; ends = (w.ends, omega arith) }
 
 -- what is promised of a walk with a limit: that it has this answer, and no other, and when it is that of the walk without
 pub record IsLimitedWalk (limit : ℕ) (s : List ℕ) (n : ℕ) (a : LimitedWalkAnswer) : Type 0 where
@@ -99,7 +103,7 @@ pub limited_walk_ends_after : (limit : ℕ) (s : List ℕ) (n offset m skipped :
     → r ≡ drop offset s → (IsSkippable m → ⊥) → IsLimitedWalk limit s n (Ok (m, r))
 limited_walk_ends_after limit s n offset m skipped r u within e upper =
     let counted = u.counted in
-    limited_walk_of limit s n u.headers (Ok (m, r)) (record { ends = ends_after s n offset m skipped r u e upper; within = omega arith })
+    limited_walk_of limit s n u.headers (Ok (m, r)) (ends_after s n offset m skipped r u e upper, omega arith)
 
 -- one that ends at a header that is incomplete
 pub limited_walk_ends_incomplete : (limit : ℕ) (s : List ℕ) (n offset m skipped : ℕ) (e : LenError) → SkippedUpTo s n offset m skipped → skipped < limit
@@ -107,10 +111,7 @@ pub limited_walk_ends_incomplete : (limit : ℕ) (s : List ℕ) (n offset m skip
     → IsLimitedWalk limit s n (Err (chain_error.Len e))
 limited_walk_ends_incomplete limit s n offset m skipped e u below skippable short error =
     let counted = u.counted in
-    limited_walk_of limit s n u.headers (Err (chain_error.Len e)) (record {
-      ends = ends_incomplete s n offset m skipped e u skippable short error;
-      below = omega arith;
-    })
+    limited_walk_of limit s n u.headers (Err (chain_error.Len e)) (ends_incomplete s n offset m skipped e u skippable short error, omega arith)
 
 -- one that ends at the limit
 pub limited_walk_ends_at_limit : (limit : ℕ) (s : List ℕ) (n offset m skipped : ℕ) → SkippedUpTo s n offset m skipped → skipped ≡ limit

@@ -1,14 +1,16 @@
 -- Headers that are skipped one by one: how a chain before them goes on, and where the walk of the slice ends.
 use Rattle.std.proofs.Common.{ℕ, ◌≡◌, ◌+◌, ◌-◌, ◌<◌, ◌≤◌, List, [], ◌∷◌, ◌++◌, length, length-append, get_or, take, drop, sym, ap, ◌∙◌, append_assoc, arith, Ok, Err}
 use Rattle.std.specs.List.{concat}
+use Rattle.std.specs.Result.{result_map_both}
 use Rattle.std.proofs.lemmas.List.Folds.{concat-append}
+use Rattle.etherparse_base.specs.Ipv6Errors.{chain_error_moved}
 use Rattle.etherparse_base.specs.LenError.{len_error_moved}
 use Rattle.etherparse_base.specs.declared.err.ipv6.chain_error.ChainError.TheVariants as chain_error
 use Rattle.etherparse_base.specs.declared.err.len_error.LenError.{LenError}
 use Rattle.etherparse_fields.specs.ExtensionHeaders.{IsSkippable}
 use Rattle.etherparse.proofs.ExtensionHeaderChain.{is_walk_of, one_more_skipped}
 use Rattle.etherparse.specs.ExtensionHeaderChain.{BeginsWithChain, Ends, EndsIncomplete, FollowsChain, IsExtensionHeaderChain, IsWalkBehindChains, IsWalkOf, LimitedWalkAnswer, WalkAnswer, Walks, WalksUpTo}
-use Rattle.etherparse.specs.ExtensionHeaderChain.{chain_error_moved_behind, incomplete_header_error, limited_walk_answer_moved, next_header_of, required_len_of, walk_answer_moved}
+use Rattle.etherparse.specs.ExtensionHeaderChain.{incomplete_header_error, required_len_of}
 
 -- a chain goes on by a header that has as many bytes as it requires
 pub chain_goes_on : (s : List ℕ) (first n : ℕ) (r : List ℕ) (k : ℕ) → FollowsChain s first n r → IsSkippable n → k ≡ required_len_of n r
@@ -19,7 +21,7 @@ chain_goes_on s first n r k f skippable is fits =
 -- a walk ends behind a chain where the next number is not skippable
 pub walk_ends_behind : (s : List ℕ) (first n : ℕ) (r : List ℕ) → FollowsChain s first n r → (IsSkippable n → ⊥) → IsWalkOf s first (Ok (n, r))
 walk_ends_behind s first n r f upper =
-    is_walk_of s first (Ok (n, r)) (record { headers = f.headers; ends = record { begins = f.begins; upper = upper } })
+    is_walk_of s first (Ok (n, r)) (record { headers = f.headers; ends = (f.begins, upper) })
 
 -- and where too few bytes are left for the next header, with the error of one skip moved to its offset
 pub walk_ends_short : (s : List ℕ) (first n : ℕ) (r : List ℕ) (e : LenError) → FollowsChain s first n r → IsSkippable n
@@ -42,7 +44,7 @@ walk_ends_short s first n r e f skippable short is =
 -- two chains, one behind the other
 chain-append : (n : ℕ) (ps qs : List (List ℕ)) (m k : ℕ) → IsExtensionHeaderChain n ps m → IsExtensionHeaderChain m qs k → IsExtensionHeaderChain n (ps ++ qs) k
 chain-append n [] qs m k e c = rw e at c
-chain-append n (p ∷ ps) qs m k b c = (b.0, chain-append (next_header_of p) ps qs m k b.1 c)
+chain-append n (p ∷ ps) qs m k b c = (b.0, chain-append (get_or p 0 0) ps qs m k b.1 c)
 
 begins_behind : (s : List ℕ) (first n m : ℕ) (hs ps : List (List ℕ)) (r t : List ℕ) → BeginsWithChain s first hs n r → BeginsWithChain r n ps m t
     → BeginsWithChain s first (hs ++ ps) m t
@@ -71,8 +73,8 @@ incomplete_behind s first n hs ps r e b k = record {
 }
 
 ends_behind : (s : List ℕ) (first n : ℕ) (hs ps : List (List ℕ)) (r : List ℕ) (a : WalkAnswer) → BeginsWithChain s first hs n r → Ends r n ps a
-    → Ends s first (hs ++ ps) (walk_answer_moved (length s - length r) a)
-ends_behind s first n hs ps r (Ok x) b e = record { begins = begins_behind s first n x.0 hs ps r x.1 b e.begins; upper = e.upper }
+    → Ends s first (hs ++ ps) (result_map_both (λ x. x) (λ e. len_error_moved (length s - length r) e) a)
+ends_behind s first n hs ps r (Ok x) b e = (begins_behind s first n x.0 hs ps r x.1 b e.0, e.1)
 ends_behind s first n hs ps r (Err e) b k = incomplete_behind s first n hs ps r e b k
 
 pub walk_follows : (n : ℕ) (r : List ℕ) (a : WalkAnswer) → Walks r n a → IsWalkBehindChains r n a
@@ -81,20 +83,14 @@ walk_follows n r a w = λ s first f.
 
 -- so does one with a limit, which counts the headers of the chain
 pub limited_walk_follows : (limit : ℕ) (s : List ℕ) (first n : ℕ) (hs : List (List ℕ)) (r : List ℕ) (a : LimitedWalkAnswer) → BeginsWithChain s first hs n r
-    → WalksUpTo limit r n a → WalksUpTo (length hs + limit) s first (limited_walk_answer_moved (length hs) (length s - length r) a)
+    → WalksUpTo limit r n a → WalksUpTo (length hs + limit) s first (result_map_both (λ x. x) (chain_error_moved (length hs) (length s - length r)) a)
 limited_walk_follows limit s first n hs r (Ok x) b w = record {
   headers = hs ++ w.headers;
-  ends = record {
-    ends = ends_behind s first n hs w.headers r (Ok x) b w.ends.ends;
-    within = omega (arith, length-append hs w.headers, w.ends.within);
-  };
+  ends = (ends_behind s first n hs w.headers r (Ok x) b w.ends.0, omega (arith, length-append hs w.headers, w.ends.1));
 }
 limited_walk_follows limit s first n hs r (Err (chain_error.Len e)) b w = record {
   headers = hs ++ w.headers;
-  ends = record {
-    ends = incomplete_behind s first n hs w.headers r e b w.ends.ends;
-    below = omega (arith, length-append hs w.headers, w.ends.below);
-  };
+  ends = (incomplete_behind s first n hs w.headers r e b w.ends.0, omega (arith, length-append hs w.headers, w.ends.1));
 }
 limited_walk_follows limit s first n hs r (Err (chain_error.TooMany told number offset)) b w = record {
   headers = hs ++ w.headers;
@@ -104,7 +100,7 @@ limited_walk_follows limit s first n hs r (Err (chain_error.TooMany told number 
     begins = begins_behind s first n w.ends.last hs w.headers r w.ends.rest b w.ends.begins;
     full = omega (arith, length-append hs w.headers, w.ends.full);
     skippable = w.ends.skippable;
-    error = ap (chain_error_moved_behind (length hs) (length s - length r)) w.ends.error
+    error = ap (chain_error_moved (length hs) (length s - length r)) w.ends.error
         ∙ ap (λ p. chain_error.TooMany (length hs + limit) w.ends.last p) (length-behind s first n hs w.headers r b);
   };
 }

@@ -27,22 +27,18 @@ pub record IsExtensionHeader (number : ℕ) (header : List ℕ) : Type 0 where
   pub skippable : IsSkippable number
   pub len : length header ≡ extension_header_len number (slice_index header 1)
 
--- How many bytes the header of a number requires of a slice that begins with it. Of fewer than two
--- bytes no length can be told, and two are required, also of a fragment header: this is our own.
+-- How many bytes the header of a number requires of a slice that begins with it. Of fewer than two,
+-- which tell no length, two are required, also for a fragment header: this is our own.
 abbrev pub required_len_of : ℕ → List ℕ → ℕ
 required_len_of number s =
     if nat_lt (length s) 2 then 2 else extension_header_len number (slice_index s 1)
 
--- the number of what follows an extension header: its first byte
-abbrev pub next_header_of : List ℕ → ℕ
-next_header_of header = slice_index header 0
-
--- Extension headers, of which the first has this number, each other one has the number that the
--- one before it gives, and the last gives that number. With no header both numbers are one.
+-- Extension headers, of which the first has this number, each other one the number that the first
+-- byte of the one before it gives, and the last gives that number. With no header both are one.
 abbrev pub IsExtensionHeaderChain : ℕ → List (List ℕ) → ℕ → Type 0
 IsExtensionHeaderChain first [] last = last ≡ first
 IsExtensionHeaderChain first (header ∷ headers) last =
-    IsExtensionHeader first header × IsExtensionHeaderChain (next_header_of header) headers last
+    IsExtensionHeader first header × IsExtensionHeaderChain (slice_index header 0) headers last
 
 -- the slice is a chain of extension headers, and the rest after them
 pub record BeginsWithChain (s : List ℕ) (first : ℕ) (headers : List (List ℕ)) (last : ℕ)
@@ -50,13 +46,12 @@ pub record BeginsWithChain (s : List ℕ) (first : ℕ) (headers : List (List �
   pub chain : IsExtensionHeaderChain first headers last
   pub whole : s ≡ concat headers ++ rest
 
--- The rest, of this number, follows extension headers that stand at the front of the slice, of
--- which the first has that number. With no header it is the slice itself.
+-- the rest, of this number, follows a chain at the front of the slice, which can be empty
 pub record FollowsChain (s : List ℕ) (first number : ℕ) (rest : List ℕ) : Type 0 where
   pub headers : List (List ℕ)
   pub begins : BeginsWithChain s first headers number rest
 
--- the error of an extension header that is incomplete at an offset: what is left there is too short
+-- the error of an extension header that is incomplete at an offset
 abbrev pub incomplete_header_error : ℕ → List ℕ → ℕ → LenError
 incomplete_header_error number rest offset =
     record (too_short_error layer.Ipv6ExtHeader (required_len_of number rest) (length rest)) {
@@ -67,14 +62,8 @@ incomplete_header_error number rest offset =
 abbrev pub WalkAnswer : Type 0
 WalkAnswer = Result (ℕ × List ℕ) LenError
 
--- The walk ends behind a chain: its last number is none that can be skipped.
-pub record EndsAfterChain (s : List ℕ) (first : ℕ) (headers : List (List ℕ)) (last : ℕ)
-    (rest : List ℕ) : Type 0 where
-  pub begins : BeginsWithChain s first headers last rest
-  pub upper : ¬ IsSkippable last
-
--- The walk ends at a header that is incomplete: after a chain there are fewer bytes than the header
--- of its last number requires. The offset in the error is where that header starts.
+-- The walk ends behind a chain where there are fewer bytes than the header of its last number
+-- requires. The offset in the error is where that header starts.
 pub record EndsIncomplete (s : List ℕ) (first : ℕ) (headers : List (List ℕ)) (e : LenError)
     : Type 0 where
   pub last : ℕ
@@ -84,13 +73,13 @@ pub record EndsIncomplete (s : List ℕ) (first : ℕ) (headers : List (List ℕ
   pub short : length rest < required_len_of last rest
   pub error : e ≡ incomplete_header_error last rest (length (concat headers))
 
--- where a walk of a slice from a first number ends, with the headers before that and the answer
+-- Where a walk of a slice from a first number ends, with the headers before that and the answer:
+-- behind a chain whose last number is none that can be skipped, or at an incomplete header.
 abbrev pub Ends : List ℕ → ℕ → List (List ℕ) → WalkAnswer → Type 0
-Ends s first headers (Ok x) = EndsAfterChain s first headers x.0 x.1
+Ends s first headers (Ok x) = BeginsWithChain s first headers x.0 x.1 × ¬ IsSkippable x.0
 Ends s first headers (Err e) = EndsIncomplete s first headers e
 
--- Walking: the answer after all extension headers of the slice that can be skipped, or at the
--- first incomplete one.
+-- walking: the answer where the walk ends, past some headers
 pub record Walks (s : List ℕ) (first : ℕ) (answer : WalkAnswer) : Type 0 where
   pub headers : List (List ℕ)
   pub ends : Ends s first headers answer
@@ -107,42 +96,19 @@ pub record IsOnlyWalkOf (s : List ℕ) (first : ℕ) (answer : WalkAnswer) : Typ
 unfoldable pub IsWalkOf : List ℕ → ℕ → WalkAnswer → Type 0
 IsWalkOf s first answer = IsOnlyWalkOf s first answer
 
--- the answer of a walk behind a chain as that of a walk of the whole: an error is moved
-abbrev pub walk_answer_moved : ℕ → WalkAnswer → WalkAnswer
-walk_answer_moved offset answer =
-    result_map_both (λ x. x) (λ e. len_error_moved offset e) answer
-
--- behind a chain at the front of a slice, this is the walk of that slice
+-- behind a chain at the front of a slice, this is the walk of that slice, where an error is moved
 abbrev pub IsWalkBehindChains : List ℕ → ℕ → WalkAnswer → Type 0
 IsWalkBehindChains rest number answer = (s : List ℕ) (first : ℕ) → FollowsChain s first number rest
-    → IsWalkOf s first (walk_answer_moved (length s - length rest) answer)
+    → IsWalkOf s first
+    (result_map_both (λ x. x) (λ e. len_error_moved (length s - length rest) e) answer)
 
--- The turns of a walk past these headers, where a turn is one test of a number: that of the first
--- number, and of the number that each header gives.
-abbrev pub turn_count : List (List ℕ) → ℕ
-turn_count headers = length headers + 1
-
--- A walk with a limit goes past at most so many extension headers; the limit is our own.
-
--- a number and the bytes that it tells of, or why a walk with a limit came to no such number
+-- The answer of a walk that goes past at most so many headers, where that limit can be the error. It
+-- is our own.
 abbrev pub LimitedWalkAnswer : Type 0
 LimitedWalkAnswer = Result (ℕ × List ℕ) ChainError
 
--- The walk ends after a chain, which has no more headers than the limit.
-pub record EndsAfterChainUpTo (limit : ℕ) (s : List ℕ) (first : ℕ) (headers : List (List ℕ))
-    (last : ℕ) (rest : List ℕ) : Type 0 where
-  pub ends : EndsAfterChain s first headers last rest
-  pub within : length headers ≤ limit
-
--- The walk ends at a header that is incomplete, with fewer headers before it than the limit.
-pub record EndsIncompleteUpTo (limit : ℕ) (s : List ℕ) (first : ℕ) (headers : List (List ℕ))
-    (e : LenError) : Type 0 where
-  pub ends : EndsIncomplete s first headers e
-  pub below : length headers < limit
-
--- The walk ends at the limit: the slice begins with a chain of as many headers, whose last number
--- is that of one more, whatever bytes are left for it. The error has the limit, the number of that
--- header, and where it starts.
+-- The walk ends behind a chain of as many headers as the limit, whose last number is that of one
+-- more, whatever bytes are left for it. The error says where that header starts.
 pub record EndsAtLimit (limit : ℕ) (s : List ℕ) (first : ℕ) (headers : List (List ℕ))
     (e : ChainError) : Type 0 where
   pub last : ℕ
@@ -152,38 +118,16 @@ pub record EndsAtLimit (limit : ℕ) (s : List ℕ) (first : ℕ) (headers : Lis
   pub skippable : IsSkippable last
   pub error : e ≡ chain_error.TooMany limit last (length (concat headers))
 
--- where a walk with a limit ends, with the headers before that and the answer
+-- Where a walk with a limit ends: behind a chain of no more headers than that; or at an incomplete
+-- header, with fewer before it; or at the limit.
 abbrev pub EndsUpTo : ℕ → List ℕ → ℕ → List (List ℕ) → LimitedWalkAnswer → Type 0
-EndsUpTo limit s first headers (Ok x) = EndsAfterChainUpTo limit s first headers x.0 x.1
+EndsUpTo limit s first headers (Ok x) = Ends s first headers (Ok x) × (length headers ≤ limit)
 EndsUpTo limit s first headers (Err (chain_error.Len e)) =
-    EndsIncompleteUpTo limit s first headers e
-EndsUpTo limit s first headers (Err (chain_error.TooMany told number offset)) =
-    EndsAtLimit limit s first headers (chain_error.TooMany told number offset)
+    EndsIncomplete s first headers e × (length headers < limit)
+EndsUpTo limit s first headers (Err e) = EndsAtLimit limit s first headers e
 
--- Walking with a limit: the answer after all extension headers of the slice that can be skipped, or
--- at the first incomplete one, or at the first one above the limit.
+-- walking with a limit: the answer where the walk ends, past some headers
 pub record WalksUpTo (limit : ℕ) (s : List ℕ) (first : ℕ) (answer : LimitedWalkAnswer)
     : Type 0 where
   pub headers : List (List ℕ)
   pub ends : EndsUpTo limit s first headers answer
-
--- the answer of a walk without a limit, its error inside a `Len`
-abbrev pub with_error_in_len : WalkAnswer → LimitedWalkAnswer
-with_error_in_len answer = result_map_both (λ x. x) (λ e. chain_error.Len e) answer
-
--- where the header starts at which a walk with a limit was given up
-abbrev pub chain_error_offset : ChainError → ℕ
-chain_error_offset (chain_error.Len e) = e.layer_start_offset
-chain_error_offset (chain_error.TooMany limit number offset) = offset
-
--- the error of a walk behind a chain of so many headers as that of a walk of the whole
-abbrev pub chain_error_moved_behind : ℕ → ℕ → ChainError → ChainError
-chain_error_moved_behind skipped offset (chain_error.Len e) =
-    chain_error.Len (len_error_moved offset e)
-chain_error_moved_behind skipped offset (chain_error.TooMany limit number layer_start_offset) =
-    chain_error.TooMany (skipped + limit) number (layer_start_offset + offset)
-
--- the answer of such a walk as that of a walk of the whole
-abbrev pub limited_walk_answer_moved : ℕ → ℕ → LimitedWalkAnswer → LimitedWalkAnswer
-limited_walk_answer_moved skipped offset answer =
-    result_map_both (λ x. x) (λ e. chain_error_moved_behind skipped offset e) answer

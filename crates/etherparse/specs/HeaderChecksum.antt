@@ -6,26 +6,22 @@ use Rattle.etherparse.specs.Ipv4Header.{IsIpv4Layout, IsIpv4LayoutWith, ipv4_hea
 use Rattle.etherparse.specs.Reading.{BeginsWith}
 use Rattle.etherparse.specs.declared.net.ipv4_header.Ipv4Header.{Ipv4Header}
 
--- the same bytes with 0 for the checksum field: bytes 10 and 11
-abbrev pub with_checksum_cleared : List ℕ → List ℕ
-with_checksum_cleared bytes = slice_set (slice_set bytes 10 0) 11 0
-
--- the complement of the ones-complement sum of a header's words, with its checksum field as 0
-abbrev pub header_checksum_of : List ℕ → ℕ
-header_checksum_of bytes = checksum_of (network_order_word_sum (with_checksum_cleared bytes))
-
 -- the same bytes with a part of them overwritten, from an offset on
 abbrev pub with_part : ℕ → List ℕ → List ℕ → List ℕ
 with_part offset [] bytes = bytes
 with_part offset (byte ∷ part) bytes = with_part (offset + 1) part (slice_set bytes offset byte)
 
--- the same bytes with another field, from an offset on, and another checksum: bytes 10 and 11
+-- the checksum of a header's words, with 0 for its checksum field: bytes 10 and 11
+abbrev pub header_checksum_of : List ℕ → ℕ
+header_checksum_of bytes = checksum_of (network_order_word_sum (with_part 10 (0 ∷ 0 ∷ []) bytes))
+
+-- the same bytes with another field, from an offset on, and another checksum
 abbrev pub with_field_and_checksum : ℕ → List ℕ → ℕ → List ℕ → List ℕ
 with_field_and_checksum offset field checksum bytes =
     with_part 10 (to_be_bytes w16 checksum) (with_part offset field bytes)
 
--- What a changed header keeps of its checksum, with either reserved bit: the computed one is
--- computed again, and a receiver finds it right where it was right before.
+-- with either reserved bit, a checksum that was computed is so after a change, and a receiver finds
+-- it right where it was right before
 pub record KeepsChecksum (old new : Ipv4Header) : Type 0 where
   pub stays_computed : (reserved : ℕ) (before after : List ℕ)
       → IsIpv4LayoutWith old reserved before → IsIpv4LayoutWith new reserved after
@@ -35,8 +31,7 @@ pub record KeepsChecksum (old new : Ipv4Header) : Type 0 where
       → IsIpv4LayoutWith old reserved before → IsIpv4LayoutWith new reserved after
       → SumsToAllOnes before ↔ SumsToAllOnes after
 
--- The changed packet begins with this header and the rest, and the header's bytes sum to all ones
--- exactly where those of the packet did.
+-- the changed packet begins with this header and the rest, and its checksum is as right as before
 pub record BecomesPacketOf (packet changed : List ℕ) (header : Ipv4Header) (rest : List ℕ)
     : Type 0 where
   pub begins : BeginsWith IsIpv4Layout changed header rest

@@ -17,7 +17,8 @@ use Rattle.etherparse_fields.specs.IpEcn.{ecn_value}
 use Rattle.etherparse_fields.specs.Ipv4Options.{IsOptionsLen}
 use Rattle.etherparse_fields.specs.declared.net.ip_ecn.IpEcn.TheVariants.{NotEct}
 use Rattle.etherparse.specs.FirstByte.{ihl_of, version_of}
-use Rattle.etherparse.specs.Reading.{HasFront, BeginsWith, HasOtherVersion, IsTooShort}
+use Rattle.etherparse.specs.Reading.{BeginsWith, HasOtherVersion, IsTooShort, Reads, Views}
+use Rattle.etherparse.specs.Reading.{too_short_error}
 use Rattle.etherparse.specs.declared.net.ipv4_header.Ipv4Header.{Ipv4Header}
 
 -- the length of a header in bytes: 20, and its options
@@ -28,11 +29,8 @@ ipv4_header_len header = 20 + length header.options
 abbrev pub ipv4_ihl : Ipv4Header → ℕ
 ipv4_ihl header = 5 + length header.options / 4
 
--- The bytes of a header, in network byte order: the version, which is 4, with the IHL; the DSCP
--- with the ECN; the total length; the identification; the flags (a reserved bit, don't fragment,
--- more fragments) with the fragment offset; the time to live; the protocol; the header checksum;
--- the source address; the destination address; the options. The reserved bit is no field of the
--- header: it is given apart.
+-- The bytes of a header, in network byte order. The first of the flags is reserved and no field of
+-- the header: it is given apart.
 pub record IsIpv4LayoutWith (header : Ipv4Header) (reserved : ℕ) (bytes : List ℕ) : Type 0 where
   pub len : length bytes ≡ ipv4_header_len header
   pub are_bytes : IsBytes bytes
@@ -67,61 +65,46 @@ OfIpv4Header bytes P = (header : Ipv4Header) → IsIpv4Layout header bytes → P
 abbrev pub with_reserved_bit_cleared : List ℕ → List ℕ
 with_reserved_bit_cleared bytes = slice_set bytes 6 (slice_index bytes 6 % 2 ^ 7)
 
--- bytes that agree in all but the reserved bit
-abbrev pub AgreeButForReservedBit : List ℕ → List ℕ → Type 0
-AgreeButForReservedBit p q = with_reserved_bit_cleared p ≡ with_reserved_bit_cleared q
-
--- the IHL is below that of a header with no options
-pub record HasSmallIhl (s : List ℕ) (ihl : ℕ) : Type 0 where
+-- the slice is not shorter than any header, and its version is 4
+pub record HasIhl (s : List ℕ) : Type 0 where
   pub enough : 20 ≤ length s
   pub version : version_of s ≡ 4
-  pub small : ihl_of s < 5
-  pub found : ihl ≡ ihl_of s
 
--- the slice is shorter than its IHL says
-pub record EndsBeforeIhl (s : List ℕ) (e : LenError) : Type 0 where
-  pub enough : 20 ≤ length s
-  pub version : version_of s ≡ 4
-  pub ihl : 5 ≤ ihl_of s
-  pub short : IsTooShort layer.Ipv4Header (4 * ihl_of s) s e
-
--- Why the front of a slice is no header: it is shorter than any header; or else its version is not
--- 4; or else its IHL is too small; or else it is shorter than the IHL says.
+-- Why the front of a slice is no header: it is shorter than any; or else its version is not 4; or
+-- else its IHL is too small; or else it is shorter than the IHL says.
 abbrev pub RefusesIpv4 : List ℕ → error.HeaderSliceError → Type 0
-RefusesIpv4 s (slice.Len e) = IsTooShort layer.Ipv4Header 20 s e ⊎ EndsBeforeIhl s e
+RefusesIpv4 s (slice.Len e) = IsTooShort layer.Ipv4Header 20 s e
+    ⊎ (HasIhl s × (5 ≤ ihl_of s) × IsTooShort layer.Ipv4Header (4 * ihl_of s) s e)
 RefusesIpv4 s (slice.Content (content.UnexpectedVersion version)) = HasOtherVersion 20 4 s version
-RefusesIpv4 s (slice.Content (content.HeaderLengthSmallerThanHeader ihl)) = HasSmallIhl s ihl
+RefusesIpv4 s (slice.Content (content.HeaderLengthSmallerThanHeader ihl)) =
+    HasIhl s × (ihl_of s < 5) × (ihl ≡ ihl_of s)
 
 -- a header and the bytes after it, or why there is no header
 abbrev pub Ipv4Reading : Type 0
 Ipv4Reading = Result (Ipv4Header × List ℕ) error.HeaderSliceError
 
--- Reading: the front of the slice is this header, and the rest follows; or why there is none.
 abbrev pub ReadsIpv4 : List ℕ → Ipv4Reading → Type 0
-ReadsIpv4 s (Ok x) = BeginsWith IsIpv4Layout s x.0 x.1
-ReadsIpv4 s (Err e) = RefusesIpv4 s e
+ReadsIpv4 s reading = Reads IsIpv4Layout RefusesIpv4 s reading
 
 -- The reading of a slice has this answer, and no other.
 pub record IsIpv4ReadingOf (s : List ℕ) (answer : Ipv4Reading) : Type 0 where
   pub reads : ReadsIpv4 s answer
   pub only : (other : Ipv4Reading) → ReadsIpv4 s other → other ≡ answer
-  -- What was read is written again, with the reserved bit 0.
+  -- what was read is written again, with the reserved bit 0
   pub cleared : IfOk answer (λ x. (front : List ℕ) → s ≡ front ++ x.1
       → IsIpv4LayoutWith x.0 0 (with_reserved_bit_cleared front))
-  -- Of bytes that have a header, it is the same exactly where they agree in all but that bit.
+  -- of bytes that have a header, it is the same exactly where they agree in all but that bit
   pub same_header : IfOk answer (λ x. (front : List ℕ) → s ≡ front ++ x.1 → (bytes : List ℕ)
-      → OfIpv4Header bytes (λ header. (header ≡ x.0) ↔ AgreeButForReservedBit bytes front))
-  -- A packet that is cut behind the header begins with it still.
+      → OfIpv4Header bytes (λ header. (header ≡ x.0)
+      ↔ (with_reserved_bit_cleared bytes ≡ with_reserved_bit_cleared front)))
+  -- a packet that is cut behind the header begins with it still
   pub cut : IfOk answer (λ x. (n : ℕ) → n ≤ length x.1
       → BeginsWith IsIpv4Layout (take (ipv4_header_len x.0 + n) s) x.0 (take n x.1))
 
--- Viewing: this front of the slice is a header; or why there is none.
 abbrev pub ViewsIpv4 : List ℕ → Result (List ℕ) error.HeaderSliceError → Type 0
-ViewsIpv4 s (Ok front) = HasFront IsIpv4Layout s front
-ViewsIpv4 s (Err e) = RefusesIpv4 s e
+ViewsIpv4 s front = Views IsIpv4Layout RefusesIpv4 s front
 
--- The header that is made with no field given. Don't fragment is set, and the protocol is 255,
--- which is reserved; all else is 0, false or empty.
+-- the header that is made with no field given; protocol 255 is reserved
 abbrev pub default_ipv4_header : Ipv4Header
 default_ipv4_header = record {
   dscp = 0;
@@ -139,7 +122,7 @@ default_ipv4_header = record {
   options = [];
 }
 
--- the longest payload after a header, in bytes: the total length has 16 bits, and counts the header
+-- the longest payload after a header, in bytes, since the total length counts both
 abbrev pub ipv4_max_payload_len : Ipv4Header → ℕ
 ipv4_max_payload_len header = 65535 - ipv4_header_len header
 
@@ -148,12 +131,8 @@ abbrev pub payload_len_of : ℕ → ℕ → Result ℕ LenError
 payload_len_of header_len total_len =
     if nat_le header_len total_len
     then Ok (total_len - header_len)
-    else Err (record {
-      required_len = header_len;
-      len = total_len;
+    else Err (record (too_short_error layer.Ipv4Packet header_len total_len) {
       len_source = Ipv4HeaderTotalLen;
-      layer = layer.Ipv4Packet;
-      layer_start_offset = 0;
     })
 
 -- the length of the payload after a header

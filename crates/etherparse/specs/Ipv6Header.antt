@@ -10,12 +10,10 @@ use Rattle.etherparse_base.specs.declared.err.ipv6.header_slice_error.HeaderSlic
 use Rattle.etherparse_base.specs.declared.err.ipv6.header_slice_error.HeaderSliceError.TheVariants
     as slice
 use Rattle.etherparse.specs.ExtensionHeaderChain.{BeginsWithChain, IsExtensionHeaderChain}
-use Rattle.etherparse.specs.Reading.{HasFront, BeginsWith, HasOtherVersion, IsTooShort}
+use Rattle.etherparse.specs.Reading.{BeginsWith, HasOtherVersion, IsTooShort, Reads, Views}
 use Rattle.etherparse.specs.declared.net.ipv6_header.Ipv6Header.{Ipv6Header}
 
--- The 40 bytes of a header, in network byte order: the version, which is 6, with the traffic class
--- and the flow label; the payload length; the next header; the hop limit; the source address; the
--- destination address.
+-- the 40 bytes of a header, in network byte order
 pub record IsIpv6Layout (header : Ipv6Header) (bytes : List ℕ) : Type 0 where
   pub len : length bytes ≡ 40
   pub are_bytes : IsBytes bytes
@@ -42,10 +40,8 @@ RefusesIpv6 s (slice.Content (content.UnexpectedVersion version)) = HasOtherVers
 abbrev pub Ipv6Reading : Type 0
 Ipv6Reading = Result (Ipv6Header × List ℕ) error.HeaderSliceError
 
--- Reading: the front of the slice is this header, and the rest follows; or why there is none.
 abbrev pub ReadsIpv6 : List ℕ → Ipv6Reading → Type 0
-ReadsIpv6 s (Ok x) = BeginsWith IsIpv6Layout s x.0 x.1
-ReadsIpv6 s (Err e) = RefusesIpv6 s e
+ReadsIpv6 s reading = Reads IsIpv6Layout RefusesIpv6 s reading
 
 -- the packet is an IPv6 header, a chain of the extension headers after it, and the rest after them
 pub record HasIpv6Chain (packet : List ℕ) (header : Ipv6Header) (headers : List (List ℕ))
@@ -59,21 +55,18 @@ pub record HasIpv6Chain (packet : List ℕ) (header : Ipv6Header) (headers : Lis
 pub record IsIpv6ReadingOf (s : List ℕ) (answer : Ipv6Reading) : Type 0 where
   pub reads : ReadsIpv6 s answer
   pub only : (other : Ipv6Reading) → ReadsIpv6 s other → other ≡ answer
-  -- With a chain of extension headers behind the header, the slice is the header, the chain and
-  -- what is left.
+  -- with a chain of extension headers behind it, the slice is the header, the chain and a rest
   pub chain : IfOk answer (λ x. (headers : List (List ℕ)) (last : ℕ) (rest : List ℕ)
       → BeginsWithChain x.1 x.0.next_header headers last rest
       → HasIpv6Chain s x.0 headers last rest)
-  -- A packet that is cut behind the header begins with it still.
+  -- a packet that is cut behind the header begins with it still
   pub cut : IfOk answer (λ x. (n : ℕ) → n ≤ length x.1
       → BeginsWith IsIpv6Layout (take (40 + n) s) x.0 (take n x.1))
 
--- Viewing: this front of the slice is a header; or why there is none.
 abbrev pub ViewsIpv6 : List ℕ → Result (List ℕ) error.HeaderSliceError → Type 0
-ViewsIpv6 s (Ok front) = HasFront IsIpv6Layout s front
-ViewsIpv6 s (Err e) = RefusesIpv6 s e
+ViewsIpv6 s front = Views IsIpv6Layout RefusesIpv6 s front
 
--- the header that is made with no field given: all is 0, but for the next header, which is reserved
+-- the header that is made with no field given; next header 255 is reserved
 abbrev pub default_ipv6_header : Ipv6Header
 default_ipv6_header = record {
   traffic_class = 0;

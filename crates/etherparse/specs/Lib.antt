@@ -2,12 +2,9 @@ pub mod ExtensionHeaderChain
 pub mod FirstByte
 pub mod HeaderChecksum
 pub mod Ipv4Header
-pub mod Ipv4HeaderSlice
 pub mod Ipv6Header
 pub mod Ipv6HeaderFields
-pub mod Ipv6HeaderSlice
 pub mod Reading
-pub mod TrafficClass
 pub use Rattle.etherparse_base.specs.Bytes
 pub use Rattle.etherparse_base.specs.IpErrors
 pub use Rattle.etherparse_base.specs.Ipv4Errors

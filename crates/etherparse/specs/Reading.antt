@@ -7,19 +7,31 @@ use Rattle.etherparse_base.specs.declared.err.len_error.LenError.{LenError}
 use Rattle.etherparse_base.specs.declared.len_source.LenSource.TheVariants.{Slice}
 use Rattle.etherparse.specs.FirstByte.{version_of}
 
--- reading: the slice is a front in the layout of the header, and the rest after it
+-- the slice is a front in the layout of the header, and the rest after it
 pub record BeginsWith {H : Type 0} (Layout : H → List ℕ → Type 0) (s : List ℕ) (header : H)
     (rest : List ℕ) : Type 0 where
   pub front : List ℕ
   pub whole : s ≡ front ++ rest
   pub layout : Layout header front
 
--- viewing: the slice begins with this front, which is in the layout of a header
+-- reading in a layout: the slice begins with this header, and the rest follows; or it is refused
+abbrev pub Reads : {H E : Type 0} → (H → List ℕ → Type 0) → (List ℕ → E → Type 0) → List ℕ
+    → Result (H × List ℕ) E → Type 0
+Reads Layout Refuses s (Ok x) = BeginsWith Layout s x.0 x.1
+Reads Layout Refuses s (Err e) = Refuses s e
+
+-- the slice begins with this front, which is in the layout of a header
 pub record HasFront {H : Type 0} (Layout : H → List ℕ → Type 0) (s front : List ℕ) : Type 0 where
   pub header : H
   pub rest : List ℕ
   pub whole : s ≡ front ++ rest
   pub layout : Layout header front
+
+-- viewing in a layout: this front of the slice is a header; or it is refused
+abbrev pub Views : {H E : Type 0} → (H → List ℕ → Type 0) → (List ℕ → E → Type 0) → List ℕ
+    → Result (List ℕ) E → Type 0
+Views Layout Refuses s (Ok front) = HasFront Layout s front
+Views Layout Refuses s (Err e) = Refuses s e
 
 -- the error of a slice that is shorter than the layer needs
 abbrev pub too_short_error : Layer → ℕ → ℕ → LenError
@@ -35,13 +47,6 @@ too_short_error layer required_len len = record {
 pub record IsTooShort (layer : Layer) (required_len : ℕ) (s : List ℕ) (e : LenError) : Type 0 where
   pub short : length s < required_len
   pub error : e ≡ too_short_error layer required_len (length s)
-
--- Reading of a header that always has so many bytes, for a layer above: the front of the slice is
--- this header, and the rest follows; or the slice is too short.
-abbrev pub ReadsFixed : {H : Type 0} → (H → List ℕ → Type 0) → Layer → ℕ → List ℕ
-    → Result (H × List ℕ) LenError → Type 0
-ReadsFixed Layout layer len s (Ok x) = BeginsWith Layout s x.0 x.1
-ReadsFixed Layout layer len s (Err e) = IsTooShort layer len s e
 
 -- the slice has the least length of a header, and is refused since its version is another one
 pub record HasOtherVersion (min_len expected : ℕ) (s : List ℕ) (version : ℕ) : Type 0 where

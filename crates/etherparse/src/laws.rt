@@ -1,10 +1,8 @@
 //! Laws of the derived equality and clones of headers and views, and of the parts of the traffic
 //! class, which no clause of one call alone says. Nothing calls them: they are there to be proved.
 
-ghost use Rattle.std.specs.Prelude.{◌≡◌, ◌↔◌, IsTrue, Ok};
+ghost use Rattle.std.specs.Prelude.{◌≡◌, ◌+◌, ◌*◌, ◌/◌, ◌%◌, ◌^◌, ◌↔◌, IsTrue, Ok};
 ghost use Rattle.etherparse_fields.specs.IpEcn.{ecn_value};
-ghost use Rattle.etherparse.specs.TrafficClass.{traffic_class_dscp, traffic_class_ecn};
-ghost use Rattle.etherparse.specs.TrafficClass.{traffic_class_of};
 
 use crate::{IpDscp, IpEcn, Ipv4Header, Ipv4HeaderSlice, Ipv6Header, Ipv6HeaderSlice};
 use std::alloc::AllocError;
@@ -37,13 +35,13 @@ fn ipv6_view_equality(view: &Ipv6HeaderSlice, other: &Ipv6HeaderSlice) -> bool
 
 // The traffic class is put together of its parts, and setting one part keeps the other.
 fn traffic_class_parts(header: &Ipv6Header) -> (IpDscp, IpEcn)
-    ensures sum { header.now.traffic_class ≡ traffic_class_of result.0 (ecn_value result.1) }
+    ensures sum { header.now.traffic_class ≡ result.0 * 2 ^ 2 + ecn_value result.1 }
 {
     (header.dscp(), header.ecn())
 }
 
 fn ecn_set(header: &mut Ipv6Header, ecn: IpEcn) -> (IpDscp, IpEcn)
-    ensures kept { result.0 ≡ traffic_class_dscp header.old.traffic_class }
+    ensures kept { result.0 ≡ header.old.traffic_class / 2 ^ 2 }
     ensures set { result.1 ≡ ecn }
 {
     header.set_ecn(ecn);
@@ -52,7 +50,7 @@ fn ecn_set(header: &mut Ipv6Header, ecn: IpEcn) -> (IpDscp, IpEcn)
 
 fn dscp_set(header: &mut Ipv6Header, dscp: IpDscp) -> (IpDscp, IpEcn)
     ensures set { result.0 ≡ dscp }
-    ensures kept { ecn_value result.1 ≡ traffic_class_ecn header.old.traffic_class }
+    ensures kept { ecn_value result.1 ≡ header.old.traffic_class % 2 ^ 2 }
 {
     header.set_dscp(dscp);
     (header.dscp(), header.ecn())

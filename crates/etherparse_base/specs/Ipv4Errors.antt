@@ -1,16 +1,14 @@
 -- The errors of IPv4 headers and their options: their texts, and a header's error further on in a
 -- packet.
-use Rattle.std.specs.Prelude.{ℕ, ⊤, List, ◌++◌, codes}
+use Rattle.std.specs.Prelude.{ℕ, List, ◌++◌, codes}
 use Rattle.std.specs.Fmt.{decimal}
 use Rattle.etherparse_base.specs.declared.err.ipv4.bad_options_len.BadOptionsLen.{BadOptionsLen}
 use Rattle.etherparse_base.specs.declared.err.ipv4.header_error.HeaderError.{HeaderError}
 use Rattle.etherparse_base.specs.declared.err.ipv4.header_error.HeaderError.TheVariants as header
-use Rattle.etherparse_base.specs.declared.err.ipv4.header_slice_error.HeaderSliceError.{
-  HeaderSliceError,
-}
+use Rattle.etherparse_base.specs.declared.err.ipv4.header_slice_error.HeaderSliceError as error
 use Rattle.etherparse_base.specs.declared.err.ipv4.header_slice_error.HeaderSliceError.TheVariants
     as slice
-use Rattle.etherparse_base.specs.LenError.{HasRoomFor, len_error_moved, len_error_text}
+use Rattle.etherparse_base.specs.LenError.{len_error_moved, len_error_text}
 
 -- the text for options whose length cannot be
 abbrev pub bad_options_len_text : BadOptionsLen → List ℕ
@@ -30,16 +28,16 @@ ipv4_header_error_text (header.HeaderLengthSmallerThanHeader ihl) =
     ++ codes " The minimum allowed value is '5'.")
 
 -- a `HeaderSliceError` has the text of the error that it holds
-abbrev pub ipv4_header_slice_error_text : HeaderSliceError → List ℕ
+abbrev pub ipv4_header_slice_error_text : error.HeaderSliceError → List ℕ
 ipv4_header_slice_error_text (slice.Len e) = len_error_text e
 ipv4_header_slice_error_text (slice.Content e) = ipv4_header_error_text e
 
--- a length's place has to fit an index after so many bytes more; content has no place
-abbrev pub Ipv4HasRoomFor : ℕ → HeaderSliceError → Type 0
-Ipv4HasRoomFor offset (slice.Len e) = HasRoomFor offset e
-Ipv4HasRoomFor offset (slice.Content e) = ⊤
+-- where the error of a length says that its layer starts; one of content says no place
+abbrev pub ipv4_error_place : error.HeaderSliceError → ℕ
+ipv4_error_place (slice.Len e) = e.layer_start_offset
+ipv4_error_place (slice.Content e) = 0
 
 -- the error of a header that starts so many bytes further on
-abbrev pub ipv4_error_moved : ℕ → HeaderSliceError → HeaderSliceError
+abbrev pub ipv4_error_moved : ℕ → error.HeaderSliceError → error.HeaderSliceError
 ipv4_error_moved offset (slice.Len e) = slice.Len (len_error_moved offset e)
 ipv4_error_moved offset (slice.Content e) = slice.Content e

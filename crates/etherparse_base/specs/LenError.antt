@@ -1,5 +1,5 @@
 -- A length error: its text, and the same error further on in a packet.
-use Rattle.std.specs.Prelude.{ℕ, ◌+◌, ◌^◌, ◌<◌, List, [], ◌∷◌, ◌++◌}
+use Rattle.std.specs.Prelude.{ℕ, ◌+◌, List, [], ◌∷◌, ◌++◌}
 use Rattle.std.specs.Prelude.{codes, nat_lt, if◌then◌else◌}
 use Rattle.std.specs.Fmt.{decimal}
 use Rattle.std.specs.List.{concat}
@@ -7,24 +7,16 @@ use Rattle.etherparse_base.specs.declared.err.len_error.LenError.{LenError}
 use Rattle.etherparse_base.specs.Layer.{layer_text, layer_title}
 use Rattle.etherparse_base.specs.LenSource.{len_source_text}
 
--- there are fewer bytes than the layer needs
-abbrev pub not_enough_text : LenError → List ℕ
-not_enough_text e = concat (
-    layer_title e.layer ∷ codes ": Not enough data to decode '" ∷ layer_text e.layer ∷ codes "'. "
+-- what was needed or, where the length is not below that, what was allowed; and what was there
+abbrev pub lengths_text : LenError → List ℕ
+lengths_text e = if nat_lt e.len e.required_len then concat (layer_title e.layer
+    ∷ codes ": Not enough data to decode '" ∷ layer_text e.layer ∷ codes "'. "
     ∷ decimal e.required_len ∷ codes " byte(s) would be required, but only " ∷ decimal e.len
     ∷ codes " byte(s) are available based on the " ∷ len_source_text e.len_source ∷ [])
-
--- the length is not below the bound
-abbrev pub too_long_text : LenError → List ℕ
-too_long_text e = concat (
-    layer_title e.layer ∷ codes ": Length of " ∷ decimal e.len
+    else concat (layer_title e.layer ∷ codes ": Length of " ∷ decimal e.len
     ∷ codes " byte(s) is too big for an '" ∷ layer_text e.layer ∷ codes "' (maximum is "
     ∷ decimal e.required_len ∷ codes " bytes). The " ∷ len_source_text e.len_source
     ∷ codes " was used to determine the length" ∷ [])
-
--- what was needed or allowed, and what was there
-abbrev pub lengths_text : LenError → List ℕ
-lengths_text e = if nat_lt e.len e.required_len then not_enough_text e else too_long_text e
 
 -- where the layer starts in the data, which is left out at byte 0
 abbrev pub place_text : LenError → List ℕ
@@ -37,10 +29,6 @@ place_text e =
 -- the text of a length error
 abbrev pub len_error_text : LenError → List ℕ
 len_error_text e = lengths_text e ++ place_text e ++ codes "."
-
--- the layer's place fits an index of 64 bits after so many bytes more
-abbrev pub HasRoomFor : ℕ → LenError → Type 0
-HasRoomFor offset e = e.layer_start_offset + offset < 2 ^ 64
 
 -- the error of the same layer, which starts so many bytes further on
 abbrev pub len_error_moved : ℕ → LenError → LenError

@@ -2,22 +2,19 @@
 use Rattle.std.specs.Prelude.{ℕ, ◌≡◌, ◌<◌, ◌≤◌, List, [], ◌∷◌, codes, Result, Ok, Err}
 use Rattle.std.specs.Fmt.{decimal}
 use Rattle.std.specs.List.{concat}
-use Rattle.etherparse_base.specs.declared.err.value_too_big_error.ValueTooBigError.{
-  ValueTooBigError,
-}
+use Rattle.etherparse_base.specs.declared.err.value_too_big_error.ValueTooBigError as error
 use Rattle.etherparse_base.specs.declared.err.value_type.ValueType.{ValueType}
 use Rattle.etherparse_base.specs.ValueType.{value_type_text}
 
--- What is made of a value that may be too big: the number itself up to the greatest that is
--- allowed, and above it the error, which has both numbers and says what the value is.
+-- what is made of a value: its number up to the greatest that is allowed, and above it the error
 abbrev pub TakesUpTo :
-    {T : Type 0} → (T → ℕ) → ℕ → ValueType → ℕ → Result T (ValueTooBigError ℕ) → Type 0
+    {T : Type 0} → (T → ℕ) → ℕ → ValueType → ℕ → Result T (error.ValueTooBigError ℕ) → Type 0
 TakesUpTo number_of max value_type value (Ok x) = (value ≤ max) × (number_of x ≡ value)
 TakesUpTo number_of max value_type value (Err e) =
     (max < value) × (e ≡ record { actual = value; max_allowed = max; value_type = value_type })
 
 -- the text of the error, at each unsigned type
-abbrev pub value_too_big_error_text : ValueTooBigError ℕ → List ℕ
+abbrev pub value_too_big_error_text : error.ValueTooBigError ℕ → List ℕ
 value_too_big_error_text e = concat (
     codes "Error '" ∷ decimal e.actual ∷ codes "' is too big to be a '"
     ∷ value_type_text e.value_type ∷ codes "' (maximum allowed value is '" ∷ decimal e.max_allowed

@@ -4,8 +4,8 @@ use Rattle.std.specs.Prelude.{List, [], ◌∷◌, ◌++◌, if◌then◌else◌
 use Rattle.std.specs.Prelude.{slice_set, sum_by}
 use Rattle.std.specs.Int.{swap_bytes, w16}
 
--- The sum of two numbers of which none is above the greatest, with the end-around carry: what goes
--- beyond the greatest is added at the low end (RFC 1071 section 1).
+-- the sum of two numbers with the end-around carry: what goes beyond the greatest is added at the
+-- low end (RFC 1071 section 1)
 abbrev pub end_around_sum : ℕ → ℕ → ℕ → ℕ
 end_around_sum greatest a b = if nat_lt greatest (a + b) then a + b - greatest else a + b
 
@@ -21,23 +21,19 @@ weighted_byte_sum weight other [] = 0
 weighted_byte_sum weight other (byte ∷ bytes) =
     weight * byte + weighted_byte_sum other weight bytes
 
--- The sum of the words of two bytes, each with the low byte first (RFC 1071 section 2 (B)). An odd
--- last byte is the low byte of its word.
+-- the sum of the words of two bytes, the low byte first (RFC 1071 section 2 (B)), as is an odd one
 abbrev pub little_endian_word_sum : List ℕ → ℕ
 little_endian_word_sum bytes = weighted_byte_sum 1 256 bytes
 
--- The sum of the words of two bytes in network order, the high byte first (RFC 1071 section 1). An
--- odd last byte is the high byte of its word.
+-- the same in network order: the high byte first (RFC 1071 section 1), as is an odd one
 abbrev pub network_order_word_sum : List ℕ → ℕ
 network_order_word_sum bytes = weighted_byte_sum 256 1 bytes
 
--- the ones-complement sum of the words is all ones, by which a receiver tells that a checksum among
--- them is right (RFC 1071 section 1)
+-- the words sum to all ones, by which a receiver tells that a checksum among them is right
 abbrev pub SumsToAllOnes : List ℕ → Type 0
 SumsToAllOnes bytes = folded_sum (network_order_word_sum bytes) ≡ 65535
 
--- The ones-complement sum of the words of all pieces. Each piece begins with a word of its own, so
--- an odd piece is padded with 0.
+-- the ones-complement sum of the words of all pieces, each of which begins with a word of its own
 abbrev pub ones_complement_sum : List (List ℕ) → ℕ
 ones_complement_sum pieces = folded_sum (sum_by little_endian_word_sum pieces)
 
@@ -45,7 +41,7 @@ ones_complement_sum pieces = folded_sum (sum_by little_endian_word_sum pieces)
 abbrev pub checksum_of : ℕ → ℕ
 checksum_of sum = 65535 - folded_sum sum
 
--- a checksum that is never 0, which in UDP says that there is none: all ones stand for it (RFC 768)
+-- a checksum that is never 0, by which UDP says that there is none: all ones stand for 0 (RFC 768)
 abbrev pub with_no_zero : ℕ → ℕ
 with_no_zero zero = 65535
 with_no_zero (suc n) = suc n
@@ -54,27 +50,24 @@ with_no_zero (suc n) = suc n
 abbrev pub IsSumOf : ℕ → List ℕ → Type 0
 IsSumOf sum bytes = folded_sum sum ≡ folded_sum (little_endian_word_sum bytes)
 
--- In any longer sum the answer is as good as the words of the bytes and the start: adds one after
--- the other are told apart so, the last one first.
+-- in any longer sum the answer is as good as the words of the bytes and the start
 abbrev pub StandsForWords : ℕ → List ℕ → ℕ → Type 0
 StandsForWords start bytes answer = (n : ℕ)
     → folded_sum (n + answer) ≡ folded_sum (n + little_endian_word_sum bytes + start)
 
--- The checksum after a change of one word: the complement of the ones-complement sum of the old
--- checksum's complement, the old word's complement and the new word (RFC 1624 section 3,
--- equation 3).
+-- The checksum after a change of one word, from the complements of the old checksum and of the old
+-- word and from the new word (RFC 1624 section 3, equation 3).
 abbrev pub updated_checksum : ℕ → ℕ → ℕ → ℕ
-updated_checksum checksum old new =
-    checksum_of ((65535 - checksum) + (65535 - old) + new)
+updated_checksum checksum old new = checksum_of ((65535 - checksum) + (65535 - old) + new)
 
 -- the same after a change of some words at once, each of which is complemented
 abbrev pub updated_checksum_of_words : ℕ → ℕ → List ℕ → List ℕ → ℕ
 updated_checksum_of_words words checksum old new = checksum_of ((65535 - checksum)
     + (words * 65535 - network_order_word_sum old) + network_order_word_sum new)
 
--- What is known of a checksum that was updated where words that sum to the old number were changed
--- to words that sum to the new one. The checksum of a sum becomes that of the sum after the change;
--- and what a receiver sums, the checksum with the words, has the fold that it had.
+-- What is known of a checksum that was updated where words of the old sum became words of the new:
+-- the checksum of a sum becomes that of the sum after the change, and what a receiver sums, the
+-- checksum with the words, has the fold that it had.
 pub record UpdatesChecksum (checksum old new answer : ℕ) : Type 0 where
   pub anew : (sum : ℕ) → old ≤ sum → checksum ≡ checksum_of sum → 0 < sum - old + new
       → answer ≡ checksum_of (sum - old + new)
@@ -90,9 +83,8 @@ pub record ChangesOneByte (before after : List ℕ) : Type 0 where
   pub differs : byte ≢ slice_index before place
   pub changed : after ≡ slice_set before place byte
 
--- What is known of a sum to which the words of some bytes were added: its fold; from 0 also the sum
--- of the words in network order, and when it is all ones. Bytes that sum to all ones do not with one
--- of them changed.
+-- What is known of a sum to which the words of some bytes were added. Bytes that sum to all ones do
+-- not with one of them changed.
 pub record AddsSlice (start : ℕ) (bytes : List ℕ) (answer : ℕ) : Type 0 where
   pub sum : folded_sum answer ≡ folded_sum (start + little_endian_word_sum bytes)
   pub in_a_sum : StandsForWords start bytes answer
@@ -102,8 +94,8 @@ pub record AddsSlice (start : ℕ) (bytes : List ℕ) (answer : ℕ) : Type 0 wh
   pub one_byte : SumsToAllOnes bytes
       → (changed : List ℕ) → ChangesOneByte bytes changed → ¬ SumsToAllOnes changed
 
--- What is known of the sum of pieces: its fold. It is that of the pieces with two neighbours
--- exchanged too, with a piece cut behind an even number of bytes, and with two pieces joined there.
+-- What is known of the sum of pieces. It is that of the pieces with two neighbours exchanged too,
+-- with a piece cut behind an even number of bytes, and with two pieces joined there.
 pub record AddsSlices (pieces : List (List ℕ)) (answer : ℕ) : Type 0 where
   pub sum : folded_sum answer ≡ ones_complement_sum pieces
   pub exchanged : (before after : List (List ℕ)) (first second : List ℕ)
@@ -117,8 +109,8 @@ pub record AddsSlices (pieces : List (List ℕ)) (answer : ℕ) : Type 0 where
       → folded_sum answer ≡ ones_complement_sum (before ++ (front ++ back) ∷ after)
 
 -- What is known of the checksum of a sum. Each sum of this fold is all ones with the checksum among
--- its words. Of bytes whose sum it is, the checksum has its two bytes exchanged where their words are
--- read in network order, and is 0 exactly where these sum to all ones.
+-- its words; and of bytes whose sum it is, the checksum with its two bytes exchanged is that of the
+-- words in network order.
 pub record Complements (sum checksum : ℕ) : Type 0 where
   pub value : checksum ≡ checksum_of sum
   pub completes : (n : ℕ) → folded_sum n ≡ folded_sum sum → folded_sum (n + checksum) ≡ 65535

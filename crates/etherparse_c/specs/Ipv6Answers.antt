@@ -1,7 +1,6 @@
 -- What the calls on IPv6 headers answer to C.
-use Rattle.std.specs.Prelude.{ℕ, ◌≡◌, ◌-◌, ◌++◌, List, length, replicate, Result, Ok, Err}
+use Rattle.std.specs.Prelude.{ℕ, ◌≡◌, ◌-◌, ◌/◌, ◌%◌, ◌^◌, ◌++◌, List, length, replicate, Result, Ok, Err}
 use Rattle.etherparse.specs.Ipv6Header.{IsIpv6Layout, Ipv6Reading}
-use Rattle.etherparse.specs.TrafficClass.{traffic_class_dscp, traffic_class_ecn}
 use Rattle.etherparse.specs.declared.net.ipv6_header.Ipv6Header.{Ipv6Header}
 use Rattle.etherparse_c.specs.Answer.{no_rest, rest_of}
 use Rattle.etherparse_c.specs.Error.{ipv6_error_in_c, no_error}
@@ -25,8 +24,8 @@ ipv6_reading_in_c s (Err e) =
 abbrev pub ipv6_view_of : Ipv6Header → Ipv6View
 ipv6_view_of header = record {
   traffic_class = header.traffic_class;
-  dscp = traffic_class_dscp header.traffic_class;
-  ecn = traffic_class_ecn header.traffic_class;
+  dscp = header.traffic_class / 2 ^ 2;
+  ecn = header.traffic_class % 2 ^ 2;
   flow_label = header.flow_label;
   payload_length = header.payload_length;
   next_header = header.next_header;

@@ -1,8 +1,6 @@
 -- The differentiated services code points that are known by name, and their numbers.
 use Rattle.std.specs.Prelude.{ℕ, ◌≡◌, ◌≢◌, Result, Ok, Err}
-use Rattle.etherparse_base.specs.declared.err.ip.ip_dscp_unknown_value_error.IpDscpUnknownValueError.{
-  IpDscpUnknownValueError,
-}
+use Rattle.etherparse_base.specs.declared.err.ip.ip_dscp_unknown_value_error.IpDscpUnknownValueError as error
 use Rattle.etherparse_fields.specs.declared.net.ip_dscp_known.IpDscpKnown.{IpDscpKnown}
 use Rattle.etherparse_fields.specs.declared.net.ip_dscp_known.IpDscpKnown.TheVariants as known
 
@@ -38,12 +36,7 @@ code_point_of known.LowerEffort = 1
 abbrev pub IsUnknown : ℕ → Type 0
 IsUnknown number = (point : IpDscpKnown) → code_point_of point ≢ number
 
--- a number is taken as a known code point that has it; where none has it, the error has the number
-abbrev pub TakesKnown : ℕ → Result IpDscpKnown IpDscpUnknownValueError → Type 0
+-- a number is taken as the known code point that has it, or else refused by an error that has it
+abbrev pub TakesKnown : ℕ → Result IpDscpKnown error.IpDscpUnknownValueError → Type 0
 TakesKnown number (Ok point) = code_point_of point ≡ number
 TakesKnown number (Err e) = IsUnknown number × (e ≡ record { value = number })
-
--- each known code point that has the number is the answer, so that no two have it
-abbrev pub AnswersKnown : ℕ → Result IpDscpKnown IpDscpUnknownValueError → Type 0
-AnswersKnown number answer =
-    (point : IpDscpKnown) → code_point_of point ≡ number → answer ≡ Ok point

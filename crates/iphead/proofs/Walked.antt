@@ -31,7 +31,7 @@ fields_then_walk bytes front rest h (Ok status) old mid new whole layout a w =
     record {
       text = ipv6_lines h ++ w.text;
       outcome = record {
-        reading = Ok (record { header = h; rest = rest; walk = o.reading });
+        reading = Ok (h, rest, o.reading);
         reads = (record { front = front; whole = whole; layout = layout }, o.reads);
         outcome_of_it = ap (λ p. (p.0, ipv6_lines h ++ p.1)) o.outcome_of_it;
       };

@@ -51,8 +51,7 @@ true_or_false flag = if flag then codes "true" else codes "false"
 
 -- an IPv4 address: its four bytes in decimal, with dots between
 abbrev pub dotted : List ℕ → List ℕ
-dotted address =
-    decimal (slice_index address 0) ++ (codes "." ++ (decimal (slice_index address 1)
+dotted address = decimal (slice_index address 0) ++ (codes "." ++ (decimal (slice_index address 1)
     ++ (codes "." ++ (decimal (slice_index address 2)
     ++ (codes "." ++ decimal (slice_index address 3))))))
 
@@ -61,18 +60,13 @@ abbrev pub options_text : List ℕ → List ℕ
 options_text [] = codes "-"
 options_text (b ∷ bytes) = encode_lower (b ∷ bytes)
 
--- a number of sixteen bits in four hex digits
-abbrev pub hex_word : ℕ → List ℕ
-hex_word n = encode_lower (to_be_bytes w16 n)
-
 -- whether the fixed fields of a header and its options sum to all ones
 abbrev pub good_or_bad : List ℕ → List ℕ
-good_or_bad front =
-    if ones_complement_sum (take 20 front ∷ drop 20 front ∷ []) == 65535
+good_or_bad front = if ones_complement_sum (take 20 front ∷ drop 20 front ∷ []) == 65535
     then codes "good" else codes "bad"
 
 -- The fields of an IPv4 header; the checksum that it should have, and whether the bytes that were
--- read sum to all ones, in which the reserved bit counts; the number of bytes after it.
+-- read, with the reserved bit, sum to all ones; the number of bytes after it.
 abbrev pub ipv4_lines : Ipv4Header → List ℕ → ℕ → List ℕ
 ipv4_lines h front rest_len =
     line (codes "version") (decimal 4)
@@ -86,11 +80,12 @@ ipv4_lines h front rest_len =
     ++ (line (codes "fragment_offset") (decimal h.fragment_offset)
     ++ (line (codes "time_to_live") (decimal h.time_to_live)
     ++ (line (codes "protocol") (decimal h.protocol)
-    ++ (line (codes "header_checksum") (hex_word h.header_checksum)
+    ++ (line (codes "header_checksum") (encode_lower (to_be_bytes w16 h.header_checksum))
     ++ (line (codes "source") (dotted h.source)
     ++ (line (codes "destination") (dotted h.destination)
     ++ (line (codes "options") (options_text h.options)
-    ++ (line (codes "computed") (hex_word (header_checksum_of (with_reserved_bit_cleared front)))
+    ++ (line (codes "computed")
+    (encode_lower (to_be_bytes w16 (header_checksum_of (with_reserved_bit_cleared front))))
     ++ (line (codes "sum") (good_or_bad front)
     ++ line (codes "rest") (decimal rest_len)))))))))))))))))
 
@@ -100,10 +95,8 @@ Outcome = Status × List ℕ
 
 -- after an IPv6 header: the number of the upper layer, where its bytes start, how many they are
 abbrev pub upper_layer_lines : ℕ → ℕ → ℕ → List ℕ
-upper_layer_lines number place rest_len =
-    line (codes "upper") (decimal number)
-    ++ (line (codes "place") (decimal place)
-    ++ line (codes "rest") (decimal rest_len))
+upper_layer_lines number place rest_len = line (codes "upper") (decimal number)
+    ++ (line (codes "place") (decimal place) ++ line (codes "rest") (decimal rest_len))
 
 -- the greatest number of extension headers that are walked past
 abbrev pub max_extension_headers : ℕ
@@ -111,44 +104,38 @@ max_extension_headers = 32
 
 -- the outcome of the walk over so many bytes after an IPv6 header, from whose start places count
 abbrev pub walk_outcome : ℕ → LimitedWalkAnswer → Outcome
-walk_outcome len (Ok x) =
-    (Done, upper_layer_lines x.0 (40 + (len - length x.1)) (length x.1))
-walk_outcome len (Err e) = (Refused, error_line (chain_error_text (chain_error_moved 40 e)))
+walk_outcome len (Ok x) = (Done, upper_layer_lines x.0 (40 + (len - length x.1)) (length x.1))
+walk_outcome len (Err e) = (Refused, error_line (chain_error_text (chain_error_moved 0 40 e)))
 
--- what an IPv6 packet begins with: a header, what follows it, and the answer of the walk over that
-pub record Ipv6Front : Type 0 where
-  pub header : Ipv6Header
-  pub rest : List ℕ
-  pub walk : LimitedWalkAnswer
+-- an IPv6 header, what follows it, and the answer of the walk over that; or why there is no header
+abbrev pub Ipv6Packet : Type 0
+Ipv6Packet = Result (Ipv6Header × List ℕ × LimitedWalkAnswer) HeaderSliceError
 
--- reading an IPv6 packet and walking on; or why it has no header
-abbrev pub ReadsIpv6Packet : List ℕ → Result Ipv6Front HeaderSliceError → Type 0
-ReadsIpv6Packet packet (Ok front) = ReadsIpv6 packet (Ok (front.header, front.rest))
-    × WalksUpTo max_extension_headers front.rest front.header.next_header front.walk
+-- reading an IPv6 packet and walking on
+abbrev pub ReadsIpv6Packet : List ℕ → Ipv6Packet → Type 0
+ReadsIpv6Packet packet (Ok x) = ReadsIpv6 packet (Ok (x.0, x.1))
+    × WalksUpTo max_extension_headers x.1 x.0.next_header x.2
 ReadsIpv6Packet packet (Err e) = ReadsIpv6 packet (Err e)
 
 -- the outcome for an IPv6 packet: the fields of its header, and after them that of the walk
-abbrev pub ipv6_outcome : Result Ipv6Front HeaderSliceError → Outcome
-ipv6_outcome (Ok front) =
-    let walked = walk_outcome (length front.rest) front.walk in
-    (walked.0, ipv6_lines front.header ++ walked.1)
+abbrev pub ipv6_outcome : Ipv6Packet → Outcome
+ipv6_outcome (Ok x) =
+    let walked = walk_outcome (length x.1) x.2 in (walked.0, ipv6_lines x.0 ++ walked.1)
 ipv6_outcome (Err e) = (Refused, error_line (ipv6_header_slice_error_text e))
 
 -- the outcome for an IPv4 packet, of which the bytes that were read are shown too
 abbrev pub ipv4_outcome : List ℕ → Ipv4Reading → Outcome
-ipv4_outcome bytes (Ok x) =
-    (Done, ipv4_lines x.0 (take (ipv4_header_len x.0) bytes) (length x.1))
+ipv4_outcome bytes (Ok x) = (Done, ipv4_lines x.0 (take (ipv4_header_len x.0) bytes) (length x.1))
 ipv4_outcome bytes (Err e) = (Refused, error_line (ipv4_header_slice_error_text e))
 
 -- the outcome is that of a reading that the bytes have; there is one
-pub record Reports {R : Type 0} (Reads : R → Type 0) (outcome_of : R → Outcome)
-    (outcome : Outcome) : Type 0 where
+pub record Reports {R : Type 0} (Reads : R → Type 0) (outcome_of : R → Outcome) (outcome : Outcome)
+    : Type 0 where
   pub reading : R
   pub reads : Reads reading
   pub outcome_of_it : outcome ≡ outcome_of reading
 
--- The bytes that the digits stand for are read as IPv6 where their version is 6, and else, also
--- where there are none, as IPv4.
+-- bytes are read as IPv6 where their version is 6, and else, also where there are none, as IPv4
 abbrev pub ReportsBytes : Result (List ℕ) FromHexError → Outcome → Type 0
 ReportsBytes (Ok bytes) outcome = MatchBool (version_of bytes == 6)
     (Reports (ReadsIpv6Packet bytes) ipv6_outcome outcome)

@@ -1,10 +1,9 @@
 -- What a packet filter asks of a packet.
-use Rattle.std.specs.Prelude.{ℕ, ◌≡◌, ◌≢◌, ◌<◌, ◌≤◌, ◌⊎◌, List, length, slice_range}
+use Rattle.std.specs.Prelude.{ℕ, ◌≡◌, ◌≢◌, ◌<◌, ◌≤◌, ◌/◌, ◌^◌, ◌⊎◌, List, length, slice_range}
 use Rattle.std.specs.Int.{from_be_bytes, w16}
 use Rattle.etherparse.specs.Ipv4Header.{IsIpv4Layout, IsFragment}
 use Rattle.etherparse.specs.Ipv6Header.{IsIpv6Layout, RefusesIpv6}
 use Rattle.etherparse.specs.Reading.{BeginsWith}
-use Rattle.etherparse.specs.TrafficClass.{traffic_class_dscp}
 use Rattle.etherparse.specs.declared.err.ipv6.HeaderSliceError.{HeaderSliceError}
 use Rattle.etherparse.specs.declared.net.ipv4_header.Ipv4Header.{Ipv4Header}
 use Rattle.etherparse.specs.declared.net.ipv6_header.Ipv6Header.{Ipv6Header}
@@ -33,7 +32,7 @@ pub record IsIpv4For (class : ℕ) (address : List ℕ) (header : Ipv4Header) : 
 
 -- an IPv6 header of this DSCP and destination
 pub record IsIpv6For (class : ℕ) (address : List ℕ) (header : Ipv6Header) : Type 0 where
-  pub dscp : traffic_class_dscp header.traffic_class ≡ class
+  pub dscp : header.traffic_class / 2 ^ 2 ≡ class
   pub destination : header.destination ≡ address
 
 -- the packet begins with an IPv6 header of which the fact holds

@@ -2,7 +2,7 @@
 use Rattle.std.specs.Prelude.{ℕ, ◌≡◌, List, [], ◌∷◌, ◌++◌, length, slice_range, Result}
 use Rattle.std.specs.Int.{from_be_bytes, to_be_bytes, w16, w32}
 use Rattle.etherparse.specs.Bytes.{IsBytes}
-use Rattle.etherparse.specs.Reading.{ReadsFixed}
+use Rattle.etherparse.specs.Reading.{IsTooShort, Reads}
 use Rattle.etherparse.specs.declared.err.LenError.{LenError}
 use Rattle.etherparse.specs.declared.err.Layer.TheVariants as layer
 use Rattle.etherparse.specs.declared.net.ipv4_header.Ipv4Header.{Ipv4Header}
@@ -25,7 +25,7 @@ UdpReading = Result (UdpHeader × List ℕ) LenError
 
 -- reading: the front of the slice is this header, and the rest follows; or the slice is too short
 abbrev pub ReadsUdp : List ℕ → UdpReading → Type 0
-ReadsUdp s reading = ReadsFixed IsUdpLayout layer.UdpHeader 8 s reading
+ReadsUdp s reading = Reads IsUdpLayout (IsTooShort layer.UdpHeader 8) s reading
 
 -- What the checksum is over: the addresses, a byte 0, the number of UDP, the length, the datagram.
 abbrev pub udp_pieces_v4 : Ipv4Header → ℕ → List ℕ → List ℕ → List (List ℕ)

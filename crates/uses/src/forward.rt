@@ -1,13 +1,12 @@
 //! A forwarder: headers that are read, changed and written.
 
-ghost use Rattle.std.specs.Prelude.{ℕ, ◌≡◌, ◌+◌, List, ◌++◌, length, IfErr, IfNone, IfOk, IfSome};
-ghost use Rattle.std.specs.Prelude.{OnErr};
+ghost use Rattle.std.specs.Prelude.{ℕ, ◌≡◌, ◌+◌, ◌*◌, ◌/◌, ◌^◌, List, ◌++◌, length};
+ghost use Rattle.std.specs.Prelude.{IfErr, IfNone, IfOk, IfSome, OnErr};
 ghost use Rattle.std.specs.Bool.{OnFalse, OnTrue};
 ghost use Rattle.etherparse.specs.Ipv4Header.{IsIpv4Layout, RefusesIpv4};
 ghost use Rattle.etherparse.specs.Ipv4Header.{with_reserved_bit_cleared};
 ghost use Rattle.etherparse.specs.Ipv6Header.{IsIpv6Layout, RefusesIpv6};
 ghost use Rattle.etherparse.specs.Reading.{BeginsWith};
-ghost use Rattle.etherparse.specs.TrafficClass.{traffic_class_dscp, traffic_class_of};
 ghost use Rattle.etherparse.specs.declared.net.ipv4_header.Ipv4Header.{Ipv4Header as Header4};
 ghost use Rattle.etherparse.specs.declared.net.ipv6_header.Ipv6Header.{Ipv6Header as Header6};
 ghost use Rattle.uses.specs.Forward.{IsForwardedInPlace, IsForwardedIpv4};
@@ -131,9 +130,9 @@ pub fn announce_hundred_bytes(header: &mut Ipv4Header)
 /// capable of it, so that the ECN was not `NotEct`, is for the caller to test first (RFC 3168
 /// section 5).
 pub fn mark_congestion(header: &mut Ipv6Header) -> IpDscp
-    ensures class { result ≡ traffic_class_dscp header.old.traffic_class }
+    ensures class { result ≡ header.old.traffic_class / 2 ^ 2 }
     ensures set { header.new ≡ record header.old {
-      traffic_class = traffic_class_of result 3;
+      traffic_class = result * 2 ^ 2 + 3;
     } }
 {
     header.set_ecn(IpEcn::CongestionExperienced);

@@ -1,9 +1,8 @@
 //! A reader of IPv6 headers by their views: each getter answers the field of the view's header.
 
-ghost use Rattle.std.specs.Prelude.{◌≡◌, length, slice_index};
+ghost use Rattle.std.specs.Prelude.{◌≡◌, ◌/◌, ◌%◌, ◌^◌, length, slice_index};
 ghost use Rattle.etherparse.specs.IpEcn.{ecn_value};
 ghost use Rattle.etherparse.specs.Ipv6Header.{IsIpv6Layout};
-ghost use Rattle.etherparse.specs.TrafficClass.{traffic_class_dscp, traffic_class_ecn};
 
 use etherparse::{IpDscp, IpEcn, IpNumber, Ipv6FlowLabel, Ipv6Header, Ipv6HeaderSlice};
 
@@ -17,7 +16,7 @@ pub fn traffic_class(view: &Ipv6HeaderSlice) -> (u8, Ipv6Header)
 
 /// The explicit congestion notification, beside the header.
 pub fn ecn(view: &Ipv6HeaderSlice) -> (IpEcn, Ipv6Header)
-    ensures field { ecn_value result.0 ≡ traffic_class_ecn result.1.traffic_class }
+    ensures field { ecn_value result.0 ≡ result.1.traffic_class % 2 ^ 2 }
     ensures header { IsIpv6Layout result.1 view.now.slice.now }
 {
     (view.ecn(), view.to_header())
@@ -25,7 +24,7 @@ pub fn ecn(view: &Ipv6HeaderSlice) -> (IpEcn, Ipv6Header)
 
 /// The differentiated services code point, beside the header.
 pub fn dscp(view: &Ipv6HeaderSlice) -> (IpDscp, Ipv6Header)
-    ensures field { result.0 ≡ traffic_class_dscp result.1.traffic_class }
+    ensures field { result.0 ≡ result.1.traffic_class / 2 ^ 2 }
     ensures header { IsIpv6Layout result.1 view.now.slice.now }
 {
     (view.dscp(), view.to_header())

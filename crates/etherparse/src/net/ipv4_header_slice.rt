@@ -29,10 +29,10 @@ impl<'a> Ipv4HeaderSlice<'a> {
     ghost use Rattle.std.specs.Prelude.{ℕ, ◌≡◌, ◌%◌, ◌≤◌, ◌↔◌, List, Result, IsOkAnd, IsTrue};
     ghost use Rattle.std.specs.Prelude.{drop, length, slice_index, slice_range};
     ghost use Rattle.std.specs.Int.{from_be_bytes, w16};
+    ghost use Rattle.std.specs.Result.{result_map_both};
     ghost use Rattle.etherparse.specs.Ipv4Header.{IsIpv4Layout, IsFragment, IsIpv4LayoutWith};
     ghost use Rattle.etherparse.specs.Ipv4Header.{OfIpv4Header, ViewsIpv4, ipv4_ihl};
     ghost use Rattle.etherparse.specs.Ipv4Header.{ipv4_payload_len, with_reserved_bit_cleared};
-    ghost use Rattle.etherparse.specs.Ipv4HeaderSlice.{ipv4_view_bytes};
     ghost use Rattle.etherparse.specs.Reading.{BeginsWith};
     ghost use Rattle.etherparse.specs.declared.net.ipv4_header.Ipv4Header.{Ipv4Header as Header};
 
@@ -44,9 +44,9 @@ impl<'a> Ipv4HeaderSlice<'a> {
     /// not 4, or the IHL is below 5; `Len` where the slice has fewer bytes than the IHL says.
     #[inline(always)]
     pub fn from_slice(slice: &'a [u8]) -> Result<Ipv4HeaderSlice<'a>, HeaderSliceError>
-        ensures views { ViewsIpv4 slice.now (ipv4_view_bytes result) }
+        ensures views { ViewsIpv4 slice.now (result_map_both (λ view. view.slice.now) (λ e. e) result) }
         ensures only { (other : Result (List ℕ) HeaderSliceError) → ViewsIpv4 slice.now other →
-            other ≡ ipv4_view_bytes result }
+            other ≡ result_map_both (λ view. view.slice.now) (λ e. e) result }
         ensures shows { (header : Header) → (rest : List ℕ) →
             BeginsWith IsIpv4Layout slice.now header rest →
             IsOkAnd result (λ view. IsIpv4Layout header view.slice.now) }

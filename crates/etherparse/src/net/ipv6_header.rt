@@ -58,14 +58,12 @@ impl Model for Ipv6Header {
 }
 
 impl Ipv6Header {
-    ghost use Rattle.std.specs.Prelude.{ℕ, ◌≡◌, ◌+◌, ◌*◌, ◌^◌, ◌<◌, ◌≤◌, ◌↔◌};
+    ghost use Rattle.std.specs.Prelude.{ℕ, ◌≡◌, ◌+◌, ◌*◌, ◌/◌, ◌%◌, ◌^◌, ◌<◌, ◌≤◌, ◌↔◌};
     ghost use Rattle.std.specs.Prelude.{List, [], ◌∷◌, ◌++◌, IfErr, IsOk, Ok, OnErr, OnOk};
     ghost use Rattle.std.specs.Int.{to_be_bytes, w16, w32};
     ghost use Rattle.etherparse.specs.Ipv6Header.{IsIpv6Layout, IsIpv6ReadingOf, ReadsIpv6};
     ghost use Rattle.etherparse.specs.Ipv6Header.{ViewsIpv6};
     ghost use Rattle.etherparse.specs.Reading.{found_and_rest};
-    ghost use Rattle.etherparse.specs.TrafficClass.{traffic_class_dscp, traffic_class_ecn};
-    ghost use Rattle.etherparse.specs.TrafficClass.{traffic_class_of};
     ghost use Rattle.etherparse_fields.specs.IpEcn.{ecn_value};
 
     /// The length of every header, in bytes.
@@ -135,10 +133,11 @@ impl Ipv6Header {
         Ok(())
     }
 
-    /// The explicit congestion notification: the lower 2 bits of the traffic class.
+    /// The explicit congestion notification: the lower 2 bits of the traffic class (RFC 3168
+    /// section 5).
     #[inline]
     pub fn ecn(&self) -> IpEcn
-        ensures value { ecn_value result ≡ traffic_class_ecn self.now.traffic_class }
+        ensures value { ecn_value result ≡ self.now.traffic_class % 2 ^ 2 }
     {
         IpEcn::try_new(self.traffic_class & 0b11).unwrap()
     }
@@ -147,17 +146,17 @@ impl Ipv6Header {
     #[inline]
     pub fn set_ecn(&mut self, ecn: IpEcn)
         ensures set { self.new ≡ record self.old {
-          traffic_class = traffic_class_of (traffic_class_dscp self.old.traffic_class)
-              (ecn_value ecn);
+          traffic_class = self.old.traffic_class / 2 ^ 2 * 2 ^ 2 + ecn_value ecn;
         } }
     {
         self.traffic_class = (self.traffic_class & 0b1111_1100) | ecn.value();
     }
 
-    /// The differentiated services code point: the upper 6 bits of the traffic class.
+    /// The differentiated services code point: the upper 6 bits of the traffic class (RFC 2474
+    /// section 3).
     #[inline]
     pub fn dscp(&self) -> IpDscp
-        ensures value { result ≡ traffic_class_dscp self.now.traffic_class }
+        ensures value { result ≡ self.now.traffic_class / 2 ^ 2 }
     {
         IpDscp::try_new(self.traffic_class >> 2).unwrap()
     }
@@ -166,7 +165,7 @@ impl Ipv6Header {
     #[inline]
     pub fn set_dscp(&mut self, dscp: IpDscp)
         ensures set { self.new ≡ record self.old {
-          traffic_class = traffic_class_of dscp (traffic_class_ecn self.old.traffic_class);
+          traffic_class = dscp * 2 ^ 2 + self.old.traffic_class % 2 ^ 2;
         } }
     {
         self.traffic_class = (self.traffic_class & 0b11) | (dscp.value() << 2);

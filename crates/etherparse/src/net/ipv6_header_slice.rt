@@ -21,11 +21,10 @@ impl<'a> Ipv6HeaderSlice<'a> {
     ghost use Rattle.std.specs.Prelude.{ℕ, ◌≡◌, ◌+◌, ◌*◌, ◌/◌, ◌%◌, ◌^◌, List, Result, IsOkAnd};
     ghost use Rattle.std.specs.Prelude.{slice_index, slice_range};
     ghost use Rattle.std.specs.Int.{from_be_bytes, w16};
+    ghost use Rattle.std.specs.Result.{result_map_both};
     ghost use Rattle.etherparse.specs.Ipv6Header.{IsIpv6Layout, OfIpv6Header, ViewsIpv6};
-    ghost use Rattle.etherparse.specs.Ipv6HeaderSlice.{ipv6_view_bytes};
     ghost use Rattle.etherparse.specs.Reading.{BeginsWith};
     ghost use Rattle.etherparse.specs.declared.net.ipv6_header.Ipv6Header.{Ipv6Header as Header};
-    ghost use Rattle.etherparse.specs.TrafficClass.{traffic_class_dscp, traffic_class_ecn};
     ghost use Rattle.etherparse_fields.specs.IpEcn.{ecn_value};
 
     /// A view of the header at the front of a slice.
@@ -34,9 +33,9 @@ impl<'a> Ipv6HeaderSlice<'a> {
     ///
     /// `Len` where the slice has fewer than 40 bytes; else `Content` where the version is not 6.
     pub fn from_slice(slice: &'a [u8]) -> Result<Ipv6HeaderSlice<'a>, HeaderSliceError>
-        ensures views { ViewsIpv6 slice.now (ipv6_view_bytes result) }
+        ensures views { ViewsIpv6 slice.now (result_map_both (λ view. view.slice.now) (λ e. e) result) }
         ensures only { (other : Result (List ℕ) HeaderSliceError) → ViewsIpv6 slice.now other →
-            other ≡ ipv6_view_bytes result }
+            other ≡ result_map_both (λ view. view.slice.now) (λ e. e) result }
         ensures shows { (header : Header) → (rest : List ℕ) →
             BeginsWith IsIpv6Layout slice.now header rest →
             IsOkAnd result (λ view. IsIpv6Layout header view.slice.now) }
@@ -87,20 +86,22 @@ impl<'a> Ipv6HeaderSlice<'a> {
         (self.slice[0] & 0xf) * 16 + (self.slice[1] >> 4)
     }
 
-    /// The explicit congestion notification: the lower 2 bits of the traffic class.
+    /// The explicit congestion notification: the lower 2 bits of the traffic class (RFC 3168
+    /// section 5).
     #[inline]
     pub fn ecn(&self) -> IpEcn
         ensures value { OfIpv6Header self.now.slice.now (λ header.
-            ecn_value result ≡ traffic_class_ecn header.traffic_class) }
+            ecn_value result ≡ header.traffic_class % 2 ^ 2) }
     {
         IpEcn::try_new(self.traffic_class() & 0b11).unwrap()
     }
 
-    /// The differentiated services code point: the upper 6 bits of the traffic class.
+    /// The differentiated services code point: the upper 6 bits of the traffic class (RFC 2474
+    /// section 3).
     #[inline]
     pub fn dscp(&self) -> IpDscp
         ensures value { OfIpv6Header self.now.slice.now (λ header.
-            result ≡ traffic_class_dscp header.traffic_class) }
+            result ≡ header.traffic_class / 2 ^ 2) }
     {
         IpDscp::try_new(self.traffic_class() >> 2).unwrap()
     }

@@ -4,8 +4,7 @@ use Rattle.std.specs.Simd.Lanes.{sum_l, zip2}
 use Rattle.etherparse_base.specs.WordSums.{folded_sum, little_endian_word_sum}
 use Rattle.etherparse_base.specs.declared.checksum.wide_u64.Turns.{Turns}
 
--- a number stands for the bytes in front of the rest: whatever it is added to, the fold is that of
--- adding their words
+-- whatever a number is added to, the fold is that of adding the words of the bytes before the rest
 abbrev pub StandsFor : ℕ → List ℕ → List ℕ → Type 0
 StandsFor number bytes rest =
     (n : ℕ) → folded_sum (n + number + little_endian_word_sum rest)
@@ -15,14 +14,13 @@ StandsFor number bytes rest =
 abbrev pub halves_sum : List ℕ → ℕ
 halves_sum words = sum_l (map (λ w. w % 2 ^ 32) words) + sum_l (map (λ w. w / 2 ^ 32) words)
 
--- In each lane the total of the words, without the bits above 64: the sum of their low halves, and
--- 2 ^ 32 times that of their high halves.
+-- each lane's total, without the bits above 64: the low halves, and 2 ^ 32 times the high halves
 pub record Splits (total low high : List ℕ) : Type 0 where
   pub lanes : length low ≡ length high
   pub is_total : total ≡ zip2 (λ l h. (l + 2 ^ 32 * h) % 2 ^ 64) low high
 
--- Sums, the carries out of them and four lanes stand for the bytes before the rest. No lane
--- overflows, and there are no more carries than bytes.
+-- sums, the carries out of them and four lanes, none of which overflows, stand for the bytes before
+-- the rest
 pub record AddsInTurns (bytes total high : List ℕ) (sums carries : ℕ) (rest : List ℕ) : Type 0 where
   pub low : List ℕ
   pub four : length high ≡ 4

@@ -1,7 +1,7 @@
-ghost use Rattle.std.specs.Prelude.{◌≡◌, Some};
+ghost use Rattle.std.specs.Prelude.{◌≡◌, ◌+◌, ◌^◌, ◌<◌, Some};
 ghost use Rattle.std.specs.Fmt.{DisplaysOnOk};
-ghost use Rattle.etherparse_base.specs.LenError.{HasRoomFor, len_error_moved};
-ghost use Rattle.etherparse_base.specs.LenError.{len_error_text, lengths_text, place_text};
+ghost use Rattle.etherparse_base.specs.LenError.{len_error_moved, len_error_text, lengths_text};
+ghost use Rattle.etherparse_base.specs.LenError.{place_text};
 ghost use Rattle.etherparse_base.specs.LenSource.{len_source_text};
 
 use super::Layer;
@@ -55,7 +55,7 @@ impl LenError {
     /// grows by `offset`, and every other field stays. The sum has to fit `usize`.
     #[inline]
     pub fn add_offset(self, offset: usize) -> LenError
-        requires fits { HasRoomFor offset self }
+        requires fits { self.layer_start_offset + offset < 2 ^ 64 }
         ensures moved { result ≡ len_error_moved offset self }
     {
         LenError {

@@ -4,7 +4,7 @@ ghost use Rattle.std.specs.Cmp.{partial_order_from_own_ties, unsigned_ties};
 ghost use Rattle.std.specs.Cmp.Rules.{comparing, hashing};
 ghost use Rattle.std.specs.Hash as fed;
 ghost use Rattle.std.proofs.Common.{rules};
-ghost use Rattle.etherparse_fields.specs.IpDscpKnown.{AnswersKnown, TakesKnown, code_point_of};
+ghost use Rattle.etherparse_fields.specs.IpDscpKnown.{TakesKnown, code_point_of};
 
 use crate::IpDscp;
 use etherparse_base::err::ip::IpDscpUnknownValueError;
@@ -75,7 +75,7 @@ impl IpDscpKnown {
     #[tactic(auto, using(crate::proofs::CodePoints::code_point_of_injective))]
     pub fn try_from_ip_dscp(value: IpDscp) -> Result<IpDscpKnown, IpDscpUnknownValueError>
         ensures answer { TakesKnown value result }
-        ensures only { AnswersKnown value result }
+        ensures only { (point : IpDscpKnown) → code_point_of point ≡ value → result ≡ Ok point }
     {
         match value.value() {
             0 => Ok(IpDscpKnown::ClassSelector0),

@@ -31,14 +31,13 @@ const NOT_SKIPPABLE: u8 = 1;
 
 impl Ipv6Header {
     ghost use Rattle.std.specs.Prelude.{ℕ, ◌≡◌, ◌+◌, ◌/◌, ◌<◌, ◌≤◌, ◌↔◌, ◌-◌, List, Ok, Err};
-    ghost use Rattle.std.specs.Prelude.{IfErr, IfOk, IsFalse, IsOk, IsTrue, drop, length};
+    ghost use Rattle.std.specs.Prelude.{IfErr, IfOk, IsFalse, IsOk, IsTrue, drop, length, slice_index};
     ghost use Rattle.etherparse_base.specs.LenError.{len_error_moved};
     ghost use Rattle.etherparse_fields.specs.ExtensionHeaders.{IsSkippable};
     ghost use Rattle.etherparse.specs.ExtensionHeaderChain.{Ends, FollowsChain};
     ghost use Rattle.etherparse.specs.ExtensionHeaderChain.{IsOnlyWalkOf, IsWalkBehindChains};
     ghost use Rattle.etherparse.specs.ExtensionHeaderChain.{IsWalkOf, incomplete_header_error};
-    ghost use Rattle.etherparse.specs.ExtensionHeaderChain.{next_header_of, required_len_of};
-    ghost use Rattle.etherparse.specs.ExtensionHeaderChain.{turn_count};
+    ghost use Rattle.etherparse.specs.ExtensionHeaderChain.{required_len_of};
     ghost use Rattle.etherparse.specs.Reading.{found_and_rest};
 
     /// Skips the extension header of a number at the front of a slice: the number of what follows
@@ -60,7 +59,7 @@ impl Ipv6Header {
         ensures skipped { IsSkippable next_header →
             required_len_of next_header slice.now ≤ length slice.now →
             found_and_rest result ≡ Ok (
-              next_header_of slice.now,
+              slice_index slice.now 0,
               drop (required_len_of next_header slice.now) slice.now,
             ) }
         ensures refused { IsSkippable next_header →
@@ -138,7 +137,7 @@ impl Ipv6Header {
         ensures follows { IsWalkBehindChains slice.now next_header (found_and_rest result.0) }
         ensures turns { (headers : List (List ℕ)) →
             Ends slice.now next_header headers (found_and_rest result.0) →
-            result.1 ≡ turn_count headers }
+            result.1 ≡ length headers + 1 }
         ensures few_turns { result.1 ≤ length slice.now / 8 + 1 }
     {
         let mut number = next_header;

@@ -1,5 +1,5 @@
-ghost use Rattle.std.specs.Prelude.{◌≡◌, Some};
-ghost use Rattle.etherparse_base.specs.Ipv4Errors.{Ipv4HasRoomFor, ipv4_error_moved};
+ghost use Rattle.std.specs.Prelude.{◌≡◌, ◌+◌, ◌^◌, ◌<◌, Some};
+ghost use Rattle.etherparse_base.specs.Ipv4Errors.{ipv4_error_moved, ipv4_error_place};
 ghost use Rattle.etherparse_base.specs.Ipv4Errors.{ipv4_header_slice_error_text};
 
 use super::HeaderError;
@@ -21,7 +21,7 @@ impl HeaderSliceError {
     /// [`LenError::add_offset`], whose sum has to fit `usize`, and a `Content` as it is.
     #[inline]
     pub fn add_slice_offset(self, offset: usize) -> HeaderSliceError
-        requires fits { Ipv4HasRoomFor offset self }
+        requires fits { ipv4_error_place self + offset < 2 ^ 64 }
         ensures moved { result ≡ ipv4_error_moved offset self }
     {
         match self {

@@ -1,5 +1,5 @@
-ghost use Rattle.std.specs.Prelude.{◌≡◌, Some};
-ghost use Rattle.etherparse_base.specs.Ipv6Errors.{ChainErrorHasRoomFor, chain_error_moved};
+ghost use Rattle.std.specs.Prelude.{◌≡◌, ◌+◌, ◌^◌, ◌<◌, Some};
+ghost use Rattle.etherparse_base.specs.Ipv6Errors.{chain_error_moved, chain_error_place};
 ghost use Rattle.etherparse_base.specs.Ipv6Errors.{chain_error_text};
 
 use crate::err::LenError;
@@ -30,8 +30,8 @@ impl ChainError {
     /// grows by `offset`, and all else stays. The sum has to fit `usize`.
     #[inline]
     pub fn add_slice_offset(self, offset: usize) -> ChainError
-        requires fits { ChainErrorHasRoomFor offset self }
-        ensures moved { result ≡ chain_error_moved offset self }
+        requires fits { chain_error_place self + offset < 2 ^ 64 }
+        ensures moved { result ≡ chain_error_moved 0 offset self }
     {
         match self {
             ChainError::Len(e) => ChainError::Len(e.add_offset(offset)),

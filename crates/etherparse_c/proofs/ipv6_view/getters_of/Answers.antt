@@ -1,13 +1,12 @@
-use Rattle.std.proofs.Common.{◌≡◌, ◌∙◌, rules}
-use Rattle.etherparse.specs.TrafficClass.{traffic_class_dscp, traffic_class_ecn}
+use Rattle.std.proofs.Common.{◌≡◌, ◌/◌, ◌%◌, ◌^◌, ◌∙◌, rules}
 use Rattle.etherparse.specs.declared.net.ipv6_header.Ipv6Header.{Ipv6Header}
 use Rattle.etherparse_c.specs.Ipv6Answers.{ipv6_view_of}
 use Rattle.etherparse_c.specs.declared.ipv6_view.Ipv6View.{Ipv6View}
 use Rattle.etherparse_c.proofs.ipv6_view.getters_of.Goals as goal
 
 -- a view with the fields of a header
-view_of : (v : Ipv6View) (h : Ipv6Header) → v.traffic_class ≡ h.traffic_class → v.dscp ≡ traffic_class_dscp h.traffic_class
-    → v.ecn ≡ traffic_class_ecn h.traffic_class → v.flow_label ≡ h.flow_label → v.payload_length ≡ h.payload_length
+view_of : (v : Ipv6View) (h : Ipv6Header) → v.traffic_class ≡ h.traffic_class → v.dscp ≡ h.traffic_class / 2 ^ 2
+    → v.ecn ≡ h.traffic_class % 2 ^ 2 → v.flow_label ≡ h.flow_label → v.payload_length ≡ h.payload_length
     → v.next_header ≡ h.next_header → v.hop_limit ≡ h.hop_limit → v.source ≡ h.source → v.destination ≡ h.destination → v ≡ ipv6_view_of h
 view_of v h a b c d e f g i j = search rules
 

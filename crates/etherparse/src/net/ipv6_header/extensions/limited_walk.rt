@@ -6,11 +6,11 @@ use crate::{IpNumber, Ipv6Header};
 
 impl Ipv6Header {
     ghost use Rattle.std.specs.Prelude.{ℕ, ◌≡◌, ◌+◌, ◌-◌, ◌/◌, ◌≤◌, List, IfErr, IfOk, length};
+    ghost use Rattle.std.specs.Result.{result_map_both};
+    ghost use Rattle.etherparse_base.specs.Ipv6Errors.{chain_error_moved, chain_error_place};
+    ghost use Rattle.etherparse_base.specs.declared.err.ipv6.chain_error.ChainError.TheVariants.{Len};
     ghost use Rattle.etherparse.specs.ExtensionHeaderChain.{BeginsWithChain, LimitedWalkAnswer};
     ghost use Rattle.etherparse.specs.ExtensionHeaderChain.{WalkAnswer, Walks, WalksUpTo};
-    ghost use Rattle.etherparse.specs.ExtensionHeaderChain.{chain_error_offset};
-    ghost use Rattle.etherparse.specs.ExtensionHeaderChain.{limited_walk_answer_moved};
-    ghost use Rattle.etherparse.specs.ExtensionHeaderChain.{with_error_in_len};
     ghost use Rattle.etherparse.specs.Reading.{found_and_rest};
 
     /// Skips the extension headers at the front of a slice, of which the first has this number, but
@@ -36,15 +36,17 @@ impl Ipv6Header {
             other ≡ found_and_rest result }
         ensures as_without_limit { length slice.now / 8 + 1 ≤ limit → (answer : WalkAnswer) →
             Walks slice.now next_header answer →
-            found_and_rest result ≡ with_error_in_len answer }
+            found_and_rest result ≡
+            result_map_both (λ x. x) (λ e. Len e) answer }
         ensures shorter { IfOk result (λ x. length x.1.now ≤ length slice.now) }
-        ensures within { IfErr result (λ e. chain_error_offset e ≤ length slice.now) }
+        ensures within { IfErr result (λ e. chain_error_place e ≤ length slice.now) }
 
         // Behind a chain of a slice it is the walk of that slice; the limit counts its headers too.
         ensures follows { (s : List ℕ) → (first : ℕ) → (headers : List (List ℕ)) →
             BeginsWithChain s first headers next_header slice.now →
-            WalksUpTo (length headers + limit) s first (limited_walk_answer_moved (length headers)
-            (length s - length slice.now) (found_and_rest result)) }
+            WalksUpTo (length headers + limit) s first (result_map_both (λ x. x)
+            (chain_error_moved (length headers) (length s - length slice.now))
+            (found_and_rest result)) }
     {
         let mut number = next_header;
         let mut offset = 0;

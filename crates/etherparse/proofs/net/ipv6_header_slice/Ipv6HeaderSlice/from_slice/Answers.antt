@@ -9,7 +9,7 @@ pub returns-then-version_number-ne6-clause-only : goal.returns-then-version_numb
 returns-then-version_number-ne6-clause-only c = λ other o. viewed_once _ other _ o (record { enough = c.if-slice-lt-LEN.false; other = c.if-version_number-ne6.true; found = refl })
 
 pub returns-then-version_number-ne6-clause-shows : goal.returns-then-version_number-ne6-clause-shows
-returns-then-version_number-ne6-clause-shows c = λ header rest b. not_refused header b.front rest _ b.whole b.layout (Content (UnexpectedVersion _))
+returns-then-version_number-ne6-clause-shows c = λ header rest b. not_refused _ header rest (Content (UnexpectedVersion _)) b
     (record { enough = c.if-slice-lt-LEN.false; other = c.if-version_number-ne6.true; found = refl })
 
 pub invariant_of-result : goal.invariant_of-result
