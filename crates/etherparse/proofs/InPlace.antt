@@ -1,5 +1,5 @@
 -- Another field and another checksum, written over those of a header in a packet.
-use Rattle.std.proofs.Common.{ℕ, zero, suc, ◌≡◌, ◌+◌, ◌<◌, ◌≤◌, ◌^◌, List, [], ◌∷◌, ◌++◌, length, length-set, take, take_at, ap, refl, sym, ◌∙◌, arith, lit<, w16}
+use Rattle.std.proofs.Common.{ℕ, zero, suc, ◌≡◌, ◌+◌, ◌<◌, ◌≤◌, ◌^◌, List, [], ◌∷◌, ◌++◌, length, length-set, take, take_at, ap, refl, sym, ◌∙◌, arith, lit<, rules, w16}
 use Rattle.std.specs.Int.{to_be_bytes}
 use Rattle.std.specs.Prelude.{slice_set}
 use Rattle.std.proofs.lemmas.List.{set-append_left}
@@ -65,7 +65,7 @@ changes_in_place h g offset field f keeps = λ packet rest b.
       all_ones = rw (front, changed) (keeps.all_ones b.layout.reserved b.front (with_field_and_checksum offset field c b.front) before after);
     }
 
--- the fields that have such a call
+-- the fields that have such a call: bytes of one field
 byte_is_bytes : (b : ℕ) → b < 256 → IsBytes (b ∷ [])
 byte_is_bytes b h zero = h
 byte_is_bytes b h (suc i) = lit< tt
@@ -75,15 +75,7 @@ time_to_live_field h t c t_fits c_fits = record {
   within = omega arith;
   are_bytes = byte_is_bytes t t_fits;
   same_options = refl;
-  ranges = λ f. record {
-    dscp = f.dscp;
-    fragment_offset = f.fragment_offset;
-    total_len = f.total_len;
-    identification = f.identification;
-    header_checksum = c_fits;
-    source = f.source;
-    destination = f.destination;
-  };
+  ranges = λ f. search (rules, f, c_fits);
   spelled = λ f r. refl;
 }
 
@@ -92,15 +84,7 @@ source_field h source c four are_bytes c_fits = record {
   within = omega arith;
   are_bytes = are_bytes;
   same_options = refl;
-  ranges = λ f. record {
-    dscp = f.dscp;
-    fragment_offset = f.fragment_offset;
-    total_len = f.total_len;
-    identification = f.identification;
-    header_checksum = c_fits;
-    source = four;
-    destination = f.destination;
-  };
+  ranges = λ f. search (rules, f, c_fits, four);
   spelled = λ f r. rw (spread h.source 4 f.source, spread source 4 four) refl;
 }
 
@@ -110,14 +94,6 @@ destination_field h destination c four are_bytes c_fits = record {
   within = omega arith;
   are_bytes = are_bytes;
   same_options = refl;
-  ranges = λ f. record {
-    dscp = f.dscp;
-    fragment_offset = f.fragment_offset;
-    total_len = f.total_len;
-    identification = f.identification;
-    header_checksum = c_fits;
-    source = f.source;
-    destination = four;
-  };
+  ranges = λ f. search (rules, f, c_fits, four);
   spelled = λ f r. rw (spread h.source 4 f.source, spread h.destination 4 f.destination, spread destination 4 four) refl;
 }
