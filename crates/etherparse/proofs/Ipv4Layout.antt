@@ -55,30 +55,15 @@ flags_of h r p l =
     let e1 = get_or-slice_range p 6 8 1 (omega arith) in
     omega arith
 
--- a bit of byte 6, which has the flags in front of the offset
-dont_fragment_of : (b c r df mf off : ℕ) → c < 256 → df < 2 → mf < 2 → off < 8192
-    → b * 2 ^ 8 + c ≡ r * 2 ^ 15 + df * 2 ^ 14 + mf * 2 ^ 13 + off → b / 64 % 2 ≡ df
-dont_fragment_of b c r df mf off hc hd hm ho e = omega arith
+-- the bits of byte 6, which has the flags in front of the offset
+bits_of : (b c r df mf off : ℕ) → c < 256 → df < 2 → mf < 2 → off < 8192 → b * 2 ^ 8 + c ≡ r * 2 ^ 15 + df * 2 ^ 14 + mf * 2 ^ 13 + off
+    → (b / 64 % 2 ≡ df) × (b / 32 % 2 ≡ mf) × (b % 32 * 2 ^ 8 + c ≡ off)
+bits_of b c r df mf off hc hd hm ho e = (omega arith, omega arith, omega arith)
 
-more_fragments_of : (b c r df mf off : ℕ) → c < 256 → df < 2 → mf < 2 → off < 8192
-    → b * 2 ^ 8 + c ≡ r * 2 ^ 15 + df * 2 ^ 14 + mf * 2 ^ 13 + off → b / 32 % 2 ≡ mf
-more_fragments_of b c r df mf off hc hd hm ho e = omega arith
-
-fragment_offset_of : (b c r df mf off : ℕ) → c < 256 → df < 2 → mf < 2 → off < 8192
-    → b * 2 ^ 8 + c ≡ r * 2 ^ 15 + df * 2 ^ 14 + mf * 2 ^ 13 + off → b % 32 * 2 ^ 8 + c ≡ off
-fragment_offset_of b c r df mf off hc hd hm ho e = omega arith
-
-pub dont_fragment_of-layout : (h : Ipv4Header) (r : ℕ) (p : List ℕ) → IsIpv4LayoutWith h r p → get_or p 6 0 / 64 % 2 ≡ from_bool h.dont_fragment
-dont_fragment_of-layout h r p l = dont_fragment_of _ _ _ _ _ _ (l.are_bytes 7) (from_bool-lt h.dont_fragment) (from_bool-lt h.more_fragments)
-    l.fragment_offset_fits (flags_of h r p l)
-
-pub more_fragments_of-layout : (h : Ipv4Header) (r : ℕ) (p : List ℕ) → IsIpv4LayoutWith h r p → get_or p 6 0 / 32 % 2 ≡ from_bool h.more_fragments
-more_fragments_of-layout h r p l = more_fragments_of _ _ _ _ _ _ (l.are_bytes 7) (from_bool-lt h.dont_fragment) (from_bool-lt h.more_fragments)
-    l.fragment_offset_fits (flags_of h r p l)
-
-pub fragment_offset_of-layout : (h : Ipv4Header) (r : ℕ) (p : List ℕ) → IsIpv4LayoutWith h r p → get_or p 6 0 % 32 * 2 ^ 8 + get_or p 7 0 ≡ h.fragment_offset
-fragment_offset_of-layout h r p l = fragment_offset_of _ _ _ _ _ _ (l.are_bytes 7) (from_bool-lt h.dont_fragment) (from_bool-lt h.more_fragments)
-    l.fragment_offset_fits (flags_of h r p l)
+pub flags_of-layout : (h : Ipv4Header) (r : ℕ) (p : List ℕ) → IsIpv4LayoutWith h r p → (get_or p 6 0 / 64 % 2 ≡ from_bool h.dont_fragment)
+    × (get_or p 6 0 / 32 % 2 ≡ from_bool h.more_fragments) × (get_or p 6 0 % 32 * 2 ^ 8 + get_or p 7 0 ≡ h.fragment_offset)
+flags_of-layout h r p l =
+    bits_of _ _ _ _ _ _ (l.are_bytes 7) (from_bool-lt h.dont_fragment) (from_bool-lt h.more_fragments) l.fragment_offset_fits (flags_of h r p l)
 
 -- a test of one bit
 pub tests_bit : (n k : ℕ) (b : Bool) → n / 2 ^ k % 2 ≡ from_bool b → 0 < 2 ^ k → not (nat_eq (bit_and n (2 ^ k)) 0) ≡ b
@@ -110,9 +95,9 @@ same_header g h q r p k l =
     (same_ecn g.ecn h.ecn (sym (ecn_of g q p k) ∙ ecn_of h r p l))
     (sym k.total_len ∙ l.total_len)
     (sym k.identification ∙ l.identification)
-    (same_bool g.dont_fragment h.dont_fragment (sym (dont_fragment_of-layout g q p k) ∙ dont_fragment_of-layout h r p l))
-    (same_bool g.more_fragments h.more_fragments (sym (more_fragments_of-layout g q p k) ∙ more_fragments_of-layout h r p l))
-    (sym (fragment_offset_of-layout g q p k) ∙ fragment_offset_of-layout h r p l)
+    (same_bool g.dont_fragment h.dont_fragment (sym (flags_of-layout g q p k).0 ∙ (flags_of-layout h r p l).0))
+    (same_bool g.more_fragments h.more_fragments (sym (flags_of-layout g q p k).1 ∙ (flags_of-layout h r p l).1))
+    (sym (flags_of-layout g q p k).2 ∙ (flags_of-layout h r p l).2)
     (sym k.time_to_live ∙ l.time_to_live)
     (sym k.protocol ∙ l.protocol)
     (sym k.header_checksum ∙ l.header_checksum)
@@ -133,20 +118,6 @@ spelling h flags = (4 * 2 ^ 4 + ipv4_ihl h) ∷ (h.dscp * 2 ^ 2 + ecn_value h.ec
     ++ (to_be_bytes w16 h.identification ++ (to_be_bytes w16 flags ++ (h.time_to_live ∷ h.protocol
     ∷ (to_be_bytes w16 h.header_checksum ++ (h.source ++ (h.destination ++ h.options)))))))
 
--- the bytes of a header in its parts
-parts_of : (p : List ℕ)
-    → p ≡ slice_range p 0 2 ++ (slice_range p 2 4 ++ (slice_range p 4 6 ++ (slice_range p 6 8 ++ (slice_range p 8 10
-    ++ (slice_range p 10 12 ++ (slice_range p 12 16 ++ (slice_range p 16 20 ++ drop 20 p)))))))
-parts_of p =
-    drop_split p 0 2 (omega arith) ∙ ap (λ x. slice_range p 0 2 ++ x) (
-    drop_split p 2 4 (omega arith) ∙ ap (λ x. slice_range p 2 4 ++ x) (
-    drop_split p 4 6 (omega arith) ∙ ap (λ x. slice_range p 4 6 ++ x) (
-    drop_split p 6 8 (omega arith) ∙ ap (λ x. slice_range p 6 8 ++ x) (
-    drop_split p 8 10 (omega arith) ∙ ap (λ x. slice_range p 8 10 ++ x) (
-    drop_split p 10 12 (omega arith) ∙ ap (λ x. slice_range p 10 12 ++ x) (
-    drop_split p 12 16 (omega arith) ∙ ap (λ x. slice_range p 12 16 ++ x) (
-    drop_split p 16 20 (omega arith))))))))
-
 -- a byte list in the layout is the header's spelling
 pub spelled : (h : Ipv4Header) (r : ℕ) (p : List ℕ) → IsIpv4LayoutWith h r p → p ≡ spelling h (flags_word h r)
 spelled h r p l =
@@ -155,13 +126,13 @@ spelled h r p l =
     listed p 0 2 (omega arith) ∙ (let a = l.version_ihl in let b = l.dscp_ecn in cc) in
     let fifth : slice_range p 8 10 ≡ h.time_to_live ∷ h.protocol ∷ [] =
     listed p 8 2 (omega arith) ∙ (let a = l.time_to_live in let b = l.protocol in cc) in
-    parts_of p ∙ same_append first
-    (same_append (word_at p 2 _ (omega arith) l.are_bytes l.total_len)
-    (same_append (word_at p 4 _ (omega arith) l.are_bytes l.identification)
-    (same_append (word_at p 6 _ (omega arith) l.are_bytes l.flags_fragment_offset)
-    (same_append fifth
-    (same_append (word_at p 10 _ (omega arith) l.are_bytes l.header_checksum)
-    (same_append l.source (same_append l.destination l.options)))))))
+    drop_split p 0 2 (omega arith) ∙ same_append first
+    (drop_split p 2 4 (omega arith) ∙ same_append (word_at p 2 _ (omega arith) l.are_bytes l.total_len)
+    (drop_split p 4 6 (omega arith) ∙ same_append (word_at p 4 _ (omega arith) l.are_bytes l.identification)
+    (drop_split p 6 8 (omega arith) ∙ same_append (word_at p 6 _ (omega arith) l.are_bytes l.flags_fragment_offset)
+    (drop_split p 8 10 (omega arith) ∙ same_append fifth
+    (drop_split p 10 12 (omega arith) ∙ same_append (word_at p 10 _ (omega arith) l.are_bytes l.header_checksum)
+    (drop_split p 12 16 (omega arith) ∙ same_append l.source (drop_split p 16 20 (omega arith) ∙ same_append l.destination l.options)))))))
 
 -- a header has one list of bytes for each reserved bit
 pub same_bytes : (h : Ipv4Header) (r : ℕ) (p q : List ℕ) → IsIpv4LayoutWith h r p → IsIpv4LayoutWith h r q → p ≡ q
@@ -222,13 +193,7 @@ cleared_spells h r p l =
     let high = cleared_byte r (from_bool h.dont_fragment) (from_bool h.more_fragments) h.fragment_offset l.reserved_fits
     (from_bool-lt h.dont_fragment) (from_bool-lt h.more_fragments) l.fragment_offset_fits in
     let low = kept_byte r (from_bool h.dont_fragment) (from_bool h.more_fragments) h.fragment_offset in
-    ap (λ xs. with_reserved_bit_cleared xs) (spelled h r p l)
-    ∙ ap (λ b. (4 * 2 ^ 4 + ipv4_ihl h) ∷ (h.dscp * 2 ^ 2 + ecn_value h.ecn) ∷ (to_be_bytes w16 h.total_len
-    ++ (to_be_bytes w16 h.identification ++ (b ∷ (flags_word h r % 256) ∷ (h.time_to_live ∷ h.protocol
-    ∷ (to_be_bytes w16 h.header_checksum ++ (h.source ++ (h.destination ++ h.options)))))))) high
-    ∙ ap (λ b. (4 * 2 ^ 4 + ipv4_ihl h) ∷ (h.dscp * 2 ^ 2 + ecn_value h.ecn) ∷ (to_be_bytes w16 h.total_len
-    ++ (to_be_bytes w16 h.identification ++ ((flags_word h 0 / 256 % 256) ∷ b ∷ (h.time_to_live ∷ h.protocol
-    ∷ (to_be_bytes w16 h.header_checksum ++ (h.source ++ (h.destination ++ h.options)))))))) low
+    rw (spelled h r p l, high, low) refl
 
 -- the ranges of a header's fields are in its layout
 pub ranges_of : (h : Ipv4Header) (r : ℕ) (p : List ℕ) → IsIpv4LayoutWith h r p → HasFieldRanges h

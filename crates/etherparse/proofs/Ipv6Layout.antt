@@ -1,12 +1,12 @@
 -- Laws of the IPv6 layout.
-use Rattle.std.proofs.Common.{ℕ, ◌≡◌, ◌+◌, ◌*◌, ◌/◌, ◌%◌, ◌^◌, ◌<◌, List, [], ◌∷◌, ◌++◌, length, get_or, take, drop, refl, sym, ap, ◌∙◌, arith, length-append, rules}
+use Rattle.std.proofs.Common.{ℕ, ◌≡◌, ◌+◌, ◌*◌, ◌/◌, ◌%◌, ◌^◌, ◌<◌, ◌≤◌, List, [], ◌∷◌, ◌++◌, length, get_or, take, drop, refl, sym, ap, ◌∙◌, arith, length-append, rules}
 use Rattle.std.specs.List.{slice_range}
 use Rattle.std.proofs.lemmas.List.{length-drop, take_all, take_at, drop_at}
 use Rattle.std.specs.Int.{from_be_bytes, to_be_bytes, w16, w32}
-use Rattle.std.proofs.lemmas.Nat.{be_bytes_2, be_bytes_4, from_be_bytes-to_be_bytes_2, from_be_bytes-to_be_bytes_4}
+use Rattle.std.proofs.lemmas.Nat.{be_bytes_4, from_be_bytes-to_be_bytes_2, from_be_bytes-to_be_bytes_4}
 use Rattle.std.proofs.lemmas.List.Folds.{drop_split}
 use Rattle.etherparse_base.specs.Bytes.{IsBytes}
-use Rattle.etherparse.proofs.Parts.{get_or-slice_range, length-part, listed, part_is_bytes, same_append}
+use Rattle.etherparse.proofs.Parts.{get_or-slice_range, length-part, listed, part_is_bytes, same_append, word_at}
 use Rattle.etherparse.specs.Ipv6Header.{IsIpv6Layout}
 use Rattle.etherparse.specs.FirstByte.{version_of}
 use Rattle.etherparse.specs.declared.net.ipv6_header.Ipv6Header.{Ipv6Header}
@@ -18,17 +18,9 @@ pub same_fields : (g h : Ipv6Header) → g.traffic_class ≡ h.traffic_class →
 same_fields g h t f n x m s d = search rules
 
 -- the parts of a word are those of the number that it stands for
-pub version_of_word : (a b c d t f : ℕ) → b < 256 → c < 256 → d < 256 → t < 256 → f < 1048576
-    → a * 2 ^ 24 + b * 2 ^ 16 + c * 2 ^ 8 + d ≡ 6 * 2 ^ 28 + t * 2 ^ 20 + f → a / 16 ≡ 6
-version_of_word a b c d t f hb hc hd ht hf e = omega arith
-
-pub traffic_class_of_word : (a b c d t f : ℕ) → b < 256 → c < 256 → d < 256 → t < 256 → f < 1048576
-    → a * 2 ^ 24 + b * 2 ^ 16 + c * 2 ^ 8 + d ≡ 6 * 2 ^ 28 + t * 2 ^ 20 + f → (a * 256 + b) / 16 % 256 ≡ t
-traffic_class_of_word a b c d t f hb hc hd ht hf e = omega arith
-
-pub flow_label_of_word : (a b c d t f : ℕ) → b < 256 → c < 256 → d < 256 → t < 256 → f < 1048576
-    → a * 2 ^ 24 + b * 2 ^ 16 + c * 2 ^ 8 + d ≡ 6 * 2 ^ 28 + t * 2 ^ 20 + f → b % 16 * 2 ^ 16 + c * 2 ^ 8 + d ≡ f
-flow_label_of_word a b c d t f hb hc hd ht hf e = omega arith
+parts_of_word : (a b c d t f : ℕ) → b < 256 → c < 256 → d < 256 → t < 256 → f < 1048576 → a * 2 ^ 24 + b * 2 ^ 16 + c * 2 ^ 8 + d ≡ 6 * 2 ^ 28 + t * 2 ^ 20 + f
+    → (a / 16 ≡ 6) × ((a * 256 + b) / 16 % 256 ≡ t) × (b % 16 * 2 ^ 16 + c * 2 ^ 8 + d ≡ f)
+parts_of_word a b c d t f hb hc hd ht hf e = (omega arith, omega arith, omega arith)
 
 -- the first word of a header as a number
 pub word_of : (h : Ipv6Header) (p : List ℕ) → IsIpv6Layout h p
@@ -41,28 +33,17 @@ word_of h p l =
     let e3 = get_or-slice_range p 0 4 3 (omega arith) in
     omega arith
 
--- a header in the layout has version 6
-pub version_of-layout : (h : Ipv6Header) (p : List ℕ) → IsIpv6Layout h p → version_of p ≡ 6
-version_of-layout h p l = version_of_word (get_or p 0 0) (get_or p 1 0) (get_or p 2 0) (get_or p 3 0) h.traffic_class h.flow_label
-    (l.are_bytes 1) (l.are_bytes 2) (l.are_bytes 3) l.traffic_class_fits l.flow_label_fits (word_of h p l)
-
--- the fields of the first word, read from its bytes
-pub traffic_class_of-layout : (h : Ipv6Header) (p : List ℕ) → IsIpv6Layout h p
-    → (get_or p 0 0 * 256 + get_or p 1 0) / 16 % 256 ≡ h.traffic_class
-traffic_class_of-layout h p l = traffic_class_of_word (get_or p 0 0) (get_or p 1 0) (get_or p 2 0) (get_or p 3 0) h.traffic_class h.flow_label
-    (l.are_bytes 1) (l.are_bytes 2) (l.are_bytes 3) l.traffic_class_fits l.flow_label_fits (word_of h p l)
-
-pub flow_label_of-layout : (h : Ipv6Header) (p : List ℕ) → IsIpv6Layout h p
-    → get_or p 1 0 % 16 * 2 ^ 16 + get_or p 2 0 * 2 ^ 8 + get_or p 3 0 ≡ h.flow_label
-flow_label_of-layout h p l = flow_label_of_word (get_or p 0 0) (get_or p 1 0) (get_or p 2 0) (get_or p 3 0) h.traffic_class h.flow_label
-    (l.are_bytes 1) (l.are_bytes 2) (l.are_bytes 3) l.traffic_class_fits l.flow_label_fits (word_of h p l)
+-- the version and the fields of the first word, read from its bytes
+pub word_of-layout : (h : Ipv6Header) (p : List ℕ) → IsIpv6Layout h p → (version_of p ≡ 6) × ((get_or p 0 0 * 256 + get_or p 1 0) / 16 % 256 ≡ h.traffic_class)
+    × (get_or p 1 0 % 16 * 2 ^ 16 + get_or p 2 0 * 2 ^ 8 + get_or p 3 0 ≡ h.flow_label)
+word_of-layout h p l = parts_of_word _ _ _ _ _ _ (l.are_bytes 1) (l.are_bytes 2) (l.are_bytes 3) l.traffic_class_fits l.flow_label_fits (word_of h p l)
 
 -- bytes have one header
 pub same_header : (g h : Ipv6Header) (p : List ℕ) → IsIpv6Layout g p → IsIpv6Layout h p → g ≡ h
 same_header g h p k l =
     same_fields g h
-    (sym (traffic_class_of-layout g p k) ∙ traffic_class_of-layout h p l)
-    (sym (flow_label_of-layout g p k) ∙ flow_label_of-layout h p l)
+    (sym (word_of-layout g p k).1 ∙ (word_of-layout h p l).1)
+    (sym (word_of-layout g p k).2 ∙ (word_of-layout h p l).2)
     (sym k.payload_length ∙ l.payload_length)
     (sym k.next_header ∙ l.next_header)
     (sym k.hop_limit ∙ l.hop_limit)
@@ -74,26 +55,18 @@ abbrev pub spelling : Ipv6Header → List ℕ
 spelling h = to_be_bytes w32 (6 * 2 ^ 28 + h.traffic_class * 2 ^ 20 + h.flow_label)
     ++ (to_be_bytes w16 h.payload_length ++ (h.next_header ∷ h.hop_limit ∷ (h.source ++ h.destination)))
 
--- 40 bytes in the parts of a header
-pub parts_of : (p : List ℕ) → length p ≡ 40
-    → p ≡ slice_range p 0 4 ++ (slice_range p 4 6 ++ (slice_range p 6 8 ++ (slice_range p 8 24 ++ slice_range p 24 40)))
-parts_of p e =
-    drop_split p 0 4 (omega arith) ∙ ap (λ x. slice_range p 0 4 ++ x) (
-    drop_split p 4 6 (omega arith) ∙ ap (λ x. slice_range p 4 6 ++ x) (
-    drop_split p 6 8 (omega arith) ∙ ap (λ x. slice_range p 6 8 ++ x) (
-    drop_split p 8 24 (omega arith) ∙ ap (λ x. slice_range p 8 24 ++ x) (
-    sym (take_all 16 (drop 24 p) (omega (arith, length-drop 24 p)))))))
-
 -- a byte list in the layout is the header's spelling
 pub spelled : (h : Ipv6Header) (p : List ℕ) → IsIpv6Layout h p → p ≡ spelling h
 spelled h p l =
+    let long : 40 ≤ length p = omega (arith, l.len) in
     let third : slice_range p 6 8 ≡ h.next_header ∷ h.hop_limit ∷ [] =
-    listed p 6 2 (omega (arith, l.len)) ∙ (let nh = l.next_header in let hl = l.hop_limit in cc) in
-    parts_of p l.len ∙ same_append
-    (sym (be_bytes_4 (slice_range p 0 4) _ (length-part p 0 4 (omega (arith, l.len))) (λ i. part_is_bytes p 0 4 i l.are_bytes) (sym l.version_traffic_class_flow_label)))
-    (same_append
-    (sym (be_bytes_2 (slice_range p 4 6) _ (length-part p 4 6 (omega (arith, l.len))) (λ i. part_is_bytes p 4 6 i l.are_bytes) (sym l.payload_length)))
-    (same_append third (same_append l.source l.destination)))
+    listed p 6 2 (omega arith) ∙ (let nh = l.next_header in let hl = l.hop_limit in cc) in
+    let first : slice_range p 0 4 ≡ to_be_bytes w32 (6 * 2 ^ 28 + h.traffic_class * 2 ^ 20 + h.flow_label) =
+    sym (be_bytes_4 (slice_range p 0 4) _ (length-part p 0 4 (omega arith)) (λ i. part_is_bytes p 0 4 i l.are_bytes) (sym l.version_traffic_class_flow_label)) in
+    drop_split p 0 4 (omega arith) ∙ same_append first
+    (drop_split p 4 6 (omega arith) ∙ same_append (word_at p 4 _ (omega arith) l.are_bytes l.payload_length)
+    (drop_split p 6 8 (omega arith) ∙ same_append third
+    (drop_split p 8 24 (omega arith) ∙ same_append l.source (sym (take_all 16 (drop 24 p) (omega (arith, length-drop 24 p, l.len))) ∙ l.destination))))
 
 -- a header has one list of bytes
 pub same_bytes : (h : Ipv6Header) (p q : List ℕ) → IsIpv6Layout h p → IsIpv6Layout h q → p ≡ q

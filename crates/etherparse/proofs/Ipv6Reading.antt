@@ -9,7 +9,7 @@ use Rattle.etherparse.proofs.ExtensionHeaderChain.{chain_after_header}
 use Rattle.etherparse.proofs.Fronts.{TellsHeaders, begins_at, cut_behind, read_once}
 use Rattle.etherparse.proofs.Fronts as fronts
 use Rattle.etherparse.proofs.Parts.{get_or-slice_range, length-part, part_is_bytes, same_front}
-use Rattle.etherparse.proofs.Ipv6Layout.{header_at, same_header, version_of-layout}
+use Rattle.etherparse.proofs.Ipv6Layout.{header_at, same_header, word_of-layout}
 use Rattle.etherparse.specs.Ipv6Header.{Ipv6Reading, IsIpv6Layout, IsIpv6ReadingOf, ReadsIpv6, RefusesIpv6, ViewsIpv6}
 use Rattle.etherparse.specs.Reading.{BeginsWith}
 use Rattle.etherparse.specs.FirstByte.{version_of}
@@ -28,7 +28,7 @@ pub not_refused : (s : List ℕ) (h : Ipv6Header) (x : List ℕ) (e : HeaderSlic
 not_refused s h x (Len a) b q = omega (arith, q.short, ap length b.whole, length-append b.front x, b.layout.len)
 not_refused s h x (Content (UnexpectedVersion v)) b q =
     let first = get_or_append_left b.front x 0 0 (omega (arith, b.layout.len)) in
-    q.other (ap version_of b.whole ∙ (rw first (version_of-layout h b.front b.layout)))
+    q.other (ap version_of b.whole ∙ (rw first (word_of-layout h b.front b.layout).0))
 
 -- a slice is read in one way
 pub tells_headers : TellsHeaders IsIpv6Layout RefusesIpv6
