@@ -24,10 +24,7 @@ from_bool-lt true = omega arith
 from_bool-lt false = omega arith
 
 same_bool : (a b : Bool) → from_bool a ≡ from_bool b → a ≡ b
-same_bool true true e = refl
-same_bool true false e = absurd (omega (arith, e))
-same_bool false true e = absurd (omega (arith, e))
-same_bool false false e = refl
+same_bool a b e = search rules
 
 -- a code point as a number
 pub ecn_value-lt : (e : IpEcn) → ecn_value e < 4
@@ -90,20 +87,12 @@ same_ecn a b e = search rules
 -- bytes have one header
 same_header : (g h : Ipv4Header) (q r : ℕ) (p : List ℕ) → IsIpv4LayoutWith g q p → IsIpv4LayoutWith h r p → g ≡ h
 same_header g h q r p k l =
-    same_fields g h
-    (sym (dscp_of g q p k) ∙ dscp_of h r p l)
-    (same_ecn g.ecn h.ecn (sym (ecn_of g q p k) ∙ ecn_of h r p l))
-    (sym k.total_len ∙ l.total_len)
-    (sym k.identification ∙ l.identification)
-    (same_bool g.dont_fragment h.dont_fragment (sym (flags_of-layout g q p k).0 ∙ (flags_of-layout h r p l).0))
-    (same_bool g.more_fragments h.more_fragments (sym (flags_of-layout g q p k).1 ∙ (flags_of-layout h r p l).1))
-    (sym (flags_of-layout g q p k).2 ∙ (flags_of-layout h r p l).2)
-    (sym k.time_to_live ∙ l.time_to_live)
-    (sym k.protocol ∙ l.protocol)
-    (sym k.header_checksum ∙ l.header_checksum)
-    (sym k.source ∙ l.source)
-    (sym k.destination ∙ l.destination)
-    (sym k.options ∙ l.options)
+    let dscp : g.dscp ≡ h.dscp = sym (dscp_of g q p k) ∙ dscp_of h r p l in
+    let ecn = same_ecn g.ecn h.ecn (sym (ecn_of g q p k) ∙ ecn_of h r p l) in
+    let dont_fragment = same_bool g.dont_fragment h.dont_fragment (sym (flags_of-layout g q p k).0 ∙ (flags_of-layout h r p l).0) in
+    let more_fragments = same_bool g.more_fragments h.more_fragments (sym (flags_of-layout g q p k).1 ∙ (flags_of-layout h r p l).1) in
+    let offset : g.fragment_offset ≡ h.fragment_offset = sym (flags_of-layout g q p k).2 ∙ (flags_of-layout h r p l).2 in
+    search (rules, dscp, ecn, dont_fragment, more_fragments, offset)
 
 pub one_header : (g h : Ipv4Header) (p : List ℕ) → IsIpv4Layout g p → IsIpv4Layout h p → g ≡ h
 one_header g h p k l = same_header g h k.reserved l.reserved p k.layout l.layout

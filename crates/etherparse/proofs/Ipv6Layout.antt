@@ -41,14 +41,9 @@ word_of-layout h p l = parts_of_word _ _ _ _ _ _ (l.are_bytes 1) (l.are_bytes 2)
 -- bytes have one header
 pub same_header : (g h : Ipv6Header) (p : List ℕ) → IsIpv6Layout g p → IsIpv6Layout h p → g ≡ h
 same_header g h p k l =
-    same_fields g h
-    (sym (word_of-layout g p k).1 ∙ (word_of-layout h p l).1)
-    (sym (word_of-layout g p k).2 ∙ (word_of-layout h p l).2)
-    (sym k.payload_length ∙ l.payload_length)
-    (sym k.next_header ∙ l.next_header)
-    (sym k.hop_limit ∙ l.hop_limit)
-    (sym k.source ∙ l.source)
-    (sym k.destination ∙ l.destination)
+    let traffic_class : g.traffic_class ≡ h.traffic_class = sym (word_of-layout g p k).1 ∙ (word_of-layout h p l).1 in
+    let flow_label : g.flow_label ≡ h.flow_label = sym (word_of-layout g p k).2 ∙ (word_of-layout h p l).2 in
+    search (rules, traffic_class, flow_label)
 
 -- the bytes of a header, part by part
 abbrev pub spelling : Ipv6Header → List ℕ
