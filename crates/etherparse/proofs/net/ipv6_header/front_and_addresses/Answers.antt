@@ -8,8 +8,3 @@ returns-clause-parts c = sym (same_append
     (same_append (spread c.args.source.now 16 c.requires.source_len)
     (spread c.args.destination.now 16 c.requires.destination_len)))
 
-pub returns-clause-are_bytes : goal.returns-clause-are_bytes
-returns-clause-are_bytes c =
-    append_is_bytes c.args.front.now _ (λ i. omega (arith, c.type_inv.front i))
-    (append_is_bytes c.args.source.now c.args.destination.now
-    (λ i. omega (arith, c.type_inv.source i)) (λ i. omega (arith, c.type_inv.destination i)))

@@ -3,20 +3,12 @@ use Rattle.std.proofs.lemmas.List.{drop_all}
 use Rattle.etherparse.proofs.Ipv4Reading.{front_read, is_reading_of, options_in_room}
 use Rattle.etherparse.proofs.net.ipv4_header.Ipv4Header.from_slice.Goals as goal
 
-pub header_with-requires : goal.header_with-requires
-header_with-requires c =
-    let none : drop 20 c.in_ok-view.view.slice.now ≡ [] = drop_all 20 c.in_ok-view.view.slice.now (omega (arith, c.if-len-eq-MIN_LEN.true)) in
-    c.new.ensures.empty ∙ sym none
-
 pub header_with-requires-then-slice-ge-MAX_LEN : goal.header_with-requires-then-slice-ge-MAX_LEN
 header_with-requires-then-slice-ge-MAX_LEN c =
     let view = c.in_ok-view.view in
     let room = (rw c.unwrap-bytes.ensures at c.first_chunk.ensures.cases).same in
     c.from_front-options.ensures.value
     ∙ options_in_room c.args.slice.now view.slice.now _ _ c.in_ok-view.ensures.views.whole (omega (arith, view.ihl, view.len)) (omega (arith, view.len)) room
-
-pub returns-in_err-view : goal.returns-in_err-view
-returns-in_err-view c = record { reads = is_reading_of _ _ (search rules) }
 
 pub returns-then-len-eq-MIN_LEN : goal.returns-then-len-eq-MIN_LEN
 returns-then-len-eq-MIN_LEN c = record { reads = front_read _ _ _ _ c.in_ok-view.ensures.views.whole c.header_with.ensures.layout }

@@ -2,8 +2,5 @@ use Rattle.std.proofs.Common.{rules}
 use Rattle.etherparse.proofs.Ipv6Reading.{front_read, is_reading_of}
 use Rattle.etherparse.proofs.net.ipv6_header.Ipv6Header.from_slice.Goals as goal
 
-pub returns-in_err-from_slice : goal.returns-in_err-from_slice
-returns-in_err-from_slice c = record { reads = is_reading_of _ _ (search rules) }
-
 pub returns : goal.returns
 returns c = record { reads = front_read _ _ _ _ c.in_ok-from_slice.ensures.views.whole c.to_header-header.ensures.layout }
