@@ -1,14 +1,14 @@
 -- Some bytes have one answer of an IPv4 reader.
-use Rattle.std.proofs.Common.{ℕ, ◌≡◌, ◌-◌, ◌*◌, ◌%◌, ◌/◌, ◌≤◌, inl, inr, List, ◌++◌, length, take, drop, get_or, refl, sym, ap, subst, ◌∙◌, arith, length-append, Ok, Err, Result}
+use Rattle.std.proofs.Common.{ℕ, ◌≡◌, ◌-◌, ◌*◌, ◌%◌, ◌/◌, ◌≤◌, inl, inr, List, ◌++◌, length, take, drop, get_or, refl, sym, ap, subst, ◌∙◌, arith, length-append, Ok, Err}
 use Rattle.std.specs.List.{slice_range}
-use Rattle.std.proofs.lemmas.List.{append_cancel_right, drop-append-le, drop_at, get_or_append_left, length-drop, length-take-le, take-append-drop, take-take, take_at, take_rest}
+use Rattle.std.proofs.lemmas.List.{append_cancel_right, drop-append-le, get_or_append_left, length-drop, length-take-le, take-append-drop, take-take, take_at}
 use Rattle.etherparse_base.specs.Bytes.{IsBytes}
 use Rattle.etherparse_base.specs.declared.err.ipv4.header_error.HeaderError.TheVariants.{HeaderLengthSmallerThanHeader, UnexpectedVersion}
 use Rattle.etherparse_base.specs.declared.err.ipv4.header_slice_error.HeaderSliceError.{HeaderSliceError}
 use Rattle.etherparse_base.specs.declared.err.ipv4.header_slice_error.HeaderSliceError.TheVariants.{Content, Len}
 use Rattle.etherparse.proofs.Fronts.{TellsHeaders, begins_at, cut_behind, read_once}
 use Rattle.etherparse.proofs.Ipv4Layout.{cleared_layout, header_at, ihl_of-layout, length-layout, one_header, same_header_cleared, version_of-layout}
-use Rattle.etherparse.proofs.Parts.{get_or-slice_range, part_is_bytes, same_front}
+use Rattle.etherparse.proofs.Parts.{get_or-slice_range, part_is_bytes}
 use Rattle.etherparse.specs.FirstByte.{ihl_of, version_of}
 use Rattle.etherparse.specs.Ipv4Header.{IsIpv4Layout, IsIpv4ReadingOf, Ipv4Reading, ReadsIpv4, RefusesIpv4, ViewsIpv4, ipv4_header_len}
 use Rattle.etherparse.specs.Reading.{BeginsWith}

@@ -1,6 +1,6 @@
 -- Some bytes have one answer of an IPv6 reader.
-use Rattle.std.proofs.Common.{ℕ, ◌≡◌, List, ◌++◌, ◌-◌, ◌/◌, ◌≤◌, length, take, drop, sym, ap, subst, ◌∙◌, arith, length-append, get_or, Ok, Err, Result}
-use Rattle.std.proofs.lemmas.List.{drop_at, get_or_append_left, take-append-drop, take_rest}
+use Rattle.std.proofs.Common.{ℕ, ◌≡◌, List, ◌++◌, ◌-◌, ◌/◌, ◌≤◌, length, take, drop, sym, ap, ◌∙◌, arith, length-append, get_or, Ok, Err, Result}
+use Rattle.std.proofs.lemmas.List.{get_or_append_left, take-append-drop}
 use Rattle.etherparse_base.specs.Bytes.{IsBytes}
 use Rattle.etherparse_base.specs.declared.err.ipv6.header_error.HeaderError.TheVariants.{UnexpectedVersion}
 use Rattle.etherparse_base.specs.declared.err.ipv6.header_slice_error.HeaderSliceError.{HeaderSliceError}
@@ -8,7 +8,7 @@ use Rattle.etherparse_base.specs.declared.err.ipv6.header_slice_error.HeaderSlic
 use Rattle.etherparse.proofs.ExtensionHeaderChain.{chain_after_header}
 use Rattle.etherparse.proofs.Fronts.{TellsHeaders, begins_at, cut_behind, read_once}
 use Rattle.etherparse.proofs.Fronts as fronts
-use Rattle.etherparse.proofs.Parts.{get_or-slice_range, length-part, part_is_bytes, same_front}
+use Rattle.etherparse.proofs.Parts.{get_or-slice_range, length-part, part_is_bytes}
 use Rattle.etherparse.proofs.Ipv6Layout.{header_at, same_header, word_of-layout}
 use Rattle.etherparse.specs.Ipv6Header.{Ipv6Reading, IsIpv6Layout, IsIpv6ReadingOf, ReadsIpv6, RefusesIpv6, ViewsIpv6}
 use Rattle.etherparse.specs.Reading.{BeginsWith}

@@ -1,5 +1,5 @@
 -- The checksum of an IPv4 header (RFC 791 section 3.1, RFC 1071 section 1).
-use Rattle.std.specs.Prelude.{ℕ, ◌≡◌, ◌+◌, ◌-◌, ◌↔◌, List, [], ◌∷◌, slice_set, take}
+use Rattle.std.specs.Prelude.{ℕ, ◌≡◌, ◌+◌, ◌↔◌, List, [], ◌∷◌, slice_set, take}
 use Rattle.std.specs.Int.{to_be_bytes, w16}
 use Rattle.etherparse_base.specs.WordSums.{SumsToAllOnes, checksum_of, network_order_word_sum}
 use Rattle.etherparse.specs.Ipv4Header.{IsIpv4Layout, IsIpv4LayoutWith, ipv4_header_len}

@@ -1,6 +1,6 @@
 -- The IPv6 header (RFC 8200 section 3).
 use Rattle.std.specs.Prelude.{ℕ, ◌≡◌, ◌+◌, ◌*◌, ◌^◌, ◌<◌, ◌≤◌, List, ◌++◌, length, take}
-use Rattle.std.specs.Prelude.{slice_index, slice_range, IfOk, Result, Ok, Err, replicate}
+use Rattle.std.specs.Prelude.{slice_index, slice_range, IfOk, Result, replicate}
 use Rattle.std.specs.List.{concat}
 use Rattle.std.specs.Int.{from_be_bytes, w16, w32}
 use Rattle.etherparse_base.specs.Bytes.{IsBytes}

@@ -1,6 +1,5 @@
-use Rattle.std.proofs.Common.{[], drop, ◌≡◌, sym, arith, rules, ◌∙◌}
-use Rattle.std.proofs.lemmas.List.{drop_all}
-use Rattle.etherparse.proofs.Ipv4Reading.{front_read, is_reading_of, options_in_room}
+use Rattle.std.proofs.Common.{arith, ◌∙◌}
+use Rattle.etherparse.proofs.Ipv4Reading.{front_read, options_in_room}
 use Rattle.etherparse.proofs.net.ipv4_header.Ipv4Header.from_slice.Goals as goal
 
 pub header_with-requires-then-slice-ge-MAX_LEN : goal.header_with-requires-then-slice-ge-MAX_LEN

@@ -1,5 +1,4 @@
-use Rattle.std.proofs.Common.{rules}
-use Rattle.etherparse.proofs.Ipv6Reading.{front_read, is_reading_of}
+use Rattle.etherparse.proofs.Ipv6Reading.{front_read}
 use Rattle.etherparse.proofs.net.ipv6_header.Ipv6Header.from_slice.Goals as goal
 
 pub returns : goal.returns
