@@ -1,4 +1,4 @@
-use Rattle.std.proofs.Common.{Ok, arith, rules}
+use Rattle.std.proofs.Common.{Ok, arith}
 use Rattle.std.proofs.lemmas.Grind.{common_steps}
 use Rattle.uses.proofs.filter.goes_on.Goals as goal
 
