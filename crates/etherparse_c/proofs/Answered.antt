@@ -1,32 +1,34 @@
 -- From an answer of the library to what C gets of it.
-use Rattle.std.proofs.Common.{◌≡◌, List, Ok, Err, Result, sym, ap, ◌∙◌}
-use Rattle.std.specs.Prelude.{ℕ}
+use Rattle.std.proofs.Common.{ℕ, ◌≡◌, ◌+◌, List, Ok, Err, Result, sym, ap, subst, ◌∙◌, arith, length, length-append}
+use Rattle.etherparse.specs.Reading.{HasFront, Reads, Views}
 use Rattle.etherparse_c.specs.Answer.{GivesAnswer}
 
 -- C gets the one answer that is allowed
-pub answered : {A C : Type 0} (Allows : A → Type 0) (in_c : A → C) (result : C) (a : A) → Allows a
+pub answered : {A C : Type 0} {Allows : A → Type 0} {in_c : A → C} {result : C} (a : A) → Allows a
     → ((other : A) → Allows other → other ≡ a) → result ≡ in_c a → GivesAnswer Allows in_c result
-answered Allows in_c result a allowed only given =
-    record { answer = a; allowed = allowed; only = λ each e. given ∙ ap in_c (sym (only each e)) }
+answered {A} {C} {Allows} {in_c} a allowed only given = record { answer = a; allowed = allowed; only = λ each e. given ∙ ap in_c (sym (only each e)) }
 
--- where a header is seen, C gets the view of each header that is read, and no error is
-pub seen : {H E C : Type 0} (Reads : Result (H × List ℕ) E → Type 0) (Views : Result (List ℕ) E → Type 0)
-    (in_c : Result (H × List ℕ) E → C) (result : C) (front : List ℕ)
-    → ((other : Result (List ℕ) E) → Views other → other ≡ Ok front) → ((e : E) → Reads (Err e) → Views (Err e))
-    → ((header : H) (rest : List ℕ) → Reads (Ok (header, rest)) → result ≡ in_c (Ok (header, rest)))
-    → (each : Result (H × List ℕ) E) → Reads each → result ≡ in_c each
-seen Reads Views in_c result front only refuses shows (Ok x) r = shows x.0 x.1 r
-seen Reads Views in_c result front only refuses shows (Err e) r =
-    let wrong : Err e ≡ Ok front = only (Err e) (refuses e r) in cc
+-- where one front is seen, C gets the view of each header that is read
+pub seen : {H E C : Type 0} {in_c : Result (H × List ℕ) E → C} {result : C} (Layout : H → List ℕ → Type 0) (Refuses : List ℕ → E → Type 0) (s front : List ℕ)
+    → HasFront Layout s front → ((other : Result (List ℕ) E) → Views Layout Refuses s other → other ≡ Ok front)
+    → ((h : H) (rest : List ℕ) → Layout h front → length front + length rest ≡ length s → result ≡ in_c (Ok (h, rest)))
+    → GivesAnswer (Reads Layout Refuses s) in_c result
+seen {H} {E} {C} {in_c} {result} Layout Refuses s front v only gives =
+    record { answer = Ok (v.header, v.rest); allowed = record { front = front; whole = v.whole; layout = v.layout }; only = each }
+  where
+    each : (a : Result (H × List ℕ) E) → Reads Layout Refuses s a → result ≡ in_c a
+    each (Ok x) b =
+        let one : Ok b.front ≡ Ok front = only (Ok b.front) (record { header = x.0; rest = x.1; whole = b.whole; layout = b.layout }) in
+        let same : b.front ≡ front = cc in
+        gives x.0 x.1 (subst (λ p. Layout x.0 p) same b.layout) (omega (arith, ap length b.whole, length-append b.front x.1, ap length same))
+    each (Err e) r = let wrong : Err e ≡ Ok front = only (Err e) r in cc
 
 -- where none is, C gets the error
-pub unseen : {H E C : Type 0} (Reads : Result (H × List ℕ) E → Type 0) (Views : Result (List ℕ) E → Type 0)
-    (in_c : Result (H × List ℕ) E → C) (result : C) (e : E)
-    → ((other : Result (List ℕ) E) → Views other → other ≡ Err e) → ((f : E) → Reads (Err f) → Views (Err f))
-    → ((header : H) (rest : List ℕ) → Reads (Ok (header, rest)) → ⊥) → result ≡ in_c (Err e)
-    → (each : Result (H × List ℕ) E) → Reads each → result ≡ in_c each
-unseen Reads Views in_c result e only refuses none given (Ok x) r = absurd (none x.0 x.1 r)
-unseen Reads Views in_c result e only refuses none given (Err f) r =
-    let wrapped : Err f ≡ Err e = only (Err f) (refuses f r) in
-    let same : e ≡ f = cc in
-    given ∙ ap (λ x. in_c (Err x)) same
+pub unseen : {H E C : Type 0} {in_c : Result (H × List ℕ) E → C} {result : C} (Layout : H → List ℕ → Type 0) (Refuses : List ℕ → E → Type 0) (s : List ℕ) (e : E)
+    → Refuses s e → ((other : Result (List ℕ) E) → Views Layout Refuses s other → other ≡ Err e)
+    → result ≡ in_c (Err e) → GivesAnswer (Reads Layout Refuses s) in_c result
+unseen {H} {E} Layout Refuses s e refused only given = answered (Err e) refused one given
+  where
+    one : (other : Result (H × List ℕ) E) → Reads Layout Refuses s other → other ≡ Err e
+    one (Ok x) b = let wrong : Ok b.front ≡ Err e = only (Ok b.front) (record { header = x.0; rest = x.1; whole = b.whole; layout = b.layout }) in cc
+    one (Err f) r = let same : Err f ≡ Err e = only (Err f) r in cc

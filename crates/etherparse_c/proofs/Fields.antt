@@ -25,38 +25,22 @@ pub one_ipv4_header : (fields : Ipv4Fields) (g h : Ipv4Header) → StandForIpv4 
 one_ipv4_header fields g h a b =
     let e = sym a.others ∙ b.others in
     same_fields g h
-    (ap (λ (f : Ipv4Fields). f.dscp) e)
-    (same_ecn g.ecn h.ecn (ap (λ (f : Ipv4Fields). f.ecn) e))
-    (ap (λ (f : Ipv4Fields). f.total_len) e)
-    (ap (λ (f : Ipv4Fields). f.identification) e)
-    (ap (λ (f : Ipv4Fields). f.dont_fragment) e)
-    (ap (λ (f : Ipv4Fields). f.more_fragments) e)
-    (ap (λ (f : Ipv4Fields). f.fragment_offset) e)
-    (ap (λ (f : Ipv4Fields). f.time_to_live) e)
-    (ap (λ (f : Ipv4Fields). f.protocol) e)
-    (ap (λ (f : Ipv4Fields). f.header_checksum) e)
-    (ap (λ (f : Ipv4Fields). f.source) e)
-    (ap (λ (f : Ipv4Fields). f.destination) e)
+    (ap (λ (f : Ipv4Fields). f.dscp) e) (same_ecn g.ecn h.ecn (ap (λ (f : Ipv4Fields). f.ecn) e)) (ap (λ (f : Ipv4Fields). f.total_len) e) (ap (λ (f : Ipv4Fields). f.identification) e)
+    (ap (λ (f : Ipv4Fields). f.dont_fragment) e) (ap (λ (f : Ipv4Fields). f.more_fragments) e) (ap (λ (f : Ipv4Fields). f.fragment_offset) e) (ap (λ (f : Ipv4Fields). f.time_to_live) e)
+    (ap (λ (f : Ipv4Fields). f.protocol) e) (ap (λ (f : Ipv4Fields). f.header_checksum) e) (ap (λ (f : Ipv4Fields). f.source) e) (ap (λ (f : Ipv4Fields). f.destination) e)
     (a.options ∙ sym b.options)
-
-pub one_ipv6_header : (fields : Ipv6Fields) (g h : Ipv6Header) → fields ≡ ipv6_fields_of g → fields ≡ ipv6_fields_of h → g ≡ h
-one_ipv6_header fields g h a b =
-    let e = sym a ∙ b in
-    same_ipv6_fields g h
-    (ap (λ (f : Ipv6Fields). f.traffic_class) e)
-    (ap (λ (f : Ipv6Fields). f.flow_label) e)
-    (ap (λ (f : Ipv6Fields). f.payload_length) e)
-    (ap (λ (f : Ipv6Fields). f.next_header) e)
-    (ap (λ (f : Ipv6Fields). f.hop_limit) e)
-    (ap (λ (f : Ipv6Fields). f.source) e)
-    (ap (λ (f : Ipv6Fields). f.destination) e)
 
 -- what is written for the fields is in the layout of that header
 pub written_ipv4_layout : (fields : Ipv4Fields) (h : Ipv4Header) (p : List ℕ) → StandForIpv4 fields h → AreWrittenForIpv4 fields p → IsIpv4LayoutWith h 0 p
 written_ipv4_layout fields h p same w = subst (λ x. IsIpv4LayoutWith x 0 p) (one_ipv4_header fields w.header h w.same same) w.layout
 
 pub written_ipv6_layout : (fields : Ipv6Fields) (h : Ipv6Header) (p : List ℕ) → fields ≡ ipv6_fields_of h → AreWrittenForIpv6 fields p → IsIpv6Layout h p
-written_ipv6_layout fields h p same w = subst (λ x. IsIpv6Layout x p) (one_ipv6_header fields w.header h w.same same) w.layout
+written_ipv6_layout fields h p same w =
+    let e = sym w.same ∙ same in
+    let one = same_ipv6_fields w.header h
+    (ap (λ (f : Ipv6Fields). f.traffic_class) e) (ap (λ (f : Ipv6Fields). f.flow_label) e) (ap (λ (f : Ipv6Fields). f.payload_length) e) (ap (λ (f : Ipv6Fields). f.next_header) e)
+    (ap (λ (f : Ipv6Fields). f.hop_limit) e) (ap (λ (f : Ipv6Fields). f.source) e) (ap (λ (f : Ipv6Fields). f.destination) e) in
+    subst (λ x. IsIpv6Layout x p) one w.layout
 
 -- the test for a fragment
 pub fragment_test : (h : Ipv4Header) (b : Bool) → (IsTrue b ↔ IsFragment h) → b ≡ (h.more_fragments || not (h.fragment_offset == 0))

@@ -1,17 +1,9 @@
 use Rattle.std.proofs.Common.{Ok, Err, rules}
-use Rattle.etherparse.specs.Ipv6Header.{ReadsIpv6}
 use Rattle.etherparse_c.proofs.Answered.{answered}
-use Rattle.etherparse_c.specs.Ipv6Answers.{ipv6_reading_in_c}
 use Rattle.etherparse_c.proofs.ipv6_header.etherparse_ipv6_read.Goals as goal
 
 pub returns-in-Ok : goal.returns-in-Ok
-returns-in-Ok c = record {
-  reads = answered (ReadsIpv6 c.args.slice.now) (ipv6_reading_in_c c.args.slice.now) _ (Ok (c.in-Ok.header, c.in-Ok.rest.now))
-      c.in-Ok.ensures.reads.reads c.in-Ok.ensures.reads.only (search rules);
-}
+returns-in-Ok c = record { reads = answered (Ok (c.in-Ok.header, c.in-Ok.rest.now)) c.in-Ok.ensures.reads.reads c.in-Ok.ensures.reads.only (search rules) }
 
 pub returns-in-Err : goal.returns-in-Err
-returns-in-Err c = record {
-  reads = answered (ReadsIpv6 c.args.slice.now) (ipv6_reading_in_c c.args.slice.now) _ (Err c.in-Err.e)
-      c.in-Err.ensures.reads.reads c.in-Err.ensures.reads.only (c.refused.ensures.value c.args.slice.now);
-}
+returns-in-Err c = record { reads = answered (Err c.in-Err.e) c.in-Err.ensures.reads.reads c.in-Err.ensures.reads.only (c.refused.ensures.value c.args.slice.now) }

@@ -1,18 +1,9 @@
 use Rattle.std.proofs.Common.{Ok, Err, rules}
-use Rattle.etherparse.specs.ExtensionHeaderChain.{Walks}
 use Rattle.etherparse_c.proofs.Answered.{answered}
-use Rattle.etherparse_c.specs.Error.{len_error_in_c}
-use Rattle.etherparse_c.specs.Ipv6Answers.{walk_in_c}
 use Rattle.etherparse_c.proofs.ipv6_walk.etherparse_ipv6_walk.Goals as goal
 
 pub returns-in-Ok : goal.returns-in-Ok
-returns-in-Ok c = record {
-  walks = answered (Walks c.args.slice.now c.args.next_header) (walk_in_c len_error_in_c c.args.slice.now) _ (Ok (c.in-Ok.number, c.in-Ok.rest.now))
-      c.in-Ok.ensures.walks.walks c.in-Ok.ensures.walks.only (search rules);
-}
+returns-in-Ok c = record { walks = answered (Ok (c.in-Ok.number, c.in-Ok.rest.now)) c.in-Ok.ensures.walks.walks c.in-Ok.ensures.walks.only (search rules) }
 
 pub returns-in-Err : goal.returns-in-Err
-returns-in-Err c = record {
-  walks = answered (Walks c.args.slice.now c.args.next_header) (walk_in_c len_error_in_c c.args.slice.now) _ (Err c.in-Err.e)
-      c.in-Err.ensures.walks.walks c.in-Err.ensures.walks.only (search rules);
-}
+returns-in-Err c = record { walks = answered (Err c.in-Err.e) c.in-Err.ensures.walks.walks c.in-Err.ensures.walks.only (search rules) }

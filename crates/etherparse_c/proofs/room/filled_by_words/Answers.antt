@@ -1,17 +1,12 @@
-use Rattle.std.proofs.Common.{ℕ, ◌≡◌, ◌+◌, ◌-◌, ◌<◌, ◌++◌, List, arith, refl, get_or, length, replicate, sym, ◌∙◌, inl, inr}
-use Rattle.std.proofs.lemmas.Bool.{cases_lt}
+use Rattle.std.proofs.Common.{ℕ, ◌≡◌, ◌+◌, ◌-◌, ◌<◌, ◌++◌, List, arith, get_or, length, replicate, sym, ◌∙◌}
 use Rattle.std.proofs.lemmas.Grind.{common_steps}
-use Rattle.std.proofs.lemmas.List.{ext_get_or, get_or-append_right, get_or_append_left, get_or_past, get_or-replicate}
+use Rattle.std.proofs.lemmas.List.{ext_get_or}
 use Rattle.etherparse_c.proofs.room.filled_by_words.Goals as goal
 
 -- a list with 0 after it has the items that it has, and 0 where it has none
 padded : (xs : List ℕ) (n i : ℕ) → i < length xs + n
     → get_or (xs ++ replicate n 0) i 0 ≡ get_or xs i 0
-padded xs n i within = elim (cases_lt i (length xs)) [
-  | inl below ↦ get_or_append_left xs (replicate n 0) 0 i below
-  | inr past ↦ get_or-append_right xs (replicate n 0) _ i 0 refl past
-      ∙ get_or-replicate n _ 0 0 (omega arith) ∙ sym (get_or_past xs i 0 past)
-]
+padded xs n i within = grind (arith, common_steps)
 
 pub returns : goal.returns
 returns c =
