@@ -3,8 +3,7 @@ use Rattle.std.proofs.Common.{ℕ, List, ◌++◌, ap, ◌∙◌, append_assoc, 
 use Rattle.std.specs.Io.KnownBytes.{Appends}
 
 -- what is appended in two steps is appended
-pub appended : (a b c : Option (List ℕ)) (x y : List ℕ)
-    → Appends a b x → Appends b c y → Appends a c (x ++ y)
+pub appended : (a b c : Option (List ℕ)) (x y : List ℕ) → Appends a b x → Appends b c y → Appends a c (x ++ y)
 appended None b c x y p q = tt
 appended (Some xs) None c x y p q = absurd p
 appended (Some xs) (Some ys) None x y p q = absurd q

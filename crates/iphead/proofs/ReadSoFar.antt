@@ -1,6 +1,5 @@
 -- What a loop has read of an input.
-use Rattle.std.proofs.Common.{ℕ, ◌≡◌, ◌+◌, ◌<◌, ◌≤◌, inl, inr, List, [], ◌∷◌, ◌++◌, length, get_or}
-use Rattle.std.proofs.Common.{take, drop, drop-cons, suc, sym, subst, ap, ◌∙◌, arith, append-nil}
+use Rattle.std.proofs.Common.{ℕ, ◌≡◌, ◌+◌, ◌<◌, ◌≤◌, List, [], ◌∷◌, ◌++◌, length, get_or, take, drop, drop-cons, suc, sym, ap, ◌∙◌, arith, append-nil}
 use Rattle.std.proofs.Common.{append_assoc, length-append, Option, Some, None, IfSome}
 use Rattle.std.specs.Prelude.{not}
 use Rattle.std.specs.Io.KnownBytes.{Consumes, IsAtEnd}
@@ -14,32 +13,18 @@ digits_of-append xs ys = filter-append (λ b. not (is_blank b)) xs ys
 
 -- the digits of a piece are at least those up to an item, and that item's
 pub length-digits_of-take : (xs : List ℕ) (i : ℕ) → i < length xs
-    → length (digits_of (take i xs)) + length (digits_of (get_or xs i 0 ∷ []))
-    ≤ length (digits_of xs)
+    → length (digits_of (take i xs)) + length (digits_of (get_or xs i 0 ∷ [])) ≤ length (digits_of xs)
 length-digits_of-take xs i h =
-    let item = get_or xs i 0 ∷ [] in
     let after = drop (suc i) xs in
-    let whole : xs ≡ take i xs ++ (item ++ after) =
-    sym (take-append-drop i xs) ∙ ap (λ ys. take i xs ++ ys) (drop-cons xs i 0 h) in
-    let parts = digits_of-append (take i xs) (item ++ after) in
-    let rest = digits_of-append item after in
-    omega (
-      arith,
-      ap (λ ys. length (digits_of ys)) whole,
-      ap length parts,
-      ap length rest,
-      length-append (digits_of (take i xs)) (digits_of (item ++ after)),
-      length-append (digits_of item) (digits_of after),
-    )
+    let whole : xs ≡ take i xs ++ (get_or xs i 0 ∷ [] ++ after) = sym (take-append-drop i xs) ∙ ap (λ ys. take i xs ++ ys) (drop-cons xs i 0 h) in
+    omega (arith, simp (digits_of-append, length-append) at (ap {B = ℕ} (λ ys. length (digits_of ys)) whole))
 
 -- the bytes that the reader has lost, of which these are the digits and the number
 abbrev pub ReadSoFar : Option (List ℕ) → Option (List ℕ) → List ℕ → ℕ → Type 0
-ReadSoFar start now digits len = IfSome start (λ _. (seen : List ℕ)
-    × Consumes start now seen × (digits ≡ digits_of seen) × (len ≡ length seen))
+ReadSoFar start now digits len = IfSome start (λ _. (seen : List ℕ) × Consumes start now seen × (digits ≡ digits_of seen) × (len ≡ length seen))
 
 pub more_read : (start now new : Option (List ℕ)) (digits digits' piece : List ℕ) (len len' : ℕ)
-    → ReadSoFar start now digits len → Consumes now new piece
-    → digits' ≡ digits ++ digits_of piece → len' ≡ len + length piece
+    → ReadSoFar start now digits len → Consumes now new piece → digits' ≡ digits ++ digits_of piece → len' ≡ len + length piece
     → ReadSoFar start new digits' len'
 more_read None now new digits digits' piece len len' r c d l = tt
 more_read (Some input) None new digits digits' piece len len' r c d l = absurd r.1
@@ -51,28 +36,14 @@ more_read (Some input) (Some rest) (Some rest') digits digits' piece len len' r 
   l ∙ ap (λ n. n + length piece) r.3 ∙ sym (length-append r.0 piece),
 )
 
-at_end : (start now new : Option (List ℕ)) (digits : List ℕ) (len : ℕ)
-    → ReadSoFar start now digits len → Consumes now new [] → IsAtEnd new
-    → length digits ≤ 4096 → len ≤ 65536
-    → IfSome start (λ input. (IsTooLong input → ⊥) × (digits ≡ digits_of input))
-at_end None now new digits len r c e few short = tt
-at_end (Some input) None new digits len r c e few short = absurd r.1
-at_end (Some input) (Some rest) None digits len r c e few short = absurd c
-at_end (Some input) (Some rest) (Some rest') digits len r c e few short =
-    let whole : input ≡ r.0 = r.1 ∙ ap (λ xs. r.0 ++ xs) (c ∙ e) ∙ append-nil r.0 in
-    rw whole (not_too_long r.0 (ap length (sym r.2)) r.3, r.2)
-  where
-    not_too_long : (seen : List ℕ) → length (digits_of seen) ≡ length digits → len ≡ length seen
-        → IsTooLong seen → ⊥
-    not_too_long seen p q (inl many) = omega arith
-    not_too_long seen p q (inr long) = omega arith
-
 -- a read that gives nothing, with room for something, is at the end
-pub all_read : (start now new : Option (List ℕ)) (digits : List ℕ) (len n : ℕ) (buf : List ℕ)
-    → ReadSoFar start now digits len → n ≡ 0 → 0 < length buf
-    → Consumes now new (take n buf) × (n ≡ 0 → 0 < length buf → IsAtEnd new)
-    → length digits ≤ 4096 → len ≤ 65536
+pub all_read : (start now new : Option (List ℕ)) (digits : List ℕ) (len n : ℕ) (buf : List ℕ) → ReadSoFar start now digits len → n ≡ 0 → 0 < length buf
+    → Consumes now new (take n buf) × (n ≡ 0 → 0 < length buf → IsAtEnd new) → length digits ≤ 4096 → len ≤ 65536
     → IfSome start (λ input. (IsTooLong input → ⊥) × (digits ≡ digits_of input))
-all_read start now new digits len n buf r none room reads few short =
-    let nothing = λ (m : ℕ). Consumes now new (take m buf) in
-    at_end start now new digits len r (subst nothing none reads.0) (reads.1 none room) few short
+all_read None now new digits len n buf r none room reads few short = tt
+all_read (Some input) None new digits len n buf r none room reads few short = absurd r.1
+all_read (Some input) (Some rest) None digits len n buf r none room reads few short = absurd reads.0
+all_read (Some input) (Some rest) (Some rest') digits len n buf r none room reads few short =
+    let ends : rest ≡ [] = reads.0 ∙ rw (none, reads.1 none room) in
+    let whole : input ≡ r.0 = r.1 ∙ ap (λ xs. r.0 ++ xs) ends ∙ append-nil r.0 in
+    rw whole (λ long. omega (arith, ap length r.2, r.3, long), r.2)
