@@ -24,11 +24,9 @@ same_ecn a b e = search rules
 pub one_ipv4_header : (fields : Ipv4Fields) (g h : Ipv4Header) → StandForIpv4 fields g → StandForIpv4 fields h → g ≡ h
 one_ipv4_header fields g h a b =
     let e = sym a.others ∙ b.others in
-    same_fields g h
-    (ap (λ (f : Ipv4Fields). f.dscp) e) (same_ecn g.ecn h.ecn (ap (λ (f : Ipv4Fields). f.ecn) e)) (ap (λ (f : Ipv4Fields). f.total_len) e) (ap (λ (f : Ipv4Fields). f.identification) e)
-    (ap (λ (f : Ipv4Fields). f.dont_fragment) e) (ap (λ (f : Ipv4Fields). f.more_fragments) e) (ap (λ (f : Ipv4Fields). f.fragment_offset) e) (ap (λ (f : Ipv4Fields). f.time_to_live) e)
-    (ap (λ (f : Ipv4Fields). f.protocol) e) (ap (λ (f : Ipv4Fields). f.header_checksum) e) (ap (λ (f : Ipv4Fields). f.source) e) (ap (λ (f : Ipv4Fields). f.destination) e)
-    (a.options ∙ sym b.options)
+    same_fields g h (ap (λ f. f.dscp) e) (same_ecn g.ecn h.ecn (ap (λ f. f.ecn) e)) (ap (λ f. f.total_len) e) (ap (λ f. f.identification) e)
+    (ap (λ f. f.dont_fragment) e) (ap (λ f. f.more_fragments) e) (ap (λ f. f.fragment_offset) e) (ap (λ f. f.time_to_live) e) (ap (λ f. f.protocol) e)
+    (ap (λ f. f.header_checksum) e) (ap (λ f. f.source) e) (ap (λ f. f.destination) e) (a.options ∙ sym b.options)
 
 -- what is written for the fields is in the layout of that header
 pub written_ipv4_layout : (fields : Ipv4Fields) (h : Ipv4Header) (p : List ℕ) → StandForIpv4 fields h → AreWrittenForIpv4 fields p → IsIpv4LayoutWith h 0 p
@@ -37,9 +35,8 @@ written_ipv4_layout fields h p same w = subst (λ x. IsIpv4LayoutWith x 0 p) (on
 pub written_ipv6_layout : (fields : Ipv6Fields) (h : Ipv6Header) (p : List ℕ) → fields ≡ ipv6_fields_of h → AreWrittenForIpv6 fields p → IsIpv6Layout h p
 written_ipv6_layout fields h p same w =
     let e = sym w.same ∙ same in
-    let one = same_ipv6_fields w.header h
-    (ap (λ (f : Ipv6Fields). f.traffic_class) e) (ap (λ (f : Ipv6Fields). f.flow_label) e) (ap (λ (f : Ipv6Fields). f.payload_length) e) (ap (λ (f : Ipv6Fields). f.next_header) e)
-    (ap (λ (f : Ipv6Fields). f.hop_limit) e) (ap (λ (f : Ipv6Fields). f.source) e) (ap (λ (f : Ipv6Fields). f.destination) e) in
+    let one = same_ipv6_fields w.header h (ap (λ f. f.traffic_class) e) (ap (λ f. f.flow_label) e) (ap (λ f. f.payload_length) e) (ap (λ f. f.next_header) e)
+    (ap (λ f. f.hop_limit) e) (ap (λ f. f.source) e) (ap (λ f. f.destination) e) in
     subst (λ x. IsIpv6Layout x p) one w.layout
 
 -- the test for a fragment

@@ -1,15 +1,10 @@
 -- What a loop has read of an input.
 use Rattle.std.proofs.Common.{ℕ, ◌≡◌, ◌+◌, ◌<◌, ◌≤◌, List, [], ◌∷◌, ◌++◌, length, get_or, take, drop, drop-cons, suc, sym, ap, ◌∙◌, arith, append-nil}
 use Rattle.std.proofs.Common.{append_assoc, length-append, Option, Some, None, IfSome}
-use Rattle.std.specs.Prelude.{not}
 use Rattle.std.specs.Io.KnownBytes.{Consumes, IsAtEnd}
 use Rattle.std.proofs.lemmas.List.{take-append-drop}
 use Rattle.std.proofs.lemmas.List.Elements.{filter-append}
-use Rattle.iphead.specs.Input.{IsTooLong, digits_of, is_blank}
-
--- digits of two parts
-pub digits_of-append : (xs ys : List ℕ) → digits_of (xs ++ ys) ≡ digits_of xs ++ digits_of ys
-digits_of-append xs ys = filter-append (λ b. not (is_blank b)) xs ys
+use Rattle.iphead.specs.Input.{IsTooLong, digits_of}
 
 -- the digits of a piece are at least those up to an item, and that item's
 pub length-digits_of-take : (xs : List ℕ) (i : ℕ) → i < length xs
@@ -17,7 +12,7 @@ pub length-digits_of-take : (xs : List ℕ) (i : ℕ) → i < length xs
 length-digits_of-take xs i h =
     let after = drop (suc i) xs in
     let whole : xs ≡ take i xs ++ (get_or xs i 0 ∷ [] ++ after) = sym (take-append-drop i xs) ∙ ap (λ ys. take i xs ++ ys) (drop-cons xs i 0 h) in
-    omega (arith, simp (digits_of-append, length-append) at (ap {B = ℕ} (λ ys. length (digits_of ys)) whole))
+    omega (arith, simp (filter-append, length-append) at (ap {B = ℕ} (λ ys. length (digits_of ys)) whole))
 
 -- the bytes that the reader has lost, of which these are the digits and the number
 abbrev pub ReadSoFar : Option (List ℕ) → Option (List ℕ) → List ℕ → ℕ → Type 0
@@ -32,7 +27,7 @@ more_read (Some input) (Some rest) None digits digits' piece len len' r c d l = 
 more_read (Some input) (Some rest) (Some rest') digits digits' piece len len' r c d l = (
   r.0 ++ piece,
   r.1 ∙ ap (λ xs. r.0 ++ xs) c ∙ sym (append_assoc r.0 piece rest'),
-  d ∙ ap (λ xs. xs ++ digits_of piece) r.2 ∙ sym (digits_of-append r.0 piece),
+  d ∙ ap (λ xs. xs ++ digits_of piece) r.2 ∙ sym (filter-append _ r.0 piece),
   l ∙ ap (λ n. n + length piece) r.3 ∙ sym (length-append r.0 piece),
 )
 
