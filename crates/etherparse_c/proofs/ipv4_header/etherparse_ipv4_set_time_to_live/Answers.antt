@@ -16,4 +16,5 @@ returns-clause-keeps_checksum c = λ some old new before after.
     let fields = c.args.fields.now in
     let h = c.in-Some.header in
     let stands = changed fields _ _ h c.set_time_to_live.new.self c.in-Some.ensures.value c.set_time_to_live.ensures.set in
-    rw (← one_ipv4_header fields h old c.in-Some.ensures.value before, ← one_ipv4_header _ c.set_time_to_live.new.self new stands after) c.set_time_to_live.ensures.keeps_checksum
+    rw (← one_ipv4_header fields h old c.in-Some.ensures.value before, ← one_ipv4_header _ c.set_time_to_live.new.self new stands after)
+    c.set_time_to_live.ensures.keeps_checksum
