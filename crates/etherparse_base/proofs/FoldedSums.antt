@@ -6,9 +6,8 @@ use Rattle.etherparse_base.specs.WordSums.{StandsForWords, end_around_sum, folde
 -- numbers that differ by a multiple of 65535, unless one of them alone is 0
 pub same_fold : (a b k : ℕ) → a ≡ b + 65535 * k → (b ≡ 0 → a ≡ 0) → folded_sum a ≡ folded_sum b
 same_fold zero zero k e z = refl
-same_fold zero (suc b) k e z = absurd (omega (arith, e))
-same_fold (suc a) zero k e z = absurd (omega (arith, z refl))
 same_fold (suc a) (suc b) k e z = omega (arith, e)
+same_fold a b k e z = absurd (omega arith)
 
 -- the fold of a number above 0
 pub folded_sum-positive : (n : ℕ) → 0 < n → folded_sum n ≡ 1 + (n - 1) % 65535
@@ -18,11 +17,8 @@ folded_sum-positive (suc n) h = omega arith
 -- numbers that fold alike do so with another added
 pub folded_sum-plus : (a b n : ℕ) → folded_sum a ≡ folded_sum b → folded_sum (a + n) ≡ folded_sum (b + n)
 folded_sum-plus zero zero n e = refl
-folded_sum-plus zero (suc b) n e = absurd (omega (arith, e))
-folded_sum-plus (suc a) zero n e = absurd (omega (arith, e))
-folded_sum-plus (suc a) (suc b) n e =
-    let same : 1 + (suc a + n - 1) % 65535 ≡ 1 + (suc b + n - 1) % 65535 = omega (arith, e) in
-    folded_sum-positive (suc a + n) (omega arith) ∙ same ∙ sym (folded_sum-positive (suc b + n) (omega arith))
+folded_sum-plus (suc a) (suc b) n e = folded_sum-positive (suc a + n) (omega arith) ∙ omega (arith, e) ∙ sym (folded_sum-positive (suc b + n) (omega arith))
+folded_sum-plus a b n e = absurd (omega arith)
 
 -- all ones in the place of 0 leave a sum above 0 as it is
 pub folded_sum-all_ones : (n zeros : ℕ) → 0 < n → zeros ≡ 0 → folded_sum (n + 65535) ≡ folded_sum (n + zeros)
@@ -36,18 +32,11 @@ folded_sum-within (suc n) = omega arith
 -- the end-around carry takes a multiple of 65535 away, and leaves more than 0
 carried : (greatest k n : ℕ) (over : Bool) → (over ≡ true → greatest < n) → greatest ≡ 65535 * k → folded_sum (if over then n - greatest else n) ≡ folded_sum n
 carried greatest k n true above e =
-    let h : greatest < n = above refl in
-    sym (same_fold n (n - greatest) k (omega (arith, h, e)) (λ z. absurd (omega (arith, h, z))))
+    let h : greatest < n = above refl in sym (same_fold n (n - greatest) k (omega arith) (λ z. absurd (omega arith)))
 carried greatest k n false above e = refl
 
 pub folded_sum-end_around_sum : (greatest k a b : ℕ) → greatest ≡ 65535 * k → folded_sum (end_around_sum greatest a b) ≡ folded_sum (a + b)
-folded_sum-end_around_sum greatest k a b e =
-    carried greatest k (a + b) (nat_lt greatest (a + b)) (ltb-true greatest (a + b)) e
-
--- a fold folds to itself
-folded_sum-folded_sum : (n : ℕ) → folded_sum (folded_sum n) ≡ folded_sum n
-folded_sum-folded_sum zero = refl
-folded_sum-folded_sum (suc n) = folded_sum-positive (1 + n % 65535) (omega arith) ∙ omega arith
+folded_sum-end_around_sum greatest k a b e = carried greatest k (a + b) (nat_lt greatest (a + b)) (ltb-true greatest (a + b)) e
 
 -- a sum to which words were added, in a longer one
 pub stands_for_words : (start answer : ℕ) (bytes : List ℕ) → folded_sum answer ≡ folded_sum (start + little_endian_word_sum bytes) → StandsForWords start bytes answer

@@ -3,22 +3,8 @@ use Rattle.std.proofs.Common.{ℕ, zero, suc, List, [], ◌∷◌, ◌++◌, ◌
 use Rattle.std.proofs.lemmas.List.{length-take, take-append-drop}
 use Rattle.std.proofs.lemmas.List.Sums.{sum_by-append, sum_by-cons}
 use Rattle.std.specs.Int.{swap_bytes, to_be_bytes}
-use Rattle.etherparse_base.specs.WordSums.{
-  AddsSlice,
-  AddsSlices,
-  ChangesOneByte,
-  Complements,
-  ComplementsWithNoZero,
-  IsSumOf,
-  SumsToAllOnes,
-  checksum_of,
-  folded_sum,
-  little_endian_word_sum,
-  network_order_word_sum,
-  ones_complement_sum,
-  weighted_byte_sum,
-  with_no_zero,
-}
+use Rattle.etherparse_base.specs.WordSums.{AddsSlice, AddsSlices, ChangesOneByte, Complements, ComplementsWithNoZero, IsSumOf, SumsToAllOnes}
+use Rattle.etherparse_base.specs.WordSums.{checksum_of, folded_sum, little_endian_word_sum, network_order_word_sum, ones_complement_sum, weighted_byte_sum, with_no_zero}
 use Rattle.etherparse_base.proofs.FoldedSums.{folded_sum-all_ones, folded_sum-positive, folded_sum-within, stands_for_words}
 
 -- each of the two sums is 256 times the other, but for multiples of 65535
@@ -32,43 +18,22 @@ other_order : (bytes : List ℕ) → OtherOrder bytes
 other_order [] = record { past_network = 0; past_little = 0; to_network = refl; to_little = refl }
 other_order (byte ∷ bytes) =
     let rest = other_order bytes in
-    let to_network = rest.to_network in
-    let to_little = rest.to_little in
-    record { past_network = rest.past_little; past_little = byte + rest.past_network; to_network = omega arith; to_little = omega arith }
-
--- both are 0, or none is
-both_zero : (bytes : List ℕ) → (little_endian_word_sum bytes ≡ 0 → network_order_word_sum bytes ≡ 0) × (network_order_word_sum bytes ≡ 0 → little_endian_word_sum bytes ≡ 0)
-both_zero [] = (λ e. e, λ e. e)
-both_zero (byte ∷ bytes) =
-    let rest = both_zero bytes in (
-      λ e. let first : byte ≡ 0 = omega arith in let others : network_order_word_sum bytes ≡ 0 = omega arith in omega (arith, rest.1 others),
-      λ e. let first : byte ≡ 0 = omega arith in let others : little_endian_word_sum bytes ≡ 0 = omega arith in omega (arith, rest.0 others),
-    )
+    record { past_network = rest.past_little; past_little = byte + rest.past_network; to_network = omega (arith, rest.to_little); to_little = omega (arith, rest.to_network) }
 
 -- the two bytes of a number exchanged
 swap_bytes-small : (n : ℕ) → n < 65536 → swap_bytes w16 n ≡ n % 256 * 256 + n / 256
 swap_bytes-small n h = omega arith
 
-fold_swapped : (n m k : ℕ) → 256 * n ≡ m + 65535 * k → (n ≡ 0 → m ≡ 0) → (m ≡ 0 → n ≡ 0) → swap_bytes w16 (folded_sum n) ≡ folded_sum m
-fold_swapped zero zero k e a b = refl
-fold_swapped zero (suc m) k e a b = absurd (omega (arith, a refl))
-fold_swapped (suc n) zero k e a b = absurd (omega (arith, b refl))
-fold_swapped (suc n) (suc m) k e a b =
-    let folded : (1 + n % 65535) % 256 * 256 + (1 + n % 65535) / 256 ≡ 1 + m % 65535 = omega arith in
-    swap_bytes-small (1 + n % 65535) (omega arith) ∙ folded
+fold_swapped : (n m k l : ℕ) → 256 * n ≡ m + 65535 * k → 256 * m ≡ n + 65535 * l → swap_bytes w16 (folded_sum n) ≡ folded_sum m
+fold_swapped zero zero k l to_m to_n = refl
+fold_swapped (suc n) (suc m) k l to_m to_n = omega arith
+fold_swapped n m k l to_m to_n = absurd (omega arith)
 
 -- the sum in network order is the other with its two bytes exchanged (RFC 1071 section 2 (B))
 pub swap_bytes-folded_sum : (bytes : List ℕ) → swap_bytes w16 (folded_sum (little_endian_word_sum bytes)) ≡ folded_sum (network_order_word_sum bytes)
 swap_bytes-folded_sum bytes =
-    let w = other_order bytes in
-    let zeros = both_zero bytes in
-    fold_swapped (little_endian_word_sum bytes) (network_order_word_sum bytes) w.past_network w.to_network zeros.0 zeros.1
-
--- all ones are all ones in either order
-all_ones_swapped : (n : ℕ) → n ≤ 65535 → (swap_bytes w16 n ≡ 65535) ↔ (n ≡ 65535)
-all_ones_swapped n h =
-    let swapped = swap_bytes-small n (omega arith) in
-    (λ e. omega (arith, swapped, e), λ e. omega (arith, swapped, e))
+    let order = other_order bytes in
+    fold_swapped (little_endian_word_sum bytes) (network_order_word_sum bytes) order.past_network order.past_little order.to_network order.to_little
 
 -- what a sum from 0 says of the words in network order
 pub network_order_from_zero : (start result : ℕ) (bytes : List ℕ) → folded_sum result ≡ folded_sum (start + little_endian_word_sum bytes) → start ≡ 0 → swap_bytes w16 (folded_sum result) ≡ folded_sum (network_order_word_sum bytes)
@@ -79,24 +44,14 @@ network_order_from_zero start result bytes sum from_zero =
 pub all_ones_from_zero : (start result : ℕ) (bytes : List ℕ) → folded_sum result ≡ folded_sum (start + little_endian_word_sum bytes) → start ≡ 0 → SumsToAllOnes bytes ↔ (folded_sum result ≡ 65535)
 all_ones_from_zero start result bytes sum from_zero =
     let swapped = network_order_from_zero start result bytes sum from_zero in
-    let ones = all_ones_swapped (folded_sum result) (folded_sum-within result) in
-    (λ e. ones.0 (swapped ∙ e), λ e. sym swapped ∙ ones.1 e)
-
--- the complement is 0 exactly where the words sum to all ones
-pub complement_all_ones : (sum : ℕ) (bytes : List ℕ) → IsSumOf sum bytes → SumsToAllOnes bytes ↔ (checksum_of sum ≡ 0)
-complement_all_ones sum bytes same =
-    let ones = all_ones_from_zero 0 sum bytes (same ∙ ap folded_sum (omega arith)) refl in
-    let within = folded_sum-within sum in
-    (λ all. omega (arith, ones.0 all), λ none. ones.1 (omega (arith, none, within)))
+    let within = folded_sum-within result in
+    (λ e. omega (arith, swapped, e), λ e. omega (arith, swapped, e))
 
 -- the complement with its two bytes exchanged is that of the sum in network order
 pub complement_swapped : (sum : ℕ) (bytes : List ℕ) → IsSumOf sum bytes → swap_bytes w16 (checksum_of sum) ≡ checksum_of (network_order_word_sum bytes)
 complement_swapped sum bytes same =
-    let within = folded_sum-within sum in
     let swapped : swap_bytes w16 (folded_sum sum) ≡ folded_sum (network_order_word_sum bytes) = ap (swap_bytes w16) same ∙ swap_bytes-folded_sum bytes in
-    let whole = swap_bytes-small (folded_sum sum) (omega (arith, within)) in
-    let complement = swap_bytes-small (checksum_of sum) (omega arith) in
-    omega (arith, within, swapped, whole, complement)
+    omega (arith, folded_sum-within sum, swapped)
 
 -- a sum is all ones with the complement of its fold
 completed : (n fold : ℕ) → folded_sum n ≡ fold → folded_sum (n + (65535 - fold)) ≡ 65535
@@ -110,7 +65,8 @@ complements sum checksum value = record {
   completes = λ n same. ap (λ c. folded_sum (n + c)) value ∙ completed n (folded_sum sum) same;
   network_order = λ bytes same. ap (swap_bytes w16) value ∙ complement_swapped sum bytes same;
   all_ones = λ bytes same.
-      let ones = complement_all_ones sum bytes same in (λ all. value ∙ ones.0 all, λ none. ones.1 (sym value ∙ none));
+      let ones = all_ones_from_zero 0 sum bytes (same ∙ ap folded_sum (omega arith)) refl in
+      (λ all. omega (arith, value, ones.0 all), λ none. ones.1 (omega (arith, value, none, folded_sum-within sum)));
 }
 
 -- all ones in the place of 0: in a sum above 0, and with their two bytes exchanged
@@ -124,55 +80,38 @@ with_no_zero-positive (suc n) some = refl
 
 with_no_zero-swapped : (checksum : ℕ) → checksum ≤ 65535 → swap_bytes w16 (with_no_zero checksum) ≡ with_no_zero (swap_bytes w16 checksum)
 with_no_zero-swapped zero within = refl
-with_no_zero-swapped (suc checksum) within =
-    let swapped = swap_bytes-small (suc checksum) (omega arith) in
-    with_no_zero-positive (swap_bytes w16 (suc checksum)) (omega (arith, swapped))
+with_no_zero-swapped (suc checksum) within = with_no_zero-positive (swap_bytes w16 (suc checksum)) (omega arith)
 
-pub complements_with_no_zero : (sum checksum : ℕ) → checksum ≡ with_no_zero (checksum_of sum) → ComplementsWithNoZero sum checksum
-complements_with_no_zero sum checksum value = record {
-  value = value;
-  completes = λ n some same.
-      ap (λ c. folded_sum (n + c)) value ∙ with_no_zero-completes n (checksum_of sum) some (completed n (folded_sum sum) same);
-  network_order = λ bytes same. ap (swap_bytes w16) value
-      ∙ with_no_zero-swapped (checksum_of sum) (omega arith) ∙ ap with_no_zero (complement_swapped sum bytes same);
-}
-
--- a changed byte changes the sum by its weight
-record ChangesBy (weight other : ℕ) (bytes : List ℕ) (place byte : ℕ) : Type 0 where
-  factor : ℕ
-  is_weight : (factor ≡ weight) ⊎ (factor ≡ other)
-  sum : weighted_byte_sum weight other (slice_set bytes place byte) + factor * slice_index bytes place ≡ weighted_byte_sum weight other bytes + factor * byte
-
-either_way : {A B : Type 0} → A ⊎ B → B ⊎ A
-either_way (inl x) = inr x
-either_way (inr x) = inl x
-
-changes_by : (weight other : ℕ) (bytes : List ℕ) (place byte : ℕ) → place < length bytes → ChangesBy weight other bytes place byte
-changes_by weight other [] place byte h = absurd (omega arith)
-changes_by weight other (x ∷ xs) zero byte h = record { factor = weight; is_weight = inl refl; sum = omega arith }
-changes_by weight other (x ∷ xs) (suc place) byte h =
-    let rest = changes_by other weight xs place byte (omega arith) in
-    record { factor = rest.factor; is_weight = either_way rest.is_weight; sum = omega (arith, rest.sum) }
+pub complements_with_no_zero : (sum checksum answer : ℕ) → checksum ≡ checksum_of sum → answer ≡ with_no_zero checksum → ComplementsWithNoZero sum answer
+complements_with_no_zero sum checksum answer complement is =
+    let value = is ∙ ap with_no_zero complement in record {
+      value = value;
+      completes = λ n some same.
+          ap (λ c. folded_sum (n + c)) value ∙ with_no_zero-completes n (checksum_of sum) some (completed n (folded_sum sum) same);
+      network_order = λ bytes same. ap (swap_bytes w16) value
+          ∙ with_no_zero-swapped (checksum_of sum) (omega arith) ∙ ap with_no_zero (complement_swapped sum bytes same);
+    }
 
 -- a sum of all ones is a multiple of 65535
-all_ones_multiple : (n : ℕ) → folded_sum n ≡ 65535 → n % 65535 ≡ 0
+all_ones_multiple : (n : ℕ) → folded_sum n ≡ 65535 → (0 + n) % 65535 ≡ 0
 all_ones_multiple zero e = refl
 all_ones_multiple (suc n) e = omega arith
 
 -- of two sums that differ by one byte only one is a multiple of 65535
-same_byte : (m n w x y : ℕ) → (w ≡ 256) ⊎ (w ≡ 1) → x < 256 → y < 256 → n + w * x ≡ m + w * y → m % 65535 ≡ 0 → n % 65535 ≡ 0 → y ≡ x
-same_byte m n w x y (inl e) hx hy sum hm hn = let s : n + 256 * x ≡ m + 256 * y = rw e at sum in omega arith
-same_byte m n w x y (inr e) hx hy sum hm hn = let s : n + 1 * x ≡ m + 1 * y = rw e at sum in omega arith
+same_byte : (n place byte : ℕ) (bytes : List ℕ) → place < length bytes → slice_index bytes place < 256 → byte < 256 → (n + network_order_word_sum bytes) % 65535 ≡ 0
+    → (n + network_order_word_sum (slice_set bytes place byte)) % 65535 ≡ 0 → byte ≡ slice_index bytes place
+same_byte n zero byte (x ∷ bytes) within old new before after = omega arith
+same_byte n (suc zero) byte (x ∷ y ∷ bytes) within old new before after = omega arith
+same_byte n (suc (suc place)) byte (x ∷ y ∷ bytes) within old new before after =
+    same_byte (n + 256 * x + y) place byte bytes (omega arith) old new (omega arith) (omega arith)
+same_byte n place byte bytes within old new before after = absurd (omega arith)
 
 -- bytes that sum to all ones do not with one of them changed
 pub one_byte_breaks : (bytes changed : List ℕ) → ((k : ℕ) → slice_index bytes k < 256) → SumsToAllOnes bytes → ChangesOneByte bytes changed → SumsToAllOnes changed → ⊥
 one_byte_breaks bytes changed are_bytes ones change again =
-    let after = slice_set bytes change.place change.byte in
-    let by_weight = changes_by 256 1 bytes change.place change.byte change.within in
-    let before_ones : network_order_word_sum bytes % 65535 ≡ 0 = all_ones_multiple (network_order_word_sum bytes) ones in
-    let after_ones : network_order_word_sum after % 65535 ≡ 0 = all_ones_multiple (network_order_word_sum after) (rw change.changed at again) in
-    change.differs (same_byte (network_order_word_sum bytes) (network_order_word_sum after) by_weight.factor (slice_index bytes change.place) change.byte
-    by_weight.is_weight (are_bytes change.place) change.is_byte by_weight.sum before_ones after_ones)
+    let after = network_order_word_sum (slice_set bytes change.place change.byte) in
+    change.differs (same_byte 0 change.place change.byte bytes change.within (are_bytes change.place) change.is_byte
+    (all_ones_multiple (network_order_word_sum bytes) ones) (all_ones_multiple after (rw change.changed at again)))
 
 -- all that is known of a sum to which words were added, by its fold
 pub adds_slice : (start answer : ℕ) (bytes : List ℕ) → ((k : ℕ) → slice_index bytes k < 256)
@@ -191,7 +130,7 @@ weighted_byte_sum-append : (weight other : ℕ) (front rest : List ℕ) → leng
 weighted_byte_sum-append weight other [] rest h = omega arith
 weighted_byte_sum-append weight other (x ∷ []) rest h = absurd (omega arith)
 weighted_byte_sum-append weight other (x ∷ y ∷ front) rest h =
-    let more = weighted_byte_sum-append weight other front rest (omega arith) in omega arith
+    omega (arith, weighted_byte_sum-append weight other front rest (omega arith))
 
 pub little_endian_word_sum-append : (front rest : List ℕ) → length front % 2 ≡ 0 → little_endian_word_sum (front ++ rest) ≡ little_endian_word_sum front + little_endian_word_sum rest
 little_endian_word_sum-append front rest even = weighted_byte_sum-append 1 256 front rest even
@@ -207,12 +146,10 @@ sums_to_all_ones bytes = all_ones_from_zero 0 (little_endian_word_sum bytes) byt
 pub little_endian_word_sum-written : (bytes : List ℕ) (place first second : ℕ) → place % 2 ≡ 0 → suc place < length bytes
     → slice_index bytes place ≡ 0 → slice_index bytes (suc place) ≡ 0
     → little_endian_word_sum (slice_set (slice_set bytes place first) (suc place) second) ≡ little_endian_word_sum bytes + (first + 256 * second)
-little_endian_word_sum-written [] place first second even within a b = absurd (omega arith)
-little_endian_word_sum-written (x ∷ []) place first second even within a b = absurd (omega arith)
 little_endian_word_sum-written (x ∷ y ∷ bytes) zero first second even within a b = omega (arith, a, b)
-little_endian_word_sum-written (x ∷ y ∷ bytes) (suc zero) first second even within a b = absurd (omega arith)
 little_endian_word_sum-written (x ∷ y ∷ bytes) (suc (suc place)) first second even within a b =
-    let more = little_endian_word_sum-written bytes place first second (omega arith) (omega arith) a b in omega (arith, more)
+    omega (arith, little_endian_word_sum-written bytes place first second (omega arith) (omega arith) a b)
+little_endian_word_sum-written bytes place first second even within a b = absurd (omega arith)
 
 -- a sum of words has a complement as it is stored, with its two bytes exchanged
 pub little_endian_word_sum-swapped : (checksum : ℕ) → checksum < 65536 → little_endian_word_sum (to_be_bytes w16 (swap_bytes w16 checksum)) ≡ checksum
@@ -238,42 +175,19 @@ little_endian_word_sum-cut count bytes even within =
     let front : length (take count bytes) % 2 ≡ 0 = rw (length-take count bytes) (omega (arith, even, within)) in
     sym (little_endian_word_sum-append (take count bytes) (drop count bytes) front) ∙ ap little_endian_word_sum (take-append-drop count bytes)
 
--- pieces in another order
-ones_complement_sum-exchanged : (before after : List (List ℕ)) (first second : List ℕ)
-    → ones_complement_sum (before ++ second ∷ first ∷ after) ≡ ones_complement_sum (before ++ first ∷ second ∷ after)
-ones_complement_sum-exchanged before after first second =
-    let sums : sum_by little_endian_word_sum (before ++ second ∷ first ∷ after) ≡ sum_by little_endian_word_sum (before ++ first ∷ second ∷ after) =
-    rw (
-      sum_by-append little_endian_word_sum before (second ∷ first ∷ after),
-      sum_by-append little_endian_word_sum before (first ∷ second ∷ after),
-      sum_by-cons little_endian_word_sum second (first ∷ after),
-      sum_by-cons little_endian_word_sum first after,
-      sum_by-cons little_endian_word_sum first (second ∷ after),
-      sum_by-cons little_endian_word_sum second after,
-    ) (omega arith) in
-    ap folded_sum sums
-
--- a piece cut in two
-ones_complement_sum-cut : (before after : List (List ℕ)) (front rest : List ℕ) → length front % 2 ≡ 0 → ones_complement_sum (before ++ front ∷ rest ∷ after) ≡ ones_complement_sum (before ++ (front ++ rest) ∷ after)
-ones_complement_sum-cut before after front rest even =
-    let sums : sum_by little_endian_word_sum (before ++ front ∷ rest ∷ after) ≡ sum_by little_endian_word_sum (before ++ (front ++ rest) ∷ after) =
-    rw (
-      sum_by-append little_endian_word_sum before (front ∷ rest ∷ after),
-      sum_by-append little_endian_word_sum before ((front ++ rest) ∷ after),
-      sum_by-cons little_endian_word_sum front (rest ∷ after),
-      sum_by-cons little_endian_word_sum rest after,
-      sum_by-cons little_endian_word_sum (front ++ rest) after,
-      little_endian_word_sum-append front rest even,
-    ) (omega arith) in
-    ap folded_sum sums
+-- pieces of the same sum in the place of others
+ones_complement_sum-instead : (before : List (List ℕ)) (pieces others : List (List ℕ)) → sum_by little_endian_word_sum pieces ≡ sum_by little_endian_word_sum others
+    → ones_complement_sum (before ++ pieces) ≡ ones_complement_sum (before ++ others)
+ones_complement_sum-instead before pieces others same = ap folded_sum (rw (sum_by-append little_endian_word_sum before pieces, sum_by-append little_endian_word_sum before others, same))
 
 -- all that is known of the sum of pieces, by its fold
 pub adds_slices : (pieces : List (List ℕ)) (answer : ℕ) → folded_sum answer ≡ ones_complement_sum pieces → AddsSlices pieces answer
 adds_slices pieces answer sum = record {
   sum = sum;
   exchanged = λ before after first second is.
-      sum ∙ ap ones_complement_sum is ∙ sym (ones_complement_sum-exchanged before after first second);
-  cut = λ before after front back is even.
-      sum ∙ ap ones_complement_sum is ∙ sym (ones_complement_sum-cut before after front back even);
-  joined = λ before after front back is even. sum ∙ ap ones_complement_sum is ∙ ones_complement_sum-cut before after front back even;
+      sum ∙ ap ones_complement_sum is ∙ ones_complement_sum-instead before (first ∷ second ∷ after) (second ∷ first ∷ after) (simp sum_by-cons (omega arith));
+  cut = λ before after front back is even. sum ∙ ap ones_complement_sum is
+      ∙ ones_complement_sum-instead before ((front ++ back) ∷ after) (front ∷ back ∷ after) (simp sum_by-cons (omega (arith, little_endian_word_sum-append front back even)));
+  joined = λ before after front back is even. sum ∙ ap ones_complement_sum is
+      ∙ ones_complement_sum-instead before (front ∷ back ∷ after) ((front ++ back) ∷ after) (simp sum_by-cons (omega (arith, little_endian_word_sum-append front back even)));
 }
