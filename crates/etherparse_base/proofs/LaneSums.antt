@@ -11,66 +11,50 @@ four_sum words four = absurd (omega (arith, four))
 
 -- lanes added are the same in any order
 lanes_added-comm : (xs ys : List ℕ) → lanes_added xs ys ≡ lanes_added ys xs
-lanes_added-comm [] [] = refl
-lanes_added-comm [] (y ∷ ys) = refl
-lanes_added-comm (x ∷ xs) [] = refl
 lanes_added-comm (x ∷ xs) (y ∷ ys) =
-    let first : (x + y) % 2 ^ 64 ≡ (y + x) % 2 ^ 64 = omega arith in
-    ap (λ n. n ∷ lanes_added xs ys) first ∙ ap (λ rest. (y + x) % 2 ^ 64 ∷ rest) (lanes_added-comm xs ys)
+    let first : (x + y) % 2 ^ 64 ≡ (y + x) % 2 ^ 64 = omega arith in cc (first, lanes_added-comm xs ys)
+lanes_added-comm [] [] = refl
+lanes_added-comm _ _ = refl
 
 -- the first and the second exchanged
 pub lanes_added-second : (xs ys zs : List ℕ) → lanes_added xs (lanes_added ys zs) ≡ lanes_added ys (lanes_added xs zs)
-lanes_added-second [] [] zs = refl
-lanes_added-second [] (y ∷ ys) zs = refl
-lanes_added-second (x ∷ xs) [] zs = refl
-lanes_added-second (x ∷ xs) (y ∷ ys) [] = refl
 lanes_added-second (x ∷ xs) (y ∷ ys) (z ∷ zs) =
     let first : (x + (y + z) % 2 ^ 64) % 2 ^ 64 ≡ (y + (x + z) % 2 ^ 64) % 2 ^ 64 = omega arith in
-    ap (λ n. n ∷ lanes_added xs (lanes_added ys zs)) first
-    ∙ ap (λ rest. (y + (x + z) % 2 ^ 64) % 2 ^ 64 ∷ rest) (lanes_added-second xs ys zs)
+    cc (first, lanes_added-second xs ys zs)
+lanes_added-second [] [] zs = refl
+lanes_added-second _ _ _ = refl
 
 -- the first and the last exchanged
 pub lanes_added-last : (xs ys zs : List ℕ) → lanes_added xs (lanes_added ys zs) ≡ lanes_added zs (lanes_added ys xs)
-lanes_added-last xs ys zs =
-    ap (λ more. lanes_added xs more) (lanes_added-comm ys zs) ∙ lanes_added-second xs zs ys
-    ∙ ap (λ more. lanes_added zs more) (lanes_added-comm xs ys)
+lanes_added-last xs ys zs = cc (lanes_added-comm ys zs, lanes_added-second xs zs ys, lanes_added-comm xs ys)
 
 -- words added to a total, whatever stands beside it
 pub lanes_added-beside : (total beside words : List ℕ) → lanes_added (lanes_added total beside) words ≡ lanes_added (lanes_added total words) beside
 lanes_added-beside total beside words =
-    lanes_added-comm (lanes_added total beside) words ∙ lanes_added-second words total beside
-    ∙ ap (λ more. lanes_added total more) (lanes_added-comm words beside) ∙ lanes_added-second total beside words
-    ∙ lanes_added-comm beside (lanes_added total words)
+    lanes_added-comm (lanes_added total beside) words ∙ lanes_added-last words total beside ∙ lanes_added-comm beside (lanes_added total words)
 
 -- lanes in which no sum overflows add as numbers do
 pub lanes_add : (xs ys : List ℕ) → sum_l xs + sum_l ys < 2 ^ 64 → zip2 (λ a b. (a + b) % 2 ^ 64) xs ys ≡ zip2 (λ a b. a + b) xs ys
-lanes_add [] ys h = refl
-lanes_add (x ∷ xs) [] h = refl
 lanes_add (x ∷ xs) (y ∷ ys) h =
     let first : (x + y) % 2 ^ 64 ≡ x + y = omega (arith, h) in
-    let rest = lanes_add xs ys (omega (arith, h)) in
-    ap (λ t. t ∷ zip2 (λ a b. (a + b) % 2 ^ 64) xs ys) first ∙ ap (λ t. (x + y) ∷ t) rest
+    cc (first, lanes_add xs ys (omega (arith, h)))
+lanes_add _ _ h = refl
 
 -- and so does the sum over all lanes
 lanes_sum : (n : ℕ) (xs : List ℕ) → n + sum_l xs < 2 ^ 64 → fold_l (λ s x. (s + x) % 2 ^ 64) n xs ≡ n + sum_l xs
 lanes_sum n [] h = omega arith
 lanes_sum n (x ∷ xs) h =
-    let first : (n + x) % 2 ^ 64 ≡ n + x = omega (arith, h) in
-    ap (λ t. fold_l (λ s x. (s + x) % 2 ^ 64) t xs) first ∙ lanes_sum (n + x) xs (omega (arith, h)) ∙ omega arith
+    let first : (n + x) % 2 ^ 64 ≡ n + x = omega (arith, h) in rw first (lanes_sum (n + x) xs (omega (arith, h)) ∙ omega arith)
 
 -- one word more in each lane
 pub totals_more : (low high words : List ℕ)
     → zip2 (λ a b. (a + b) % 2 ^ 64) (zip2 (λ l h. (l + 2 ^ 32 * h) % 2 ^ 64) low high) words
     ≡ zip2 (λ l h. (l + 2 ^ 32 * h) % 2 ^ 64) (zip2 (λ a b. a + b) low (map (λ w. w % 2 ^ 32) words)) (zip2 (λ a b. a + b) high (map (λ w. w / 2 ^ 32) words))
-totals_more [] high words = refl
-totals_more (l ∷ low) [] [] = refl
-totals_more (l ∷ low) [] (w ∷ words) = refl
-totals_more (l ∷ low) (h ∷ high) [] = refl
 totals_more (l ∷ low) (h ∷ high) (w ∷ words) =
     let first : ((l + 2 ^ 32 * h) % 2 ^ 64 + w) % 2 ^ 64 ≡ (l + w % 2 ^ 32 + 2 ^ 32 * (h + w / 2 ^ 32)) % 2 ^ 64 = omega arith in
-    let rest = totals_more low high words in
-    ap (λ t. t ∷ zip2 (λ a b. (a + b) % 2 ^ 64) (zip2 (λ l h. (l + 2 ^ 32 * h) % 2 ^ 64) low high) words) first
-    ∙ ap (λ t. ((l + w % 2 ^ 32 + 2 ^ 32 * (h + w / 2 ^ 32)) % 2 ^ 64) ∷ t) rest
+    cc (first, totals_more low high words)
+totals_more (l ∷ low) [] [] = refl
+totals_more _ _ _ = refl
 
 -- the sums of the low halves, from the totals and the sums of the high halves
 low_back : (low high : List ℕ) → length low ≡ length high → sum_l low < 2 ^ 64
@@ -79,22 +63,13 @@ low_back [] high e b = refl
 low_back (l ∷ low) [] e b = absurd (omega (arith, e))
 low_back (l ∷ low) (h ∷ high) e b =
     let first : ((l + 2 ^ 32 * h) % 2 ^ 64 + (2 ^ 64 - h * 2 ^ 32 % 2 ^ 64)) % 2 ^ 64 ≡ l = omega (arith, b) in
-    let rest = low_back low high (omega (arith, e)) (omega (arith, b)) in
-    ap (λ t. t ∷ zip2 (λ a b. (a + (2 ^ 64 - b)) % 2 ^ 64) (zip2 (λ l h. (l + 2 ^ 32 * h) % 2 ^ 64) low high) (map (λ h. h * 2 ^ 32 % 2 ^ 64) high)) first
-    ∙ ap (λ t. l ∷ t) rest
+    cc (first, low_back low high (omega (arith, e)) (omega (arith, b)))
 
 -- both together
 pub joined_lanes : (total low high : List ℕ) → length high ≡ 4 → Splits total low high → sum_l low + sum_l high < 2 ^ 64
     → fold_l (λ s x. (s + x) % 2 ^ 64) 0 (zip2 (λ a b. (a + b) % 2 ^ 64) (zip2 (λ a b. (a + (2 ^ 64 - b)) % 2 ^ 64) total (zip2 (λ a b. a * 2 ^ b % 2 ^ 64) high (replicate 4 32))) high)
     ≡ sum_l low + sum_l high
 joined_lanes total low high four splits below =
-    let shifted = zip2_splat (λ a b. a * 2 ^ b % 2 ^ 64) high 4 32 four in
-    let back : zip2 (λ a b. (a + (2 ^ 64 - b)) % 2 ^ 64) total (zip2 (λ a b. a * 2 ^ b % 2 ^ 64) high (replicate 4 32)) ≡ low =
-    ap (λ t. zip2 (λ a b. (a + (2 ^ 64 - b)) % 2 ^ 64) total t) shifted
-    ∙ ap (λ t. zip2 (λ a b. (a + (2 ^ 64 - b)) % 2 ^ 64) t (map (λ h. h * 2 ^ 32 % 2 ^ 64) high)) splits.is_total
-    ∙ low_back low high splits.lanes (omega (arith, below)) in
     let both = sum-zip2 low high splits.lanes in
-    ap (λ t. fold_l (λ s x. (s + x) % 2 ^ 64) 0 (zip2 (λ a b. (a + b) % 2 ^ 64) t high)) back
-    ∙ ap (λ t. fold_l (λ s x. (s + x) % 2 ^ 64) 0 t) (lanes_add low high below)
-    ∙ lanes_sum 0 (zip2 (λ a b. a + b) low high) (omega (arith, both, below))
-    ∙ omega (arith, both)
+    rw (zip2_splat (λ a b. a * 2 ^ b % 2 ^ 64) high 4 32 four, splits.is_total, low_back low high splits.lanes (omega (arith, below)), lanes_add low high below)
+    (lanes_sum 0 (zip2 (λ a b. a + b) low high) (omega (arith, both, below)) ∙ omega (arith, both))

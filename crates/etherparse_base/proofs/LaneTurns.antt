@@ -20,32 +20,27 @@ pub lanes_turn : (bytes total high words : List ℕ) (sums carries : ℕ) (rest 
     → halves_sum words < 2 ^ 35 → length after + 32 ≡ length rest → length bytes ≤ 2 ^ 33
     → AddsInTurns bytes (zip2 (λ a b. (a + b) % 2 ^ 64) total words) (zip2 (λ a b. (a + b) % 2 ^ 64) high (zip2 (λ a b. a / 2 ^ b) words (replicate 4 32))) sums carries after
 lanes_turn bytes total high words sums carries rest after i four stands_for small shorter few =
-    let added = zip2 (λ a b. (a + b) % 2 ^ 64) in
     let low = zip2 (λ a b. a + b) i.low (low_halves words) in
     let as_many : length high ≡ length (high_halves words) = i.four ∙ sym (length-map words (λ w. w / 2 ^ 32) ∙ four) in
     let as_many_low : length i.low ≡ length (low_halves words) = i.splits.lanes ∙ i.four ∙ sym (length-map words (λ w. w % 2 ^ 32) ∙ four) in
     let low_sum = sum-zip2 i.low (low_halves words) as_many_low in
     let plain = lanes_add high (high_halves words) (omega (arith, i.lanes_fit, small, few)) in
-    let high_sum : sum_l (added high (high_halves words)) ≡ sum_l high + sum_l (high_halves words) = ap sum_l plain ∙ sum-zip2 high (high_halves words) as_many in
+    let high_sum : sum_l (zip2 (λ a b. (a + b) % 2 ^ 64) high (high_halves words)) ≡ sum_l high + sum_l (high_halves words) = ap sum_l plain ∙ sum-zip2 high (high_halves words) as_many in
     let high_length = length-zip2 (λ a b. (a + b) % 2 ^ 64) high (high_halves words) as_many in
-    let shifted = zip2_splat (λ a b. a / 2 ^ b) words 4 32 four in
-    let more = sum_l (low_halves words) + sum_l (high_halves words) in
     let n = sums + carries + (sum_l i.low + sum_l high) in
-    let apart : sums + carries + (sum_l low + sum_l (added high (high_halves words))) + little_endian_word_sum after ≡ n + more + little_endian_word_sum after = omega (arith, low_sum, high_sum) in
-    let next : AddsInTurns bytes (added total words) (added high (high_halves words)) sums carries after = record {
+    rw (zip2_splat (λ a b. a / 2 ^ b) words 4 32 four) record {
       low = low;
       four = high_length ∙ i.four;
       splits = record {
         lanes = length-zip2 (λ a b. a + b) i.low (low_halves words) as_many_low ∙ i.splits.lanes ∙ sym high_length;
-        is_total = ap (λ t. added t words) i.splits.is_total ∙ totals_more i.low high words
+        is_total = ap (λ t. zip2 (λ a b. (a + b) % 2 ^ 64) t words) i.splits.is_total ∙ totals_more i.low high words
             ∙ ap (λ t. zip2 (λ l h. (l + 2 ^ 32 * h) % 2 ^ 64) low t) (sym plain);
       };
-      folded = ap folded_sum apart ∙ stands_for n ∙ i.folded;
+      folded = ap folded_sum (omega (arith, low_sum, high_sum)) ∙ stands_for n ∙ i.folded;
       carries_fit = omega (arith, i.carries_fit, shorter);
       eighths = omega (arith, i.eighths, shorter);
       lanes_fit = omega (arith, low_sum, high_sum, i.lanes_fit, small, shorter);
-    } in
-    rw shifted next
+    }
 
 -- eight words of eight bytes more in the sums: a carry goes from the first four to the second, and one out of these
 pub sums_turn : (bytes total high : List ℕ) (first second carries a b first' carry second' carry' : ℕ) (rest mid after : List ℕ)
@@ -57,14 +52,11 @@ pub sums_turn : (bytes total high : List ℕ) (first second carries a b first' c
 sums_turn bytes total high first second carries a b first' carry second' carry' rest mid after i stands_for_a stands_for_b shorter shorter' adds_a adds_b small =
     let left = little_endian_word_sum after in
     let n = carries + (sum_l i.low + sum_l high) in
-    let begun : first' + second' + (carries + carry') + (sum_l i.low + sum_l high) + left ≡ n + left + first' + (second' + carry') = omega arith in
-    let between : n + left + first' + (second + b + carry) ≡ n + left + second + b + (first' + carry) = omega arith in
-    let ended : n + left + second + b + (first + a + 0) ≡ first + second + carries + (sum_l i.low + sum_l high) + a + b + left = omega arith in
     record {
       low = i.low;
       four = i.four;
       splits = i.splits;
-      folded = ap folded_sum begun ∙ adds_b (n + left + first') ∙ ap folded_sum between ∙ adds_a (n + left + second + b) ∙ ap folded_sum ended
+      folded = ap folded_sum (omega arith) ∙ adds_b (n + left + first') ∙ ap folded_sum (omega arith) ∙ adds_a (n + left + second + b) ∙ ap folded_sum (omega arith)
           ∙ stands_for_b (first + second + carries + (sum_l i.low + sum_l high) + a)
           ∙ stands_for_a (first + second + carries + (sum_l i.low + sum_l high)) ∙ i.folded;
       carries_fit = omega (arith, i.carries_fit, small, shorter, shorter');

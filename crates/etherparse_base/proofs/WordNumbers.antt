@@ -7,7 +7,7 @@ use Rattle.etherparse_base.specs.WordSums.{end_around_sum, folded_sum, little_en
 use Rattle.etherparse_base.proofs.FoldedSums.{folded_sum-end_around_sum, same_fold}
 
 -- the number of bytes, the low byte first
-abbrev number : List ℕ → ℕ
+abbrev pub number : List ℕ → ℕ
 number [] = 0
 number (byte ∷ bytes) = byte + 256 * number bytes
 
@@ -33,16 +33,13 @@ adds_number n value bytes e =
     let is = number_is bytes in
     same_fold (n + value) (n + little_endian_word_sum bytes) (above_words bytes) (omega (arith, e, is)) (λ z. omega (arith, e, z, number_zero bytes (omega (arith, z))))
 
-four_bytes : (n : ℕ) (bytes : List ℕ) → length bytes ≡ 4 → folded_sum (n + from_le_bytes w32 bytes) ≡ folded_sum (n + little_endian_word_sum bytes)
-four_bytes n (a ∷ b ∷ c ∷ d ∷ []) four = adds_number n _ (a ∷ b ∷ c ∷ d ∷ []) (omega arith)
-four_bytes n bytes four = absurd (omega (arith, four))
+pub four_number : (bytes : List ℕ) → length bytes ≡ 4 → from_le_bytes w32 bytes ≡ number bytes
+four_number (a ∷ b ∷ c ∷ d ∷ []) four = omega arith
+four_number bytes four = absurd (omega (arith, four))
 
-eight_number : (bytes : List ℕ) → length bytes ≡ 8 → from_le_bytes w64 bytes ≡ number bytes
+pub eight_number : (bytes : List ℕ) → length bytes ≡ 8 → from_le_bytes w64 bytes ≡ number bytes
 eight_number (a ∷ b ∷ c ∷ d ∷ e ∷ f ∷ g ∷ h ∷ []) eight = omega arith
 eight_number bytes eight = absurd (omega (arith, eight))
-
-eight_bytes : (n : ℕ) (bytes : List ℕ) → length bytes ≡ 8 → folded_sum (n + from_le_bytes w64 bytes) ≡ folded_sum (n + little_endian_word_sum bytes)
-eight_bytes n bytes eight = adds_number n _ bytes (eight_number bytes eight)
 
 -- a number without its low bytes is that of the others
 number-drop : (count : ℕ) (bytes : List ℕ) → ((i : ℕ) → slice_index bytes i < 256) → number bytes / 2 ^ (8 * count) ≡ number (drop count bytes)
@@ -64,13 +61,9 @@ last_bytes n count bytes eight are_bytes few =
     ∙ ap (λ v. v / 2 ^ (8 * (8 - count))) (eight_number bytes eight) ∙ number-drop (8 - count) bytes are_bytes)
 
 -- the same, where the number is added with the end-around carry
-pub add_four_bytes : (greatest k start : ℕ) (bytes : List ℕ) → greatest ≡ 65535 * k → length bytes ≡ 4 → folded_sum (end_around_sum greatest start (from_le_bytes w32 bytes)) ≡ folded_sum (start + little_endian_word_sum bytes)
-add_four_bytes greatest k start bytes e four =
-    folded_sum-end_around_sum greatest k start (from_le_bytes w32 bytes) e ∙ four_bytes start bytes four
-
-pub add_eight_bytes : (greatest k start : ℕ) (bytes : List ℕ) → greatest ≡ 65535 * k → length bytes ≡ 8 → folded_sum (end_around_sum greatest start (from_le_bytes w64 bytes)) ≡ folded_sum (start + little_endian_word_sum bytes)
-add_eight_bytes greatest k start bytes e eight =
-    folded_sum-end_around_sum greatest k start (from_le_bytes w64 bytes) e ∙ eight_bytes start bytes eight
+pub adds_around : (greatest k start value answer : ℕ) (bytes : List ℕ) → answer ≡ end_around_sum greatest start value → value ≡ number bytes → greatest ≡ 65535 * k
+    → folded_sum answer ≡ folded_sum (start + little_endian_word_sum bytes)
+adds_around greatest k start value answer bytes sum is e = ap folded_sum sum ∙ folded_sum-end_around_sum greatest k start value e ∙ adds_number start value bytes is
 
 -- two halves of sixteen bytes, byte by byte
 pub sixteen_bytes : (bytes : List ℕ) → length bytes ≡ 16

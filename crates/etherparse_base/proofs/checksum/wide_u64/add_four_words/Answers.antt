@@ -10,7 +10,4 @@ returns-clause-adds c =
     let words = c.split_four_words in
     let turn = c.add_words-turn in
     let left = little_endian_word_sum words.result.1.now in
-    let begun : c.add_last.result + left ≡ left + c.add_last.result = omega arith in
-    let all : left + (turn.result.0 + sum + from_bool turn.result.1) ≡ left + sum + (turn.result.0 + from_bool turn.result.1) = omega arith in
-    let ended : left + sum + (0 + sum_l words.result.0 + 0) ≡ sum + sum_l words.result.0 + left = omega arith in
-    ap folded_sum begun ∙ c.add_last.ensures.folded left ∙ ap folded_sum all ∙ turn.ensures.folded (left + sum) ∙ ap folded_sum ended ∙ words.ensures.stands_for sum
+    ap folded_sum (omega arith) ∙ c.add_last.ensures.folded left ∙ ap folded_sum (omega arith) ∙ turn.ensures.folded (left + sum) ∙ ap folded_sum (omega arith) ∙ words.ensures.stands_for sum

@@ -12,6 +12,5 @@ returns c =
     let none = little_endian_word_sum-none (drop 24 bytes) (omega (arith, length-drop 24 bytes, c.requires.few, c.requires.eighths)) in
     record {
       stands_for = λ n.
-          let apart : n + (a.result + b.result + v.result) + 0 ≡ n + a.result + b.result + v.result + little_endian_word_sum (drop 24 bytes) = omega (arith, none) in
-          ap folded_sum apart ∙ v.ensures.stands_for (n + a.result + b.result) ∙ b.ensures.stands_for (n + a.result) ∙ a.ensures.stands_for n;
+          ap folded_sum (omega (arith, none)) ∙ v.ensures.stands_for (n + a.result + b.result) ∙ b.ensures.stands_for (n + a.result) ∙ a.ensures.stands_for n;
     }

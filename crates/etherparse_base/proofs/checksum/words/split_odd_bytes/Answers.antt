@@ -17,6 +17,4 @@ returns-clause-stands_for c = λ n.
     ap (λ s. drop (8 - all % 8) s) (take_all (all - (all - 8)) end eight) ∙ drop-drop (8 - all % 8) (all - 8) bytes ∙ ap (λ k. drop k bytes) place in
     let cut = little_endian_word_sum-cut words bytes (omega arith) (omega arith) in
     let m = n + little_endian_word_sum (take words bytes) in
-    let apart : n + last.result + little_endian_word_sum (take words bytes) ≡ m + last.result = omega arith in
-    let whole : m + little_endian_word_sum (drop words bytes) ≡ n + little_endian_word_sum bytes = omega (arith, cut) in
-    ap folded_sum apart ∙ last.ensures.stands_for m ∙ ap (λ s. folded_sum (m + little_endian_word_sum s)) odd ∙ ap folded_sum whole
+    ap folded_sum (omega arith) ∙ last.ensures.stands_for m ∙ ap (λ s. folded_sum (m + little_endian_word_sum s)) odd ∙ ap folded_sum (omega (arith, cut))

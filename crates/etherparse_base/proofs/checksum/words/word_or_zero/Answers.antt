@@ -10,8 +10,5 @@ returns c =
     let left = little_endian_word_sum (drop (c.args.place + 8) c.args.bytes.now) in
     let none = little_endian_word_sum-none word.result.1.now (omega (arith, word.ensures.shorter, eight.ensures.eight)) in
     record {
-      stands_for = λ n.
-          let begun : n + word.result.0 + left ≡ n + left + word.result.0 + little_endian_word_sum word.result.1.now = omega (arith, none) in
-          let ended : n + left + little_endian_word_sum eight.result.now ≡ n + little_endian_word_sum (drop c.args.place c.args.bytes.now) = omega (arith, eight.ensures.sum) in
-          ap folded_sum begun ∙ word.ensures.stands_for (n + left) ∙ ap folded_sum ended;
+      stands_for = λ n. ap folded_sum (omega (arith, none)) ∙ word.ensures.stands_for (n + left) ∙ ap folded_sum (omega (arith, eight.ensures.sum));
     }
