@@ -27,7 +27,6 @@ lanes_turn bytes total high words sums carries rest after i four stands_for smal
     let plain = lanes_add high (high_halves words) (omega (arith, i.lanes_fit, small, few)) in
     let high_sum : sum_l (zip2 (λ a b. (a + b) % 2 ^ 64) high (high_halves words)) ≡ sum_l high + sum_l (high_halves words) = ap sum_l plain ∙ sum-zip2 high (high_halves words) as_many in
     let high_length = length-zip2 (λ a b. (a + b) % 2 ^ 64) high (high_halves words) as_many in
-    let n = sums + carries + (sum_l i.low + sum_l high) in
     rw (zip2_splat (λ a b. a / 2 ^ b) words 4 32 four) record {
       low = low;
       four = high_length ∙ i.four;
@@ -36,7 +35,7 @@ lanes_turn bytes total high words sums carries rest after i four stands_for smal
         is_total = ap (λ t. zip2 (λ a b. (a + b) % 2 ^ 64) t words) i.splits.is_total ∙ totals_more i.low high words
             ∙ ap (λ t. zip2 (λ l h. (l + 2 ^ 32 * h) % 2 ^ 64) low t) (sym plain);
       };
-      folded = ap folded_sum (omega (arith, low_sum, high_sum)) ∙ stands_for n ∙ i.folded;
+      folded = ap folded_sum (omega (arith, low_sum, high_sum)) ∙ stands_for (sums + carries + (sum_l i.low + sum_l high)) ∙ i.folded;
       carries_fit = omega (arith, i.carries_fit, shorter);
       eighths = omega (arith, i.eighths, shorter);
       lanes_fit = omega (arith, low_sum, high_sum, i.lanes_fit, small, shorter);

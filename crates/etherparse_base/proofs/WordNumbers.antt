@@ -4,7 +4,7 @@ use Rattle.std.proofs.Math.Nat.{zero-div}
 use Rattle.std.proofs.lemmas.Nat.{shr-shr}
 use Rattle.std.specs.Int.{from_le_bytes}
 use Rattle.etherparse_base.specs.WordSums.{end_around_sum, folded_sum, little_endian_word_sum}
-use Rattle.etherparse_base.proofs.FoldedSums.{folded_sum-end_around_sum, same_fold}
+use Rattle.etherparse_base.proofs.FoldedSums.{folded_sum-end_around_sum, folded_sum-plus, same_fold}
 
 -- the number of bytes, the low byte first
 abbrev pub number : List ℕ → ℕ
@@ -65,10 +65,14 @@ pub adds_around : (greatest k start value answer : ℕ) (bytes : List ℕ) → a
     → folded_sum answer ≡ folded_sum (start + little_endian_word_sum bytes)
 adds_around greatest k start value answer bytes sum is e = ap folded_sum sum ∙ folded_sum-end_around_sum greatest k start value e ∙ adds_number start value bytes is
 
--- two halves of sixteen bytes, byte by byte
-pub sixteen_bytes : (bytes : List ℕ) → length bytes ≡ 16
-    → little_endian_word_sum (get_or bytes 0 0 ∷ get_or bytes 1 0 ∷ get_or bytes 2 0 ∷ get_or bytes 3 0 ∷ get_or bytes 4 0 ∷ get_or bytes 5 0 ∷ get_or bytes 6 0 ∷ get_or bytes 7 0 ∷ [])
-    + little_endian_word_sum (get_or bytes 8 0 ∷ get_or bytes 9 0 ∷ get_or bytes 10 0 ∷ get_or bytes 11 0 ∷ get_or bytes 12 0 ∷ get_or bytes 13 0 ∷ get_or bytes 14 0 ∷ get_or bytes 15 0 ∷ [])
-    ≡ little_endian_word_sum bytes
-sixteen_bytes (a ∷ b ∷ c ∷ d ∷ e ∷ f ∷ g ∷ h ∷ i ∷ j ∷ k ∷ l ∷ m ∷ n ∷ o ∷ p ∷ []) sixteen = omega arith
-sixteen_bytes bytes sixteen = absurd (omega (arith, sixteen))
+-- eight bytes of some, as the sum of their words
+abbrev pub eight_at : List ℕ → ℕ → ℕ
+eight_at bytes k = little_endian_word_sum (get_or bytes k 0 ∷ get_or bytes (1 + k) 0 ∷ get_or bytes (2 + k) 0 ∷ get_or bytes (3 + k) 0
+    ∷ get_or bytes (4 + k) 0 ∷ get_or bytes (5 + k) 0 ∷ get_or bytes (6 + k) 0 ∷ get_or bytes (7 + k) 0 ∷ [])
+
+-- two halves of sixteen bytes, one after the other
+pub two_halves : (start half answer : ℕ) (bytes : List ℕ) → length bytes ≡ 16 → folded_sum half ≡ folded_sum (start + eight_at bytes 0)
+    → folded_sum answer ≡ folded_sum (half + eight_at bytes 8) → folded_sum answer ≡ folded_sum (start + little_endian_word_sum bytes)
+two_halves start half answer (a ∷ b ∷ c ∷ d ∷ e ∷ f ∷ g ∷ h ∷ i ∷ j ∷ k ∷ l ∷ m ∷ n ∷ o ∷ p ∷ []) sixteen first last =
+    last ∙ folded_sum-plus half (start + eight_at (a ∷ b ∷ c ∷ d ∷ e ∷ f ∷ g ∷ h ∷ []) 0) (eight_at (i ∷ j ∷ k ∷ l ∷ m ∷ n ∷ o ∷ p ∷ []) 0) first ∙ ap folded_sum (omega arith)
+two_halves start half answer bytes sixteen first last = absurd (omega (arith, sixteen))

@@ -20,10 +20,7 @@ other_order (byte ∷ bytes) =
     let rest = other_order bytes in
     record { past_network = rest.past_little; past_little = byte + rest.past_network; to_network = omega (arith, rest.to_little); to_little = omega (arith, rest.to_network) }
 
--- the two bytes of a number exchanged
-swap_bytes-small : (n : ℕ) → n < 65536 → swap_bytes w16 n ≡ n % 256 * 256 + n / 256
-swap_bytes-small n h = omega arith
-
+-- a fold with its two bytes exchanged
 fold_swapped : (n m k l : ℕ) → 256 * n ≡ m + 65535 * k → 256 * m ≡ n + 65535 * l → swap_bytes w16 (folded_sum n) ≡ folded_sum m
 fold_swapped zero zero k l to_m to_n = refl
 fold_swapped (suc n) (suc m) k l to_m to_n = omega arith
@@ -37,9 +34,7 @@ swap_bytes-folded_sum bytes =
 
 -- what a sum from 0 says of the words in network order
 pub network_order_from_zero : (start result : ℕ) (bytes : List ℕ) → folded_sum result ≡ folded_sum (start + little_endian_word_sum bytes) → start ≡ 0 → swap_bytes w16 (folded_sum result) ≡ folded_sum (network_order_word_sum bytes)
-network_order_from_zero start result bytes sum from_zero =
-    let plain : start + little_endian_word_sum bytes ≡ little_endian_word_sum bytes = omega arith in
-    ap (swap_bytes w16) (sum ∙ ap folded_sum plain) ∙ swap_bytes-folded_sum bytes
+network_order_from_zero start result bytes sum from_zero = ap (swap_bytes w16) (sum ∙ ap folded_sum (omega arith)) ∙ swap_bytes-folded_sum bytes
 
 pub all_ones_from_zero : (start result : ℕ) (bytes : List ℕ) → folded_sum result ≡ folded_sum (start + little_endian_word_sum bytes) → start ≡ 0 → SumsToAllOnes bytes ↔ (folded_sum result ≡ 65535)
 all_ones_from_zero start result bytes sum from_zero =
@@ -49,9 +44,7 @@ all_ones_from_zero start result bytes sum from_zero =
 
 -- the complement with its two bytes exchanged is that of the sum in network order
 pub complement_swapped : (sum : ℕ) (bytes : List ℕ) → IsSumOf sum bytes → swap_bytes w16 (checksum_of sum) ≡ checksum_of (network_order_word_sum bytes)
-complement_swapped sum bytes same =
-    let swapped : swap_bytes w16 (folded_sum sum) ≡ folded_sum (network_order_word_sum bytes) = ap (swap_bytes w16) same ∙ swap_bytes-folded_sum bytes in
-    omega (arith, folded_sum-within sum, swapped)
+complement_swapped sum bytes same = omega (arith, folded_sum-within sum, ap (swap_bytes w16) same ∙ swap_bytes-folded_sum bytes)
 
 -- a sum is all ones with the complement of its fold
 completed : (n fold : ℕ) → folded_sum n ≡ fold → folded_sum (n + (65535 - fold)) ≡ 65535

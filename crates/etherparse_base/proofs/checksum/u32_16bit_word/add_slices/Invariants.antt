@@ -4,5 +4,4 @@ use Rattle.etherparse_base.proofs.checksum.u32_16bit_word.add_slices.Given as go
 
 -- the pieces so far are summed
 abbrev pub invariant-loop-piece : goal.invariant-loop-piece
-invariant-loop-piece l =
-    folded_sum l.sum ≡ ones_complement_sum (map (λ piece. piece.now) (take l.piece-index l.pieces))
+invariant-loop-piece l = folded_sum l.sum ≡ ones_complement_sum (map (λ piece. piece.now) (take l.piece-index l.pieces))

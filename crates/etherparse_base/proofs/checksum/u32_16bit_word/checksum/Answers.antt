@@ -5,6 +5,5 @@ use Rattle.etherparse_base.proofs.checksum.u32_16bit_word.checksum.Goals as goal
 
 pub returns : goal.returns
 returns c =
-    let words = little_endian_word_sum c.args.slice.now in
-    let value = c.checksum.ensures.value ∙ ap (λ start. checksum_of (start + words)) c.from.ensures in
-    record { complements = complements (c.args.start_sum + words) c.checksum.result value }
+    let value = ap (λ start. checksum_of (start + little_endian_word_sum c.args.slice.now)) c.from.ensures in
+    record { complements = complements _ c.checksum.result (c.checksum.ensures.value ∙ value) }

@@ -5,9 +5,5 @@ use Rattle.etherparse_base.proofs.checksum.wide_u64.add_last.Goals as goal
 
 pub returns : goal.returns
 returns c =
-    let sum = c.add_with_carry-sum in
-    let before = c.args.sum + c.args.word + from_bool c.args.carry in
-    record {
-      folded = λ (n : ℕ). sym (same_fold (n + before) (n + (sum.result.0 + c.from.result)) (281479271743489 * from_bool sum.result.1)
-          (omega (arith, sum.ensures.sum, c.from.ensures)) (λ zero. omega (arith, zero, sum.ensures.sum, c.from.ensures)));
-    }
+    let carry = from_bool c.add_with_carry-sum.result.1 in
+    record { folded = λ (n : ℕ). sym (same_fold _ _ (281479271743489 * carry) (omega (arith, c.from.ensures)) (λ zero. omega (arith, c.from.ensures))) }

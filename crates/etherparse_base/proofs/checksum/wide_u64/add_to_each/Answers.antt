@@ -15,11 +15,5 @@ returns c =
     let w = c.add_with_carry-d in
     let e = four_sum sums (omega arith) in
     let e' = four_sum words (omega arith) in
-    let before = sum_l sums + sum_l words + from_bool c.args.carry in
-    let after = a.result.0 + (b.result.0 + (v.result.0 + (w.result.0 + 0))) + from_bool w.result.1 in
     let carries = from_bool a.result.1 + from_bool b.result.1 + from_bool v.result.1 + from_bool w.result.1 in
-    record {
-      folded = λ (n : ℕ). sym (same_fold (n + before) (n + after) (281479271743489 * carries)
-          (omega (arith, e, e', a.ensures.sum, b.ensures.sum, v.ensures.sum, w.ensures.sum))
-          (λ zero. omega (arith, zero, e, e', a.ensures.sum, b.ensures.sum, v.ensures.sum, w.ensures.sum)));
-    }
+    record { folded = λ (n : ℕ). sym (same_fold _ _ (281479271743489 * carries) (omega arith) (λ zero. omega arith)) }

@@ -18,19 +18,16 @@ threes-init c = record {
 pub threes-preserved : goal.threes-preserved
 threes-preserved c =
     let slice = c.args.slice.now in
-    let few : length slice ≤ 2 ^ 33 = c.requires in
     let a = c.add_turn-first.result.total in
     let b = c.add_turn-second.result.total in
     let v = c.add_turn-third.result.total in
     let b' = c.threes.second_total in
     let v' = c.threes.third_total in
-    let first : AddsTurns slice (lanes_added b' v') c.add_turn-first.result c.after_turn-after_first.result.now =
-    rw c.after_turn-after_first.ensures.after (c.add_turn-first.ensures.adds slice (lanes_added b' v') few c.threes.invariant) in
     let with_second : AddsTurns slice (lanes_added a v') c.with_total.result c.after_turn-after_first.result.now =
-    rw (c.with_total.ensures.value, lanes_added-second b' a v') first in
-    let second : AddsTurns slice (lanes_added a v') c.add_turn-second.result c.after_turn-after_second.result.now =
-    rw c.after_turn-after_second.ensures.after (c.add_turn-second.ensures.adds slice (lanes_added a v') few with_second) in
+    rw (c.with_total.ensures.value, lanes_added-second b' a v', c.after_turn-after_first.ensures.after)
+    (c.add_turn-first.ensures.adds slice (lanes_added b' v') c.requires c.threes.invariant) in
     let with_third : AddsTurns slice (lanes_added a b) c.with_total-in-threes.result c.after_turn-after_second.result.now =
-    rw (c.with_total-in-threes.ensures.value, lanes_added-last v' a b) second in
-    let third = c.add_turn-third.ensures.adds slice (lanes_added a b) few with_third in
-    rw (c.after_turn-rest.ensures.after, c.with_total-at.ensures.value, lanes_added-second a b v, lanes_added-last b a v) third
+    rw (c.with_total-in-threes.ensures.value, lanes_added-last v' a b, c.after_turn-after_second.ensures.after)
+    (c.add_turn-second.ensures.adds slice (lanes_added a v') c.requires with_second) in
+    rw (c.after_turn-rest.ensures.after, c.with_total-at.ensures.value, lanes_added-second a b v, lanes_added-last b a v)
+    (c.add_turn-third.ensures.adds slice (lanes_added a b) c.requires with_third)

@@ -13,8 +13,5 @@ returns-clause-folded c =
     let v = c.add_with_carry-sum-3 in
     let w = c.add_with_carry in
     let e = four_sum words (omega arith) in
-    let before = c.args.sum + sum_l words + from_bool c.args.carry in
-    let after = w.result.0 + from_bool w.result.1 in
     let carries = from_bool a.result.1 + from_bool b.result.1 + from_bool v.result.1 + from_bool w.result.1 in
-    λ (n : ℕ). sym (same_fold (n + before) (n + after) (281479271743489 * carries) (omega (arith, e, a.ensures.sum, b.ensures.sum, v.ensures.sum, w.ensures.sum))
-    (λ zero. omega (arith, zero, e, a.ensures.sum, b.ensures.sum, v.ensures.sum, w.ensures.sum)))
+    λ (n : ℕ). sym (same_fold _ _ (281479271743489 * carries) (omega arith) (λ zero. omega arith))

@@ -6,17 +6,14 @@ pub returns-then-bytes-place-clause-sum : goal.returns-then-bytes-place-clause-s
 returns-then-bytes-place-clause-sum c =
     let bytes = c.args.bytes.now in
     let place = c.args.place in
-    let few = c.if-bytes-place.true in
-    let eighths = c.requires.eighths in
-    let front = little_endian_word_sum-none (drop place bytes) (omega (arith, length-drop place bytes, few, eighths)) in
-    let rest = little_endian_word_sum-none (drop (place + 8) bytes) (omega (arith, length-drop (place + 8) bytes, few)) in
+    let front = little_endian_word_sum-none (drop place bytes) (omega (arith, length-drop place bytes)) in
+    let rest = little_endian_word_sum-none (drop (place + 8) bytes) (omega (arith, length-drop (place + 8) bytes)) in
     omega (arith, front, rest)
 
 pub returns-else-bytes-place-clause-sum : goal.returns-else-bytes-place-clause-sum
 returns-else-bytes-place-clause-sum c =
     let bytes = c.args.bytes.now in
     let place = c.args.place in
-    let from = drop place bytes in
     let eight : place + 8 - place ≡ 8 = omega arith in
-    let cut = little_endian_word_sum-cut 8 from refl (omega (arith, length-drop place bytes, c.if-bytes-place.false)) in
+    let cut = little_endian_word_sum-cut 8 (drop place bytes) refl (omega (arith, length-drop place bytes, c.if-bytes-place.false)) in
     rw (eight, sym (drop-drop 8 place bytes)) cut

@@ -10,8 +10,7 @@ returns-clause-halves_stand_for c = λ n.
     let b = c.split_word-b.result.0 in
     let v = c.split_word-c.result.0 in
     let w = c.split_word-d.result.0 in
-    let left = little_endian_word_sum c.split_word-d.result.1.now in
     let high = a / 2 ^ 32 + b / 2 ^ 32 + v / 2 ^ 32 + w / 2 ^ 32 in
-    sym (same_fold (n + a + b + v + w + left) (n + halves_sum (a ∷ b ∷ v ∷ w ∷ []) + left) (65537 * high) (omega arith) (λ zero. omega (arith, zero)))
+    sym (same_fold _ _ (65537 * high) (omega arith) (λ zero. omega (arith, zero)))
     ∙ c.split_word-d.ensures.stands_for (n + a + b + v) ∙ c.split_word-c.ensures.stands_for (n + a + b)
     ∙ c.split_word-b.ensures.stands_for (n + a) ∙ c.split_word-a.ensures.stands_for n
