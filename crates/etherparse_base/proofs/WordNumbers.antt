@@ -48,16 +48,14 @@ number-drop (suc count) [] are_bytes = zero-div (2 ^ (8 * suc count))
 number-drop (suc count) (byte ∷ bytes) are_bytes =
     let whole = number (byte ∷ bytes) in
     let first : whole / 2 ^ 8 ≡ number bytes = omega (arith, are_bytes 0) in
-    let bits : 8 * suc count ≡ 8 + 8 * count = omega arith in
-    ap (λ b. whole / 2 ^ b) bits ∙ sym (shr-shr whole 8 (8 * count)) ∙ ap (λ n. n / 2 ^ (8 * count)) first ∙ number-drop count bytes (λ i. are_bytes (suc i))
+    ap (λ b. whole / 2 ^ b) (omega arith) ∙ sym (shr-shr whole 8 (8 * count)) ∙ ap (λ n. n / 2 ^ (8 * count)) first ∙ number-drop count bytes (λ i. are_bytes (suc i))
 
 -- the last of eight bytes as a number: that of all eight without the bits of the others
 pub last_bytes : (n count : ℕ) (bytes : List ℕ) → length bytes ≡ 8 → ((i : ℕ) → slice_index bytes i < 256) → count < 8
     → folded_sum (n + from_le_bytes w64 bytes / 2 ^ 8 / 2 ^ (56 - 8 * count)) ≡ folded_sum (n + little_endian_word_sum (drop (8 - count) bytes))
 last_bytes n count bytes eight are_bytes few =
     let whole = from_le_bytes w64 bytes in
-    let bits : 8 + (56 - 8 * count) ≡ 8 * (8 - count) = omega (arith, few) in
-    adds_number n _ (drop (8 - count) bytes) (shr-shr whole 8 (56 - 8 * count) ∙ ap (λ b. whole / 2 ^ b) bits
+    adds_number n _ (drop (8 - count) bytes) (shr-shr whole 8 (56 - 8 * count) ∙ ap (λ b. whole / 2 ^ b) (omega (arith, few))
     ∙ ap (λ v. v / 2 ^ (8 * (8 - count))) (eight_number bytes eight) ∙ number-drop (8 - count) bytes are_bytes)
 
 -- the same, where the number is added with the end-around carry

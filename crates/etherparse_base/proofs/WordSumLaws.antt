@@ -131,30 +131,9 @@ little_endian_word_sum-append front rest even = weighted_byte_sum-append 1 256 f
 pub network_order_word_sum-append : (front rest : List ℕ) → length front % 2 ≡ 0 → network_order_word_sum (front ++ rest) ≡ network_order_word_sum front + network_order_word_sum rest
 network_order_word_sum-append front rest even = weighted_byte_sum-append 256 1 front rest even
 
--- in either order of their bytes words sum to all ones or not
-pub sums_to_all_ones : (bytes : List ℕ) → SumsToAllOnes bytes ↔ (folded_sum (little_endian_word_sum bytes) ≡ 65535)
-sums_to_all_ones bytes = all_ones_from_zero 0 (little_endian_word_sum bytes) bytes (ap folded_sum (omega arith)) refl
-
--- a word that is written over two bytes 0 is added to the sum
-pub little_endian_word_sum-written : (bytes : List ℕ) (place first second : ℕ) → place % 2 ≡ 0 → suc place < length bytes
-    → slice_index bytes place ≡ 0 → slice_index bytes (suc place) ≡ 0
-    → little_endian_word_sum (slice_set (slice_set bytes place first) (suc place) second) ≡ little_endian_word_sum bytes + (first + 256 * second)
-little_endian_word_sum-written (x ∷ y ∷ bytes) zero first second even within a b = omega (arith, a, b)
-little_endian_word_sum-written (x ∷ y ∷ bytes) (suc (suc place)) first second even within a b =
-    omega (arith, little_endian_word_sum-written bytes place first second (omega arith) (omega arith) a b)
-little_endian_word_sum-written bytes place first second even within a b = absurd (omega arith)
-
 -- a sum of words has a complement as it is stored, with its two bytes exchanged
 pub little_endian_word_sum-swapped : (checksum : ℕ) → checksum < 65536 → little_endian_word_sum (to_be_bytes w16 (swap_bytes w16 checksum)) ≡ checksum
 little_endian_word_sum-swapped checksum fits = omega arith
-
--- bytes sum to all ones once their checksum is stored where they have two bytes 0
-pub sums_to_all_ones-written : (bytes : List ℕ) (place first second checksum : ℕ) → place % 2 ≡ 0 → suc place < length bytes
-    → slice_index bytes place ≡ 0 → slice_index bytes (suc place) ≡ 0 → first + 256 * second ≡ checksum
-    → folded_sum (little_endian_word_sum bytes + checksum) ≡ 65535 → SumsToAllOnes (slice_set (slice_set bytes place first) (suc place) second)
-sums_to_all_ones-written bytes place first second checksum even within a b is completed =
-    (sums_to_all_ones (slice_set (slice_set bytes place first) (suc place) second)).1
-    (rw (little_endian_word_sum-written bytes place first second even within a b) (rw is completed))
 
 -- where there are no bytes
 pub little_endian_word_sum-none : (bytes : List ℕ) → length bytes ≡ 0 → little_endian_word_sum bytes ≡ 0
@@ -165,8 +144,7 @@ little_endian_word_sum-none (byte ∷ bytes) none = absurd (omega (arith, none))
 pub little_endian_word_sum-cut : (count : ℕ) (bytes : List ℕ) → count % 2 ≡ 0 → count ≤ length bytes
     → little_endian_word_sum (take count bytes) + little_endian_word_sum (drop count bytes) ≡ little_endian_word_sum bytes
 little_endian_word_sum-cut count bytes even within =
-    let front : length (take count bytes) % 2 ≡ 0 = rw (length-take count bytes) (omega (arith, even, within)) in
-    sym (little_endian_word_sum-append (take count bytes) (drop count bytes) front) ∙ ap little_endian_word_sum (take-append-drop count bytes)
+    sym (little_endian_word_sum-append (take count bytes) (drop count bytes) (rw (length-take count bytes) (omega arith))) ∙ ap little_endian_word_sum (take-append-drop count bytes)
 
 -- pieces of the same sum in the place of others
 ones_complement_sum-instead : (before : List (List ℕ)) (pieces others : List (List ℕ)) → sum_by little_endian_word_sum pieces ≡ sum_by little_endian_word_sum others

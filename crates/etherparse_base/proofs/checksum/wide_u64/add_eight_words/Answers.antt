@@ -9,13 +9,10 @@ loop-rest-preserved c =
     let sum = c.loop-rest.sum in
     let first = c.split_four_words in
     let second = c.split_four_words-in-loop-rest in
-    let half = c.add_words-turn in
-    let turn = c.add_words-turn-in-loop-rest in
     let left = little_endian_word_sum second.result.1.now in
-    let a = sum_l first.result.0 in
-    let b = sum_l second.result.0 in
     record {
-      folded = ap folded_sum (omega arith) ∙ c.add_last-sum.ensures.folded left ∙ ap folded_sum (omega arith) ∙ turn.ensures.folded (left + sum) ∙ ap folded_sum (omega arith)
-          ∙ half.ensures.folded (left + sum + b) ∙ ap folded_sum (omega arith) ∙ second.ensures.stands_for (sum + a) ∙ first.ensures.stands_for sum ∙ c.loop-rest.invariant.folded;
+      folded = ap folded_sum (omega arith) ∙ c.add_last-sum.ensures.folded left ∙ ap folded_sum (omega arith) ∙ c.add_words-turn-in-loop-rest.ensures.folded (left + sum)
+          ∙ ap folded_sum (omega arith) ∙ c.add_words-turn.ensures.folded (left + sum + sum_l second.result.0) ∙ ap folded_sum (omega arith)
+          ∙ second.ensures.stands_for (sum + sum_l first.result.0) ∙ first.ensures.stands_for sum ∙ c.loop-rest.invariant.folded;
       eighths = omega (arith, first.ensures.shorter, second.ensures.shorter, c.loop-rest.invariant.eighths);
     }

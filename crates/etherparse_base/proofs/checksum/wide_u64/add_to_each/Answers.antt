@@ -7,13 +7,7 @@ use Rattle.etherparse_base.proofs.checksum.wide_u64.add_to_each.Goals as goal
 
 pub returns : goal.returns
 returns c =
-    let sums = c.args.sums in
-    let words = c.args.words in
-    let a = c.add_with_carry-a in
-    let b = c.add_with_carry-b in
-    let v = c.add_with_carry-c in
-    let w = c.add_with_carry-d in
-    let e = four_sum sums (omega arith) in
-    let e' = four_sum words (omega arith) in
-    let carries = from_bool a.result.1 + from_bool b.result.1 + from_bool v.result.1 + from_bool w.result.1 in
+    let e = four_sum c.args.sums (omega arith) in
+    let e' = four_sum c.args.words (omega arith) in
+    let carries = from_bool c.add_with_carry-a.result.1 + from_bool c.add_with_carry-b.result.1 + from_bool c.add_with_carry-c.result.1 + from_bool c.add_with_carry-d.result.1 in
     record { folded = λ (n : ℕ). sym (same_fold _ _ (281479271743489 * carries) (omega arith) (λ zero. omega arith)) }

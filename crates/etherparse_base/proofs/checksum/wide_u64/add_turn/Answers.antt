@@ -1,14 +1,10 @@
 use Rattle.std.proofs.Common.{Bool, true, false, ◌≡◌, ◌≤◌, ◌+◌, ◌%◌, ◌^◌, ◌∙◌, ap, arith, drop, drop-drop, sym}
+use Rattle.std.proofs.lemmas.Grind.{common_steps}
 use Rattle.std.specs.Int.{from_bool}
 use Rattle.std.specs.Simd.Lanes.{sum_l}
 use Rattle.etherparse_base.proofs.LaneSums.{lanes_added-beside}
 use Rattle.etherparse_base.proofs.LaneTurns.{lanes_turn, sums_turn}
 use Rattle.etherparse_base.proofs.checksum.wide_u64.add_turn.Goals as goal
-
--- a carry is 0 or 1
-from_bool-within : (carry : Bool) → from_bool carry ≤ 1
-from_bool-within true = omega arith
-from_bool-within false = omega arith
 
 pub returns : goal.returns
 returns c =
@@ -18,7 +14,7 @@ returns c =
     let b = c.split_four_words-3.ensures in
     let with_a = c.add_to_each-carry in
     let with_b = c.add_to_each-carry-2 in
-    let one = from_bool-within with_b.result.1 in
+    let one : from_bool with_b.result.1 ≤ 1 = grind (arith, common_steps) in
     let after : c.split_four_words-3.result.1.now ≡ drop 96 bytes = b.rest ∙ ap (λ s. drop 32 s) (a.rest ∙ ap (λ s. drop 32 s) words.rest ∙ drop-drop 32 32 bytes) ∙ drop-drop 32 64 bytes in
     record {
       adds = λ slice beside few i.

@@ -5,10 +5,7 @@ use Rattle.etherparse_base.proofs.checksum.words.word_or_zero.Goals as goal
 
 pub returns : goal.returns
 returns c =
-    let eight = c.eight_or_zeros in
     let word = c.split_word in
     let left = little_endian_word_sum (drop (c.args.place + 8) c.args.bytes.now) in
-    let none = little_endian_word_sum-none word.result.1.now (omega (arith, word.ensures.shorter, eight.ensures.eight)) in
-    record {
-      stands_for = λ n. ap folded_sum (omega (arith, none)) ∙ word.ensures.stands_for (n + left) ∙ ap folded_sum (omega (arith, eight.ensures.sum));
-    }
+    let none = little_endian_word_sum-none word.result.1.now (omega (arith, word.ensures.shorter, c.eight_or_zeros.ensures.eight)) in
+    record { stands_for = λ n. ap folded_sum (omega arith) ∙ word.ensures.stands_for (n + left) ∙ ap folded_sum (omega (arith, c.eight_or_zeros.ensures.sum)) }
