@@ -1,5 +1,6 @@
 -- Folded sums: which numbers have the same one.
 use Rattle.std.proofs.Common.{ℕ, zero, suc, Bool, true, false, List, ◌≡◌, ◌<◌, ◌≤◌, ◌+◌, ◌-◌, ◌*◌, ◌%◌, ◌∙◌, ap, arith, ltb-true, nat_lt, refl, sym}
+use Rattle.std.proofs.lemmas.Bool.Decides.{nat_tests}
 use Rattle.std.specs.Prelude.{if◌then◌else◌}
 use Rattle.etherparse_base.specs.WordSums.{StandsForWords, end_around_sum, folded_sum, little_endian_word_sum}
 
@@ -30,13 +31,8 @@ folded_sum-within zero = omega arith
 folded_sum-within (suc n) = omega arith
 
 -- the end-around carry takes a multiple of 65535 away, and leaves more than 0
-carried : (greatest k n : ℕ) (over : Bool) → (over ≡ true → greatest < n) → greatest ≡ 65535 * k → folded_sum (if over then n - greatest else n) ≡ folded_sum n
-carried greatest k n true above e =
-    let h : greatest < n = above refl in sym (same_fold n (n - greatest) k (omega arith) (λ z. absurd (omega arith)))
-carried greatest k n false above e = refl
-
 pub folded_sum-end_around_sum : (greatest k a b : ℕ) → greatest ≡ 65535 * k → folded_sum (end_around_sum greatest a b) ≡ folded_sum (a + b)
-folded_sum-end_around_sum greatest k a b e = carried greatest k (a + b) (nat_lt greatest (a + b)) (ltb-true greatest (a + b)) e
+folded_sum-end_around_sum greatest k a b e = grind (arith, nat_tests, same_fold)
 
 -- a sum to which words were added, in a longer one
 pub stands_for_words : (start answer : ℕ) (bytes : List ℕ) → folded_sum answer ≡ folded_sum (start + little_endian_word_sum bytes) → StandsForWords start bytes answer

@@ -11,27 +11,13 @@ abbrev pub number : List ℕ → ℕ
 number [] = 0
 number (byte ∷ bytes) = byte + 256 * number bytes
 
--- how many times 65535 it is above the sum of their words
-abbrev above_words : List ℕ → ℕ
-above_words [] = 0
-above_words (low ∷ []) = 0
-above_words (low ∷ high ∷ bytes) = number bytes + above_words bytes
-
-number_is : (bytes : List ℕ) → number bytes ≡ little_endian_word_sum bytes + 65535 * above_words bytes
-number_is [] = refl
-number_is (low ∷ []) = omega arith
-number_is (low ∷ high ∷ bytes) = omega (arith, number_is bytes)
-
-number_zero : (bytes : List ℕ) → little_endian_word_sum bytes ≡ 0 → number bytes ≡ 0
-number_zero [] z = refl
-number_zero (low ∷ []) z = omega (arith, z)
-number_zero (low ∷ high ∷ bytes) z = omega (arith, z, number_zero bytes (omega (arith, z)))
-
 -- a number adds to a sum what the words of its bytes do
 adds_number : (n value : ℕ) (bytes : List ℕ) → value ≡ number bytes → folded_sum (n + value) ≡ folded_sum (n + little_endian_word_sum bytes)
-adds_number n value bytes e =
-    let is = number_is bytes in
-    same_fold (n + value) (n + little_endian_word_sum bytes) (above_words bytes) (omega (arith, e, is)) (λ z. omega (arith, e, z, number_zero bytes (omega (arith, z))))
+adds_number n value [] e = ap folded_sum (omega (arith, e))
+adds_number n value (low ∷ []) e = ap folded_sum (omega (arith, e))
+adds_number n value (low ∷ high ∷ bytes) e =
+    same_fold (n + value) (n + low + 256 * high + number bytes) (number bytes) (omega (arith, e)) (λ z. omega (arith, e, z))
+    ∙ adds_number (n + low + 256 * high) (number bytes) bytes refl ∙ ap folded_sum (omega arith)
 
 pub four_number : (bytes : List ℕ) → length bytes ≡ 4 → from_le_bytes w32 bytes ≡ number bytes
 four_number (a ∷ b ∷ c ∷ d ∷ []) four = omega arith
