@@ -25,7 +25,8 @@ lanes_turn bytes total high words sums carries rest after i four stands_for smal
     let as_many_low : length i.low ≡ length (low_halves words) = i.splits.lanes ∙ i.four ∙ sym (length-map words (λ w. w % 2 ^ 32) ∙ four) in
     let low_sum = sum-zip2 i.low (low_halves words) as_many_low in
     let plain = lanes_add high (high_halves words) (omega (arith, i.lanes_fit, small, few)) in
-    let high_sum : sum_l (zip2 (λ a b. (a + b) % 2 ^ 64) high (high_halves words)) ≡ sum_l high + sum_l (high_halves words) = ap sum_l plain ∙ sum-zip2 high (high_halves words) as_many in
+    let high_sum : sum_l (zip2 (λ a b. (a + b) % 2 ^ 64) high (high_halves words)) ≡ sum_l high + sum_l (high_halves words) =
+    ap sum_l plain ∙ sum-zip2 high (high_halves words) as_many in
     let high_length = length-zip2 (λ a b. (a + b) % 2 ^ 64) high (high_halves words) as_many in
     rw (zip2_splat (λ a b. a / 2 ^ b) words 4 32 four) record {
       low = low;

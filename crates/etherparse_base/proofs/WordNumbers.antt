@@ -13,11 +13,10 @@ number (byte ∷ bytes) = byte + 256 * number bytes
 
 -- a number adds to a sum what the words of its bytes do
 adds_number : (n value : ℕ) (bytes : List ℕ) → value ≡ number bytes → folded_sum (n + value) ≡ folded_sum (n + little_endian_word_sum bytes)
-adds_number n value [] e = ap folded_sum (omega (arith, e))
-adds_number n value (low ∷ []) e = ap folded_sum (omega (arith, e))
 adds_number n value (low ∷ high ∷ bytes) e =
     same_fold (n + value) (n + low + 256 * high + number bytes) (number bytes) (omega (arith, e)) (λ z. omega (arith, e, z))
     ∙ adds_number (n + low + 256 * high) (number bytes) bytes refl ∙ ap folded_sum (omega arith)
+adds_number n value bytes e = ap folded_sum (omega (arith, e))
 
 pub four_number : (bytes : List ℕ) → length bytes ≡ 4 → from_le_bytes w32 bytes ≡ number bytes
 four_number (a ∷ b ∷ c ∷ d ∷ []) four = omega arith
@@ -58,5 +57,6 @@ eight_at bytes k = little_endian_word_sum (get_or bytes k 0 ∷ get_or bytes (1 
 pub two_halves : (start half answer : ℕ) (bytes : List ℕ) → length bytes ≡ 16 → folded_sum half ≡ folded_sum (start + eight_at bytes 0)
     → folded_sum answer ≡ folded_sum (half + eight_at bytes 8) → folded_sum answer ≡ folded_sum (start + little_endian_word_sum bytes)
 two_halves start half answer (a ∷ b ∷ c ∷ d ∷ e ∷ f ∷ g ∷ h ∷ i ∷ j ∷ k ∷ l ∷ m ∷ n ∷ o ∷ p ∷ []) sixteen first last =
-    last ∙ folded_sum-plus half (start + eight_at (a ∷ b ∷ c ∷ d ∷ e ∷ f ∷ g ∷ h ∷ []) 0) (eight_at (i ∷ j ∷ k ∷ l ∷ m ∷ n ∷ o ∷ p ∷ []) 0) first ∙ ap folded_sum (omega arith)
+    last ∙ folded_sum-plus half (start + eight_at (a ∷ b ∷ c ∷ d ∷ e ∷ f ∷ g ∷ h ∷ []) 0) (eight_at (i ∷ j ∷ k ∷ l ∷ m ∷ n ∷ o ∷ p ∷ []) 0) first
+    ∙ ap folded_sum (omega arith)
 two_halves start half answer bytes sixteen first last = absurd (omega (arith, sixteen))

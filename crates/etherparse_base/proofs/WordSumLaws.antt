@@ -18,7 +18,12 @@ other_order : (bytes : List ℕ) → OtherOrder bytes
 other_order [] = record { past_network = 0; past_little = 0; to_network = refl; to_little = refl }
 other_order (byte ∷ bytes) =
     let rest = other_order bytes in
-    record { past_network = rest.past_little; past_little = byte + rest.past_network; to_network = omega (arith, rest.to_little); to_little = omega (arith, rest.to_network) }
+    record {
+      past_network = rest.past_little;
+      past_little = byte + rest.past_network;
+      to_network = omega (arith, rest.to_little);
+      to_little = omega (arith, rest.to_network);
+    }
 
 -- a fold with its two bytes exchanged
 fold_swapped : (n m k l : ℕ) → 256 * n ≡ m + 65535 * k → 256 * m ≡ n + 65535 * l → swap_bytes w16 (folded_sum n) ≡ folded_sum m
@@ -33,10 +38,12 @@ swap_bytes-folded_sum bytes =
     fold_swapped (little_endian_word_sum bytes) (network_order_word_sum bytes) order.past_network order.past_little order.to_network order.to_little
 
 -- what a sum from 0 says of the words in network order
-pub network_order_from_zero : (start result : ℕ) (bytes : List ℕ) → folded_sum result ≡ folded_sum (start + little_endian_word_sum bytes) → start ≡ 0 → swap_bytes w16 (folded_sum result) ≡ folded_sum (network_order_word_sum bytes)
+pub network_order_from_zero : (start result : ℕ) (bytes : List ℕ) → folded_sum result ≡ folded_sum (start + little_endian_word_sum bytes)
+    → start ≡ 0 → swap_bytes w16 (folded_sum result) ≡ folded_sum (network_order_word_sum bytes)
 network_order_from_zero start result bytes sum from_zero = ap (swap_bytes w16) (sum ∙ ap folded_sum (omega arith)) ∙ swap_bytes-folded_sum bytes
 
-pub all_ones_from_zero : (start result : ℕ) (bytes : List ℕ) → folded_sum result ≡ folded_sum (start + little_endian_word_sum bytes) → start ≡ 0 → SumsToAllOnes bytes ↔ (folded_sum result ≡ 65535)
+pub all_ones_from_zero : (start result : ℕ) (bytes : List ℕ) → folded_sum result ≡ folded_sum (start + little_endian_word_sum bytes)
+    → start ≡ 0 → SumsToAllOnes bytes ↔ (folded_sum result ≡ 65535)
 all_ones_from_zero start result bytes sum from_zero =
     let swapped = network_order_from_zero start result bytes sum from_zero in
     let within = folded_sum-within result in
@@ -125,10 +132,12 @@ weighted_byte_sum-append weight other (x ∷ []) rest h = absurd (omega arith)
 weighted_byte_sum-append weight other (x ∷ y ∷ front) rest h =
     omega (arith, weighted_byte_sum-append weight other front rest (omega arith))
 
-pub little_endian_word_sum-append : (front rest : List ℕ) → length front % 2 ≡ 0 → little_endian_word_sum (front ++ rest) ≡ little_endian_word_sum front + little_endian_word_sum rest
+pub little_endian_word_sum-append : (front rest : List ℕ) → length front % 2 ≡ 0
+    → little_endian_word_sum (front ++ rest) ≡ little_endian_word_sum front + little_endian_word_sum rest
 little_endian_word_sum-append front rest even = weighted_byte_sum-append 1 256 front rest even
 
-pub network_order_word_sum-append : (front rest : List ℕ) → length front % 2 ≡ 0 → network_order_word_sum (front ++ rest) ≡ network_order_word_sum front + network_order_word_sum rest
+pub network_order_word_sum-append : (front rest : List ℕ) → length front % 2 ≡ 0
+    → network_order_word_sum (front ++ rest) ≡ network_order_word_sum front + network_order_word_sum rest
 network_order_word_sum-append front rest even = weighted_byte_sum-append 256 1 front rest even
 
 -- a sum of words has a complement as it is stored, with its two bytes exchanged
@@ -144,12 +153,14 @@ little_endian_word_sum-none (byte ∷ bytes) none = absurd (omega (arith, none))
 pub little_endian_word_sum-cut : (count : ℕ) (bytes : List ℕ) → count % 2 ≡ 0 → count ≤ length bytes
     → little_endian_word_sum (take count bytes) + little_endian_word_sum (drop count bytes) ≡ little_endian_word_sum bytes
 little_endian_word_sum-cut count bytes even within =
-    sym (little_endian_word_sum-append (take count bytes) (drop count bytes) (rw (length-take count bytes) (omega arith))) ∙ ap little_endian_word_sum (take-append-drop count bytes)
+    sym (little_endian_word_sum-append (take count bytes) (drop count bytes) (rw (length-take count bytes) (omega arith)))
+    ∙ ap little_endian_word_sum (take-append-drop count bytes)
 
 -- pieces of the same sum in the place of others
 ones_complement_sum-instead : (before : List (List ℕ)) (pieces others : List (List ℕ)) → sum_by little_endian_word_sum pieces ≡ sum_by little_endian_word_sum others
     → ones_complement_sum (before ++ pieces) ≡ ones_complement_sum (before ++ others)
-ones_complement_sum-instead before pieces others same = ap folded_sum (rw (sum_by-append little_endian_word_sum before pieces, sum_by-append little_endian_word_sum before others, same))
+ones_complement_sum-instead before pieces others same =
+    ap folded_sum (rw (sum_by-append little_endian_word_sum before pieces, sum_by-append little_endian_word_sum before others, same))
 
 -- all that is known of the sum of pieces, by its fold
 pub adds_slices : (pieces : List (List ℕ)) (answer : ℕ) → folded_sum answer ≡ ones_complement_sum pieces → AddsSlices pieces answer
@@ -158,7 +169,9 @@ adds_slices pieces answer sum = record {
   exchanged = λ before after first second is.
       sum ∙ ap ones_complement_sum is ∙ ones_complement_sum-instead before (first ∷ second ∷ after) (second ∷ first ∷ after) (simp sum_by-cons (omega arith));
   cut = λ before after front back is even. sum ∙ ap ones_complement_sum is
-      ∙ ones_complement_sum-instead before ((front ++ back) ∷ after) (front ∷ back ∷ after) (simp sum_by-cons (omega (arith, little_endian_word_sum-append front back even)));
+      ∙ ones_complement_sum-instead before ((front ++ back) ∷ after) (front ∷ back ∷ after)
+          (simp sum_by-cons (omega (arith, little_endian_word_sum-append front back even)));
   joined = λ before after front back is even. sum ∙ ap ones_complement_sum is
-      ∙ ones_complement_sum-instead before (front ∷ back ∷ after) ((front ++ back) ∷ after) (simp sum_by-cons (omega (arith, little_endian_word_sum-append front back even)));
+      ∙ ones_complement_sum-instead before (front ∷ back ∷ after) ((front ++ back) ∷ after)
+          (simp sum_by-cons (omega (arith, little_endian_word_sum-append front back even)));
 }

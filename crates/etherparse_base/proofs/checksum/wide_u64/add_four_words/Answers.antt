@@ -10,4 +10,5 @@ returns-clause-adds c =
     let words = c.split_four_words in
     let turn = c.add_words-turn in
     let left = little_endian_word_sum words.result.1.now in
-    ap folded_sum (omega arith) ∙ c.add_last.ensures.folded left ∙ ap folded_sum (omega arith) ∙ turn.ensures.folded (left + sum) ∙ ap folded_sum (omega arith) ∙ words.ensures.stands_for sum
+    ap folded_sum (omega arith) ∙ c.add_last.ensures.folded left ∙ ap folded_sum (omega arith) ∙ turn.ensures.folded (left + sum)
+    ∙ ap folded_sum (omega arith) ∙ words.ensures.stands_for sum
