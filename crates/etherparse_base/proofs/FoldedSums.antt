@@ -1,7 +1,6 @@
 -- Folded sums: which numbers have the same one.
-use Rattle.std.proofs.Common.{ℕ, zero, suc, Bool, true, false, List, ◌≡◌, ◌<◌, ◌≤◌, ◌+◌, ◌-◌, ◌*◌, ◌%◌, ◌∙◌, ap, arith, ltb-true, nat_lt, refl, sym}
+use Rattle.std.proofs.Common.{ℕ, zero, suc, List, ◌≡◌, ◌<◌, ◌≤◌, ◌+◌, ◌-◌, ◌*◌, ◌%◌, ◌∙◌, ap, arith, refl, sym}
 use Rattle.std.proofs.lemmas.Bool.Decides.{nat_tests}
-use Rattle.std.specs.Prelude.{if◌then◌else◌}
 use Rattle.etherparse_base.specs.WordSums.{StandsForWords, end_around_sum, folded_sum, little_endian_word_sum}
 
 -- numbers that differ by a multiple of 65535, unless one of them alone is 0

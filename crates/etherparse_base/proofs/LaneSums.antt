@@ -1,5 +1,5 @@
 -- Sums in lanes of 64 bits: the totals of words, and the sums of their low and high halves.
-use Rattle.std.proofs.Common.{ℕ, List, [], ◌∷◌, ◌≡◌, ◌<◌, ◌+◌, ◌-◌, ◌*◌, ◌/◌, ◌%◌, ◌^◌, ◌∙◌, ap, arith, get_or, length, map, refl, replicate}
+use Rattle.std.proofs.Common.{ℕ, List, [], ◌∷◌, ◌≡◌, ◌<◌, ◌+◌, ◌-◌, ◌*◌, ◌/◌, ◌%◌, ◌^◌, ◌∙◌, arith, get_or, length, map, refl, replicate}
 use Rattle.std.specs.Simd.Lanes.{fold_l, sum_l, zip2}
 use Rattle.std.proofs.lemmas.Simd.{sum-zip2, zip2_splat}
 use Rattle.etherparse_base.specs.Private.WideSums.{Splits, lanes_added}

@@ -1,5 +1,5 @@
 -- Laws of the sums of words: the other order of bytes, a changed byte, pieces exchanged or cut.
-use Rattle.std.proofs.Common.{ℕ, zero, suc, List, [], ◌∷◌, ◌++◌, ◌≡◌, ◌↔◌, ◌⊎◌, ◌<◌, ◌≤◌, ◌+◌, ◌-◌, ◌*◌, ◌/◌, ◌%◌, ◌∙◌, ap, arith, drop, inl, inr, length, refl, slice_index, slice_set, sum_by, sym, take, w16}
+use Rattle.std.proofs.Common.{ℕ, zero, suc, List, [], ◌∷◌, ◌++◌, ◌≡◌, ◌↔◌, ◌<◌, ◌≤◌, ◌+◌, ◌-◌, ◌*◌, ◌%◌, ◌∙◌, ap, arith, drop, length, refl, slice_index, slice_set, sum_by, sym, take, w16}
 use Rattle.std.proofs.lemmas.List.{length-take, take-append-drop}
 use Rattle.std.proofs.lemmas.List.Sums.{sum_by-append, sum_by-cons}
 use Rattle.std.specs.Int.{swap_bytes, to_be_bytes}
@@ -170,8 +170,8 @@ adds_slices pieces answer sum = record {
       sum ∙ ap ones_complement_sum is ∙ ones_complement_sum-instead before (first ∷ second ∷ after) (second ∷ first ∷ after) (simp sum_by-cons (omega arith));
   cut = λ before after front back is even. sum ∙ ap ones_complement_sum is
       ∙ ones_complement_sum-instead before ((front ++ back) ∷ after) (front ∷ back ∷ after)
-          (simp sum_by-cons (omega (arith, little_endian_word_sum-append front back even)));
+      (simp sum_by-cons (omega (arith, little_endian_word_sum-append front back even)));
   joined = λ before after front back is even. sum ∙ ap ones_complement_sum is
       ∙ ones_complement_sum-instead before (front ∷ back ∷ after) ((front ++ back) ∷ after)
-          (simp sum_by-cons (omega (arith, little_endian_word_sum-append front back even)));
+      (simp sum_by-cons (omega (arith, little_endian_word_sum-append front back even)));
 }

@@ -1,4 +1,4 @@
-use Rattle.std.proofs.Common.{◌≡◌, ◌∙◌, arith, length, refl}
+use Rattle.std.proofs.Common.{◌∙◌, arith, refl}
 use Rattle.etherparse_base.proofs.WordNumbers.{adds_around, four_number}
 use Rattle.etherparse_base.proofs.checksum.u32_16bit_word.add_4bytes.Goals as goal
 

@@ -1,6 +1,4 @@
-use Rattle.std.proofs.Common.{◌≡◌, ◌+◌, ◌∙◌, ap, arith}
-use Rattle.std.specs.Int.{from_bool}
-use Rattle.std.specs.Simd.Lanes.{sum_l}
+use Rattle.std.proofs.Common.{◌∙◌, ap, arith}
 use Rattle.etherparse_base.specs.WordSums.{folded_sum}
 use Rattle.etherparse_base.proofs.checksum.wide_u64.add_four.Goals as goal
 

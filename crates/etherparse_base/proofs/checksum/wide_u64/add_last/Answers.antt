@@ -1,4 +1,4 @@
-use Rattle.std.proofs.Common.{ℕ, ◌+◌, ◌*◌, arith, sym}
+use Rattle.std.proofs.Common.{ℕ, ◌*◌, arith, sym}
 use Rattle.std.specs.Int.{from_bool}
 use Rattle.etherparse_base.proofs.FoldedSums.{same_fold}
 use Rattle.etherparse_base.proofs.checksum.wide_u64.add_last.Goals as goal

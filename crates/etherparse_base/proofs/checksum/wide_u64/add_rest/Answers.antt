@@ -1,6 +1,5 @@
-use Rattle.std.proofs.Common.{[], ◌∷◌, ◌≡◌, ◌+◌, ◌∙◌, ap, arith}
-use Rattle.std.specs.Simd.Lanes.{sum_l}
-use Rattle.etherparse_base.specs.WordSums.{folded_sum, little_endian_word_sum}
+use Rattle.std.proofs.Common.{◌+◌, ◌∙◌, ap, arith}
+use Rattle.etherparse_base.specs.WordSums.{folded_sum}
 use Rattle.etherparse_base.proofs.FoldedSums.{folded_sum-plus}
 use Rattle.etherparse_base.proofs.checksum.wide_u64.add_rest.Goals as goal
 

@@ -1,4 +1,4 @@
-use Rattle.std.proofs.Common.{◌≤◌, ◌^◌, [], ◌∷◌, ap, arith, length, refl}
+use Rattle.std.proofs.Common.{[], ◌∷◌, ap, arith, refl}
 use Rattle.etherparse_base.specs.Private.WideSums.{AddsTurns, lanes_added}
 use Rattle.etherparse_base.specs.WordSums.{folded_sum}
 use Rattle.etherparse_base.proofs.LaneSums.{lanes_added-last, lanes_added-second}

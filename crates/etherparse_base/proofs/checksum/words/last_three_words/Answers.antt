@@ -1,5 +1,5 @@
-use Rattle.std.proofs.Common.{◌≡◌, ◌+◌, ◌∙◌, ap, arith, drop, length-drop}
-use Rattle.etherparse_base.specs.WordSums.{folded_sum, little_endian_word_sum}
+use Rattle.std.proofs.Common.{◌+◌, ◌∙◌, ap, arith, drop, length-drop}
+use Rattle.etherparse_base.specs.WordSums.{folded_sum}
 use Rattle.etherparse_base.proofs.WordSumLaws.{little_endian_word_sum-none}
 use Rattle.etherparse_base.proofs.checksum.words.last_three_words.Goals as goal
 

@@ -1,6 +1,4 @@
-use Rattle.std.proofs.Common.{[], ◌∷◌, ◌+◌, ◌*◌, ◌/◌, ◌^◌, ◌∙◌, arith, sym}
-use Rattle.etherparse_base.specs.Private.WideSums.{halves_sum}
-use Rattle.etherparse_base.specs.WordSums.{little_endian_word_sum}
+use Rattle.std.proofs.Common.{◌+◌, ◌*◌, ◌/◌, ◌^◌, ◌∙◌, arith, sym}
 use Rattle.etherparse_base.proofs.FoldedSums.{same_fold}
 use Rattle.etherparse_base.proofs.checksum.words.split_four_words.Goals as goal
 

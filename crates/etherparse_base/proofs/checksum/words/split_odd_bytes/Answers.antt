@@ -1,4 +1,4 @@
-use Rattle.std.proofs.Common.{◌≡◌, ◌≤◌, ◌+◌, ◌-◌, ◌%◌, ◌∙◌, ap, arith, drop, drop-drop, length, length-drop, take}
+use Rattle.std.proofs.Common.{◌≡◌, ◌+◌, ◌-◌, ◌%◌, ◌∙◌, ap, arith, drop, drop-drop, length, length-drop, take}
 use Rattle.std.proofs.lemmas.List.{take_all}
 use Rattle.etherparse_base.specs.WordSums.{folded_sum, little_endian_word_sum}
 use Rattle.etherparse_base.proofs.WordSumLaws.{little_endian_word_sum-cut}

@@ -1,4 +1,4 @@
-use Rattle.std.proofs.Common.{◌≡◌, ◌+◌, ◌∙◌, ap, arith, drop}
+use Rattle.std.proofs.Common.{◌+◌, ◌∙◌, ap, arith, drop}
 use Rattle.etherparse_base.specs.WordSums.{folded_sum, little_endian_word_sum}
 use Rattle.etherparse_base.proofs.WordSumLaws.{little_endian_word_sum-none}
 use Rattle.etherparse_base.proofs.checksum.words.word_or_zero.Goals as goal
