@@ -144,6 +144,24 @@ network_order_word_sum-append front rest even = weighted_byte_sum-append 256 1 f
 pub little_endian_word_sum-swapped : (checksum : ℕ) → checksum < 65536 → little_endian_word_sum (to_be_bytes w16 (swap_bytes w16 checksum)) ≡ checksum
 little_endian_word_sum-swapped checksum fits = omega arith
 
+-- a word that is written over two bytes 0 is added to the sum
+pub little_endian_word_sum-written : (bytes : List ℕ) (place first second : ℕ) → place % 2 ≡ 0 → suc place < length bytes
+    → slice_index bytes place ≡ 0 → slice_index bytes (suc place) ≡ 0
+    → little_endian_word_sum (slice_set (slice_set bytes place first) (suc place) second) ≡ little_endian_word_sum bytes + (first + 256 * second)
+little_endian_word_sum-written (x ∷ y ∷ bytes) zero first second even within a b = omega (arith, a, b)
+little_endian_word_sum-written (x ∷ y ∷ bytes) (suc (suc place)) first second even within a b =
+    omega (arith, little_endian_word_sum-written bytes place first second (omega arith) (omega arith) a b)
+little_endian_word_sum-written bytes place first second even within a b = absurd (omega arith)
+
+-- bytes sum to all ones once their checksum is stored where they have two bytes 0
+pub sums_to_all_ones-written : (bytes : List ℕ) (place first second checksum : ℕ) → place % 2 ≡ 0 → suc place < length bytes
+    → slice_index bytes place ≡ 0 → slice_index bytes (suc place) ≡ 0 → first + 256 * second ≡ checksum
+    → folded_sum (little_endian_word_sum bytes + checksum) ≡ 65535 → SumsToAllOnes (slice_set (slice_set bytes place first) (suc place) second)
+sums_to_all_ones-written bytes place first second checksum even within a b is completed =
+    let stored = slice_set (slice_set bytes place first) (suc place) second in
+    (all_ones_from_zero 0 (little_endian_word_sum stored) stored (ap folded_sum (omega arith)) refl).1
+    (rw (little_endian_word_sum-written bytes place first second even within a b) (rw is completed))
+
 -- where there are no bytes
 pub little_endian_word_sum-none : (bytes : List ℕ) → length bytes ≡ 0 → little_endian_word_sum bytes ≡ 0
 little_endian_word_sum-none [] none = refl
