@@ -44,7 +44,8 @@ impl<'a> Ipv4HeaderSlice<'a> {
     /// not 4, or the IHL is below 5; `Len` where the slice has fewer bytes than the IHL says.
     #[inline(always)]
     pub fn from_slice(slice: &'a [u8]) -> Result<Ipv4HeaderSlice<'a>, HeaderSliceError>
-        ensures views { ViewsIpv4 slice.now (result_map_both (λ view. view.slice.now) (λ e. e) result) }
+        ensures views { ViewsIpv4 slice.now
+            (result_map_both (λ view. view.slice.now) (λ e. e) result) }
         ensures only { (other : Result (List ℕ) HeaderSliceError) → ViewsIpv4 slice.now other →
             other ≡ result_map_both (λ view. view.slice.now) (λ e. e) result }
         ensures shows { (header : Header) → (rest : List ℕ) →

@@ -33,7 +33,8 @@ impl<'a> Ipv6HeaderSlice<'a> {
     ///
     /// `Len` where the slice has fewer than 40 bytes; else `Content` where the version is not 6.
     pub fn from_slice(slice: &'a [u8]) -> Result<Ipv6HeaderSlice<'a>, HeaderSliceError>
-        ensures views { ViewsIpv6 slice.now (result_map_both (λ view. view.slice.now) (λ e. e) result) }
+        ensures views { ViewsIpv6 slice.now
+            (result_map_both (λ view. view.slice.now) (λ e. e) result) }
         ensures only { (other : Result (List ℕ) HeaderSliceError) → ViewsIpv6 slice.now other →
             other ≡ result_map_both (λ view. view.slice.now) (λ e. e) result }
         ensures shows { (header : Header) → (rest : List ℕ) →

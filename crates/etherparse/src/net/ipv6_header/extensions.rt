@@ -31,7 +31,8 @@ const NOT_SKIPPABLE: u8 = 1;
 
 impl Ipv6Header {
     ghost use Rattle.std.specs.Prelude.{ℕ, ◌≡◌, ◌+◌, ◌/◌, ◌<◌, ◌≤◌, ◌↔◌, ◌-◌, List, Ok, Err};
-    ghost use Rattle.std.specs.Prelude.{IfErr, IfOk, IsFalse, IsOk, IsTrue, drop, length, slice_index};
+    ghost use Rattle.std.specs.Prelude.{IfErr, IfOk, IsFalse, IsOk, IsTrue, drop, length};
+    ghost use Rattle.std.specs.Prelude.{slice_index};
     ghost use Rattle.etherparse_base.specs.LenError.{len_error_moved};
     ghost use Rattle.etherparse_fields.specs.ExtensionHeaders.{IsSkippable};
     ghost use Rattle.etherparse.specs.ExtensionHeaderChain.{Ends, FollowsChain};

@@ -1,5 +1,7 @@
 //! The walk past IPv6 extension headers, with a limit of headers.
 
+ghost use Rattle.etherparse_base.specs.declared.err.ipv6.chain_error.ChainError.TheVariants.{Len};
+
 use super::{incomplete_header, required_len_at};
 use crate::err::ipv6::ChainError;
 use crate::{IpNumber, Ipv6Header};
@@ -8,7 +10,6 @@ impl Ipv6Header {
     ghost use Rattle.std.specs.Prelude.{ℕ, ◌≡◌, ◌+◌, ◌-◌, ◌/◌, ◌≤◌, List, IfErr, IfOk, length};
     ghost use Rattle.std.specs.Result.{result_map_both};
     ghost use Rattle.etherparse_base.specs.Ipv6Errors.{chain_error_moved, chain_error_place};
-    ghost use Rattle.etherparse_base.specs.declared.err.ipv6.chain_error.ChainError.TheVariants.{Len};
     ghost use Rattle.etherparse.specs.ExtensionHeaderChain.{BeginsWithChain, LimitedWalkAnswer};
     ghost use Rattle.etherparse.specs.ExtensionHeaderChain.{WalkAnswer, Walks, WalksUpTo};
     ghost use Rattle.etherparse.specs.Reading.{found_and_rest};
