@@ -74,6 +74,13 @@ pub record UpdatesChecksum (checksum old new answer : ℕ) : Type 0 where
   pub received : (sum : ℕ) → old ≤ sum → 0 < sum → 0 < sum - old + new
       → folded_sum (sum - old + new + answer) ≡ folded_sum (sum + checksum)
 
+-- the same of a checksum that is never 0: 0 says that there is none, and stays
+pub record UpdatesChecksumWithNoZero (checksum old new answer : ℕ) : Type 0 where
+  pub none : checksum ≡ 0 → answer ≡ 0
+  pub there : checksum ≢ 0 → answer ≢ 0
+  pub received : checksum ≢ 0 → (sum : ℕ) → old ≤ sum → 0 < sum → 0 < sum - old + new
+      → folded_sum (sum - old + new + answer) ≡ folded_sum (sum + checksum)
+
 -- the bytes after are those before with another byte at one place
 pub record ChangesOneByte (before after : List ℕ) : Type 0 where
   pub place : ℕ

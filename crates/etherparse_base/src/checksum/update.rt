@@ -1,10 +1,10 @@
 //! A checksum after a change of what it is over, from the change alone (RFC 1624).
 
-ghost use Rattle.std.specs.Prelude.{◌≡◌, ◌≤◌, ◌+◌, ◌-◌, ◌*◌};
+ghost use Rattle.std.specs.Prelude.{ℕ, ◌≡◌, ◌≤◌, ◌+◌, ◌-◌, ◌*◌};
 ghost use Rattle.std.specs.Int.{from_be_bytes, w16};
-ghost use Rattle.etherparse_base.specs.WordSums.{UpdatesChecksum, folded_sum};
-ghost use Rattle.etherparse_base.specs.WordSums.{network_order_word_sum, updated_checksum};
-ghost use Rattle.etherparse_base.specs.WordSums.{updated_checksum_of_words};
+ghost use Rattle.etherparse_base.specs.WordSums.{UpdatesChecksum, UpdatesChecksumWithNoZero};
+ghost use Rattle.etherparse_base.specs.WordSums.{folded_sum, network_order_word_sum};
+ghost use Rattle.etherparse_base.specs.WordSums.{updated_checksum, updated_checksum_of_words};
 
 use super::u32_16bit_word::ones_complement;
 
@@ -53,6 +53,54 @@ pub fn update_16bytes(checksum: u16, old: [u8; 16], new: [u8; 16]) -> u16
         (network_order_word_sum new) result }
 {
     ones_complement(u32::from(!checksum) + (8 * 65535 - eight_words(old)) + eight_words(new))
+}
+
+/// [`update_2bytes`] of a checksum in which 0 says that there is none, as in UDP over IPv4 (RFC
+/// 768): 0 stays 0, and 0xffff stands for any other that would be 0.
+///
+/// The Rust crate has no such call.
+#[inline]
+pub fn update_2bytes_with_no_zero(checksum: u16, old: [u8; 2], new: [u8; 2]) -> u16
+    ensures updates { UpdatesChecksumWithNoZero checksum (from_be_bytes w16 old)
+        (from_be_bytes w16 new) result }
+{
+    none_or(checksum, update_2bytes(checksum, old, new))
+}
+
+/// [`update_4bytes`] of a checksum in which 0 says that there is none, as in UDP over IPv4 (RFC
+/// 768): 0 stays 0, and 0xffff stands for any other that would be 0.
+///
+/// The Rust crate has no such call.
+#[inline]
+pub fn update_4bytes_with_no_zero(checksum: u16, old: [u8; 4], new: [u8; 4]) -> u16
+    ensures updates { UpdatesChecksumWithNoZero checksum (network_order_word_sum old)
+        (network_order_word_sum new) result }
+{
+    none_or(checksum, update_4bytes(checksum, old, new))
+}
+
+/// [`update_16bytes`] of a checksum in which 0 says that there is none: 0 stays 0, and 0xffff stands
+/// for any other that would be 0.
+///
+/// The Rust crate has no such call.
+#[inline]
+pub fn update_16bytes_with_no_zero(checksum: u16, old: [u8; 16], new: [u8; 16]) -> u16
+    ensures updates { UpdatesChecksumWithNoZero checksum (network_order_word_sum old)
+        (network_order_word_sum new) result }
+{
+    none_or(checksum, update_16bytes(checksum, old, new))
+}
+
+// What becomes of a checksum of which 0 says that there is none, and of which this is the update.
+#[inline(always)]
+fn none_or(checksum: u16, updated: u16) -> u16
+    ensures updates { (old : ℕ) → (new : ℕ) → UpdatesChecksum checksum old new updated →
+        UpdatesChecksumWithNoZero checksum old new result }
+{
+    if checksum == 0 {
+        return 0;
+    }
+    if updated == 0 { 0xffff } else { updated }
 }
 
 // The sum of two words, each with the high byte first.
