@@ -8,7 +8,7 @@ use Rattle.etherparse_base.specs.LenError.{len_error_moved}
 use Rattle.etherparse_base.specs.declared.err.ipv6.chain_error.ChainError.TheVariants as chain_error
 use Rattle.etherparse_base.specs.declared.err.len_error.LenError.{LenError}
 use Rattle.etherparse_fields.specs.ExtensionHeaders.{IsSkippable}
-use Rattle.etherparse.proofs.ExtensionHeaderChain.{is_walk_of, one_more_skipped}
+use Rattle.etherparse.proofs.ExtensionHeaderChain.{is_walk_of, nothing_skipped, one_more_skipped}
 use Rattle.etherparse.specs.ExtensionHeaderChain.{BeginsWithChain, Ends, EndsIncomplete, FollowsChain, IsExtensionHeaderChain, IsWalkBehindChains, IsWalkOf, LimitedWalkAnswer, WalkAnswer, Walks, WalksUpTo}
 use Rattle.etherparse.specs.ExtensionHeaderChain.{incomplete_header_error, required_len_of}
 
@@ -39,6 +39,15 @@ walk_ends_short s first n r e f skippable short is =
         short = short;
         error = ap (len_error_moved (length s - length r)) is ∙ ap (λ p. incomplete_header_error n r p) offset;
       };
+    })
+
+-- so does the walk of what is left, with that error as it is
+pub walk_starts_short : (n : ℕ) (r : List ℕ) (e : LenError) → IsSkippable n → length r < required_len_of n r → e ≡ incomplete_header_error n r 0
+    → IsWalkOf r n (Err e)
+walk_starts_short n r e skippable short is =
+    is_walk_of r n (Err e) (record {
+      headers = [];
+      ends = record { last = n; rest = r; begins = nothing_skipped r n; skippable = skippable; short = short; error = is };
     })
 
 -- two chains, one behind the other

@@ -47,9 +47,10 @@ const _: () = prove!(Ipv4Header::MIN_LEN == 20 && Ipv4Header::MIN_LEN_U16 == 20)
 const _: () = prove!(Ipv4Header::MAX_LEN == 60 && Ipv4Header::SERIALIZED_SIZE == 20);
 
 impl Ipv4Header {
-    ghost use Rattle.std.specs.Prelude.{ℕ, ◌≡◌, ◌+◌, ◌*◌, ◌/◌, ◌^◌, ◌<◌, ◌≤◌, ◌↔◌, ◌⊎◌};
+    ghost use Rattle.std.specs.Prelude.{ℕ, ◌≡◌, ◌+◌, ◌-◌, ◌*◌, ◌/◌, ◌^◌, ◌<◌, ◌≤◌, ◌↔◌, ◌⊎◌};
     ghost use Rattle.std.specs.Prelude.{List, [], ◌∷◌, ◌++◌, length};
     ghost use Rattle.std.specs.Prelude.{IfErr, IfOk, IsOk, IsTrue, Ok, OnErr, OnOk};
+    ghost use Rattle.std.specs.Bool.{OnFalse, OnTrue};
     ghost use Rattle.std.specs.Int.{from_bool, to_be_bytes, w16};
     ghost use Rattle.etherparse_base.specs.WordSums.{SumsToAllOnes, updated_checksum};
     ghost use Rattle.etherparse_base.specs.WordSums.{updated_checksum_of_words};
@@ -338,6 +339,35 @@ impl Ipv4Header {
             [time_to_live, protocol],
         );
         self.time_to_live = time_to_live;
+    }
+
+    /// Lowers the time to live by one, as a router does (RFC 1812 section 5.3.1), and updates the
+    /// stored checksum as [`Ipv4Header::set_time_to_live`] does. `false`, and the header as it was,
+    /// where the time to live is 0 or 1: the packet is to be discarded then.
+    ///
+    /// The Rust crate has no such call.
+    #[inline]
+    pub fn lower_time_to_live(&mut self) -> bool
+        ensures lowered { IsTrue result ↔ (2 ≤ self.old.time_to_live) }
+        ensures set { OnTrue result (self.new ≡ record self.old {
+          time_to_live = self.old.time_to_live - 1;
+          header_checksum = updated_checksum self.old.header_checksum
+              (self.old.time_to_live * 2 ^ 8 + self.old.protocol)
+              ((self.old.time_to_live - 1) * 2 ^ 8 + self.old.protocol);
+        }) }
+        ensures keeps_checksum { OnTrue result (KeepsChecksum self.old self.new) }
+        ensures unchanged { OnFalse result (self.new ≡ self.old) }
+
+        // In a packet that is bytes 8, 10 and 11 and no other.
+        ensures in_place { OnTrue result
+            (ChangesInPlace self.old self.new 8 ((self.old.time_to_live - 1) ∷ [])) }
+    {
+        if self.time_to_live < 2 {
+            return false;
+        }
+        let lowered = self.time_to_live - 1;
+        self.set_time_to_live(lowered);
+        true
     }
 
     /// Sets the source address, and updates the stored checksum for it, by [`update_4bytes`]. A

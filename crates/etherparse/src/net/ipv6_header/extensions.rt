@@ -74,6 +74,7 @@ impl Ipv6Header {
         ensures ends { (s : List ℕ) → (first : ℕ) → FollowsChain s first next_header slice.now →
             IfErr result (λ e.
             IsWalkOf s first (Err (len_error_moved (length s - length slice.now) e))) }
+        ensures walks { IfErr result (λ e. IsWalkOf slice.now next_header (Err e)) }
         ensures at_front { IfErr result (λ e. e.layer_start_offset ≡ 0) }
         ensures shorter { IsSkippable next_header →
             IfOk result (λ x. length x.1.now < length slice.now) }
