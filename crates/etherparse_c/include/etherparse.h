@@ -56,6 +56,10 @@ uint16_t etherparse_u32_16bit_word_checksum(uint32_t start_sum, const uint8_t *a
  * are numbers whose high byte a header has first, as header_checksum is. A wrong checksum is not made right. */
 uint16_t etherparse_update_2bytes(uint16_t checksum, uint16_t old_word, uint16_t new_word);
 
+/* The same after four bytes, as an IPv4 address, or sixteen, as an IPv6 address, were changed at an even place. */
+uint16_t etherparse_update_4bytes(uint16_t checksum, const uint8_t old_bytes[4], const uint8_t new_bytes[4]);
+uint16_t etherparse_update_16bytes(uint16_t checksum, const uint8_t old_bytes[16], const uint8_t new_bytes[16]);
+
 /* Why a call refused, by its numbers. Each number that a kind does not have is 0. */
 struct etherparse_error {
     uint32_t kind; /* one of the kinds below; 0 says that nothing was refused */

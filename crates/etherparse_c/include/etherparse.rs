@@ -191,6 +191,8 @@ extern "C" {
     pub fn etherparse_u32_16bit_word_checksum(start_sum: u32, at: *const u8, len: usize) -> u16;
 
     pub fn etherparse_update_2bytes(checksum: u16, old_word: u16, new_word: u16) -> u16;
+    pub fn etherparse_update_4bytes(checksum: u16, old: &[u8; 4], new: &[u8; 4]) -> u16;
+    pub fn etherparse_update_16bytes(checksum: u16, old: &[u8; 16], new: &[u8; 16]) -> u16;
 
     pub fn etherparse_ipv4_view(at: *const u8, len: usize) -> Ipv4ViewAnswer;
     pub fn etherparse_ipv4_read(at: *const u8, len: usize) -> Ipv4ReadAnswer;

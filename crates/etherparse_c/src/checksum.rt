@@ -3,9 +3,11 @@
 ghost use Rattle.std.specs.Prelude.{◌≡◌, ◌+◌, map};
 ghost use Rattle.etherparse.specs.WordSums.{AddsSlice, AddsSlices, Complements};
 ghost use Rattle.etherparse.specs.WordSums.{ComplementsWithNoZero, UpdatesChecksum};
-ghost use Rattle.etherparse.specs.WordSums.{little_endian_word_sum, updated_checksum};
+ghost use Rattle.etherparse.specs.WordSums.{little_endian_word_sum, network_order_word_sum};
+ghost use Rattle.etherparse.specs.WordSums.{updated_checksum, updated_checksum_of_words};
 
-use etherparse::checksum::{u32_16bit_word, u64_16bit_word, update_2bytes};
+use etherparse::checksum::{u32_16bit_word, u64_16bit_word};
+use etherparse::checksum::{update_2bytes, update_4bytes, update_16bytes};
 
 /// Adds the words of a slice to a sum of 64 bits, which begins at 0. An odd last byte is a word
 /// with a byte 0 behind it.
@@ -103,6 +105,26 @@ pub extern "C" fn etherparse_update_2bytes(checksum: u16, old: u16, new: u16) ->
     ensures updates { UpdatesChecksum checksum old new result }
 {
     update_2bytes(checksum, old.to_be_bytes(), new.to_be_bytes())
+}
+
+/// The same after four bytes, as an IPv4 address, were changed at an even place.
+#[unsafe(no_mangle)]
+pub extern "C" fn etherparse_update_4bytes(checksum: u16, old: &[u8; 4], new: &[u8; 4]) -> u16
+    ensures value { result ≡ updated_checksum_of_words 2 checksum old.now new.now }
+    ensures updates { UpdatesChecksum checksum (network_order_word_sum old.now)
+        (network_order_word_sum new.now) result }
+{
+    update_4bytes(checksum, *old, *new)
+}
+
+/// The same after sixteen bytes, as an IPv6 address, were changed at an even place.
+#[unsafe(no_mangle)]
+pub extern "C" fn etherparse_update_16bytes(checksum: u16, old: &[u8; 16], new: &[u8; 16]) -> u16
+    ensures value { result ≡ updated_checksum_of_words 8 checksum old.now new.now }
+    ensures updates { UpdatesChecksum checksum (network_order_word_sum old.now)
+        (network_order_word_sum new.now) result }
+{
+    update_16bytes(checksum, *old, *new)
 }
 
 #[cfg(test)]

@@ -19,10 +19,11 @@ pub struct UdpHeader {
 }
 
 impl UdpHeader {
-    ghost use Rattle.std.specs.Prelude.{ℕ, ◌≡◌, ◌≢◌, ◌<◌, ◌^◌, ◌↔◌, List, ◌++◌, Ok, IsTrue};
+    ghost use Rattle.std.specs.Prelude.{ℕ, ◌≡◌, ◌≢◌, ◌<◌, ◌^◌, ◌↔◌, ◌⊎◌, List, [], ◌∷◌, ◌++◌};
+    ghost use Rattle.std.specs.Prelude.{Ok, IsTrue};
     ghost use Rattle.std.specs.Int.{to_be_bytes, w16};
     ghost use Rattle.etherparse.specs.Reading.{found_and_rest};
-    ghost use Rattle.etherparse.specs.WordSums.{ones_complement_sum};
+    ghost use Rattle.etherparse.specs.WordSums.{little_endian_word_sum, ones_complement_sum};
     ghost use Rattle.uses.specs.Udp.{IsUdpLayout, ReadsUdp, UdpReading};
     ghost use Rattle.uses.specs.Udp.{udp_pieces_v4, udp_pieces_v6};
 
@@ -57,41 +58,85 @@ impl UdpHeader {
         self.words()
     }
 
-    /// Sets the checksum of a datagram over IPv4. With it the datagram sums to all ones.
+    /// Sets the checksum of a datagram over IPv4. With it the datagram sums to all ones, and it is
+    /// not 0, which says that there is none.
     pub fn set_checksum_ipv4(&mut self, ip: &Ipv4Header, payload: &[u8])
         ensures others { self.new ≡ record self.old { checksum = self.new.checksum } }
         ensures there { self.new.checksum ≢ 0 }
         ensures right { (header : List ℕ) → IsUdpLayout self.new header → ones_complement_sum
             (udp_pieces_v4 ip.now self.old.length header payload.now) ≡ 65535 }
     {
-        self.checksum = 0;
         let [h, l] = self.length.to_be_bytes();
+        self.complete(&ip.source, &ip.destination, &[0, 17, h, l], payload);
+    }
+
+    /// Sets the checksum of a datagram over IPv6, as [`UdpHeader::set_checksum_ipv4`] does.
+    pub fn set_checksum_ipv6(&mut self, ip: &Ipv6Header, payload: &[u8])
+        ensures others { self.new ≡ record self.old { checksum = self.new.checksum } }
+        ensures there { self.new.checksum ≢ 0 }
+        ensures right { (header : List ℕ) → IsUdpLayout self.new header → ones_complement_sum
+            (udp_pieces_v6 ip.now self.old.length header payload.now) ≡ 65535 }
+    {
+        let [h, l] = self.length.to_be_bytes();
+        self.complete(&ip.source, &ip.destination, &[0, 0, h, l, 0, 0, 0, 17], payload);
+    }
+
+    /// Whether the checksum of a datagram over IPv4 is right, or there is none.
+    pub fn is_right_ipv4(&self, ip: &Ipv4Header, payload: &[u8]) -> bool
+        ensures right { (header : List ℕ) → IsUdpLayout self.now header → (IsTrue result
+            ↔ ((self.now.checksum ≡ 0) ⊎ (ones_complement_sum
+            (udp_pieces_v4 ip.now self.now.length header payload.now) ≡ 65535))) }
+    {
+        let [h, l] = self.length.to_be_bytes();
+        self.checksum == 0 || self.is_whole(&ip.source, &ip.destination, &[0, 17, h, l], payload)
+    }
+
+    /// Whether the checksum of a datagram over IPv6 is right: there has to be one (RFC 8200 section
+    /// 8.1).
+    pub fn is_right_ipv6(&self, ip: &Ipv6Header, payload: &[u8]) -> bool
+        ensures right { (header : List ℕ) → IsUdpLayout self.now header → (IsTrue result
+            ↔ ((self.now.checksum ≢ 0) × (ones_complement_sum
+            (udp_pieces_v6 ip.now self.now.length header payload.now) ≡ 65535))) }
+    {
+        let [h, l] = self.length.to_be_bytes();
+        self.checksum != 0
+            && self.is_whole(&ip.source, &ip.destination, &[0, 0, h, l, 0, 0, 0, 17], payload)
+    }
+
+    // Sets the checksum over the addresses, what else stands before the datagram, and the datagram.
+    fn complete<'a>(
+        &mut self,
+        source: &'a [u8],
+        destination: &'a [u8],
+        before: &'a [u8],
+        payload: &'a [u8],
+    )
+        requires some { 0 < little_endian_word_sum before.now }
+        ensures others { self.new ≡ record self.old { checksum = self.new.checksum } }
+        ensures there { self.new.checksum ≢ 0 }
+        ensures right { (header : List ℕ) → IsUdpLayout self.new header → ones_complement_sum
+            (source.now ∷ destination.now ∷ before.now ∷ header ∷ payload.now ∷ []) ≡ 65535 }
+    {
+        self.checksum = 0;
         let header = self.to_bytes();
-        let sum = u64_16bit_word::add_slices(&[
-            &ip.source,
-            &ip.destination,
-            &[0, 17, h, l],
-            &header,
-            payload,
-        ]);
+        let sum = u64_16bit_word::add_slices(&[source, destination, before, &header, payload]);
         self.checksum = u64_16bit_word::ones_complement_with_no_zero(sum).swap_bytes();
     }
 
-    /// Whether the checksum of a datagram over IPv6 is right.
-    pub fn is_right_ipv6(&self, ip: &Ipv6Header, payload: &[u8]) -> bool
+    // Whether they sum to all ones.
+    fn is_whole<'a>(
+        &self,
+        source: &'a [u8],
+        destination: &'a [u8],
+        before: &'a [u8],
+        payload: &'a [u8],
+    ) -> bool
         ensures right { (header : List ℕ) → IsUdpLayout self.now header → (IsTrue result
-            ↔ (ones_complement_sum (udp_pieces_v6 ip.now self.now.length header payload.now)
-            ≡ 65535)) }
+            ↔ (ones_complement_sum
+            (source.now ∷ destination.now ∷ before.now ∷ header ∷ payload.now ∷ []) ≡ 65535)) }
     {
-        let [h, l] = self.length.to_be_bytes();
         let header = self.to_bytes();
-        let sum = u64_16bit_word::add_slices(&[
-            &ip.source,
-            &ip.destination,
-            &[0, 0, h, l, 0, 0, 0, 17],
-            &header,
-            payload,
-        ]);
+        let sum = u64_16bit_word::add_slices(&[source, destination, before, &header, payload]);
         u64_16bit_word::ones_complement(sum) == 0
     }
 
