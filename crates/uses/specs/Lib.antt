@@ -2,7 +2,6 @@ pub mod Filter
 pub mod Forward
 pub mod Payload
 pub mod Queue
-pub mod Translation
 pub mod Tunnel
 pub mod Udp
 pub mod UpperLayer

@@ -1,36 +1,85 @@
-//! Address translation: another source address, and what it changes in the checksums (RFC 3022).
+//! Address translation: another source or destination address, and what it changes in the checksums
+//! (RFC 3022).
 
 ghost use Rattle.std.specs.Prelude.{◌≡◌};
 ghost use Rattle.etherparse.specs.HeaderChecksum.{KeepsChecksum};
-ghost use Rattle.etherparse.specs.WordSums.{updated_checksum_of_words};
-ghost use Rattle.uses.specs.Translation.{UpdatesUdpChecksum};
+ghost use Rattle.etherparse.specs.WordSums.{UpdatesChecksum, UpdatesChecksumWithNoZero};
+ghost use Rattle.etherparse.specs.WordSums.{network_order_word_sum, updated_checksum_of_words};
 
 use etherparse::Ipv4Header;
-use etherparse::checksum::update_4bytes;
+use etherparse::checksum::{update_4bytes, update_4bytes_with_no_zero};
 
-/// Gives a header another source address, and answers the UDP checksum for it.
-pub fn translate_source(header: &mut Ipv4Header, udp_checksum: u16, source: [u8; 4]) -> u16
+/// Gives a header another source address, and answers the UDP checksum for it; 0, which says that
+/// there is none, stays.
+pub fn translate_udp_source(header: &mut Ipv4Header, udp_checksum: u16, source: [u8; 4]) -> u16
     ensures set { header.new ≡ record header.old {
       source = source;
       header_checksum = updated_checksum_of_words 2 header.old.header_checksum
           header.old.source source;
     } }
     ensures keeps_checksum { KeepsChecksum header.old header.new }
-    ensures udp { UpdatesUdpChecksum udp_checksum header.old.source source result }
+    ensures udp { UpdatesChecksumWithNoZero udp_checksum
+        (network_order_word_sum header.old.source) (network_order_word_sum source) result }
 {
     let old = header.source;
     header.set_source(source);
-    update_udp(udp_checksum, old, source)
+    update_4bytes_with_no_zero(udp_checksum, old, source)
 }
 
-/// The UDP checksum after one address that it is over was changed; 0, which says that there is
-/// none, stays.
-pub fn update_udp(checksum: u16, old: [u8; 4], new: [u8; 4]) -> u16
-    ensures updates { UpdatesUdpChecksum checksum old new result }
+/// The same with another destination address.
+pub fn translate_udp_destination(
+    header: &mut Ipv4Header,
+    udp_checksum: u16,
+    destination: [u8; 4],
+) -> u16
+    ensures set { header.new ≡ record header.old {
+      destination = destination;
+      header_checksum = updated_checksum_of_words 2 header.old.header_checksum
+          header.old.destination destination;
+    } }
+    ensures keeps_checksum { KeepsChecksum header.old header.new }
+    ensures udp { UpdatesChecksumWithNoZero udp_checksum
+        (network_order_word_sum header.old.destination) (network_order_word_sum destination)
+        result }
 {
-    if checksum == 0 {
-        return 0;
-    }
-    let updated = update_4bytes(checksum, old, new);
-    if updated == 0 { 0xffff } else { updated }
+    let old = header.destination;
+    header.set_destination(destination);
+    update_4bytes_with_no_zero(udp_checksum, old, destination)
+}
+
+/// Gives a header another source address, and answers the TCP checksum for it, which may be 0.
+pub fn translate_tcp_source(header: &mut Ipv4Header, tcp_checksum: u16, source: [u8; 4]) -> u16
+    ensures set { header.new ≡ record header.old {
+      source = source;
+      header_checksum = updated_checksum_of_words 2 header.old.header_checksum
+          header.old.source source;
+    } }
+    ensures keeps_checksum { KeepsChecksum header.old header.new }
+    ensures tcp { UpdatesChecksum tcp_checksum
+        (network_order_word_sum header.old.source) (network_order_word_sum source) result }
+{
+    let old = header.source;
+    header.set_source(source);
+    update_4bytes(tcp_checksum, old, source)
+}
+
+/// The same with another destination address.
+pub fn translate_tcp_destination(
+    header: &mut Ipv4Header,
+    tcp_checksum: u16,
+    destination: [u8; 4],
+) -> u16
+    ensures set { header.new ≡ record header.old {
+      destination = destination;
+      header_checksum = updated_checksum_of_words 2 header.old.header_checksum
+          header.old.destination destination;
+    } }
+    ensures keeps_checksum { KeepsChecksum header.old header.new }
+    ensures tcp { UpdatesChecksum tcp_checksum
+        (network_order_word_sum header.old.destination) (network_order_word_sum destination)
+        result }
+{
+    let old = header.destination;
+    header.set_destination(destination);
+    update_4bytes(tcp_checksum, old, destination)
 }
