@@ -2,7 +2,10 @@
 //! and across the lengths where another way to sum begins; worked values; what a sum prints. More
 //! worked values stand in the sample that `conformance` replays.
 
-use etherparse::checksum::{Sum16BitWords, u32_16bit_word, u64_16bit_word, update_2bytes};
+use etherparse::checksum::{Sum16BitWords, u32_16bit_word, u64_16bit_word};
+use etherparse::checksum::{update_2bytes, update_2bytes_with_no_zero};
+use etherparse::checksum::{update_4bytes, update_4bytes_with_no_zero};
+use etherparse::checksum::{update_16bytes, update_16bytes_with_no_zero};
 use std::alloc::{AllocError, Global};
 use std::process::Abort;
 use std::test::Fail;
@@ -154,6 +157,39 @@ fn an_update_is_by_equation_three(rt: HostRuntime) {
     assert_eq!(rt; update_2bytes(0xffff - 0x0102, [1, 2], [0, 0]), 0);
 }
 
+// Addresses whose words sum to numbers that differ by one, in a checksum of the rest.
+#[test]
+fn wider_updates_are_by_the_sum_of_their_words(rt: HostRuntime) {
+    let (first, second) = ([192, 168, 0, 199], [192, 168, 0, 200]);
+    assert_eq!(rt; update_4bytes(0xb861, first, second), 0xb860);
+    assert_eq!(rt; update_4bytes(0xb860, second, first), 0xb861);
+    let mut first = [0; 16];
+    first[..4].copy_from_slice(&[0x20, 0x01, 0x0d, 0xb8]);
+    let mut second = first;
+    first[15] = 1;
+    second[15] = 2;
+    assert_eq!(rt; update_16bytes(0x1234, first, second), 0x1233);
+    assert_eq!(rt; update_16bytes(0x1233, second, first), 0x1234);
+}
+
+#[test]
+fn no_checksum_stays_none_and_any_other_is_not_zero(rt: HostRuntime) {
+    // The numbers of RFC 1624 section 4, where the updated checksum is 0.
+    let (old, new) = ([0x55, 0x55], [0x32, 0x85]);
+    assert_eq!(rt; update_2bytes_with_no_zero(0xdd2f, old, new), 0xffff);
+    assert_eq!(rt; update_2bytes_with_no_zero(0, old, new), 0);
+    let (old, new) = ([0x55, 0x55, 1, 2], [0x32, 0x85, 1, 2]);
+    assert_eq!(rt; update_4bytes_with_no_zero(0xdd2f, old, new), 0xffff);
+    assert_eq!(rt; update_4bytes_with_no_zero(0, old, new), 0);
+    assert_eq!(rt; update_4bytes_with_no_zero(0xdd2f, old, old), 0xdd2f);
+    let (mut old, mut new) = ([1; 16], [1; 16]);
+    old[14..].copy_from_slice(&[0x55, 0x55]);
+    new[14..].copy_from_slice(&[0x32, 0x85]);
+    assert_eq!(rt; update_16bytes_with_no_zero(0xdd2f, old, new), 0xffff);
+    assert_eq!(rt; update_16bytes_with_no_zero(0, old, new), 0);
+    assert_eq!(rt; update_16bytes_with_no_zero(0xdd2f, old, old), 0xdd2f);
+}
+
 // The ones-complement sum of a start and the words of a slice, one word after the other (RFC 1071
 // section 1).
 fn sum_word_by_word(start: u64, slice: &[u8]) -> u16 {
@@ -196,7 +232,7 @@ fn assert_sums_as_words(rt: &impl Abort, slice: &[u8]) {
 }
 
 // Bytes without a pattern, the same in each run.
-fn random_bytes(alloc: Global, count: usize) -> Result<Vec<u8>, AllocError> {
+pub(crate) fn random_bytes(alloc: Global, count: usize) -> Result<Vec<u8>, AllocError> {
     let mut bytes = Vec::new(alloc);
     let mut state: u64 = 1;
     for _ in 0..count {

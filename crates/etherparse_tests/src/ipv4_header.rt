@@ -1,3 +1,4 @@
+use crate::checksum::random_bytes;
 use crate::headers::{
     GREATEST, Outcome, Row, WITH_OPTIONS, WITH_RESERVED_BIT, WITHOUT_RESERVED_BIT, assert_counts,
     assert_debug_prints, greatest, hash_of, outcome_of, too_short, with_options, with_reserved_bit,
@@ -334,6 +335,50 @@ fn a_changed_address_updates_the_stored_checksum(rt: HostRuntime) {
     header.header_checksum = 0;
     header.set_source(source);
     assert_eq!(rt; header.header_checksum, 0x4957);
+}
+
+#[test]
+fn a_router_lowers_the_time_to_live_or_discards(rt: HostRuntime) {
+    let (source, destination) = ([192, 168, 0, 1], [192, 168, 0, 199]);
+    for (time_to_live, stored, updated) in [(64, 0xb861, 0xb961), (2, 0xf661, 0xf761)] {
+        let made = Ipv4Header::new(95, time_to_live, IpNumber(17), source, destination);
+        let mut header = made.expect(&rt, "a short payload");
+        header.header_checksum = stored;
+        assert!(rt; header.lower_time_to_live());
+        assert_eq!(rt; header.time_to_live, time_to_live - 1);
+        assert_eq!(rt; header.header_checksum, updated);
+        assert_eq!(rt; header.calc_header_checksum(), updated);
+    }
+    for time_to_live in [1, 0] {
+        let made = Ipv4Header::new(95, time_to_live, IpNumber(17), source, destination);
+        let mut header = made.expect(&rt, "a short payload");
+        let before = header.clone().expect(&rt, "no memory is taken");
+        assert!(rt; !header.lower_time_to_live());
+        assert_eq!(rt; header, before);
+    }
+}
+
+// Headers without a pattern, whose checksum was computed, and each update against computing anew.
+#[test]
+fn updates_of_random_headers_are_what_is_computed_anew(rt: HostRuntime) -> Result<(), Fail> {
+    let bytes = random_bytes(rt.alloc(), 2000 * 32)?;
+    for drawn in bytes.chunks(32) {
+        let mut front = [0; 20];
+        front.copy_from_slice(drawn.get(..20).ok_or("too few")?);
+        front[0] = 0x45;
+        front[6] &= 0x7f;
+        let (mut header, _) = Ipv4Header::from_slice(&front).expect(&rt, "a header");
+        header.header_checksum = header.calc_header_checksum();
+        header.set_time_to_live(drawn[20]);
+        assert_eq!(rt; header.header_checksum, checksum_by_words(header.to_bytes().as_slice()));
+        header.set_source([drawn[21], drawn[22], drawn[23], drawn[24]]);
+        assert_eq!(rt; header.header_checksum, checksum_by_words(header.to_bytes().as_slice()));
+        header.set_destination([drawn[25], drawn[26], drawn[27], drawn[28]]);
+        assert_eq!(rt; header.header_checksum, checksum_by_words(header.to_bytes().as_slice()));
+        header.lower_time_to_live();
+        assert_eq!(rt; header.header_checksum, checksum_by_words(header.to_bytes().as_slice()));
+    }
+    Ok(())
 }
 
 #[test]

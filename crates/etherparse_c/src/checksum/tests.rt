@@ -72,3 +72,14 @@ fn sums_of_32_bits(rt: HostRuntime) {
 fn a_checksum_is_updated_for_one_word(rt: HostRuntime) {
     assert_eq!(rt; etherparse_update_2bytes(0xdd2f, 0x5555, 0x3285), 0);
 }
+
+#[test]
+fn a_checksum_is_updated_for_addresses(rt: HostRuntime) {
+    let (first, second) = ([192, 168, 0, 199], [192, 168, 0, 200]);
+    assert_eq!(rt; etherparse_update_4bytes(0xb861, &first, &second), 0xb860);
+    let mut first = [0; 16];
+    let mut second = first;
+    first[15] = 1;
+    second[15] = 2;
+    assert_eq!(rt; etherparse_update_16bytes(0x1234, &first, &second), 0x1233);
+}
