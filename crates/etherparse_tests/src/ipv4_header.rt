@@ -340,12 +340,14 @@ fn a_changed_address_updates_the_stored_checksum(rt: HostRuntime) {
 #[test]
 fn a_router_lowers_the_time_to_live_or_discards(rt: HostRuntime) {
     let (source, destination) = ([192, 168, 0, 1], [192, 168, 0, 199]);
-    for (time_to_live, stored, updated) in [(64, 0xb861, 0xb961), (2, 0xf661, 0xf761)] {
+    for (time_to_live, lowered, stored, updated) in
+        [(64, 63, 0xb861, 0xb961), (2, 1, 0xf661, 0xf761)]
+    {
         let made = Ipv4Header::new(95, time_to_live, IpNumber(17), source, destination);
         let mut header = made.expect(&rt, "a short payload");
         header.header_checksum = stored;
         assert!(rt; header.lower_time_to_live());
-        assert_eq!(rt; header.time_to_live, time_to_live - 1);
+        assert_eq!(rt; header.time_to_live, lowered);
         assert_eq!(rt; header.header_checksum, updated);
         assert_eq!(rt; header.calc_header_checksum(), updated);
     }
@@ -363,17 +365,22 @@ fn a_router_lowers_the_time_to_live_or_discards(rt: HostRuntime) {
 fn updates_of_random_headers_are_what_is_computed_anew(rt: HostRuntime) -> Result<(), Fail> {
     let bytes = random_bytes(rt.alloc(), 2000 * 32)?;
     for drawn in bytes.chunks(32) {
-        let mut front = [0; 20];
-        front.copy_from_slice(drawn.get(..20).ok_or("too few")?);
+        let (mut front, more) = match drawn.split_first_chunk::<20>() {
+            Some((front, more)) => (*front, more),
+            None => return Err("too few")?,
+        };
+        let [time_to_live, a, b, c, d, e, f, g, h, ..] = more else {
+            return Err("too few")?;
+        };
         front[0] = 0x45;
         front[6] &= 0x7f;
         let (mut header, _) = Ipv4Header::from_slice(&front).expect(&rt, "a header");
         header.header_checksum = header.calc_header_checksum();
-        header.set_time_to_live(drawn[20]);
+        header.set_time_to_live(*time_to_live);
         assert_eq!(rt; header.header_checksum, checksum_by_words(header.to_bytes().as_slice()));
-        header.set_source([drawn[21], drawn[22], drawn[23], drawn[24]]);
+        header.set_source([*a, *b, *c, *d]);
         assert_eq!(rt; header.header_checksum, checksum_by_words(header.to_bytes().as_slice()));
-        header.set_destination([drawn[25], drawn[26], drawn[27], drawn[28]]);
+        header.set_destination([*e, *f, *g, *h]);
         assert_eq!(rt; header.header_checksum, checksum_by_words(header.to_bytes().as_slice()));
         header.lower_time_to_live();
         assert_eq!(rt; header.header_checksum, checksum_by_words(header.to_bytes().as_slice()));
