@@ -43,7 +43,8 @@ impl Ipv6Header {
 
     /// Skips the extension header of a number at the front of a slice: the number of what follows
     /// it, and all the bytes after it. A number of no header that can be skipped is answered with
-    /// the whole slice.
+    /// the whole slice. A fragment header is skipped whatever its offset: behind one of an offset
+    /// above 0 comes the middle of a payload.
     ///
     /// # Errors
     ///

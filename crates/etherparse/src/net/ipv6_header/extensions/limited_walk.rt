@@ -18,6 +18,9 @@ impl Ipv6Header {
     /// no more than `limit` of them: the first number that can not be skipped, and all the bytes
     /// after the header that gave it.
     ///
+    /// A fragment header is skipped whatever its offset. In a fragment that is not the first, what
+    /// follows is the middle of a payload, and no header of an upper layer.
+    ///
     /// A header has at least 8 bytes. So from a limit of `slice.len() / 8 + 1` on the answer is
     /// that of [`Ipv6Header::skip_all_header_extensions_in_slice`].
     ///
