@@ -244,7 +244,8 @@ struct etherparse_ipv6_bytes etherparse_ipv6_write(const struct etherparse_ipv6_
 
 /* Skips all extension headers at the front of a slice, of which the first has this number: 0, 43, 44, 51, 60, 135, 139 and 140
  * can be skipped. With any other number there is none, and the rest is the whole slice. Those of a packet are at the front of
- * the rest after its header, and the first has the next_header of that; offsets then count from the front of that rest.
+ * the rest after its header, and the first has the next_header of that; offsets then count from the front of that rest. A
+ * fragment header is skipped whatever its offset: behind one of an offset above 0 come bytes from the middle of a payload.
  *
  * The error is a LEN, of the first header that is incomplete. Where fewer than 2 bytes are left, 2 are required. */
 struct etherparse_ipv6_walk_answer etherparse_ipv6_walk(const uint8_t *at, size_t len, uint8_t next_header);
