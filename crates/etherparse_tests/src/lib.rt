@@ -1,5 +1,5 @@
-//! Tests of the library from its public paths: what no clause says, and worked values of the
-//! standards.
+//! Tests of the library and of the layers of `uses` from their public paths: what no clause says,
+//! and worked values of the standards.
 //!
 //! They stand in a crate of their own, since each crate with tests is proved once more for them.
 #![tactic(auto)]
@@ -22,3 +22,5 @@ mod ipv6_header;
 mod ipv6_header_slice;
 #[cfg(test)]
 mod limited_walk;
+#[cfg(test)]
+mod udp;
