@@ -79,7 +79,7 @@ fn a_translated_address_keeps_both_checksums_right(rt: HostRuntime) {
     assert!(rt; header(checksum).is_right_ipv4(&ip, b"test"));
     assert_eq!(rt; translate_udp_source(&mut ip, 0, [1, 2, 3, 4]), 0);
     assert_eq!(rt; translate_tcp_source(&mut ip, 0xffff, [1, 2, 3, 5]), 0xfffe);
-    assert_eq!(rt; translate_tcp_destination(&mut ip, 0xfffe, [10, 0, 0, 1]), 0xffff);
+    assert_eq!(rt; translate_tcp_destination(&mut ip, 0xfffe, [10, 0, 0, 1]), 0);
     assert_eq!(rt; ip.source, [1, 2, 3, 5]);
     assert_eq!(rt; ip.destination, [10, 0, 0, 1]);
     assert_eq!(rt; ip.header_checksum, ip.calc_header_checksum());
