@@ -102,8 +102,7 @@ IsWalkBehindChains rest number answer = (s : List ℕ) (first : ℕ) → Follows
     → IsWalkOf s first
     (result_map_both (λ x. x) (λ e. len_error_moved (length s - length rest) e) answer)
 
--- The answer of a walk that goes past at most so many headers, where that limit can be the error. It
--- is our own.
+-- the answer of a walk that goes past at most so many headers: that limit is our own
 abbrev pub LimitedWalkAnswer : Type 0
 LimitedWalkAnswer = Result (ℕ × List ℕ) ChainError
 

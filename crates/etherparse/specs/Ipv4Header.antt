@@ -1,5 +1,4 @@
--- The IPv4 header (RFC 791 section 3.1; RFC 2474 section 3 for the DSCP, RFC 3168 section 5 for the
--- ECN).
+-- The IPv4 header (RFC 791 section 3.1), with the DSCP of RFC 2474 and the ECN of RFC 3168.
 use Rattle.std.specs.Prelude.{ℕ, ◌≡◌, ◌≢◌, ◌+◌, ◌-◌, ◌*◌, ◌/◌, ◌%◌, ◌^◌, ◌<◌, ◌≤◌, ◌↔◌, ◌⊎◌}
 use Rattle.std.specs.Prelude.{List, [], ◌++◌, length, drop, take}
 use Rattle.std.specs.Prelude.{slice_index, slice_range, slice_set, replicate}

@@ -69,10 +69,8 @@ good_or_bad front = if ones_complement_sum (take 20 front ∷ drop 20 front ∷ 
 -- read, with the reserved bit, sum to all ones; the number of bytes after it.
 abbrev pub ipv4_lines : Ipv4Header → List ℕ → ℕ → List ℕ
 ipv4_lines h front rest_len =
-    line (codes "version") (decimal 4)
-    ++ (line (codes "ihl") (decimal (ipv4_ihl h))
-    ++ (line (codes "dscp") (decimal h.dscp)
-    ++ (line (codes "ecn") (decimal (ecn_value h.ecn))
+    line (codes "version") (decimal 4) ++ (line (codes "ihl") (decimal (ipv4_ihl h))
+    ++ (line (codes "dscp") (decimal h.dscp) ++ (line (codes "ecn") (decimal (ecn_value h.ecn))
     ++ (line (codes "total_len") (decimal h.total_len)
     ++ (line (codes "identification") (decimal h.identification)
     ++ (line (codes "dont_fragment") (true_or_false h.dont_fragment)
@@ -86,8 +84,7 @@ ipv4_lines h front rest_len =
     ++ (line (codes "options") (options_text h.options)
     ++ (line (codes "computed")
     (encode_lower (to_be_bytes w16 (header_checksum_of (with_reserved_bit_cleared front))))
-    ++ (line (codes "sum") (good_or_bad front)
-    ++ line (codes "rest") (decimal rest_len)))))))))))))))))
+    ++ (line (codes "sum") (good_or_bad front) ++ line (codes "rest") (decimal rest_len)))))))))))))))))
 
 -- the status of a run, and all that it prints
 abbrev pub Outcome : Type 0
