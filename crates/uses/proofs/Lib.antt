@@ -1,1 +1,2 @@
 mod UdpLayout
+mod Unfragmented

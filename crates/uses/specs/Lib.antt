@@ -1,5 +1,6 @@
 pub mod Filter
 pub mod Forward
+pub mod Fragment
 pub mod Payload
 pub mod Queue
 pub mod Tunnel

@@ -1,0 +1,243 @@
+//! A layer of one's own over `etherparse`: the fragment header of IPv6 (RFC 8200 section 4.5), and
+//! the keys by which a receiver puts the fragments of one packet together, of both versions.
+
+ghost use Rattle.std.specs.Prelude.{ℕ, ◌≡◌, ◌≢◌, ◌<◌, ◌↔◌, List, IfErr, IfNone, IfOk, IfSome};
+ghost use Rattle.std.specs.Prelude.{IsTrue, Ok, Some, length};
+ghost use Rattle.etherparse.specs.ExtensionHeaders.{IsSkippable};
+ghost use Rattle.etherparse.specs.Ipv4Header.{RefusesIpv4};
+ghost use Rattle.uses.specs.Fragment.{FollowsUnfragmented, HasFragmentHeader, HasIpv4Key};
+ghost use Rattle.uses.specs.Fragment.{HasIpv6Key, RefusesHeader};
+ghost use Rattle.uses.specs.Fragment.{IsFragmentLayout, IsUnfragmented, IsWholeIpv4, IsWholeIpv6};
+ghost use Rattle.uses.specs.Fragment.{RefusesFragmented, ShareIpv4Key};
+ghost use Rattle.uses.specs.declared.fragment.Ipv4Key.{Ipv4Key as Key4};
+
+use etherparse::err::{Layer, LenError, ipv4, ipv6};
+use etherparse::{IpFragOffset, IpNumber, Ipv4Header, Ipv6Header, LenSource};
+
+/// A fragment header of IPv6 (RFC 8200 section 4.5). Its reserved bits are no fields.
+#[derive(Clone, Debug, PartialEq, Eq, Drop)]
+pub struct FragmentHeader {
+    /// What the part of the packet begins with that was cut: byte 0.
+    pub next_header: IpNumber,
+    /// Where the fragment stands in that part, in units of 8 bytes: the upper 13 bits of bytes 2
+    /// and 3.
+    pub fragment_offset: IpFragOffset,
+    /// Whether more fragments follow this one: the lowest bit of byte 3.
+    pub more_fragments: bool,
+    /// Equal in all fragments of one packet: bytes 4 to 7.
+    pub identification: u32,
+}
+
+impl FragmentHeader {
+    ghost use Rattle.std.specs.Prelude.{ℕ, ◌≡◌, ◌↔◌, List, Result, IsTrue};
+    ghost use Rattle.etherparse.specs.Reading.{Reads, found_and_rest};
+    ghost use Rattle.uses.specs.Fragment.{IsFragmentLayout, IsPart, RefusesFragment};
+    ghost use Rattle.uses.specs.declared.fragment.FragmentHeader.{FragmentHeader as Header};
+
+    /// The length of every header, in bytes.
+    pub const LEN: usize = 8;
+
+    /// The header at the front of a slice, and all the bytes after it.
+    ///
+    /// # Errors
+    ///
+    /// A `LenError` where the slice has fewer than 8 bytes.
+    pub fn from_slice(slice: &[u8]) -> Result<(FragmentHeader, &[u8]), LenError>
+        ensures reads { Reads IsFragmentLayout RefusesFragment slice.now (found_and_rest result) }
+        ensures only { (other : Result (Header × List ℕ) LenError) →
+            Reads IsFragmentLayout RefusesFragment slice.now other →
+            other ≡ found_and_rest result }
+    {
+        if slice.len() < FragmentHeader::LEN {
+            return Err(LenError {
+                required_len: FragmentHeader::LEN,
+                len: slice.len(),
+                len_source: LenSource::Slice,
+                layer: Layer::Ipv6FragHeader,
+                layer_start_offset: 0,
+            });
+        }
+        Ok((header_of(&slice[..8]), &slice[8..]))
+    }
+
+    /// Whether the payload is a part of one that was cut: more fragments follow it, or its offset is
+    /// not 0.
+    pub fn is_fragmenting_payload(&self) -> bool
+        ensures value { IsTrue result ↔ IsPart self.now }
+    {
+        self.more_fragments || self.fragment_offset.value() != 0
+    }
+}
+
+// The header of 8 bytes.
+fn header_of(bytes: &[u8]) -> FragmentHeader
+    requires { length bytes.now ≡ 8 }
+    ensures layout { IsFragmentLayout result bytes.now }
+{
+    let word = u16::from_be_bytes([bytes[2], bytes[3]]);
+    FragmentHeader {
+        next_header: IpNumber(bytes[0]),
+        fragment_offset: IpFragOffset::try_new(word >> 3).unwrap(),
+        more_fragments: word % 2 == 1,
+        identification: u32::from_be_bytes([bytes[4], bytes[5], bytes[6], bytes[7]]),
+    }
+}
+
+/// The key of the fragments of one IPv4 packet (RFC 791 section 3.2).
+#[derive(Clone, Debug, PartialEq, Eq, Hash, Drop)]
+pub struct Ipv4Key {
+    /// The address of the sender.
+    pub source: [u8; 4],
+    /// The address of the receiver.
+    pub destination: [u8; 4],
+    /// The protocol of what was cut.
+    pub protocol: IpNumber,
+    /// The number that the sender gave the packet.
+    pub identification: u16,
+}
+
+/// The key of the fragments of one IPv6 packet (RFC 8200 section 4.5).
+#[derive(Clone, Debug, PartialEq, Eq, Hash, Drop)]
+pub struct Ipv6Key {
+    /// The address of the sender.
+    pub source: [u8; 16],
+    /// The address of the receiver.
+    pub destination: [u8; 16],
+    /// The number that the sender gave the packet.
+    pub identification: u32,
+}
+
+/// The key of an IPv4 packet that is a fragment; `None` where it is whole, since its identification
+/// then tells nothing (RFC 6864 section 4.1).
+///
+/// # Errors
+///
+/// Those of [`Ipv4Header::from_slice`].
+pub fn ipv4_key(packet: &[u8]) -> Result<Option<Ipv4Key>, ipv4::HeaderSliceError>
+    ensures found { IfOk result (λ found. IfSome found (HasIpv4Key packet.now)) }
+    ensures none { IfOk result (λ found. IfNone found (IsWholeIpv4 packet.now)) }
+    ensures refused { IfErr result (RefusesIpv4 packet.now) }
+    ensures of_fragment { (key : Key4) → HasIpv4Key packet.now key → result ≡ Ok (Some key) }
+{
+    let (header, _) = Ipv4Header::from_slice(packet)?;
+    if !header.is_fragmenting_payload() {
+        return Ok(None);
+    }
+    Ok(Some(Ipv4Key {
+        source: header.source,
+        destination: header.destination,
+        protocol: header.protocol,
+        identification: header.identification,
+    }))
+}
+
+/// Whether an IPv4 packet is a fragment with this key.
+pub fn has_ipv4_key(packet: &[u8], key: &Ipv4Key) -> bool
+    ensures { IsTrue result ↔ HasIpv4Key packet.now key.now }
+{
+    match ipv4_key(packet) {
+        Ok(Some(found)) => is_same_ipv4_key(&found, key),
+        _ => false,
+    }
+}
+
+fn is_same_ipv4_key(a: &Ipv4Key, b: &Ipv4Key) -> bool
+    ensures { IsTrue result ↔ (a.now ≡ b.now) }
+{
+    a == b
+}
+
+/// Whether two IPv4 packets are fragments of one packet.
+pub fn is_of_one_ipv4_packet(a: &[u8], b: &[u8]) -> bool
+    ensures { IsTrue result ↔ ShareIpv4Key a.now b.now }
+{
+    match ipv4_key(a) {
+        Ok(Some(key)) => has_ipv4_key(b, &key),
+        _ => false,
+    }
+}
+
+/// The IPv6 header of a packet, its first fragment header and all the bytes after it, which are not
+/// cut at `payload_length`; `None` where the packet comes to an upper layer, or to another number
+/// that cannot be skipped, with no fragment header before it.
+///
+/// # Errors
+///
+/// Those of [`Ipv6Header::from_slice`]; `Len` where the fragment header or an extension header
+/// before it is incomplete, with the place of that header from the packet's start.
+pub fn ipv6_fragment(
+    packet: &[u8],
+) -> Result<Option<(Ipv6Header, FragmentHeader, &[u8])>, ipv6::HeaderSliceError>
+    ensures found { IfOk result (λ found. IfSome found (λ x.
+        HasFragmentHeader packet.now x.0 x.1 x.2.now)) }
+    ensures none { IfOk result (λ found. IfNone found (IsUnfragmented packet.now)) }
+    ensures refused { IfErr result (RefusesFragmented packet.now) }
+{
+    let (header, body) = Ipv6Header::from_slice(packet)?;
+    let mut number = header.next_header;
+    let mut rest = body;
+    'headers: loop {
+        if number == IpNumber::IPV6_FRAGMENTATION_HEADER {
+            return match FragmentHeader::from_slice(rest) {
+                Ok((fragment, payload)) => Ok(Some((header, fragment, payload))),
+                Err(e) => Err(ipv6::HeaderSliceError::Len(
+                    e.add_offset(packet.len() - rest.len()),
+                )),
+            };
+        }
+        if !Ipv6Header::is_skippable_header_extension(number) {
+            return Ok(None);
+        }
+        match skipped(rest, number) {
+            Ok(next) => (number, rest) = next,
+            Err(e) => {
+                return Err(ipv6::HeaderSliceError::Len(
+                    e.add_offset(packet.len() - rest.len()),
+                ));
+            }
+        }
+    }
+}
+
+// What follows the extension header at the front of a slice, which is no fragment header.
+fn skipped(slice: &[u8], number: IpNumber) -> Result<(IpNumber, &[u8]), LenError>
+    requires skippable { IsSkippable number }
+    requires other { number ≢ 44 }
+    ensures goes_on { IfOk result (λ x. (m : ℕ) → (t : List ℕ) →
+        FollowsUnfragmented x.1.now x.0 m t → FollowsUnfragmented slice.now number m t) }
+    ensures shorter { IfOk result (λ x. length x.1.now < length slice.now) }
+    ensures refused { IfErr result (RefusesHeader number slice.now) }
+    ensures at_front { IfErr result (λ e. e.layer_start_offset ≡ 0) }
+{
+    match Ipv6Header::skip_header_extension_in_slice(slice, number) {
+        Ok(next) => Ok(next),
+        Err(e) => Err(e),
+    }
+}
+
+/// The key of an IPv6 packet that is a fragment; `None` where it is whole: it has no fragment
+/// header, or one that tells of neither an offset nor more fragments, whose identification then
+/// tells nothing (RFC 6946 section 4).
+///
+/// # Errors
+///
+/// Those of [`ipv6_fragment`].
+pub fn ipv6_key(packet: &[u8]) -> Result<Option<Ipv6Key>, ipv6::HeaderSliceError>
+    ensures found { IfOk result (λ found. IfSome found (HasIpv6Key packet.now)) }
+    ensures none { IfOk result (λ found. IfNone found (IsWholeIpv6 packet.now)) }
+    ensures refused { IfErr result (RefusesFragmented packet.now) }
+{
+    let Some((header, fragment, _)) = ipv6_fragment(packet)? else {
+        return Ok(None);
+    };
+    if !fragment.is_fragmenting_payload() {
+        return Ok(None);
+    }
+    let (source, destination) = (header.source, header.destination);
+    let identification = fragment.identification;
+    Ok(Some(Ipv6Key {
+        source,
+        destination,
+        identification,
+    }))
+}
