@@ -1,2 +1,1 @@
 mod UdpLayout
-mod Unfragmented

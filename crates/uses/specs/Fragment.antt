@@ -1,11 +1,10 @@
--- The fragment header of IPv6 (RFC 8200 section 4.5), and by what the fragments of one packet belong
--- together (RFC 791 section 3.2, RFC 8200 section 4.5).
-use Rattle.std.specs.Prelude.{ℕ, ◌≡◌, ◌≢◌, ◌==◌, ◌-◌, ◌/◌, ◌%◌, ◌^◌, ◌<◌, ◌⊎◌, List, [], ◌∷◌}
-use Rattle.std.specs.Prelude.{IsTrue, length, slice_index, slice_range, ⊤}
+-- The fragment header of IPv6, and by what the fragments of one packet belong together (RFC 791
+-- section 3.2, RFC 8200 section 4.5).
+use Rattle.std.specs.Prelude.{ℕ, ◌≡◌, ◌≢◌, ◌==◌, ◌-◌, ◌/◌, ◌%◌, ◌^◌, ◌<◌, ◌≤◌, ◌⊎◌, List}
+use Rattle.std.specs.Prelude.{IsTrue, drop, length, slice_index, slice_range}
 use Rattle.std.specs.Int.{from_be_bytes, w16, w32}
 use Rattle.etherparse.specs.Bytes.{IsBytes}
-use Rattle.etherparse.specs.ExtensionHeaderChain.{BeginsWithChain, incomplete_header_error}
-use Rattle.etherparse.specs.ExtensionHeaderChain.{required_len_of}
+use Rattle.etherparse.specs.ExtensionHeaderChain.{incomplete_header_error, required_len_of}
 use Rattle.etherparse.specs.ExtensionHeaders.{IsSkippable}
 use Rattle.etherparse.specs.Ipv4Header.{IsFragment, IsIpv4Layout}
 use Rattle.etherparse.specs.Ipv6Header.{IsIpv6Layout, RefusesIpv6}
@@ -19,11 +18,12 @@ use Rattle.etherparse.specs.declared.net.ipv4_header.Ipv4Header.{Ipv4Header}
 use Rattle.etherparse.specs.declared.net.ipv6_header.Ipv6Header.{Ipv6Header}
 use Rattle.uses.specs.declared.fragment.FragmentHeader.{FragmentHeader}
 use Rattle.uses.specs.declared.fragment.Ipv4Key.{Ipv4Key}
+use Rattle.uses.specs.declared.fragment.Ipv6Fragment.{Ipv6Fragment}
 use Rattle.uses.specs.declared.fragment.Ipv6Key.{Ipv6Key}
 
 -- The 8 bytes of a fragment header, in network byte order: the next header; a reserved byte; the
--- fragment offset in 13 bits, two reserved bits and the M flag; the identification. What is reserved
--- is no field and has any value.
+-- fragment offset in 13 bits, two reserved bits, and the M flag; the identification. What is
+-- reserved is no field, and can have any value.
 pub record IsFragmentLayout (header : FragmentHeader) (bytes : List ℕ) : Type 0 where
   pub len : length bytes ≡ 8
   pub are_bytes : IsBytes bytes
@@ -56,30 +56,31 @@ pub record IsWholeIpv4 (packet : List ℕ) : Type 0 where
   pub begins : BeginsWith IsIpv4Layout packet header rest
   pub is_whole : ¬ IsFragment header
 
--- the packets are fragments of one key
-pub record ShareIpv4Key (a b : List ℕ) : Type 0 where
-  pub key : Ipv4Key
-  pub first : HasIpv4Key a key
-  pub second : HasIpv4Key b key
+-- the headers are those of fragments of one packet
+pub record AreOfOneIpv4Packet (a b : Ipv4Header) : Type 0 where
+  pub first : IsFragment a
+  pub second : IsFragment b
+  pub source : a.source ≡ b.source
+  pub destination : a.destination ≡ b.destination
+  pub protocol : a.protocol ≡ b.protocol
+  pub identification : a.identification ≡ b.identification
 
--- none of the headers of a chain, of which the first has this number, is a fragment header
-abbrev pub HasNoFragmentHeader : ℕ → List (List ℕ) → Type 0
-HasNoFragmentHeader first [] = ⊤
-HasNoFragmentHeader first (header ∷ headers) =
-    (first ≢ 44) × HasNoFragmentHeader (slice_index header 0) headers
-
--- the rest, of this number, follows a chain at the front of the slice with no fragment header in it
-pub record FollowsUnfragmented (s : List ℕ) (first number : ℕ) (rest : List ℕ) : Type 0 where
-  pub headers : List (List ℕ)
-  pub begins : BeginsWithChain s first headers number rest
-  pub none : HasNoFragmentHeader first headers
+-- What is reached behind extension headers at the front of a slice, of which the first has this
+-- number, and none is a fragment header: a number, and the rest that it tells of. Each header that
+-- is passed is whole.
+pub data Reaches (s : List ℕ) (first : ℕ) : ℕ → List ℕ → Type 0 where
+  at_front : Reaches s first first s
+  behind : {number : ℕ} {rest : List ℕ} → Reaches s first number rest → IsSkippable number
+      → number ≢ 44 → required_len_of number rest ≤ length rest
+      → Reaches s first (slice_index rest 0) (drop (required_len_of number rest) rest)
 
 -- the packet is an IPv6 header, extension headers with no fragment header among them, and a rest
 pub record ReachesIpv6 (packet : List ℕ) (header : Ipv6Header) (number : ℕ) (rest : List ℕ)
     : Type 0 where
   pub body : List ℕ
   pub begins : BeginsWith IsIpv6Layout packet header body
-  pub follows : FollowsUnfragmented body header.next_header number rest
+  pub reaches : Reaches body header.next_header number rest
+  pub within : length rest ≤ length packet
 
 -- the packet is an IPv6 header, other extension headers, the first fragment header and a payload
 pub record HasFragmentHeader (packet : List ℕ) (header : Ipv6Header) (fragment : FragmentHeader)
@@ -121,6 +122,14 @@ RefusesFragmented packet (Content e) = RefusesIpv6 packet (Content e)
 -- the payload is a part of one that was cut: more fragments follow it, or its offset is not 0
 abbrev pub IsPart : FragmentHeader → Type 0
 IsPart header = IsTrue header.more_fragments ⊎ (header.fragment_offset ≢ 0)
+
+-- the packets are fragments of one packet
+pub record AreOfOneIpv6Packet (a b : Ipv6Fragment) : Type 0 where
+  pub first : IsPart a.fragment
+  pub second : IsPart b.fragment
+  pub source : a.header.source ≡ b.header.source
+  pub destination : a.header.destination ≡ b.header.destination
+  pub identification : a.fragment.identification ≡ b.fragment.identification
 
 -- the packet is a fragment, and this is the key of all fragments of its packet
 pub record HasIpv6Key (packet : List ℕ) (key : Ipv6Key) : Type 0 where

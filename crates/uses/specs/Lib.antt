@@ -1,6 +1,7 @@
 pub mod Filter
 pub mod Forward
 pub mod Fragment
+pub mod IpSlice
 pub mod Payload
 pub mod Queue
 pub mod Tunnel

@@ -1,14 +1,15 @@
 //! A layer of one's own over `etherparse`: the fragment header of IPv6 (RFC 8200 section 4.5), and
 //! the keys by which a receiver puts the fragments of one packet together, of both versions.
 
-ghost use Rattle.std.specs.Prelude.{ℕ, ◌≡◌, ◌≢◌, ◌<◌, ◌↔◌, List, IfErr, IfNone, IfOk, IfSome};
-ghost use Rattle.std.specs.Prelude.{IsTrue, Ok, Some, length};
+ghost use Rattle.std.specs.Prelude.{ℕ, ◌≡◌, ◌≢◌, ◌<◌, ◌↔◌, List, IfErr, IfNone, IfOk};
+ghost use Rattle.std.specs.Prelude.{IfSome, IsTrue, Ok, Some, length};
 ghost use Rattle.etherparse.specs.ExtensionHeaders.{IsSkippable};
 ghost use Rattle.etherparse.specs.Ipv4Header.{RefusesIpv4};
-ghost use Rattle.uses.specs.Fragment.{FollowsUnfragmented, HasFragmentHeader, HasIpv4Key};
-ghost use Rattle.uses.specs.Fragment.{HasIpv6Key, RefusesHeader};
+ghost use Rattle.etherparse.specs.declared.net.ipv6_header.Ipv6Header.{Ipv6Header as Header6};
+ghost use Rattle.uses.specs.Fragment.{AreOfOneIpv4Packet, AreOfOneIpv6Packet};
+ghost use Rattle.uses.specs.Fragment.{HasFragmentHeader, HasIpv4Key, HasIpv6Key};
 ghost use Rattle.uses.specs.Fragment.{IsFragmentLayout, IsUnfragmented, IsWholeIpv4, IsWholeIpv6};
-ghost use Rattle.uses.specs.Fragment.{RefusesFragmented, ShareIpv4Key};
+ghost use Rattle.uses.specs.Fragment.{ReachesIpv6, RefusesFragmented, RefusesHeader};
 ghost use Rattle.uses.specs.declared.fragment.Ipv4Key.{Ipv4Key as Key4};
 
 use etherparse::err::{Layer, LenError, ipv4, ipv6};
@@ -60,8 +61,8 @@ impl FragmentHeader {
         Ok((header_of(&slice[..8]), &slice[8..]))
     }
 
-    /// Whether the payload is a part of one that was cut: more fragments follow it, or its offset is
-    /// not 0.
+    /// Whether the payload is a part of one that was cut: more fragments follow it, or its offset
+    /// is not 0.
     pub fn is_fragmenting_payload(&self) -> bool
         ensures value { IsTrue result ↔ IsPart self.now }
     {
@@ -107,8 +108,8 @@ pub struct Ipv6Key {
     pub identification: u32,
 }
 
-/// The key of an IPv4 packet that is a fragment; `None` where it is whole, since its identification
-/// then tells nothing (RFC 6864 section 4.1).
+/// The key of an IPv4 packet that is a fragment; `None` where the packet is whole, since nothing is
+/// to be put together then, and others can have its identification (RFC 6864 section 4.1).
 ///
 /// # Errors
 ///
@@ -131,55 +132,63 @@ pub fn ipv4_key(packet: &[u8]) -> Result<Option<Ipv4Key>, ipv4::HeaderSliceError
     }))
 }
 
-/// Whether an IPv4 packet is a fragment with this key.
-pub fn has_ipv4_key(packet: &[u8], key: &Ipv4Key) -> bool
-    ensures { IsTrue result ↔ HasIpv4Key packet.now key.now }
+/// Whether two IPv4 headers are those of fragments of one packet.
+pub fn is_of_one_ipv4_packet(a: &Ipv4Header, b: &Ipv4Header) -> bool
+    ensures { IsTrue result ↔ AreOfOneIpv4Packet a.now b.now }
 {
-    match ipv4_key(packet) {
-        Ok(Some(found)) => is_same_ipv4_key(&found, key),
-        _ => false,
-    }
+    a.is_fragmenting_payload()
+        && b.is_fragmenting_payload()
+        && a.source == b.source
+        && a.destination == b.destination
+        && a.protocol == b.protocol
+        && a.identification == b.identification
 }
 
-fn is_same_ipv4_key(a: &Ipv4Key, b: &Ipv4Key) -> bool
-    ensures { IsTrue result ↔ (a.now ≡ b.now) }
-{
-    a == b
+/// An IPv6 packet with a fragment header.
+#[derive(Clone, Debug, PartialEq, Eq, Drop)]
+pub struct Ipv6Fragment<'a> {
+    /// The IPv6 header, without its extension headers.
+    pub header: Ipv6Header,
+    /// The first fragment header.
+    pub fragment: FragmentHeader,
+    /// All the bytes after the fragment header, which are not cut at `payload_length`.
+    pub payload: &'a [u8],
 }
 
-/// Whether two IPv4 packets are fragments of one packet.
-pub fn is_of_one_ipv4_packet(a: &[u8], b: &[u8]) -> bool
-    ensures { IsTrue result ↔ ShareIpv4Key a.now b.now }
+/// Whether two IPv6 packets are fragments of one packet.
+pub fn is_of_one_ipv6_packet(a: &Ipv6Fragment, b: &Ipv6Fragment) -> bool
+    ensures { IsTrue result ↔ AreOfOneIpv6Packet a.now b.now }
 {
-    match ipv4_key(a) {
-        Ok(Some(key)) => has_ipv4_key(b, &key),
-        _ => false,
-    }
+    a.fragment.is_fragmenting_payload()
+        && b.fragment.is_fragmenting_payload()
+        && a.header.source == b.header.source
+        && a.header.destination == b.header.destination
+        && a.fragment.identification == b.fragment.identification
 }
 
-/// The IPv6 header of a packet, its first fragment header and all the bytes after it, which are not
-/// cut at `payload_length`; `None` where the packet comes to an upper layer, or to another number
-/// that cannot be skipped, with no fragment header before it.
+/// The first fragment header of an IPv6 packet, with what stands before and after it; `None` where
+/// a number that cannot be skipped, as that of an upper layer, comes first.
 ///
 /// # Errors
 ///
 /// Those of [`Ipv6Header::from_slice`]; `Len` where the fragment header or an extension header
 /// before it is incomplete, with the place of that header from the packet's start.
-pub fn ipv6_fragment(
-    packet: &[u8],
-) -> Result<Option<(Ipv6Header, FragmentHeader, &[u8])>, ipv6::HeaderSliceError>
+pub fn ipv6_fragment(packet: &[u8]) -> Result<Option<Ipv6Fragment>, ipv6::HeaderSliceError>
     ensures found { IfOk result (λ found. IfSome found (λ x.
-        HasFragmentHeader packet.now x.0 x.1 x.2.now)) }
+        HasFragmentHeader packet.now x.header x.fragment x.payload.now)) }
     ensures none { IfOk result (λ found. IfNone found (IsUnfragmented packet.now)) }
     ensures refused { IfErr result (RefusesFragmented packet.now) }
 {
-    let (header, body) = Ipv6Header::from_slice(packet)?;
+    let (header, mut rest) = Ipv6Header::from_slice(packet)?;
     let mut number = header.next_header;
-    let mut rest = body;
     'headers: loop {
         if number == IpNumber::IPV6_FRAGMENTATION_HEADER {
             return match FragmentHeader::from_slice(rest) {
-                Ok((fragment, payload)) => Ok(Some((header, fragment, payload))),
+                Ok((fragment, payload)) => Ok(Some(Ipv6Fragment {
+                    header,
+                    fragment,
+                    payload,
+                })),
                 Err(e) => Err(ipv6::HeaderSliceError::Len(
                     e.add_offset(packet.len() - rest.len()),
                 )),
@@ -203,10 +212,11 @@ pub fn ipv6_fragment(
 fn skipped(slice: &[u8], number: IpNumber) -> Result<(IpNumber, &[u8]), LenError>
     requires skippable { IsSkippable number }
     requires other { number ≢ 44 }
-    ensures goes_on { IfOk result (λ x. (m : ℕ) → (t : List ℕ) →
-        FollowsUnfragmented x.1.now x.0 m t → FollowsUnfragmented slice.now number m t) }
-    ensures shorter { IfOk result (λ x. length x.1.now < length slice.now) }
+    ensures goes_on { (packet : List ℕ) → (header : Header6) →
+        ReachesIpv6 packet header number slice.now →
+        IfOk result (λ x. ReachesIpv6 packet header x.0 x.1.now) }
     ensures refused { IfErr result (RefusesHeader number slice.now) }
+    ensures shorter { IfOk result (λ x. length x.1.now < length slice.now) }
     ensures at_front { IfErr result (λ e. e.layer_start_offset ≡ 0) }
 {
     match Ipv6Header::skip_header_extension_in_slice(slice, number) {
@@ -215,9 +225,9 @@ fn skipped(slice: &[u8], number: IpNumber) -> Result<(IpNumber, &[u8]), LenError
     }
 }
 
-/// The key of an IPv6 packet that is a fragment; `None` where it is whole: it has no fragment
-/// header, or one that tells of neither an offset nor more fragments, whose identification then
-/// tells nothing (RFC 6946 section 4).
+/// The key of an IPv6 packet that is a fragment; `None` where the packet is whole: it has no
+/// fragment header, or one with neither an offset nor more fragments. The latter is not to be put
+/// together with fragments that have its addresses and identification (RFC 6946 section 4).
 ///
 /// # Errors
 ///
@@ -227,14 +237,14 @@ pub fn ipv6_key(packet: &[u8]) -> Result<Option<Ipv6Key>, ipv6::HeaderSliceError
     ensures none { IfOk result (λ found. IfNone found (IsWholeIpv6 packet.now)) }
     ensures refused { IfErr result (RefusesFragmented packet.now) }
 {
-    let Some((header, fragment, _)) = ipv6_fragment(packet)? else {
+    let Some(found) = ipv6_fragment(packet)? else {
         return Ok(None);
     };
-    if !fragment.is_fragmenting_payload() {
+    if !found.fragment.is_fragmenting_payload() {
         return Ok(None);
     }
-    let (source, destination) = (header.source, header.destination);
-    let identification = fragment.identification;
+    let (source, destination) = (found.header.source, found.header.destination);
+    let identification = found.fragment.identification;
     Ok(Some(Ipv6Key {
         source,
         destination,

@@ -8,6 +8,7 @@ pub mod configure;
 pub mod filter;
 pub mod forward;
 pub mod fragment;
+pub mod ip_slice;
 pub mod ipv4_view;
 pub mod ipv6_view;
 pub mod payload;

@@ -1,0 +1,90 @@
+-- IP packets of either version, cut at the length field (RFC 791 section 3.1, RFC 8200 section 3).
+use Rattle.std.specs.Prelude.{ℕ, ◌≡◌, ◌≢◌, ◌+◌, ◌<◌, ◌≤◌, ◌⊎◌, List, ◌++◌, Err, length, take}
+use Rattle.etherparse.specs.ExtensionHeaderChain.{BeginsWithChain, Walks}
+use Rattle.etherparse.specs.ExtensionHeaders.{IsSkippable}
+use Rattle.etherparse.specs.FirstByte.{version_of}
+use Rattle.etherparse.specs.Ipv4Header.{IsIpv4Layout, RefusesIpv4}
+use Rattle.etherparse.specs.Ipv6Header.{IsIpv6Layout, RefusesIpv6}
+use Rattle.etherparse.specs.LenError.{len_error_moved}
+use Rattle.etherparse.specs.Reading.{BeginsWith, too_short_error}
+use Rattle.etherparse.specs.declared.LenSource.TheVariants as source
+use Rattle.etherparse.specs.declared.err.LenError.{LenError}
+use Rattle.etherparse.specs.declared.err.Layer.TheVariants as layer
+use Rattle.etherparse.specs.declared.net.ipv4_header.Ipv4Header.{Ipv4Header}
+use Rattle.etherparse.specs.declared.net.ipv6_header.Ipv6Header.{Ipv6Header}
+use Rattle.uses.specs.Payload.{HasNoIpv4Payload}
+use Rattle.uses.specs.declared.ip_slice.IpSlice.{IpSlice}
+use Rattle.uses.specs.declared.ip_slice.IpSlice.TheVariants as slice
+use Rattle.uses.specs.declared.ip_slice.IpSliceError.{IpSliceError}
+use Rattle.uses.specs.declared.ip_slice.IpSliceError.TheVariants as error
+
+-- the packet, cut at its total length, is this header and this payload
+pub record IsIpv4Packet (packet : List ℕ) (header : Ipv4Header) (payload : List ℕ) : Type 0 where
+  pub enough : header.total_len ≤ length packet
+  pub begins : BeginsWith IsIpv4Layout (take header.total_len packet) header payload
+
+-- the packet, cut at its payload length, is this header and this body
+pub record HasIpv6Body (packet : List ℕ) (header : Ipv6Header) (body : List ℕ) : Type 0 where
+  pub enough : 40 + header.payload_length ≤ length packet
+  pub begins : BeginsWith IsIpv6Layout (take (40 + header.payload_length) packet) header body
+
+-- The body of the packet is these bytes of extension headers, and this payload, of the number that
+-- the last of them gives.
+pub record IsIpv6Packet (packet : List ℕ) (header : Ipv6Header) (extensions : List ℕ) (upper : ℕ)
+    (payload : List ℕ) : Type 0 where
+  pub cut : HasIpv6Body packet header (extensions ++ payload)
+  pub headers : List (List ℕ)
+  pub chain : BeginsWithChain (extensions ++ payload) header.next_header headers upper payload
+  pub ends : ¬ IsSkippable upper
+
+-- the packet is in these parts
+abbrev pub IsIpPacket : List ℕ → IpSlice → Type 0
+IsIpPacket packet (slice.Ipv4 header payload) = IsIpv4Packet packet header payload.now
+IsIpPacket packet (slice.Ipv6 header extensions upper payload) =
+    IsIpv6Packet packet header extensions.now upper payload.now
+
+-- the packet is shorter than its total length
+pub record EndsInIpv4Payload (packet : List ℕ) (e : LenError) : Type 0 where
+  pub header : Ipv4Header
+  pub rest : List ℕ
+  pub begins : BeginsWith IsIpv4Layout packet header rest
+  pub short : length packet < header.total_len
+  pub error : e ≡ record (too_short_error layer.Ipv4Packet header.total_len (length packet)) {
+    len_source = source.Ipv4HeaderTotalLen;
+  }
+
+-- the packet is shorter than its payload length and the header
+pub record EndsInIpv6Payload (packet : List ℕ) (e : LenError) : Type 0 where
+  pub header : Ipv6Header
+  pub rest : List ℕ
+  pub begins : BeginsWith IsIpv6Layout packet header rest
+  pub short : length packet < 40 + header.payload_length
+  pub error : e ≡ record (too_short_error layer.Ipv6Packet (40 + header.payload_length)
+      (length packet)) {
+    len_source = source.Ipv6HeaderPayloadLen;
+  }
+
+-- the body of the packet ends within an extension header; the place in the error counts from the
+-- packet's start
+pub record EndsInExtensions (packet : List ℕ) (e : LenError) : Type 0 where
+  pub header : Ipv6Header
+  pub body : List ℕ
+  pub cut : HasIpv6Body packet header body
+  pub inside : LenError
+  pub walks : Walks body header.next_header (Err inside)
+  pub moved : e ≡ len_error_moved 40 inside
+
+-- Why a packet is not sliced: it has no byte; its version is neither 4 nor 6; it has no header of
+-- its version; its total length is below its header, or it is shorter than its length field says;
+-- it ends within an extension header.
+abbrev pub RefusesIp : List ℕ → IpSliceError → Type 0
+RefusesIp packet error.Empty = length packet ≡ 0
+RefusesIp packet (error.UnexpectedVersion version) =
+    (0 < length packet) × (version ≡ version_of packet) × (version ≢ 4) × (version ≢ 6)
+RefusesIp packet (error.Ipv4Header e) =
+    (0 < length packet) × (version_of packet ≡ 4) × RefusesIpv4 packet e
+RefusesIp packet (error.Ipv6Header e) =
+    (0 < length packet) × (version_of packet ≡ 6) × RefusesIpv6 packet e
+RefusesIp packet (error.Packet e) =
+    HasNoIpv4Payload packet e ⊎ EndsInIpv4Payload packet e ⊎ EndsInIpv6Payload packet e
+RefusesIp packet (error.Extensions e) = EndsInExtensions packet e

@@ -1,0 +1,172 @@
+//! A layer of one's own over `etherparse`: IP packets of either version, sliced into their parts.
+
+ghost use Rattle.std.specs.Prelude.{ℕ, ◌≡◌, ◌<◌, List, ◌++◌, IfErr, IfOk, length};
+ghost use Rattle.etherparse.specs.FirstByte.{version_of};
+ghost use Rattle.uses.specs.IpSlice.{HasIpv6Body, IsIpPacket, RefusesIp};
+
+use etherparse::err::{Layer, LenError, ipv4, ipv6};
+use etherparse::{IpNumber, Ipv4Header, Ipv6Header, LenSource};
+
+/// The parts of an IP packet, cut at its length field: what stands behind the packet is in none.
+#[derive(Clone, Debug, PartialEq, Eq, Drop)]
+pub enum IpSlice<'a> {
+    /// An IPv4 packet (RFC 791 section 3.1), cut at `total_len`.
+    Ipv4 {
+        /// The header. Its `protocol` is the number of the payload, and its
+        /// `is_fragmenting_payload` says whether the payload is a fragment. A fragment that is not
+        /// the first begins in the middle of a payload, and with no header of an upper layer.
+        header: Ipv4Header,
+        /// What follows the header, an authentication header (51) included.
+        payload: &'a [u8],
+    },
+    /// An IPv6 packet (RFC 8200 section 3), cut at `payload_length`. Whether the payload is a
+    /// fragment, [`crate::fragment::ipv6_key`] says: a fragment header is among the extension
+    /// headers, whatever its offset, and behind one that is not the first, `upper` is the number of
+    /// what begins in another packet.
+    Ipv6 {
+        /// The header, without its extension headers.
+        header: Ipv6Header,
+        /// The bytes of the extension headers, which can be none.
+        extensions: &'a [u8],
+        /// The number of the payload: the first that is of no extension header that can be skipped.
+        upper: IpNumber,
+        /// What follows the extension headers.
+        payload: &'a [u8],
+    },
+}
+
+/// Why a packet is not sliced.
+#[derive(Clone, Debug, PartialEq, Eq, Drop)]
+pub enum IpSliceError {
+    /// There is no byte.
+    Empty,
+    /// The version is neither 4 nor 6.
+    UnexpectedVersion {
+        /// The upper half of the first byte.
+        version_number: u8,
+    },
+    /// The version is 4, and there is no IPv4 header.
+    Ipv4Header(ipv4::HeaderSliceError),
+    /// The version is 6, and there is no IPv6 header.
+    Ipv6Header(ipv6::HeaderSliceError),
+    /// The total length is below that of the header: `len` is then the total length, `required_len`
+    /// the header length. Or the packet has fewer bytes than its length field says: `len` is then
+    /// how many it has, `required_len` how many it should have, with the header.
+    Packet(LenError),
+    /// An IPv6 packet ends within an extension header, before the end that its payload length
+    /// tells. `layer_start_offset` is the place of that header from the packet's start.
+    Extensions(LenError),
+}
+
+impl<'a> IpSlice<'a> {
+    ghost use Rattle.std.specs.Prelude.{IfErr, IfOk};
+    ghost use Rattle.uses.specs.IpSlice.{IsIpPacket, RefusesIp};
+
+    /// The parts of the packet at the front of a slice.
+    ///
+    /// A payload length of 0 is taken as it stands: a jumbogram (RFC 2675 section 3) is refused,
+    /// since its options are not within it.
+    ///
+    /// # Errors
+    ///
+    /// In this order: `Empty`, `UnexpectedVersion`, `Ipv4Header` or `Ipv6Header`, `Packet`,
+    /// `Extensions`.
+    pub fn from_slice(packet: &'a [u8]) -> Result<IpSlice<'a>, IpSliceError>
+        ensures found { IfOk result (IsIpPacket packet.now) }
+        ensures refused { IfErr result (RefusesIp packet.now) }
+    {
+        if packet.is_empty() {
+            return Err(IpSliceError::Empty);
+        }
+        match packet[0] >> 4 {
+            4 => ipv4_slice(packet),
+            6 => ipv6_slice(packet),
+            version_number => Err(IpSliceError::UnexpectedVersion { version_number }),
+        }
+    }
+}
+
+// The parts of a packet of version 4.
+fn ipv4_slice(packet: &[u8]) -> Result<IpSlice, IpSliceError>
+    requires some { 0 < length packet.now }
+    requires version { version_of packet.now ≡ 4 }
+    ensures found { IfOk result (IsIpPacket packet.now) }
+    ensures refused { IfErr result (RefusesIp packet.now) }
+{
+    let (header, rest) = match Ipv4Header::from_slice(packet) {
+        Ok(read) => read,
+        Err(e) => return Err(IpSliceError::Ipv4Header(e)),
+    };
+    let len = match header.payload_len() {
+        Ok(len) => usize::from(len),
+        Err(e) => return Err(IpSliceError::Packet(e)),
+    };
+    let total_len = usize::from(header.total_len);
+    if packet.len() < total_len {
+        return Err(IpSliceError::Packet(LenError {
+            required_len: total_len,
+            len: packet.len(),
+            len_source: LenSource::Ipv4HeaderTotalLen,
+            layer: Layer::Ipv4Packet,
+            layer_start_offset: 0,
+        }));
+    }
+    let payload = &rest[..len];
+    Ok(IpSlice::Ipv4 { header, payload })
+}
+
+// The parts of a packet of version 6.
+fn ipv6_slice(packet: &[u8]) -> Result<IpSlice, IpSliceError>
+    requires some { 0 < length packet.now }
+    requires version { version_of packet.now ≡ 6 }
+    ensures found { IfOk result (IsIpPacket packet.now) }
+    ensures refused { IfErr result (RefusesIp packet.now) }
+{
+    let (header, body) = match ipv6_body(packet) {
+        Ok(cut) => cut,
+        Err(e) => return Err(e),
+    };
+    let walked = match Ipv6Header::skip_all_header_extensions_in_slice(body, header.next_header) {
+        Ok(walked) => walked,
+        Err(e) => return Err(IpSliceError::Extensions(e.add_offset(Ipv6Header::LEN))),
+    };
+    let extensions = before(body, walked.1);
+    Ok(IpSlice::Ipv6 {
+        header,
+        extensions,
+        upper: walked.0,
+        payload: walked.1,
+    })
+}
+
+// The header of a packet of version 6, and what its payload length tells of.
+fn ipv6_body(packet: &[u8]) -> Result<(Ipv6Header, &[u8]), IpSliceError>
+    requires some { 0 < length packet.now }
+    requires version { version_of packet.now ≡ 6 }
+    ensures cut { IfOk result (λ x. HasIpv6Body packet.now x.0 x.1.now) }
+    ensures refused { IfErr result (RefusesIp packet.now) }
+{
+    let (header, rest) = match Ipv6Header::from_slice(packet) {
+        Ok(read) => read,
+        Err(e) => return Err(IpSliceError::Ipv6Header(e)),
+    };
+    let len = usize::from(header.payload_length);
+    if packet.len() < Ipv6Header::LEN + len {
+        return Err(IpSliceError::Packet(LenError {
+            required_len: Ipv6Header::LEN + len,
+            len: packet.len(),
+            len_source: LenSource::Ipv6HeaderPayloadLen,
+            layer: Layer::Ipv6Packet,
+            layer_start_offset: 0,
+        }));
+    }
+    Ok((header, &rest[..len]))
+}
+
+// What stands in a slice before its rest.
+fn before<'a>(slice: &'a [u8], rest: &[u8]) -> &'a [u8]
+    requires rest { (front : List ℕ) × (slice.now ≡ front ++ rest.now) }
+    ensures parts { slice.now ≡ result.now ++ rest.now }
+{
+    &slice[..slice.len() - rest.len()]
+}
