@@ -4,6 +4,8 @@ pub mod Fragment
 pub mod IpSlice
 pub mod Payload
 pub mod Queue
+pub mod Tcp
+pub mod Translation
 pub mod Tunnel
 pub mod Udp
 pub mod UpperLayer

@@ -13,6 +13,7 @@ pub mod ipv4_view;
 pub mod ipv6_view;
 pub mod payload;
 pub mod queue;
+pub mod tcp;
 pub mod translation;
 pub mod tunnel;
 pub mod udp;
