@@ -1,3 +1,4 @@
+pub mod Capture
 pub mod Filter
 pub mod Forward
 pub mod Fragment

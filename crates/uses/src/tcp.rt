@@ -167,9 +167,10 @@ impl<'a> TcpHeaderSlice<'a> {
     }
 }
 
-/// Whether the checksum of a TCP segment over IPv4 is right: header, options and data with the
-/// pseudo-header of the addresses, and none of the IPv4 header's other fields. A segment of 65536
-/// bytes or more, whose length the pseudo-header cannot tell, is not right.
+/// Whether the checksum of a TCP segment over IPv4 is right: that of its header, options and data,
+/// and of the pseudo-header with both addresses. The segment has to end where the total length of
+/// the packet says, since each byte of the slice counts. One of 65536 bytes or more, whose length
+/// the pseudo-header cannot tell, is not right.
 pub fn is_tcp_right_ipv4(header: &Ipv4Header, segment: &[u8]) -> bool
     ensures right { IsTrue result ↔ IsTcpRightIpv4 header.now segment.now }
 {
