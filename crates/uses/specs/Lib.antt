@@ -1,4 +1,5 @@
 pub mod Capture
+pub mod Echo
 pub mod Filter
 pub mod Forward
 pub mod Fragment

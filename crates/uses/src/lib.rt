@@ -6,6 +6,7 @@ pub mod capture;
 pub mod checksum;
 pub mod compare;
 pub mod configure;
+pub mod echo;
 pub mod filter;
 pub mod forward;
 pub mod fragment;
