@@ -21,6 +21,8 @@ mod ipv6_header;
 #[cfg(test)]
 mod ipv6_header_slice;
 #[cfg(test)]
+mod layers;
+#[cfg(test)]
 mod limited_walk;
 #[cfg(test)]
 mod udp;

@@ -1,0 +1,207 @@
+//! The layers of `uses` over worked packets: TCP, fragments, slices of packets, captures, echo
+//! replies. Their checksums are summed by hand, word by word.
+
+use crate::headers::too_short;
+use etherparse::err::{Layer, LenError};
+use etherparse::{IpFragOffset, IpNumber, Ipv4Header, Ipv6Header, LenSource};
+use std::process::Abort;
+use uses::capture::{ByteOrder, CaptureError, CutOff, FileHeader, Format, Resolution, next_record};
+use uses::echo::{icmpv4_reply, icmpv6_reply};
+use uses::fragment::{FragmentHeader, Ipv4Key, Ipv6Key, ipv4_key, ipv6_key};
+use uses::ip_slice::{IpSlice, IpSliceError};
+use uses::tcp::{TcpError, TcpHeaderSlice, is_tcp_right_ipv4, is_tcp_right_ipv6};
+
+// 2001:db8::1 and 2001:db8::2.
+const FIRST: [u8; 16] = [0x20, 0x01, 0x0d, 0xb8, 0, 0, 0, 0, 0, 0, 0, 0, 0, 0, 0, 1];
+const SECOND: [u8; 16] = [0x20, 0x01, 0x0d, 0xb8, 0, 0, 0, 0, 0, 0, 0, 0, 0, 0, 0, 2];
+
+// From port 1024 to port 80: a SYN with sequence number 1 and a window of 8192 bytes.
+const SEGMENT: [u8; 20] = [
+    4, 0, 0, 80, 0, 0, 0, 1, 0, 0, 0, 0, 0x50, 0x02, 0x20, 0, 0x09, 0x79, 0, 0,
+];
+
+// A datagram of 4 bytes from 192.168.0.1 to 192.168.0.199, with two bytes behind it.
+const IPV4_PACKET: [u8; 26] = [
+    0x45, 0, 0, 24, 0x12, 0x34, 0, 0, 64, 17, 0, 0, 192, 168, 0, 1, 192, 168, 0, 199, 1, 2, 3, 4, 9,
+    9,
+];
+
+// The second fragment of a packet, of which more follow: 4 bytes behind the fragment header.
+const IPV6_PACKET: [u8; 53] = [
+    0x60, 0, 0, 0, 0, 12, 44, 64, 0x20, 0x01, 0x0d, 0xb8, 0, 0, 0, 0, 0, 0, 0, 0, 0, 0, 0, 1, 0x20,
+    0x01, 0x0d, 0xb8, 0, 0, 0, 0, 0, 0, 0, 0, 0, 0, 0, 2, 17, 0, 0, 9, 1, 2, 3, 4, 5, 6, 7, 8, 9,
+];
+
+// A file of one record of 3 bytes of a packet of 5, captured 2 microseconds into second 1.
+const CAPTURE: [u8; 43] = [
+    0xd4, 0xc3, 0xb2, 0xa1, 2, 0, 4, 0, 0, 0, 0, 0, 0, 0, 0, 0, 0xff, 0xff, 0, 0, 101, 0, 0, 0, 1,
+    0, 0, 0, 2, 0, 0, 0, 3, 0, 0, 0, 5, 0, 0, 0, 97, 98, 99,
+];
+
+#[test]
+fn a_tcp_header_is_seen_and_judged(rt: HostRuntime) {
+    let view = TcpHeaderSlice::from_slice(&SEGMENT).expect(&rt, "a header");
+    assert_eq!(rt; (view.source_port(), view.destination_port()), (1024, 80));
+    assert_eq!(rt; (view.sequence_number(), view.acknowledgment_number()), (1, 0));
+    assert_eq!(rt; (view.data_offset(), view.flags(), view.window_size()), (5, 2, 0x2000));
+    assert_eq!(rt; (view.syn(), view.ack(), view.fin(), view.rst()), (true, false, false, false));
+    assert_eq!(rt; (view.checksum(), view.urgent_pointer()), (0x0979, 0));
+    assert_eq!(rt; view.options(), b"");
+    let (source, destination) = ([192, 168, 0, 1], [192, 168, 0, 199]);
+    let made = Ipv4Header::new(20, 64, IpNumber::TCP, source, destination);
+    let ip = made.expect(&rt, "a short payload");
+    assert!(rt; is_tcp_right_ipv4(&ip, &SEGMENT));
+    let mut segment = SEGMENT;
+    segment[13] = 0x12;
+    assert!(rt; !is_tcp_right_ipv4(&ip, &segment));
+    let mut ip = Ipv6Header::default();
+    ip.source = FIRST;
+    ip.destination = SECOND;
+    let mut segment = SEGMENT;
+    assert!(rt; !is_tcp_right_ipv6(&ip, &segment));
+    segment[16] = 0x30;
+    segment[17] = 0x1d;
+    assert!(rt; is_tcp_right_ipv6(&ip, &segment));
+}
+
+#[test]
+fn a_tcp_header_is_refused_by_length_offset_and_length_again(rt: HostRuntime) {
+    let refused = |slice: &[u8]| TcpHeaderSlice::from_slice(slice).err();
+    let too_few = TcpError::Len(too_short(Layer::TcpHeader, 20, 19));
+    assert_eq!(rt; refused(&SEGMENT[..19]), Some(too_few));
+    let mut segment = SEGMENT;
+    segment[12] = 0x40;
+    assert_eq!(rt; refused(&segment), Some(TcpError::DataOffset(4)));
+    segment[12] = 0x60;
+    let too_few = TcpError::Len(too_short(Layer::TcpHeader, 24, 20));
+    assert_eq!(rt; refused(&segment), Some(too_few));
+}
+
+#[test]
+fn fragments_have_the_key_of_their_packet(rt: HostRuntime) {
+    let (header, rest) = FragmentHeader::from_slice(&IPV6_PACKET[40..]).expect(&rt, "a header");
+    let expected = FragmentHeader {
+        next_header: IpNumber::UDP,
+        fragment_offset: IpFragOffset::try_new(1).unwrap(),
+        more_fragments: true,
+        identification: 0x01020304,
+    };
+    assert_eq!(rt; header, expected);
+    assert_eq!(rt; rest, [5, 6, 7, 8, 9]);
+    let key = Ipv6Key {
+        source: FIRST,
+        destination: SECOND,
+        identification: 0x01020304,
+    };
+    assert_eq!(rt; ipv6_key(&IPV6_PACKET), Ok(Some(key)));
+    let mut packet = IPV6_PACKET;
+    packet[43] = 0;
+    assert_eq!(rt; ipv6_key(&packet), Ok(None));
+    assert_eq!(rt; ipv4_key(&IPV4_PACKET), Ok(None));
+    let mut packet = IPV4_PACKET;
+    packet[6] = 0x20;
+    let key = Ipv4Key {
+        source: [192, 168, 0, 1],
+        destination: [192, 168, 0, 199],
+        protocol: IpNumber::UDP,
+        identification: 0x1234,
+    };
+    assert_eq!(rt; ipv4_key(&packet), Ok(Some(key)));
+}
+
+#[test]
+fn packets_are_cut_at_their_length_field(rt: HostRuntime) {
+    let sliced = IpSlice::from_slice(&IPV4_PACKET).expect(&rt, "a packet");
+    match sliced {
+        IpSlice::Ipv4 { header, payload } => {
+            assert_eq!(rt; header.identification, 0x1234);
+            assert_eq!(rt; payload, [1, 2, 3, 4]);
+        }
+        IpSlice::Ipv6 { .. } => rt.abort("version 4"),
+    }
+    let sliced = IpSlice::from_slice(&IPV6_PACKET).expect(&rt, "a packet");
+    match sliced {
+        IpSlice::Ipv6 {
+            header,
+            extensions,
+            upper,
+            payload,
+        } => {
+            assert_eq!(rt; header.hop_limit, 64);
+            assert_eq!(rt; extensions, [17, 0, 0, 9, 1, 2, 3, 4]);
+            assert_eq!(rt; upper, IpNumber::UDP);
+            assert_eq!(rt; payload, [5, 6, 7, 8]);
+        }
+        IpSlice::Ipv4 { .. } => rt.abort("version 6"),
+    }
+}
+
+#[test]
+fn packets_are_refused_with_places_in_the_packet(rt: HostRuntime) {
+    let refused = |packet: &[u8]| IpSlice::from_slice(packet).err();
+    assert_eq!(rt; refused(&[]), Some(IpSliceError::Empty));
+    let other = IpSliceError::UnexpectedVersion { version_number: 5 };
+    assert_eq!(rt; refused(&[0x50]), Some(other));
+    let short = LenError {
+        required_len: 24,
+        len: 22,
+        len_source: LenSource::Ipv4HeaderTotalLen,
+        layer: Layer::Ipv4Packet,
+        layer_start_offset: 0,
+    };
+    assert_eq!(rt; refused(&IPV4_PACKET[..22]), Some(IpSliceError::Packet(short)));
+    let mut packet = IPV6_PACKET;
+    packet[5] = 4;
+    let inside = LenError {
+        required_len: 8,
+        len: 4,
+        len_source: LenSource::Slice,
+        layer: Layer::Ipv6ExtHeader,
+        layer_start_offset: 40,
+    };
+    assert_eq!(rt; refused(&packet), Some(IpSliceError::Extensions(inside)));
+}
+
+#[test]
+fn a_capture_hands_its_packets_over(rt: HostRuntime) {
+    let (header, records) = FileHeader::from_slice(&CAPTURE).expect(&rt, "a file header");
+    let format = Format {
+        order: ByteOrder::LittleEndian,
+        resolution: Resolution::Microseconds,
+    };
+    assert_eq!(rt; (header.format, header.snap_len, header.link_type), (format, 65535, 101));
+    match next_record(&header, records) {
+        Ok(Some((record, rest))) => {
+            assert_eq!(rt; (record.seconds, record.nanoseconds, record.original_len), (1, 2000, 5));
+            assert_eq!(rt; record.bytes, b"abc");
+            assert_eq!(rt; next_record(&header, rest), Ok(None));
+        }
+        _ => rt.abort("a record"),
+    }
+    let cut = |required_len, len| CutOff { required_len, len };
+    assert_eq!(rt; next_record(&header, &records[..15]), Err(cut(16, 15)));
+    assert_eq!(rt; next_record(&header, &records[..18]), Err(cut(19, 18)));
+    let refused = |file: &[u8]| FileHeader::from_slice(file).err();
+    assert_eq!(rt; refused(&CAPTURE[..23]), Some(CaptureError::CutOff(cut(24, 23))));
+    let mut file = CAPTURE;
+    file[0] = 0xd5;
+    assert_eq!(rt; refused(&file), Some(CaptureError::Magic(0xd5c3b2a1)));
+    let mut file = CAPTURE;
+    file[6] = 5;
+    let other = CaptureError::Version { major: 2, minor: 5 };
+    assert_eq!(rt; refused(&file), Some(other));
+}
+
+#[test]
+fn echo_requests_become_replies(rt: HostRuntime) {
+    let mut message = [8, 0, 0xff, 0xff, 0x12, 0x34, 0, 1, 0x61, 0x62];
+    assert!(rt; icmpv4_reply(&mut message));
+    assert_eq!(rt; message, [0, 0, 0x8c, 0x68, 0x12, 0x34, 0, 1, 0x61, 0x62]);
+    assert!(rt; !icmpv4_reply(&mut message));
+    assert_eq!(rt; message, [0, 0, 0x8c, 0x68, 0x12, 0x34, 0, 1, 0x61, 0x62]);
+    let mut message = [128, 0, 0, 0, 0x12, 0x34, 0, 1, 0x61, 0x62];
+    assert!(rt; icmpv6_reply(FIRST, SECOND, &mut message));
+    assert_eq!(rt; message, [129, 0, 0xaf, 0xae, 0x12, 0x34, 0, 1, 0x61, 0x62]);
+    let mut short = [8, 0, 0, 0, 0, 0, 0];
+    assert!(rt; !icmpv4_reply(&mut short));
+}
