@@ -7,7 +7,6 @@ pub mod IpSlice
 pub mod Payload
 pub mod Queue
 pub mod Tcp
-pub mod Translation
 pub mod Tunnel
 pub mod Udp
 pub mod UpperLayer
