@@ -38,7 +38,7 @@ fn eight_bytes_are_read_written_and_read_back(rt: HostRuntime) {
     let bytes = [4, 0, 0, 53, 0, 12, 0x91, 0xae, b't', b'e'];
     let (read, rest) = UdpHeader::from_slice(&bytes).expect(&rt, "a header in front");
     assert_eq!(rt; read, header(0x91ae));
-    assert_eq!(rt; rest, b"te");
+    assert_eq!(rt; rest, b"te".as_slice());
     assert_eq!(rt; read.to_bytes(), [4, 0, 0, 53, 0, 12, 0x91, 0xae]);
     let e = UdpHeader::from_slice(&bytes[..7]).expect_err(&rt, "seven bytes");
     assert_eq!(rt; e, too_short(Layer::UdpHeader, 8, 7));
