@@ -1,19 +1,23 @@
 //! A filter on IPv6 packets: the upper layer, past any extension headers.
 
-ghost use Rattle.std.specs.Prelude.{◌≡◌, ◌≤◌, ◌↔◌, IfErr, IfNone, IfOk, IfSome, IsTrue, length};
+ghost use Rattle.std.specs.Prelude.{◌≡◌, ◌≤◌, ◌↔◌, ◌⊎◌, IfErr, IfNone, IfOk, IfSome, IsTrue};
+ghost use Rattle.std.specs.Prelude.{length};
 ghost use Rattle.etherparse.specs.ExtensionHeaderChain.{FollowsChain, IsWalkOf};
 ghost use Rattle.etherparse.specs.Reading.{found_and_rest};
 ghost use Rattle.etherparse.specs.WordSums.{ones_complement_sum};
+ghost use Rattle.uses.specs.Fragment.{IsIpv6Fragment, IsWholeIpv6, RefusesFragmented};
 ghost use Rattle.uses.specs.UpperLayer.{HasNoUdp, HasUdp, HasUpperLayer, RefusesUpperLayer};
 ghost use Rattle.uses.specs.UpperLayer.{udp_pieces};
 
+use crate::fragment::ipv6_key;
 use etherparse::checksum::u64_16bit_word;
 use etherparse::err::LenError;
 use etherparse::err::ipv6::HeaderSliceError;
 use etherparse::{IpNumber, Ipv6Header};
 
-/// The number of the upper-layer protocol of an IPv6 packet, and its bytes. An error tells places
-/// from the packet's start.
+/// The number of the upper-layer protocol of an IPv6 packet, and its bytes; in a fragment that is
+/// not the first they begin in the middle of a payload, which [`ipv6_key`] tells. An error tells
+/// places from the packet's start.
 pub fn upper_layer(packet: &[u8]) -> Result<(IpNumber, &[u8]), HeaderSliceError>
     ensures found { IfOk result (λ x. HasUpperLayer packet.now x.0 x.1.now) }
     ensures refused { IfErr result (RefusesUpperLayer packet.now) }
@@ -26,9 +30,25 @@ pub fn upper_layer(packet: &[u8]) -> Result<(IpNumber, &[u8]), HeaderSliceError>
 }
 
 /// Whether the checksum of a UDP datagram over IPv6 is right, past any extension headers; `None`
-/// for another upper layer, or one of more bytes than 32 bits can tell. The destination is that of
-/// the IPv6 header, which a routing header can have changed.
+/// for another upper layer, or one of more bytes than 32 bits can tell, and for a fragment, in which
+/// there is no whole datagram. The destination is that of the IPv6 header, which a routing header
+/// can have changed.
 pub fn is_udp_right(packet: &[u8]) -> Result<Option<bool>, HeaderSliceError>
+    ensures whole { IfOk result (λ found. IfSome found (λ _. IsWholeIpv6 packet.now)) }
+    ensures judged { IfOk result (λ found. IfSome found (HasUdp packet.now)) }
+    ensures none { IfOk result (λ found. IfNone found
+        (HasNoUdp packet.now ⊎ IsIpv6Fragment packet.now)) }
+    ensures refused { IfErr result (λ e.
+        RefusesUpperLayer packet.now e ⊎ RefusesFragmented packet.now e) }
+{
+    if ipv6_key(packet)?.is_some() {
+        return Ok(None);
+    }
+    judged(packet)
+}
+
+// The same of a packet that is no fragment.
+fn judged(packet: &[u8]) -> Result<Option<bool>, HeaderSliceError>
     ensures judged { IfOk result (λ found. IfSome found (HasUdp packet.now)) }
     ensures none { IfOk result (λ found. IfNone found (HasNoUdp packet.now)) }
     ensures refused { IfErr result (RefusesUpperLayer packet.now) }
