@@ -4,8 +4,6 @@
 
 mod laws;
 mod net;
-#[cfg(test)]
-mod testing;
 
 pub use net::ip_dscp::IpDscp;
 pub use net::ip_dscp_known::IpDscpKnown;

@@ -2,10 +2,10 @@
 //! and across the lengths where another way to sum begins; worked values; what a sum prints. More
 //! worked values stand in the sample that `conformance` replays.
 
-use etherparse::checksum::{Sum16BitWords, u32_16bit_word, u64_16bit_word};
-use etherparse::checksum::{update_2bytes, update_2bytes_with_no_zero};
-use etherparse::checksum::{update_4bytes, update_4bytes_with_no_zero};
-use etherparse::checksum::{update_16bytes, update_16bytes_with_no_zero};
+use etherparse::checksum::{
+    Sum16BitWords, u32_16bit_word, u64_16bit_word, update_2bytes, update_2bytes_with_no_zero,
+    update_4bytes, update_4bytes_with_no_zero, update_16bytes, update_16bytes_with_no_zero,
+};
 use std::alloc::{AllocError, Global};
 use std::process::Abort;
 use std::test::Fail;

@@ -340,9 +340,10 @@ fn a_changed_address_updates_the_stored_checksum(rt: HostRuntime) {
 #[test]
 fn a_router_lowers_the_time_to_live_or_discards(rt: HostRuntime) {
     let (source, destination) = ([192, 168, 0, 1], [192, 168, 0, 199]);
-    for (time_to_live, lowered, stored, updated) in
-        [(64, 63, 0xb861, 0xb961), (2, 1, 0xf661, 0xf761)]
-    {
+    for (time_to_live, lowered, stored, updated) in [
+        (64, 63, 0xb861, 0xb961),
+        (2, 1, 0xf661, 0xf761),
+    ] {
         let made = Ipv4Header::new(95, time_to_live, IpNumber(17), source, destination);
         let mut header = made.expect(&rt, "a short payload");
         header.header_checksum = stored;
@@ -377,13 +378,25 @@ fn updates_of_random_headers_are_what_is_computed_anew(rt: HostRuntime) -> Resul
         let (mut header, _) = Ipv4Header::from_slice(&front).expect(&rt, "a header");
         header.header_checksum = header.calc_header_checksum();
         header.set_time_to_live(*time_to_live);
-        assert_eq!(rt; header.header_checksum, checksum_by_words(header.to_bytes().as_slice()));
+        assert_eq!(rt;
+            header.header_checksum,
+            checksum_by_words(header.to_bytes().as_slice())
+        );
         header.set_source([*a, *b, *c, *d]);
-        assert_eq!(rt; header.header_checksum, checksum_by_words(header.to_bytes().as_slice()));
+        assert_eq!(rt;
+            header.header_checksum,
+            checksum_by_words(header.to_bytes().as_slice())
+        );
         header.set_destination([*e, *f, *g, *h]);
-        assert_eq!(rt; header.header_checksum, checksum_by_words(header.to_bytes().as_slice()));
+        assert_eq!(rt;
+            header.header_checksum,
+            checksum_by_words(header.to_bytes().as_slice())
+        );
         header.lower_time_to_live();
-        assert_eq!(rt; header.header_checksum, checksum_by_words(header.to_bytes().as_slice()));
+        assert_eq!(rt;
+            header.header_checksum,
+            checksum_by_words(header.to_bytes().as_slice())
+        );
     }
     Ok(())
 }

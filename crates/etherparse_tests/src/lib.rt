@@ -11,11 +11,17 @@ mod errors;
 #[cfg(test)]
 mod extensions;
 #[cfg(test)]
+mod fields;
+#[cfg(test)]
 mod headers;
+#[cfg(test)]
+mod ip_number;
 #[cfg(test)]
 mod ipv4_header;
 #[cfg(test)]
 mod ipv4_header_slice;
+#[cfg(test)]
+mod ipv4_options;
 #[cfg(test)]
 mod ipv6_header;
 #[cfg(test)]

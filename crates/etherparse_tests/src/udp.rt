@@ -5,8 +5,10 @@ use crate::headers::too_short;
 use etherparse::err::Layer;
 use etherparse::{IpNumber, Ipv4Header, Ipv6Header};
 use std::process::Abort;
-use uses::translation::{translate_tcp_destination, translate_tcp_source};
-use uses::translation::{translate_udp_destination, translate_udp_source};
+use uses::translation::{
+    translate_tcp_destination, translate_tcp_source, translate_udp_destination,
+    translate_udp_source,
+};
 use uses::udp::UdpHeader;
 
 // The header of a datagram of 12 bytes, with this checksum.
@@ -79,7 +81,10 @@ fn a_translated_address_keeps_both_checksums_right(rt: HostRuntime) {
     assert!(rt; header(checksum).is_right_ipv4(&ip, b"test"));
     assert_eq!(rt; translate_udp_source(&mut ip, 0, [1, 2, 3, 4]), 0);
     assert_eq!(rt; translate_tcp_source(&mut ip, 0xffff, [1, 2, 3, 5]), 0xfffe);
-    assert_eq!(rt; translate_tcp_destination(&mut ip, 0xfffe, [10, 0, 0, 1]), 0);
+    assert_eq!(rt;
+        translate_tcp_destination(&mut ip, 0xfffe, [10, 0, 0, 1]),
+        0
+    );
     assert_eq!(rt; ip.source, [1, 2, 3, 5]);
     assert_eq!(rt; ip.destination, [10, 0, 0, 1]);
     assert_eq!(rt; ip.header_checksum, ip.calc_header_checksum());

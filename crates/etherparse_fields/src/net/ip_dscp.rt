@@ -214,19 +214,3 @@ impl TryFrom<u8> for IpDscp {
         IpDscp::try_new(value)
     }
 }
-
-#[cfg(test)]
-mod tests {
-    use super::*;
-    use crate::testing::assert_field;
-    use std::test::Fail;
-
-    #[test]
-    fn least_and_greatest_are_printed(rt: HostRuntime) -> Result<(), Fail> {
-        let values = [
-            (IpDscp::try_new(0)?, "0 00000000 IpDscp(0)"),
-            (IpDscp::try_new(63)?, "63 00000063 IpDscp(63)"),
-        ];
-        assert_field::<IpDscp, u8>(&rt, rt.alloc(), &values)
-    }
-}

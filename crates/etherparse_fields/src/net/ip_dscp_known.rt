@@ -191,17 +191,3 @@ impl Ord for IpDscpKnown {
         u8::from(*self).cmp(&u8::from(*other))
     }
 }
-
-#[cfg(test)]
-mod tests {
-    use super::*;
-    use crate::testing::hash_of;
-    use std::test::Fail;
-
-    #[test]
-    fn clones_hash_alike(rt: HostRuntime) -> Result<(), Fail> {
-        let known = IpDscpKnown::VoiceAdmit;
-        assert_eq!(rt; hash_of(&known.clone()?), hash_of(&known));
-        Ok(())
-    }
-}

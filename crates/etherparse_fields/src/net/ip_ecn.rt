@@ -124,21 +124,3 @@ impl TryFrom<u8> for IpEcn {
         IpEcn::try_new(value)
     }
 }
-
-#[cfg(test)]
-mod tests {
-    use super::*;
-    use crate::testing::assert_field;
-    use std::test::Fail;
-
-    #[test]
-    fn all_four_are_printed(rt: HostRuntime) -> Result<(), Fail> {
-        let values = [
-            (IpEcn::try_new(0)?, "0 00000000 NotEct"),
-            (IpEcn::try_new(1)?, "1 00000001 Ect1"),
-            (IpEcn::try_new(2)?, "2 00000002 Ect0"),
-            (IpEcn::try_new(3)?, "3 00000003 CongestionExperienced"),
-        ];
-        assert_field::<IpEcn, u8>(&rt, rt.alloc(), &values)
-    }
-}

@@ -118,22 +118,3 @@ impl TryFrom<u16> for IpFragOffset {
         IpFragOffset::try_new(value)
     }
 }
-
-#[cfg(test)]
-mod tests {
-    use super::*;
-    use crate::testing::assert_field;
-    use std::test::Fail;
-
-    #[test]
-    fn least_and_greatest_are_printed(rt: HostRuntime) -> Result<(), Fail> {
-        let values = [
-            (IpFragOffset::try_new(0)?, "0 00000000 IpFragOffset(0)"),
-            (
-                IpFragOffset::try_new(8191)?,
-                "8191 00008191 IpFragOffset(8191)",
-            ),
-        ];
-        assert_field::<IpFragOffset, u16>(&rt, rt.alloc(), &values)
-    }
-}

@@ -1,9 +1,6 @@
 //! The constants of [`IpNumber`] by themselves, to be named without the type,
 //! and nine of them by a short name too.
 
-#[cfg(test)]
-mod tests;
-
 use crate::IpNumber;
 
 /// [`IpNumber::IPV6_HEADER_HOP_BY_HOP`], 0.

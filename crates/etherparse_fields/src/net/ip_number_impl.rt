@@ -496,16 +496,3 @@ impl From<IpNumber> for u8 {
         value.0
     }
 }
-
-#[cfg(test)]
-mod tests {
-    use super::*;
-    use std::test::Fail;
-
-    #[test]
-    fn a_number_is_listed_for_programmers(rt: HostRuntime) -> Result<(), Fail> {
-        let text = format!(in rt.alloc(); "{:?}", IpNumber::from(17))?;
-        assert_eq!(rt; text.as_str(), "IpNumber(17)");
-        Ok(())
-    }
-}

@@ -345,6 +345,3 @@ impl From<[u8; 40]> for Ipv4Options {
         Ipv4Options::copy_of(&values)
     }
 }
-
-#[cfg(test)]
-mod tests;

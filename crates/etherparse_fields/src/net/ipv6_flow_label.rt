@@ -107,22 +107,3 @@ impl TryFrom<u32> for Ipv6FlowLabel {
         Ipv6FlowLabel::try_new(value)
     }
 }
-
-#[cfg(test)]
-mod tests {
-    use super::*;
-    use crate::testing::assert_field;
-    use std::test::Fail;
-
-    #[test]
-    fn least_and_greatest_are_printed(rt: HostRuntime) -> Result<(), Fail> {
-        let values = [
-            (Ipv6FlowLabel::try_new(0)?, "0 00000000 Ipv6FlowLabel(0)"),
-            (
-                Ipv6FlowLabel::try_new(1048575)?,
-                "1048575 01048575 Ipv6FlowLabel(1048575)",
-            ),
-        ];
-        assert_field::<Ipv6FlowLabel, u32>(&rt, rt.alloc(), &values)
-    }
-}

@@ -1,5 +1,5 @@
-use super::*;
-use crate::testing::hash_of;
+use crate::headers::hash_of;
+use etherparse::Ipv4Options;
 use std::test::Fail;
 
 #[test]

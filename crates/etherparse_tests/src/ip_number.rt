@@ -1,4 +1,5 @@
-use crate::{IpNumber, ip_number};
+use etherparse::{IpNumber, ip_number};
+use std::test::Fail;
 
 // The number of each constant of `IpNumber`, that of the constant of the module with the same name,
 // and what they have to be.
@@ -250,4 +251,11 @@ fn each_constant_has_its_number(rt: HostRuntime) {
     for (number, expected) in &SHORT_NAMES {
         assert_eq!(rt; number, expected);
     }
+}
+
+#[test]
+fn a_number_is_listed_for_programmers(rt: HostRuntime) -> Result<(), Fail> {
+    let text = format!(in rt.alloc(); "{:?}", IpNumber::from(17))?;
+    assert_eq!(rt; text.as_str(), "IpNumber(17)");
+    Ok(())
 }
