@@ -21,6 +21,7 @@ abbrev pub number_in : ByteOrder → Width → List ℕ → ℕ
 number_in BigEndian width bytes = from_be_bytes width bytes
 number_in LittleEndian width bytes = from_le_bytes width bytes
 
+-- the format of an order and a resolution
 abbrev pub format_in : ByteOrder → Resolution → Format
 format_in order resolution = record { order = order; resolution = resolution }
 

@@ -7,43 +7,51 @@ ghost use Rattle.etherparse.specs.Reading.{found_and_rest};
 ghost use Rattle.uses.specs.Capture.{FileReading, ReadsFileHeader, ReadsRecord, RecordReading};
 ghost use Rattle.uses.specs.Capture.{nanoseconds_in, number_in, record_and_rest, told_by};
 
-/// The order of the bytes of each number in a file, which is that of the machine that wrote it.
+/// The byte order of all numbers in a file: that of the machine that wrote it.
 #[derive(Clone, Copy, Debug, PartialEq, Eq)]
 pub enum ByteOrder {
+    /// The high byte first.
     BigEndian,
+    /// The low byte first.
     LittleEndian,
 }
 
-/// What the fractions of a second in a file count.
+/// The unit of the fractions of a second in a file.
 #[derive(Clone, Copy, Debug, PartialEq, Eq)]
 pub enum Resolution {
+    /// Magic number a1b2c3d4.
     Microseconds,
+    /// Magic number a1b23c4d.
     Nanoseconds,
 }
 
-/// How a file writes its numbers and times, which its magic number tells.
+/// How a file writes its numbers and times: bytes 0 to 3, the magic number.
 #[derive(Clone, Copy, Debug, PartialEq, Eq)]
 pub struct Format {
+    /// The byte order in which the magic number is written.
     pub order: ByteOrder,
+    /// The unit that the magic number stands for.
     pub resolution: Resolution,
 }
 
-/// What the first 24 bytes of a capture file tell of its records.
+/// The header of a capture file, of 24 bytes. Bytes 8 to 15 are not read.
 #[derive(Clone, Copy, Debug, PartialEq, Eq)]
 pub struct FileHeader {
+    /// How numbers and times are written: bytes 0 to 3.
     pub format: Format,
-    /// The most bytes of a packet that were to be kept: bytes 16 to 19. No record is measured by
-    /// it.
+    /// The snap length, the most bytes of a packet that were to be kept: bytes 16 to 19. Records
+    /// are not checked against it.
     pub snap_len: u32,
-    /// What each packet begins with, as 1 for Ethernet and 101 for a raw IP header, by all bits of
-    /// bytes 20 to 23: the upper ones can tell of a frame check sequence.
+    /// The link type, 1 for Ethernet and 101 for packets that begin with their IP header: all of
+    /// bytes 20 to 23, whose upper bits can describe a frame check sequence.
     pub link_type: u32,
 }
 
-/// Fewer bytes than there have to be.
+/// There are fewer bytes than a file header or a record needs.
 #[derive(Clone, Copy, Debug, PartialEq, Eq)]
 pub struct CutOff {
-    /// How many bytes a header or a record needs, as far as it tells by now.
+    /// How many bytes are needed: 24 for a file header; for a record 16, and once there are as
+    /// many, its whole length.
     pub required_len: usize,
     /// How many bytes there are.
     pub len: usize,
@@ -56,26 +64,27 @@ pub enum CaptureError {
     CutOff(CutOff),
     /// The first four bytes, with the high byte first, which are no known magic number.
     Magic(u32),
-    /// The version, which is not 2.4: bytes 4 to 7.
+    /// The version, which is not 2.4: major in bytes 4 and 5, minor in bytes 6 and 7.
     Version { major: u16, minor: u16 },
 }
 
-/// A packet as it was captured.
+/// A captured packet: a head of 16 bytes, and the bytes that were kept.
 #[derive(Clone, Copy, Debug, PartialEq, Eq)]
 pub struct Record<'a> {
-    /// Seconds since the start of 1970, in UTC.
+    /// Seconds since the start of 1970, UTC: bytes 0 to 3.
     pub seconds: u32,
-    /// Nanoseconds since that second, also where the file counts microseconds. A file can tell of
-    /// more than a second here.
+    /// Nanoseconds of that second, also where the file counts microseconds: bytes 4 to 7. Not
+    /// checked to be less than a second.
     pub nanoseconds: u64,
-    /// How many bytes the packet had, of which fewer may have been kept.
+    /// The length of the packet in bytes, of which fewer may have been kept: bytes 12 to 15.
     pub original_len: u32,
-    /// The bytes that were kept.
+    /// The bytes of the packet that were kept, as many as bytes 8 to 11 say. They live as long as
+    /// the slice that was read.
     pub bytes: &'a [u8],
 }
 
 impl FileHeader {
-    /// The header at the front of a file, and all the bytes after it, which are its records.
+    /// The header at the front of a file, and all the bytes after it: its records.
     ///
     /// # Errors
     ///
@@ -112,13 +121,15 @@ impl FileHeader {
     }
 }
 
-/// The record at the front of the bytes after a file header or a record, and what follows it;
-/// `None` where there are no bytes. What follows is shorter by 16 bytes at least, so that a loop
-/// over the records ends.
+/// The record at the front of a slice that follows the file header or another record, and all the
+/// bytes after it; `None` where the slice is empty. The bytes after it are fewer by 16 at least, so
+/// a loop over the records ends.
+///
+/// The captured length is not compared with the snap length nor with the original length.
 ///
 /// # Errors
 ///
-/// A `CutOff` where there are some bytes, but fewer than 16, or fewer than the 16 and the captured
+/// A `CutOff` where the slice has some bytes, but fewer than 16; or fewer than 16 and the captured
 /// length.
 pub fn next_record<'a>(
     header: &FileHeader,
