@@ -97,26 +97,38 @@ pub record IsUnfragmented (packet : List ℕ) : Type 0 where
   pub reaches : ReachesIpv6 packet header number rest
   pub upper : ¬ IsSkippable number
 
--- why the header of a number is incomplete at the front of a slice
-abbrev pub RefusesHeader : ℕ → List ℕ → LenError → Type 0
-RefusesHeader number s e = ((number ≡ 44) × RefusesFragment s e)
-    ⊎ ((number ≢ 44) × IsSkippable number × (length s < required_len_of number s)
-    × (e ≡ incomplete_header_error number s 0))
+-- The packet ends within the first fragment header. The place in the error counts from the packet's
+-- start.
+pub record EndsInFragmentHeader (packet : List ℕ) (e : LenError) : Type 0 where
+  pub header : Ipv6Header
+  pub at : List ℕ
+  pub reaches : ReachesIpv6 packet header 44 at
+  pub inside : LenError
+  pub refused : RefusesFragment at inside
+  pub moved : e ≡ len_error_moved (length packet - length at) inside
 
--- The packet ends within the first fragment header, or an extension header before it. The place in
--- the error counts from the packet's start.
-pub record EndsInHeader (packet : List ℕ) (e : LenError) : Type 0 where
+-- the front of a slice is no whole extension header of this number, which is that of no fragment
+-- header
+pub record IsIncomplete (number : ℕ) (s : List ℕ) (e : LenError) : Type 0 where
+  pub skippable : IsSkippable number
+  pub other : number ≢ 44
+  pub short : length s < required_len_of number s
+  pub error : e ≡ incomplete_header_error number s 0
+
+-- the packet ends within another extension header, with no fragment header before it
+pub record EndsInOtherHeader (packet : List ℕ) (e : LenError) : Type 0 where
   pub header : Ipv6Header
   pub number : ℕ
   pub rest : List ℕ
   pub reaches : ReachesIpv6 packet header number rest
   pub inside : LenError
-  pub refused : RefusesHeader number rest inside
+  pub incomplete : IsIncomplete number rest inside
   pub moved : e ≡ len_error_moved (length packet - length rest) inside
 
 -- why no fragment header is found: there is no IPv6 header, or an incomplete one behind it
 abbrev pub RefusesFragmented : List ℕ → HeaderSliceError → Type 0
-RefusesFragmented packet (Len e) = RefusesIpv6 packet (Len e) ⊎ EndsInHeader packet e
+RefusesFragmented packet (Len e) =
+    RefusesIpv6 packet (Len e) ⊎ EndsInFragmentHeader packet e ⊎ EndsInOtherHeader packet e
 RefusesFragmented packet (Content e) = RefusesIpv6 packet (Content e)
 
 -- the payload is a part of one that was cut: more fragments follow it, or its offset is not 0

@@ -8,8 +8,8 @@ ghost use Rattle.etherparse.specs.Ipv4Header.{RefusesIpv4};
 ghost use Rattle.etherparse.specs.declared.net.ipv6_header.Ipv6Header.{Ipv6Header as Header6};
 ghost use Rattle.uses.specs.Fragment.{AreOfOneIpv4Packet, AreOfOneIpv6Packet};
 ghost use Rattle.uses.specs.Fragment.{HasFragmentHeader, HasIpv4Key, HasIpv6Key};
-ghost use Rattle.uses.specs.Fragment.{IsFragmentLayout, IsUnfragmented, IsWholeIpv4, IsWholeIpv6};
-ghost use Rattle.uses.specs.Fragment.{ReachesIpv6, RefusesFragmented, RefusesHeader};
+ghost use Rattle.uses.specs.Fragment.{IsFragmentLayout, IsIncomplete, IsUnfragmented, IsWholeIpv4};
+ghost use Rattle.uses.specs.Fragment.{IsWholeIpv6, ReachesIpv6, RefusesFragmented};
 ghost use Rattle.uses.specs.declared.fragment.Ipv4Key.{Ipv4Key as Key4};
 
 use etherparse::err::{Layer, LenError, ipv4, ipv6};
@@ -215,7 +215,7 @@ fn skipped(slice: &[u8], number: IpNumber) -> Result<(IpNumber, &[u8]), LenError
     ensures goes_on { (packet : List ℕ) → (header : Header6) →
         ReachesIpv6 packet header number slice.now →
         IfOk result (λ x. ReachesIpv6 packet header x.0 x.1.now) }
-    ensures refused { IfErr result (RefusesHeader number slice.now) }
+    ensures refused { IfErr result (IsIncomplete number slice.now) }
     ensures shorter { IfOk result (λ x. length x.1.now < length slice.now) }
     ensures at_front { IfErr result (λ e. e.layer_start_offset ≡ 0) }
 {
