@@ -74,38 +74,27 @@ pub data Reaches (s : List ℕ) (first : ℕ) : ℕ → List ℕ → Type 0 wher
       → number ≢ 44 → required_len_of number rest ≤ length rest
       → Reaches s first (slice_index rest 0) (drop (required_len_of number rest) rest)
 
--- the packet is an IPv6 header, extension headers with no fragment header among them, and a rest
-pub record ReachesIpv6 (packet : List ℕ) (header : Ipv6Header) (number : ℕ) (rest : List ℕ)
-    : Type 0 where
-  pub body : List ℕ
-  pub begins : BeginsWith IsIpv6Layout packet header body
-  pub reaches : Reaches body header.next_header number rest
-  pub within : length rest ≤ length packet
-
--- the packet is an IPv6 header, other extension headers, the first fragment header and a payload
-pub record HasFragmentHeader (packet : List ℕ) (header : Ipv6Header) (fragment : FragmentHeader)
-    (payload : List ℕ) : Type 0 where
+-- the slice is other extension headers, the first fragment header, and the rest after it
+pub record HasFragmentBehind (s : List ℕ) (first : ℕ) (fragment : FragmentHeader)
+    (rest : List ℕ) : Type 0 where
   pub at : List ℕ
-  pub reaches : ReachesIpv6 packet header 44 at
-  pub begins : BeginsWith IsFragmentLayout at fragment payload
+  pub reaches : Reaches s first 44 at
+  pub begins : BeginsWith IsFragmentLayout at fragment rest
 
--- the packet has an upper layer, and no fragment header before it
-pub record IsUnfragmented (packet : List ℕ) : Type 0 where
-  pub header : Ipv6Header
+-- an upper layer comes in the slice with no fragment header before it
+pub record IsUnfragmented (s : List ℕ) (first : ℕ) : Type 0 where
   pub number : ℕ
   pub rest : List ℕ
-  pub reaches : ReachesIpv6 packet header number rest
+  pub reaches : Reaches s first number rest
   pub upper : ¬ IsSkippable number
 
--- The packet ends within the first fragment header. The place in the error counts from the packet's
--- start.
-pub record EndsInFragmentHeader (packet : List ℕ) (e : LenError) : Type 0 where
-  pub header : Ipv6Header
+-- the slice ends within the first fragment header; the error says where that starts
+pub record EndsInFragmentHeader (s : List ℕ) (first : ℕ) (e : LenError) : Type 0 where
   pub at : List ℕ
-  pub reaches : ReachesIpv6 packet header 44 at
+  pub reaches : Reaches s first 44 at
   pub inside : LenError
   pub refused : RefusesFragment at inside
-  pub moved : e ≡ len_error_moved (length packet - length at) inside
+  pub moved : e ≡ len_error_moved (length s - length at) inside
 
 -- the front of a slice is no whole extension header of this number, which is that of no fragment
 -- header
@@ -115,20 +104,46 @@ pub record IsIncomplete (number : ℕ) (s : List ℕ) (e : LenError) : Type 0 wh
   pub short : length s < required_len_of number s
   pub error : e ≡ incomplete_header_error number s 0
 
--- the packet ends within another extension header, with no fragment header before it
-pub record EndsInOtherHeader (packet : List ℕ) (e : LenError) : Type 0 where
-  pub header : Ipv6Header
+-- the slice ends within another extension header, with no fragment header before it
+pub record EndsInOtherHeader (s : List ℕ) (first : ℕ) (e : LenError) : Type 0 where
   pub number : ℕ
   pub rest : List ℕ
-  pub reaches : ReachesIpv6 packet header number rest
+  pub reaches : Reaches s first number rest
   pub inside : LenError
   pub incomplete : IsIncomplete number rest inside
-  pub moved : e ≡ len_error_moved (length packet - length rest) inside
+  pub moved : e ≡ len_error_moved (length s - length rest) inside
+
+-- why a fragment header is neither found nor missed: the slice ends before one
+abbrev pub RefusesFragmentBehind : List ℕ → ℕ → LenError → Type 0
+RefusesFragmentBehind s first e = EndsInFragmentHeader s first e ⊎ EndsInOtherHeader s first e
+
+-- the packet is an IPv6 header, other extension headers, the first fragment header and a payload
+pub record HasFragmentHeader (packet : List ℕ) (header : Ipv6Header) (fragment : FragmentHeader)
+    (payload : List ℕ) : Type 0 where
+  pub body : List ℕ
+  pub begins : BeginsWith IsIpv6Layout packet header body
+  pub has : HasFragmentBehind body header.next_header fragment payload
+
+-- the packet is an IPv6 header and an upper layer with no fragment header before it
+pub record HasNoFragmentHeader (packet : List ℕ) : Type 0 where
+  pub header : Ipv6Header
+  pub body : List ℕ
+  pub begins : BeginsWith IsIpv6Layout packet header body
+  pub is_unfragmented : IsUnfragmented body header.next_header
+
+-- The packet is an IPv6 header and ends before a fragment header or an upper layer. The place in
+-- the error counts from the packet's start.
+pub record EndsBeforeFragment (packet : List ℕ) (e : LenError) : Type 0 where
+  pub header : Ipv6Header
+  pub body : List ℕ
+  pub begins : BeginsWith IsIpv6Layout packet header body
+  pub inside : LenError
+  pub refused : RefusesFragmentBehind body header.next_header inside
+  pub moved : e ≡ len_error_moved 40 inside
 
 -- why no fragment header is found: there is no IPv6 header, or an incomplete one behind it
 abbrev pub RefusesFragmented : List ℕ → HeaderSliceError → Type 0
-RefusesFragmented packet (Len e) =
-    RefusesIpv6 packet (Len e) ⊎ EndsInFragmentHeader packet e ⊎ EndsInOtherHeader packet e
+RefusesFragmented packet (Len e) = RefusesIpv6 packet (Len e) ⊎ EndsBeforeFragment packet e
 RefusesFragmented packet (Content e) = RefusesIpv6 packet (Content e)
 
 -- the payload is a part of one that was cut: more fragments follow it, or its offset is not 0
@@ -170,4 +185,4 @@ pub record IsAtomic (packet : List ℕ) : Type 0 where
 
 -- the packet is whole, no fragment
 abbrev pub IsWholeIpv6 : List ℕ → Type 0
-IsWholeIpv6 packet = IsUnfragmented packet ⊎ IsAtomic packet
+IsWholeIpv6 packet = HasNoFragmentHeader packet ⊎ IsAtomic packet

@@ -3,7 +3,7 @@ use Rattle.std.specs.Prelude.{ℕ, ◌≡◌, ◌≢◌, ◌+◌, ◌<◌, ◌�
 use Rattle.etherparse.specs.ExtensionHeaderChain.{BeginsWithChain, Walks}
 use Rattle.etherparse.specs.ExtensionHeaders.{IsSkippable}
 use Rattle.etherparse.specs.FirstByte.{version_of}
-use Rattle.etherparse.specs.Ipv4Header.{IsIpv4Layout, RefusesIpv4}
+use Rattle.etherparse.specs.Ipv4Header.{IsFragment, IsIpv4Layout, RefusesIpv4}
 use Rattle.etherparse.specs.Ipv6Header.{IsIpv6Layout, RefusesIpv6}
 use Rattle.etherparse.specs.LenError.{len_error_moved}
 use Rattle.etherparse.specs.Reading.{BeginsWith, too_short_error}
@@ -12,7 +12,9 @@ use Rattle.etherparse.specs.declared.err.LenError.{LenError}
 use Rattle.etherparse.specs.declared.err.Layer.TheVariants as layer
 use Rattle.etherparse.specs.declared.net.ipv4_header.Ipv4Header.{Ipv4Header}
 use Rattle.etherparse.specs.declared.net.ipv6_header.Ipv6Header.{Ipv6Header}
+use Rattle.uses.specs.Fragment.{HasFragmentBehind, IsPart, IsUnfragmented, RefusesFragmentBehind}
 use Rattle.uses.specs.Payload.{HasNoIpv4Payload}
+use Rattle.uses.specs.declared.fragment.FragmentHeader.{FragmentHeader}
 use Rattle.uses.specs.declared.ip_slice.IpSlice.{IpSlice}
 use Rattle.uses.specs.declared.ip_slice.IpSlice.TheVariants as slice
 use Rattle.uses.specs.declared.ip_slice.IpSliceError.{IpSliceError}
@@ -42,6 +44,22 @@ abbrev pub IsIpPacket : List ℕ → IpSlice → Type 0
 IsIpPacket packet (slice.Ipv4 header payload) = IsIpv4Packet packet header payload.now
 IsIpPacket packet (slice.Ipv6 header extensions upper payload) =
     IsIpv6Packet packet header extensions.now upper payload.now
+
+-- the payload of a slice is a fragment
+abbrev pub IsFragmentSlice : IpSlice → Type 0
+IsFragmentSlice (slice.Ipv4 header payload) = IsFragment header
+IsFragmentSlice (slice.Ipv6 header extensions upper payload) =
+    (fragment : FragmentHeader) × (rest : List ℕ)
+    × HasFragmentBehind extensions.now header.next_header fragment rest × IsPart fragment
+
+-- the payload of a slice is whole; or in a slice of no packet an extension header is incomplete
+abbrev pub IsWholeSlice : IpSlice → Type 0
+IsWholeSlice (slice.Ipv4 header payload) = ¬ IsFragment header
+IsWholeSlice (slice.Ipv6 header extensions upper payload) =
+    IsUnfragmented extensions.now header.next_header
+    ⊎ ((fragment : FragmentHeader) × (rest : List ℕ)
+    × HasFragmentBehind extensions.now header.next_header fragment rest × ¬ IsPart fragment)
+    ⊎ ((e : LenError) × RefusesFragmentBehind extensions.now header.next_header e)
 
 -- the packet is shorter than its total length
 pub record EndsInIpv4Payload (packet : List ℕ) (e : LenError) : Type 0 where

@@ -1,15 +1,15 @@
 //! A layer of one's own over `etherparse`: the fragment header of IPv6 (RFC 8200 section 4.5), and
 //! the keys by which a receiver puts the fragments of one packet together, of both versions.
 
-ghost use Rattle.std.specs.Prelude.{ℕ, ◌≡◌, ◌≢◌, ◌<◌, ◌↔◌, List, IfErr, IfNone, IfOk};
+ghost use Rattle.std.specs.Prelude.{ℕ, ◌≡◌, ◌≢◌, ◌<◌, ◌≤◌, ◌↔◌, List, IfErr, IfNone, IfOk};
 ghost use Rattle.std.specs.Prelude.{IfSome, IsTrue, Ok, Some, length};
 ghost use Rattle.etherparse.specs.ExtensionHeaders.{IsSkippable};
 ghost use Rattle.etherparse.specs.Ipv4Header.{RefusesIpv4};
-ghost use Rattle.etherparse.specs.declared.net.ipv6_header.Ipv6Header.{Ipv6Header as Header6};
-ghost use Rattle.uses.specs.Fragment.{AreOfOneIpv4Packet, AreOfOneIpv6Packet};
+ghost use Rattle.uses.specs.Fragment.{AreOfOneIpv4Packet, AreOfOneIpv6Packet, HasFragmentBehind};
 ghost use Rattle.uses.specs.Fragment.{HasFragmentHeader, HasIpv4Key, HasIpv6Key};
-ghost use Rattle.uses.specs.Fragment.{IsFragmentLayout, IsIncomplete, IsUnfragmented, IsWholeIpv4};
-ghost use Rattle.uses.specs.Fragment.{IsWholeIpv6, ReachesIpv6, RefusesFragmented};
+ghost use Rattle.uses.specs.Fragment.{HasNoFragmentHeader, IsFragmentLayout, IsIncomplete};
+ghost use Rattle.uses.specs.Fragment.{IsUnfragmented, IsWholeIpv4, IsWholeIpv6, Reaches};
+ghost use Rattle.uses.specs.Fragment.{RefusesFragmentBehind, RefusesFragmented};
 ghost use Rattle.uses.specs.declared.fragment.Ipv4Key.{Ipv4Key as Key4};
 
 use etherparse::err::{Layer, LenError, ipv4, ipv6};
@@ -167,7 +167,7 @@ pub fn is_of_one_ipv6_packet(a: &Ipv6Fragment, b: &Ipv6Fragment) -> bool
 }
 
 /// The first fragment header of an IPv6 packet, with what stands before and after it; `None` where
-/// a number that cannot be skipped, as that of an upper layer, comes first.
+/// a number that cannot be skipped, as that of an upper layer, comes before it.
 ///
 /// # Errors
 ///
@@ -176,22 +176,46 @@ pub fn is_of_one_ipv6_packet(a: &Ipv6Fragment, b: &Ipv6Fragment) -> bool
 pub fn ipv6_fragment(packet: &[u8]) -> Result<Option<Ipv6Fragment>, ipv6::HeaderSliceError>
     ensures found { IfOk result (λ found. IfSome found (λ x.
         HasFragmentHeader packet.now x.header x.fragment x.payload.now)) }
-    ensures none { IfOk result (λ found. IfNone found (IsUnfragmented packet.now)) }
+    ensures none { IfOk result (λ found. IfNone found (HasNoFragmentHeader packet.now)) }
     ensures refused { IfErr result (RefusesFragmented packet.now) }
 {
-    let (header, mut rest) = Ipv6Header::from_slice(packet)?;
-    let mut number = header.next_header;
+    let (header, body) = Ipv6Header::from_slice(packet)?;
+    match fragment_behind(body, header.next_header) {
+        Ok(Some((fragment, payload))) => Ok(Some(Ipv6Fragment {
+            header,
+            fragment,
+            payload,
+        })),
+        Ok(None) => Ok(None),
+        Err(e) => Err(ipv6::HeaderSliceError::Len(e.add_offset(Ipv6Header::LEN))),
+    }
+}
+
+/// The first fragment header among extension headers at the front of a slice, of which the first
+/// has this number, and all the bytes after it; `None` where a number that cannot be skipped comes
+/// before it.
+///
+/// # Errors
+///
+/// A `LenError` where the fragment header or an extension header before it is incomplete, with the
+/// place of that header from the front of the slice.
+pub fn fragment_behind(
+    slice: &[u8],
+    first: IpNumber,
+) -> Result<Option<(FragmentHeader, &[u8])>, LenError>
+    ensures found { IfOk result (λ found. IfSome found (λ x.
+        HasFragmentBehind slice.now first x.0 x.1.now)) }
+    ensures none { IfOk result (λ found. IfNone found (IsUnfragmented slice.now first)) }
+    ensures refused { IfErr result (RefusesFragmentBehind slice.now first) }
+    ensures within { IfErr result (λ e. e.layer_start_offset ≤ length slice.now) }
+{
+    let mut rest = slice;
+    let mut number = first;
     'headers: loop {
         if number == IpNumber::IPV6_FRAGMENTATION_HEADER {
             return match FragmentHeader::from_slice(rest) {
-                Ok((fragment, payload)) => Ok(Some(Ipv6Fragment {
-                    header,
-                    fragment,
-                    payload,
-                })),
-                Err(e) => Err(ipv6::HeaderSliceError::Len(
-                    e.add_offset(packet.len() - rest.len()),
-                )),
+                Ok(read) => Ok(Some(read)),
+                Err(e) => Err(e.add_offset(slice.len() - rest.len())),
             };
         }
         if !Ipv6Header::is_skippable_header_extension(number) {
@@ -199,11 +223,7 @@ pub fn ipv6_fragment(packet: &[u8]) -> Result<Option<Ipv6Fragment>, ipv6::Header
         }
         match skipped(rest, number) {
             Ok(next) => (number, rest) = next,
-            Err(e) => {
-                return Err(ipv6::HeaderSliceError::Len(
-                    e.add_offset(packet.len() - rest.len()),
-                ));
-            }
+            Err(e) => return Err(e.add_offset(slice.len() - rest.len())),
         }
     }
 }
@@ -212,9 +232,8 @@ pub fn ipv6_fragment(packet: &[u8]) -> Result<Option<Ipv6Fragment>, ipv6::Header
 fn skipped(slice: &[u8], number: IpNumber) -> Result<(IpNumber, &[u8]), LenError>
     requires skippable { IsSkippable number }
     requires other { number ≢ 44 }
-    ensures goes_on { (packet : List ℕ) → (header : Header6) →
-        ReachesIpv6 packet header number slice.now →
-        IfOk result (λ x. ReachesIpv6 packet header x.0 x.1.now) }
+    ensures goes_on { (s : List ℕ) → (first : ℕ) → Reaches s first number slice.now →
+        IfOk result (λ x. Reaches s first x.0 x.1.now) }
     ensures refused { IfErr result (IsIncomplete number slice.now) }
     ensures shorter { IfOk result (λ x. length x.1.now < length slice.now) }
     ensures at_front { IfErr result (λ e. e.layer_start_offset ≡ 0) }

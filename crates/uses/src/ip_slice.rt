@@ -4,29 +4,27 @@ ghost use Rattle.std.specs.Prelude.{ℕ, ◌≡◌, ◌<◌, List, ◌++◌, IfE
 ghost use Rattle.etherparse.specs.FirstByte.{version_of};
 ghost use Rattle.uses.specs.IpSlice.{HasIpv6Body, IsIpPacket, RefusesIp};
 
+use crate::fragment::fragment_behind;
 use etherparse::err::{Layer, LenError, ipv4, ipv6};
 use etherparse::{IpNumber, Ipv4Header, Ipv6Header, LenSource};
 
 /// The parts of an IP packet, cut at its length field: what stands behind the packet is in none.
+/// [`IpSlice::is_fragment`] says whether the payload is a fragment.
 #[derive(Clone, Debug, PartialEq, Eq, Drop)]
 pub enum IpSlice<'a> {
     /// An IPv4 packet (RFC 791 section 3.1), cut at `total_len`.
     Ipv4 {
-        /// The header. Its `protocol` is the number of the payload, and its
-        /// `is_fragmenting_payload` says whether the payload is a fragment. A fragment that is not
-        /// the first begins in the middle of a payload, and with no header of an upper layer.
+        /// The header. Its `protocol` is the number of the payload.
         header: Ipv4Header,
         /// What follows the header, an authentication header (51) included.
         payload: &'a [u8],
     },
-    /// An IPv6 packet (RFC 8200 section 3), cut at `payload_length`. Whether the payload is a
-    /// fragment, [`crate::fragment::ipv6_key`] says: a fragment header is among the extension
-    /// headers, whatever its offset, and behind one that is not the first, `upper` is the number of
-    /// what begins in another packet.
+    /// An IPv6 packet (RFC 8200 section 3), cut at `payload_length`.
     Ipv6 {
         /// The header, without its extension headers.
         header: Ipv6Header,
-        /// The bytes of the extension headers, which can be none.
+        /// The bytes of the extension headers, which can be none. A fragment header is among them,
+        /// whatever its offset.
         extensions: &'a [u8],
         /// The number of the payload: the first that is of no extension header that can be skipped.
         upper: IpNumber,
@@ -59,8 +57,8 @@ pub enum IpSliceError {
 }
 
 impl<'a> IpSlice<'a> {
-    ghost use Rattle.std.specs.Prelude.{IfErr, IfOk};
-    ghost use Rattle.uses.specs.IpSlice.{IsIpPacket, RefusesIp};
+    ghost use Rattle.std.specs.Prelude.{IfErr, IfOk, IsFalse, IsTrue};
+    ghost use Rattle.uses.specs.IpSlice.{IsFragmentSlice, IsIpPacket, IsWholeSlice, RefusesIp};
 
     /// The parts of the packet at the front of a slice.
     ///
@@ -82,6 +80,29 @@ impl<'a> IpSlice<'a> {
             4 => ipv4_slice(packet),
             6 => ipv6_slice(packet),
             version_number => Err(IpSliceError::UnexpectedVersion { version_number }),
+        }
+    }
+
+    /// Whether the payload is a fragment: more fragments follow it, or its offset is not 0. Where
+    /// its offset is not 0, it is the middle of a payload, and begins with no header of an upper
+    /// layer.
+    ///
+    /// Of IPv6 the first fragment header tells. A slice that was not made by
+    /// [`IpSlice::from_slice`] can have bytes for `extensions` that are no extension headers: its
+    /// payload is no fragment.
+    pub fn is_fragment(&self) -> bool
+        ensures yes { IsTrue result → IsFragmentSlice self.now }
+        ensures no { IsFalse result → IsWholeSlice self.now }
+    {
+        match self {
+            IpSlice::Ipv4 { header, .. } => header.is_fragmenting_payload(),
+            IpSlice::Ipv6 { header, extensions, .. } => {
+                match fragment_behind(extensions, header.next_header) {
+                    Ok(Some((fragment, _))) => fragment.is_fragmenting_payload(),
+                    Ok(None) => false,
+                    Err(_) => false,
+                }
+            }
         }
     }
 }

@@ -1,4 +1,4 @@
-use Rattle.std.proofs.Common.{ℕ, ◌≡◌, List, Ok, arith, refl, subst}
+use Rattle.std.proofs.Common.{ℕ, ◌≡◌, List, Ok, refl, subst}
 use Rattle.etherparse.specs.ExtensionHeaderChain.{WalkAnswer}
 use Rattle.uses.specs.Fragment.{Reaches, behind}
 use Rattle.uses.proofs.fragment.skipped.Goals as goal
@@ -7,7 +7,5 @@ reached : (s : List ℕ) (first : ℕ) (x y : ℕ × List ℕ) → ◌≡◌ {A 
 reached s first x y e r = let is : y ≡ x = cc in subst (λ (o : ℕ × List ℕ). Reaches s first o.0 o.1) is r
 
 pub returns-in-Ok-clause-goes_on : goal.returns-in-Ok-clause-goes_on
-returns-in-Ok-clause-goes_on c = λ packet header r.
-    let fits = (c.in-Ok.ensures.accepted c.requires.skippable).0 refl in
-    let next = reached _ _ _ _ (c.in-Ok.ensures.skipped c.requires.skippable fits) (behind r.reaches c.requires.skippable c.requires.other fits) in
-    record { body = r.body; begins = r.begins; reaches = next; within = omega (arith, c.in-Ok.ensures.shorter c.requires.skippable, r.within) }
+returns-in-Ok-clause-goes_on c = λ s first r. let fits = (c.in-Ok.ensures.accepted c.requires.skippable).0 refl in
+    reached _ _ _ _ (c.in-Ok.ensures.skipped c.requires.skippable fits) (behind r c.requires.skippable c.requires.other fits)
