@@ -6,8 +6,9 @@ ghost use Rattle.etherparse.specs.WordSums.{ComplementsWithNoZero, UpdatesChecks
 ghost use Rattle.etherparse.specs.WordSums.{little_endian_word_sum, network_order_word_sum};
 ghost use Rattle.etherparse.specs.WordSums.{updated_checksum, updated_checksum_of_words};
 
-use etherparse::checksum::{u32_16bit_word, u64_16bit_word};
-use etherparse::checksum::{update_2bytes, update_4bytes, update_16bytes};
+use etherparse::checksum::{
+    u32_16bit_word, u64_16bit_word, update_2bytes, update_4bytes, update_16bytes,
+};
 
 /// Adds the words of a slice to a sum of 64 bits, which begins at 0. An odd last byte is a word
 /// with a byte 0 behind it.

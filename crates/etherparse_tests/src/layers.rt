@@ -13,6 +13,7 @@ use uses::tcp::{TcpError, TcpHeaderSlice, is_tcp_right_ipv4, is_tcp_right_ipv6};
 
 // 2001:db8::1 and 2001:db8::2.
 const FIRST: [u8; 16] = [0x20, 0x01, 0x0d, 0xb8, 0, 0, 0, 0, 0, 0, 0, 0, 0, 0, 0, 1];
+
 const SECOND: [u8; 16] = [0x20, 0x01, 0x0d, 0xb8, 0, 0, 0, 0, 0, 0, 0, 0, 0, 0, 0, 2];
 
 // From port 1024 to port 80: a SYN with sequence number 1 and a window of 8192 bytes.
@@ -22,8 +23,8 @@ const SEGMENT: [u8; 20] = [
 
 // A datagram of 4 bytes from 192.168.0.1 to 192.168.0.199, with two bytes behind it.
 const IPV4_PACKET: [u8; 26] = [
-    0x45, 0, 0, 24, 0x12, 0x34, 0, 0, 64, 17, 0, 0, 192, 168, 0, 1, 192, 168, 0, 199, 1, 2, 3, 4, 9,
-    9,
+    0x45, 0, 0, 24, 0x12, 0x34, 0, 0, 64, 17, 0, 0, 192, 168, 0, 1, 192, 168, 0, 199, 1, 2, 3, 4,
+    9, 9,
 ];
 
 // The second fragment of a packet, of which more follow: 4 bytes behind the fragment header.
@@ -42,9 +43,18 @@ const CAPTURE: [u8; 43] = [
 fn a_tcp_header_is_seen_and_judged(rt: HostRuntime) {
     let view = TcpHeaderSlice::from_slice(&SEGMENT).expect(&rt, "a header");
     assert_eq!(rt; (view.source_port(), view.destination_port()), (1024, 80));
-    assert_eq!(rt; (view.sequence_number(), view.acknowledgment_number()), (1, 0));
-    assert_eq!(rt; (view.data_offset(), view.flags(), view.window_size()), (5, 2, 0x2000));
-    assert_eq!(rt; (view.syn(), view.ack(), view.fin(), view.rst()), (true, false, false, false));
+    assert_eq!(rt;
+        (view.sequence_number(), view.acknowledgment_number()),
+        (1, 0)
+    );
+    assert_eq!(rt;
+        (view.data_offset(), view.flags(), view.window_size()),
+        (5, 2, 0x2000)
+    );
+    assert_eq!(rt;
+        (view.syn(), view.ack(), view.fin(), view.rst()),
+        (true, false, false, false)
+    );
     assert_eq!(rt; (view.checksum(), view.urgent_pointer()), (0x0979, 0));
     assert!(rt; view.options().is_empty());
     let (source, destination) = ([192, 168, 0, 1], [192, 168, 0, 199]);
@@ -149,7 +159,10 @@ fn packets_are_refused_with_places_in_the_packet(rt: HostRuntime) {
         layer: Layer::Ipv4Packet,
         layer_start_offset: 0,
     };
-    assert_eq!(rt; refused(&IPV4_PACKET[..22]), Some(IpSliceError::Packet(short)));
+    assert_eq!(rt;
+        refused(&IPV4_PACKET[..22]),
+        Some(IpSliceError::Packet(short))
+    );
     let mut packet = IPV6_PACKET;
     packet[5] = 4;
     let inside = LenError {
@@ -169,10 +182,16 @@ fn a_capture_hands_its_packets_over(rt: HostRuntime) {
         order: ByteOrder::LittleEndian,
         resolution: Resolution::Microseconds,
     };
-    assert_eq!(rt; (header.format, header.snap_len, header.link_type), (format, 65535, 101));
+    assert_eq!(rt;
+        (header.format, header.snap_len, header.link_type),
+        (format, 65535, 101)
+    );
     match next_record(&header, records) {
         Ok(Some((record, rest))) => {
-            assert_eq!(rt; (record.seconds, record.nanoseconds, record.original_len), (1, 2000, 5));
+            assert_eq!(rt;
+                (record.seconds, record.nanoseconds, record.original_len),
+                (1, 2000, 5)
+            );
             assert_eq!(rt; record.bytes, b"abc".as_slice());
             assert_eq!(rt; next_record(&header, rest), Ok(None));
         }
@@ -182,7 +201,10 @@ fn a_capture_hands_its_packets_over(rt: HostRuntime) {
     assert_eq!(rt; next_record(&header, &records[..15]), Err(cut(16, 15)));
     assert_eq!(rt; next_record(&header, &records[..18]), Err(cut(19, 18)));
     let refused = |file: &[u8]| FileHeader::from_slice(file).err();
-    assert_eq!(rt; refused(&CAPTURE[..23]), Some(CaptureError::CutOff(cut(24, 23))));
+    assert_eq!(rt;
+        refused(&CAPTURE[..23]),
+        Some(CaptureError::CutOff(cut(24, 23)))
+    );
     let mut file = CAPTURE;
     file[0] = 0xd5;
     assert_eq!(rt; refused(&file), Some(CaptureError::Magic(0xd5c3b2a1)));

@@ -79,8 +79,8 @@ pub record EndsInIpv6Payload (packet : List ℕ) (e : LenError) : Type 0 where
   pub short : length packet < 40 + header.payload_length
   pub error : e ≡ record (too_short_error layer.Ipv6Packet (40 + header.payload_length)
       (length packet)) {
-    len_source = source.Ipv6HeaderPayloadLen;
-  }
+        len_source = source.Ipv6HeaderPayloadLen;
+      }
 
 -- the body of the packet ends within an extension header; the place in the error counts from the
 -- packet's start

@@ -96,7 +96,11 @@ impl<'a> IpSlice<'a> {
     {
         match self {
             IpSlice::Ipv4 { header, .. } => header.is_fragmenting_payload(),
-            IpSlice::Ipv6 { header, extensions, .. } => {
+            IpSlice::Ipv6 {
+                header,
+                extensions,
+                ..
+            } => {
                 match fragment_behind(extensions, header.next_header) {
                     Ok(Some((fragment, _))) => fragment.is_fragmenting_payload(),
                     Ok(None) => false,

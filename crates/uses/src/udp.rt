@@ -78,7 +78,12 @@ impl UdpHeader {
             (udp_pieces_v6 ip.now self.old.length header payload.now) ≡ 65535 }
     {
         let [h, l] = self.length.to_be_bytes();
-        self.complete(&ip.source, &ip.destination, &[0, 0, h, l, 0, 0, 0, 17], payload);
+        self.complete(
+            &ip.source,
+            &ip.destination,
+            &[0, 0, h, l, 0, 0, 0, 17],
+            payload,
+        );
     }
 
     /// Whether the checksum of a datagram over IPv4 is right, or there is none.
@@ -100,7 +105,12 @@ impl UdpHeader {
     {
         let [h, l] = self.length.to_be_bytes();
         self.checksum != 0
-            && self.is_whole(&ip.source, &ip.destination, &[0, 0, h, l, 0, 0, 0, 17], payload)
+            && self.is_whole(
+                &ip.source,
+                &ip.destination,
+                &[0, 0, h, l, 0, 0, 0, 17],
+                payload,
+            )
     }
 
     // Sets the checksum over the addresses, what else stands before the datagram, and the datagram.

@@ -30,9 +30,9 @@ pub fn upper_layer(packet: &[u8]) -> Result<(IpNumber, &[u8]), HeaderSliceError>
 }
 
 /// Whether the checksum of a UDP datagram over IPv6 is right, past any extension headers; `None`
-/// for another upper layer, or one of more bytes than 32 bits can tell, and for a fragment, in which
-/// there is no whole datagram. The destination is that of the IPv6 header, which a routing header
-/// can have changed.
+/// for another upper layer, or one of more bytes than 32 bits can tell, and for a fragment, in
+/// which there is no whole datagram. The destination is that of the IPv6 header, which a routing
+/// header can have changed.
 pub fn is_udp_right(packet: &[u8]) -> Result<Option<bool>, HeaderSliceError>
     ensures whole { IfOk result (λ found. IfSome found (λ _. IsWholeIpv6 packet.now)) }
     ensures judged { IfOk result (λ found. IfSome found (HasUdp packet.now)) }

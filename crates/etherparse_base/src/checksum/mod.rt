@@ -9,6 +9,7 @@ mod wide_u64;
 mod words;
 
 pub use sum_16bit_words::Sum16BitWords;
-pub use update::{update_2bytes, update_2bytes_with_no_zero};
-pub use update::{update_4bytes, update_4bytes_with_no_zero};
-pub use update::{update_16bytes, update_16bytes_with_no_zero};
+pub use update::{
+    update_2bytes, update_2bytes_with_no_zero, update_4bytes, update_4bytes_with_no_zero,
+    update_16bytes, update_16bytes_with_no_zero,
+};

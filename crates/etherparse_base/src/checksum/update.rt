@@ -79,8 +79,8 @@ pub fn update_4bytes_with_no_zero(checksum: u16, old: [u8; 4], new: [u8; 4]) -> 
     none_or(checksum, update_4bytes(checksum, old, new))
 }
 
-/// [`update_16bytes`] of a checksum in which 0 says that there is none: 0 stays 0, and 0xffff stands
-/// for any other that would be 0.
+/// [`update_16bytes`] of a checksum in which 0 says that there is none: 0 stays 0, and 0xffff
+/// stands for any other that would be 0.
 ///
 /// The Rust crate has no such call.
 #[inline]
