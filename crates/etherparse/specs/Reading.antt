@@ -1,4 +1,4 @@
--- How a header stands at the front of a slice, and how a slice is refused, for both versions.
+-- How a header stands at the front of a slice, and how a slice is refused, in any layout.
 use Rattle.std.specs.Prelude.{ℕ, ◌≡◌, ◌≢◌, ◌<◌, ◌≤◌, List, ◌++◌, length, Result, Ok, Err}
 use Rattle.std.specs.Result.{result_map_both}
 use Rattle.std.specs.Borrow.{Bor}

@@ -21,11 +21,11 @@ weighted_byte_sum weight other [] = 0
 weighted_byte_sum weight other (byte ∷ bytes) =
     weight * byte + weighted_byte_sum other weight bytes
 
--- the sum of the words of two bytes, the low byte first (RFC 1071 section 2 (B)), as is an odd one
+-- the sum of the words of two bytes, the low one first (RFC 1071 section 2 (B)); an odd one is low
 abbrev pub little_endian_word_sum : List ℕ → ℕ
 little_endian_word_sum bytes = weighted_byte_sum 1 256 bytes
 
--- the same in network order: the high byte first (RFC 1071 section 1), as is an odd one
+-- the same in network order, the high one first (RFC 1071 section 1); an odd one is high
 abbrev pub network_order_word_sum : List ℕ → ℕ
 network_order_word_sum bytes = weighted_byte_sum 256 1 bytes
 
