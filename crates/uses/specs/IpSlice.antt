@@ -45,6 +45,16 @@ IsIpPacket packet (slice.Ipv4 header payload) = IsIpv4Packet packet header paylo
 IsIpPacket packet (slice.Ipv6 header extensions upper payload) =
     IsIpv6Packet packet header extensions.now upper payload.now
 
+-- the number of the payload of a slice
+abbrev pub upper_of : IpSlice → ℕ
+upper_of (slice.Ipv4 header payload) = header.protocol
+upper_of (slice.Ipv6 header extensions upper payload) = upper
+
+-- the payload of a slice
+abbrev pub payload_of : IpSlice → List ℕ
+payload_of (slice.Ipv4 header payload) = payload.now
+payload_of (slice.Ipv6 header extensions upper payload) = payload.now
+
 -- the payload of a slice is a fragment
 abbrev pub IsFragmentSlice : IpSlice → Type 0
 IsFragmentSlice (slice.Ipv4 header payload) = IsFragment header

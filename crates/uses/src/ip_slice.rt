@@ -57,8 +57,9 @@ pub enum IpSliceError {
 }
 
 impl<'a> IpSlice<'a> {
-    ghost use Rattle.std.specs.Prelude.{IfErr, IfOk, IsFalse, IsTrue};
+    ghost use Rattle.std.specs.Prelude.{◌≡◌, IfErr, IfOk, IsFalse, IsTrue};
     ghost use Rattle.uses.specs.IpSlice.{IsFragmentSlice, IsIpPacket, IsWholeSlice, RefusesIp};
+    ghost use Rattle.uses.specs.IpSlice.{payload_of, upper_of};
 
     /// The parts of the packet at the front of a slice.
     ///
@@ -80,6 +81,26 @@ impl<'a> IpSlice<'a> {
             4 => ipv4_slice(packet),
             6 => ipv6_slice(packet),
             version_number => Err(IpSliceError::UnexpectedVersion { version_number }),
+        }
+    }
+
+    /// The number of the payload, of either version.
+    pub fn upper(&self) -> IpNumber
+        ensures value { result ≡ upper_of self.now }
+    {
+        match self {
+            IpSlice::Ipv4 { header, .. } => header.protocol,
+            IpSlice::Ipv6 { upper, .. } => *upper,
+        }
+    }
+
+    /// The payload, of either version.
+    pub fn payload(&self) -> &'a [u8]
+        ensures value { result.now ≡ payload_of self.now }
+    {
+        match self {
+            IpSlice::Ipv4 { payload, .. } => payload,
+            IpSlice::Ipv6 { payload, .. } => payload,
         }
     }
 
