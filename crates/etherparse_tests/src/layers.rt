@@ -155,7 +155,7 @@ fn packets_are_refused_with_places_in_the_packet(rt: HostRuntime) {
     let short = LenError {
         required_len: 24,
         len: 22,
-        len_source: LenSource::Ipv4HeaderTotalLen,
+        len_source: LenSource::Slice,
         layer: Layer::Ipv4Packet,
         layer_start_offset: 0,
     };

@@ -7,7 +7,6 @@ use Rattle.etherparse.specs.Ipv4Header.{IsFragment, IsIpv4Layout, RefusesIpv4}
 use Rattle.etherparse.specs.Ipv6Header.{IsIpv6Layout, RefusesIpv6}
 use Rattle.etherparse.specs.LenError.{len_error_moved}
 use Rattle.etherparse.specs.Reading.{BeginsWith, too_short_error}
-use Rattle.etherparse.specs.declared.LenSource.TheVariants as source
 use Rattle.etherparse.specs.declared.err.LenError.{LenError}
 use Rattle.etherparse.specs.declared.err.Layer.TheVariants as layer
 use Rattle.etherparse.specs.declared.net.ipv4_header.Ipv4Header.{Ipv4Header}
@@ -77,9 +76,7 @@ pub record EndsInIpv4Payload (packet : List ℕ) (e : LenError) : Type 0 where
   pub rest : List ℕ
   pub begins : BeginsWith IsIpv4Layout packet header rest
   pub short : length packet < header.total_len
-  pub error : e ≡ record (too_short_error layer.Ipv4Packet header.total_len (length packet)) {
-    len_source = source.Ipv4HeaderTotalLen;
-  }
+  pub error : e ≡ too_short_error layer.Ipv4Packet header.total_len (length packet)
 
 -- the packet is shorter than its payload length and the header
 pub record EndsInIpv6Payload (packet : List ℕ) (e : LenError) : Type 0 where
@@ -87,10 +84,7 @@ pub record EndsInIpv6Payload (packet : List ℕ) (e : LenError) : Type 0 where
   pub rest : List ℕ
   pub begins : BeginsWith IsIpv6Layout packet header rest
   pub short : length packet < 40 + header.payload_length
-  pub error : e ≡ record (too_short_error layer.Ipv6Packet (40 + header.payload_length)
-      (length packet)) {
-        len_source = source.Ipv6HeaderPayloadLen;
-      }
+  pub error : e ≡ too_short_error layer.Ipv6Packet (40 + header.payload_length) (length packet)
 
 -- the body of the packet ends within an extension header; the place in the error counts from the
 -- packet's start

@@ -152,7 +152,7 @@ fn ipv4_slice(packet: &[u8]) -> Result<IpSlice, IpSliceError>
         return Err(IpSliceError::Packet(LenError {
             required_len: total_len,
             len: packet.len(),
-            len_source: LenSource::Ipv4HeaderTotalLen,
+            len_source: LenSource::Slice,
             layer: Layer::Ipv4Packet,
             layer_start_offset: 0,
         }));
@@ -201,7 +201,7 @@ fn ipv6_body(packet: &[u8]) -> Result<(Ipv6Header, &[u8]), IpSliceError>
         return Err(IpSliceError::Packet(LenError {
             required_len: Ipv6Header::LEN + len,
             len: packet.len(),
-            len_source: LenSource::Ipv6HeaderPayloadLen,
+            len_source: LenSource::Slice,
             layer: Layer::Ipv6Packet,
             layer_start_offset: 0,
         }));
