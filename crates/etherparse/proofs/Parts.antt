@@ -1,5 +1,5 @@
 -- Parts of a list: fronts, ranges, and what follows them.
-use Rattle.std.proofs.Common.{ℕ, zero, suc, ◌≡◌, ◌+◌, ◌-◌, ◌<◌, ◌≤◌, List, [], ◌∷◌, map, ◌++◌, length, get_or, get_or-set_other, take, drop, refl, sym, ap, ◌∙◌, inl, inr, lit<, arith, w16}
+use Rattle.std.proofs.Common.{ℕ, zero, suc, ◌≡◌, ◌+◌, ◌-◌, ◌%◌, ◌^◌, ◌<◌, ◌≤◌, List, [], ◌∷◌, map, ◌++◌, length, get_or, get_or-set_other, take, drop, refl, sym, ap, ◌∙◌, inl, inr, lit<, arith, w16}
 use Rattle.std.specs.Int.{from_be_bytes, to_be_bytes}
 use Rattle.std.specs.List.{concat, slice_range, range_with_len}
 use Rattle.std.specs.Prelude.{slice_set}
@@ -7,8 +7,8 @@ use Rattle.std.proofs.lemmas.Bool.{cases_eq, cases_lt}
 use Rattle.std.proofs.lemmas.Grind.{common_steps, get_or-set_at}
 use Rattle.std.proofs.lemmas.List.{drop_at, get_or-append_right, get_or_append_left, get_or_past, length-take, take_at}
 use Rattle.std.proofs.lemmas.List.FromFn.{fill_by_all}
-use Rattle.std.proofs.lemmas.Nat.{be_bytes_2}
-use Rattle.etherparse_base.specs.Bytes.{IsBytes}
+use Rattle.std.proofs.lemmas.Nat.{be_bytes_2, from_be_bytes-to_be_bytes_2}
+use Rattle.etherparse_base.specs.Bytes.{IsBytes, words_of}
 
 -- an item of a part
 pub get_or-slice_range : (xs : List ℕ) (a b i : ℕ) → a + i < b → get_or (slice_range xs a b) i 0 ≡ get_or xs (a + i) 0
@@ -73,3 +73,20 @@ word_is_bytes n (suc (suc i)) = omega arith
 pub words_are_bytes : (ns : List ℕ) → IsBytes (concat (map (λ n. to_be_bytes w16 n) ns))
 words_are_bytes [] i = omega arith
 words_are_bytes (n ∷ ns) i = append_is_bytes (to_be_bytes w16 n) (concat (map (λ n. to_be_bytes w16 n) ns)) (word_is_bytes n) (words_are_bytes ns) i
+
+pair_is_bytes : (a b : ℕ) → a < 256 → b < 256 → IsBytes (a ∷ b ∷ [])
+pair_is_bytes a b h k zero = h
+pair_is_bytes a b h k (suc zero) = k
+pair_is_bytes a b h k (suc (suc i)) = omega arith
+
+-- bytes are told by their words
+pub told_by_words : (p : List ℕ) → IsBytes p → length p % 2 ≡ 0 → p ≡ concat (map (λ n. to_be_bytes w16 n) (words_of p))
+told_by_words [] bytes even = refl
+told_by_words (a ∷ []) bytes even = absurd (omega (arith, even))
+told_by_words (a ∷ b ∷ p) bytes even =
+    same_append (sym (be_bytes_2 (a ∷ b ∷ []) _ refl (pair_is_bytes a b (bytes 0) (bytes 1)) refl)) (told_by_words p (λ i. bytes (suc (suc i))) (omega (arith, even)))
+
+-- and words by their bytes
+pub words_written : (ns : List ℕ) → ((i : ℕ) → get_or ns i 0 < 2 ^ 16) → words_of (concat (map (λ n. to_be_bytes w16 n) ns)) ≡ ns
+words_written [] fit = refl
+words_written (n ∷ ns) fit = let e = words_written ns (λ i. fit (suc i)) in let f = from_be_bytes-to_be_bytes_2 n (fit 0) in cc

@@ -18,8 +18,7 @@ folded_sum (suc n) = 1 + n % 65535
 -- the sum of the bytes, each times its weight; the two weights take turns
 abbrev pub weighted_byte_sum : ℕ → ℕ → List ℕ → ℕ
 weighted_byte_sum weight other [] = 0
-weighted_byte_sum weight other (byte ∷ bytes) =
-    weight * byte + weighted_byte_sum other weight bytes
+weighted_byte_sum weight other (byte ∷ bytes) = weight * byte + weighted_byte_sum other weight bytes
 
 -- the sum of the words of two bytes, the low one first (RFC 1071 section 2 (B)); an odd one is low
 abbrev pub little_endian_word_sum : List ℕ → ℕ
@@ -123,8 +122,7 @@ pub record Complements (sum checksum : ℕ) : Type 0 where
   pub completes : (n : ℕ) → folded_sum n ≡ folded_sum sum → folded_sum (n + checksum) ≡ 65535
   pub network_order : (bytes : List ℕ) → IsSumOf sum bytes
       → swap_bytes w16 checksum ≡ checksum_of (network_order_word_sum bytes)
-  pub all_ones : (bytes : List ℕ) → IsSumOf sum bytes
-      → (SumsToAllOnes bytes ↔ (checksum ≡ 0))
+  pub all_ones : (bytes : List ℕ) → IsSumOf sum bytes → (SumsToAllOnes bytes ↔ (checksum ≡ 0))
 
 -- the same of the checksum that is never 0; it completes no sum of 0
 pub record ComplementsWithNoZero (sum checksum : ℕ) : Type 0 where

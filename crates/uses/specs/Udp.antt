@@ -1,7 +1,7 @@
 -- The UDP header (RFC 768).
-use Rattle.std.specs.Prelude.{ℕ, ◌≡◌, List, [], ◌∷◌, ◌++◌, length, slice_range, Result}
-use Rattle.std.specs.Int.{from_be_bytes, to_be_bytes, w16, w32}
-use Rattle.etherparse.specs.Bytes.{IsBytes}
+use Rattle.std.specs.Prelude.{ℕ, ◌≡◌, List, [], ◌∷◌, ◌++◌, length, Result}
+use Rattle.std.specs.Int.{to_be_bytes, w16, w32}
+use Rattle.etherparse.specs.Bytes.{IsBytes, words_of}
 use Rattle.etherparse.specs.Reading.{IsTooShort, Reads}
 use Rattle.etherparse.specs.declared.err.LenError.{LenError}
 use Rattle.etherparse.specs.declared.err.Layer.TheVariants as layer
@@ -9,15 +9,15 @@ use Rattle.etherparse.specs.declared.net.ipv4_header.Ipv4Header.{Ipv4Header}
 use Rattle.etherparse.specs.declared.net.ipv6_header.Ipv6Header.{Ipv6Header}
 use Rattle.uses.specs.declared.udp.UdpHeader.{UdpHeader}
 
--- The 8 bytes of a header, in network byte order: the source port; the destination port; the
--- length; the checksum.
+-- the words of a header, in their order
+abbrev pub udp_words : UdpHeader → List ℕ
+udp_words h = h.source_port ∷ h.destination_port ∷ h.length ∷ h.checksum ∷ []
+
+-- the 8 bytes of a header
 pub record IsUdpLayout (header : UdpHeader) (bytes : List ℕ) : Type 0 where
   pub len : length bytes ≡ 8
   pub are_bytes : IsBytes bytes
-  pub source_port : from_be_bytes w16 (slice_range bytes 0 2) ≡ header.source_port
-  pub destination_port : from_be_bytes w16 (slice_range bytes 2 4) ≡ header.destination_port
-  pub length : from_be_bytes w16 (slice_range bytes 4 6) ≡ header.length
-  pub checksum : from_be_bytes w16 (slice_range bytes 6 8) ≡ header.checksum
+  pub words : words_of bytes ≡ udp_words header
 
 -- a header and the bytes after it, or why there is no header
 abbrev pub UdpReading : Type 0

@@ -20,12 +20,13 @@ pub struct UdpHeader {
 
 impl UdpHeader {
     ghost use Rattle.std.specs.Prelude.{ℕ, ◌≡◌, ◌≢◌, ◌<◌, ◌^◌, ◌↔◌, ◌⊎◌, List, [], ◌∷◌, ◌++◌};
-    ghost use Rattle.std.specs.Prelude.{Ok, IsTrue};
+    ghost use Rattle.std.specs.Prelude.{Ok, IsTrue, map, slice_index};
     ghost use Rattle.std.specs.Int.{to_be_bytes, w16};
+    ghost use Rattle.std.specs.List.{concat};
     ghost use Rattle.etherparse.specs.Reading.{found_and_rest};
     ghost use Rattle.etherparse.specs.WordSums.{little_endian_word_sum, ones_complement_sum};
     ghost use Rattle.uses.specs.Udp.{IsUdpLayout, ReadsUdp, UdpReading};
-    ghost use Rattle.uses.specs.Udp.{udp_pieces_v4, udp_pieces_v6};
+    ghost use Rattle.uses.specs.Udp.{udp_pieces_v4, udp_pieces_v6, udp_words};
 
     /// The header at the front of a slice, and all the bytes after it.
     ///
@@ -152,11 +153,8 @@ impl UdpHeader {
 
     // The four words, each with the high byte first.
     fn words(&self) -> [u8; 8]
-        ensures value { result ≡ to_be_bytes w16 self.now.source_port
-            ++ (to_be_bytes w16 self.now.destination_port ++ (to_be_bytes w16 self.now.length
-            ++ to_be_bytes w16 self.now.checksum)) }
-        ensures fit { (self.now.source_port < 2 ^ 16) × (self.now.destination_port < 2 ^ 16)
-            × (self.now.length < 2 ^ 16) × (self.now.checksum < 2 ^ 16) }
+        ensures value { result ≡ concat (map (λ n. to_be_bytes w16 n) (udp_words self.now)) }
+        ensures fit { (i : ℕ) → slice_index (udp_words self.now) i < 2 ^ 16 }
     {
         let (source_port, destination_port) = (self.source_port, self.destination_port);
         let (length, checksum) = (self.length, self.checksum);
