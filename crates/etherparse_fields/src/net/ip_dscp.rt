@@ -28,7 +28,7 @@ impl Model for IpDscp {
 }
 
 impl IpDscp {
-    /// The code point 0, of a packet that asks for no special treatment.
+    /// The code point 0, which asks for no special treatment: that of [`IpDscp::CS0`].
     pub const ZERO: IpDscp = IpDscp(0);
 
     /// The greatest code point, as a number: 63.

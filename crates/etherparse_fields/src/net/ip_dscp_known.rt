@@ -11,58 +11,58 @@ use etherparse_base::err::ip::IpDscpUnknownValueError;
 use std::cmp::Ordering;
 use std::hash::{Hash, Hasher};
 
-/// A differentiated services code point that is known by name: those that the RFCs define for all
-/// networks. It stands in an IP header as an [`IpDscp`].
+/// A differentiated services code point with a name in IANA's registry, which each variant's
+/// comment gives, with its RFC. It stands in an IP header as an [`IpDscp`].
 ///
 /// Equality, order and hash are those of the code point's number,
 /// whatever the order of the variants.
 #[derive(Clone, Copy, Debug)]
 pub enum IpDscpKnown {
-    /// Class selector 0 (RFC 2474 section 4.2.2).
+    /// `CS0`: class selector 0 (RFC 2474 section 4.2.2).
     ClassSelector0 = 0,
-    /// Class selector 1 (RFC 2474 section 4.2.2).
+    /// `CS1`: class selector 1 (RFC 2474 section 4.2.2).
     ClassSelector1 = 8,
-    /// Class selector 2 (RFC 2474 section 4.2.2).
+    /// `CS2`: class selector 2 (RFC 2474 section 4.2.2).
     ClassSelector2 = 16,
-    /// Class selector 3 (RFC 2474 section 4.2.2).
+    /// `CS3`: class selector 3 (RFC 2474 section 4.2.2).
     ClassSelector3 = 24,
-    /// Class selector 4 (RFC 2474 section 4.2.2).
+    /// `CS4`: class selector 4 (RFC 2474 section 4.2.2).
     ClassSelector4 = 32,
-    /// Class selector 5 (RFC 2474 section 4.2.2).
+    /// `CS5`: class selector 5 (RFC 2474 section 4.2.2).
     ClassSelector5 = 40,
-    /// Class selector 6 (RFC 2474 section 4.2.2).
+    /// `CS6`: class selector 6 (RFC 2474 section 4.2.2).
     ClassSelector6 = 48,
-    /// Class selector 7 (RFC 2474 section 4.2.2).
+    /// `CS7`: class selector 7 (RFC 2474 section 4.2.2).
     ClassSelector7 = 56,
-    /// Assured forwarding class 1, low drop precedence (RFC 2597 section 6).
+    /// `AF11`: assured forwarding class 1, low drop precedence (RFC 2597 section 6).
     AfGroup11 = 10,
-    /// Assured forwarding class 1, medium drop precedence (RFC 2597 section 6).
+    /// `AF12`: assured forwarding class 1, medium drop precedence (RFC 2597 section 6).
     AfGroup12 = 12,
-    /// Assured forwarding class 1, high drop precedence (RFC 2597 section 6).
+    /// `AF13`: assured forwarding class 1, high drop precedence (RFC 2597 section 6).
     AfGroup13 = 14,
-    /// Assured forwarding class 2, low drop precedence (RFC 2597 section 6).
+    /// `AF21`: assured forwarding class 2, low drop precedence (RFC 2597 section 6).
     AfGroup21 = 18,
-    /// Assured forwarding class 2, medium drop precedence (RFC 2597 section 6).
+    /// `AF22`: assured forwarding class 2, medium drop precedence (RFC 2597 section 6).
     AfGroup22 = 20,
-    /// Assured forwarding class 2, high drop precedence (RFC 2597 section 6).
+    /// `AF23`: assured forwarding class 2, high drop precedence (RFC 2597 section 6).
     AfGroup23 = 22,
-    /// Assured forwarding class 3, low drop precedence (RFC 2597 section 6).
+    /// `AF31`: assured forwarding class 3, low drop precedence (RFC 2597 section 6).
     AfGroup31 = 26,
-    /// Assured forwarding class 3, medium drop precedence (RFC 2597 section 6).
+    /// `AF32`: assured forwarding class 3, medium drop precedence (RFC 2597 section 6).
     AfGroup32 = 28,
-    /// Assured forwarding class 3, high drop precedence (RFC 2597 section 6).
+    /// `AF33`: assured forwarding class 3, high drop precedence (RFC 2597 section 6).
     AfGroup33 = 30,
-    /// Assured forwarding class 4, low drop precedence (RFC 2597 section 6).
+    /// `AF41`: assured forwarding class 4, low drop precedence (RFC 2597 section 6).
     AfGroup41 = 34,
-    /// Assured forwarding class 4, medium drop precedence (RFC 2597 section 6).
+    /// `AF42`: assured forwarding class 4, medium drop precedence (RFC 2597 section 6).
     AfGroup42 = 36,
-    /// Assured forwarding class 4, high drop precedence (RFC 2597 section 6).
+    /// `AF43`: assured forwarding class 4, high drop precedence (RFC 2597 section 6).
     AfGroup43 = 38,
-    /// Expedited forwarding, for traffic that must not wait in queues (RFC 3246).
+    /// `EF`: expedited forwarding, for traffic that must not wait in queues (RFC 3246).
     ExpeditedForwarding = 46,
-    /// Expedited forwarding of calls that were admitted to reserved capacity (RFC 5865).
+    /// `VOICE-ADMIT`: expedited forwarding of calls admitted to reserved capacity (RFC 5865).
     VoiceAdmit = 44,
-    /// Traffic that takes only the capacity which nothing else uses (RFC 8622).
+    /// `LE`: lower effort, for traffic that takes only capacity nothing else uses (RFC 8622).
     LowerEffort = 1,
 }
 

@@ -15,14 +15,14 @@ use std::fmt;
 /// Equality, order and hash are those of the number.
 #[derive(Clone, Copy, Debug, PartialEq, Eq, PartialOrd, Ord, Hash)]
 pub enum IpEcn {
-    /// The packet does not use the notification.
+    /// `Not-ECT`: the sender's transport does not use the notification (RFC 3168).
     NotEct = 0,
-    /// The transport of the sender is capable of it. By RFC 3168 routers treat this code point as
-    /// [`IpEcn::Ect0`].
+    /// `ECT(1)`: the sender's transport is capable of the notification. RFC 3168 treats it as
+    /// [`IpEcn::Ect0`]; RFC 8311 opened it to experiments, and RFC 9331 marks L4S traffic with it.
     Ect1 = 1,
-    /// The transport of the sender is capable of it.
+    /// `ECT(0)`: the sender's transport is capable of the notification (RFC 3168).
     Ect0 = 2,
-    /// A router on the way met congestion.
+    /// `CE`: a router on the way met congestion (RFC 3168).
     CongestionExperienced = 3,
 }
 

@@ -7,9 +7,12 @@ use std::marker::Model;
 /// the "protocol" field of IPv4 (RFC 791 section 3.1),
 /// the "next header" field of IPv6 (RFC 8200 section 3).
 ///
-/// The constants have the names of the Rust crate, for the numbers that IANA's registry of protocol
-/// numbers had assigned. No constant is there for 99, 143 to 252 and 255. The module
-/// [`crate::ip_number`] has them too.
+/// The constants have the names of the Rust crate. There is none for 99, 143 to 252 and 255; any
+/// number can be made by `IpNumber(99)`. The module [`crate::ip_number`] has the constants too.
+///
+/// Each constant's comment has the keyword and the name that IANA's registry of protocol numbers
+/// has for it, and the RFC or other document that defines the protocol, where one does. A name
+/// that is the keyword is not repeated, and of a number without a keyword there is the name alone.
 ///
 /// Equality, order and hash are those of the number.
 #[derive(Clone, Copy, Debug, PartialEq, Eq, PartialOrd, Ord, Hash)]
@@ -25,436 +28,436 @@ impl Model for IpNumber {
 }
 
 impl IpNumber {
-    /// The hop-by-hop options header of IPv6.
+    /// `HOPOPT`: IPv6 Hop-by-Hop Option (RFC 8200).
     pub const IPV6_HEADER_HOP_BY_HOP: IpNumber = IpNumber(0);
 
-    /// Control messages of IPv4.
+    /// `ICMP`: Internet Control Message (RFC 792).
     pub const ICMP: IpNumber = IpNumber(1);
 
-    /// Membership in multicast groups.
+    /// `IGMP`: Internet Group Management (RFC 1112).
     pub const IGMP: IpNumber = IpNumber(2);
 
-    /// Routes between the first gateways.
+    /// `GGP`: Gateway-to-Gateway (RFC 823).
     pub const GGP: IpNumber = IpNumber(3);
 
-    /// An IPv4 packet within the packet.
+    /// `IPv4`: IPv4 encapsulation (RFC 2003).
     pub const IPV4: IpNumber = IpNumber(4);
 
-    /// The Internet Stream Protocol.
+    /// `ST`: Stream (RFC 1190, RFC 1819).
     pub const STREAM: IpNumber = IpNumber(5);
 
-    /// Transmission control.
+    /// `TCP`: Transmission Control (RFC 9293, which replaced RFC 793).
     pub const TCP: IpNumber = IpNumber(6);
 
-    /// Core based trees.
+    /// `CBT` (RFC 2189).
     pub const CBT: IpNumber = IpNumber(7);
 
-    /// The exterior gateway protocol.
+    /// `EGP`: Exterior Gateway Protocol (RFC 888).
     pub const EGP: IpNumber = IpNumber(8);
 
-    /// Any private protocol of interior gateways.
+    /// `IGP`: any private interior gateway (used by Cisco for their IGRP).
     pub const IGP: IpNumber = IpNumber(9);
 
-    /// Monitoring at BBN RCC.
+    /// `BBN-RCC-MON`: BBN RCC Monitoring.
     pub const BBN_RCC_MON: IpNumber = IpNumber(10);
 
-    /// Network voice, second version.
+    /// `NVP-II`: Network Voice Protocol (RFC 741).
     pub const NVP_II: IpNumber = IpNumber(11);
 
-    /// The universal packet of PARC.
+    /// `PUP` (Xerox PARC, CSL-79-10).
     pub const PUP: IpNumber = IpNumber(12);
 
-    /// ARGUS, no longer in use.
+    /// `ARGUS`, deprecated.
     pub const ARGUS: IpNumber = IpNumber(13);
 
-    /// EMCON.
+    /// `EMCON`.
     pub const EMCON: IpNumber = IpNumber(14);
 
-    /// The debugger across networks.
+    /// `XNET`: Cross Net Debugger (IEN 158).
     pub const XNET: IpNumber = IpNumber(15);
 
-    /// Chaosnet.
+    /// `CHAOS`: Chaos.
     pub const CHAOS: IpNumber = IpNumber(16);
 
-    /// User datagrams.
+    /// `UDP`: User Datagram (RFC 768).
     pub const UDP: IpNumber = IpNumber(17);
 
-    /// Multiplexing.
+    /// `MUX`: Multiplexing (IEN 90).
     pub const MUX: IpNumber = IpNumber(18);
 
-    /// Measurement in the DCN.
+    /// `DCN-MEAS`: DCN Measurement Subsystems.
     pub const DCN_MEAS: IpNumber = IpNumber(19);
 
-    /// Monitoring of hosts.
+    /// `HMP`: Host Monitoring (RFC 869).
     pub const HMP: IpNumber = IpNumber(20);
 
-    /// Measurement of packet radio.
+    /// `PRM`: Packet Radio Measurement.
     pub const PRM: IpNumber = IpNumber(21);
 
-    /// Datagrams of Xerox network systems.
+    /// `XNS-IDP`: XEROX NS IDP.
     pub const XNS_IDP: IpNumber = IpNumber(22);
 
-    /// The first trunk.
+    /// `TRUNK-1`: Trunk-1.
     pub const TRUNK1: IpNumber = IpNumber(23);
 
-    /// The second trunk.
+    /// `TRUNK-2`: Trunk-2.
     pub const TRUNK2: IpNumber = IpNumber(24);
 
-    /// The first leaf.
+    /// `LEAF-1`: Leaf-1.
     pub const LEAF1: IpNumber = IpNumber(25);
 
-    /// The second leaf.
+    /// `LEAF-2`: Leaf-2.
     pub const LEAF2: IpNumber = IpNumber(26);
 
-    /// Reliable data.
+    /// `RDP`: Reliable Data Protocol (RFC 908).
     pub const RDP: IpNumber = IpNumber(27);
 
-    /// Reliable transactions.
+    /// `IRTP`: Internet Reliable Transaction (RFC 938).
     pub const IRTP: IpNumber = IpNumber(28);
 
-    /// The ISO transport of class 4.
+    /// `ISO-TP4`: ISO Transport Protocol Class 4 (RFC 905).
     pub const ISO_TP4: IpNumber = IpNumber(29);
 
-    /// Transfer of data in bulk.
+    /// `NETBLT`: Bulk Data Transfer Protocol (RFC 969).
     pub const NET_BLT: IpNumber = IpNumber(30);
 
-    /// Network services of MFE.
+    /// `MFE-NSP`: MFE Network Services Protocol (UCRL-52317).
     pub const MFE_NSP: IpNumber = IpNumber(31);
 
-    /// The internodal protocol of MERIT.
+    /// `MERIT-INP`: MERIT Internodal Protocol.
     pub const MERIT_INP: IpNumber = IpNumber(32);
 
-    /// Datagrams under congestion control.
+    /// `DCCP`: Datagram Congestion Control Protocol (RFC 4340).
     pub const DCCP: IpNumber = IpNumber(33);
 
-    /// Connections that a third party makes.
+    /// `3PC`: Third Party Connect Protocol.
     pub const THIRD_PARTY_CONNECT_PROTOCOL: IpNumber = IpNumber(34);
 
-    /// Policy routing between domains.
+    /// `IDPR`: Inter-Domain Policy Routing Protocol (RFC 1479).
     pub const IDPR: IpNumber = IpNumber(35);
 
-    /// The transport protocol XTP.
+    /// `XTP`.
     pub const XTP: IpNumber = IpNumber(36);
 
-    /// Delivery of datagrams.
+    /// `DDP`: Datagram Delivery Protocol.
     pub const DDP: IpNumber = IpNumber(37);
 
-    /// Control messages of policy routing between domains.
+    /// `IDPR-CMTP`: IDPR Control Message Transport Proto (RFC 1479).
     pub const IDPR_CMTP: IpNumber = IpNumber(38);
 
-    /// The transport protocol TP++.
+    /// `TP++`: TP++ Transport Protocol.
     pub const TP_PLUS_PLUS: IpNumber = IpNumber(39);
 
-    /// The transport protocol IL.
+    /// `IL`: IL Transport Protocol.
     pub const IL: IpNumber = IpNumber(40);
 
-    /// An IPv6 packet within the packet.
+    /// `IPv6`: IPv6 encapsulation (RFC 2473).
     pub const IPV6: IpNumber = IpNumber(41);
 
-    /// Routes that the source demands.
+    /// `SDRP`: Source Demand Routing Protocol (RFC 1940).
     pub const SDRP: IpNumber = IpNumber(42);
 
-    /// The routing header of IPv6.
+    /// `IPv6-Route`: Routing Header for IPv6 (RFC 8200).
     pub const IPV6_ROUTE_HEADER: IpNumber = IpNumber(43);
 
-    /// The fragment header of IPv6.
+    /// `IPv6-Frag`: Fragment Header for IPv6 (RFC 8200).
     pub const IPV6_FRAGMENTATION_HEADER: IpNumber = IpNumber(44);
 
-    /// Routing between domains.
+    /// `IDRP`: Inter-Domain Routing Protocol.
     pub const IDRP: IpNumber = IpNumber(45);
 
-    /// Reservation of resources.
+    /// `RSVP`: Reservation Protocol (RFC 2205, RFC 3209).
     pub const RSVP: IpNumber = IpNumber(46);
 
-    /// Encapsulation for any routed protocol.
+    /// `GRE`: Generic Routing Encapsulation (RFC 2784).
     pub const GRE: IpNumber = IpNumber(47);
 
-    /// Dynamic routes of the source.
+    /// `DSR`: Dynamic Source Routing Protocol (RFC 4728).
     pub const DSR: IpNumber = IpNumber(48);
 
-    /// BNA.
+    /// `BNA`.
     pub const BNA: IpNumber = IpNumber(49);
 
-    /// An encrypted payload (ESP).
+    /// `ESP`: Encap Security Payload (RFC 4303).
     pub const ENCAPSULATING_SECURITY_PAYLOAD: IpNumber = IpNumber(50);
 
-    /// The authentication header (AH).
+    /// `AH`: Authentication Header (RFC 4302).
     pub const AUTHENTICATION_HEADER: IpNumber = IpNumber(51);
 
-    /// Security of the integrated network layer.
+    /// `I-NLSP`: Integrated Net Layer Security TUBA.
     pub const INLSP: IpNumber = IpNumber(52);
 
-    /// Encryption of IP, no longer in use.
+    /// `SWIPE`: IP with Encryption, deprecated.
     pub const SWIPE: IpNumber = IpNumber(53);
 
-    /// Address resolution of NBMA networks.
+    /// `NARP`: NBMA Address Resolution Protocol (RFC 1735).
     pub const NARP: IpNumber = IpNumber(54);
 
-    /// Minimal encapsulation for mobile hosts.
+    /// `MOBILE`: IP Mobility (RFC 2004).
     pub const MOBILE: IpNumber = IpNumber(55);
 
-    /// Security of the transport layer.
+    /// `TLSP`: Transport Layer Security Protocol using Kryptonet key management.
     pub const TLSP: IpNumber = IpNumber(56);
 
-    /// The key management SKIP.
+    /// `SKIP`.
     pub const SKIP: IpNumber = IpNumber(57);
 
-    /// Control messages of IPv6.
+    /// `IPv6-ICMP`: ICMP for IPv6 (RFC 8200, RFC 4443).
     pub const IPV6_ICMP: IpNumber = IpNumber(58);
 
-    /// Nothing: no header and no payload follow in IPv6.
+    /// `IPv6-NoNxt`: No Next Header for IPv6 (RFC 8200).
     pub const IPV6_NO_NEXT_HEADER: IpNumber = IpNumber(59);
 
-    /// The destination options header of IPv6.
+    /// `IPv6-Opts`: Destination Options for IPv6 (RFC 8200).
     pub const IPV6_DESTINATION_OPTIONS: IpNumber = IpNumber(60);
 
-    /// Any protocol within a host.
+    /// Any host internal protocol.
     pub const ANY_HOST_INTERNAL_PROTOCOL: IpNumber = IpNumber(61);
 
-    /// The file transfer CFTP.
+    /// `CFTP` (Bolt Beranek and Newman, 1982).
     pub const CFTP: IpNumber = IpNumber(62);
 
     /// Any local network.
     pub const ANY_LOCAL_NETWORK: IpNumber = IpNumber(63);
 
-    /// EXPAK of SATNET.
+    /// `SAT-EXPAK`: SATNET and Backroom EXPAK.
     pub const SAT_EXPAK: IpNumber = IpNumber(64);
 
-    /// Kryptolan; the name has lost a letter, as in the Rust crate.
+    /// `KRYPTOLAN`: Kryptolan. The constant lacks a letter, as in the Rust crate.
     pub const KRYTOLAN: IpNumber = IpNumber(65);
 
-    /// Remote virtual disks.
+    /// `RVD`: MIT Remote Virtual Disk Protocol.
     pub const RVD: IpNumber = IpNumber(66);
 
-    /// The packet core Pluribus.
+    /// `IPPC`: Internet Pluribus Packet Core.
     pub const IPPC: IpNumber = IpNumber(67);
 
     /// Any distributed file system.
     pub const ANY_DISTRIBUTED_FILE_SYSTEM: IpNumber = IpNumber(68);
 
-    /// Monitoring of SATNET.
+    /// `SAT-MON`: SATNET Monitoring.
     pub const SAT_MON: IpNumber = IpNumber(69);
 
-    /// VISA.
+    /// `VISA`: VISA Protocol.
     pub const VISA: IpNumber = IpNumber(70);
 
-    /// The utility of the packet core.
+    /// `IPCV`: Internet Packet Core Utility.
     pub const IPCV: IpNumber = IpNumber(71);
 
-    /// The network executive of computer protocols.
+    /// `CPNX`: Computer Protocol Network Executive.
     pub const CPNX: IpNumber = IpNumber(72);
 
-    /// The heart beat of computer protocols.
+    /// `CPHB`: Computer Protocol Heart Beat.
     pub const CPHB: IpNumber = IpNumber(73);
 
-    /// The span network of Wang.
+    /// `WSN`: Wang Span Network.
     pub const WSN: IpNumber = IpNumber(74);
 
-    /// Packet video.
+    /// `PVP`: Packet Video Protocol.
     pub const PVP: IpNumber = IpNumber(75);
 
-    /// Monitoring of the back room of SATNET.
+    /// `BR-SAT-MON`: Backroom SATNET Monitoring.
     pub const BR_SAT_MON: IpNumber = IpNumber(76);
 
-    /// The network disk of Sun.
+    /// `SUN-ND`: SUN ND PROTOCOL-Temporary.
     pub const SUN_ND: IpNumber = IpNumber(77);
 
-    /// Monitoring of WIDEBAND.
+    /// `WB-MON`: WIDEBAND Monitoring.
     pub const WB_MON: IpNumber = IpNumber(78);
 
-    /// EXPAK of WIDEBAND.
+    /// `WB-EXPAK`: WIDEBAND EXPAK.
     pub const WB_EXPAK: IpNumber = IpNumber(79);
 
-    /// The internet protocol of ISO.
+    /// `ISO-IP`: ISO Internet Protocol.
     pub const ISO_IP: IpNumber = IpNumber(80);
 
-    /// Versatile message transactions.
+    /// `VMTP` (RFC 1045).
     pub const VMTP: IpNumber = IpNumber(81);
 
-    /// Versatile message transactions, secured.
+    /// `SECURE-VMTP` (RFC 1045).
     pub const SECURE_VMTP: IpNumber = IpNumber(82);
 
-    /// VINES.
+    /// `VINES`.
     pub const VINES: IpNumber = IpNumber(83);
 
-    /// Transaction transport, or traffic management of IP.
+    /// `TTP`: Transaction Transport Protocol; `IPTM`: Internet Protocol Traffic Manager.
     pub const TTP_OR_IPTM: IpNumber = IpNumber(84);
 
-    /// The interior gateway protocol of NSFNET.
+    /// `NSFNET-IGP`.
     pub const NSFNET_IGP: IpNumber = IpNumber(85);
 
-    /// The dissimilar gateway protocol.
+    /// `DGP`: Dissimilar Gateway Protocol (M/A-COM, CS901145).
     pub const DGP: IpNumber = IpNumber(86);
 
-    /// TCF.
+    /// `TCF`.
     pub const TCF: IpNumber = IpNumber(87);
 
-    /// Enhanced routing of interior gateways.
+    /// `EIGRP` (RFC 7868).
     pub const EIGRP: IpNumber = IpNumber(88);
 
-    /// Open shortest path first.
+    /// `OSPFIGP` (RFC 1583, RFC 2328, RFC 5340).
     pub const OSPFIGP: IpNumber = IpNumber(89);
 
-    /// Remote procedure calls of Sprite.
+    /// `Sprite-RPC`: Sprite RPC Protocol (University of California at Berkeley, 86/302).
     pub const SPRITE_RPC: IpNumber = IpNumber(90);
 
-    /// Address resolution of Locus.
+    /// `LARP`: Locus Address Resolution Protocol.
     pub const LARP: IpNumber = IpNumber(91);
 
-    /// Multicast transport.
+    /// `MTP`: Multicast Transport Protocol (RFC 1301).
     pub const MTP: IpNumber = IpNumber(92);
 
-    /// AX.25 frames.
+    /// `AX.25`: AX.25 Frames.
     pub const AX25: IpNumber = IpNumber(93);
 
-    /// IP within IP.
+    /// `IPIP`: IP-within-IP Encapsulation Protocol.
     pub const IPIP: IpNumber = IpNumber(94);
 
-    /// Control of mobile internetworking, no longer in use.
+    /// `MICP`: Mobile Internetworking Control Pro., deprecated.
     pub const MICP: IpNumber = IpNumber(95);
 
-    /// Security of semaphore communications.
+    /// `SCC-SP`: Semaphore Communications Sec. Pro.
     pub const SCC_SP: IpNumber = IpNumber(96);
 
-    /// Ethernet frames within IP.
+    /// `ETHERIP`: Ethernet-within-IP Encapsulation (RFC 3378).
     pub const ETHER_IP: IpNumber = IpNumber(97);
 
-    /// An encapsulation header.
+    /// `ENCAP`: Encapsulation Header (RFC 1241).
     pub const ENCAP: IpNumber = IpNumber(98);
 
-    /// GMTP.
+    /// `GMTP`.
     pub const GMTP: IpNumber = IpNumber(100);
 
-    /// Flow management of Ipsilon.
+    /// `IFMP`: Ipsilon Flow Management Protocol (RFC 1953).
     pub const IFMP: IpNumber = IpNumber(101);
 
-    /// PNNI over IP.
+    /// `PNNI`: PNNI over IP.
     pub const PNNI: IpNumber = IpNumber(102);
 
-    /// Multicast on any routing protocol.
+    /// `PIM`: Protocol Independent Multicast (RFC 7761).
     pub const PIM: IpNumber = IpNumber(103);
 
-    /// ARIS.
+    /// `ARIS`.
     pub const ARIS: IpNumber = IpNumber(104);
 
-    /// Protocols of communication in space.
+    /// `SCPS`.
     pub const SCPS: IpNumber = IpNumber(105);
 
-    /// QNX.
+    /// `QNX`.
     pub const QNX: IpNumber = IpNumber(106);
 
-    /// Active networks.
+    /// `A/N`: Active Networks.
     pub const ACTIVE_NETWORKS: IpNumber = IpNumber(107);
 
-    /// A compressed payload.
+    /// `IPComp`: IP Payload Compression Protocol (RFC 2393, replaced by RFC 3173).
     pub const IP_COMP: IpNumber = IpNumber(108);
 
-    /// The protocol of Sitara Networks; the name has lost a letter, as in the Rust crate.
+    /// `SNP`: Sitara Networks Protocol. The constant lacks a letter, as in the Rust crate.
     pub const SITRA_NETWORKS_PROTOCOL: IpNumber = IpNumber(109);
 
-    /// Peers of Compaq.
+    /// `Compaq-Peer`: Compaq Peer Protocol.
     pub const COMPAQ_PEER: IpNumber = IpNumber(110);
 
-    /// IPX within IP.
+    /// `IPX-in-IP`: IPX in IP.
     pub const IPX_IN_IP: IpNumber = IpNumber(111);
 
-    /// Redundancy of virtual routers.
+    /// `VRRP`: Virtual Router Redundancy Protocol (RFC 5798, replaced by RFC 9568).
     pub const VRRP: IpNumber = IpNumber(112);
 
-    /// Reliable transport over multicast.
+    /// `PGM`: PGM Reliable Transport Protocol (RFC 3208).
     pub const PGM: IpNumber = IpNumber(113);
 
-    /// Any protocol of no hop.
+    /// Any 0-hop protocol.
     pub const ANY_ZERO_HOP_PROTOCOL: IpNumber = IpNumber(114);
 
-    /// Tunnels of layer 2.
+    /// `L2TP`: Layer Two Tunneling Protocol (RFC 3931).
     pub const LAYER2_TUNNELING_PROTOCOL: IpNumber = IpNumber(115);
 
-    /// Data exchange D-II.
+    /// `DDX`: D-II Data Exchange (DDX).
     pub const DDX: IpNumber = IpNumber(116);
 
-    /// Transfer of interactive agents.
+    /// `IATP`: Interactive Agent Transfer Protocol.
     pub const IATP: IpNumber = IpNumber(117);
 
-    /// Scheduled transfer.
+    /// `STP`: Schedule Transfer Protocol.
     pub const STP: IpNumber = IpNumber(118);
 
-    /// Radio of SpectraLink.
+    /// `SRP`: SpectraLink Radio Protocol.
     pub const SRP: IpNumber = IpNumber(119);
 
-    /// UTI.
+    /// `UTI`.
     pub const UTI: IpNumber = IpNumber(120);
 
-    /// Simple messages.
+    /// `SMP`: Simple Message Protocol.
     pub const SIMPLE_MESSAGE_PROTOCOL: IpNumber = IpNumber(121);
 
-    /// Simple multicast, no longer in use.
+    /// `SM`: Simple Multicast Protocol, deprecated.
     pub const SM: IpNumber = IpNumber(122);
 
-    /// Transparency of performance.
+    /// `PTP`: Performance Transparency Protocol.
     pub const PTP: IpNumber = IpNumber(123);
 
-    /// IS-IS over IPv4.
+    /// `ISIS over IPv4`.
     pub const ISIS_OVER_IPV4: IpNumber = IpNumber(124);
 
-    /// FIRE.
+    /// `FIRE`.
     pub const FIRE: IpNumber = IpNumber(125);
 
-    /// Transport over combat radio.
+    /// `CRTP`: Combat Radio Transport Protocol.
     pub const CRTP: IpNumber = IpNumber(126);
 
-    /// User datagrams over combat radio.
+    /// `CRUDP`: Combat Radio User Datagram.
     pub const CRUDP: IpNumber = IpNumber(127);
 
-    /// SSCOPMCE.
+    /// `SSCOPMCE`.
     pub const SSCOPMCE: IpNumber = IpNumber(128);
 
-    /// IPLT.
+    /// `IPLT`.
     pub const IPLT: IpNumber = IpNumber(129);
 
-    /// The secure packet shield.
+    /// `SPS`: Secure Packet Shield.
     pub const SPS: IpNumber = IpNumber(130);
 
-    /// Private encapsulation within IP.
+    /// `PIPE`: Private IP Encapsulation within IP.
     pub const PIPE: IpNumber = IpNumber(131);
 
-    /// Transmission control of streams.
+    /// `SCTP`: Stream Control Transmission Protocol (RFC 9260).
     pub const SCTP: IpNumber = IpNumber(132);
 
-    /// Fibre Channel.
+    /// `FC`: Fibre Channel (RFC 6172).
     pub const FC: IpNumber = IpNumber(133);
 
-    /// Reservations that routers on the way ignore.
+    /// `RSVP-E2E-IGNORE` (RFC 3175).
     pub const RSVP_E2E_IGNORE: IpNumber = IpNumber(134);
 
-    /// The mobility header of IPv6.
+    /// `Mobility Header` (RFC 6275).
     pub const MOBILITY_HEADER: IpNumber = IpNumber(135);
 
-    /// User datagrams whose checksum may cover a part.
+    /// `UDPLite` (RFC 3828).
     pub const UDP_LITE: IpNumber = IpNumber(136);
 
-    /// MPLS within IP.
+    /// `MPLS-in-IP` (RFC 4023).
     pub const MPLS_IN_IP: IpNumber = IpNumber(137);
 
-    /// Mobile networks with no fixed routers.
+    /// `manet`: MANET Protocols (RFC 5498).
     pub const MANET: IpNumber = IpNumber(138);
 
-    /// The header of the host identity protocol.
+    /// `HIP`: Host Identity Protocol (RFC 7401).
     pub const HIP: IpNumber = IpNumber(139);
 
-    /// The header of Shim6, for hosts with several networks.
+    /// `Shim6`: Shim6 Protocol (RFC 5533).
     pub const SHIM6: IpNumber = IpNumber(140);
 
-    /// An encrypted payload in a wrapper.
+    /// `WESP`: Wrapped Encapsulating Security Payload (RFC 5840).
     pub const WESP: IpNumber = IpNumber(141);
 
-    /// Compressed headers.
+    /// `ROHC`: Robust Header Compression (RFC 5858).
     pub const ROHC: IpNumber = IpNumber(142);
 
-    /// The first number for experiments and tests.
+    /// Use for experimentation and testing (RFC 3692).
     pub const EXPERIMENTAL_AND_TESTING_0: IpNumber = IpNumber(253);
 
-    /// The second number for experiments and tests.
+    /// Use for experimentation and testing (RFC 3692).
     pub const EXPERIMENTAL_AND_TESTING_1: IpNumber = IpNumber(254);
 
     /// Whether the number is that of an IPv6 extension header (IANA's registry of IPv6 extension
