@@ -1,5 +1,5 @@
-"""sample.py ROWS: writes the cases of stdin. ROWS is what rows.py wrote (SAMPLE.md)."""
-import sys
+"""sample.py: writes the cases of stdin (SAMPLE.md). It reads worked_examples.txt beside it."""
+import os
 
 U8, U16, U32, U64 = 2**8 - 1, 2**16 - 1, 2**32 - 1, 2**64 - 1
 H4 = [1, 2, 100, 3, 1, 0, 4, 5, 6, 7, '01020304', '05060708', '0a0b0c0d']
@@ -357,7 +357,6 @@ for name in 'fields', 'v4', 'v6':
 for part in (fields, known_code_points, options, reads, setters, equal_headers, walks,
              limited_walks, names, errors, texts, offsets, sums, updates):
     part()
-operations = {line.split(' ')[0] for line in lines}
 for no_case in ('', ' ', 'nothing', 'dscp.new', 'dscp.new 1 2', 'dscp.new x', 'dscp.old 1', 'opt',
                 'opt 4', 'opt 0g', 'opt.arr 01', 'layer Nothing', 'layer',
                 'value_type IpDscp IpDscp', 'text.len 1 2 Slice', 'text.too_big u64 1 2 IpDscp',
@@ -369,12 +368,21 @@ for no_case in ('', ' ', 'nothing', 'dscp.new', 'dscp.new 1 2', 'dscp.new x', 'd
                 'ipnum.x 0', 'c32.add8 0 00', 'c16.fold 0', 'sum x', 'sum 3:000000', 'sum.eq',
                 'sum.eq / /'):
     lines[no_case] = None
-# operations of worked examples that the program `iphead` tests by itself
-LEFT_OUT = 'decode iphead'.split()
-for line in open(sys.argv[1]).read().splitlines():
-    operation = line.split(' ')[0]
-    if operation in operations:
-        lines[line] = None
-    elif operation not in LEFT_OUT:
-        sys.exit(f'a worked example of {operation}, which is neither answered nor left out: {line}')
+
+
+def each_first_byte():
+    """reads at each length up to 60, behind each first byte"""
+    for first in range(U8 + 1):
+        for n in range(61):
+            held = ('%02x' % first + 'a5' * 60)[:2 * n] or '-'
+            for read in 'v4.head', 'v4.view', 'v6.head', 'v6.view':
+                say(read, held)
+
+
+with open(os.path.join(os.path.dirname(__file__), 'worked_examples.txt')) as examples:
+    for example in examples.read().splitlines():
+        if example == 'each first byte':
+            each_first_byte()
+        else:
+            say(example)
 print('\n'.join(lines))

@@ -15,6 +15,9 @@
 //!     Ok(Some(u16::from_be_bytes([rest[2], rest[3]])))
 //! }
 //! ```
+//!
+//! The other examples stand in tests of `etherparse_tests`, which are proved and run: `rt` is
+//! what such a test is called with, `?` hands an error to it, and all names come from `etherparse`.
 #![tactic(auto)]
 
 mod laws;

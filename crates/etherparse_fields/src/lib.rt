@@ -1,5 +1,9 @@
 //! Fields of IP headers with fewer values than their machine number, the numbers of protocols, and
 //! IPv4 options.
+//!
+//! The examples in this crate stand in tests of `etherparse_tests`, which are proved and run: `rt`
+//! is what such a test is called with, `?` hands an error to it, and all names come from
+//! `etherparse`.
 #![tactic(auto)]
 
 mod laws;

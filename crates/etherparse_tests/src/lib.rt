@@ -9,6 +9,14 @@ mod checksum;
 #[cfg(test)]
 mod errors;
 #[cfg(test)]
+mod examples_fields;
+#[cfg(test)]
+mod examples_headers;
+#[cfg(test)]
+mod examples_sums;
+#[cfg(test)]
+mod examples_walks;
+#[cfg(test)]
 mod extensions;
 #[cfg(test)]
 mod fields;

@@ -11,7 +11,39 @@ use fixed_and_options::{add_options, are_bytes, front_and_options, sum_of_fixed}
 
 /// An IPv4 header with its options (RFC 791 section 3.1).
 ///
-/// The reserved bit of the flags is no field: it is read as 0 or 1, and written as 0.
+/// ```text
+///  0                   1                   2                   3
+///  0 1 2 3 4 5 6 7 8 9 0 1 2 3 4 5 6 7 8 9 0 1 2 3 4 5 6 7 8 9 0 1
+/// +-+-+-+-+-+-+-+-+-+-+-+-+-+-+-+-+-+-+-+-+-+-+-+-+-+-+-+-+-+-+-+-+
+/// |   4   |  ihl  |    dscp   |ecn|           total_len           |
+/// +-+-+-+-+-+-+-+-+-+-+-+-+-+-+-+-+-+-+-+-+-+-+-+-+-+-+-+-+-+-+-+-+
+/// |         identification        |0|D|M|     fragment_offset     |
+/// +-+-+-+-+-+-+-+-+-+-+-+-+-+-+-+-+-+-+-+-+-+-+-+-+-+-+-+-+-+-+-+-+
+/// |  time_to_live |    protocol   |        header_checksum        |
+/// +-+-+-+-+-+-+-+-+-+-+-+-+-+-+-+-+-+-+-+-+-+-+-+-+-+-+-+-+-+-+-+-+
+/// |                             source                            |
+/// +-+-+-+-+-+-+-+-+-+-+-+-+-+-+-+-+-+-+-+-+-+-+-+-+-+-+-+-+-+-+-+-+
+/// |                          destination                          |
+/// +-+-+-+-+-+-+-+-+-+-+-+-+-+-+-+-+-+-+-+-+-+-+-+-+-+-+-+-+-+-+-+-+
+/// |            options, 0 to 40 bytes in words of 4 ..            |
+/// +-+-+-+-+-+-+-+-+-+-+-+-+-+-+-+-+-+-+-+-+-+-+-+-+-+-+-+-+-+-+-+-+
+/// ```
+///
+/// `D` is `dont_fragment` and `M` is `more_fragments`. The version, 4, and the IHL are no fields:
+/// they are written from the options' length. The reserved bit before `D` is no field either: it is
+/// read as 0 or 1, and written as 0.
+///
+/// # Example
+///
+/// ```
+/// let (source, destination) = ([192, 168, 0, 1], [192, 168, 0, 199]);
+/// let mut header = Ipv4Header::new(95, 64, IpNumber::UDP, source, destination)?;
+/// header.header_checksum = header.calc_header_checksum();
+/// let bytes = header.to_bytes();
+/// let (read, rest) = Ipv4Header::from_slice(bytes.as_slice())?;
+/// assert_eq!(rt; read, header);
+/// assert!(rt; rest.is_empty());
+/// ```
 #[derive(Clone, Debug, PartialEq, Eq, Hash, Drop)]
 pub struct Ipv4Header {
     /// The differentiated services code point (RFC 2474).
@@ -32,13 +64,16 @@ pub struct Ipv4Header {
     pub time_to_live: u8,
     /// The protocol of what follows the header.
     pub protocol: IpNumber,
-    /// The checksum over the header, right or wrong: bytes 10 and 11, the high byte first.
+    /// The checksum over the header, right or wrong: bytes 10 and 11, the high byte first. What
+    /// [`ones_complement`](crate::checksum::u64_16bit_word::ones_complement) returns has the low
+    /// byte first; its `swap_bytes` is the number for this field.
     pub header_checksum: u16,
     /// The address of the sender.
     pub source: [u8; 4],
     /// The address of the receiver.
     pub destination: [u8; 4],
-    /// What follows the fixed fields, 0 to 40 bytes in words of 4.
+    /// What follows the fixed fields, 0 to 40 bytes in words of 4. A change of their length leaves
+    /// `total_len` as it was: call [`Ipv4Header::set_payload_len`] afterwards.
     pub options: Ipv4Options,
 }
 
@@ -86,6 +121,16 @@ impl Ipv4Header {
     ///
     /// A `ValueTooBigError` where the payload is longer than 65515 bytes: with the header that is
     /// more than `total_len` has room for.
+    ///
+    /// # Example
+    ///
+    /// ```
+    /// let header = Ipv4Header::new(100, 64, IpNumber::TCP, [10, 0, 0, 1], [10, 0, 0, 2])?;
+    /// assert_eq!(rt; header.total_len, 120);
+    /// assert!(rt; header.dont_fragment);
+    /// // No checksum is computed yet.
+    /// assert_eq!(rt; header.header_checksum, 0);
+    /// ```
     pub fn new(
         payload_len: u16,
         time_to_live: u8,
@@ -125,6 +170,7 @@ impl Ipv4Header {
     }
 
     /// The length of the header in words of 4 bytes, 5 to 15, as the IHL field has it.
+    /// [`Ipv4Header::header_len`] has an example.
     #[inline]
     pub fn ihl(&self) -> u8
         ensures value { result ≡ ipv4_ihl self.now }
@@ -134,6 +180,15 @@ impl Ipv4Header {
     }
 
     /// The length of the header with its options in bytes, 20 to 60 in steps of 4.
+    ///
+    /// # Example
+    ///
+    /// ```
+    /// let mut header = Ipv4Header::default();
+    /// assert_eq!(rt; (header.ihl(), header.header_len()), (5, 20));
+    /// header.options = Ipv4Options::from([148, 4, 0, 0]);
+    /// assert_eq!(rt; (header.ihl(), header.header_len()), (6, 24));
+    /// ```
     #[inline]
     pub fn header_len(&self) -> usize
         ensures value { result ≡ ipv4_header_len self.now }
@@ -149,6 +204,24 @@ impl Ipv4Header {
     ///
     /// A `LenError` where the total length is below the length of the header: `len` is then the
     /// total length, `required_len` the header length.
+    ///
+    /// # Example
+    ///
+    /// ```
+    /// let mut header = Ipv4Header::default();
+    /// header.total_len = 120;
+    /// assert_eq!(rt; header.payload_len(), Ok(100));
+    /// // A total length that leaves no room for the header.
+    /// header.total_len = 19;
+    /// let refusal = LenError {
+    ///     required_len: 20,
+    ///     len: 19,
+    ///     len_source: LenSource::Ipv4HeaderTotalLen,
+    ///     layer: Layer::Ipv4Packet,
+    ///     layer_start_offset: 0,
+    /// };
+    /// assert_eq!(rt; header.payload_len(), Err(refusal));
+    /// ```
     #[inline]
     pub fn payload_len(&self) -> Result<u16, LenError>
         ensures value { result ≡ ipv4_payload_len self.now }
@@ -171,12 +244,26 @@ impl Ipv4Header {
     }
 
     /// Sets the total length to that of the header and a payload of this length, in bytes. Options
-    /// that are changed afterwards do not change it.
+    /// that are changed afterwards do not change it: call it again then.
     ///
     /// # Errors
     ///
     /// A `ValueTooBigError` where the payload is above [`Ipv4Header::max_payload_len`]. The header
     /// is then as it was.
+    ///
+    /// # Example
+    ///
+    /// ```
+    /// let mut header = Ipv4Header::default();
+    /// header.set_payload_len(100)?;
+    /// assert_eq!(rt; header.total_len, 120);
+    /// // Options that come later take their bytes from the payload: its length is set again.
+    /// header.set_options(&[148, 4, 0, 0])?;
+    /// assert_eq!(rt; header.payload_len(), Ok(96));
+    /// header.set_payload_len(100)?;
+    /// assert_eq!(rt; header.total_len, 124);
+    /// assert!(rt; header.set_payload_len(65512).is_err());
+    /// ```
     pub fn set_payload_len(&mut self, value: usize) -> Result<(), ValueTooBigError<usize>>
         ensures accepted { IsOk result ↔ (value ≤ ipv4_max_payload_len self.old) }
         ensures fits_any_options { value ≤ 65475 → IsOk result }
@@ -210,7 +297,7 @@ impl Ipv4Header {
     }
 
     /// Puts these bytes in the place of the options: an older way to set the field. The total
-    /// length stays what it was.
+    /// length stays what it was: call [`Ipv4Header::set_payload_len`] afterwards.
     ///
     /// # Errors
     ///
@@ -247,12 +334,27 @@ impl Ipv4Header {
     }
 
     /// The header at the front of a slice, and all the bytes after it. They are not cut at
-    /// `total_len`: [`Ipv4Header::payload_len`] says how many of them are the payload.
+    /// `total_len`, and may be fewer: [`Ipv4Header::payload_len`] says how many are the payload,
+    /// and `rest.get(..len)` takes these. The checksum is not tested.
     ///
     /// # Errors
     ///
     /// In this order: `Len` where the slice has fewer than 20 bytes; `Content` where the version is
     /// not 4, or the IHL is below 5; `Len` where the slice has fewer bytes than the IHL says.
+    ///
+    /// # Example
+    ///
+    /// ```
+    /// // The total length is 24, and two bytes of padding follow the packet.
+    /// let packet = [
+    ///     0x45, 0, 0, 24, 0, 0, 0x40, 0, 64, 17, 0, 0, 10, 0, 0, 1, 10, 0, 0, 2, 1, 2, 3, 4, 0, 0,
+    /// ];
+    /// let (header, rest) = Ipv4Header::from_slice(&packet)?;
+    /// assert_eq!(rt; rest.len(), 6);
+    /// // `None` where the packet is cut short.
+    /// let payload = rest.get(..usize::from(header.payload_len()?));
+    /// assert_eq!(rt; payload, Some([1, 2, 3, 4].as_slice()));
+    /// ```
     #[inline(always)]
     pub fn from_slice(slice: &[u8]) -> Result<(Ipv4Header, &[u8]), HeaderSliceError>
         ensures reads { IsIpv4ReadingOf slice.now (found_and_rest result) }
@@ -298,8 +400,21 @@ impl Ipv4Header {
 
     /// The checksum that the header should have: the complement of the ones-complement sum of its
     /// words in network byte order, with 0 for the checksum, whatever `header_checksum` is (RFC 791
-    /// section 3.1, RFC 1071 section 1). It is never 0xffff. The reserved bit counts as 0: for a
-    /// packet that has it, sum the bytes of the view.
+    /// section 3.1, RFC 1071 section 1). It is never 0xffff. The reserved bit counts as 0, so a
+    /// packet that has it looks bad: sum the bytes of the view to judge what was received.
+    ///
+    /// # Example
+    ///
+    /// ```
+    /// // The reserved bit is set, and the checksum is right.
+    /// let packet = [
+    ///     0x45, 0, 0, 20, 0, 0, 0x80, 0, 64, 17, 0xe6, 0xd6, 10, 0, 0, 1, 10, 0, 0, 2,
+    /// ];
+    /// let view = Ipv4HeaderSlice::from_slice(&packet)?;
+    /// assert_eq!(rt; u64_16bit_word::checksum(0, view.slice()), 0);
+    /// // Without the bit the same header has another checksum.
+    /// assert_eq!(rt; view.to_header().calc_header_checksum(), 0x66d7);
+    /// ```
     pub fn calc_header_checksum(&self) -> u16
         ensures value { (bytes : List ℕ) → IsIpv4LayoutWith self.now 0 bytes →
             result ≡ header_checksum_of bytes }
@@ -319,6 +434,16 @@ impl Ipv4Header {
     /// stays correct; an incorrect one is not repaired.
     ///
     /// The Rust crate has no such call.
+    ///
+    /// # Example
+    ///
+    /// ```
+    /// let (source, destination) = ([192, 168, 0, 1], [192, 168, 0, 199]);
+    /// let mut header = Ipv4Header::new(95, 64, IpNumber::UDP, source, destination)?;
+    /// header.header_checksum = 0xb861;
+    /// header.set_time_to_live(63);
+    /// assert_eq!(rt; header.header_checksum, 0xb961);
+    /// ```
     #[inline]
     pub fn set_time_to_live(&mut self, time_to_live: u8)
         ensures set { self.new ≡ record self.old {
@@ -346,6 +471,18 @@ impl Ipv4Header {
     /// where the time to live is 0 or 1: the packet is to be discarded then.
     ///
     /// The Rust crate has no such call.
+    ///
+    /// # Example
+    ///
+    /// ```
+    /// let (source, destination) = ([192, 168, 0, 1], [192, 168, 0, 199]);
+    /// let mut header = Ipv4Header::new(95, 2, IpNumber::UDP, source, destination)?;
+    /// header.header_checksum = 0xf661;
+    /// assert!(rt; header.lower_time_to_live());
+    /// assert_eq!(rt; (header.time_to_live, header.header_checksum), (1, 0xf761));
+    /// // The next router discards the packet.
+    /// assert!(rt; !header.lower_time_to_live());
+    /// ```
     #[inline]
     pub fn lower_time_to_live(&mut self) -> bool
         ensures lowered { IsTrue result ↔ (2 ≤ self.old.time_to_live) }
@@ -371,7 +508,8 @@ impl Ipv4Header {
     }
 
     /// Sets the source address, and updates the stored checksum for it, by [`update_4bytes`]. A
-    /// correct checksum stays correct; an incorrect one is not repaired.
+    /// correct checksum stays correct; an incorrect one is not repaired. The example is that of
+    /// [`Ipv4Header::set_destination`].
     ///
     /// The Rust crate has no such call.
     #[inline]
@@ -395,6 +533,18 @@ impl Ipv4Header {
     /// A correct checksum stays correct; an incorrect one is not repaired.
     ///
     /// The Rust crate has no such call.
+    ///
+    /// # Example
+    ///
+    /// ```
+    /// let (source, destination) = ([192, 168, 0, 1], [192, 168, 0, 199]);
+    /// let mut header = Ipv4Header::new(95, 64, IpNumber::UDP, source, destination)?;
+    /// header.header_checksum = 0xb861;
+    /// header.set_source([10, 0, 0, 1]);
+    /// assert_eq!(rt; header.header_checksum, 0x6f0a);
+    /// header.set_destination([10, 0, 0, 2]);
+    /// assert_eq!(rt; header.header_checksum, 0x2678);
+    /// ```
     #[inline]
     pub fn set_destination(&mut self, destination: [u8; 4])
         ensures set { self.new ≡ record self.old {

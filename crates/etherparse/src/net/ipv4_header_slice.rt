@@ -11,9 +11,22 @@ use crate::err::ipv4::{HeaderError, HeaderSliceError};
 use crate::err::{Layer, LenError};
 use crate::{IpDscp, IpEcn, IpFragOffset, IpNumber, Ipv4Header, Ipv4Options, LenSource};
 
-/// A view of the bytes of an IPv4 header with its options (RFC 791 section 3.1).
+/// A view of the bytes of an IPv4 header with its options (RFC 791 section 3.1), whose layout is
+/// drawn at [`Ipv4Header`].
 ///
 /// It keeps the reserved bit, which an [`Ipv4Header`] has no field for.
+///
+/// # Example
+///
+/// ```
+/// let packet = [
+///     0x45, 0, 0, 24, 0, 0, 0x40, 0, 64, 17, 0, 0, 10, 0, 0, 1, 10, 0, 0, 2, 1, 2, 3, 4,
+/// ];
+/// let view = Ipv4HeaderSlice::from_slice(&packet)?;
+/// assert_eq!(rt; view.ttl(), 64);
+/// assert_eq!(rt; view.source(), [10, 0, 0, 1]);
+/// assert_eq!(rt; view.payload_len(), Ok(4));
+/// ```
 #[derive(Clone, Copy, Debug, PartialEq, Eq)]
 pub struct Ipv4HeaderSlice<'a> {
     /// The bytes of the header: 20, and those of the options.
@@ -36,7 +49,9 @@ impl<'a> Ipv4HeaderSlice<'a> {
     ghost use Rattle.etherparse.specs.Reading.{BeginsWith};
     ghost use Rattle.etherparse.specs.declared.net.ipv4_header.Ipv4Header.{Ipv4Header as Header};
 
-    /// A view of the header at the front of a slice.
+    /// A view of the header at the front of a slice. What follows it begins at `slice[len..]`,
+    /// where `len` is `view.slice().len()`; [`Ipv4HeaderSlice::payload_len`] says how many of these
+    /// bytes are the payload. The checksum is not tested.
     ///
     /// # Errors
     ///

@@ -9,6 +9,47 @@ use crate::{IpDscp, IpEcn, IpNumber, Ipv6FlowLabel, Ipv6HeaderSlice};
 use std::marker::Model;
 
 /// An IPv6 header without its extension headers (RFC 8200 section 3).
+///
+/// ```text
+///  0                   1                   2                   3
+///  0 1 2 3 4 5 6 7 8 9 0 1 2 3 4 5 6 7 8 9 0 1 2 3 4 5 6 7 8 9 0 1
+/// +-+-+-+-+-+-+-+-+-+-+-+-+-+-+-+-+-+-+-+-+-+-+-+-+-+-+-+-+-+-+-+-+
+/// |   6   | traffic_class |               flow_label              |
+/// +-+-+-+-+-+-+-+-+-+-+-+-+-+-+-+-+-+-+-+-+-+-+-+-+-+-+-+-+-+-+-+-+
+/// |         payload_length        |  next_header  |   hop_limit   |
+/// +-+-+-+-+-+-+-+-+-+-+-+-+-+-+-+-+-+-+-+-+-+-+-+-+-+-+-+-+-+-+-+-+
+/// |                                                               |
+/// +                                                               +
+/// |                                                               |
+/// +                             source                            +
+/// |                                                               |
+/// +                                                               +
+/// |                                                               |
+/// +-+-+-+-+-+-+-+-+-+-+-+-+-+-+-+-+-+-+-+-+-+-+-+-+-+-+-+-+-+-+-+-+
+/// |                                                               |
+/// +                                                               +
+/// |                                                               |
+/// +                          destination                          +
+/// |                                                               |
+/// +                                                               +
+/// |                                                               |
+/// +-+-+-+-+-+-+-+-+-+-+-+-+-+-+-+-+-+-+-+-+-+-+-+-+-+-+-+-+-+-+-+-+
+/// ```
+///
+/// The version, 6, is no field.
+///
+/// # Example
+///
+/// ```
+/// let mut header = Ipv6Header::default();
+/// header.set_payload_length(8)?;
+/// header.next_header = IpNumber::UDP;
+/// header.hop_limit = 64;
+/// let bytes = header.to_bytes();
+/// let (read, rest) = Ipv6Header::from_slice(&bytes)?;
+/// assert_eq!(rt; read, header);
+/// assert!(rt; rest.is_empty());
+/// ```
 #[derive(Clone, Debug, PartialEq, Eq, Drop)]
 pub struct Ipv6Header {
     /// The traffic class: the DSCP in the upper 6 bits, the ECN in the lower 2 (RFC 2474, RFC
@@ -93,11 +134,26 @@ impl Ipv6Header {
     }
 
     /// The header at the front of a slice, and all the bytes after it. They are not cut at
-    /// `payload_length`.
+    /// `payload_length`, and may be fewer: `rest.get(..usize::from(header.payload_length))` takes
+    /// those that are the payload, unless the length is 0, as of a jumbogram.
     ///
     /// # Errors
     ///
     /// `Len` where the slice has fewer than 40 bytes; else `Content` where the version is not 6.
+    ///
+    /// # Example
+    ///
+    /// ```
+    /// // The payload length is 4, and two bytes of padding follow the packet.
+    /// let mut packet = [0; 46];
+    /// packet[0] = 0x60;
+    /// packet[5] = 4;
+    /// let (header, rest) = Ipv6Header::from_slice(&packet)?;
+    /// assert_eq!(rt; rest.len(), 6);
+    /// // `None` where the packet is cut short.
+    /// let payload = rest.get(..usize::from(header.payload_length));
+    /// assert_eq!(rt; payload, Some([0; 4].as_slice()));
+    /// ```
     #[inline]
     pub fn from_slice(slice: &[u8]) -> Result<(Ipv6Header, &[u8]), HeaderSliceError>
         ensures reads { IsIpv6ReadingOf slice.now (found_and_rest result) }
@@ -162,6 +218,15 @@ impl Ipv6Header {
     }
 
     /// Sets the differentiated services code point, and keeps the explicit congestion notification.
+    ///
+    /// # Example
+    ///
+    /// ```
+    /// let mut header = Ipv6Header::default();
+    /// header.set_dscp(IpDscp::EF);
+    /// header.set_ecn(IpEcn::Ect0);
+    /// assert_eq!(rt; header.traffic_class, 46 * 4 + 2);
+    /// ```
     #[inline]
     pub fn set_dscp(&mut self, dscp: IpDscp)
         ensures set { self.new ≡ record self.old {

@@ -6,7 +6,19 @@ use crate::err::ipv6::{HeaderError, HeaderSliceError};
 use crate::err::{Layer, LenError};
 use crate::{IpDscp, IpEcn, IpNumber, Ipv6FlowLabel, Ipv6Header, LenSource};
 
-/// A view of the bytes of an IPv6 header without its extension headers (RFC 8200 section 3).
+/// A view of the bytes of an IPv6 header without its extension headers (RFC 8200 section 3), whose
+/// layout is drawn at [`Ipv6Header`].
+///
+/// # Example
+///
+/// ```
+/// let mut packet = [0; 40];
+/// packet[0] = 0x60;
+/// packet[7] = 64;
+/// let view = Ipv6HeaderSlice::from_slice(&packet)?;
+/// assert_eq!(rt; view.hop_limit(), 64);
+/// assert_eq!(rt; view.destination(), [0; 16]);
+/// ```
 #[derive(Clone, Copy, Debug, PartialEq, Eq)]
 pub struct Ipv6HeaderSlice<'a> {
     /// The 40 bytes of the header.
@@ -27,7 +39,8 @@ impl<'a> Ipv6HeaderSlice<'a> {
     ghost use Rattle.etherparse.specs.declared.net.ipv6_header.Ipv6Header.{Ipv6Header as Header};
     ghost use Rattle.etherparse_fields.specs.IpEcn.{ecn_value};
 
-    /// A view of the header at the front of a slice.
+    /// A view of the header at the front of a slice. What follows it begins at `slice[40..]`, and
+    /// may be more or fewer bytes than [`Ipv6HeaderSlice::payload_length`] says.
     ///
     /// # Errors
     ///

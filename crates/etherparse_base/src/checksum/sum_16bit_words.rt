@@ -12,6 +12,16 @@ use std::marker::Model;
 ///
 /// Sums are equal where the numbers of 64 bits are that they are kept in: equal complements do not
 /// make them equal.
+///
+/// # Example
+///
+/// ```
+/// let sum = Sum16BitWords::new()
+///     .add_slice(&[0x45, 0, 0, 115, 0, 0, 0x40, 0, 64, 17, 0, 0])
+///     .add_4bytes([192, 168, 0, 1])
+///     .add_4bytes([192, 168, 0, 199]);
+/// assert_eq!(rt; sum.ones_complement().to_le_bytes(), [0xb8, 0x61]);
+/// ```
 #[derive(Clone, Debug, PartialEq, Eq, Drop)]
 pub struct Sum16BitWords {
     sum: u64,
@@ -116,7 +126,8 @@ impl Sum16BitWords {
     /// The checksum of what was summed, the ones-complement of the sum in sixteen bits: 0 where the
     /// words sum to all ones.
     ///
-    /// `to_le_bytes` gives its two bytes in the order in which a header has them.
+    /// Its low byte stands first in a packet: `to_le_bytes` gives its two bytes in the order in
+    /// which a header has them, and `swap_bytes` the number for a field such as `header_checksum`.
     #[inline]
     pub fn ones_complement(&self) -> u16
         ensures complements { Complements self.now result }

@@ -61,6 +61,18 @@ pub fn add_slice(start_sum: u64, slice: &[u8]) -> u64
 /// The sum of all pieces, from 0, each added by [`add_slice`]: an odd piece is padded by itself.
 ///
 /// The Rust crate has no such call.
+///
+/// # Example
+///
+/// ```
+/// // UDP over IPv4 (RFC 768): the pseudo-header, the header with 0 for its checksum, the payload.
+/// let pseudo_header = [192, 168, 0, 1, 192, 168, 0, 199, 0, 17, 0, 12];
+/// let header = [4, 0, 0, 53, 0, 12, 0, 0];
+/// let payload = [b't', b'e', b's', b't'];
+/// let sum = u64_16bit_word::add_slices(&[&pseudo_header, &header, &payload]);
+/// let checksum = u64_16bit_word::ones_complement_with_no_zero(sum);
+/// assert_eq!(rt; checksum.to_le_bytes(), [0x91, 0xae]);
+/// ```
 pub fn add_slices(pieces: &[&[u8]]) -> u64
     ensures adds { AddsSlices (map (λ piece. piece.now) pieces.now) result }
 {
@@ -74,7 +86,22 @@ pub fn add_slices(pieces: &[&[u8]]) -> u64
 /// The checksum of what was summed, the ones-complement of the sum in sixteen bits: 0 where the
 /// words sum to all ones.
 ///
-/// `to_le_bytes` gives its two bytes in the order in which a header has them.
+/// Its low byte stands first in a packet: `to_le_bytes` gives its two bytes in the order in which a
+/// header has them, and `swap_bytes` the number for a field such as `header_checksum`.
+///
+/// # Example
+///
+/// ```
+/// // An IPv4 header with 0 for its checksum.
+/// let header = [
+///     0x45, 0, 0, 115, 0, 0, 0x40, 0, 64, 17, 0, 0, 192, 168, 0, 1, 192, 168, 0, 199,
+/// ];
+/// let sum = u64_16bit_word::add_slice(0, &header);
+/// let checksum = u64_16bit_word::ones_complement(sum);
+/// // Its bytes as they go into the packet, and the number for the field `header_checksum`.
+/// assert_eq!(rt; checksum.to_le_bytes(), [0xb8, 0x61]);
+/// assert_eq!(rt; checksum.swap_bytes(), 0xb861);
+/// ```
 #[inline]
 pub fn ones_complement(sum: u64) -> u16
     ensures complements { Complements sum result }
@@ -95,6 +122,16 @@ pub fn ones_complement_with_no_zero(sum: u64) -> u16
 /// [`ones_complement`] of [`add_slice`], as one call: the checksum of a slice after an earlier sum.
 ///
 /// The Rust crate has no such call.
+///
+/// # Example
+///
+/// ```
+/// let header = [
+///     0x45, 0, 0, 115, 0, 0, 0x40, 0, 64, 17, 0xb8, 0x61, 192, 168, 0, 1, 192, 168, 0, 199,
+/// ];
+/// // 0 where the checksum that arrived is right.
+/// assert_eq!(rt; u64_16bit_word::checksum(0, &header), 0);
+/// ```
 #[inline(always)]
 pub fn checksum(start_sum: u64, slice: &[u8]) -> u16
     ensures complements { Complements (start_sum + little_endian_word_sum slice.now) result }

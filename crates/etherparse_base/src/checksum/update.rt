@@ -16,6 +16,13 @@ use super::u32_16bit_word::ones_complement;
 /// 0 then, and 0xffff computed anew. A wrong one is not made right.
 ///
 /// The Rust crate has no such call.
+///
+/// # Example
+///
+/// ```
+/// // The time to live, beside the protocol, goes from 64 to 63.
+/// assert_eq!(rt; update_2bytes(0xb861, [64, 17], [63, 17]), 0xb961);
+/// ```
 #[inline]
 pub fn update_2bytes(checksum: u16, old: [u8; 2], new: [u8; 2]) -> u16
     ensures value { result ≡ updated_checksum checksum (from_be_bytes w16 old)
@@ -33,6 +40,13 @@ pub fn update_2bytes(checksum: u16, old: [u8; 2], new: [u8; 2]) -> u16
 /// single updates all words would be 0.
 ///
 /// The Rust crate has no such call.
+///
+/// # Example
+///
+/// ```
+/// let (old, new) = ([192, 168, 0, 1], [10, 0, 0, 1]);
+/// assert_eq!(rt; update_4bytes(0xb861, old, new), 0x6f0a);
+/// ```
 #[inline]
 pub fn update_4bytes(checksum: u16, old: [u8; 4], new: [u8; 4]) -> u16
     ensures value { result ≡ updated_checksum_of_words 2 checksum old new }
@@ -46,6 +60,15 @@ pub fn update_4bytes(checksum: u16, old: [u8; 4], new: [u8; 4]) -> u16
 /// two single updates all words would be 0.
 ///
 /// The Rust crate has no such call.
+///
+/// # Example
+///
+/// ```
+/// // From 2001:db8::1 to 2001:db8::2.
+/// let old = [0x20, 0x01, 0x0d, 0xb8, 0, 0, 0, 0, 0, 0, 0, 0, 0, 0, 0, 1];
+/// let new = [0x20, 0x01, 0x0d, 0xb8, 0, 0, 0, 0, 0, 0, 0, 0, 0, 0, 0, 2];
+/// assert_eq!(rt; update_16bytes(0x1234, old, new), 0x1233);
+/// ```
 #[inline]
 pub fn update_16bytes(checksum: u16, old: [u8; 16], new: [u8; 16]) -> u16
     ensures value { result ≡ updated_checksum_of_words 8 checksum old new }
@@ -59,6 +82,15 @@ pub fn update_16bytes(checksum: u16, old: [u8; 16], new: [u8; 16]) -> u16
 /// 768): 0 stays 0, and 0xffff stands for any other that would be 0.
 ///
 /// The Rust crate has no such call.
+///
+/// # Example
+///
+/// ```
+/// let (old, new) = ([0x55, 0x55], [0x32, 0x85]);
+/// assert_eq!(rt; update_2bytes_with_no_zero(0xdd2f, old, new), 0xffff);
+/// // No checksum was sent.
+/// assert_eq!(rt; update_2bytes_with_no_zero(0, old, new), 0);
+/// ```
 #[inline]
 pub fn update_2bytes_with_no_zero(checksum: u16, old: [u8; 2], new: [u8; 2]) -> u16
     ensures updates { UpdatesChecksumWithNoZero checksum (from_be_bytes w16 old)

@@ -53,6 +53,21 @@ impl Model for LenError {
 impl LenError {
     /// The error of the same layer in data that starts `offset` bytes earlier: `layer_start_offset`
     /// grows by `offset`, and every other field stays. The sum has to fit `usize`.
+    ///
+    /// # Example
+    ///
+    /// ```
+    /// // A UDP header of 8 bytes behind an IPv4 header of 20, of which 5 bytes are there.
+    /// let error = LenError {
+    ///     required_len: 8,
+    ///     len: 5,
+    ///     len_source: LenSource::Ipv4HeaderTotalLen,
+    ///     layer: Layer::UdpHeader,
+    ///     layer_start_offset: 20,
+    /// };
+    /// // The IPv4 header itself stands behind 14 bytes of Ethernet.
+    /// assert_eq!(rt; error.add_offset(14).layer_start_offset, 34);
+    /// ```
     #[inline]
     pub fn add_offset(self, offset: usize) -> LenError
         requires fits { self.layer_start_offset + offset < 2 ^ 64 }

@@ -112,6 +112,17 @@ impl IpDscp {
     ///
     /// A `ValueTooBigError` where the number needs more than 6 bits, which is above
     /// [`IpDscp::MAX_U8`].
+    ///
+    /// # Example
+    ///
+    /// ```
+    /// let dscp = IpDscp::try_new(46)?;
+    /// assert_eq!(rt; dscp, IpDscp::EF);
+    /// assert_eq!(rt; dscp.value(), 46);
+    /// if let Err(refusal) = IpDscp::try_new(64) {
+    ///     assert_eq!(rt; (refusal.actual, refusal.max_allowed), (64, 63));
+    /// }
+    /// ```
     #[inline]
     pub const fn try_new(value: u8) -> Result<IpDscp, ValueTooBigError<u8>>
         ensures answer { TakesUpTo (λ dscp. dscp) MAX_U8 value_type.IpDscp value result }

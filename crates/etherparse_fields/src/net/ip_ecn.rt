@@ -51,6 +51,15 @@ impl IpEcn {
     ///
     /// A `ValueTooBigError` where the number needs more than 2 bits, which is above
     /// [`IpEcn::MAX_U8`].
+    ///
+    /// # Example
+    ///
+    /// ```
+    /// let ecn = IpEcn::try_new(3)?;
+    /// assert_eq!(rt; ecn, IpEcn::CongestionExperienced);
+    /// assert_eq!(rt; ecn.value(), 3);
+    /// assert!(rt; IpEcn::try_new(4).is_err());
+    /// ```
     #[inline]
     pub const fn try_new(value: u8) -> Result<IpEcn, ValueTooBigError<u8>>
         ensures answer { TakesUpTo ecn_value MAX_U8 value_type.IpEcn value result }

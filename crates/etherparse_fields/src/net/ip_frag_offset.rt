@@ -40,6 +40,15 @@ impl IpFragOffset {
     ///
     /// A `ValueTooBigError` where the number needs more than 13 bits, which is above
     /// [`IpFragOffset::MAX_U16`].
+    ///
+    /// # Example
+    ///
+    /// ```
+    /// let offset = IpFragOffset::try_new(185)?;
+    /// assert_eq!(rt; offset.value(), 185);
+    /// assert_eq!(rt; offset.byte_offset(), 1480);
+    /// assert!(rt; IpFragOffset::try_new(8192).is_err());
+    /// ```
     #[inline]
     pub const fn try_new(value: u16) -> Result<IpFragOffset, ValueTooBigError<u16>>
         ensures answer { TakesUpTo (λ offset. offset) MAX_U16 value_type.IpFragmentOffset value

@@ -15,6 +15,16 @@ use std::marker::Model;
 /// that is the keyword is not repeated, and of a number without a keyword there is the name alone.
 ///
 /// Equality, order and hash are those of the number.
+///
+/// # Example
+///
+/// ```
+/// let number = IpNumber::from(17);
+/// assert_eq!(rt; number, IpNumber::UDP);
+/// assert_eq!(rt; number, ip_number::UDP);
+/// assert_eq!(rt; number.0, 17);
+/// assert!(rt; IpNumber::AUTHENTICATION_HEADER.is_ipv6_ext_header_value());
+/// ```
 #[derive(Clone, Copy, Debug, PartialEq, Eq, PartialOrd, Ord, Hash)]
 pub struct IpNumber(pub u8);
 

@@ -23,6 +23,18 @@ use std::hash::{Hash, Hasher};
 use std::marker::Model;
 
 /// The options of an IPv4 header (RFC 791 section 3.1): 0 to 40 bytes, in words of 4.
+///
+/// # Example
+///
+/// ```
+/// // A router alert (RFC 2113), alone and with 4 bytes behind it.
+/// let alert = Ipv4Options::from([148, 4, 0, 0]);
+/// assert_eq!(rt; alert.as_slice(), [148, 4, 0, 0].as_slice());
+/// let options = Ipv4Options::try_from([148, 4, 0, 0, 1, 1, 1, 0].as_slice())?;
+/// assert_eq!(rt; options.len(), 8);
+/// let refused = Ipv4Options::try_from([1, 1, 0].as_slice());
+/// assert_eq!(rt; refused, Err(BadOptionsLen { bad_len: 3 }));
+/// ```
 #[derive(Drop)]
 pub struct Ipv4Options {
     len: u8,
@@ -61,6 +73,15 @@ impl Ipv4Options {
     ///
     /// The Rust crate has no such call. Copying 40 bytes, a number that the compiler knows, is
     /// faster than copying `len`.
+    ///
+    /// # Example
+    ///
+    /// ```
+    /// let mut bytes = [0; 40];
+    /// bytes[..4].copy_from_slice(&[148, 4, 0, 0]);
+    /// let options = Ipv4Options::from_front(&bytes, 4);
+    /// assert_eq!(rt; options.as_slice(), [148, 4, 0, 0].as_slice());
+    /// ```
     #[inline(always)]
     pub fn from_front(bytes: &[u8; 40], len: usize) -> Ipv4Options
         requires { IsOptionsLen len }

@@ -38,6 +38,14 @@ impl Ipv6FlowLabel {
     ///
     /// A `ValueTooBigError` where the number needs more than 20 bits, which is above
     /// [`Ipv6FlowLabel::MAX_U32`].
+    ///
+    /// # Example
+    ///
+    /// ```
+    /// let label = Ipv6FlowLabel::try_new(0xbeef)?;
+    /// assert_eq!(rt; label.value(), 0xbeef);
+    /// assert!(rt; Ipv6FlowLabel::try_new(0x10_0000).is_err());
+    /// ```
     #[inline]
     pub const fn try_new(value: u32) -> Result<Ipv6FlowLabel, ValueTooBigError<u32>>
         ensures answer { TakesUpTo (λ label. label) MAX_U32 value_type.Ipv6FlowLabel value result }

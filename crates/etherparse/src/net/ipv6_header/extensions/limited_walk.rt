@@ -30,6 +30,21 @@ impl Ipv6Header {
     /// however many bytes are left: the limit, this number, and the offset from the front of the
     /// slice at which its header starts. Else `Len` where a header is incomplete, with the error of
     /// [`Ipv6Header::skip_all_header_extensions_in_slice`].
+    ///
+    /// # Example
+    ///
+    /// ```
+    /// let slice = [60, 0, 0, 0, 0, 0, 0, 0, 17, 0, 0, 0, 0, 0, 0, 0];
+    /// let first = IpNumber::IPV6_HEADER_HOP_BY_HOP;
+    /// let too_many = ChainError::TooMany {
+    ///     limit: 1,
+    ///     next_header: 60,
+    ///     layer_start_offset: 8,
+    /// };
+    /// let refused = Ipv6Header::skip_header_extensions_up_to(&slice, first, 1);
+    /// assert_eq!(rt; refused, Err(too_many));
+    /// assert!(rt; Ipv6Header::skip_header_extensions_up_to(&slice, first, 2).is_ok());
+    /// ```
     pub fn skip_header_extensions_up_to(
         slice: &[u8],
         next_header: IpNumber,
