@@ -1,5 +1,7 @@
 use crate::arguments::Arguments;
-use crate::{constants, equality, fields, ipv4, ipv6, kinds, offsets, options, sums, texts, walks};
+use crate::{
+    constants, equality, fields, ipv4, ipv6, kinds, offsets, options, packets, sums, texts, walks,
+};
 use std::alloc::{AllocError, Global};
 use std::str;
 
@@ -34,6 +36,7 @@ fn answer_case(arguments: &mut Arguments, answer: &mut String) -> Result<(), All
         "v6" => ipv6::answer(name, arguments, answer),
         "skip" => walks::answer_skip(name, arguments, answer),
         "walk" => walks::answer_walk(name, arguments, answer),
+        "packet" => packets::answer(name, arguments, answer),
         "text" => texts::answer(name, arguments, answer),
         "off" => offsets::answer(name, arguments, answer),
         "layer" => kinds::answer_layer(name, arguments, answer),

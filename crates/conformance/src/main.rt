@@ -11,6 +11,7 @@ mod ipv6;
 mod kinds;
 mod offsets;
 mod options;
+mod packets;
 mod replay;
 mod shown;
 mod sums;

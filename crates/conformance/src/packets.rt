@@ -1,0 +1,289 @@
+//! Packets of either version, taken apart by the layers of `uses`.
+
+use crate::arguments::Arguments;
+use crate::shown::{Bytes, Ipv4Fields, Ipv4Refusal, Ipv6Fields, Ipv6Refusal, Len, Named};
+use etherparse::{IpNumber, Ipv4Header};
+use std::alloc::{AllocError, Global};
+use uses::echo::{icmpv4_reply, icmpv6_reply};
+use uses::fragment::{FragmentHeader, ipv4_key, ipv6_fragment, ipv6_key};
+use uses::ip_slice::{IpSlice, IpSliceError};
+use uses::tcp::{TcpError, TcpHeaderSlice, is_tcp_right_ipv4, is_tcp_right_ipv6};
+use uses::translation::{
+    translate_tcp_destination, translate_tcp_source, translate_udp_destination,
+    translate_udp_source,
+};
+use uses::udp::UdpHeader;
+
+// The addresses that translation gives to packets: 198.51.100.7 and 203.0.113.9 (RFC 5737).
+const SOURCE: [u8; 4] = [198, 51, 100, 7];
+
+const DESTINATION: [u8; 4] = [203, 0, 113, 9];
+
+/// `packet B`: the parts of a packet, what stands in its upper layer where it is no fragment, and
+/// its key where it is one.
+pub fn answer(
+    name: &str,
+    arguments: &mut Arguments,
+    answer: &mut String,
+) -> Result<(), AllocError> {
+    let bytes = arguments.bytes()?;
+    if !name.is_empty() {
+        arguments.refuse();
+    }
+    match IpSlice::from_slice(&bytes) {
+        Ok(slice) => {
+            write_slice(&slice, answer)?;
+            if !slice.is_fragment() {
+                write_upper(&slice, arguments.alloc(), answer)?;
+            }
+        }
+        Err(e) => write_refusal(&e, answer)?,
+    }
+    write_keys(&bytes, answer)
+}
+
+fn write_refusal(e: &IpSliceError, answer: &mut String) -> Result<(), AllocError> {
+    match e {
+        IpSliceError::Empty => write!(answer, "err empty"),
+        IpSliceError::UnexpectedVersion { version_number } => {
+            write!(answer, "err version number={version_number}")
+        }
+        IpSliceError::Ipv4Header(e) => write!(answer, "header={}", Ipv4Refusal(e)),
+        IpSliceError::Ipv6Header(e) => write!(answer, "header={}", Ipv6Refusal(e)),
+        IpSliceError::Packet(e) => write!(answer, "packet={}", Len(e)),
+        IpSliceError::Extensions(e) => write!(answer, "extensions={}", Len(e)),
+    }
+}
+
+fn write_slice(slice: &IpSlice, answer: &mut String) -> Result<(), AllocError> {
+    match slice {
+        IpSlice::Ipv4 { header, .. } => write!(answer, "ok {}", Ipv4Fields::of_header(header))?,
+        IpSlice::Ipv6 {
+            header,
+            extensions,
+            ..
+        } => write!(
+            answer,
+            "ok {} extensions={}",
+            Ipv6Fields(header),
+            Bytes(extensions)
+        )?,
+    }
+    let (upper, payload) = (slice.upper(), slice.payload());
+    write!(answer, " upper={} payload={}", upper.0, Bytes(payload))?;
+    write!(answer, " fragment={}", slice.is_fragment())
+}
+
+// What stands in the payload of a packet that is no fragment.
+fn write_upper(slice: &IpSlice, alloc: Global, answer: &mut String) -> Result<(), AllocError> {
+    let upper = slice.upper();
+    let echoes = match slice {
+        IpSlice::Ipv4 { .. } => IpNumber::ICMP,
+        IpSlice::Ipv6 { .. } => IpNumber::IPV6_ICMP,
+    };
+    if upper == IpNumber::UDP {
+        write_udp(slice, answer)
+    } else if upper == IpNumber::TCP {
+        write_tcp(slice, answer)
+    } else if upper == echoes {
+        write_echo(slice, alloc, answer)
+    } else {
+        Ok(())
+    }
+}
+
+// A UDP header, and the checksum of its datagram, which ends where its length says.
+fn write_udp(slice: &IpSlice, answer: &mut String) -> Result<(), AllocError> {
+    let (mut udp, rest) = match UdpHeader::from_slice(slice.payload()) {
+        Ok(read) => read,
+        Err(e) => return write!(answer, " ; udp={}", Len(&e)),
+    };
+    let numbers = [
+        ("source_port", udp.source_port),
+        ("destination_port", udp.destination_port),
+        ("length", udp.length),
+        ("checksum", udp.checksum),
+    ];
+    write!(answer, " ; udp {}", Named(&numbers))?;
+    let received = udp.checksum;
+    let len = usize::from(udp.length);
+    if len >= 8 && len - 8 <= rest.len() {
+        let data = &rest[..len - 8];
+        let is_right = match slice {
+            IpSlice::Ipv4 { header, .. } => udp.is_right_ipv4(header, data),
+            IpSlice::Ipv6 { header, .. } => udp.is_right_ipv6(header, data),
+        };
+        match slice {
+            IpSlice::Ipv4 { header, .. } => udp.set_checksum_ipv4(header, data),
+            IpSlice::Ipv6 { header, .. } => udp.set_checksum_ipv6(header, data),
+        }
+        write!(answer, " right={is_right} made={}", Bytes(&udp.to_bytes()))?;
+    }
+    write_translated(slice, received, answer)
+}
+
+// A TCP header, and the checksum of its segment.
+fn write_tcp(slice: &IpSlice, answer: &mut String) -> Result<(), AllocError> {
+    let segment = slice.payload();
+    let view = match TcpHeaderSlice::from_slice(segment) {
+        Ok(view) => view,
+        Err(TcpError::Len(e)) => return write!(answer, " ; tcp={}", Len(&e)),
+        Err(TcpError::DataOffset(offset)) => {
+            return write!(answer, " ; tcp=err data_offset offset={offset}");
+        }
+    };
+    let numbers = [
+        ("source_port", u32::from(view.source_port())),
+        ("destination_port", u32::from(view.destination_port())),
+        ("sequence_number", view.sequence_number()),
+        ("acknowledgment_number", view.acknowledgment_number()),
+        ("data_offset", u32::from(view.data_offset())),
+        ("flags", u32::from(view.flags())),
+        ("window_size", u32::from(view.window_size())),
+        ("checksum", u32::from(view.checksum())),
+        ("urgent_pointer", u32::from(view.urgent_pointer())),
+    ];
+    let flags = [
+        ("fin", view.fin()),
+        ("syn", view.syn()),
+        ("rst", view.rst()),
+        ("ack", view.ack()),
+    ];
+    let is_right = match slice {
+        IpSlice::Ipv4 { header, .. } => is_tcp_right_ipv4(header, segment),
+        IpSlice::Ipv6 { header, .. } => is_tcp_right_ipv6(header, segment),
+    };
+    write!(answer, " ; tcp {} {}", Named(&numbers), Named(&flags))?;
+    write!(
+        answer,
+        " options={} right={is_right}",
+        Bytes(view.options())
+    )?;
+    write_translated(slice, view.checksum(), answer)
+}
+
+// The header and the checksum of UDP or TCP of an IPv4 packet from or to another address.
+fn write_translated(slice: &IpSlice, checksum: u16, answer: &mut String) -> Result<(), AllocError> {
+    let IpSlice::Ipv4 { header, .. } = slice else {
+        return Ok(());
+    };
+    let (mut from, mut to) = (header.clone()?, header.clone()?);
+    let (from_checksum, to_checksum) = if header.protocol == IpNumber::UDP {
+        (
+            translate_udp_source(&mut from, checksum, SOURCE),
+            translate_udp_destination(&mut to, checksum, DESTINATION),
+        )
+    } else {
+        (
+            translate_tcp_source(&mut from, checksum, SOURCE),
+            translate_tcp_destination(&mut to, checksum, DESTINATION),
+        )
+    };
+    write_translation("from", &from, from_checksum, answer)?;
+    write_translation("to", &to, to_checksum, answer)
+}
+
+fn write_translation(
+    name: &str,
+    header: &Ipv4Header,
+    checksum: u16,
+    answer: &mut String,
+) -> Result<(), AllocError> {
+    let addresses = [
+        ("source", Bytes(&header.source)),
+        ("destination", Bytes(&header.destination)),
+    ];
+    write!(answer, " ; {name} {}", Named(&addresses))?;
+    let header_checksum = header.header_checksum;
+    write!(
+        answer,
+        " header_checksum={header_checksum} checksum={checksum}"
+    )
+}
+
+// The reply to an echo request, or the message as it was. It goes back to where that came from.
+fn write_echo(slice: &IpSlice, alloc: Global, answer: &mut String) -> Result<(), AllocError> {
+    let mut message = slice.payload().to_vec(alloc)?;
+    let is_reply = match slice {
+        IpSlice::Ipv4 { .. } => icmpv4_reply(message.as_mut_slice()),
+        IpSlice::Ipv6 { header, .. } => {
+            icmpv6_reply(header.destination, header.source, message.as_mut_slice())
+        }
+    };
+    write!(
+        answer,
+        " ; reply={is_reply} message={}",
+        Bytes(message.as_slice())
+    )
+}
+
+// The key by which fragments belong together, for the version of the first byte; over IPv6 the
+// fragment header too.
+fn write_keys(packet: &[u8], answer: &mut String) -> Result<(), AllocError> {
+    let version = match packet.first() {
+        Some(first) => *first >> 4,
+        None => return Ok(()),
+    };
+    match version {
+        4 => write_ipv4_key(packet, answer),
+        6 => {
+            write_fragment_header(packet, answer)?;
+            write_ipv6_key(packet, answer)
+        }
+        _ => Ok(()),
+    }
+}
+
+fn write_ipv4_key(packet: &[u8], answer: &mut String) -> Result<(), AllocError> {
+    match ipv4_key(packet) {
+        Ok(Some(key)) => write!(
+            answer,
+            " ; key source={} destination={} protocol={} identification={}",
+            Bytes(&key.source),
+            Bytes(&key.destination),
+            key.protocol.0,
+            key.identification
+        ),
+        Ok(None) => write!(answer, " ; key=none"),
+        Err(e) => write!(answer, " ; key={}", Ipv4Refusal(&e)),
+    }
+}
+
+fn write_ipv6_key(packet: &[u8], answer: &mut String) -> Result<(), AllocError> {
+    match ipv6_key(packet) {
+        Ok(Some(key)) => write!(
+            answer,
+            " ; key source={} destination={} identification={}",
+            Bytes(&key.source),
+            Bytes(&key.destination),
+            key.identification
+        ),
+        Ok(None) => write!(answer, " ; key=none"),
+        Err(e) => write!(answer, " ; key={}", Ipv6Refusal(&e)),
+    }
+}
+
+fn write_fragment_header(packet: &[u8], answer: &mut String) -> Result<(), AllocError> {
+    match ipv6_fragment(packet) {
+        Ok(Some(found)) => {
+            let FragmentHeader {
+                next_header,
+                fragment_offset,
+                more_fragments,
+                identification,
+            } = &found.fragment;
+            write!(
+                answer,
+                " ; fragment_header next_header={} fragment_offset={fragment_offset}",
+                next_header.0
+            )?;
+            write!(
+                answer,
+                " more_fragments={more_fragments} identification={identification} rest={}",
+                Bytes(found.payload)
+            )
+        }
+        Ok(None) => write!(answer, " ; fragment_header=none"),
+        Err(e) => write!(answer, " ; fragment_header={}", Ipv6Refusal(&e)),
+    }
+}
