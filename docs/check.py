@@ -1,0 +1,254 @@
+#!/usr/bin/env python3
+"""Tries what the pages say against the repository, and ends with 'N passed, M failed'.
+
+    docs/check.py           from anywhere; after `rt ci` or `rt run` it runs commands of `iphead` too
+
+- Code in Rattle stands in a source file, contracts aside, or else proves in a crate of its own.
+- An example in a doc comment stands in a test of `etherparse_tests` or in a caller of `uses`.
+- A file that a page names is there, and each command names files that are there; a command that
+  pipes into `rt run` in crates/iphead is run by the built program, and prints what the page shows.
+- A clause that a page names is a clause: of the function, where the page says of which.
+- Nothing names a file beside the repository, or a machine's folder.
+- A section with a figure in seconds, minutes or bytes of memory has a command that measures it."""
+import pathlib
+import re
+import shutil
+import subprocess
+import sys
+import tempfile
+
+ROOT = pathlib.Path(__file__).resolve().parent.parent
+TRACKED = subprocess.run(['git', 'ls-files', '--cached', '--others', '--exclude-standard'],
+                         cwd=ROOT, capture_output=True, text=True, check=True).stdout.split('\n')
+FILES = [ROOT / name for name in TRACKED if name and (ROOT / name).is_file()]
+NAMES = {str(file.relative_to(ROOT)) for file in FILES}
+PAGES = [file for file in FILES if file.suffix == '.md']
+SOURCES = {file: file.read_text() for file in FILES if file.suffix == '.rt'}
+SPECS = {file: file.read_text() for file in FILES if file.suffix == '.antt'}
+PATH = re.compile(r'[\w.{},/-]+\.(?:md|rt|antt|sh|py|edit|txt|c|h|rs|toml)$')
+FIGURE = re.compile(r'(?<![\w.])\d+(?:\.\d+)? (?:ns|nanoseconds?|seconds?|minutes?|GB|MB)\b')
+COMMAND = re.compile(r'\brt \w+|\.ci/run|[\w./-]+\.(?:sh|py)\b|\btime\b')
+passed, failed = 0, []
+
+
+def judge(page, what, is_right, why):
+    """counts one check of a page"""
+    global passed
+    if is_right:
+        passed += 1
+    else:
+        failed.append(f'{page.relative_to(ROOT)}: {what}: {why}')
+
+
+# What stands in the sources.
+
+def without_contracts(text):
+    """a source or a block without blanks, doc comments, imports and contracts"""
+    lines = [line for line in text.split('\n')
+             if not re.match(r'\s*(///|//!|#!?\[|(pub )?use |ghost use )', line)]
+    text = '\n'.join(lines)
+    text = re.sub(r'use [^;]*;', '', text)
+    while found := re.search(r'\b(ensures|requires)\*?( \w+)? \{', text):
+        at, depth = found.end(), 1
+        while depth:
+            depth += {'{': 1, '}': -1}.get(text[at], 0)
+            at += 1
+        text = text[:found.start()] + text[at:]
+    return ''.join(text.split())
+
+
+def clauses():
+    """the clauses of each function by its name, and all that can be named beside them"""
+    of_function, others = {}, set()
+    for text in SOURCES.values():
+        function = ''
+        for line in text.split('\n'):
+            if found := re.search(r'\bfn (\w+)', line):
+                function = found.group(1)
+                of_function.setdefault(function, set())
+            if found := re.match(r'\s*(?:ensures|requires)\*? (\w+) \{', line):
+                of_function.setdefault(function, set()).add(found.group(1))
+            if found := re.match(r'\s*(?:pub )?ghost (\w+)(?:\s*=|:)', line):
+                others.add(found.group(1))
+    for text in SPECS.values():
+        others.update(re.findall(r'^\s*pub ([\w-]+)(?: .*)? :', text, re.M))
+    return of_function, others
+
+
+SQUEEZED = {file: without_contracts(text) for file, text in SOURCES.items()}
+LINES_OF_PROOFS = {' '.join(line.split()).replace('Rattle.uses.', 'Rattle.my_crate.')
+                   for text in SPECS.values() for line in text.split('\n')}
+CLAUSES, OTHERS = clauses()
+ALL_CLAUSES = set().union(*CLAUSES.values())
+
+
+def proves(block):
+    """whether a block proves as the one file of a crate above the library"""
+    with tempfile.TemporaryDirectory() as room:
+        crates = pathlib.Path(room) / 'crates'
+        (crates / 'my_crate/src').mkdir(parents=True)
+        for folder in (ROOT / 'crates').iterdir():
+            if folder.name.startswith('etherparse'):
+                (crates / folder.name).symlink_to(folder)
+        lines = (ROOT / 'crates.txt').read_text()
+        needs = 'my_crate: etherparse etherparse_fields arrayvec\n'
+        (crates.parent / 'crates.txt').write_text(lines + needs)
+        head = '' if '#![tactic' in block else '#![tactic(auto)]\n\n'
+        (crates / 'my_crate/src/lib.rt').write_text(head + block)
+        done = subprocess.run(['rt', 'check'], cwd=crates / 'my_crate', capture_output=True,
+                              text=True, check=False)
+        return 'logic=proved' in done.stdout + done.stderr
+
+
+# What a page says.
+
+def blocks(text):
+    """the fenced blocks of a page or of a comment: language and text"""
+    return re.findall(r'^```(\w*)\n(.*?)^```$', text, re.S | re.M)
+
+
+def check_code(page, text):
+    for language, block in blocks(text):
+        first = next(iter(block.strip().split('\n')), '')
+        if language == 'rust':
+            squeezed = without_contracts(block)
+            stands = any(squeezed in source for source in SQUEEZED.values())
+            judge(page, first, stands or proves(block), 'stands nowhere, and does not prove')
+        elif language == 'antt':
+            for line in block.strip().split('\n'):
+                is_there = not line or ' '.join(line.split()) in LINES_OF_PROOFS
+                judge(page, line, is_there, 'stands in no proof and no definition')
+        elif language == 'text':
+            check_signatures(page, block)
+
+
+def check_signatures(page, block):
+    """each clause that is quoted below a function is one of that function"""
+    function = ''
+    for line in block.split('\n'):
+        if found := re.search(r'\bfn (?:[\w<>:]+::)?(\w+)', line):
+            function = found.group(1)
+            judge(page, function, function in CLAUSES, 'is no function')
+        if found := re.match(r'\s*(?:ensures|requires)\*? (\w+)\b', line):
+            has = found.group(1) in CLAUSES.get(function, ())
+            judge(page, found.group(1), has, f'is no clause of {function}')
+
+
+def check_comments(file, text):
+    """each example of a doc comment stands in a test or in a caller"""
+    comment = '\n'.join(re.sub(r'^\s*//[/!] ?', '', line) if re.match(r'\s*//[/!]', line) else ''
+                        for line in text.split('\n'))
+    tests = [source for path, source in SQUEEZED.items()
+             if 'etherparse_tests/src/examples' in str(path) or 'uses/src' in str(path)]
+    for language, block in blocks(comment):
+        if language != 'text':
+            first = block.strip().split('\n')[0]
+            stands = any(without_contracts(block) in test for test in tests)
+            judge(file, first, stands, 'stands in no test and no caller')
+
+
+def is_there(page, name):
+    """whether a file is named from the root, from the page's folder or its crate, or alone"""
+    for one in re.sub(r'[{}]', '', name).split(',') if '{' not in name else expanded(name):
+        above = [folder / one for folder in (ROOT, page.parent, ROOT / 'crates', ROOT / 'docs')]
+        alone = any(('/' + known).endswith('/' + one) for known in NAMES)
+        if not alone and not any(path.exists() for path in above):
+            return False
+    return True
+
+
+def expanded(name):
+    front, inner, back = re.match(r'(.*)\{(.*)\}(.*)', name).groups()
+    return [front + one + back for one in inner.split(',')]
+
+
+def check_files(page, text):
+    for name in re.findall(r'`([^`\n]+)`', text) + re.findall(r'\]\(([^)#:]+)\)', text):
+        # neither what is built, nor a reader's own crate, nor a file of the Rust crate
+        if PATH.match(name) and not re.search(r'out/|my_crate|\.\.\w|^\w+\.rs$', name):
+            judge(page, name, is_there(page, name), 'is not there')
+
+
+def check_clauses(page, text):
+    for name in re.findall(r'`ensures (\w+)`', text):
+        judge(page, name, name in ALL_CLAUSES, 'is no clause')
+    head = ''
+    for line in text.split('\n'):
+        if not line.startswith('|'):
+            head = ''
+        elif not head:
+            head = line
+        elif re.search(r'Contract|Clause|A caller knows', head):
+            for name in re.findall(r'`([a-z]\w*)`', line):
+                known = name in ALL_CLAUSES | OTHERS or name in CLAUSES or is_word(name)
+                judge(page, name, known, 'is no clause, function or definition')
+
+
+WORDS = set(re.findall(r'\w+', ' '.join(SOURCES.values())))
+
+
+def is_word(name):
+    return name in WORDS
+
+
+def check_commands(page, text):
+    """commands are lines that are indented by four blanks"""
+    indented = re.split(r'\n(?!    )', text)
+    chunks = [re.sub(r'^    ', '', chunk, flags=re.M) for block in indented
+              if (chunk := '\n'.join(line for line in block.split('\n') if line.startswith('    ')))]
+    for at, chunk in enumerate(chunks):
+        for line in chunk.split('\n'):
+            first = re.sub(r'^\(?(cd [\w/]+ && )?(\w+=\S+ )*', '', line).split(' ')[0]
+            is_script = re.fullmatch(r'[\w./-]+\.(sh|py)|\.ci/run', first)
+            if not is_script and not (shutil.which(first) and ' ' in line):
+                continue
+            judge(page, line, not is_script or is_there(page, first), 'there is no such script')
+            check_operands(page, line)
+            if '| rt run' in line and 'crates/iphead' in line and at + 1 < len(chunks):
+                check_run(page, line, chunks[at + 1])
+
+
+def check_operands(page, line):
+    for word in re.findall(r'(?<![\w./-])(?:crates|docs|bench|misuse|conformance)/[\w./-]+', line):
+        if '/out/' not in word:
+            judge(page, word, is_there(page, word.rstrip('.')), 'is not there')
+
+
+def check_run(page, line, expected):
+    if not (ROOT / 'crates/iphead/out/iphead').exists():
+        return
+    done = subprocess.run(line.replace('| rt run', '| out/iphead'), shell=True, cwd=ROOT,
+                          capture_output=True, text=True, check=False)
+    judge(page, line, done.stdout.strip() == expected.strip(), 'prints something else')
+
+
+def check_figures(page, text):
+    for section in re.split(r'^## ', text, flags=re.M):
+        figures = [found.group() for line in section.split('\n')
+                   for found in FIGURE.finditer(line) if not line.startswith('    ')]
+        if figures:
+            title = section.split('\n')[0]
+            judge(page, title, COMMAND.search(section), f'{figures[0]}, and no command')
+
+
+def check_nothing_beside(file, text):
+    beside = re.search(r'\.\./shared|(?<![\w.])/(?:tmp|work|opt)/\w', text)
+    if file.name != 'check.py':
+        judge(file, beside and beside.group(), not beside, 'is beside the repository')
+
+
+for file in FILES:
+    if file.suffix in ('.md', '.rt', '.antt', '.sh', '.py', '.c', '.h', '.rs', '.txt', '.edit', ''):
+        content = file.read_text(errors='replace')
+        if file.name not in ('stdin', 'stdout', 'LICENSE'):
+            check_nothing_beside(file, content)
+for file, content in SOURCES.items():
+    check_comments(file, content)
+for file in PAGES:
+    content = file.read_text()
+    for check in check_code, check_files, check_clauses, check_commands, check_figures:
+        check(file, content)
+for line in failed:
+    print('FAILED:', line)
+print(f'{passed} passed, {len(failed)} failed')
+sys.exit(1 if failed else 0)
