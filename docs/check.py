@@ -1,9 +1,10 @@
 #!/usr/bin/env python3
 """Tries what the pages say against the repository, and ends with 'N passed, M failed'.
 
-    docs/check.py           from anywhere; after `rt ci` or `rt run` it runs commands of `iphead` too
+    docs/check.py       from anywhere; after `rt ci` or `rt run` it also runs commands of `iphead`
 
-- Code in Rattle stands in a source file, contracts aside, or else proves in a crate of its own.
+- Code in Rattle stands in a source file, contracts aside, or else proves in a crate of its own;
+  other code stands in a file of its language, and C compiles.
 - An example in a doc comment stands in a test of `etherparse_tests` or in a caller of `uses`.
 - A file that a page names is there, and each command names files that are there; a command that
   pipes into `rt run` in crates/iphead is run by the built program, and prints what the page shows.
@@ -25,6 +26,7 @@ NAMES = {str(file.relative_to(ROOT)) for file in FILES}
 PAGES = [file for file in FILES if file.suffix == '.md']
 SOURCES = {file: file.read_text() for file in FILES if file.suffix == '.rt'}
 SPECS = {file: file.read_text() for file in FILES if file.suffix == '.antt'}
+LIBRARY = 'etherparse_base', 'etherparse_fields', 'etherparse'
 PATH = re.compile(r'[\w.{},/-]+\.(?:md|rt|antt|sh|py|edit|txt|c|h|rs|toml)$')
 FIGURE = re.compile(r'(?<![\w.])\d+(?:\.\d+)? (?:ns|nanoseconds?|seconds?|minutes?|GB|MB)\b')
 COMMAND = re.compile(r'\brt \w+|\.ci/run|[\w./-]+\.(?:sh|py)\b|\btime\b')
@@ -76,6 +78,8 @@ def clauses():
 
 
 SQUEEZED = {file: without_contracts(text) for file, text in SOURCES.items()}
+FOREIGN = [''.join(file.read_text().split()) for file in FILES
+           if file.suffix in ('.c', '.h', '.rs', '.toml')]
 LINES_OF_PROOFS = {' '.join(line.split()).replace('Rattle.uses.', 'Rattle.my_crate.')
                    for text in SPECS.values() for line in text.split('\n')}
 CLAUSES, OTHERS = clauses()
@@ -83,16 +87,17 @@ ALL_CLAUSES = set().union(*CLAUSES.values())
 
 
 def proves(block):
-    """whether a block proves as the one file of a crate above the library"""
+    """whether a block proves as the one file of a crate above a copy of the library, in half a
+    minute if the library is proved already"""
     with tempfile.TemporaryDirectory() as room:
         crates = pathlib.Path(room) / 'crates'
         (crates / 'my_crate/src').mkdir(parents=True)
-        for folder in (ROOT / 'crates').iterdir():
-            if folder.name.startswith('etherparse'):
-                (crates / folder.name).symlink_to(folder)
-        lines = (ROOT / 'crates.txt').read_text()
-        needs = 'my_crate: etherparse etherparse_fields arrayvec\n'
-        (crates.parent / 'crates.txt').write_text(lines + needs)
+        lines = [line + '\n' for line in (ROOT / 'crates.txt').read_text().split('\n')
+                 if line.split(':')[0] in LIBRARY]
+        for name in LIBRARY:
+            shutil.copytree(ROOT / 'crates' / name, crates / name)
+        lines.append('my_crate: etherparse etherparse_fields arrayvec\n')
+        (crates.parent / 'crates.txt').write_text(''.join(lines))
         head = '' if '#![tactic' in block else '#![tactic(auto)]\n\n'
         (crates / 'my_crate/src/lib.rt').write_text(head + block)
         done = subprocess.run(['rt', 'check'], cwd=crates / 'my_crate', capture_output=True,
@@ -100,20 +105,37 @@ def proves(block):
         return 'logic=proved' in done.stdout + done.stderr
 
 
+def compiles(block):
+    """whether a block in C compiles, with the library's header file at hand"""
+    compiler = ['gcc', '-std=c11', '-fsyntax-only', '-xc', '-']
+    include = ['-I', str(ROOT / 'crates/etherparse_c/include')]
+    return subprocess.run(compiler + include, input=block, capture_output=True, text=True,
+                          check=False).returncode == 0
+
+
 # What a page says.
 
 def blocks(text):
-    """the fenced blocks of a page or of a comment: language and text"""
-    return re.findall(r'^```(\w*)\n(.*?)^```$', text, re.S | re.M)
+    """the blocks of a page or of a comment, in their order: the language of a fenced one, `sh`
+    where it is indented by four blanks, and the text"""
+    found = re.findall(r'^```(\w*)\n(.*?)^```$|((?:^    [^\n]*\n)+)', text + '\n', re.S | re.M)
+    return [('sh', re.sub(r'^    ', '', indented, flags=re.M)) if indented else (language, block)
+            for language, block, indented in found]
 
 
 def check_code(page, text):
     for language, block in blocks(text):
         first = next(iter(block.strip().split('\n')), '')
+        foreign = ''.join(block.split())
         if language == 'rust':
             squeezed = without_contracts(block)
             stands = any(squeezed in source for source in SQUEEZED.values())
+            stands = stands or any(foreign in source for source in FOREIGN)
             judge(page, first, stands or proves(block), 'stands nowhere, and does not prove')
+        elif language in ('c', 'toml'):
+            stands = any(foreign in source for source in FOREIGN)
+            works = stands or (language == 'c' and compiles(block))
+            judge(page, first, works, 'stands nowhere, and does not compile')
         elif language == 'antt':
             for line in block.strip().split('\n'):
                 is_there = not line or ' '.join(line.split()) in LINES_OF_PROOFS
@@ -141,7 +163,7 @@ def check_comments(file, text):
     tests = [source for path, source in SQUEEZED.items()
              if 'etherparse_tests/src/examples' in str(path) or 'uses/src' in str(path)]
     for language, block in blocks(comment):
-        if language != 'text':
+        if language == '':
             first = block.strip().split('\n')[0]
             stands = any(without_contracts(block) in test for test in tests)
             judge(file, first, stands, 'stands in no test and no caller')
@@ -192,20 +214,18 @@ def is_word(name):
 
 
 def check_commands(page, text):
-    """commands are lines that are indented by four blanks"""
-    indented = re.split(r'\n(?!    )', text)
-    chunks = [re.sub(r'^    ', '', chunk, flags=re.M) for block in indented
-              if (chunk := '\n'.join(line for line in block.split('\n') if line.startswith('    ')))]
-    for at, chunk in enumerate(chunks):
-        for line in chunk.split('\n'):
+    given = [block for language, block in blocks(text) if language in ('sh', 'console')]
+    for at, block in enumerate(given):
+        for line in block.strip().split('\n'):
+            line = line.removeprefix('$ ')
             first = re.sub(r'^\(?(cd [\w/]+ && )?(\w+=\S+ )*', '', line).split(' ')[0]
             is_script = re.fullmatch(r'[\w./-]+\.(sh|py)|\.ci/run', first)
             if not is_script and not (shutil.which(first) and ' ' in line):
                 continue
             judge(page, line, not is_script or is_there(page, first), 'there is no such script')
             check_operands(page, line)
-            if '| rt run' in line and 'crates/iphead' in line and at + 1 < len(chunks):
-                check_run(page, line, chunks[at + 1])
+            if '| rt run' in line and 'crates/iphead' in line and at + 1 < len(given):
+                check_run(page, line, given[at + 1])
 
 
 def check_operands(page, line):
