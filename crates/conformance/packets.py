@@ -572,27 +572,27 @@ def agree(who, what, packet, told, read):
 
 
 def ask_sample(packet):
-    """the answers of the cases before, which the oracle gave"""
+    """the answers of the cases before, which the reference gave"""
     version = packet[0] // 16 if packet else 0
     hexed = packet.hex() or '-'
     if version in (4, 6) and f'v{version}.head {hexed}' in known:
         told = known[f'v{version}.head {hexed}']
         try:
             parts = (read_header4 if version == 4 else read_header6)(packet)
-            agree('the oracle', 'header', packet, told.split(' rest=')[0],
+            agree('the reference', 'header', packet, told.split(' rest=')[0],
                   'ok ' + named(parts, FIELDS[version]))
         except Refused as error:
-            agree('the oracle', 'refusal of a header', packet, told, str(error))
+            agree('the reference', 'refusal of a header', packet, told, str(error))
     if version == 6 and len(packet) >= 40:
         case = f"walk {packet[40:].hex() or '-'} {packet[6]}"
         if case in known and len(packet) == 40 + int.from_bytes(packet[4:6], 'big'):
             try:
                 _, number, place = read_extensions(packet[40:], packet[6])
-                agree('the oracle', 'upper layer', packet, known[case],
+                agree('the reference', 'upper layer', packet, known[case],
                       f'ok next={number} rest={shown(packet[40 + place:])}')
             except Refused as error:
                 front, offset = known[case].rsplit('=', 1)
-                agree('the oracle', 'incomplete extension header', packet,
+                agree('the reference', 'incomplete extension header', packet,
                       f'{front}={int(offset) + 40}', str(error))
 
 
