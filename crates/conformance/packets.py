@@ -21,7 +21,8 @@ from scapy.utils import checksum as scapy_checksum
 # how many packets of the cases before, and how many that are refused in one way
 MOST_FROM_SAMPLE, MOST_REFUSED = 1500, 12
 EXTENSIONS = 0, 43, 44, 51, 60, 135, 139, 140
-TRANSLATED = {'from': bytes([198, 51, 100, 7]), 'to': bytes([203, 0, 113, 9])}
+# the addresses that translation gives (RFC 5737)
+SOURCE, DESTINATION = bytes([198, 51, 100, 7]), bytes([203, 0, 113, 9])
 NEAR4, FAR4 = bytes([192, 168, 0, 1]), bytes([192, 168, 0, 199])
 NEAR6, FAR6 = (bytes.fromhex('20010db8' + '00' * 11) + bytes([n]) for n in (1, 2))
 # lines that are no case
@@ -231,15 +232,18 @@ def updated(checksum, old, new):
     return 0xffff - ones_complement_sum(struct.pack(f'!{len(words)}H', *words))
 
 
-def translate(parts, checksum, name):
-    """RFC 3022: another source or destination address, and both checksums"""
-    field = 'source' if name == 'from' else 'destination'
-    old, new = parts[field], TRANSLATED[name]
-    made = updated(checksum, old, new)
-    if parts['upper'] == 17:
-        made = (made or 0xffff) if checksum else 0
-    return {**{n: parts[n] for n in ('source', 'destination')}, field: new,
-            'header_checksum': updated(parts['header_checksum'], old, new), 'checksum': made}
+def translate(parts, checksum):
+    """RFC 3022: another source and another destination, and both checksums"""
+    made = dict(source=SOURCE, destination=DESTINATION, header_checksum=parts['header_checksum'],
+                checksum=checksum)
+    for field in 'source', 'destination':
+        for name in 'header_checksum', 'checksum':
+            anew = updated(made[name], parts[field], made[field])
+            if name == 'checksum' and parts['upper'] == 17:
+                # 0 says that there is none (RFC 768)
+                anew = (anew or 0xffff) if checksum else 0
+            made[name] = anew
+    return made
 
 
 # How answers are written.
@@ -293,9 +297,9 @@ def upper_layer(parts, read):
     if name == 'echo':
         return [named(found)]
     said = [f'{name} {named(found)}']
-    for way in TRANSLATED if parts['version'] == 4 else ():
-        read[way] = translate(parts, found['checksum'], way)
-        said.append(f'{way} {named(read[way])}')
+    if parts['version'] == 4:
+        read['translated'] = translate(parts, found['checksum'])
+        said.append(f"translated {named(read['translated'])}")
     return said
 
 
@@ -317,6 +321,7 @@ def fragment_of(packet):
                               rest=found[1])
     try:
         found = find()
+        found = found and dict(found, more_fragments=int(found['more_fragments']))
         said = 'fragment_header ' + named(found, '''next_header fragment_offset more_fragments
             identification rest'''.split()) if found else 'fragment_header=none'
     except Refused as error:
@@ -505,15 +510,20 @@ def worked_ipv4():
         yield in_ipv4(data, 17, services=services)
     for number in 0, 2, 4, 41, 50, 51, 136, 255:
         yield in_ipv4(data, number)
-    # checksums that translation makes 0, of the header and of the upper layer: what they are where
-    # a word is 0 is the word that makes them so
-    for way in TRANSLATED:
-        for number, make in (17, udp), (6, tcp):
-            for field, with_word in (
-                    ('header_checksum', lambda n: in_ipv4(make(4, b'zero'), number,
-                                                          identification=n)),
-                    ('checksum', lambda n: in_ipv4(make(4, struct.pack('!H', n)), number))):
-                yield with_word(answer_of(with_word(0))[1][way][field])
+    # checksums that translation makes 0, of the header and of the upper layer, that one also by the
+    # first address alone: what it is where a word is 0 is the word that makes it so
+    for number, make in (17, udp), (6, tcp):
+        def with_word(n):
+            return in_ipv4(make(4, struct.pack('!H', n)), number)
+
+        def with_identification(n):
+            return in_ipv4(make(4, b'zero'), number, identification=n)
+
+        read = answer_of(with_word(0))[1]
+        yield with_word(read['translated']['checksum'])
+        yield with_word(updated(read[{17: 'udp', 6: 'tcp'}[number]]['checksum'], NEAR4, SOURCE))
+        read = answer_of(with_identification(0))[1]
+        yield with_identification(read['translated']['header_checksum'])
 
 
 def worked_ipv6():
@@ -611,9 +621,8 @@ def ask_scapy(packet, read):
         ask_scapy_of_tcp(packet, TCP(parts['payload']), read['tcp'])
     if read.get('echo', {}).get('reply'):
         agree('scapy', 'echo reply', packet, reply_by_scapy(parts), read['echo']['message'])
-    for way in TRANSLATED:
-        if way in read:
-            ask_scapy_of_translation(packet, read, way)
+    if 'translated' in read:
+        ask_scapy_of_translation(packet, read)
 
 
 def ask_scapy_of_header(packet, parts, ip, ends):
@@ -671,9 +680,9 @@ def reply_by_scapy(parts):
     return bytes(ends / ICMPv6EchoReply(id=number, seq=sequence, data=data))[40:]
 
 
-def translated(packet, read, way):
-    """the packet with the address and the checksums of a translation"""
-    parts, made = read['packet'], read[way]
+def translated(packet, read):
+    """the packet with the addresses and the checksums of a translation"""
+    parts, made = read['packet'], read['translated']
     front = 4 * (packet[0] % 16)
     place = front + (6 if parts['upper'] == 17 else 16)
     body = packet[20:place] + struct.pack('!H', made['checksum']) + packet[place + 2:]
@@ -681,11 +690,11 @@ def translated(packet, read, way):
             + made['destination'] + body)
 
 
-def ask_scapy_of_translation(packet, read, way):
+def ask_scapy_of_translation(packet, read):
     """computed anew where it was right before; else as wrong as it was"""
-    parts, made = read['packet'], read[way]
+    parts, made = read['packet'], read['translated']
     name = 'tcp' if parts['upper'] == 6 else 'udp'
-    after = translated(packet, read, way)
+    after = translated(packet, read)
     front = parts['header_len']
     if scapy_checksum(packet[:front]) == 0:
         anew = scapy_checksum(after[:10] + bytes(2) + after[12:front])
@@ -857,14 +866,13 @@ def made_of(packet, read):
         else:
             yield 'reply', in_ipv6(message, 58, source=parts['destination'],
                                    destination=parts['source']), {'icmpv6.checksum.status': True}
-    for way in TRANSLATED:
-        if way in read:
-            name = 'tcp' if parts['upper'] == 6 else 'udp'
-            expected = {'ip.checksum.status':
-                        ones_complement_sum(packet[:parts['header_len']]) == 0xffff}
-            if 'right' in read[name]:
-                expected[f'{name}.checksum.status'] = read[name]['right']
-            yield 'translated', translated(packet, read, way), expected
+    if 'translated' in read:
+        name = 'tcp' if parts['upper'] == 6 else 'udp'
+        expected = {'ip.checksum.status':
+                    ones_complement_sum(packet[:parts['header_len']]) == 0xffff}
+        if 'right' in read[name]:
+            expected[f'{name}.checksum.status'] = read[name]['right']
+        yield 'translated', translated(packet, read), expected
 
 
 def main():

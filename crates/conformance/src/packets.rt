@@ -39,7 +39,11 @@ pub fn answer(
         }
         Err(e) => write_refusal(&e, answer)?,
     }
-    write_keys(&bytes, answer)
+    match bytes.first() {
+        Some(first) if *first >> 4 == 4 => write_ipv4_key(&bytes, answer),
+        Some(first) if *first >> 4 == 6 => write_ipv6_key(&bytes, answer),
+        _ => Ok(()),
+    }
 }
 
 fn write_refusal(e: &IpSliceError, answer: &mut String) -> Result<(), AllocError> {
@@ -92,46 +96,73 @@ fn write_upper(slice: &IpSlice, alloc: Global, answer: &mut String) -> Result<()
     }
 }
 
-// A UDP header, and the checksum of its datagram, which ends where its length says.
+// A UDP header, and the checksum of its datagram.
 fn write_udp(slice: &IpSlice, answer: &mut String) -> Result<(), AllocError> {
-    let (mut udp, rest) = match UdpHeader::from_slice(slice.payload()) {
-        Ok(read) => read,
-        Err(e) => return write!(answer, " ; udp={}", Len(&e)),
-    };
+    match UdpHeader::from_slice(slice.payload()) {
+        Ok((mut udp, rest)) => {
+            let checksum = udp.checksum;
+            write_udp_fields(&udp, answer)?;
+            write_udp_checksum(slice, &mut udp, rest, answer)?;
+            write_translated(slice, checksum, answer)
+        }
+        Err(e) => write!(answer, " ; udp={}", Len(&e)),
+    }
+}
+
+fn write_udp_fields(udp: &UdpHeader, answer: &mut String) -> Result<(), AllocError> {
     let numbers = [
         ("source_port", udp.source_port),
         ("destination_port", udp.destination_port),
         ("length", udp.length),
         ("checksum", udp.checksum),
     ];
-    write!(answer, " ; udp {}", Named(&numbers))?;
-    let received = udp.checksum;
+    write!(answer, " ; udp {}", Named(&numbers))
+}
+
+// Whether the checksum of a datagram is right, and its header with one that is made, where the
+// payload has as many bytes as the length says.
+fn write_udp_checksum(
+    slice: &IpSlice,
+    udp: &mut UdpHeader,
+    rest: &[u8],
+    answer: &mut String,
+) -> Result<(), AllocError> {
     let len = usize::from(udp.length);
-    if len >= 8 && len - 8 <= rest.len() {
-        let data = &rest[..len - 8];
-        let is_right = match slice {
-            IpSlice::Ipv4 { header, .. } => udp.is_right_ipv4(header, data),
-            IpSlice::Ipv6 { header, .. } => udp.is_right_ipv6(header, data),
-        };
-        match slice {
-            IpSlice::Ipv4 { header, .. } => udp.set_checksum_ipv4(header, data),
-            IpSlice::Ipv6 { header, .. } => udp.set_checksum_ipv6(header, data),
-        }
-        write!(answer, " right={is_right} made={}", Bytes(&udp.to_bytes()))?;
+    if len < 8 || rest.len() < len - 8 {
+        return Ok(());
     }
-    write_translated(slice, received, answer)
+    let data = &rest[..len - 8];
+    let is_right = match slice {
+        IpSlice::Ipv4 { header, .. } => {
+            let is_right = udp.is_right_ipv4(header, data);
+            udp.set_checksum_ipv4(header, data);
+            is_right
+        }
+        IpSlice::Ipv6 { header, .. } => {
+            let is_right = udp.is_right_ipv6(header, data);
+            udp.set_checksum_ipv6(header, data);
+            is_right
+        }
+    };
+    write!(answer, " right={is_right} made={}", Bytes(&udp.to_bytes()))
 }
 
 // A TCP header, and the checksum of its segment.
 fn write_tcp(slice: &IpSlice, answer: &mut String) -> Result<(), AllocError> {
-    let segment = slice.payload();
-    let view = match TcpHeaderSlice::from_slice(segment) {
-        Ok(view) => view,
-        Err(TcpError::Len(e)) => return write!(answer, " ; tcp={}", Len(&e)),
-        Err(TcpError::DataOffset(offset)) => {
-            return write!(answer, " ; tcp=err data_offset offset={offset}");
+    match TcpHeaderSlice::from_slice(slice.payload()) {
+        Ok(view) => {
+            write_tcp_fields(&view, answer)?;
+            write!(answer, " right={}", is_tcp_right(slice))?;
+            write_translated(slice, view.checksum(), answer)
         }
-    };
+        Err(TcpError::Len(e)) => write!(answer, " ; tcp={}", Len(&e)),
+        Err(TcpError::DataOffset(offset)) => {
+            write!(answer, " ; tcp=err data_offset offset={offset}")
+        }
+    }
+}
+
+fn write_tcp_fields(view: &TcpHeaderSlice, answer: &mut String) -> Result<(), AllocError> {
     let numbers = [
         ("source_port", u32::from(view.source_port())),
         ("destination_port", u32::from(view.destination_port())),
@@ -149,56 +180,51 @@ fn write_tcp(slice: &IpSlice, answer: &mut String) -> Result<(), AllocError> {
         ("rst", view.rst()),
         ("ack", view.ack()),
     ];
-    let is_right = match slice {
-        IpSlice::Ipv4 { header, .. } => is_tcp_right_ipv4(header, segment),
-        IpSlice::Ipv6 { header, .. } => is_tcp_right_ipv6(header, segment),
-    };
     write!(answer, " ; tcp {} {}", Named(&numbers), Named(&flags))?;
-    write!(
-        answer,
-        " options={} right={is_right}",
-        Bytes(view.options())
-    )?;
-    write_translated(slice, view.checksum(), answer)
+    write!(answer, " options={}", Bytes(view.options()))
 }
 
-// The header and the checksum of UDP or TCP of an IPv4 packet from or to another address.
+fn is_tcp_right(slice: &IpSlice) -> bool {
+    match slice {
+        IpSlice::Ipv4 { header, payload } => is_tcp_right_ipv4(header, payload),
+        IpSlice::Ipv6 {
+            header,
+            payload,
+            ..
+        } => is_tcp_right_ipv6(header, payload),
+    }
+}
+
+// The header of an IPv4 packet and the checksum of UDP or TCP, with other addresses.
 fn write_translated(slice: &IpSlice, checksum: u16, answer: &mut String) -> Result<(), AllocError> {
     let IpSlice::Ipv4 { header, .. } = slice else {
         return Ok(());
     };
-    let (mut from, mut to) = (header.clone()?, header.clone()?);
-    let (from_checksum, to_checksum) = if header.protocol == IpNumber::UDP {
-        (
-            translate_udp_source(&mut from, checksum, SOURCE),
-            translate_udp_destination(&mut to, checksum, DESTINATION),
-        )
-    } else {
-        (
-            translate_tcp_source(&mut from, checksum, SOURCE),
-            translate_tcp_destination(&mut to, checksum, DESTINATION),
-        )
-    };
-    write_translation("from", &from, from_checksum, answer)?;
-    write_translation("to", &to, to_checksum, answer)
-}
-
-fn write_translation(
-    name: &str,
-    header: &Ipv4Header,
-    checksum: u16,
-    answer: &mut String,
-) -> Result<(), AllocError> {
+    let mut header = header.clone()?;
+    let checksum = translated(&mut header, checksum);
+    let checksums = [
+        ("header_checksum", header.header_checksum),
+        ("checksum", checksum),
+    ];
     let addresses = [
         ("source", Bytes(&header.source)),
         ("destination", Bytes(&header.destination)),
     ];
-    write!(answer, " ; {name} {}", Named(&addresses))?;
-    let header_checksum = header.header_checksum;
     write!(
         answer,
-        " header_checksum={header_checksum} checksum={checksum}"
+        " ; translated {} {}",
+        Named(&addresses),
+        Named(&checksums)
     )
+}
+
+fn translated(header: &mut Ipv4Header, checksum: u16) -> u16 {
+    if header.protocol == IpNumber::UDP {
+        let checksum = translate_udp_source(header, checksum, SOURCE);
+        return translate_udp_destination(header, checksum, DESTINATION);
+    }
+    let checksum = translate_tcp_source(header, checksum, SOURCE);
+    translate_tcp_destination(header, checksum, DESTINATION)
 }
 
 // The reply to an echo request, or the message as it was. It goes back to where that came from.
@@ -217,23 +243,7 @@ fn write_echo(slice: &IpSlice, alloc: Global, answer: &mut String) -> Result<(),
     )
 }
 
-// The key by which fragments belong together, for the version of the first byte; over IPv6 the
-// fragment header too.
-fn write_keys(packet: &[u8], answer: &mut String) -> Result<(), AllocError> {
-    let version = match packet.first() {
-        Some(first) => *first >> 4,
-        None => return Ok(()),
-    };
-    match version {
-        4 => write_ipv4_key(packet, answer),
-        6 => {
-            write_fragment_header(packet, answer)?;
-            write_ipv6_key(packet, answer)
-        }
-        _ => Ok(()),
-    }
-}
-
+// The key by which fragments of a packet of version 4 belong together.
 fn write_ipv4_key(packet: &[u8], answer: &mut String) -> Result<(), AllocError> {
     match ipv4_key(packet) {
         Ok(Some(key)) => write!(
@@ -249,7 +259,13 @@ fn write_ipv4_key(packet: &[u8], answer: &mut String) -> Result<(), AllocError> 
     }
 }
 
+// The fragment header of a packet of version 6, and the key.
 fn write_ipv6_key(packet: &[u8], answer: &mut String) -> Result<(), AllocError> {
+    match ipv6_fragment(packet) {
+        Ok(Some(found)) => write_fragment_header(&found.fragment, found.payload, answer)?,
+        Ok(None) => write!(answer, " ; fragment_header=none")?,
+        Err(e) => write!(answer, " ; fragment_header={}", Ipv6Refusal(&e))?,
+    }
     match ipv6_key(packet) {
         Ok(Some(key)) => write!(
             answer,
@@ -263,27 +279,21 @@ fn write_ipv6_key(packet: &[u8], answer: &mut String) -> Result<(), AllocError> 
     }
 }
 
-fn write_fragment_header(packet: &[u8], answer: &mut String) -> Result<(), AllocError> {
-    match ipv6_fragment(packet) {
-        Ok(Some(found)) => {
-            let FragmentHeader {
-                next_header,
-                fragment_offset,
-                more_fragments,
-                identification,
-            } = &found.fragment;
-            write!(
-                answer,
-                " ; fragment_header next_header={} fragment_offset={fragment_offset}",
-                next_header.0
-            )?;
-            write!(
-                answer,
-                " more_fragments={more_fragments} identification={identification} rest={}",
-                Bytes(found.payload)
-            )
-        }
-        Ok(None) => write!(answer, " ; fragment_header=none"),
-        Err(e) => write!(answer, " ; fragment_header={}", Ipv6Refusal(&e)),
-    }
+fn write_fragment_header(
+    header: &FragmentHeader,
+    rest: &[u8],
+    answer: &mut String,
+) -> Result<(), AllocError> {
+    let numbers = [
+        ("next_header", u32::from(header.next_header.0)),
+        ("fragment_offset", u32::from(header.fragment_offset.value())),
+        ("more_fragments", u32::from(header.more_fragments)),
+        ("identification", header.identification),
+    ];
+    write!(
+        answer,
+        " ; fragment_header {} rest={}",
+        Named(&numbers),
+        Bytes(rest)
+    )
 }
