@@ -1,27 +1,28 @@
 #!/bin/sh
-# counts.sh: how many instructions a call takes of each library, by valgrind, which do not depend on what else the machine does.
-# After run.sh, whose benchmark it calls.
+# counts.sh: how many instructions a call takes of each library, by valgrind, which do not vary with load. After run.sh, whose
+# benchmark it calls.
 set -eu
 here=$(CDPATH= cd -- "$(dirname -- "$0")" && pwd)
 bench=$here/out/bench
+layout=$here/out/layout-16
 calls=1024
 
-# The instructions of so many calls of a line.
+# The instructions of so many calls of a line and a column.
 counted() {
-  valgrind --tool=callgrind --callgrind-out-file=/dev/null --collect-atstart=no --toggle-collect="$2_ipv*" \
-    --toggle-collect="$2_u64_*" --toggle-collect="$2_u32_*" "$bench" call "$1" "$3" "$calls" 2>&1 > /dev/null |
-    sed -n 's/.*Collected : *//p'
+  valgrind --tool=callgrind --callgrind-out-file=/dev/null --collect-atstart=no --toggle-collect="$3_*" \
+    "$bench" call "$layout" "$1" "$2" "$calls" 2>&1 > /dev/null | sed -n 's/.*Collected : *//p'
 }
 
-printf '%-44s %14s %12s %12s %7s\n' "" bytes "Rust crate" proved ratio
+printf '%-52s %16s %9s %9s %9s\n' "" bytes crate lto proved
 line=0
-while name=$("$bench" call "$line" upstream 0); do
+while name=$("$bench" call "$layout" "$line" 2 0); do
   case $name in
-  *"one after the other"*) break ;; # the same calls as side by side
+  *", around"* | *"one after the other"*) ;; # the same calls as mixed and constant ones
+  *)
+    echo "$name	$(counted "$line" 0 upstream)	$(counted "$line" 1 upstream)	$(counted "$line" 3 etherparse)" |
+      awk -F '\t' -v calls="$calls" '{
+        printf "%-52s %16s %9.1f %9.1f %9.1f\n", $1, $2, $3 / calls, $4 / calls, $5 / calls }'
+    ;;
   esac
-  first=$(counted "$line" upstream upstream)
-  second=$(counted "$line" etherparse proved)
-  echo "$name" "$first" "$second" "$calls" | awk -v name="$name" '{
-    printf "%s %12.1f %12.1f %7.2f\n", name, $(NF - 2) / $NF, $(NF - 1) / $NF, $(NF - 1) / $(NF - 2) }'
   line=$((line + 1))
 done

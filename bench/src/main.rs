@@ -1,62 +1,65 @@
-//! Times the proved library beside the Rust crate, call for call, in one process.
+//! Times the proved library beside two builds of the Rust crate and Linux's sum, call for call, in one process.
 
-mod calls;
 mod compare;
 #[path = "../../crates/etherparse_c/include/etherparse.rs"]
 mod etherparse;
+mod library;
 mod packets;
 mod random;
 mod rounds;
+mod table;
 mod times;
 
-use rounds::{compare_times, Batch};
+use library::Libraries;
 use std::process::exit;
-use upstream as _;
-
-/// What is done with a line: what is called, over how many bytes, and a batch of each library.
-pub type Line<'a> = dyn FnMut(&str, &str, &Batch, &Batch) + 'a;
 
 fn main() {
     let arguments: Vec<String> = std::env::args().skip(1).collect();
     let arguments: Vec<&str> = arguments.iter().map(String::as_str).collect();
     match arguments[..] {
-        [] => time_all(301),
-        [rounds] => time_all(rounds.parse().expect("the number of rounds")),
-        ["call", line, library, calls] => call_one(
-            line.parse().expect("the number of a line"),
-            library == "proved",
-            calls.parse().expect("the number of calls"),
-        ),
+        ["compare", folder] => println!("{} answers are the same.", compare::compare(&Libraries::open(folder))),
+        ["time", folder, rounds] => time_all(&Libraries::open(folder), number_of(rounds)),
+        ["call", folder, line, column, calls] => {
+            call_one(&Libraries::open(folder), number_of(line), number_of(column), number_of(calls))
+        }
+        ["table", ref files @ ..] if !files.is_empty() => table::print(files),
         _ => {
-            eprintln!("usage: bench [ROUNDS], or bench call LINE upstream|proved CALLS");
+            eprintln!("usage: bench compare FOLDER | time FOLDER ROUNDS | call FOLDER LINE COLUMN CALLS | table FILE..");
             exit(2)
         }
     }
 }
 
-fn time_all(rounds: usize) {
-    println!("{} answers are the same. {rounds} rounds:\n", compare::compare());
-    println!(
-        "{:<44} {:>14} {:>12} {:>12} {:>7}   {:<13} of the least",
-        "", "bytes", "Rust crate", "proved", "ratio", "middle half"
-    );
-    times::each(&mut |what, bytes, upstream, proved| {
-        let it = compare_times(rounds, upstream, proved);
-        println!(
-            "{what:<44} {bytes:>14} {:>9.2} ns {:>9.2} ns {:>7.2}   {:.2} to {:.2}  {:.2}",
-            it.upstream, it.proved, it.ratio, it.quartiles.0, it.quartiles.1, it.least
-        );
+fn number_of(text: &str) -> usize {
+    text.parse().expect("a number")
+}
+
+// One line of numbers for each line, with tabs between.
+fn time_all(libraries: &Libraries, rounds: usize) {
+    println!("clock\t\t{:.4}", rounds::nanoseconds_of_a_cycle());
+    times::each(libraries, &mut |row| {
+        let figures = rounds::compare_times(rounds, row);
+        print!("{}\t{}", row.what, row.bytes);
+        for figure in figures.nanoseconds.iter().chain(&figures.ratios) {
+            match figure {
+                Some(figure) => print!("\t{figure:.4}"),
+                None => print!("\t-"),
+            }
+        }
+        println!();
     });
 }
 
-// The calls of one line and one library, with nothing timed: for a program that counts instructions.
-fn call_one(line: usize, is_proved: bool, calls: u32) {
+// The calls of one line and one column, with nothing timed: for a program that counts instructions.
+fn call_one(libraries: &Libraries, line: usize, column: usize, calls: usize) {
     let (mut number, mut is_there) = (0, false);
-    times::each(&mut |what, bytes, upstream, proved| {
+    times::each(libraries, &mut |row| {
         if number == line {
             is_there = true;
-            println!("{what:<44} {bytes:>14}");
-            std::hint::black_box(if is_proved { proved } else { upstream }(calls));
+            println!("{}\t{}", row.what, row.bytes);
+            if let Some(batch) = &row.batches[column] {
+                std::hint::black_box(batch(calls as u32));
+            }
         }
         number += 1;
     });

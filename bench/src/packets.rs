@@ -41,6 +41,21 @@ pub fn some_slice(random: &mut Random) -> Vec<u8> {
     bytes
 }
 
+/// A packet of either version, with options or extension headers, or a slice of any kind.
+pub fn some_packet(random: &mut Random) -> Vec<u8> {
+    match random.below(3) {
+        0 => {
+            let options_len = 4 * random_below(random, 11);
+            ipv4(random, options_len, 8)
+        }
+        1 => {
+            let count = random_below(random, 6);
+            ipv6_with_chain(random, count)
+        }
+        _ => some_slice(random),
+    }
+}
+
 /// An IPv4 packet with so many bytes of options and of payload.
 pub fn ipv4(random: &mut Random, options_len: usize, payload_len: usize) -> Vec<u8> {
     let mut bytes = vec![0; 20 + options_len + payload_len];
@@ -54,6 +69,15 @@ pub fn ipv6(random: &mut Random) -> Vec<u8> {
     let mut bytes = vec![0; 40];
     random.fill(&mut bytes);
     bytes[0] = 0x60 + bytes[0] % 16;
+    bytes
+}
+
+/// An IPv6 packet with so many extension headers and 20 bytes of UDP after them.
+pub fn ipv6_with_chain(random: &mut Random, count: usize) -> Vec<u8> {
+    let mut bytes = ipv6(random);
+    let (first, rest) = chain(random, count);
+    bytes[6] = first;
+    bytes.extend(rest);
     bytes
 }
 

@@ -1,66 +1,80 @@
-//! Pairs of batches, one of each library, in turns.
+//! Rounds of batches, one of each library, in turns.
 
+use crate::times::{Row, COLUMNS, PROVED};
 use std::hint::black_box;
 use std::time::Instant;
 
 /// So many calls of one library; what they answered, together.
 pub type Batch<'a> = dyn Fn(u32) -> u64 + 'a;
 
-/// What the rounds of one pair say: nanoseconds a call as the median of each library; of each round the time of the proved
-/// library as a part of the Rust crate's, as the median and the quartiles; and the same of the shortest batch of each.
+/// What the rounds of a row say: nanoseconds a call, as the median of each column; and the time of the proved library as a part
+/// of each other column's in the same round, as the median.
 pub struct Figures {
-    pub upstream: f64,
-    pub proved: f64,
-    pub ratio: f64,
-    pub quartiles: (f64, f64),
-    pub least: f64,
+    pub nanoseconds: [Option<f64>; COLUMNS],
+    pub ratios: [Option<f64>; COLUMNS - 1],
 }
 
 // How long a batch takes at least.
 const BATCH_NANOSECONDS: f64 = 150_000.0;
 
-/// Times both in each round, and lets them change places from one round to the next.
-pub fn compare_times(rounds: usize, upstream: &Batch, proved: &Batch) -> Figures {
-    let calls = calls_of_a_batch(upstream);
-    let _ = nanoseconds(proved, calls);
-    let (mut first, mut second, mut ratios) = (vec![], vec![], vec![]);
+/// Times all columns in each round; from one round to the next another one is the first.
+pub fn compare_times(rounds: usize, row: &Row) -> Figures {
+    let columns: Vec<usize> = (0..COLUMNS).filter(|column| row.batches[*column].is_some()).collect();
+    let calls = calls_of_a_batch(row);
+    let mut times: [Vec<f64>; COLUMNS] = Default::default();
+    let mut ratios: [Vec<f64>; COLUMNS] = Default::default();
     for round in 0..rounds {
-        let (a, b) = if round % 2 == 0 {
-            let a = nanoseconds(upstream, calls);
-            (a, nanoseconds(proved, calls))
-        } else {
-            let b = nanoseconds(proved, calls);
-            (nanoseconds(upstream, calls), b)
-        };
-        first.push(a / f64::from(calls));
-        second.push(b / f64::from(calls));
-        ratios.push(b / a);
+        let mut each = [0.0; COLUMNS];
+        for turn in 0..columns.len() {
+            let column = columns[(round + turn) % columns.len()];
+            each[column] = nanoseconds(row, column, calls) / f64::from(calls);
+            times[column].push(each[column]);
+        }
+        for column in &columns {
+            ratios[*column].push(each[PROVED] / each[*column]);
+        }
     }
+    let [first, second, third, _] = ratios;
     Figures {
-        upstream: part(&mut first, 0.5),
-        proved: part(&mut second, 0.5),
-        ratio: part(&mut ratios, 0.5),
-        quartiles: (part(&mut ratios, 0.25), part(&mut ratios, 0.75)),
-        least: part(&mut second, 0.0) / part(&mut first, 0.0),
+        nanoseconds: times.map(median),
+        ratios: [first, second, third].map(median),
     }
 }
 
-fn calls_of_a_batch(batch: &Batch) -> u32 {
-    let mut calls = 16;
-    while nanoseconds(batch, calls) < BATCH_NANOSECONDS && calls < 1 << 24 {
+/// How long one cycle takes: a turn of this loop waits for the one before, which takes one.
+pub fn nanoseconds_of_a_cycle() -> f64 {
+    let turns: u64 = 1_000_000;
+    let times = (0..101).map(|_| {
+        let start = Instant::now();
+        unsafe {
+            std::arch::asm!("2:", "dec {0}", "jnz 2b", inout(reg) turns => _);
+        }
+        start.elapsed().as_nanos() as f64 / turns as f64
+    });
+    median(times.collect()).unwrap_or(0.0)
+}
+
+fn calls_of_a_batch(row: &Row) -> u32 {
+    let mut calls = row.least_calls;
+    while nanoseconds(row, PROVED, calls) < BATCH_NANOSECONDS && calls < 1 << 24 {
         calls *= 2;
+    }
+    for column in 0..COLUMNS {
+        nanoseconds(row, column, calls);
     }
     calls
 }
 
-fn nanoseconds(batch: &Batch, calls: u32) -> f64 {
+fn nanoseconds(row: &Row, column: usize, calls: u32) -> f64 {
     let start = Instant::now();
-    black_box(batch(black_box(calls)));
+    if let Some(batch) = &row.batches[column] {
+        black_box(batch(black_box(calls)));
+    }
     start.elapsed().as_nanos() as f64
 }
 
-// The value below which this part of the values lies.
-fn part(values: &mut [f64], part: f64) -> f64 {
+/// The value in the middle.
+pub fn median(mut values: Vec<f64>) -> Option<f64> {
     values.sort_by(f64::total_cmp);
-    values[((values.len() - 1) as f64 * part).round() as usize]
+    values.get(values.len() / 2).copied()
 }

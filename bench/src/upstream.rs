@@ -1,8 +1,9 @@
-//! The Rust crate's calls, exported as the proved library exports its own: one `extern "C"` function each, which nothing
-//! inlines into the benchmark, since that declares it as foreign.
+//! The Rust crate's calls, exported as the proved library exports its own: one `extern "C"` function each. It is built twice:
+//! with the Rust crate as a dependency, and with both of them and std as one by link-time optimisation.
 
 #[path = "../../crates/etherparse_c/include/etherparse.rs"]
 mod c;
+mod loops;
 
 use c::{
     Error, Ipv4Bytes, Ipv4Fields, Ipv4Lengths, Ipv4ReadAnswer, Ipv4View, Ipv4ViewAnswer, Ipv6Bytes, Ipv6Fields,
@@ -95,7 +96,20 @@ unsafe fn slice_of<'a>(at: *const u8, len: usize) -> &'a [u8] {
 ///
 /// `at` points to `len` bytes, or `len` is 0.
 #[no_mangle]
-pub unsafe extern "C" fn upstream_u64_checksum(start_sum: u64, at: *const u8, len: usize) -> u16 {
+pub unsafe extern "C" fn upstream_u64_16bit_word_add_slice(start_sum: u64, at: *const u8, len: usize) -> u64 {
+    u64_16bit_word::add_slice(start_sum, slice_of(at, len))
+}
+
+#[no_mangle]
+pub extern "C" fn upstream_u64_16bit_word_ones_complement(sum: u64) -> u16 {
+    u64_16bit_word::ones_complement(sum)
+}
+
+/// # Safety
+///
+/// `at` points to `len` bytes, or `len` is 0.
+#[no_mangle]
+pub unsafe extern "C" fn upstream_u64_16bit_word_checksum(start_sum: u64, at: *const u8, len: usize) -> u16 {
     let bytes = slice_of(at, len);
     u64_16bit_word::ones_complement(u64_16bit_word::add_slice(start_sum, bytes))
 }
@@ -104,7 +118,20 @@ pub unsafe extern "C" fn upstream_u64_checksum(start_sum: u64, at: *const u8, le
 ///
 /// `at` points to `len` bytes, or `len` is 0.
 #[no_mangle]
-pub unsafe extern "C" fn upstream_u32_checksum(start_sum: u32, at: *const u8, len: usize) -> u16 {
+pub unsafe extern "C" fn upstream_u32_16bit_word_add_slice(start_sum: u32, at: *const u8, len: usize) -> u32 {
+    u32_16bit_word::add_slice(start_sum, slice_of(at, len))
+}
+
+#[no_mangle]
+pub extern "C" fn upstream_u32_16bit_word_ones_complement(sum: u32) -> u16 {
+    u32_16bit_word::ones_complement(sum)
+}
+
+/// # Safety
+///
+/// `at` points to `len` bytes, or `len` is 0.
+#[no_mangle]
+pub unsafe extern "C" fn upstream_u32_16bit_word_checksum(start_sum: u32, at: *const u8, len: usize) -> u16 {
     let bytes = slice_of(at, len);
     u32_16bit_word::ones_complement(u32_16bit_word::add_slice(start_sum, bytes))
 }
@@ -365,6 +392,47 @@ pub unsafe extern "C" fn upstream_ipv6_walk(at: *const u8, len: usize, next_head
         },
         Err(e) => Ipv6WalkAnswer { error: len_error(&e), rest: NO_REST, next_header: 0 },
     }
+}
+
+/// The walk past at most so many extension headers, which the crate has no call for.
+///
+/// # Safety
+///
+/// `at` points to `len` bytes, or `len` is 0.
+#[no_mangle]
+pub unsafe extern "C" fn upstream_ipv6_walk_up_to(
+    at: *const u8,
+    len: usize,
+    next_header: u8,
+    limit: usize,
+) -> Ipv6WalkAnswer {
+    match walk_up_to(slice_of(at, len), IpNumber(next_header), limit) {
+        Ok((number, rest)) => Ipv6WalkAnswer {
+            error: NO_ERROR,
+            rest: Rest { offset: len - rest.len(), len: rest.len() },
+            next_header: number.0,
+        },
+        Err(error) => Ipv6WalkAnswer { error, rest: NO_REST, next_header: 0 },
+    }
+}
+
+// As a user of the crate counts: one skip after the other.
+#[inline(always)]
+fn walk_up_to(slice: &[u8], first: IpNumber, limit: usize) -> Result<(IpNumber, &[u8]), Error> {
+    let (mut number, mut rest, mut skipped) = (first, slice, 0);
+    while Ipv6Header::is_skippable_header_extension(number) {
+        let offset = slice.len() - rest.len();
+        if skipped == limit {
+            let number = u32::from(number.0);
+            return Err(Error { kind: c::TOO_MANY, number, layer_start_offset: offset, limit, ..NO_ERROR });
+        }
+        match Ipv6Header::skip_header_extension_in_slice(rest, number) {
+            Ok(after) => (number, rest) = after,
+            Err(e) => return Err(Error { layer_start_offset: e.layer_start_offset + offset, ..len_error(&e) }),
+        }
+        skipped += 1;
+    }
+    Ok((number, rest))
 }
 
 #[inline(always)]
