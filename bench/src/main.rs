@@ -18,13 +18,14 @@ fn main() {
     let arguments: Vec<&str> = arguments.iter().map(String::as_str).collect();
     match arguments[..] {
         ["compare", folder] => println!("{} answers are the same.", compare::compare(&Libraries::open(folder))),
-        ["time", folder, rounds] => time_all(&Libraries::open(folder), number_of(rounds)),
+        ["time", folder, rounds] => time_all(&Libraries::open(folder), number_of(rounds), ""),
+        ["time", folder, rounds, words] => time_all(&Libraries::open(folder), number_of(rounds), words),
         ["call", folder, line, column, calls] => {
             call_one(&Libraries::open(folder), number_of(line), number_of(column), number_of(calls))
         }
         ["table", ref files @ ..] if !files.is_empty() => table::print(files),
         _ => {
-            eprintln!("usage: bench compare FOLDER | time FOLDER ROUNDS | call FOLDER LINE COLUMN CALLS | table FILE..");
+            eprintln!("usage: bench compare FOLDER | time FOLDER ROUNDS [WORDS] | call FOLDER LINE COLUMN CALLS | table FILE..");
             exit(2)
         }
     }
@@ -34,10 +35,13 @@ fn number_of(text: &str) -> usize {
     text.parse().expect("a number")
 }
 
-// One line of numbers for each line, with tabs between.
-fn time_all(libraries: &Libraries, rounds: usize) {
+// Numbers with tabs between, for each line in whose name these words stand.
+fn time_all(libraries: &Libraries, rounds: usize, words: &str) {
     println!("clock\t\t{:.4}", rounds::nanoseconds_of_a_cycle());
     times::each(libraries, &mut |row| {
+        if !row.what.contains(words) {
+            return;
+        }
         let figures = rounds::compare_times(rounds, row);
         print!("{}\t{}", row.what, row.bytes);
         for figure in figures.nanoseconds.iter().chain(&figures.ratios) {

@@ -20,8 +20,8 @@ pub fn each(libraries: &Libraries, line: &mut Line) {
         add(line, "IPv4 read and written", bytes, batches);
     }
     for (why, packets) in &refused_packets() {
-        add(line, "IPv4 view refused", why, batches!(libraries, views(ipv4_view, packets)));
-        add(line, "IPv4 read refused", why, batches!(libraries, reads(ipv4_read, packets)));
+        add(line, "IPv4 view refused", why, batches!(libraries, refused_views(ipv4_view, packets)));
+        add(line, "IPv4 read refused", why, batches!(libraries, refused_reads(ipv4_read, packets)));
     }
     for options_len in [0, 40] {
         let bytes = (20 + options_len).to_string();
@@ -89,7 +89,7 @@ fn views<'a>(call: ViewIpv4, packets: &'a [Vec<u8>]) -> Box<Batch<'a>> {
         for number in 0..calls as usize {
             let packet = &packets[number % 64];
             let answer = unsafe { call(packet.as_ptr(), packet.len()) };
-            all += answer.rest.len as u64 + u64::from(answer.view.total_len) + u64::from(answer.error.kind);
+            all += answer.rest.len as u64 + u64::from(answer.view.total_len);
         }
         all
     })
@@ -101,7 +101,31 @@ fn reads<'a>(call: ReadIpv4, packets: &'a [Vec<u8>]) -> Box<Batch<'a>> {
         for number in 0..calls as usize {
             let packet = &packets[number % 64];
             let answer = unsafe { call(packet.as_ptr(), packet.len()) };
-            all += answer.rest.len as u64 + u64::from(answer.fields.total_len) + u64::from(answer.error.kind);
+            all += answer.rest.len as u64 + u64::from(answer.fields.total_len);
+        }
+        all
+    })
+}
+
+fn refused_views<'a>(call: ViewIpv4, packets: &'a [Vec<u8>]) -> Box<Batch<'a>> {
+    Box::new(move |calls| {
+        let mut all: u64 = 0;
+        for number in 0..calls as usize {
+            let packet = &packets[number % 64];
+            let answer = unsafe { call(packet.as_ptr(), packet.len()) };
+            all += answer.error.required_len as u64 + u64::from(answer.error.kind);
+        }
+        all
+    })
+}
+
+fn refused_reads<'a>(call: ReadIpv4, packets: &'a [Vec<u8>]) -> Box<Batch<'a>> {
+    Box::new(move |calls| {
+        let mut all: u64 = 0;
+        for number in 0..calls as usize {
+            let packet = &packets[number % 64];
+            let answer = unsafe { call(packet.as_ptr(), packet.len()) };
+            all += answer.error.required_len as u64 + u64::from(answer.error.kind);
         }
         all
     })

@@ -43,8 +43,8 @@ pub fn each(libraries: &Libraries, line: &mut Line) {
     let short = refused(|bytes| bytes.truncate(39));
     let other = refused(|bytes| bytes[0] = 0x45);
     for (why, packets) in [("below 40 bytes", &short), ("version", &other)] {
-        add(line, "IPv6 view refused", why, batches!(libraries, views(ipv6_view, packets)));
-        add(line, "IPv6 read refused", why, batches!(libraries, reads(ipv6_read, packets)));
+        add(line, "IPv6 view refused", why, batches!(libraries, refused_views(ipv6_view, packets)));
+        add(line, "IPv6 read refused", why, batches!(libraries, refused_reads(ipv6_read, packets)));
     }
     for count in [1, 3] {
         let headers = count.to_string();
@@ -55,10 +55,10 @@ pub fn each(libraries: &Libraries, line: &mut Line) {
                 (first, bytes)
             })
             .collect();
-        add(line, "walk refused, its last header cut", &headers, batches!(libraries, walks(ipv6_walk, &cut)));
+        add(line, "walk refused, its last header cut", &headers, batches!(libraries, refused_walks(ipv6_walk, &cut)));
     }
     let chains: Vec<(u8, Vec<u8>)> = (0..64).map(|_| packets::chain(&mut random, 3)).collect();
-    add(line, "limited walk refused, one header too many", "3", batches!(libraries, limited_walks(ipv6_walk_up_to, &chains, 2)));
+    add(line, "limited walk refused, one header too many", "3", batches!(libraries, refused_limited_walks(ipv6_walk_up_to, &chains, 2)));
 }
 
 fn views<'a>(call: ViewIpv6, packets: &'a [Vec<u8>]) -> Box<Batch<'a>> {
@@ -67,7 +67,7 @@ fn views<'a>(call: ViewIpv6, packets: &'a [Vec<u8>]) -> Box<Batch<'a>> {
         for number in 0..calls as usize {
             let packet = &packets[number % 64];
             let answer = unsafe { call(packet.as_ptr(), packet.len()) };
-            all += u64::from(answer.view.flow_label) + u64::from(answer.view.dscp) + u64::from(answer.error.kind);
+            all += u64::from(answer.view.flow_label) + u64::from(answer.view.dscp);
         }
         all
     })
@@ -79,7 +79,31 @@ fn reads<'a>(call: ReadIpv6, packets: &'a [Vec<u8>]) -> Box<Batch<'a>> {
         for number in 0..calls as usize {
             let packet = &packets[number % 64];
             let answer = unsafe { call(packet.as_ptr(), packet.len()) };
-            all += u64::from(answer.fields.flow_label) + answer.rest.len as u64 + u64::from(answer.error.kind);
+            all += u64::from(answer.fields.flow_label) + answer.rest.len as u64;
+        }
+        all
+    })
+}
+
+fn refused_views<'a>(call: ViewIpv6, packets: &'a [Vec<u8>]) -> Box<Batch<'a>> {
+    Box::new(move |calls| {
+        let mut all: u64 = 0;
+        for number in 0..calls as usize {
+            let packet = &packets[number % 64];
+            let answer = unsafe { call(packet.as_ptr(), packet.len()) };
+            all += answer.error.required_len as u64 + u64::from(answer.error.kind);
+        }
+        all
+    })
+}
+
+fn refused_reads<'a>(call: ReadIpv6, packets: &'a [Vec<u8>]) -> Box<Batch<'a>> {
+    Box::new(move |calls| {
+        let mut all: u64 = 0;
+        for number in 0..calls as usize {
+            let packet = &packets[number % 64];
+            let answer = unsafe { call(packet.as_ptr(), packet.len()) };
+            all += answer.error.required_len as u64 + u64::from(answer.error.kind);
         }
         all
     })
@@ -106,7 +130,7 @@ fn walks<'a>(call: Walk, chains: &'a [(u8, Vec<u8>)]) -> Box<Batch<'a>> {
         for number in 0..calls as usize {
             let (first, bytes) = &chains[number & (chains.len() - 1)];
             let answer = unsafe { call(bytes.as_ptr(), bytes.len(), *first) };
-            all += answer.rest.offset as u64 + u64::from(answer.next_header) + u64::from(answer.error.kind);
+            all += answer.rest.offset as u64 + u64::from(answer.next_header);
         }
         all
     })
@@ -118,7 +142,31 @@ fn limited_walks<'a>(call: LimitedWalk, chains: &'a [(u8, Vec<u8>)], limit: usiz
         for number in 0..calls as usize {
             let (first, bytes) = &chains[number & (chains.len() - 1)];
             let answer = unsafe { call(bytes.as_ptr(), bytes.len(), *first, limit) };
-            all += answer.rest.offset as u64 + u64::from(answer.next_header) + u64::from(answer.error.kind);
+            all += answer.rest.offset as u64 + u64::from(answer.next_header);
+        }
+        all
+    })
+}
+
+fn refused_walks<'a>(call: Walk, chains: &'a [(u8, Vec<u8>)]) -> Box<Batch<'a>> {
+    Box::new(move |calls| {
+        let mut all: u64 = 0;
+        for number in 0..calls as usize {
+            let (first, bytes) = &chains[number & (chains.len() - 1)];
+            let answer = unsafe { call(bytes.as_ptr(), bytes.len(), *first) };
+            all += answer.error.required_len as u64 + u64::from(answer.error.kind);
+        }
+        all
+    })
+}
+
+fn refused_limited_walks<'a>(call: LimitedWalk, chains: &'a [(u8, Vec<u8>)], limit: usize) -> Box<Batch<'a>> {
+    Box::new(move |calls| {
+        let mut all: u64 = 0;
+        for number in 0..calls as usize {
+            let (first, bytes) = &chains[number & (chains.len() - 1)];
+            let answer = unsafe { call(bytes.as_ptr(), bytes.len(), *first, limit) };
+            all += answer.error.layer_start_offset as u64 + u64::from(answer.error.kind);
         }
         all
     })

@@ -7,7 +7,7 @@ use crate::random::Random;
 use crate::rounds::Batch;
 
 // How many packets a loop goes over: so many that a processor does not learn them.
-const PACKETS: usize = 1024;
+const PACKETS: usize = 4096;
 
 // Each length of options about as often as any other.
 const OPTIONS: [usize; 11] = [0, 4, 8, 12, 16, 20, 24, 28, 32, 36, 40];
@@ -23,7 +23,7 @@ pub fn each(libraries: &Libraries, line: &mut Line) {
             .collect();
         let slices = slices_of(&packets);
         let slices = &slices[..];
-        let mut row = |what, batches| line(&Row { what, bytes: bytes.to_string(), least_calls: 1024, batches });
+        let mut row = |what, batches| line(&Row { what, bytes: bytes.to_string(), least_calls: 4096, batches });
         row("loop: IPv4 view and two getters", batches!(libraries, over(loop_ipv4_views, slices)));
         row("loop: IPv4 read", batches!(libraries, over(loop_ipv4_reads, slices)));
         row("loop: IPv4 read and checksum", batches!(libraries, over(loop_ipv4_checksums, slices)));
@@ -41,7 +41,7 @@ pub fn each(libraries: &Libraries, line: &mut Line) {
         let packets = mixed(counts);
         let slices = slices_of(&packets);
         let slices = &slices[..];
-        let mut row = |what, batches| line(&Row { what, bytes: headers.to_string(), least_calls: 1024, batches });
+        let mut row = |what, batches| line(&Row { what, bytes: headers.to_string(), least_calls: 4096, batches });
         if headers == "0" {
             row("loop: IPv6 view and two getters", batches!(libraries, over(loop_ipv6_views, slices)));
             row("loop: IPv6 read", batches!(libraries, over(loop_ipv6_reads, slices)));
