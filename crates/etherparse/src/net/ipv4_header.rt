@@ -415,6 +415,7 @@ impl Ipv4Header {
     /// // Without the bit the same header has another checksum.
     /// assert_eq!(rt; view.to_header().calc_header_checksum(), 0x66d7);
     /// ```
+    #[inline(always)]
     pub fn calc_header_checksum(&self) -> u16
         ensures value { (bytes : List ℕ) → IsIpv4LayoutWith self.now 0 bytes →
             result ≡ header_checksum_of bytes }

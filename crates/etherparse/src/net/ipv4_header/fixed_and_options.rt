@@ -1,8 +1,8 @@
 //! The fixed fields of an IPv4 header and its options: one after the other, and summed.
 
-ghost use Rattle.std.specs.Prelude.{◌≡◌, ◌≤◌, ◌++◌, length};
+ghost use Rattle.std.specs.Prelude.{◌≡◌, ◌≤◌, ◌+◌, ◌%◌, ◌++◌, drop, length};
 ghost use Rattle.etherparse_base.specs.Bytes.{IsBytes};
-ghost use Rattle.etherparse_base.specs.WordSums.{StandsForWords};
+ghost use Rattle.etherparse_base.specs.WordSums.{StandsForWords, little_endian_word_sum};
 ghost use Rattle.etherparse_fields.specs.Ipv4Options.{IsOptionsLen};
 
 use crate::checksum::Sum16BitWords;
@@ -70,24 +70,38 @@ pub(super) fn sum_of_fixed(front: [u8; 20]) -> Sum16BitWords
         .add_4bytes([q, r, s, t])
 }
 
-// The sum with the bytes of the options. Of a length that the compiler knows they are summed where
-// they are; else it puts the whole header into memory first, and tests for each word whether it is
-// there.
+// The sum with the words of the options, which most headers have none of. Where there are some, no
+// branch tells how many: behind the last one zeros are added.
 #[inline(always)]
 pub(super) fn add_options(fixed: Sum16BitWords, options: &[u8]) -> Sum16BitWords
     requires options_len { IsOptionsLen (length options.now) }
     ensures in_a_sum { StandsForWords fixed options.now result }
 {
-    by_options_len!(options, add_options_of(fixed, options))
+    if options.is_empty() {
+        return fixed;
+    }
+    let mut sum = fixed;
+    for word in 0..10 {
+        sum = sum.add_4bytes(word_or_zeros(options, 4 * word));
+    }
+    sum
 }
 
-// The same for N bytes of options.
+// The word at a place, or zeros behind the last one.
 #[inline(always)]
-fn add_options_of<const N: usize>(fixed: Sum16BitWords, options: &[u8]) -> Sum16BitWords
-    requires options_len { length options.now ≡ N }
-    ensures in_a_sum { StandsForWords fixed options.now result }
+fn word_or_zeros(options: &[u8], place: usize) -> [u8; 4]
+    requires options_len { IsOptionsLen (length options.now) }
+    requires in_words { place % 4 ≡ 0 }
+    requires fits { place ≤ 36 }
+    ensures sum { little_endian_word_sum result
+        + little_endian_word_sum (drop (place + 4) options.now)
+        ≡ little_endian_word_sum (drop place options.now) }
 {
-    fixed.add_slice(&options[..N])
+    if place < options.len() {
+        *options[place..place + 4].first_chunk::<4>().unwrap()
+    } else {
+        [0; 4]
+    }
 }
 
 // The items of a slice are bytes to a proof; those of an array that is passed are so from here on.
