@@ -8,27 +8,8 @@ ghost use Rattle.etherparse_fields.specs.Ipv4Options.{IsOptionsLen};
 use crate::checksum::Sum16BitWords;
 use arrayvec::ArrayVec;
 
-// A call with the number of bytes of options as one that the compiler knows: what is copied or
-// summed then takes no call.
-macro_rules! by_options_len {
-    ($options:ident, $function:ident($($argument:ident),*)) => {
-        match $options.len() {
-            0 => $function::<0>($($argument),*),
-            4 => $function::<4>($($argument),*),
-            8 => $function::<8>($($argument),*),
-            12 => $function::<12>($($argument),*),
-            16 => $function::<16>($($argument),*),
-            20 => $function::<20>($($argument),*),
-            24 => $function::<24>($($argument),*),
-            28 => $function::<28>($($argument),*),
-            32 => $function::<32>($($argument),*),
-            36 => $function::<36>($($argument),*),
-            _ => $function::<40>($($argument),*),
-        }
-    };
-}
-
-// The fixed fields, and the options after them.
+// The fixed fields, and the options after them, with a case for each length: a number of bytes that
+// the compiler knows is copied with no call.
 #[inline(always)]
 pub(super) fn front_and_options(front: &[u8], options: &[u8]) -> ArrayVec<u8, 60>
     requires front_len { length front.now ≡ 20 }
@@ -36,10 +17,22 @@ pub(super) fn front_and_options(front: &[u8], options: &[u8]) -> ArrayVec<u8, 60
     ensures parts { result.items ≡ front.now ++ options.now }
     ensures are_bytes { IsBytes (front.now ++ options.now) }
 {
-    by_options_len!(options, front_and_options_of(front, options))
+    match options.len() {
+        0 => front_and_options_of::<0>(front, options),
+        4 => front_and_options_of::<4>(front, options),
+        8 => front_and_options_of::<8>(front, options),
+        12 => front_and_options_of::<12>(front, options),
+        16 => front_and_options_of::<16>(front, options),
+        20 => front_and_options_of::<20>(front, options),
+        24 => front_and_options_of::<24>(front, options),
+        28 => front_and_options_of::<28>(front, options),
+        32 => front_and_options_of::<32>(front, options),
+        36 => front_and_options_of::<36>(front, options),
+        _ => front_and_options_of::<40>(front, options),
+    }
 }
 
-// The same for N bytes of options. A number that the compiler knows is copied with no call.
+// The same for N bytes of options.
 #[inline(always)]
 fn front_and_options_of<const N: usize>(front: &[u8], options: &[u8]) -> ArrayVec<u8, 60>
     requires front_len { length front.now ≡ 20 }
@@ -70,8 +63,8 @@ pub(super) fn sum_of_fixed(front: [u8; 20]) -> Sum16BitWords
         .add_4bytes([q, r, s, t])
 }
 
-// The sum with the words of the options, which most headers have none of. Where there are some, no
-// branch tells how many: behind the last one zeros are added.
+// The sum with the words of the options, which most headers have none of. Each word has a place that
+// the compiler knows, with zeros behind the last one, so that no header is put into memory for it.
 #[inline(always)]
 pub(super) fn add_options(fixed: Sum16BitWords, options: &[u8]) -> Sum16BitWords
     requires options_len { IsOptionsLen (length options.now) }
