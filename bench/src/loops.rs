@@ -71,17 +71,7 @@ pub unsafe extern "C" fn upstream_loop_ipv4_checksums(at: *const c::Slice, count
 /// `at` points to `count` slices that are there.
 #[no_mangle]
 pub unsafe extern "C" fn upstream_loop_ipv4_forwards(at: *const c::Slice, count: usize, room: &mut [u8; 60]) -> u64 {
-    let mut all: u64 = 0;
-    for packet in packets_of(at, count) {
-        if let Ok((mut header, _)) = Ipv4Header::from_slice(packet) {
-            if header.time_to_live > 1 {
-                header.time_to_live -= 1;
-                header.header_checksum = header.calc_header_checksum();
-                all = all.wrapping_add(written(&header.to_bytes(), room));
-            }
-        }
-    }
-    all
+    forwarded(packets_of(at, count), room)
 }
 
 /// The same: there is no update.
@@ -91,7 +81,22 @@ pub unsafe extern "C" fn upstream_loop_ipv4_forwards(at: *const c::Slice, count:
 /// `at` points to `count` slices that are there.
 #[no_mangle]
 pub unsafe extern "C" fn upstream_loop_ipv4_updates(at: *const c::Slice, count: usize, room: &mut [u8; 60]) -> u64 {
-    upstream_loop_ipv4_forwards(at, count, room)
+    forwarded(packets_of(at, count), room)
+}
+
+#[inline(always)]
+fn forwarded(packets: &[&[u8]], room: &mut [u8; 60]) -> u64 {
+    let mut all: u64 = 0;
+    for packet in packets {
+        if let Ok((mut header, _)) = Ipv4Header::from_slice(packet) {
+            if header.time_to_live > 1 {
+                header.time_to_live -= 1;
+                header.header_checksum = header.calc_header_checksum();
+                all = all.wrapping_add(written(&header.to_bytes(), room));
+            }
+        }
+    }
+    all
 }
 
 // The bytes of a header, written at the front of `room`.

@@ -73,8 +73,9 @@ fn nanoseconds(row: &Row, column: usize, calls: u32) -> f64 {
     start.elapsed().as_nanos() as f64
 }
 
-/// The value in the middle.
+/// The value in the middle, or between the two in the middle.
 pub fn median(mut values: Vec<f64>) -> Option<f64> {
     values.sort_by(f64::total_cmp);
-    values.get(values.len() / 2).copied()
+    let (below, above) = (values.get(values.len().checked_sub(1)? / 2)?, values.get(values.len() / 2)?);
+    Some((below + above) / 2.0)
 }
