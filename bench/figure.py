@@ -65,7 +65,8 @@ def panel(out, left, title, what, found, cycle):
         points = sorted((int(key[1]), value) for key, value in found.items() if key[0] == what and key[2] == column)
         curves.append((name, colour, "", [point for point in points if LEAST <= point[0] <= GREATEST]))
     lengths = [length for length, _ in curves[-1][3]]
-    limit = [(length, length / 16 * cycle) for length in lengths]
+    # Two loads a cycle, and ten loads for 96 bytes.
+    limit = [(length, length * 10 / 96 / 2 * cycle) for length in lengths]
     curves.append(("limit", PALE, ' stroke-dasharray="4 4"', [point for point in limit if point[1] >= FASTEST]))
     ends = []
     for name, colour, dashes, points in curves:
