@@ -58,11 +58,21 @@ fn write_ipv6(fields: &Ipv6Fields) -> Ipv6Bytes {
     unsafe { etherparse_ipv6_write(fields) }
 }
 
-// The checksum, where the fields are those of a header.
-fn header_checksum(fields: &Ipv4Fields) -> Option<u16> {
-    let mut checksum = 0;
-    // SAFETY: both are references, to places apart.
-    unsafe { etherparse_ipv4_header_checksum(fields, &mut checksum) }.then_some(checksum)
+fn header_checksum(fields: &Ipv4Fields) -> Ipv4HeaderChecksumAnswer {
+    // SAFETY: a reference is to fields.
+    unsafe { etherparse_ipv4_header_checksum(fields) }
+}
+
+// A header without options, from one host to another.
+fn new_header(payload_len: u16) -> Ipv4NewAnswer {
+    // SAFETY: both references are to four bytes.
+    unsafe { etherparse_ipv4_new(payload_len, 64, 17, &[192, 168, 0, 1], &[192, 168, 0, 199]) }
+}
+
+fn skip(bytes: &[u8], next_header: u8) -> Ipv6WalkAnswer {
+    let (at, len) = parts(bytes);
+    // SAFETY: `at` points to `len` bytes, or is null and `len` 0.
+    unsafe { etherparse_ipv6_skip(at, len, next_header) }
 }
 
 fn set_time_to_live(fields: &mut Ipv4Fields, time_to_live: u8) -> bool {
@@ -70,7 +80,7 @@ fn set_time_to_live(fields: &mut Ipv4Fields, time_to_live: u8) -> bool {
     unsafe { etherparse_ipv4_set_time_to_live(fields, time_to_live) }
 }
 
-fn lengths(total_len: u16, options_len: u8) -> Ipv4Lengths {
+fn lengths(total_len: u16, options_len: u8) -> Ipv4LengthsAnswer {
     // SAFETY: numbers alone are passed.
     unsafe { etherparse_ipv4_lengths(total_len, options_len) }
 }
@@ -125,22 +135,24 @@ fn yes_or_no(is: bool) -> &'static str {
     }
 }
 
-// Where an error counts from the start of a packet, its header is before the slice that was refused.
-fn print_error(error: &Error, before: usize) {
-    let place = before + error.layer_start_offset;
-    match error.kind {
-        LEN => println!(
-            "  error: {} bytes are required at {place}, and there are {}",
-            error.required_len, error.len
-        ),
-        UNEXPECTED_VERSION => println!("  error: version {}", error.number),
-        HEADER_LENGTH_SMALLER_THAN_HEADER => println!("  error: IHL {}", error.number),
-        TOO_MANY => println!(
-            "  error: more than {} headers, and {} at {place}",
-            error.limit, error.number
-        ),
-        _ => println!("  no error"),
-    }
+// The numbers of an error, and its text. Where an error counts from the start of a packet, its
+// header is before the slice that was refused.
+fn print_error(mut error: Error, before: usize) {
+    error.layer_start_offset += before;
+    println!(
+        "  error: kind {}, number {}, layer {}, required_len {}, len {}, layer_start_offset {}, limit {}",
+        error.kind,
+        error.number,
+        error.layer,
+        error.required_len,
+        error.len,
+        error.layer_start_offset,
+        error.limit
+    );
+    let mut text = [0; ERROR_TEXT_SIZE];
+    // SAFETY: the pointer is to so many bytes.
+    let len = unsafe { etherparse_error_text(&error, text.as_mut_ptr(), text.len()) };
+    println!("  {len} bytes: {}", String::from_utf8_lossy(&text[..len]));
 }
 
 // What the getters of a view show, and what the owned header says.
@@ -148,29 +160,27 @@ fn show_ipv4(name: &str, bytes: &[u8]) {
     println!("IPv4, {name}");
     let (seen, read) = (view_ipv4(bytes), read_ipv4(bytes));
     if seen.error.kind != OK || read.error.kind != OK {
-        print_error(&seen.error, 0);
-        print_error(&read.error, 0);
+        print_error(seen.error, 0);
+        print_error(read.error, 0);
         return;
     }
     print_ipv4_getters(&seen.view);
     print_hex("options", &bytes[20..seen.rest.offset]);
-    if let Some(computed) = header_checksum(&read.fields) {
-        println!("  computed {computed:04x}");
-    }
+    println!("  computed {:04x}", header_checksum(&read.fields).checksum);
     let lengths = lengths(read.fields.total_len, read.fields.options_len);
     println!(
         "  header_len {}, max_payload_len {}, payload_len {}",
         lengths.header_len, lengths.max_payload_len, lengths.payload_len
     );
     if lengths.error.kind != OK {
-        print_error(&lengths.error, 0);
+        print_error(lengths.error, 0);
     }
     let written = write_ipv4(&read.fields);
     print_hex("written", &written.bytes[..usize::from(written.len)]);
     println!("  rest at {}, {} bytes", read.rest.offset, read.rest.len);
 }
 
-fn print_ipv4_getters(view: &Ipv4View) {
+fn print_ipv4_getters(view: &Ipv4ViewFields) {
     println!(
         "  ihl {}, dscp {}, ecn {}, total_len {}, identification {}",
         view.ihl, view.dscp, view.ecn, view.total_len, view.identification
@@ -200,7 +210,7 @@ fn show_next_hop(bytes: &[u8], time_to_live: u8) {
         "the next hop: time_to_live {}, header_checksum {:04x}, computed {:04x}",
         fields.time_to_live,
         fields.header_checksum,
-        header_checksum(&fields).unwrap_or(0)
+        header_checksum(&fields).checksum
     );
 }
 
@@ -208,8 +218,8 @@ fn show_ipv6(name: &str, bytes: &[u8]) {
     println!("IPv6, {name}");
     let (seen, read) = (view_ipv6(bytes), read_ipv6(bytes));
     if seen.error.kind != OK || read.error.kind != OK {
-        print_error(&seen.error, 0);
-        print_error(&read.error, 0);
+        print_error(seen.error, 0);
+        print_error(read.error, 0);
         return;
     }
     let view = &seen.view;
@@ -231,7 +241,7 @@ fn show_ipv6(name: &str, bytes: &[u8]) {
 
 fn print_walk(walk: &Ipv6WalkAnswer, before: usize) {
     if walk.error.kind != OK {
-        return print_error(&walk.error, before);
+        return print_error(walk.error, before);
     }
     println!(
         "  then {} at {}, {} bytes",
@@ -244,6 +254,11 @@ fn print_walk(walk: &Ipv6WalkAnswer, before: usize) {
 fn show_walk(bytes: &[u8], next_header: u8) {
     println!("a walk from {next_header} over {} bytes", bytes.len());
     print_walk(&walk(bytes, next_header), 0);
+}
+
+fn show_skip(bytes: &[u8], next_header: u8) {
+    println!("one skip from {next_header} over {} bytes", bytes.len());
+    print_walk(&skip(bytes, next_header), 0);
 }
 
 fn show_limited_walk(bytes: &[u8], next_header: u8, limit: usize) {
@@ -290,11 +305,35 @@ fn show_checksums() {
     };
     println!("checksum of one piece: {wide:04x}, {narrow:04x}");
     // SAFETY: numbers alone are passed.
-    let updated = unsafe { etherparse_update_2bytes(0xdd2f, 0x5555, 0x3285) };
+    let (swapped, updated) =
+        unsafe { (etherparse_swap_bytes(wide), etherparse_update_2bytes(0xdd2f, 0x5555, 0x3285)) };
+    println!("in the other byte order: {swapped:04x}");
     println!("checksum dd2f with 3285 for 5555: {updated:04x}");
 }
 
-// Headers of fields no two of which are alike.
+// Adds the words of a slice to a sum.
+fn added(sum: u64, bytes: &[u8]) -> u64 {
+    let (at, len) = parts(bytes);
+    // SAFETY: `at` points to `len` bytes, or is null and `len` 0.
+    unsafe { etherparse_u64_16bit_word_add_slice(sum, at, len) }
+}
+
+// The checksum of a UDP packet over IPv4: the addresses, the protocol and the length in a
+// pseudo-header (RFC 768), and then the UDP header, whose own checksum is 0, and its payload.
+fn show_pseudo_header() {
+    let pseudo_header = [192, 0, 2, 1, 192, 0, 2, 2, 0, 17, 0, 12];
+    let mut udp = *b"\x30\x39\x00\x35\x00\x0c\x00\x00abcd";
+    let sum = added(0, &pseudo_header);
+    // SAFETY: a number alone is passed.
+    let checksum = unsafe { etherparse_u64_16bit_word_ones_complement_with_no_zero(added(sum, &udp)) };
+    udp[6..8].copy_from_slice(&checksum.to_le_bytes());
+    print_hex("UDP", &udp);
+    // SAFETY: as above.
+    let received = unsafe { etherparse_u64_16bit_word_ones_complement(added(sum, &udp)) };
+    println!("  a receiver's sum {received:04x}");
+}
+
+// Headers of fields no two of which are alike, written and read again.
 fn show_made() {
     let mut options = [0; 40];
     options[..4].copy_from_slice(&[19, 20, 21, 22]);
@@ -315,8 +354,8 @@ fn show_made() {
         options,
     };
     let ipv6 = Ipv6Fields {
-        source: [0x20, 1, 2, 3, 4, 5, 6, 7, 8, 9, 10, 11, 12, 13, 14, 15],
-        destination: [0x30, 17, 18, 19, 20, 21, 22, 23, 24, 25, 26, 27, 28, 29, 30, 31],
+        source: std::array::from_fn(|i| 0x20 + i as u8),
+        destination: std::array::from_fn(|i| 0x30 + i as u8),
         flow_label: 0x34567,
         payload_length: 0x89ab,
         traffic_class: 0x12,
@@ -327,27 +366,65 @@ fn show_made() {
     println!("made of fields");
     print_hex("IPv4", &first.bytes[..usize::from(first.len)]);
     print_hex("IPv6", &second.bytes[..usize::from(second.len)]);
+    show_ipv4("made of fields", &first.bytes[..usize::from(first.len)]);
+    show_ipv6("made of fields", &second.bytes[..usize::from(second.len)]);
+}
+
+fn print_fields(fields: &Ipv4Fields) {
+    println!(
+        "  dscp {}, ecn {}, total_len {}, identification {}, dont_fragment {}, more_fragments {}, fragment_offset {}",
+        fields.dscp,
+        fields.ecn,
+        fields.total_len,
+        fields.identification,
+        yes_or_no(fields.dont_fragment),
+        yes_or_no(fields.more_fragments),
+        fields.fragment_offset
+    );
+    println!(
+        "  time_to_live {}, protocol {}, header_checksum {:04x}, options_len {}",
+        fields.time_to_live, fields.protocol, fields.header_checksum, fields.options_len
+    );
+    print_hex("source", &fields.source);
+    print_hex("destination", &fields.destination);
+    print_hex("options", &fields.options);
+}
+
+// Headers that the library fills in.
+fn show_new() {
+    // SAFETY: nothing is passed.
+    let (none, other) = unsafe { (etherparse_ipv4_default(), etherparse_ipv6_default()) };
+    println!("no field given");
+    print_fields(&none);
+    print_hex("IPv6", &write_ipv6(&other).bytes);
+    println!("new, for a payload of 95 bytes");
+    let mut made = new_header(95).fields;
+    made.header_checksum = header_checksum(&made).checksum;
+    print_fields(&made);
+    println!("new, for a payload of 65516 bytes");
+    print_error(new_header(65516).error, 0);
 }
 
 // Fields out of their bounds are those of no header.
 fn show_refused_fields() {
     let mut ipv4 = read_ipv4(&padded("45", 20)).fields;
     ipv4.dscp = 64;
-    let mut checksum = 7;
-    // SAFETY: both are references, to places apart.
-    let is_header = unsafe { etherparse_ipv4_header_checksum(&ipv4, &mut checksum) };
+    let checksum = header_checksum(&ipv4);
     let is_set = set_time_to_live(&mut ipv4, 9);
     println!(
-        "dscp 64: {} bytes, checksum {}, {checksum}, time_to_live {}, {}",
+        "dscp 64: {} bytes, checksum {}, {}, time_to_live {}, {}",
         write_ipv4(&ipv4).len,
-        yes_or_no(is_header),
+        yes_or_no(checksum.accepted),
+        checksum.checksum,
         yes_or_no(is_set),
         ipv4.time_to_live
     );
     let mut ipv6 = read_ipv6(&padded("60", 40)).fields;
     ipv6.flow_label = 1_048_576;
     println!("flow_label 1048576: {} bytes", write_ipv6(&ipv6).len);
-    println!("3 bytes of options: header_len {}", lengths(20, 3).header_len);
+    let lengths = lengths(20, 3);
+    println!("3 bytes of options: header_len {}", lengths.header_len);
+    print_error(lengths.error, 0);
 }
 
 fn main() {
@@ -382,10 +459,16 @@ fn main() {
     show_walk(&[0; 24], 0);
     show_walk(&[6, 5, 4], 50);
     show_walk(&[], 59);
+    show_skip(&bytes_of("2b000000 00000000 060100"), 0);
+    show_skip(&[6, 5, 4], 50);
+    show_skip(&[6, 1, 0], 43);
+    show_limited_walk(&bytes_of("2b000000 00000000 060100"), 0, 1);
     show_limited_walk(&[0; 24], 0, 3);
     show_limited_walk(&[0; 24], 0, 4);
 
     show_checksums();
+    show_pseudo_header();
     show_made();
+    show_new();
     show_refused_fields();
 }

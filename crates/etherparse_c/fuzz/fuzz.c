@@ -1,10 +1,12 @@
-/* fuzz COUNT SECONDS EVERY CASES ANSWERS: calls the library on COUNT random and mutated packets, for SECONDS at most.
+/* fuzz COUNT SECONDS EVERY CASES ANSWERS [SEED]: calls every function of the library on COUNT inputs, for SECONDS at most, and
+ * compares each answer with that of the reference.
  *
- * Each packet lies at one end of a page between two that can not be read. What one call answers is compared with what the others
- * do. Of each EVERYth packet the calls are written to the file CASES and the answers to ANSWERS, in the oracle's protocol. */
+ * An input is a random or mutated packet, which lies at one end of a page between two that can not be read, and fields, words
+ * and an error of random numbers, which end at such a page. Of each EVERYth packet the calls are written to the file CASES and
+ * the answers to ANSWERS, in the oracle's protocol. */
 
 #define _DEFAULT_SOURCE
-#include "etherparse.h"
+#include "reference.h"
 
 #include <inttypes.h>
 #include <stdarg.h>
@@ -127,118 +129,262 @@ static size_t make_packet(uint8_t *at, uint8_t *number)
     return len;
 }
 
-/* What the calls on one packet answer, and whether they agree. */
+/* What the calls on one packet answer, beside the reference. Structs are compared by field, since between fields there may be
+ * bytes that nothing sets. */
 
 static bool same_error(const struct etherparse_error *a, const struct etherparse_error *b)
 {
-    return a->kind == b->kind && a->number == b->number && a->required_len == b->required_len && a->len == b->len
-        && a->layer_start_offset == b->layer_start_offset && a->limit == b->limit;
+    return a->kind == b->kind && a->number == b->number && a->layer == b->layer && a->required_len == b->required_len
+        && a->len == b->len && a->layer_start_offset == b->layer_start_offset && a->limit == b->limit;
 }
 
-static bool is_rest(const struct etherparse_rest *rest)
+static bool same_rest(const struct etherparse_rest *a, const struct etherparse_rest *b)
 {
-    return rest->offset <= packet_len && rest->len == packet_len - rest->offset;
+    return a->offset == b->offset && a->len == b->len;
 }
 
-static void check_ipv4_fields(const struct etherparse_ipv4_fields *fields, size_t header_len)
+static bool same_ipv4_fields(const struct etherparse_ipv4_fields *a, const struct etherparse_ipv4_fields *b)
 {
-    expect(fields->options_len == header_len - 20 && memcmp(fields->options, packet + 20, fields->options_len) == 0, "options");
-    for (size_t i = fields->options_len; i < 40; i++)
-        expect(fields->options[i] == 0, "what follows the options");
-    struct etherparse_ipv4_bytes written = etherparse_ipv4_write(fields);
-    uint8_t cleared[60];
-    memcpy(cleared, packet, header_len);
-    cleared[6] &= 0x7f;
-    expect(written.len == header_len && memcmp(written.bytes, cleared, header_len) == 0, "written again");
-    struct etherparse_ipv4_fields right = *fields;
-    expect(etherparse_ipv4_header_checksum(fields, &right.header_checksum), "a checksum");
-    written = etherparse_ipv4_write(&right);
-    expect(etherparse_u64_16bit_word_checksum(0, written.bytes, written.len) == 0, "a right checksum");
-    expect(etherparse_ipv4_set_time_to_live(&right, (uint8_t)next_random()), "a time to live");
-    written = etherparse_ipv4_write(&right);
-    expect(etherparse_u64_16bit_word_checksum(0, written.bytes, written.len) == 0, "an updated checksum");
-    struct etherparse_ipv4_lengths lengths = etherparse_ipv4_lengths(fields->total_len, fields->options_len);
-    expect(lengths.header_len == header_len && 4 * lengths.ihl == lengths.header_len
-        && lengths.max_payload_len == 65535 - header_len, "lengths");
-    expect((lengths.error.kind == ETHERPARSE_OK) == (fields->total_len >= header_len), "a payload");
+    return a->dscp == b->dscp && a->ecn == b->ecn && a->total_len == b->total_len && a->identification == b->identification
+        && a->dont_fragment == b->dont_fragment && a->more_fragments == b->more_fragments
+        && a->fragment_offset == b->fragment_offset && a->time_to_live == b->time_to_live && a->protocol == b->protocol
+        && a->header_checksum == b->header_checksum && memcmp(a->source, b->source, 4) == 0
+        && memcmp(a->destination, b->destination, 4) == 0 && a->options_len == b->options_len
+        && memcmp(a->options, b->options, 40) == 0;
+}
+
+static bool same_ipv6_fields(const struct etherparse_ipv6_fields *a, const struct etherparse_ipv6_fields *b)
+{
+    return memcmp(a->source, b->source, 16) == 0 && memcmp(a->destination, b->destination, 16) == 0
+        && a->flow_label == b->flow_label && a->payload_length == b->payload_length && a->traffic_class == b->traffic_class
+        && a->next_header == b->next_header && a->hop_limit == b->hop_limit;
+}
+
+static bool same_walk(struct etherparse_ipv6_walk_answer a, struct etherparse_ipv6_walk_answer b)
+{
+    return a.next_header == b.next_header && same_error(&a.error, &b.error) && same_rest(&a.rest, &b.rest);
 }
 
 static void check_ipv4(void)
 {
     struct etherparse_ipv4_view_answer seen = etherparse_ipv4_view(packet, packet_len);
-    struct etherparse_ipv4_read_answer read = etherparse_ipv4_read(packet, packet_len);
-    expect(same_error(&seen.error, &read.error), "errors");
-    expect(seen.rest.offset == read.rest.offset && seen.rest.len == read.rest.len, "rests");
-    if (seen.error.kind != ETHERPARSE_OK)
-        return;
-    expect(is_rest(&seen.rest) && seen.rest.offset == 4 * (size_t)seen.view.ihl, "a rest");
-    expect(seen.view.dscp == read.fields.dscp && seen.view.ecn == read.fields.ecn
-        && seen.view.total_len == read.fields.total_len && seen.view.identification == read.fields.identification
-        && seen.view.dont_fragment == read.fields.dont_fragment && seen.view.more_fragments == read.fields.more_fragments
-        && seen.view.fragment_offset == read.fields.fragment_offset && seen.view.time_to_live == read.fields.time_to_live
-        && seen.view.protocol == read.fields.protocol && seen.view.header_checksum == read.fields.header_checksum
-        && memcmp(seen.view.source, read.fields.source, 4) == 0
-        && memcmp(seen.view.destination, read.fields.destination, 4) == 0, "getters and fields");
-    check_ipv4_fields(&read.fields, read.rest.offset);
+    struct etherparse_ipv4_view_answer view = reference_ipv4_view(packet, packet_len);
+    struct etherparse_ipv4_read_answer found = etherparse_ipv4_read(packet, packet_len);
+    struct etherparse_ipv4_read_answer read = reference_ipv4_read(packet, packet_len);
+    expect(same_error(&seen.error, &view.error) && same_rest(&seen.rest, &view.rest), "ipv4_view: error and rest");
+    expect(seen.view.ihl == view.view.ihl && seen.view.dscp == view.view.dscp && seen.view.ecn == view.view.ecn
+        && seen.view.total_len == view.view.total_len && seen.view.identification == view.view.identification
+        && seen.view.dont_fragment == view.view.dont_fragment && seen.view.more_fragments == view.view.more_fragments
+        && seen.view.is_fragmenting_payload == view.view.is_fragmenting_payload
+        && seen.view.fragment_offset == view.view.fragment_offset && seen.view.time_to_live == view.view.time_to_live
+        && seen.view.protocol == view.view.protocol && seen.view.header_checksum == view.view.header_checksum
+        && memcmp(seen.view.source, view.view.source, 4) == 0
+        && memcmp(seen.view.destination, view.view.destination, 4) == 0, "ipv4_view: getters");
+    expect(same_error(&found.error, &read.error) && same_rest(&found.rest, &read.rest), "ipv4_read: error and rest");
+    expect(same_ipv4_fields(&found.fields, &read.fields), "ipv4_read: fields");
 }
 
 static void check_ipv6(void)
 {
     struct etherparse_ipv6_view_answer seen = etherparse_ipv6_view(packet, packet_len);
-    struct etherparse_ipv6_read_answer read = etherparse_ipv6_read(packet, packet_len);
-    expect(same_error(&seen.error, &read.error), "errors");
-    expect(seen.rest.offset == read.rest.offset && seen.rest.len == read.rest.len, "rests");
-    if (seen.error.kind != ETHERPARSE_OK)
-        return;
-    expect(is_rest(&seen.rest) && seen.rest.offset == 40, "a rest");
-    expect(seen.view.flow_label == read.fields.flow_label && seen.view.traffic_class == read.fields.traffic_class
-        && 4 * seen.view.dscp + seen.view.ecn == seen.view.traffic_class
-        && seen.view.payload_length == read.fields.payload_length && seen.view.next_header == read.fields.next_header
-        && seen.view.hop_limit == read.fields.hop_limit && memcmp(seen.view.source, read.fields.source, 16) == 0
-        && memcmp(seen.view.destination, read.fields.destination, 16) == 0, "getters and fields");
-    struct etherparse_ipv6_bytes written = etherparse_ipv6_write(&read.fields);
-    expect(written.len == 40 && memcmp(written.bytes, packet, 40) == 0, "written again");
+    struct etherparse_ipv6_view_answer view = reference_ipv6_view(packet, packet_len);
+    struct etherparse_ipv6_read_answer found = etherparse_ipv6_read(packet, packet_len);
+    struct etherparse_ipv6_read_answer read = reference_ipv6_read(packet, packet_len);
+    expect(same_error(&seen.error, &view.error) && same_rest(&seen.rest, &view.rest), "ipv6_view: error and rest");
+    expect(memcmp(seen.view.source, view.view.source, 16) == 0
+        && memcmp(seen.view.destination, view.view.destination, 16) == 0 && seen.view.flow_label == view.view.flow_label
+        && seen.view.payload_length == view.view.payload_length && seen.view.traffic_class == view.view.traffic_class
+        && seen.view.dscp == view.view.dscp && seen.view.ecn == view.view.ecn
+        && seen.view.next_header == view.view.next_header && seen.view.hop_limit == view.view.hop_limit, "ipv6_view: getters");
+    expect(same_error(&found.error, &read.error) && same_rest(&found.rest, &read.rest), "ipv6_read: error and rest");
+    expect(same_ipv6_fields(&found.fields, &read.fields), "ipv6_read: fields");
 }
 
 static void check_walk(uint8_t number)
 {
-    struct etherparse_ipv6_walk_answer walk = etherparse_ipv6_walk(packet, packet_len, number);
-    struct etherparse_ipv6_walk_answer with_limit = etherparse_ipv6_walk_up_to(packet, packet_len, number, packet_len / 8 + 1);
-    expect(same_error(&walk.error, &with_limit.error) && walk.next_header == with_limit.next_header
-        && walk.rest.offset == with_limit.rest.offset && walk.rest.len == with_limit.rest.len, "a limit that is not reached");
-    struct etherparse_ipv6_walk_answer one = etherparse_ipv6_walk_up_to(packet, packet_len, number, 1);
-    expect(one.error.kind != ETHERPARSE_TOO_MANY || (one.error.limit == 1 && one.error.layer_start_offset >= 8
-        && one.error.layer_start_offset <= packet_len), "a limit of one header");
-    if (walk.error.kind == ETHERPARSE_OK) {
-        expect(is_rest(&walk.rest) && walk.rest.offset % 4 == 0, "a rest");
-        return;
-    }
-    expect(walk.error.kind == ETHERPARSE_LEN && walk.error.layer_start_offset + walk.error.len == packet_len
-        && walk.error.len < walk.error.required_len, "an incomplete header");
+    size_t limit = below(6);
+    expect(same_walk(etherparse_ipv6_skip(packet, packet_len, number), reference_ipv6_skip(packet, packet_len, number)),
+        "ipv6_skip");
+    expect(same_walk(etherparse_ipv6_walk(packet, packet_len, number), reference_ipv6_walk(packet, packet_len, number)),
+        "ipv6_walk");
+    expect(same_walk(etherparse_ipv6_walk_up_to(packet, packet_len, number, limit),
+        reference_ipv6_walk_up_to(packet, packet_len, number, limit)), "ipv6_walk_up_to");
 }
 
-/* The complement by RFC 1071, with words of two bytes. */
-static uint16_t plain_checksum(const uint8_t *at, size_t len)
+/* A number that is often one of the greatest or the least. */
+static uint64_t some_number(uint64_t most)
 {
-    uint64_t sum = 0;
-    for (size_t i = 0; i < len; i += 2)
-        sum += at[i] + (i + 1 < len ? 256u * at[i + 1] : 0);
-    while (sum > 0xffff)
-        sum = (sum >> 16) + (sum & 0xffff);
-    return (uint16_t)~sum;
+    switch (below(6)) {
+    case 0:
+        return most;
+    case 1:
+        return 0;
+    case 2:
+        return most - below(4);
+    default:
+        return next_random() & most;
+    }
+}
+
+/* The checksum of a sum that folds so, with the low byte first, and the one with no zero. */
+static void check_complements(uint64_t wide, uint32_t narrow)
+{
+    uint16_t of_wide = (uint16_t)~reference_fold(wide);
+    uint16_t of_narrow = (uint16_t)~reference_fold(narrow);
+    expect(etherparse_u64_16bit_word_ones_complement(wide) == of_wide, "u64 ones_complement");
+    expect(etherparse_u32_16bit_word_ones_complement(narrow) == of_narrow, "u32 ones_complement");
+    expect(etherparse_u64_16bit_word_ones_complement_with_no_zero(wide) == (of_wide == 0 ? 0xffff : of_wide),
+        "u64 ones_complement_with_no_zero");
+    expect(etherparse_u32_16bit_word_ones_complement_with_no_zero(narrow) == (of_narrow == 0 ? 0xffff : of_narrow),
+        "u32 ones_complement_with_no_zero");
+    expect(etherparse_swap_bytes(of_wide) == 256 * (of_wide % 256) + of_wide / 256, "swap_bytes");
 }
 
 static void check_sums(void)
 {
-    uint16_t plain = plain_checksum(packet, packet_len);
-    size_t cut = below(packet_len / 2 + 1) * 2;
-    const struct etherparse_slice pieces[3] = {{packet, cut}, {NULL, 0}, {from(cut), packet_len - cut}};
-    uint64_t wide = etherparse_u64_16bit_word_add_slices(pieces, 3);
-    uint32_t narrow = etherparse_u32_16bit_word_add_slices(pieces, 3);
-    expect(etherparse_u64_16bit_word_checksum(0, packet, packet_len) == plain, "a sum of 64 bits");
-    expect(etherparse_u32_16bit_word_checksum(0, packet, packet_len) == plain, "a sum of 32 bits");
-    expect(etherparse_u64_16bit_word_ones_complement(wide) == plain, "a sum of pieces in 64 bits");
-    expect(etherparse_u32_16bit_word_ones_complement(narrow) == plain, "a sum of pieces in 32 bits");
+    uint64_t start = some_number(UINT64_MAX);
+    uint32_t narrow_start = (uint32_t)some_number(UINT32_MAX);
+    uint16_t words = reference_sum(packet, packet_len);
+    uint16_t wide = reference_add(reference_fold(start), words);
+    uint16_t narrow = reference_add(reference_fold(narrow_start), words);
+    uint64_t wide_sum = etherparse_u64_16bit_word_add_slice(start, packet, packet_len);
+    uint32_t narrow_sum = etherparse_u32_16bit_word_add_slice(narrow_start, packet, packet_len);
+    expect(reference_fold(wide_sum) == wide, "u64 add_slice");
+    expect(reference_fold(narrow_sum) == narrow, "u32 add_slice");
+    expect(etherparse_u64_16bit_word_checksum(start, packet, packet_len) + wide == 0xffff, "u64 checksum");
+    expect(etherparse_u32_16bit_word_checksum(narrow_start, packet, packet_len) + narrow == 0xffff, "u32 checksum");
+    check_complements(wide_sum, narrow_sum);
+    check_complements(start, narrow_start);
+    size_t first = below(packet_len + 1), second = first + below(packet_len - first + 1);
+    const struct etherparse_slice pieces[4] = {
+        {packet, first}, {NULL, 0}, {from(first), second - first}, {from(second), packet_len - second},
+    };
+    size_t count = below(5);
+    uint16_t of_pieces = 0;
+    for (size_t i = 0; i < count; i++)
+        of_pieces = reference_add(of_pieces, reference_sum(pieces[i].at, pieces[i].len));
+    const struct etherparse_slice *list = count == 0 ? NULL : pieces;
+    expect(reference_fold(etherparse_u64_16bit_word_add_slices(list, count)) == of_pieces, "u64 add_slices");
+    expect(reference_fold(etherparse_u32_16bit_word_add_slices(list, count)) == of_pieces, "u32 add_slices");
+}
+
+/* Room at the end of a page, behind which nothing can be read or written. */
+static uint8_t *page_end;
+
+static void fill_words(uint8_t *at, size_t len)
+{
+    for (size_t i = 0; i < len; i++)
+        at[i] = (uint8_t)some_number(255);
+}
+
+static void check_updates(void)
+{
+    uint16_t checksum = (uint16_t)some_number(65535);
+    uint8_t *old_bytes = page_end - 16, *new_bytes = page_end - 32;
+    fill_words(old_bytes, 16);
+    fill_words(new_bytes, 16);
+    uint16_t old_word = (uint16_t)bits_at(old_bytes, 0, 16), new_word = (uint16_t)bits_at(new_bytes, 0, 16);
+    expect(etherparse_update_2bytes(checksum, old_word, new_word) == reference_update(checksum, old_bytes, new_bytes, 2),
+        "update_2bytes");
+    expect(etherparse_update_4bytes(checksum, old_bytes + 12, new_bytes + 12)
+        == reference_update(checksum, old_bytes + 12, new_bytes + 12, 4), "update_4bytes");
+    expect(etherparse_update_16bytes(checksum, old_bytes, new_bytes) == reference_update(checksum, old_bytes, new_bytes, 16),
+        "update_16bytes");
+}
+
+static struct etherparse_ipv4_fields made_fields(void)
+{
+    struct etherparse_ipv4_fields fields = {
+        .dscp = (uint8_t)below(below(8) == 0 ? 256 : 64),
+        .ecn = (uint8_t)below(below(8) == 0 ? 256 : 4),
+        .total_len = (uint16_t)(below(4) == 0 ? below(80) : next_random() >> 40),
+        .identification = (uint16_t)(next_random() >> 40),
+        .dont_fragment = below(2) == 1,
+        .more_fragments = below(2) == 1,
+        .fragment_offset = (uint16_t)below(below(8) == 0 ? 65536 : 8192),
+        .time_to_live = (uint8_t)below(256),
+        .protocol = (uint8_t)below(256),
+        .header_checksum = (uint16_t)some_number(65535),
+        .options_len = (uint8_t)(below(8) == 0 ? below(256) : 4 * below(11)),
+    };
+    fill_words(fields.source, 4);
+    fill_words(fields.destination, 4);
+    fill_words(fields.options, 40);
+    return fields;
+}
+
+/* Headers of fields, which lie at the end of the page. */
+static void check_ipv4_fields(void)
+{
+    struct etherparse_ipv4_fields *fields = (struct etherparse_ipv4_fields *)(page_end - sizeof *fields);
+    *fields = made_fields();
+    struct etherparse_ipv4_fields wanted = *fields;
+    struct etherparse_ipv4_bytes written = etherparse_ipv4_write(fields), bytes = reference_ipv4_write(&wanted);
+    expect(written.len == bytes.len && memcmp(written.bytes, bytes.bytes, 60) == 0, "ipv4_write");
+    struct etherparse_ipv4_header_checksum_answer computed = etherparse_ipv4_header_checksum(fields);
+    struct etherparse_ipv4_header_checksum_answer checksum = reference_ipv4_header_checksum(&wanted);
+    expect(computed.accepted == checksum.accepted && computed.checksum == checksum.checksum, "ipv4_header_checksum");
+    if (below(2) == 0)
+        fields->header_checksum = wanted.header_checksum = checksum.checksum;
+    uint8_t time_to_live = (uint8_t)below(256);
+    bool is_set = etherparse_ipv4_set_time_to_live(fields, time_to_live);
+    expect(is_set == reference_ipv4_set_time_to_live(&wanted, time_to_live) && same_ipv4_fields(fields, &wanted),
+        "ipv4_set_time_to_live");
+    struct etherparse_ipv4_lengths_answer told = etherparse_ipv4_lengths(wanted.total_len, wanted.options_len);
+    struct etherparse_ipv4_lengths_answer lengths = reference_ipv4_lengths(wanted.total_len, wanted.options_len);
+    expect(told.payload_len == lengths.payload_len && told.max_payload_len == lengths.max_payload_len
+        && told.header_len == lengths.header_len && told.ihl == lengths.ihl && same_error(&told.error, &lengths.error),
+        "ipv4_lengths");
+    uint16_t payload_len = (uint16_t)(below(4) == 0 ? 65500 + below(36) : next_random() >> 40);
+    uint8_t *addresses = page_end - 8;
+    memcpy(addresses, wanted.options, 8);
+    struct etherparse_ipv4_new_answer made = etherparse_ipv4_new(payload_len, time_to_live, wanted.protocol, addresses,
+        addresses + 4);
+    struct etherparse_ipv4_new_answer header = reference_ipv4_new(payload_len, time_to_live, wanted.protocol, addresses,
+        addresses + 4);
+    expect(same_ipv4_fields(&made.fields, &header.fields) && same_error(&made.error, &header.error), "ipv4_new");
+    struct etherparse_ipv4_fields given = etherparse_ipv4_default(), none = reference_ipv4_default();
+    expect(same_ipv4_fields(&given, &none), "ipv4_default");
+}
+
+static void check_ipv6_fields(void)
+{
+    struct etherparse_ipv6_fields *fields = (struct etherparse_ipv6_fields *)(page_end - sizeof *fields);
+    fill_words((uint8_t *)fields, sizeof *fields);
+    fields->flow_label = (uint32_t)(below(8) == 0 ? some_number(UINT32_MAX) : some_number(0xfffff));
+    struct etherparse_ipv6_bytes written = etherparse_ipv6_write(fields), bytes = reference_ipv6_write(fields);
+    expect(written.len == bytes.len && memcmp(written.bytes, bytes.bytes, 40) == 0, "ipv6_write");
+    struct etherparse_ipv6_fields given = etherparse_ipv6_default(), none = reference_ipv6_default();
+    expect(same_ipv6_fields(&given, &none), "ipv6_default");
+}
+
+/* The text of numbers that an error has, or of any others, in a room of any size at the end of the page. */
+static void check_text(void)
+{
+    char text[ETHERPARSE_ERROR_TEXT_SIZE];
+    struct etherparse_error *error = (struct etherparse_error *)(page_end - sizeof *error);
+    memset(error, 0, sizeof *error);
+    error->kind = (uint32_t)(below(16) == 0 ? next_random() : below(8));
+    error->number = (uint16_t)(below(16) == 0 ? next_random() : below(16));
+    error->layer = (uint16_t)(below(16) == 0 ? next_random() : below(6));
+    error->required_len = below(4) == 0 ? (size_t)some_number(UINT64_MAX) : below(2000);
+    error->len = below(4) == 0 ? (size_t)some_number(UINT64_MAX) : below(2000);
+    error->layer_start_offset = below(2) == 0 ? 0 : (size_t)some_number(UINT64_MAX);
+    error->limit = below(4) == 0 ? (size_t)some_number(UINT64_MAX) : below(2000);
+    struct etherparse_error copy = *error;
+    size_t len = reference_text(&copy, text);
+    expect(etherparse_error_text(error, NULL, 0) == len, "error_text: its length");
+    size_t room = below(ETHERPARSE_ERROR_TEXT_SIZE + 20);
+    uint8_t *at = page_end - room;
+    uint8_t before[ETHERPARSE_ERROR_TEXT_SIZE + 20];
+    fill(at, room);
+    memcpy(before, at, room);
+    expect(etherparse_error_text(&copy, room == 0 ? NULL : (char *)at, room) == len, "error_text: its length with a room");
+    if (room == 0)
+        return;
+    size_t shown = len < room ? len : room - 1;
+    expect(memcmp(at, text, shown) == 0 && at[shown] == 0, "error_text");
+    expect(memcmp(at + shown + 1, before + shown + 1, room - shown - 1) == 0, "error_text: what stands behind");
 }
 
 /* The same calls and answers for the oracle. */
@@ -291,7 +437,7 @@ static void tell_error(const struct etherparse_error *error, const char *layer)
 
 static void tell_payload_len(uint16_t total_len, uint8_t options_len)
 {
-    struct etherparse_ipv4_lengths lengths = etherparse_ipv4_lengths(total_len, options_len);
+    struct etherparse_ipv4_lengths_answer lengths = etherparse_ipv4_lengths(total_len, options_len);
     tell(answers, " payload_len=");
     if (lengths.error.kind == ETHERPARSE_OK)
         tell(answers, "ok %u", lengths.payload_len);
@@ -308,7 +454,7 @@ static void tell_ipv4_view(void)
         tell_error(&seen.error, "Ipv4Header");
         return;
     }
-    const struct etherparse_ipv4_view *view = &seen.view;
+    const struct etherparse_ipv4_view_fields *view = &seen.view;
     tell_bytes(answers, "ok slice=", packet, seen.rest.offset);
     tell(answers, " version=4 ihl=%u dscp=%u ecn=%u total_len=%u identification=%u dont_fragment=%s more_fragments=%s",
         view->ihl, view->dscp, view->ecn, view->total_len, view->identification, true_or_false(view->dont_fragment),
@@ -385,10 +531,9 @@ static void tell_ipv4_write(void)
     fill(fields.options, 40);
     tell(cases, "v4.info");
     tell_case_fields(&fields);
-    struct etherparse_ipv4_lengths lengths = etherparse_ipv4_lengths(fields.total_len, fields.options_len);
+    struct etherparse_ipv4_lengths_answer lengths = etherparse_ipv4_lengths(fields.total_len, fields.options_len);
     struct etherparse_ipv4_bytes written = etherparse_ipv4_write(&fields);
-    uint16_t computed = 0;
-    expect(etherparse_ipv4_header_checksum(&fields, &computed), "a checksum");
+    uint16_t computed = etherparse_ipv4_header_checksum(&fields).checksum;
     struct etherparse_ipv4_view_answer seen = etherparse_ipv4_view(written.bytes, written.len);
     tell(answers, "ihl=%u header_len=%u max_payload_len=%u fragmenting=%s calc=%u", lengths.ihl, lengths.header_len,
         lengths.max_payload_len, true_or_false(seen.view.is_fragmenting_payload), computed);
@@ -414,7 +559,7 @@ static void tell_ipv6_view(void)
         tell_error(&seen.error, "Ipv6Header");
         return;
     }
-    const struct etherparse_ipv6_view *view = &seen.view;
+    const struct etherparse_ipv6_view_fields *view = &seen.view;
     tell_bytes(answers, "ok slice=", packet, seen.rest.offset);
     tell(answers, " version=6 traffic_class=%u dscp=%u ecn=%u flow_label=%" PRIu32, view->traffic_class, view->dscp,
         view->ecn, view->flow_label);
@@ -526,10 +671,12 @@ static FILE *opened(const char *name)
 
 int main(int argc, char **argv)
 {
-    if (argc != 6) {
-        fprintf(stderr, "usage: fuzz COUNT SECONDS EVERY CASES ANSWERS\n");
+    if (argc != 6 && argc != 7) {
+        fprintf(stderr, "usage: fuzz COUNT SECONDS EVERY CASES ANSWERS [SEED]\n");
         return 2;
     }
+    if (argc == 7)
+        state += strtoull(argv[6], NULL, 10);
     unsigned long long count = strtoull(argv[1], NULL, 10);
     unsigned long long every = strtoull(argv[3], NULL, 10);
     time_t end = time(NULL) + atoi(argv[2]);
@@ -537,6 +684,7 @@ int main(int argc, char **argv)
     answers = opened(argv[5]);
     size_t page_len = (size_t)sysconf(_SC_PAGESIZE);
     uint8_t *page = guarded_page(page_len);
+    page_end = guarded_page(page_len) + page_len;
     uint8_t made[MAX_LEN];
     unsigned long long done = 0;
     while (done < count && (done % 4096 != 0 || time(NULL) < end)) {
@@ -550,6 +698,10 @@ int main(int argc, char **argv)
         check_ipv6();
         check_walk(number);
         check_sums();
+        check_updates();
+        check_ipv4_fields();
+        check_ipv6_fields();
+        check_text();
         if (done % every == 0)
             tell_all(number);
         expect(len == 0 || memcmp(at, made, len) == 0, "bytes that stay");
@@ -557,6 +709,6 @@ int main(int argc, char **argv)
     }
     if (fclose(cases) != 0 || fclose(answers) != 0)
         return 2;
-    printf("%llu packets, and nothing to report.\n", done);
+    printf("%llu inputs, and nothing differs.\n", done);
     return 0;
 }

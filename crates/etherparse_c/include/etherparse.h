@@ -1,8 +1,18 @@
 /* IP headers and their checksums: the proved library for C.
  *
  * A slice is a pointer and a length in bytes, which is at most half of the address space. A null pointer with the length 0 is
- * the empty slice. Bytes that are only read must not be written by another thread during the call. No call keeps a pointer,
- * takes memory or makes a system call. */
+ * the empty slice. No call keeps a pointer, takes memory or makes a system call.
+ *
+ * Threads: the library has no state of its own, so any number of threads may call it at once, as long as none writes what a
+ * call of another reads or writes.
+ *
+ * Systems: x86-64 with the System V calling convention, as Linux has it. The library is built for the processor level
+ * x86-64-v2 (SSE4.2 and SSSE3, in every processor since about 2009) unless another was asked for; on an older processor a call
+ * ends the process by an illegal instruction. The file etherparse.pc names the level of what is installed.
+ *
+ * Byte order: a field of a struct is a number, whose high byte the packet has first. A sum, and a checksum made of a sum, has
+ * the packet's first byte as its low byte; etherparse_swap_bytes turns the one form into the other. Each call says which it
+ * takes and answers. */
 
 #ifndef ETHERPARSE_H
 #define ETHERPARSE_H
@@ -10,6 +20,25 @@
 #include <stdbool.h>
 #include <stddef.h>
 #include <stdint.h>
+
+/* The version of this file and of the library that it stands beside. */
+#define ETHERPARSE_VERSION_MAJOR 0
+#define ETHERPARSE_VERSION_MINOR 1
+#define ETHERPARSE_VERSION_PATCH 0
+#define ETHERPARSE_VERSION "0.1.0"
+
+/* The layout of the structs, which the compiler checks in C11, C++11 and later. */
+#if defined(__cplusplus) && __cplusplus >= 201103L
+#define ETHERPARSE_STATIC_ASSERT(holds) static_assert(holds, #holds)
+#elif !defined(__cplusplus) && defined(__STDC_VERSION__) && __STDC_VERSION__ >= 201112L
+#define ETHERPARSE_STATIC_ASSERT(holds) _Static_assert(holds, #holds)
+#endif
+
+#ifdef ETHERPARSE_STATIC_ASSERT
+#define ETHERPARSE_SIZE(type, bytes) ETHERPARSE_STATIC_ASSERT(sizeof(struct type) == (bytes))
+#define ETHERPARSE_FIELD(type, field, offset, bytes) \
+    ETHERPARSE_STATIC_ASSERT(offsetof(struct type, field) == (offset) && sizeof(((struct type *)0)->field) == (bytes))
+#endif
 
 #ifdef __cplusplus
 extern "C" {
@@ -21,8 +50,10 @@ extern "C" {
  * of add_slice and one of ones_complement. A slice with an odd number of bytes is padded with a byte 0, so only the last one
  * may have an odd number where the bytes belong together.
  *
- * Two sums of the same words may be different numbers; their complements are the same. In a complement the low byte is the
- * one that a header has first, on every machine. */
+ * Two sums of the same words may be different numbers; their complements are the same.
+ *
+ * Byte order: in a sum, in its complement and in the checksum of a slice, the low byte is the one that a packet has first. So
+ * memcpy puts a complement into a packet; as the number that header_checksum is, it goes through etherparse_swap_bytes. */
 
 /* Bytes of a list of pieces. */
 struct etherparse_slice {
@@ -38,45 +69,81 @@ uint32_t etherparse_u32_16bit_word_add_slice(uint32_t start_sum, const uint8_t *
 uint64_t etherparse_u64_16bit_word_add_slices(const struct etherparse_slice *pieces, size_t count);
 uint32_t etherparse_u32_16bit_word_add_slices(const struct etherparse_slice *pieces, size_t count);
 
-/* The checksum of what was summed. It is 0 where the words sum to all ones, as those of a right packet do with their checksum
- * among them. */
+/* The checksum of what was summed, with the low byte first in a packet. It is 0 where the words sum to all ones, as those of a
+ * right packet do with their checksum among them. */
 uint16_t etherparse_u64_16bit_word_ones_complement(uint64_t sum);
 uint16_t etherparse_u32_16bit_word_ones_complement(uint32_t sum);
 
-/* The same with 0xffff in place of 0, for UDP, where 0 says that there is no checksum (RFC 768). */
+/* The same, low byte first too, with 0xffff in place of 0, for UDP, where 0 says that there is no checksum (RFC 768). */
 uint16_t etherparse_u64_16bit_word_ones_complement_with_no_zero(uint64_t sum);
 uint16_t etherparse_u32_16bit_word_ones_complement_with_no_zero(uint32_t sum);
 
-/* The checksum of a slice after what was summed: add_slice and ones_complement in one call. It is 0 exactly where all the words
- * together sum to all ones. */
+/* The checksum of a slice after what was summed, low byte first: add_slice and ones_complement in one call. It is 0 exactly
+ * where all the words together sum to all ones. */
 uint16_t etherparse_u64_16bit_word_checksum(uint64_t start_sum, const uint8_t *at, size_t len);
 uint16_t etherparse_u32_16bit_word_checksum(uint32_t start_sum, const uint8_t *at, size_t len);
 
-/* The checksum after one of the words that it is over was changed from old_word to new_word (RFC 1624, equation 3): all three
- * are numbers whose high byte a header has first, as header_checksum is. A wrong checksum is not made right. */
+/* A checksum in the other byte order: of one that a call above answered the number that header_checksum is, and of such a number
+ * what those calls answer. */
+uint16_t etherparse_swap_bytes(uint16_t checksum);
+
+/* The checksum after one of the words that it is over was changed from old_word to new_word (RFC 1624, equation 3): all three,
+ * and the answer, are numbers whose high byte a packet has first, as header_checksum is. A wrong checksum is not made right. */
 uint16_t etherparse_update_2bytes(uint16_t checksum, uint16_t old_word, uint16_t new_word);
 
-/* The same after four bytes, as an IPv4 address, or sixteen, as an IPv6 address, were changed at an even place. */
+/* The same after four bytes, as an IPv4 address, or sixteen, as an IPv6 address, were changed at an even place. The bytes are as
+ * the packet has them, the checksum is the number whose high byte comes first. */
 uint16_t etherparse_update_4bytes(uint16_t checksum, const uint8_t old_bytes[4], const uint8_t new_bytes[4]);
 uint16_t etherparse_update_16bytes(uint16_t checksum, const uint8_t old_bytes[16], const uint8_t new_bytes[16]);
 
 /* Why a call refused, by its numbers. Each number that a kind does not have is 0. */
 struct etherparse_error {
     uint32_t kind; /* one of the kinds below; 0 says that nothing was refused */
-    uint32_t number; /* by the kind the version, the IHL, or of TOO_MANY the number of the header that is one too many */
+    uint16_t number; /* by the kind the version, the IHL, of TOO_MANY the header that is one too many, or which value it is */
+    uint16_t layer; /* of LEN, UNEXPECTED_VERSION, HEADER_LENGTH_SMALLER_THAN_HEADER and TOO_MANY: a layer below */
     size_t required_len; /* of LEN: the length in bytes that is required */
-    size_t len; /* of LEN: the length in bytes that there is */
+    size_t len; /* of LEN and BAD_OPTIONS_LEN: the length in bytes that there is; of VALUE_TOO_BIG the value */
     size_t layer_start_offset; /* of LEN and TOO_MANY: where the header starts, in bytes from the start of the slice */
-    size_t limit; /* of TOO_MANY: how many extension headers were allowed */
+    size_t limit; /* of TOO_MANY how many headers were allowed; of VALUE_TOO_BIG the greatest value that is allowed */
 };
 
+/* The kinds of errors. */
 enum {
     ETHERPARSE_OK = 0,
     ETHERPARSE_LEN = 1, /* a length is below the one that is required */
     ETHERPARSE_UNEXPECTED_VERSION = 2, /* the version field has another number */
     ETHERPARSE_HEADER_LENGTH_SMALLER_THAN_HEADER = 3, /* the IHL field is below 5 */
-    ETHERPARSE_TOO_MANY = 4 /* there are more extension headers than are allowed */
+    ETHERPARSE_TOO_MANY = 4, /* there are more extension headers than are allowed */
+    ETHERPARSE_VALUE_TOO_BIG = 5, /* a value is above the greatest that its field has room for */
+    ETHERPARSE_BAD_OPTIONS_LEN = 6 /* options cannot be of this length */
 };
+
+/* The layers that an error is about. */
+enum {
+    ETHERPARSE_IPV4_HEADER = 1, /* its length is that of the slice */
+    ETHERPARSE_IPV4_PACKET = 2, /* its length is the total_len of its header */
+    ETHERPARSE_IPV6_HEADER = 3, /* its length is that of the slice */
+    ETHERPARSE_IPV6_EXT_HEADER = 4 /* its length is that of what is left of the slice */
+};
+
+/* The values that can be too big. */
+enum {
+    ETHERPARSE_IP_FRAGMENT_OFFSET = 1,
+    ETHERPARSE_IP_DSCP = 2,
+    ETHERPARSE_IP_ECN = 3,
+    ETHERPARSE_IPV6_FLOW_LABEL = 4,
+    ETHERPARSE_IPV4_PAYLOAD_LENGTH = 5,
+    ETHERPARSE_IPV6_PAYLOAD_LENGTH = 6
+};
+
+/* Room in bytes for the longest text, with the 0 behind it. */
+#define ETHERPARSE_ERROR_TEXT_SIZE 301
+
+/* The text of an error in English, with no newline. As snprintf does, it writes as much of it as there is room for in len bytes
+ * with a 0 behind it, and answers how many bytes the whole text has, without that 0; so len may be 0. Numbers that no error
+ * has, as those of ETHERPARSE_OK, have the empty text. The pointer to the error is not null, and text is null only where len is
+ * 0. */
+size_t etherparse_error_text(const struct etherparse_error *error, char *text, size_t len);
 
 /* Where the bytes after a header, or after extension headers, are: the slice from this offset on. */
 struct etherparse_rest {
@@ -97,7 +164,7 @@ struct etherparse_ipv4_fields {
     uint16_t fragment_offset; /* in units of 8 bytes, at most 8191 */
     uint8_t time_to_live;
     uint8_t protocol;
-    uint16_t header_checksum;
+    uint16_t header_checksum; /* bytes 10 and 11 as a number, the high byte first */
     uint8_t source[4];
     uint8_t destination[4];
     uint8_t options_len; /* how many bytes of options there are: at most 40, in words of 4 */
@@ -105,13 +172,13 @@ struct etherparse_ipv4_fields {
 };
 
 /* What the getters of a view answer. */
-struct etherparse_ipv4_view {
+struct etherparse_ipv4_view_fields {
     uint8_t source[4];
     uint8_t destination[4];
     uint16_t total_len; /* of the header and what follows it, in bytes */
     uint16_t identification;
     uint16_t fragment_offset; /* in units of 8 bytes, at most 8191 */
-    uint16_t header_checksum; /* the one that the header has, right or wrong */
+    uint16_t header_checksum; /* the one that the header has, right or wrong: a number, the high byte first */
     uint8_t ihl; /* the length of the header in words of 4 bytes, 5 to 15 */
     uint8_t dscp; /* at most 63 */
     uint8_t ecn; /* at most 3 */
@@ -125,7 +192,7 @@ struct etherparse_ipv4_view {
 /* The header at the front of a slice, as a view. Its bytes are those of the slice up to rest.offset, and its options those from
  * byte 20 up to there. Where error.kind is not ETHERPARSE_OK, there is no header and all else is 0. */
 struct etherparse_ipv4_view_answer {
-    struct etherparse_ipv4_view view;
+    struct etherparse_ipv4_view_fields view;
     struct etherparse_error error;
     struct etherparse_rest rest;
 };
@@ -144,13 +211,25 @@ struct etherparse_ipv4_bytes {
     uint8_t len; /* 20 to 60, or 0 */
 };
 
+/* A header without options. Where error.kind is not ETHERPARSE_OK, there is none and all else is 0. */
+struct etherparse_ipv4_new_answer {
+    struct etherparse_ipv4_fields fields;
+    struct etherparse_error error;
+};
+
+/* The checksum that a header should have. */
+struct etherparse_ipv4_header_checksum_answer {
+    uint16_t checksum; /* the high byte first in the header, as header_checksum is; 0 where accepted is false */
+    bool accepted; /* the fields are within their bounds */
+};
+
 /* The lengths of a header and of its payload. */
-struct etherparse_ipv4_lengths {
+struct etherparse_ipv4_lengths_answer {
     uint16_t payload_len; /* what total_len counts beyond the header, in bytes */
     uint16_t max_payload_len; /* of the longest payload that fits after the header, in bytes: 65475 to 65515 */
     uint8_t header_len; /* with the options, in bytes: 20 to 60 */
     uint8_t ihl; /* the same in words of 4 bytes */
-    struct etherparse_error error; /* why there is no payload_len: a LEN where total_len is below the length of the header */
+    struct etherparse_error error; /* why there is no payload_len */
 };
 
 /* The header at the front of a slice, and where the bytes after it are, however many total_len tells of.
@@ -164,14 +243,31 @@ struct etherparse_ipv4_read_answer etherparse_ipv4_read(const uint8_t *at, size_
  * answer is 0 where a field is out of its bounds. The pointer is not null, and each bool is 0 or 1. */
 struct etherparse_ipv4_bytes etherparse_ipv4_write(const struct etherparse_ipv4_fields *fields);
 
-/* The lengths of a header with this total length and so many bytes of options: those of a view have options_len =
- * rest.offset - 20, a length that options can have. All is 0 where options can not be of this length. */
-struct etherparse_ipv4_lengths etherparse_ipv4_lengths(uint16_t total_len, uint8_t options_len);
+/* The fields of a header with no field given, as the Rust crate has them: dont_fragment is true, the protocol 255, which is
+ * reserved, and all else is 0. */
+struct etherparse_ipv4_fields etherparse_ipv4_default(void);
 
-/* Writes the checksum that a header of these fields should have, as a number whose high byte a header has first, and returns
- * true. Where a field is out of its bounds it returns false and writes nothing. The stored header_checksum, whatever it is,
- * counts as 0. Neither pointer is null, checksum points to no part of fields, and each bool is 0 or 1. */
-bool etherparse_ipv4_header_checksum(const struct etherparse_ipv4_fields *fields, uint16_t *checksum);
+/* The fields of a header without options for a payload of this length in bytes. All else is as in the default, so the checksum
+ * is 0: etherparse_ipv4_header_checksum gives the right one.
+ *
+ * The error is VALUE_TOO_BIG where the payload is longer than 65515 bytes. Neither pointer is null. */
+struct etherparse_ipv4_new_answer etherparse_ipv4_new(uint16_t payload_len, uint8_t time_to_live, uint8_t protocol,
+    const uint8_t source[4], const uint8_t destination[4]);
+
+/* The lengths of a header with this total length and so many bytes of options: those of a view have options_len =
+ * rest.offset - 20.
+ *
+ * The error is BAD_OPTIONS_LEN where options cannot be of this length, and all else is 0 then; else a LEN where total_len is
+ * below the length of the header, and payload_len is 0 then. */
+struct etherparse_ipv4_lengths_answer etherparse_ipv4_lengths(uint16_t total_len, uint8_t options_len);
+
+/* The checksum that a header of these fields should have, a number whose high byte the header has first. The stored
+ * header_checksum, whatever it is, counts as 0, so that
+ *
+ *     fields.header_checksum = etherparse_ipv4_header_checksum(&fields).checksum;
+ *
+ * makes it right. The pointer is not null, and each bool is 0 or 1. */
+struct etherparse_ipv4_header_checksum_answer etherparse_ipv4_header_checksum(const struct etherparse_ipv4_fields *fields);
 
 /* Sets the time to live, updates the stored header_checksum for it by etherparse_update_2bytes, and returns true. Where a field
  * is out of its bounds it returns false and changes nothing. The pointer is not null, and each bool is 0 or 1.
@@ -194,7 +290,7 @@ struct etherparse_ipv6_fields {
 };
 
 /* What the getters of a view answer. */
-struct etherparse_ipv6_view {
+struct etherparse_ipv6_view_fields {
     uint8_t source[16];
     uint8_t destination[16];
     uint32_t flow_label; /* at most 1048575 */
@@ -208,7 +304,7 @@ struct etherparse_ipv6_view {
 
 /* The header at the front of a slice. Where error.kind is not ETHERPARSE_OK, there is no header and all else is 0. */
 struct etherparse_ipv6_view_answer {
-    struct etherparse_ipv6_view view;
+    struct etherparse_ipv6_view_fields view;
     struct etherparse_error error;
     struct etherparse_rest rest;
 };
@@ -225,9 +321,9 @@ struct etherparse_ipv6_bytes {
     uint8_t len; /* 40, or 0 */
 };
 
-/* Where a walk past extension headers ended. Where error.kind is not ETHERPARSE_OK, all else is 0. */
+/* Where a walk past extension headers, or past one of them, ended. Where error.kind is not ETHERPARSE_OK, all else is 0. */
 struct etherparse_ipv6_walk_answer {
-    uint8_t next_header; /* the number of what follows them: the first of no header that can be skipped */
+    uint8_t next_header; /* the number of what follows them; of a whole walk the first of no header that can be skipped */
     struct etherparse_error error;
     struct etherparse_rest rest; /* the bytes after all extension headers */
 };
@@ -238,9 +334,20 @@ struct etherparse_ipv6_walk_answer {
 struct etherparse_ipv6_view_answer etherparse_ipv6_view(const uint8_t *at, size_t len);
 struct etherparse_ipv6_read_answer etherparse_ipv6_read(const uint8_t *at, size_t len);
 
+/* The fields of a header with no field given, as the Rust crate has them: next_header is 255, which is reserved, and all else is
+ * 0. */
+struct etherparse_ipv6_fields etherparse_ipv6_default(void);
+
 /* The bytes of the header of these fields. The len of the answer is 0 where the flow label is above 1048575. The pointer is not
  * null. */
 struct etherparse_ipv6_bytes etherparse_ipv6_write(const struct etherparse_ipv6_fields *fields);
+
+/* Skips the extension header of this number at the front of a slice: next_header is then the number of what follows it. With a
+ * number of no header that can be skipped the answer is that number, and the rest is the whole slice. So a program that looks
+ * at each header of a chain, as at the offset in a fragment header (44), goes from one to the next.
+ *
+ * The error is a LEN where the slice is shorter than the header says. Where it has fewer than 2 bytes, 2 are required. */
+struct etherparse_ipv6_walk_answer etherparse_ipv6_skip(const uint8_t *at, size_t len, uint8_t next_header);
 
 /* Skips all extension headers at the front of a slice, of which the first has this number: 0, 43, 44, 51, 60, 135, 139 and 140
  * can be skipped. With any other number there is none, and the rest is the whole slice. Those of a packet are at the front of
@@ -253,6 +360,113 @@ struct etherparse_ipv6_walk_answer etherparse_ipv6_walk(const uint8_t *at, size_
 /* The same past at most so many headers. The error is TOO_MANY where as many were skipped and the number after them is that of
  * one more, however many bytes are left; else a LEN, as above. */
 struct etherparse_ipv6_walk_answer etherparse_ipv6_walk_up_to(const uint8_t *at, size_t len, uint8_t next_header, size_t limit);
+
+/* The layout, as the library has it. */
+#ifdef ETHERPARSE_STATIC_ASSERT
+ETHERPARSE_SIZE(etherparse_slice, 16);
+ETHERPARSE_FIELD(etherparse_slice, at, 0, 8);
+ETHERPARSE_FIELD(etherparse_slice, len, 8, 8);
+ETHERPARSE_SIZE(etherparse_error, 40);
+ETHERPARSE_FIELD(etherparse_error, kind, 0, 4);
+ETHERPARSE_FIELD(etherparse_error, number, 4, 2);
+ETHERPARSE_FIELD(etherparse_error, layer, 6, 2);
+ETHERPARSE_FIELD(etherparse_error, required_len, 8, 8);
+ETHERPARSE_FIELD(etherparse_error, len, 16, 8);
+ETHERPARSE_FIELD(etherparse_error, layer_start_offset, 24, 8);
+ETHERPARSE_FIELD(etherparse_error, limit, 32, 8);
+ETHERPARSE_SIZE(etherparse_rest, 16);
+ETHERPARSE_FIELD(etherparse_rest, offset, 0, 8);
+ETHERPARSE_FIELD(etherparse_rest, len, 8, 8);
+ETHERPARSE_SIZE(etherparse_ipv4_fields, 64);
+ETHERPARSE_FIELD(etherparse_ipv4_fields, dscp, 0, 1);
+ETHERPARSE_FIELD(etherparse_ipv4_fields, ecn, 1, 1);
+ETHERPARSE_FIELD(etherparse_ipv4_fields, total_len, 2, 2);
+ETHERPARSE_FIELD(etherparse_ipv4_fields, identification, 4, 2);
+ETHERPARSE_FIELD(etherparse_ipv4_fields, dont_fragment, 6, 1);
+ETHERPARSE_FIELD(etherparse_ipv4_fields, more_fragments, 7, 1);
+ETHERPARSE_FIELD(etherparse_ipv4_fields, fragment_offset, 8, 2);
+ETHERPARSE_FIELD(etherparse_ipv4_fields, time_to_live, 10, 1);
+ETHERPARSE_FIELD(etherparse_ipv4_fields, protocol, 11, 1);
+ETHERPARSE_FIELD(etherparse_ipv4_fields, header_checksum, 12, 2);
+ETHERPARSE_FIELD(etherparse_ipv4_fields, source, 14, 4);
+ETHERPARSE_FIELD(etherparse_ipv4_fields, destination, 18, 4);
+ETHERPARSE_FIELD(etherparse_ipv4_fields, options_len, 22, 1);
+ETHERPARSE_FIELD(etherparse_ipv4_fields, options, 23, 40);
+ETHERPARSE_SIZE(etherparse_ipv4_view_fields, 24);
+ETHERPARSE_FIELD(etherparse_ipv4_view_fields, source, 0, 4);
+ETHERPARSE_FIELD(etherparse_ipv4_view_fields, destination, 4, 4);
+ETHERPARSE_FIELD(etherparse_ipv4_view_fields, total_len, 8, 2);
+ETHERPARSE_FIELD(etherparse_ipv4_view_fields, identification, 10, 2);
+ETHERPARSE_FIELD(etherparse_ipv4_view_fields, fragment_offset, 12, 2);
+ETHERPARSE_FIELD(etherparse_ipv4_view_fields, header_checksum, 14, 2);
+ETHERPARSE_FIELD(etherparse_ipv4_view_fields, ihl, 16, 1);
+ETHERPARSE_FIELD(etherparse_ipv4_view_fields, dscp, 17, 1);
+ETHERPARSE_FIELD(etherparse_ipv4_view_fields, ecn, 18, 1);
+ETHERPARSE_FIELD(etherparse_ipv4_view_fields, dont_fragment, 19, 1);
+ETHERPARSE_FIELD(etherparse_ipv4_view_fields, more_fragments, 20, 1);
+ETHERPARSE_FIELD(etherparse_ipv4_view_fields, is_fragmenting_payload, 21, 1);
+ETHERPARSE_FIELD(etherparse_ipv4_view_fields, time_to_live, 22, 1);
+ETHERPARSE_FIELD(etherparse_ipv4_view_fields, protocol, 23, 1);
+ETHERPARSE_SIZE(etherparse_ipv4_view_answer, 80);
+ETHERPARSE_FIELD(etherparse_ipv4_view_answer, view, 0, 24);
+ETHERPARSE_FIELD(etherparse_ipv4_view_answer, error, 24, 40);
+ETHERPARSE_FIELD(etherparse_ipv4_view_answer, rest, 64, 16);
+ETHERPARSE_SIZE(etherparse_ipv4_read_answer, 120);
+ETHERPARSE_FIELD(etherparse_ipv4_read_answer, fields, 0, 64);
+ETHERPARSE_FIELD(etherparse_ipv4_read_answer, error, 64, 40);
+ETHERPARSE_FIELD(etherparse_ipv4_read_answer, rest, 104, 16);
+ETHERPARSE_SIZE(etherparse_ipv4_bytes, 61);
+ETHERPARSE_FIELD(etherparse_ipv4_bytes, bytes, 0, 60);
+ETHERPARSE_FIELD(etherparse_ipv4_bytes, len, 60, 1);
+ETHERPARSE_SIZE(etherparse_ipv4_new_answer, 104);
+ETHERPARSE_FIELD(etherparse_ipv4_new_answer, fields, 0, 64);
+ETHERPARSE_FIELD(etherparse_ipv4_new_answer, error, 64, 40);
+ETHERPARSE_SIZE(etherparse_ipv4_header_checksum_answer, 4);
+ETHERPARSE_FIELD(etherparse_ipv4_header_checksum_answer, checksum, 0, 2);
+ETHERPARSE_FIELD(etherparse_ipv4_header_checksum_answer, accepted, 2, 1);
+ETHERPARSE_SIZE(etherparse_ipv4_lengths_answer, 48);
+ETHERPARSE_FIELD(etherparse_ipv4_lengths_answer, payload_len, 0, 2);
+ETHERPARSE_FIELD(etherparse_ipv4_lengths_answer, max_payload_len, 2, 2);
+ETHERPARSE_FIELD(etherparse_ipv4_lengths_answer, header_len, 4, 1);
+ETHERPARSE_FIELD(etherparse_ipv4_lengths_answer, ihl, 5, 1);
+ETHERPARSE_FIELD(etherparse_ipv4_lengths_answer, error, 8, 40);
+ETHERPARSE_SIZE(etherparse_ipv6_fields, 44);
+ETHERPARSE_FIELD(etherparse_ipv6_fields, source, 0, 16);
+ETHERPARSE_FIELD(etherparse_ipv6_fields, destination, 16, 16);
+ETHERPARSE_FIELD(etherparse_ipv6_fields, flow_label, 32, 4);
+ETHERPARSE_FIELD(etherparse_ipv6_fields, payload_length, 36, 2);
+ETHERPARSE_FIELD(etherparse_ipv6_fields, traffic_class, 38, 1);
+ETHERPARSE_FIELD(etherparse_ipv6_fields, next_header, 39, 1);
+ETHERPARSE_FIELD(etherparse_ipv6_fields, hop_limit, 40, 1);
+ETHERPARSE_SIZE(etherparse_ipv6_view_fields, 44);
+ETHERPARSE_FIELD(etherparse_ipv6_view_fields, source, 0, 16);
+ETHERPARSE_FIELD(etherparse_ipv6_view_fields, destination, 16, 16);
+ETHERPARSE_FIELD(etherparse_ipv6_view_fields, flow_label, 32, 4);
+ETHERPARSE_FIELD(etherparse_ipv6_view_fields, payload_length, 36, 2);
+ETHERPARSE_FIELD(etherparse_ipv6_view_fields, traffic_class, 38, 1);
+ETHERPARSE_FIELD(etherparse_ipv6_view_fields, dscp, 39, 1);
+ETHERPARSE_FIELD(etherparse_ipv6_view_fields, ecn, 40, 1);
+ETHERPARSE_FIELD(etherparse_ipv6_view_fields, next_header, 41, 1);
+ETHERPARSE_FIELD(etherparse_ipv6_view_fields, hop_limit, 42, 1);
+ETHERPARSE_SIZE(etherparse_ipv6_view_answer, 104);
+ETHERPARSE_FIELD(etherparse_ipv6_view_answer, view, 0, 44);
+ETHERPARSE_FIELD(etherparse_ipv6_view_answer, error, 48, 40);
+ETHERPARSE_FIELD(etherparse_ipv6_view_answer, rest, 88, 16);
+ETHERPARSE_SIZE(etherparse_ipv6_read_answer, 104);
+ETHERPARSE_FIELD(etherparse_ipv6_read_answer, fields, 0, 44);
+ETHERPARSE_FIELD(etherparse_ipv6_read_answer, error, 48, 40);
+ETHERPARSE_FIELD(etherparse_ipv6_read_answer, rest, 88, 16);
+ETHERPARSE_SIZE(etherparse_ipv6_bytes, 41);
+ETHERPARSE_FIELD(etherparse_ipv6_bytes, bytes, 0, 40);
+ETHERPARSE_FIELD(etherparse_ipv6_bytes, len, 40, 1);
+ETHERPARSE_SIZE(etherparse_ipv6_walk_answer, 64);
+ETHERPARSE_FIELD(etherparse_ipv6_walk_answer, next_header, 0, 1);
+ETHERPARSE_FIELD(etherparse_ipv6_walk_answer, error, 8, 40);
+ETHERPARSE_FIELD(etherparse_ipv6_walk_answer, rest, 48, 16);
+#undef ETHERPARSE_SIZE
+#undef ETHERPARSE_FIELD
+#undef ETHERPARSE_STATIC_ASSERT
+#endif
 
 #ifdef __cplusplus
 }

@@ -1,6 +1,8 @@
-//! The declarations of `etherparse.h` for Rust. Functions have the same names, constants those without the
-//! prefix, and structs those in Rust's spelling, as `Ipv4ViewAnswer`.
-//! What each call does, and what a caller owes, stands there.
+//! The declarations of `etherparse.h` for Rust, in the editions 2021 and 2024. Functions have the
+//! same names, constants those without the prefix, and structs those in Rust's spelling, as
+//! `Ipv4ViewAnswer`. What each call does, and what a caller owes, stands there.
+//!
+//! A safe crate over them is `bindings/rust` of the repository.
 
 #![allow(dead_code)]
 
@@ -9,6 +11,23 @@ pub const LEN: u32 = 1;
 pub const UNEXPECTED_VERSION: u32 = 2;
 pub const HEADER_LENGTH_SMALLER_THAN_HEADER: u32 = 3;
 pub const TOO_MANY: u32 = 4;
+pub const VALUE_TOO_BIG: u32 = 5;
+pub const BAD_OPTIONS_LEN: u32 = 6;
+
+pub const IPV4_HEADER: u16 = 1;
+pub const IPV4_PACKET: u16 = 2;
+pub const IPV6_HEADER: u16 = 3;
+pub const IPV6_EXT_HEADER: u16 = 4;
+
+pub const IP_FRAGMENT_OFFSET: u16 = 1;
+pub const IP_DSCP: u16 = 2;
+pub const IP_ECN: u16 = 3;
+pub const IPV6_FLOW_LABEL: u16 = 4;
+pub const IPV4_PAYLOAD_LENGTH: u16 = 5;
+pub const IPV6_PAYLOAD_LENGTH: u16 = 6;
+
+/// Room in bytes for the longest text of an error, with the 0 behind it.
+pub const ERROR_TEXT_SIZE: usize = 301;
 
 /// Bytes of a list of pieces.
 #[repr(C)]
@@ -23,7 +42,8 @@ pub struct Slice {
 #[derive(Clone, Copy, Debug, Default, PartialEq, Eq)]
 pub struct Error {
     pub kind: u32,
-    pub number: u32,
+    pub number: u16,
+    pub layer: u16,
     pub required_len: usize,
     pub len: usize,
     pub layer_start_offset: usize,
@@ -61,7 +81,7 @@ pub struct Ipv4Fields {
 /// What the getters of a view of an IPv4 header answer.
 #[repr(C)]
 #[derive(Clone, Copy, Debug, PartialEq, Eq)]
-pub struct Ipv4View {
+pub struct Ipv4ViewFields {
     pub source: [u8; 4],
     pub destination: [u8; 4],
     pub total_len: u16,
@@ -82,7 +102,7 @@ pub struct Ipv4View {
 #[repr(C)]
 #[derive(Clone, Copy, Debug, PartialEq, Eq)]
 pub struct Ipv4ViewAnswer {
-    pub view: Ipv4View,
+    pub view: Ipv4ViewFields,
     pub error: Error,
     pub rest: Rest,
 }
@@ -104,10 +124,26 @@ pub struct Ipv4Bytes {
     pub len: u8,
 }
 
+/// An IPv4 header without options.
+#[repr(C)]
+#[derive(Clone, Copy, Debug, PartialEq, Eq)]
+pub struct Ipv4NewAnswer {
+    pub fields: Ipv4Fields,
+    pub error: Error,
+}
+
+/// The checksum that an IPv4 header should have.
+#[repr(C)]
+#[derive(Clone, Copy, Debug, PartialEq, Eq)]
+pub struct Ipv4HeaderChecksumAnswer {
+    pub checksum: u16,
+    pub accepted: bool,
+}
+
 /// The lengths of an IPv4 header and of its payload.
 #[repr(C)]
 #[derive(Clone, Copy, Debug, PartialEq, Eq)]
-pub struct Ipv4Lengths {
+pub struct Ipv4LengthsAnswer {
     pub payload_len: u16,
     pub max_payload_len: u16,
     pub header_len: u8,
@@ -131,7 +167,7 @@ pub struct Ipv6Fields {
 /// What the getters of a view of an IPv6 header answer.
 #[repr(C)]
 #[derive(Clone, Copy, Debug, PartialEq, Eq)]
-pub struct Ipv6View {
+pub struct Ipv6ViewFields {
     pub source: [u8; 16],
     pub destination: [u8; 16],
     pub flow_label: u32,
@@ -147,7 +183,7 @@ pub struct Ipv6View {
 #[repr(C)]
 #[derive(Clone, Copy, Debug, PartialEq, Eq)]
 pub struct Ipv6ViewAnswer {
-    pub view: Ipv6View,
+    pub view: Ipv6ViewFields,
     pub error: Error,
     pub rest: Rest,
 }
@@ -178,7 +214,7 @@ pub struct Ipv6WalkAnswer {
     pub rest: Rest,
 }
 
-extern "C" {
+unsafe extern "C" {
     pub fn etherparse_u64_16bit_word_add_slice(start_sum: u64, at: *const u8, len: usize) -> u64;
     pub fn etherparse_u32_16bit_word_add_slice(start_sum: u32, at: *const u8, len: usize) -> u32;
     pub fn etherparse_u64_16bit_word_add_slices(pieces: *const Slice, count: usize) -> u64;
@@ -189,21 +225,86 @@ extern "C" {
     pub fn etherparse_u32_16bit_word_ones_complement_with_no_zero(sum: u32) -> u16;
     pub fn etherparse_u64_16bit_word_checksum(start_sum: u64, at: *const u8, len: usize) -> u16;
     pub fn etherparse_u32_16bit_word_checksum(start_sum: u32, at: *const u8, len: usize) -> u16;
+    pub fn etherparse_swap_bytes(checksum: u16) -> u16;
 
     pub fn etherparse_update_2bytes(checksum: u16, old_word: u16, new_word: u16) -> u16;
     pub fn etherparse_update_4bytes(checksum: u16, old: &[u8; 4], new: &[u8; 4]) -> u16;
     pub fn etherparse_update_16bytes(checksum: u16, old: &[u8; 16], new: &[u8; 16]) -> u16;
 
+    pub fn etherparse_error_text(error: &Error, text: *mut u8, len: usize) -> usize;
+
     pub fn etherparse_ipv4_view(at: *const u8, len: usize) -> Ipv4ViewAnswer;
     pub fn etherparse_ipv4_read(at: *const u8, len: usize) -> Ipv4ReadAnswer;
     pub fn etherparse_ipv4_write(fields: &Ipv4Fields) -> Ipv4Bytes;
-    pub fn etherparse_ipv4_lengths(total_len: u16, options_len: u8) -> Ipv4Lengths;
-    pub fn etherparse_ipv4_header_checksum(fields: &Ipv4Fields, checksum: &mut u16) -> bool;
+    pub fn etherparse_ipv4_default() -> Ipv4Fields;
+    pub fn etherparse_ipv4_new(
+        payload_len: u16,
+        time_to_live: u8,
+        protocol: u8,
+        source: &[u8; 4],
+        destination: &[u8; 4],
+    ) -> Ipv4NewAnswer;
+    pub fn etherparse_ipv4_lengths(total_len: u16, options_len: u8) -> Ipv4LengthsAnswer;
+    pub fn etherparse_ipv4_header_checksum(fields: &Ipv4Fields) -> Ipv4HeaderChecksumAnswer;
     pub fn etherparse_ipv4_set_time_to_live(fields: &mut Ipv4Fields, time_to_live: u8) -> bool;
 
     pub fn etherparse_ipv6_view(at: *const u8, len: usize) -> Ipv6ViewAnswer;
     pub fn etherparse_ipv6_read(at: *const u8, len: usize) -> Ipv6ReadAnswer;
     pub fn etherparse_ipv6_write(fields: &Ipv6Fields) -> Ipv6Bytes;
+    pub fn etherparse_ipv6_default() -> Ipv6Fields;
+    pub fn etherparse_ipv6_skip(at: *const u8, len: usize, next_header: u8) -> Ipv6WalkAnswer;
     pub fn etherparse_ipv6_walk(at: *const u8, len: usize, next_header: u8) -> Ipv6WalkAnswer;
-    pub fn etherparse_ipv6_walk_up_to(at: *const u8, len: usize, next_header: u8, limit: usize) -> Ipv6WalkAnswer;
+    pub fn etherparse_ipv6_walk_up_to(
+        at: *const u8,
+        len: usize,
+        next_header: u8,
+        limit: usize,
+    ) -> Ipv6WalkAnswer;
 }
+
+// The layout, as the library has it: a size in bytes, and each field's offset.
+macro_rules! layout {
+    ($type:ident: $size:literal, $($field:ident $offset:literal),*) => {
+        const _: () = assert!(core::mem::size_of::<$type>() == $size);
+        $(const _: () = assert!(core::mem::offset_of!($type, $field) == $offset);)*
+    };
+}
+
+layout!(Slice: 16, at 0, len 8);
+layout!(
+    Error: 40,
+    kind 0, number 4, layer 6, required_len 8, len 16, layer_start_offset 24, limit 32
+);
+layout!(Rest: 16, offset 0, len 8);
+layout!(
+    Ipv4Fields: 64,
+    dscp 0, ecn 1, total_len 2, identification 4, dont_fragment 6, more_fragments 7,
+    fragment_offset 8, time_to_live 10, protocol 11, header_checksum 12, source 14, destination 18,
+    options_len 22, options 23
+);
+layout!(
+    Ipv4ViewFields: 24,
+    source 0, destination 4, total_len 8, identification 10, fragment_offset 12,
+    header_checksum 14, ihl 16, dscp 17, ecn 18, dont_fragment 19, more_fragments 20,
+    is_fragmenting_payload 21, time_to_live 22, protocol 23
+);
+layout!(Ipv4ViewAnswer: 80, view 0, error 24, rest 64);
+layout!(Ipv4ReadAnswer: 120, fields 0, error 64, rest 104);
+layout!(Ipv4Bytes: 61, bytes 0, len 60);
+layout!(Ipv4NewAnswer: 104, fields 0, error 64);
+layout!(Ipv4HeaderChecksumAnswer: 4, checksum 0, accepted 2);
+layout!(Ipv4LengthsAnswer: 48, payload_len 0, max_payload_len 2, header_len 4, ihl 5, error 8);
+layout!(
+    Ipv6Fields: 44,
+    source 0, destination 16, flow_label 32, payload_length 36, traffic_class 38, next_header 39,
+    hop_limit 40
+);
+layout!(
+    Ipv6ViewFields: 44,
+    source 0, destination 16, flow_label 32, payload_length 36, traffic_class 38, dscp 39, ecn 40,
+    next_header 41, hop_limit 42
+);
+layout!(Ipv6ViewAnswer: 104, view 0, error 48, rest 88);
+layout!(Ipv6ReadAnswer: 104, fields 0, error 48, rest 88);
+layout!(Ipv6Bytes: 41, bytes 0, len 40);
+layout!(Ipv6WalkAnswer: 64, next_header 0, error 8, rest 48);

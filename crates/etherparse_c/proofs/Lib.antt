@@ -1,2 +1,3 @@
 mod Answered
 mod Fields
+mod Texts

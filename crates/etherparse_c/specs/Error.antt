@@ -1,4 +1,7 @@
 -- The errors of the library as C has them: each by its numbers.
+use Rattle.std.specs.Prelude.{ℕ}
+use Rattle.etherparse.specs.declared.err.Layer.{Layer}
+use Rattle.etherparse.specs.declared.err.Layer.TheVariants as layer
 use Rattle.etherparse.specs.declared.err.LenError.{LenError}
 use Rattle.etherparse.specs.declared.err.ipv4.HeaderError.TheVariants as ipv4_content
 use Rattle.etherparse.specs.declared.err.ipv4.HeaderSliceError as ipv4
@@ -12,13 +15,29 @@ use Rattle.etherparse_c.specs.declared.answer.Error.{Error}
 
 -- no error
 abbrev pub no_error : Error
-no_error =
-    record { kind = 0; number = 0; required_len = 0; len = 0; layer_start_offset = 0; limit = 0 }
+no_error = record {
+  kind = 0;
+  number = 0;
+  layer = 0;
+  required_len = 0;
+  len = 0;
+  layer_start_offset = 0;
+  limit = 0;
+}
 
--- the length that is required, the one that there is, and the place
+-- the layers that the errors of the calls are about, and 0 for all others
+abbrev pub layer_in_c : Layer → ℕ
+layer_in_c layer.Ipv4Header = 1
+layer_in_c layer.Ipv4Packet = 2
+layer_in_c layer.Ipv6Header = 3
+layer_in_c layer.Ipv6ExtHeader = 4
+layer_in_c _ = 0
+
+-- the layer, the length that it requires, the one that there is, and the place
 abbrev pub len_error_in_c : LenError → Error
 len_error_in_c e = record no_error {
   kind = 1;
+  layer = layer_in_c e.layer;
   required_len = e.required_len;
   len = e.len;
   layer_start_offset = e.layer_start_offset;
@@ -28,18 +47,23 @@ len_error_in_c e = record no_error {
 abbrev pub ipv4_error_in_c : ipv4.HeaderSliceError → Error
 ipv4_error_in_c (ipv4_slice.Len e) = len_error_in_c e
 ipv4_error_in_c (ipv4_slice.Content (ipv4_content.UnexpectedVersion version)) =
-    record no_error { kind = 2; number = version }
+    record no_error { kind = 2; number = version; layer = 1 }
 ipv4_error_in_c (ipv4_slice.Content (ipv4_content.HeaderLengthSmallerThanHeader ihl)) =
-    record no_error { kind = 3; number = ihl }
+    record no_error { kind = 3; number = ihl; layer = 1 }
 
 -- of an IPv6 header: a length, or another version
 abbrev pub ipv6_error_in_c : ipv6.HeaderSliceError → Error
 ipv6_error_in_c (ipv6_slice.Len e) = len_error_in_c e
 ipv6_error_in_c (ipv6_slice.Content (ipv6_content.UnexpectedVersion version)) =
-    record no_error { kind = 2; number = version }
+    record no_error { kind = 2; number = version; layer = 3 }
 
 -- of a chain of extension headers: a length, or one header more than the limit
 abbrev pub chain_error_in_c : ipv6_chain.ChainError → Error
 chain_error_in_c (chain.Len e) = len_error_in_c e
-chain_error_in_c (chain.TooMany limit number place) =
-    record no_error { kind = 4; number = number; layer_start_offset = place; limit = limit }
+chain_error_in_c (chain.TooMany limit number place) = record no_error {
+  kind = 4;
+  number = number;
+  layer = 4;
+  layer_start_offset = place;
+  limit = limit;
+}

@@ -10,9 +10,9 @@ use Rattle.etherparse_c.specs.Error.{ipv4_error_in_c, len_error_in_c, no_error}
 use Rattle.etherparse_c.specs.Ipv4Fields.{StandForIpv4, ipv4_fields_of, zero_ipv4_header}
 use Rattle.etherparse_c.specs.declared.ipv4_header.Ipv4Bytes.{Ipv4Bytes}
 use Rattle.etherparse_c.specs.declared.ipv4_header.Ipv4Fields.{Ipv4Fields}
-use Rattle.etherparse_c.specs.declared.ipv4_header.Ipv4Lengths.{Ipv4Lengths}
+use Rattle.etherparse_c.specs.declared.ipv4_header.Ipv4LengthsAnswer.{Ipv4LengthsAnswer}
 use Rattle.etherparse_c.specs.declared.ipv4_header.Ipv4ReadAnswer.{Ipv4ReadAnswer}
-use Rattle.etherparse_c.specs.declared.ipv4_view.Ipv4View.{Ipv4View}
+use Rattle.etherparse_c.specs.declared.ipv4_view.Ipv4ViewFields.{Ipv4ViewFields}
 use Rattle.etherparse_c.specs.declared.ipv4_view.Ipv4ViewAnswer.{Ipv4ViewAnswer}
 
 -- the fields of a header that was read, and where the rest of the slice is; or the error
@@ -23,7 +23,7 @@ ipv4_reading_in_c s (Err e) =
     record { error = ipv4_error_in_c e; rest = no_rest; fields = ipv4_fields_of zero_ipv4_header }
 
 -- what the getters of a view answer, of this header
-abbrev pub ipv4_view_of : Ipv4Header → Ipv4View
+abbrev pub ipv4_view_of : Ipv4Header → Ipv4ViewFields
 ipv4_view_of header = record {
   ihl = ipv4_ihl header;
   dscp = header.dscp;
@@ -42,7 +42,7 @@ ipv4_view_of header = record {
 }
 
 -- no view is given: all is 0, or false
-abbrev pub no_ipv4_view : Ipv4View
+abbrev pub no_ipv4_view : Ipv4ViewFields
 no_ipv4_view = record (ipv4_view_of zero_ipv4_header) { ihl = 0 }
 
 -- the view of a header that could be read, and where the rest of the slice is; or the error
@@ -64,7 +64,7 @@ ipv4_bytes_in_c bytes =
     record { bytes = bytes ++ replicate (60 - length bytes) 0; len = length bytes }
 
 -- the lengths of this header, with 0 and an error where its total length tells of no payload
-pub record AreIpv4Lengths (lengths : Ipv4Lengths) (header : Ipv4Header) : Type 0 where
+pub record AreIpv4Lengths (lengths : Ipv4LengthsAnswer) (header : Ipv4Header) : Type 0 where
   pub header_len : lengths.header_len ≡ ipv4_header_len header
   pub ihl : lengths.ihl ≡ ipv4_ihl header
   pub max_payload_len : lengths.max_payload_len ≡ ipv4_max_payload_len header

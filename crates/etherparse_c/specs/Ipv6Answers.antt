@@ -9,7 +9,7 @@ use Rattle.etherparse_c.specs.declared.answer.Error.{Error}
 use Rattle.etherparse_c.specs.declared.ipv6_header.Ipv6Bytes.{Ipv6Bytes}
 use Rattle.etherparse_c.specs.declared.ipv6_header.Ipv6Fields.{Ipv6Fields}
 use Rattle.etherparse_c.specs.declared.ipv6_header.Ipv6ReadAnswer.{Ipv6ReadAnswer}
-use Rattle.etherparse_c.specs.declared.ipv6_view.Ipv6View.{Ipv6View}
+use Rattle.etherparse_c.specs.declared.ipv6_view.Ipv6ViewFields.{Ipv6ViewFields}
 use Rattle.etherparse_c.specs.declared.ipv6_view.Ipv6ViewAnswer.{Ipv6ViewAnswer}
 use Rattle.etherparse_c.specs.declared.ipv6_walk.Ipv6WalkAnswer.{Ipv6WalkAnswer}
 
@@ -21,7 +21,7 @@ ipv6_reading_in_c s (Err e) =
     record { error = ipv6_error_in_c e; rest = no_rest; fields = ipv6_fields_of zero_ipv6_header }
 
 -- what the getters of a view answer, of this header
-abbrev pub ipv6_view_of : Ipv6Header → Ipv6View
+abbrev pub ipv6_view_of : Ipv6Header → Ipv6ViewFields
 ipv6_view_of header = record {
   traffic_class = header.traffic_class;
   dscp = header.traffic_class / 2 ^ 2;

@@ -5,37 +5,54 @@ ghost use Rattle.std.specs.Prelude.{ℕ, ◌≡◌, ◌≤◌, ◌+◌, List, le
 ghost use Rattle.etherparse.specs.declared.err.ipv4.HeaderSliceError.TheVariants as ipv4_slice;
 ghost use Rattle.etherparse_c.specs.Answer.{no_rest, rest_of};
 ghost use Rattle.etherparse_c.specs.Error.{chain_error_in_c, ipv4_error_in_c, ipv6_error_in_c};
-ghost use Rattle.etherparse_c.specs.Error.{len_error_in_c, no_error};
+ghost use Rattle.etherparse_c.specs.Error.{layer_in_c, len_error_in_c, no_error};
 
-use etherparse::err::{LenError, ipv4, ipv6};
+use etherparse::err::{Layer, LenError, ipv4, ipv6};
 
-const NO_ERROR: u32 = 0;
+// The kinds of errors.
+pub(crate) const NO_ERROR: u32 = 0;
+pub(crate) const LEN: u32 = 1;
+pub(crate) const UNEXPECTED_VERSION: u32 = 2;
+pub(crate) const HEADER_LENGTH_SMALLER_THAN_HEADER: u32 = 3;
+pub(crate) const TOO_MANY: u32 = 4;
+pub(crate) const VALUE_TOO_BIG: u32 = 5;
+pub(crate) const BAD_OPTIONS_LEN: u32 = 6;
 
-const LEN: u32 = 1;
+// The layers.
+pub(crate) const IPV4_HEADER: u16 = 1;
+pub(crate) const IPV4_PACKET: u16 = 2;
+pub(crate) const IPV6_HEADER: u16 = 3;
+pub(crate) const IPV6_EXT_HEADER: u16 = 4;
 
-const UNEXPECTED_VERSION: u32 = 2;
-
-const HEADER_LENGTH_SMALLER_THAN_HEADER: u32 = 3;
-
-const TOO_MANY: u32 = 4;
+// The values that can be too big.
+pub(crate) const IP_FRAGMENT_OFFSET: u16 = 1;
+pub(crate) const IP_DSCP: u16 = 2;
+pub(crate) const IP_ECN: u16 = 3;
+pub(crate) const IPV6_FLOW_LABEL: u16 = 4;
+pub(crate) const IPV4_PAYLOAD_LENGTH: u16 = 5;
+pub(crate) const IPV6_PAYLOAD_LENGTH: u16 = 6;
 
 /// Why a call refused, by its numbers; each number that its kind does not have is 0.
 #[repr(C)]
 #[derive(Drop)]
 pub struct Error {
     /// Which error it is: 0 none, 1 a length, 2 another version, 3 an IHL below 5, 4 too many
-    /// extension headers.
+    /// extension headers, 5 a value that is too big, 6 a length that options cannot have.
     pub kind: u32,
     /// Of kind 2 the version number, of kind 3 the IHL, of kind 4 the number of the header that is
-    /// one too many.
-    pub number: u32,
+    /// one too many, of kind 5 which value it is: 1 a fragment offset, 2 a DSCP, 3 an ECN, 4 a flow
+    /// label, 5 the length of an IPv4 payload, 6 that of an IPv6 payload.
+    pub number: u16,
+    /// Of kinds 1 to 4 the layer: 1 an IPv4 header, 2 an IPv4 packet, whose length is the total
+    /// length of its header, 3 an IPv6 header, 4 an IPv6 extension header.
+    pub layer: u16,
     /// Of kind 1 the length that is required, in bytes.
     pub required_len: usize,
-    /// Of kind 1 the length that there is, in bytes.
+    /// Of kinds 1 and 6 the length that there is, in bytes; of kind 5 the value.
     pub len: usize,
     /// Of kinds 1 and 4 where the header starts, in bytes from the start of the slice.
     pub layer_start_offset: usize,
-    /// Of kind 4 how many headers were allowed.
+    /// Of kind 4 how many headers were allowed, of kind 5 the greatest value that is allowed.
     pub limit: usize,
 }
 
@@ -58,6 +75,7 @@ impl Error {
         Error {
             kind: NO_ERROR,
             number: 0,
+            layer: 0,
             required_len: 0,
             len: 0,
             layer_start_offset: 0,
@@ -72,6 +90,7 @@ impl Error {
     {
         Error {
             kind: LEN,
+            layer: layer_number(e.layer),
             required_len: e.required_len,
             len: e.len,
             layer_start_offset: e.layer_start_offset,
@@ -98,12 +117,14 @@ impl Error {
         match e {
             ipv4::HeaderError::UnexpectedVersion { version_number } => Error {
                 kind: UNEXPECTED_VERSION,
-                number: u32::from(*version_number),
+                number: u16::from(*version_number),
+                layer: IPV4_HEADER,
                 ..Error::none()
             },
             ipv4::HeaderError::HeaderLengthSmallerThanHeader { ihl } => Error {
                 kind: HEADER_LENGTH_SMALLER_THAN_HEADER,
-                number: u32::from(*ihl),
+                number: u16::from(*ihl),
+                layer: IPV4_HEADER,
                 ..Error::none()
             },
         }
@@ -120,7 +141,8 @@ impl Error {
                 ipv6::HeaderError::UnexpectedVersion { version_number },
             ) => Error {
                 kind: UNEXPECTED_VERSION,
-                number: u32::from(*version_number),
+                number: u16::from(*version_number),
+                layer: IPV6_HEADER,
                 ..Error::none()
             },
         }
@@ -139,7 +161,8 @@ impl Error {
                 layer_start_offset,
             } => Error {
                 kind: TOO_MANY,
-                number: u32::from(*next_header),
+                number: u16::from(*next_header),
+                layer: IPV6_EXT_HEADER,
                 layer_start_offset: *layer_start_offset,
                 limit: *limit,
                 ..Error::none()
@@ -180,5 +203,19 @@ impl Rest {
         ensures value { result ≡ no_rest }
     {
         Rest { offset: 0, len: 0 }
+    }
+}
+
+// The number of a layer.
+#[inline(always)]
+fn layer_number(layer: Layer) -> u16
+    ensures value { result ≡ layer_in_c layer }
+{
+    match layer {
+        Layer::Ipv4Header => IPV4_HEADER,
+        Layer::Ipv4Packet => IPV4_PACKET,
+        Layer::Ipv6Header => IPV6_HEADER,
+        Layer::Ipv6ExtHeader => IPV6_EXT_HEADER,
+        _ => 0,
     }
 }

@@ -1,6 +1,7 @@
 //! Checksums of the internet protocols (RFC 1071), summed in 64 bits and in 32 bits.
 
 ghost use Rattle.std.specs.Prelude.{◌≡◌, ◌+◌, map};
+ghost use Rattle.std.specs.Int.{swap_bytes, w16};
 ghost use Rattle.etherparse.specs.WordSums.{AddsSlice, AddsSlices, Complements};
 ghost use Rattle.etherparse.specs.WordSums.{ComplementsWithNoZero, UpdatesChecksum};
 ghost use Rattle.etherparse.specs.WordSums.{little_endian_word_sum, network_order_word_sum};
@@ -96,6 +97,15 @@ pub extern "C" fn etherparse_u32_16bit_word_checksum(start_sum: u32, slice: &[u8
     ensures complements { Complements (start_sum + little_endian_word_sum slice.now) result }
 {
     u32_16bit_word::checksum(start_sum, slice)
+}
+
+/// A checksum in the other byte order: one of the calls above as the number that a header's field is
+/// read as, or such a number as those calls answer it.
+#[unsafe(no_mangle)]
+pub extern "C" fn etherparse_swap_bytes(checksum: u16) -> u16
+    ensures value { result ≡ swap_bytes w16 checksum }
+{
+    checksum.swap_bytes()
 }
 
 /// The checksum after one of the words that it is over was changed from `old` to `new`, all three

@@ -1,9 +1,9 @@
 //! The IPv4 header (RFC 791 section 3.1).
 
-ghost use Rattle.std.specs.Prelude.{ℕ, ◌≡◌, ◌↔◌, ◌+◌, ◌-◌, ◌*◌, ◌^◌, ◌++◌, List, [], Err};
+ghost use Rattle.std.specs.Prelude.{ℕ, ◌≡◌, ◌↔◌, ◌+◌, ◌-◌, ◌*◌, ◌^◌, ◌++◌, ◌<◌, ◌≤◌, List, [], Err};
 ghost use Rattle.std.specs.Prelude.{IfSome, IsSome, IsTrue, length, replicate};
 ghost use Rattle.etherparse.specs.HeaderChecksum.{KeepsChecksum, header_checksum_of};
-ghost use Rattle.etherparse.specs.Ipv4Header.{ReadsIpv4};
+ghost use Rattle.etherparse.specs.Ipv4Header.{ReadsIpv4, default_ipv4_header};
 ghost use Rattle.etherparse.specs.Ipv4Options.{IsOptionsLen};
 ghost use Rattle.etherparse.specs.WordSums.{updated_checksum};
 ghost use Rattle.etherparse.specs.declared.net.ipv4_header.Ipv4Header.{Ipv4Header as Header};
@@ -12,8 +12,9 @@ ghost use Rattle.etherparse_c.specs.Error.{no_error};
 ghost use Rattle.etherparse_c.specs.Ipv4Answers.{AreIpv4Lengths, AreWrittenForIpv4};
 ghost use Rattle.etherparse_c.specs.Ipv4Answers.{ipv4_bytes_in_c, ipv4_reading_in_c};
 ghost use Rattle.etherparse_c.specs.Ipv4Fields.{AreWithinBounds, StandForIpv4, ipv4_fields_of};
+ghost use Rattle.etherparse_c.specs.Ipv4Fields.{zero_ipv4_header};
 
-use crate::answer::{Error, Rest};
+use crate::answer::{BAD_OPTIONS_LEN, Error, IPV4_PAYLOAD_LENGTH, Rest, VALUE_TOO_BIG};
 use crate::room::{filled, filled_by_words};
 use etherparse::err::ipv4::HeaderSliceError;
 use etherparse::{IpDscp, IpEcn, IpFragOffset, IpNumber, Ipv4Header, Ipv4Options};
@@ -74,10 +75,31 @@ pub struct Ipv4Bytes {
     pub len: u8,
 }
 
+/// A header without options.
+#[repr(C)]
+#[derive(Drop)]
+pub struct Ipv4NewAnswer {
+    /// Its fields.
+    pub fields: Ipv4Fields,
+    /// Why there is none; its kind is 0 where there is one.
+    pub error: Error,
+}
+
+/// The checksum that a header should have.
+#[repr(C)]
+#[derive(Drop)]
+pub struct Ipv4HeaderChecksumAnswer {
+    /// The checksum as a number whose high byte a header has first, or 0 where the fields are those
+    /// of no header.
+    pub checksum: u16,
+    /// Whether the fields are within their bounds.
+    pub accepted: bool,
+}
+
 /// The lengths of a header and of its payload.
 #[repr(C)]
 #[derive(Drop)]
-pub struct Ipv4Lengths {
+pub struct Ipv4LengthsAnswer {
     /// The length of the payload in bytes, as the total length tells of it.
     pub payload_len: u16,
     /// The length of the longest payload that fits after the header, in bytes.
@@ -89,6 +111,71 @@ pub struct Ipv4Lengths {
     pub ihl: u8,
     /// Why there is no length of the payload; its kind is 0 where there is one.
     pub error: Error,
+}
+
+/// The fields of a header with no field given: the packet must not be fragmented and its protocol
+/// is 255, and all else is 0, false or empty.
+#[unsafe(no_mangle)]
+pub extern "C" fn etherparse_ipv4_default() -> Ipv4Fields
+    ensures value { result ≡ ipv4_fields_of default_ipv4_header }
+{
+    fields_with(&Ipv4Header::default(), [0; 40])
+}
+
+/// The fields of a header without options for a payload of this length in bytes. All else is as in
+/// the default, so the checksum is 0.
+///
+/// The error is a payload above 65515 bytes: with the header that is more than `total_len` has room
+/// for.
+#[unsafe(no_mangle)]
+pub extern "C" fn etherparse_ipv4_new(
+    payload_len: u16,
+    time_to_live: u8,
+    protocol: u8,
+    source: &[u8; 4],
+    destination: &[u8; 4],
+) -> Ipv4NewAnswer
+    ensures made { payload_len ≤ 65515 → result ≡ record {
+      error = no_error;
+      fields = ipv4_fields_of (record default_ipv4_header {
+        total_len = 20 + payload_len;
+        time_to_live = time_to_live;
+        protocol = protocol;
+        source = source.now;
+        destination = destination.now;
+      });
+    } }
+    ensures refused { 65515 < payload_len → result ≡ record {
+      error = record no_error { kind = 5; number = 5; len = payload_len; limit = 65515 };
+      fields = ipv4_fields_of zero_ipv4_header;
+    } }
+{
+    match Ipv4Header::new(
+        payload_len,
+        time_to_live,
+        IpNumber(protocol),
+        *source,
+        *destination,
+    ) {
+        Ok(header) => {
+            return Ipv4NewAnswer {
+                error: Error::none(),
+                fields: fields_with(&header, [0; 40]),
+            };
+        }
+        Err(e) => {
+            return Ipv4NewAnswer {
+                error: Error {
+                    kind: VALUE_TOO_BIG,
+                    number: IPV4_PAYLOAD_LENGTH,
+                    len: usize::from(e.actual),
+                    limit: usize::from(e.max_allowed),
+                    ..Error::none()
+                },
+                fields: no_fields(),
+            };
+        }
+    }
 }
 
 /// The fields of the header at the front of a slice, and where the bytes after it are, however many
@@ -153,13 +240,14 @@ pub extern "C" fn etherparse_ipv4_write(fields: &Ipv4Fields) -> Ipv4Bytes
 /// The lengths of a header with so many bytes of options, and of the payload that its total length
 /// tells of.
 ///
-/// The error is a total length below the length of the header.
+/// The error is a length that options cannot have, or a total length below the length of the
+/// header.
 #[unsafe(no_mangle)]
-pub extern "C" fn etherparse_ipv4_lengths(total_len: u16, options_len: u8) -> Ipv4Lengths
+pub extern "C" fn etherparse_ipv4_lengths(total_len: u16, options_len: u8) -> Ipv4LengthsAnswer
     ensures value { IsOptionsLen options_len → (header : Header) → header.total_len ≡ total_len →
         length header.options ≡ options_len → AreIpv4Lengths result header }
     ensures refused { ¬ IsOptionsLen options_len → result ≡ record {
-      error = no_error;
+      error = record no_error { kind = 6; len = options_len };
       payload_len = 0;
       max_payload_len = 0;
       header_len = 0;
@@ -167,8 +255,12 @@ pub extern "C" fn etherparse_ipv4_lengths(total_len: u16, options_len: u8) -> Ip
     } }
 {
     if options_len > 40 || options_len % 4 != 0 {
-        return Ipv4Lengths {
-            error: Error::none(),
+        return Ipv4LengthsAnswer {
+            error: Error {
+                kind: BAD_OPTIONS_LEN,
+                len: usize::from(options_len),
+                ..Error::none()
+            },
             payload_len: 0,
             max_payload_len: 0,
             header_len: 0,
@@ -182,7 +274,7 @@ pub extern "C" fn etherparse_ipv4_lengths(total_len: u16, options_len: u8) -> Ip
         Ok(len) => (len, Error::none()),
         Err(e) => (0, Error::of_len(&e)),
     };
-    Ipv4Lengths {
+    Ipv4LengthsAnswer {
         error,
         payload_len,
         max_payload_len: header.max_payload_len(),
@@ -191,22 +283,28 @@ pub extern "C" fn etherparse_ipv4_lengths(total_len: u16, options_len: u8) -> Ip
     }
 }
 
-/// Writes the checksum that a header of these fields should have, as a number, and answers `true`.
-/// The checksum that stands in the fields does not matter. Where a field is out of its bounds it
-/// answers `false` and writes nothing.
+/// The checksum that a header of these fields should have, as a number whose high byte a header has
+/// first. The checksum that stands in the fields does not matter.
 #[unsafe(no_mangle)]
-pub extern "C" fn etherparse_ipv4_header_checksum(fields: &Ipv4Fields, checksum: &mut u16) -> bool
-    ensures accepted { IsTrue result ↔ AreWithinBounds fields.now }
-    ensures value { IsTrue result → (bytes : List ℕ) → AreWrittenForIpv4 fields.now bytes →
-        checksum.new ≡ header_checksum_of bytes }
-    ensures refused { ¬ AreWithinBounds fields.now → checksum.new ≡ checksum.old }
+pub extern "C" fn etherparse_ipv4_header_checksum(fields: &Ipv4Fields) -> Ipv4HeaderChecksumAnswer
+    ensures accepted { IsTrue result.accepted ↔ AreWithinBounds fields.now }
+    ensures value { IsTrue result.accepted → (bytes : List ℕ) →
+        AreWrittenForIpv4 fields.now bytes → result.checksum ≡ header_checksum_of bytes }
+    ensures refused { ¬ AreWithinBounds fields.now → result.checksum ≡ 0 }
 {
     match header_of(fields) {
         Some(header) => {
-            *checksum = header.calc_header_checksum();
-            true
+            return Ipv4HeaderChecksumAnswer {
+                checksum: header.calc_header_checksum(),
+                accepted: true,
+            };
         }
-        None => false,
+        None => {
+            return Ipv4HeaderChecksumAnswer {
+                checksum: 0,
+                accepted: false,
+            };
+        }
     }
 }
 
@@ -348,22 +446,30 @@ fn refused(e: &HeaderSliceError) -> Ipv4ReadAnswer
     Ipv4ReadAnswer {
         error: Error::of_ipv4(e),
         rest: Rest::none(),
-        fields: Ipv4Fields {
-            dscp: 0,
-            ecn: 0,
-            total_len: 0,
-            identification: 0,
-            dont_fragment: false,
-            more_fragments: false,
-            fragment_offset: 0,
-            time_to_live: 0,
-            protocol: 0,
-            header_checksum: 0,
-            source: [0; 4],
-            destination: [0; 4],
-            options_len: 0,
-            options: [0; 40],
-        },
+        fields: no_fields(),
+    }
+}
+
+// The fields where there is no header.
+#[inline(always)]
+fn no_fields() -> Ipv4Fields
+    ensures value { result ≡ ipv4_fields_of zero_ipv4_header }
+{
+    Ipv4Fields {
+        dscp: 0,
+        ecn: 0,
+        total_len: 0,
+        identification: 0,
+        dont_fragment: false,
+        more_fragments: false,
+        fragment_offset: 0,
+        time_to_live: 0,
+        protocol: 0,
+        header_checksum: 0,
+        source: [0; 4],
+        destination: [0; 4],
+        options_len: 0,
+        options: [0; 40],
     }
 }
 

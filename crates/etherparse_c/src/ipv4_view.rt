@@ -12,7 +12,7 @@ use etherparse::err::ipv4::HeaderSliceError;
 /// What the getters of a view answer.
 #[repr(C)]
 #[derive(Drop)]
-pub struct Ipv4View {
+pub struct Ipv4ViewFields {
     /// The address of the sender.
     pub source: [u8; 4],
     /// The address of the receiver.
@@ -50,7 +50,7 @@ pub struct Ipv4View {
 #[derive(Drop)]
 pub struct Ipv4ViewAnswer {
     /// What its getters answer.
-    pub view: Ipv4View,
+    pub view: Ipv4ViewFields,
     /// Why there is none; its kind is 0 where there is one.
     pub error: Error,
     /// All the bytes after the header.
@@ -82,10 +82,10 @@ pub extern "C" fn etherparse_ipv4_view(slice: &[u8]) -> Ipv4ViewAnswer
 // What the getters of a view answer.
 #[inline(always)]
 #[tactic(auto, using(crate::proofs::Fields::fragment_test))]
-fn getters_of(view: &Ipv4HeaderSlice) -> Ipv4View
+fn getters_of(view: &Ipv4HeaderSlice) -> Ipv4ViewFields
     ensures value { OfIpv4Header view.now.slice.now (λ header. result ≡ ipv4_view_of header) }
 {
-    Ipv4View {
+    Ipv4ViewFields {
         ihl: view.ihl(),
         dscp: view.dcp().value(),
         ecn: view.ecn().value(),
@@ -111,7 +111,7 @@ fn refused(e: &HeaderSliceError) -> Ipv4ViewAnswer
     Ipv4ViewAnswer {
         error: Error::of_ipv4(e),
         rest: Rest::none(),
-        view: Ipv4View {
+        view: Ipv4ViewFields {
             ihl: 0,
             dscp: 0,
             ecn: 0,

@@ -1,7 +1,7 @@
 //! The IPv6 header (RFC 8200 section 3).
 
 ghost use Rattle.std.specs.Prelude.{ℕ, ◌≡◌, ◌↔◌, ◌^◌, ◌<◌, List, [], Err, IfSome, IsSome};
-ghost use Rattle.etherparse.specs.Ipv6Header.{ReadsIpv6};
+ghost use Rattle.etherparse.specs.Ipv6Header.{ReadsIpv6, default_ipv6_header};
 ghost use Rattle.etherparse_c.specs.Answer.{GivesAnswer};
 ghost use Rattle.etherparse_c.specs.Ipv6Answers.{AreWrittenForIpv6, ipv6_bytes_in_c};
 ghost use Rattle.etherparse_c.specs.Ipv6Answers.{ipv6_reading_in_c};
@@ -51,6 +51,14 @@ pub struct Ipv6Bytes {
     pub bytes: [u8; 40],
     /// How many there are: 40, or 0 where the flow label is too great.
     pub len: u8,
+}
+
+/// The fields of a header with no field given: the next header is 255, and all else is 0.
+#[unsafe(no_mangle)]
+pub extern "C" fn etherparse_ipv6_default() -> Ipv6Fields
+    ensures value { result ≡ ipv6_fields_of default_ipv6_header }
+{
+    fields_of(&Ipv6Header::default())
 }
 
 /// The fields of the header at the front of a slice, and where the bytes after it are, however many

@@ -12,7 +12,7 @@ use etherparse::err::ipv6::HeaderSliceError;
 /// What the getters of a view answer.
 #[repr(C)]
 #[derive(Drop)]
-pub struct Ipv6View {
+pub struct Ipv6ViewFields {
     /// The address of the sender.
     pub source: [u8; 16],
     /// The address of the receiver.
@@ -38,7 +38,7 @@ pub struct Ipv6View {
 #[derive(Drop)]
 pub struct Ipv6ViewAnswer {
     /// What its getters answer.
-    pub view: Ipv6View,
+    pub view: Ipv6ViewFields,
     /// Why there is none; its kind is 0 where there is one.
     pub error: Error,
     /// All the bytes after the header.
@@ -68,10 +68,10 @@ pub extern "C" fn etherparse_ipv6_view(slice: &[u8]) -> Ipv6ViewAnswer
 
 // What the getters of a view answer.
 #[inline(always)]
-fn getters_of(view: &Ipv6HeaderSlice) -> Ipv6View
+fn getters_of(view: &Ipv6HeaderSlice) -> Ipv6ViewFields
     ensures value { OfIpv6Header view.now.slice.now (λ header. result ≡ ipv6_view_of header) }
 {
-    Ipv6View {
+    Ipv6ViewFields {
         flow_label: view.flow_label().value(),
         payload_length: view.payload_length(),
         traffic_class: view.traffic_class(),
@@ -102,7 +102,7 @@ fn refused(e: &HeaderSliceError) -> Ipv6ViewAnswer
     Ipv6ViewAnswer {
         error: Error::of_ipv6(e),
         rest: Rest::none(),
-        view: Ipv6View {
+        view: Ipv6ViewFields {
             flow_label: 0,
             payload_length: 0,
             traffic_class: 0,

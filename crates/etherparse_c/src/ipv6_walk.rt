@@ -1,7 +1,9 @@
 //! The walk past IPv6 extension headers (RFC 8200 section 4).
 
-ghost use Rattle.std.specs.Prelude.{◌≡◌, ◌≤◌, length};
+ghost use Rattle.std.specs.Prelude.{◌≡◌, ◌<◌, ◌≤◌, Ok, Err, drop, length, slice_index};
 ghost use Rattle.etherparse.specs.ExtensionHeaderChain.{Walks, WalksUpTo};
+ghost use Rattle.etherparse.specs.ExtensionHeaderChain.{incomplete_header_error, required_len_of};
+ghost use Rattle.etherparse.specs.ExtensionHeaders.{IsSkippable};
 ghost use Rattle.etherparse_c.specs.Answer.{GivesAnswer, no_rest, rest_of};
 ghost use Rattle.etherparse_c.specs.Error.{chain_error_in_c, len_error_in_c, no_error};
 ghost use Rattle.etherparse_c.specs.Ipv6Answers.{walk_in_c};
@@ -22,6 +24,32 @@ pub struct Ipv6WalkAnswer {
     pub rest: Rest,
 }
 
+/// Skips the extension header of this number at the front of a slice. A number of no header that
+/// can be skipped is answered with the whole slice.
+///
+/// The error is a length of fewer bytes than the header says. Where there are fewer than 2 bytes, 2
+/// are required.
+#[unsafe(no_mangle)]
+pub extern "C" fn etherparse_ipv6_skip(slice: &[u8], next_header: u8) -> Ipv6WalkAnswer
+    ensures kept { ¬ IsSkippable next_header → result
+        ≡ walk_in_c len_error_in_c slice.now (Ok (next_header, slice.now)) }
+    ensures skipped { IsSkippable next_header →
+        required_len_of next_header slice.now ≤ length slice.now → result
+        ≡ walk_in_c len_error_in_c slice.now (Ok (slice_index slice.now 0,
+        drop (required_len_of next_header slice.now) slice.now)) }
+    ensures refused { IsSkippable next_header →
+        length slice.now < required_len_of next_header slice.now → result
+        ≡ walk_in_c len_error_in_c slice.now
+        (Err (incomplete_header_error next_header slice.now 0)) }
+{
+    match Ipv6Header::skip_header_extension_in_slice(slice, IpNumber(next_header)) {
+        // Each arm has its `return`, which the speed rests on: as the value of the `match` the
+        // answer takes more instructions, a third more in `etherparse_ipv4_view`.
+        Ok((number, rest)) => return ended(slice, number, rest),
+        Err(e) => return refused(Error::of_len(&e)),
+    }
+}
+
 /// Skips all extension headers at the front of a slice, of which the first has this number.
 ///
 /// The error is a length: that of the first header that is incomplete. Where fewer than 2 bytes are
@@ -32,8 +60,6 @@ pub extern "C" fn etherparse_ipv6_walk(slice: &[u8], next_header: u8) -> Ipv6Wal
         (walk_in_c len_error_in_c slice.now) result }
 {
     match Ipv6Header::skip_all_header_extensions_in_slice(slice, IpNumber(next_header)) {
-        // Each arm has its `return`, which the speed rests on: as the value of the `match` the
-        // answer takes more instructions, a third more in `etherparse_ipv4_view`.
         Ok((number, rest)) => return ended(slice, number, rest),
         Err(e) => return refused(Error::of_len(&e)),
     }

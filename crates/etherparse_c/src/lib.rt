@@ -12,3 +12,4 @@ pub mod ipv6_header;
 pub mod ipv6_view;
 pub mod ipv6_walk;
 mod room;
+pub mod text;

@@ -83,3 +83,8 @@ fn a_checksum_is_updated_for_addresses(rt: HostRuntime) {
     second[15] = 2;
     assert_eq!(rt; etherparse_update_16bytes(0x1234, &first, &second), 0x1233);
 }
+
+#[test]
+fn the_other_byte_order(rt: HostRuntime) {
+    assert_eq!(rt; etherparse_swap_bytes(0x61b8), 0xb861);
+}

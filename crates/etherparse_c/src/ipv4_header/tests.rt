@@ -22,11 +22,10 @@ fn some_fields() -> Ipv4Fields {
     }
 }
 
-// Whether the fields are taken, and what was written in the place of 7.
+// Whether the fields are taken, and the checksum.
 fn checksum_of(fields: &Ipv4Fields) -> (bool, u16) {
-    let mut checksum = 7;
-    let is_taken = etherparse_ipv4_header_checksum(fields, &mut checksum);
-    (is_taken, checksum)
+    let answer = etherparse_ipv4_header_checksum(fields);
+    (answer.accepted, answer.checksum)
 }
 
 #[test]
@@ -49,20 +48,20 @@ fn the_time_to_live_is_set_with_its_checksum(rt: HostRuntime) {
 }
 
 #[test]
-fn nothing_is_written_for_a_field_out_of_its_bounds(rt: HostRuntime) {
+fn a_field_out_of_its_bounds_has_no_checksum(rt: HostRuntime) {
     let mut fields = some_fields();
     fields.dscp = 64;
-    assert_eq!(rt; checksum_of(&fields), (false, 7));
+    assert_eq!(rt; checksum_of(&fields), (false, 0));
     let mut fields = some_fields();
     fields.ecn = 4;
-    assert_eq!(rt; checksum_of(&fields), (false, 7));
+    assert_eq!(rt; checksum_of(&fields), (false, 0));
     let mut fields = some_fields();
     fields.fragment_offset = 8192;
-    assert_eq!(rt; checksum_of(&fields), (false, 7));
+    assert_eq!(rt; checksum_of(&fields), (false, 0));
     for len in [1, 2, 3, 41, 44, 255] {
         let mut fields = some_fields();
         fields.options_len = len;
-        assert_eq!(rt; checksum_of(&fields), (false, 7), "{len} bytes of options");
+        assert_eq!(rt; checksum_of(&fields), (false, 0), "{len} bytes of options");
     }
 }
 
@@ -119,11 +118,11 @@ fn what_follows_the_options_is_0(rt: HostRuntime) {
 }
 
 // The kind of an error, its number and its two lengths.
-fn numbers_of(error: &Error) -> (u32, u32, usize, usize) {
+fn numbers_of(error: &Error) -> (u32, u16, usize, usize) {
     (error.kind, error.number, error.required_len, error.len)
 }
 
-fn refused(slice: &[u8]) -> (u32, u32, usize, usize) {
+fn refused(slice: &[u8]) -> (u32, u16, usize, usize) {
     numbers_of(&etherparse_ipv4_read(slice).error)
 }
 
@@ -152,5 +151,23 @@ fn a_total_length_below_the_header_has_no_payload(rt: HostRuntime) {
         (65475, 65475)
     );
     assert_eq!(rt; (lengths.header_len, lengths.ihl), (60, 15));
-    assert_eq!(rt; etherparse_ipv4_lengths(20, 3).header_len, 0);
+    let refused = etherparse_ipv4_lengths(20, 3);
+    assert_eq!(rt; numbers_of(&refused.error), (6, 0, 0, 3));
+    assert_eq!(rt; refused.header_len, 0);
+}
+
+#[test]
+fn a_new_header_is_for_a_payload(rt: HostRuntime) {
+    let (source, destination) = ([192, 168, 0, 1], [192, 168, 0, 199]);
+    let made = etherparse_ipv4_new(95, 64, 17, &source, &destination);
+    assert_eq!(rt; made.error.kind, 0);
+    assert_eq!(rt; made.fields.total_len, 115);
+    assert_eq!(rt; checksum_of(&made.fields), (true, 0xb861));
+    let refused = etherparse_ipv4_new(65516, 64, 17, &source, &destination);
+    let error = &refused.error;
+    assert_eq!(rt; (error.kind, error.number), (5, 5));
+    assert_eq!(rt; (error.len, error.limit), (65516, 65515));
+    assert_eq!(rt; refused.fields.time_to_live, 0);
+    let default = etherparse_ipv4_default();
+    assert_eq!(rt; (default.protocol, default.dont_fragment), (255, true));
 }

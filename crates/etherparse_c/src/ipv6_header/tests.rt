@@ -26,3 +26,9 @@ fn each_error_has_its_numbers(rt: HostRuntime) {
     let error = etherparse_ipv6_read(&slice).error;
     assert_eq!(rt; (error.kind, error.number), (2, 4));
 }
+
+#[test]
+fn a_header_with_no_field_given(rt: HostRuntime) {
+    let default = etherparse_ipv6_default();
+    assert_eq!(rt; (default.next_header, default.hop_limit), (255, 0));
+}

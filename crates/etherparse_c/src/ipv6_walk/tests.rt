@@ -31,3 +31,17 @@ fn a_walk_has_a_limit(rt: HostRuntime) {
     assert_eq!(rt; (error.kind, error.required_len, error.len), (1, 2, 0));
     assert_eq!(rt; error.layer_start_offset, 24);
 }
+
+#[test]
+fn one_header_is_skipped(rt: HostRuntime) {
+    let slice = [43, 0, 0, 0, 0, 0, 0, 0, 6, 1, 0];
+    let skipped = etherparse_ipv6_skip(&slice, 0);
+    assert_eq!(rt; (skipped.error.kind, skipped.next_header), (0, 43));
+    assert_eq!(rt; (skipped.rest.offset, skipped.rest.len), (8, 3));
+    let kept = etherparse_ipv6_skip(&slice, 17);
+    assert_eq!(rt; (kept.error.kind, kept.next_header), (0, 17));
+    assert_eq!(rt; (kept.rest.offset, kept.rest.len), (0, 11));
+    let error = etherparse_ipv6_skip(&slice[8..], 43).error;
+    assert_eq!(rt; (error.kind, error.required_len, error.len), (1, 16, 3));
+    assert_eq!(rt; (error.layer, error.layer_start_offset), (4, 0));
+}

@@ -1,0 +1,116 @@
+#!/usr/bin/env bash
+# callers.sh: builds the library, and the callers in C, C++ and Rust as those compile them, and runs
+# them: the header file in each dialect of each compiler, the examples, whose output has to be
+# examples/inspect.txt, what a call stores at which offset, each way to link, and the tests of the
+# safe Rust crate over it. A compiler that is not there is told and left out. The last line is 'N
+# passed, M failed, K left out'.
+set -euo pipefail
+here=$(cd "$(dirname "$0")" && pwd)
+out=$here/out/callers
+mkdir -p "$out"
+passed=0
+failed=0
+left_out=0
+
+# Runs a command under a name, and keeps what it prints for the case that it fails.
+try() {
+  local name=$1
+  shift
+  if "$@" > "$out/said.txt" 2>&1; then
+    passed=$((passed + 1))
+    echo "ok: $name"
+  else
+    failed=$((failed + 1))
+    echo "FAILED: $name"
+    sed 's/^/    /' "$out/said.txt" | head -40
+  fi
+}
+
+leave_out() {
+  left_out=$((left_out + 1))
+  echo "left out: $1"
+}
+
+has() { command -v "$1" > /dev/null; }
+
+# Whether the library wants no more than copies of memory.
+wants_little() {
+  nm --undefined-only "$library" | awk 'NF == 2 { print $2 }' | sort -u > "$out/undefined.txt"
+  ! grep -vx -e memcpy "$out/undefined.txt"
+}
+
+# Builds the example by a command, and compares what it prints.
+prints() {
+  "$@" -o "$out/inspect" && "$out/inspect" > "$out/inspect.txt" && diff "$here/examples/inspect.txt" "$out/inspect.txt"
+}
+
+# The same over a shared object made of the library.
+prints_shared() {
+  "$1" -shared -o "$out/libetherparse_c.so" -Wl,--whole-archive "$library" -Wl,--no-whole-archive
+  prints "$@" "$out/libetherparse_c.so" "-Wl,-rpath,$out"
+}
+
+stands_there() { "$@" -o "$out/offsets" && "$out/offsets"; }
+
+links_static() { echo 'int main(void) { return 0; }' | "$1" -xc -static -o "$out/static" - 2> "$out/said.txt"; }
+
+(cd "$here" && rt lib) > "$out/lib.txt" 2>&1 || { cat "$out/lib.txt"; exit 1; }
+library=$here/out/libetherparse_c.a
+
+if has nm; then
+  try "the library wants memcpy alone" wants_little
+else
+  leave_out "what the library wants: nm is not there"
+fi
+
+strict=(-O2 -Wall -Wextra -Wpedantic -Wconversion -Wshadow -Werror -I "$here/include")
+for compiler in gcc clang; do
+  if ! has "$compiler"; then
+    leave_out "C: $compiler is not there"
+    continue
+  fi
+  for dialect in c99 c11 c17; do
+    try "$compiler, $dialect" prints "$compiler" "-std=$dialect" "${strict[@]}" "$here/examples/inspect.c" "$library"
+  done
+  try "$compiler, what a call stores where" stands_there "$compiler" -std=c11 "${strict[@]}" "$here/examples/offsets.c" "$library"
+  example=("$compiler" -std=c11 "${strict[@]}" "$here/examples/inspect.c")
+  try "$compiler, shared" prints_shared "${example[@]}"
+  try "$compiler, named twice" prints "${example[@]}" "$library" "$library"
+  if [[ $compiler == gcc ]] || has ld.lld; then
+    try "$compiler, -flto" prints "${example[@]}" -flto "$library"
+  else
+    leave_out "$compiler, -flto: ld.lld is not there"
+  fi
+  if links_static "$compiler"; then
+    try "$compiler, -static" prints "${example[@]}" -static "$library"
+  else
+    leave_out "$compiler, -static: the C library is not there as an archive"
+  fi
+done
+for compiler in g++ clang++; do
+  if ! has "$compiler"; then
+    leave_out "C++: $compiler is not there"
+    continue
+  fi
+  for dialect in c++11 c++14 c++17 c++20; do
+    try "$compiler, $dialect" prints "$compiler" "-std=$dialect" "${strict[@]}" -xc++ "$here/examples/inspect.c" -xnone "$library"
+  done
+done
+
+if has rustc; then
+  for edition in 2021 2024; do
+    try "rustc, edition $edition" prints rustc --edition "$edition" -O -D warnings "$here/examples/inspect.rs" \
+      -L "$here/out" -l static=etherparse_c
+  done
+else
+  leave_out "Rust: rustc is not there"
+fi
+if has cargo; then
+  try "the tests of bindings/rust" env ETHERPARSE_LIB_DIR="$here/out" CARGO_TARGET_DIR="$out/cargo" \
+    cargo test --offline --manifest-path "$here/../../bindings/rust/Cargo.toml"
+else
+  leave_out "bindings/rust: cargo is not there"
+fi
+
+echo "$passed passed, $failed failed, $left_out left out"
+[[ $failed == 0 ]]

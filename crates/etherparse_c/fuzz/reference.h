@@ -1,0 +1,41 @@
+/* What each call of the library has to answer, written again in C from the RFCs, one bit of a figure after the other and with no
+ * thought of speed. Nothing of it calls the library. */
+
+#ifndef REFERENCE_H
+#define REFERENCE_H
+
+#include "etherparse.h"
+
+/* The number of so many bits from a bit of a figure on, as the RFCs count them: bit 0 is the highest one of the first byte. */
+uint32_t bits_at(const uint8_t *at, size_t first, size_t count);
+
+struct etherparse_ipv4_view_answer reference_ipv4_view(const uint8_t *at, size_t len);
+struct etherparse_ipv4_read_answer reference_ipv4_read(const uint8_t *at, size_t len);
+struct etherparse_ipv4_bytes reference_ipv4_write(const struct etherparse_ipv4_fields *fields);
+struct etherparse_ipv4_new_answer reference_ipv4_new(uint16_t payload_len, uint8_t time_to_live, uint8_t protocol,
+    const uint8_t source[4], const uint8_t destination[4]);
+struct etherparse_ipv4_fields reference_ipv4_default(void);
+struct etherparse_ipv4_lengths_answer reference_ipv4_lengths(uint16_t total_len, uint8_t options_len);
+struct etherparse_ipv4_header_checksum_answer reference_ipv4_header_checksum(const struct etherparse_ipv4_fields *fields);
+bool reference_ipv4_set_time_to_live(struct etherparse_ipv4_fields *fields, uint8_t time_to_live);
+
+struct etherparse_ipv6_view_answer reference_ipv6_view(const uint8_t *at, size_t len);
+struct etherparse_ipv6_read_answer reference_ipv6_read(const uint8_t *at, size_t len);
+struct etherparse_ipv6_bytes reference_ipv6_write(const struct etherparse_ipv6_fields *fields);
+struct etherparse_ipv6_fields reference_ipv6_default(void);
+struct etherparse_ipv6_walk_answer reference_ipv6_skip(const uint8_t *at, size_t len, uint8_t next_header);
+struct etherparse_ipv6_walk_answer reference_ipv6_walk(const uint8_t *at, size_t len, uint8_t next_header);
+struct etherparse_ipv6_walk_answer reference_ipv6_walk_up_to(const uint8_t *at, size_t len, uint8_t next_header, size_t limit);
+
+/* The ones-complement sum of sixteen bits of a number, and of the words of a slice, the low byte first (RFC 1071). */
+uint16_t reference_fold(uint64_t sum);
+uint16_t reference_sum(const uint8_t *at, size_t len);
+/* The ones-complement sum of two such sums. */
+uint16_t reference_add(uint16_t a, uint16_t b);
+/* The checksum after words were changed (RFC 1624, equation 3), all high byte first. */
+uint16_t reference_update(uint16_t checksum, const uint8_t *old_bytes, const uint8_t *new_bytes, size_t len);
+
+/* The text of an error, with a 0 behind it, and its length. */
+size_t reference_text(const struct etherparse_error *error, char text[ETHERPARSE_ERROR_TEXT_SIZE]);
+
+#endif

@@ -1,0 +1,8 @@
+use Rattle.std.proofs.Common.{◌∙◌, sym}
+use Rattle.etherparse_c.proofs.Texts.{end_of}
+use Rattle.etherparse_c.proofs.text.end_at.Goals as goal
+
+pub returns : goal.returns
+returns c = record {
+  written = λ whole before len text. end_of whole before _ _ _ len text (sym c.is_empty.ensures ∙ c.if-is_empty.false) c.min-last.ensures;
+}

@@ -1,0 +1,76 @@
+-- The text of an error by its numbers, in the words of the library.
+use Rattle.std.specs.Prelude.{ℕ, ◌≡◌, ◌==◌, ◌++◌, List, [], ◌∷◌, drop, length, nat_lt, take}
+use Rattle.std.specs.Prelude.{if◌then◌else◌}
+use Rattle.etherparse.specs.Ipv4Errors.{bad_options_len_text, ipv4_header_error_text}
+use Rattle.etherparse.specs.Ipv6Errors.{chain_error_text, ipv6_header_error_text}
+use Rattle.etherparse.specs.LenError.{len_error_text}
+use Rattle.etherparse.specs.ValueTooBigError.{value_too_big_error_text}
+use Rattle.etherparse.specs.declared.LenSource.{LenSource}
+use Rattle.etherparse.specs.declared.LenSource.TheVariants as source
+use Rattle.etherparse.specs.declared.err.Layer.{Layer}
+use Rattle.etherparse.specs.declared.err.Layer.TheVariants as layer
+use Rattle.etherparse.specs.declared.err.ValueType.{ValueType}
+use Rattle.etherparse.specs.declared.err.ValueType.TheVariants as value
+use Rattle.etherparse.specs.declared.err.ipv4.HeaderError.TheVariants as ipv4
+use Rattle.etherparse.specs.declared.err.ipv6.ChainError.TheVariants as chain
+use Rattle.etherparse.specs.declared.err.ipv6.HeaderError.TheVariants as ipv6
+use Rattle.etherparse_c.specs.declared.answer.Error.{Error}
+
+-- of a length that is too small, in this layer
+abbrev pub len_text_in : Error → Layer → LenSource → List ℕ
+len_text_in e l s = len_error_text (record {
+  required_len = e.required_len;
+  len = e.len;
+  len_source = s;
+  layer = l;
+  layer_start_offset = e.layer_start_offset;
+})
+
+-- of a value that is too big, of this type
+abbrev pub value_text_of : Error → ValueType → List ℕ
+value_text_of e v = value_too_big_error_text
+    (record { actual = e.len; max_allowed = e.limit; value_type = v })
+
+-- by the number of the layer
+abbrev pub len_text : Error → List ℕ
+len_text e =
+    if e.layer == 1 then len_text_in e layer.Ipv4Header source.Slice
+    else (if e.layer == 2 then len_text_in e layer.Ipv4Packet source.Ipv4HeaderTotalLen
+    else (if e.layer == 3 then len_text_in e layer.Ipv6Header source.Slice
+    else (if e.layer == 4 then len_text_in e layer.Ipv6ExtHeader source.Slice else [])))
+
+abbrev pub version_text : Error → List ℕ
+version_text e =
+    if e.layer == 1 then ipv4_header_error_text (ipv4.UnexpectedVersion e.number)
+    else (if e.layer == 3 then ipv6_header_error_text (ipv6.UnexpectedVersion e.number) else [])
+
+-- by the number of the value
+abbrev pub value_text : Error → List ℕ
+value_text e =
+    if e.number == 1 then value_text_of e value.IpFragmentOffset
+    else (if e.number == 2 then value_text_of e value.IpDscp
+    else (if e.number == 3 then value_text_of e value.IpEcn
+    else (if e.number == 4 then value_text_of e value.Ipv6FlowLabel
+    else (if e.number == 5 then value_text_of e value.Ipv4PayloadLength
+    else (if e.number == 6 then value_text_of e value.Ipv6PayloadLength else [])))))
+
+-- the text of the error with these numbers; none where no error has them
+abbrev pub error_text : Error → List ℕ
+error_text e =
+    if e.kind == 1 then (if nat_lt e.len e.required_len then len_text e else [])
+    else (if e.kind == 2 then version_text e
+    else (if e.kind == 3 then ipv4_header_error_text (ipv4.HeaderLengthSmallerThanHeader e.number)
+    else (if e.kind == 4
+        then chain_error_text (chain.TooMany e.limit e.number e.layer_start_offset)
+    else (if e.kind == 5 then value_text e
+    else (if e.kind == 6 then bad_options_len_text (record { bad_len = e.len }) else [])))))
+
+-- a buffer after a text: as much of it as there is room for before a byte 0, and what stood behind
+abbrev pub with_text : List ℕ → List ℕ → List ℕ
+with_text text [] = []
+with_text text (first ∷ others) = take (length others) text ++ 0 ∷ drop (length text) others
+
+-- the text stands in the buffer, and the answer is how long all of it is
+pub record GivesText (text before after : List ℕ) (answer : ℕ) : Type 0 where
+  pub len : answer ≡ length text
+  pub written : after ≡ with_text text before
