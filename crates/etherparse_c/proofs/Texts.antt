@@ -1,6 +1,6 @@
 -- Texts in a buffer, as far as there is room.
 use Rattle.std.proofs.Common.{ℕ, ◌≡◌, ◌==◌, Bool, false, true, ◌+◌, ◌-◌, ◌<◌, ◌≤◌, ◌++◌, ◌∙◌, List, [], ◌∷◌, ap, arith, refl, sym, drop, get_or, length, length-append, min, slice_set, suc, take, take-append-drop}
-use Rattle.std.proofs.lemmas.List.{append-nil, append_assoc, drop_all, length-drop, length-take, take_more}
+use Rattle.std.proofs.lemmas.List.{append-nil, append_assoc, drop_all, drop_more, length-drop, length-take, set_at, take_more}
 use Rattle.std.proofs.lemmas.Grind.{flat_map-append}
 use Rattle.std.specs.List.{flat_map}
 use Rattle.etherparse_c.specs.ErrorText.{with_text}
@@ -75,3 +75,16 @@ end_of text (x ∷ xs) now k last a b e m =
 -- the pieces of a place behind a text
 pub placed : (text a b c d e dot : List ℕ) → text ++ (a ++ b ++ c ++ d ++ e) ++ dot ≡ text ++ (a ++ (b ++ (c ++ (d ++ (e ++ dot)))))
 placed text a b c d e dot = simp append_assoc refl
+
+-- one byte more of a piece
+pub one_byte_more : (before piece now : List ℕ) (offset i byte : ℕ) → offset + i < length before → i < length piece → byte ≡ get_or piece i 0
+    → now ≡ take offset before ++ take i piece ++ drop (offset + i) before
+    → slice_set now (offset + i) byte ≡ take offset before ++ take (i + 1) piece ++ drop (offset + (i + 1)) before
+one_byte_more before piece now offset i byte room some is e =
+    let p = take offset before ++ take i piece in
+    let len : length p ≡ offset + i = omega (arith, length-append (take offset before) (take i piece), length-take offset before, length-take i piece, room, some) in
+    let next : drop (offset + i) before ≡ get_or before (offset + i) 0 ∷ drop (offset + i + 1) before = drop_more before (offset + i) 0 room in
+    let e' : now ≡ p ++ get_or before (offset + i) 0 ∷ drop (offset + i + 1) before = e ∙ ap (λ l. p ++ l) next in
+    let same : offset + (i + 1) ≡ offset + i + 1 = omega arith in
+    rw (e', set_at p (get_or before (offset + i) 0) (drop (offset + i + 1) before) byte (offset + i) len, is, take_more piece i 0 some, same)
+    (simp append_assoc refl)

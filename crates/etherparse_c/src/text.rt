@@ -1,6 +1,7 @@
 //! The text of an error, in the words of the library.
 
 ghost use Rattle.std.specs.Prelude.{ℕ, ◌≡◌, ◌+◌, ◌-◌, ◌<◌, ◌≤◌, ◌^◌, ◌++◌, List, drop, length, take};
+ghost use Rattle.std.specs.Fmt.{decimal};
 ghost use Rattle.std.specs.List.{flat_map};
 ghost use Rattle.etherparse.specs.Layer.{layer_text, layer_title};
 ghost use Rattle.etherparse.specs.LenSource.{len_source_text};
@@ -38,7 +39,7 @@ pub extern "C" fn etherparse_error_text(error: &Error, text: &mut [u8]) -> usize
             return put(
                 &[
                     "IPv4 Header Error: The 'internet header length' value '",
-                    ihl.format(error.number),
+                    short_digits(&mut ihl, error.number),
                     "' present in the IPv4 header is smaller than the minimum size of an IPv4 header.",
                     " The minimum allowed value is '5'.",
                 ],
@@ -52,11 +53,11 @@ pub extern "C" fn etherparse_error_text(error: &Error, text: &mut [u8]) -> usize
             return put(
                 &[
                     "IPv6 Extension Header Error: More than ",
-                    limit.format(error.limit),
+                    digits(&mut limit, error.limit),
                     " extension header(s) ('",
-                    number.format(error.number),
+                    short_digits(&mut number, error.number),
                     "' starts at overall parsed byte ",
-                    place.format(error.layer_start_offset),
+                    digits(&mut place, error.layer_start_offset),
                     ").",
                 ],
                 text,
@@ -68,7 +69,7 @@ pub extern "C" fn etherparse_error_text(error: &Error, text: &mut [u8]) -> usize
             return put(
                 &[
                     "Slice of length ",
-                    len.format(error.len),
+                    digits(&mut len, error.len),
                     " cannot be set as IPv4 header options.",
                     " The length must be a multiple of 4 and at maximum 40.",
                 ],
@@ -108,6 +109,7 @@ fn put_len(error: &Error, text: &mut [u8]) -> usize
 }
 
 // The same in a layer of this title and name.
+#[inline(never)]
 fn put_len_in(
     error: &Error,
     title: &'static str,
@@ -126,8 +128,8 @@ fn put_len_in(
     let mut required_len = Buffer::new();
     let mut len = Buffer::new();
     let mut place = Buffer::new();
-    let required_len = required_len.format(error.required_len);
-    let len = len.format(error.len);
+    let required_len = digits(&mut required_len, error.required_len);
+    let len = digits(&mut len, error.len);
     if error.layer_start_offset == 0 {
         return put(
             &[
@@ -159,7 +161,7 @@ fn put_len_in(
             " ('",
             layer,
             "' starts at overall parsed byte ",
-            place.format(error.layer_start_offset),
+            digits(&mut place, error.layer_start_offset),
             ").",
         ],
         text,
@@ -171,7 +173,7 @@ fn put_version(error: &Error, text: &mut [u8]) -> usize
     ensures gives { GivesText (version_text error.now) text.old text.new result }
 {
     let mut number = Buffer::new();
-    let number = number.format(error.number);
+    let number = short_digits(&mut number, error.number);
     match error.layer {
         IPV4_HEADER => return put(
             &[
@@ -213,6 +215,7 @@ fn put_value(error: &Error, text: &mut [u8]) -> usize
 }
 
 // The same of a value of this name.
+#[inline(never)]
 fn put_value_of(error: &Error, name: &'static str, text: &mut [u8]) -> usize
     requires short { length name.now ≤ 64 }
     ensures gives { (v : ValueType) → name.now ≡ value_type_text v →
@@ -223,18 +226,36 @@ fn put_value_of(error: &Error, name: &'static str, text: &mut [u8]) -> usize
     return put(
         &[
             "Error '",
-            value.format(error.len),
+            digits(&mut value, error.len),
             "' is too big to be a '",
             name,
             "' (maximum allowed value is '",
-            most.format(error.limit),
+            digits(&mut most, error.limit),
             "')",
         ],
         text,
     );
 }
 
+// A number in decimal digits.
+#[inline(never)]
+fn digits(buffer: &mut Buffer, number: usize) -> &str
+    ensures text { result.now ≡ decimal number }
+    ensures short { length result.now ≤ 20 }
+{
+    buffer.format(number)
+}
+
+// A number of 16 bits in decimal digits.
+fn short_digits(buffer: &mut Buffer, number: u16) -> &str
+    ensures text { result.now ≡ decimal number }
+    ensures short { length result.now ≤ 20 }
+{
+    digits(buffer, usize::from(number))
+}
+
 // Writes pieces one after the other to the front of a buffer, and a byte 0 behind them.
+#[inline(never)]
 fn put(pieces: &[&str], text: &mut [u8]) -> usize
     requires fits { length (flat_map (λ piece. piece.now) pieces.now) < 2 ^ 64 }
     ensures gives { GivesText (flat_map (λ piece. piece.now) pieces.now)
@@ -258,8 +279,11 @@ fn put_at(piece: &[u8], offset: usize, text: &mut [u8])
     if offset >= text.len() {
         return;
     }
-    let len = piece.len().min(text.len() - offset);
-    text[offset..offset + len].copy_from_slice(&piece[..len]);
+    // Byte by byte: of two slices the compiler can not tell that they lie apart, and a copy as a
+    // whole would be a call of `memmove`, which the library needs nowhere else.
+    for i in 0..piece.len().min(text.len() - offset) {
+        text[offset + i] = piece[i];
+    }
 }
 
 // Writes a byte 0 behind a text of this length, or as the last byte where it fills the buffer.
