@@ -33,7 +33,7 @@ leave_out() {
 
 has() { command -v "$1" > /dev/null; }
 
-# Whether the library wants no more than copies of memory.
+# Whether the library wants nothing of the C library but `memcpy`.
 wants_little() {
   nm --undefined-only "$library" | awk 'NF == 2 { print $2 }' | sort -u > "$out/undefined.txt"
   ! grep -vx -e memcpy "$out/undefined.txt"
@@ -58,7 +58,7 @@ links_static() { echo 'int main(void) { return 0; }' | "$1" -xc -static -o "$out
 library=$here/out/libetherparse_c.a
 
 if has nm; then
-  try "the library wants memcpy alone" wants_little
+  try "the library wants no more of the C library than memcpy" wants_little
 else
   leave_out "what the library wants: nm is not there"
 fi

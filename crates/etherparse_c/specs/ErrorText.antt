@@ -61,7 +61,7 @@ error_text e =
     else (if e.kind == 2 then version_text e
     else (if e.kind == 3 then ipv4_header_error_text (ipv4.HeaderLengthSmallerThanHeader e.number)
     else (if e.kind == 4
-        then chain_error_text (chain.TooMany e.limit e.number e.layer_start_offset)
+    then chain_error_text (chain.TooMany e.limit e.number e.layer_start_offset)
     else (if e.kind == 5 then value_text e
     else (if e.kind == 6 then bad_options_len_text (record { bad_len = e.len }) else [])))))
 

@@ -11,25 +11,39 @@ use etherparse::err::{Layer, LenError, ipv4, ipv6};
 
 // The kinds of errors.
 pub(crate) const NO_ERROR: u32 = 0;
+
 pub(crate) const LEN: u32 = 1;
+
 pub(crate) const UNEXPECTED_VERSION: u32 = 2;
+
 pub(crate) const HEADER_LENGTH_SMALLER_THAN_HEADER: u32 = 3;
+
 pub(crate) const TOO_MANY: u32 = 4;
+
 pub(crate) const VALUE_TOO_BIG: u32 = 5;
+
 pub(crate) const BAD_OPTIONS_LEN: u32 = 6;
 
 // The layers.
 pub(crate) const IPV4_HEADER: u16 = 1;
+
 pub(crate) const IPV4_PACKET: u16 = 2;
+
 pub(crate) const IPV6_HEADER: u16 = 3;
+
 pub(crate) const IPV6_EXT_HEADER: u16 = 4;
 
 // The values that can be too big.
 pub(crate) const IP_FRAGMENT_OFFSET: u16 = 1;
+
 pub(crate) const IP_DSCP: u16 = 2;
+
 pub(crate) const IP_ECN: u16 = 3;
+
 pub(crate) const IPV6_FLOW_LABEL: u16 = 4;
+
 pub(crate) const IPV4_PAYLOAD_LENGTH: u16 = 5;
+
 pub(crate) const IPV6_PAYLOAD_LENGTH: u16 = 6;
 
 /// Why a call refused, by its numbers; each number that its kind does not have is 0.

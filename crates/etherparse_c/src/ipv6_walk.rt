@@ -35,8 +35,10 @@ pub extern "C" fn etherparse_ipv6_skip(slice: &[u8], next_header: u8) -> Ipv6Wal
         ≡ walk_in_c len_error_in_c slice.now (Ok (next_header, slice.now)) }
     ensures skipped { IsSkippable next_header →
         required_len_of next_header slice.now ≤ length slice.now → result
-        ≡ walk_in_c len_error_in_c slice.now (Ok (slice_index slice.now 0,
-        drop (required_len_of next_header slice.now) slice.now)) }
+        ≡ walk_in_c len_error_in_c slice.now (Ok (
+          slice_index slice.now 0,
+          drop (required_len_of next_header slice.now) slice.now,
+        )) }
     ensures refused { IsSkippable next_header →
         length slice.now < required_len_of next_header slice.now → result
         ≡ walk_in_c len_error_in_c slice.now

@@ -12,10 +12,11 @@ ghost use Rattle.etherparse.specs.declared.err.ValueType.{ValueType};
 ghost use Rattle.etherparse_c.specs.ErrorText.{GivesText, error_text, len_text, len_text_in};
 ghost use Rattle.etherparse_c.specs.ErrorText.{value_text, value_text_of, version_text, with_text};
 
-use crate::answer::{BAD_OPTIONS_LEN, Error, HEADER_LENGTH_SMALLER_THAN_HEADER, IP_DSCP, IP_ECN};
-use crate::answer::{IP_FRAGMENT_OFFSET, IPV4_HEADER, IPV4_PACKET, IPV4_PAYLOAD_LENGTH};
-use crate::answer::{IPV6_EXT_HEADER, IPV6_FLOW_LABEL, IPV6_HEADER, IPV6_PAYLOAD_LENGTH, LEN};
-use crate::answer::{TOO_MANY, UNEXPECTED_VERSION, VALUE_TOO_BIG};
+use crate::answer::{
+    BAD_OPTIONS_LEN, Error, HEADER_LENGTH_SMALLER_THAN_HEADER, IP_DSCP, IP_ECN, IP_FRAGMENT_OFFSET,
+    IPV4_HEADER, IPV4_PACKET, IPV4_PAYLOAD_LENGTH, IPV6_EXT_HEADER, IPV6_FLOW_LABEL, IPV6_HEADER,
+    IPV6_PAYLOAD_LENGTH, LEN, TOO_MANY, UNEXPECTED_VERSION, VALUE_TOO_BIG,
+};
 use itoa::Buffer;
 
 /// Writes the text of the error with these numbers to the front of a buffer, as much of it as there
@@ -86,8 +87,13 @@ fn put_len(error: &Error, text: &mut [u8]) -> usize
     ensures gives { GivesText (len_text error.now) text.old text.new result }
 {
     match error.layer {
-        IPV4_HEADER =>
-            return put_len_in(error, "IPv4 Header Error", "IPv4 header", "slice length", text),
+        IPV4_HEADER => return put_len_in(
+            error,
+            "IPv4 Header Error",
+            "IPv4 header",
+            "slice length",
+            text,
+        ),
         IPV4_PACKET => return put_len_in(
             error,
             "IPv4 Packet Error",
@@ -95,8 +101,13 @@ fn put_len(error: &Error, text: &mut [u8]) -> usize
             "length calculated from the IPv4 header 'total length' field",
             text,
         ),
-        IPV6_HEADER =>
-            return put_len_in(error, "IPv6 Header Error", "IPv6 header", "slice length", text),
+        IPV6_HEADER => return put_len_in(
+            error,
+            "IPv6 Header Error",
+            "IPv6 header",
+            "slice length",
+            text,
+        ),
         IPV6_EXT_HEADER => return put_len_in(
             error,
             "IPv6 Extension Header Error",
@@ -201,15 +212,19 @@ fn put_value(error: &Error, text: &mut [u8]) -> usize
 {
     match error.number {
         IP_FRAGMENT_OFFSET => return put_value_of(error, "IP Fragment Offset", text),
-        IP_DSCP =>
-            return put_value_of(error, "IPv4 DSCP (Differentiated Services Code Point)", text),
-        IP_ECN =>
-            return put_value_of(error, "IPv4 ECN (Explicit Congestion Notification)", text),
+        IP_DSCP => return put_value_of(
+            error,
+            "IPv4 DSCP (Differentiated Services Code Point)",
+            text,
+        ),
+        IP_ECN => return put_value_of(error, "IPv4 ECN (Explicit Congestion Notification)", text),
         IPV6_FLOW_LABEL => return put_value_of(error, "IPv6 Flow Label", text),
-        IPV4_PAYLOAD_LENGTH =>
-            return put_value_of(error, "IPv4 Header 'Payload Length' (sets 'Total Length')", text),
-        IPV6_PAYLOAD_LENGTH =>
-            return put_value_of(error, "IPv6 Header 'Payload Length'", text),
+        IPV4_PAYLOAD_LENGTH => return put_value_of(
+            error,
+            "IPv4 Header 'Payload Length' (sets 'Total Length')",
+            text,
+        ),
+        IPV6_PAYLOAD_LENGTH => return put_value_of(error, "IPv6 Header 'Payload Length'", text),
         _ => return put(&[], text),
     }
 }

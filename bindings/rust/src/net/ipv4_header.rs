@@ -3,7 +3,7 @@ use crate::err::{LenError, ValueTooBigError, ValueType};
 use crate::{ffi, parts, IpDscp, IpEcn, IpFragOffset, IpNumber, Ipv4Options};
 use core::fmt;
 use core::net::Ipv4Addr;
-use core::ops::Deref;
+use core::ops::{Deref, DerefMut};
 
 /// An IPv4 header with its options (RFC 791 section 3.1).
 #[derive(Clone, Debug, PartialEq, Eq, Hash)]
@@ -285,6 +285,11 @@ impl Ipv4HeaderBytes {
     pub fn as_slice(&self) -> &[u8] {
         &self.written.bytes[..usize::from(self.written.len)]
     }
+
+    /// The bytes, to be changed.
+    pub fn as_mut_slice(&mut self) -> &mut [u8] {
+        &mut self.written.bytes[..usize::from(self.written.len)]
+    }
 }
 
 impl Deref for Ipv4HeaderBytes {
@@ -292,6 +297,12 @@ impl Deref for Ipv4HeaderBytes {
 
     fn deref(&self) -> &[u8] {
         self.as_slice()
+    }
+}
+
+impl DerefMut for Ipv4HeaderBytes {
+    fn deref_mut(&mut self) -> &mut [u8] {
+        self.as_mut_slice()
     }
 }
 

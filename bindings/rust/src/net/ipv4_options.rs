@@ -1,4 +1,5 @@
 use crate::err::ipv4::BadOptionsLen;
+use core::borrow::{Borrow, BorrowMut};
 use core::cmp::Ordering;
 use core::fmt;
 use core::hash::{Hash, Hasher};
@@ -128,6 +129,30 @@ impl PartialOrd for Ipv4Options {
 impl Ord for Ipv4Options {
     fn cmp(&self, other: &Ipv4Options) -> Ordering {
         self.as_slice().cmp(other.as_slice())
+    }
+}
+
+impl AsRef<Ipv4Options> for Ipv4Options {
+    fn as_ref(&self) -> &Ipv4Options {
+        self
+    }
+}
+
+impl AsMut<Ipv4Options> for Ipv4Options {
+    fn as_mut(&mut self) -> &mut Ipv4Options {
+        self
+    }
+}
+
+impl Borrow<[u8]> for Ipv4Options {
+    fn borrow(&self) -> &[u8] {
+        self.as_slice()
+    }
+}
+
+impl BorrowMut<[u8]> for Ipv4Options {
+    fn borrow_mut(&mut self) -> &mut [u8] {
+        self.as_mut_slice()
     }
 }
 
