@@ -321,7 +321,6 @@ def fragment_of(packet):
                               rest=found[1])
     try:
         found = find()
-        found = found and dict(found, more_fragments=int(found['more_fragments']))
         said = 'fragment_header ' + named(found, '''next_header fragment_offset more_fragments
             identification rest'''.split()) if found else 'fragment_header=none'
     except Refused as error:

@@ -285,15 +285,18 @@ fn write_fragment_header(
     answer: &mut String,
 ) -> Result<(), AllocError> {
     let numbers = [
-        ("next_header", u32::from(header.next_header.0)),
-        ("fragment_offset", u32::from(header.fragment_offset.value())),
-        ("more_fragments", u32::from(header.more_fragments)),
-        ("identification", header.identification),
+        ("next_header", u16::from(header.next_header.0)),
+        ("fragment_offset", header.fragment_offset.value()),
     ];
+    let (more_fragments, identification) = (header.more_fragments, header.identification);
     write!(
         answer,
-        " ; fragment_header {} rest={}",
-        Named(&numbers),
+        " ; fragment_header {} more_fragments={more_fragments}",
+        Named(&numbers)
+    )?;
+    write!(
+        answer,
+        " identification={identification} rest={}",
         Bytes(rest)
     )
 }
