@@ -1,14 +1,14 @@
 #!/bin/sh
-# fuzz.sh [COUNT [SEED [ORACLE]]]: calls every function of the library on COUNT inputs, 10,000,000 where no COUNT is given, from
+# fuzz.sh [COUNT [SEED [REFERENCE]]]: calls every function of the library on COUNT inputs, 10,000,000 where no COUNT is given, from
 # a program in C under gcc's address and undefined-behaviour sanitizers, and compares each answer with that of a reference in C
-# from the RFCs (reference.c). Each buffer begins or ends at a page that faults. With ORACLE, a program that answers the cases of
+# from the RFCs (reference.c). Each buffer begins or ends at a page that faults. With REFERENCE, a program that answers the cases of
 # the Rust crate by lines, the answers to a sample of the packets are compared with its own.
 set -eu
 here=$(CDPATH= cd -- "$(dirname -- "$0")" && pwd)
 library=$here/..
 count=${1:-10000000}
 seed=${2:-0}
-oracle=${3:-}
+reference=${3:-}
 out=$library/out/fuzz
 mkdir -p "$out"
 (cd "$library" && rt lib) > "$out/lib.txt" 2>&1 || {
@@ -18,7 +18,7 @@ mkdir -p "$out"
 gcc -std=c11 -O2 -g -Wall -Wextra -Werror -fsanitize=address,undefined -fno-sanitize-recover=all -I "$library/include" \
   -o "$out/fuzz" "$here/fuzz.c" "$here/reference.c" "$library/out/libetherparse_c.a"
 "$out/fuzz" "$count" 86400 500 "$out/cases.txt" "$out/answers.txt" "$seed"
-[ -n "$oracle" ] || exit 0
-"$oracle" < "$out/cases.txt" > "$out/expected.txt"
+[ -n "$reference" ] || exit 0
+"$reference" < "$out/cases.txt" > "$out/expected.txt"
 cmp "$out/expected.txt" "$out/answers.txt"
-echo "$(wc -l < "$out/cases.txt") answers are the oracle's."
+echo "$(wc -l < "$out/cases.txt") answers are the Rust crate's."

@@ -99,8 +99,8 @@ pub extern "C" fn etherparse_u32_16bit_word_checksum(start_sum: u32, slice: &[u8
     u32_16bit_word::checksum(start_sum, slice)
 }
 
-/// A checksum in the other byte order: one of the calls above as the number that a header's field is
-/// read as, or such a number as those calls answer it.
+/// A checksum in the other byte order: one of the calls above as the number that a header's field
+/// is read as, or such a number as those calls answer it.
 #[unsafe(no_mangle)]
 pub extern "C" fn etherparse_swap_bytes(checksum: u16) -> u16
     ensures value { result ≡ swap_bytes w16 checksum }

@@ -63,8 +63,8 @@ pub(super) fn sum_of_fixed(front: [u8; 20]) -> Sum16BitWords
         .add_4bytes([q, r, s, t])
 }
 
-// The sum with the words of the options, which most headers have none of. Each word has a place that
-// the compiler knows, with zeros behind the last one, so that no header is put into memory for it.
+// The sum with the words of the options, which most headers have none of. Each word has a place
+// that the compiler knows, with zeros behind the last one, so that no header is put into memory.
 #[inline(always)]
 pub(super) fn add_options(fixed: Sum16BitWords, options: &[u8]) -> Sum16BitWords
     requires options_len { IsOptionsLen (length options.now) }
