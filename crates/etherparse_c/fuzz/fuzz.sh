@@ -1,14 +1,14 @@
 #!/bin/sh
-# fuzz.sh [COUNT [SEED [REFERENCE]]]: calls every function of the library on COUNT inputs, 10,000,000 where no COUNT is given, from
+# fuzz.sh [REFERENCE [COUNT [SEED]]]: calls every function of the library on COUNT inputs, 10,000,000 where no COUNT is given, from
 # a program in C under gcc's address and undefined-behaviour sanitizers, and compares each answer with that of a reference in C
 # from the RFCs (reference.c). Each buffer begins or ends at a page that faults. With REFERENCE, a program that answers the cases of
-# the Rust crate by lines, the answers to a sample of the packets are compared with its own.
+# the Rust crate by lines, the answers to a sample of the packets are compared with its own; an empty REFERENCE is none.
 set -eu
 here=$(CDPATH= cd -- "$(dirname -- "$0")" && pwd)
 library=$here/..
-count=${1:-10000000}
-seed=${2:-0}
-reference=${3:-}
+reference=${1:-}
+count=${2:-10000000}
+seed=${3:-0}
 out=$library/out/fuzz
 mkdir -p "$out"
 (cd "$library" && rt lib) > "$out/lib.txt" 2>&1 || {
