@@ -13,3 +13,31 @@ pub mod ipv6_view;
 pub mod ipv6_walk;
 mod room;
 pub mod text;
+
+use answer::{Error, Rest};
+use ipv4_header::{
+    Ipv4Bytes, Ipv4Fields, Ipv4HeaderChecksumAnswer, Ipv4LengthsAnswer, Ipv4NewAnswer,
+    Ipv4ReadAnswer,
+};
+use ipv4_view::{Ipv4ViewAnswer, Ipv4ViewFields};
+use ipv6_header::{Ipv6Bytes, Ipv6Fields, Ipv6ReadAnswer};
+use ipv6_view::{Ipv6ViewAnswer, Ipv6ViewFields};
+use ipv6_walk::Ipv6WalkAnswer;
+use std::mem::size_of;
+
+// The sizes in bytes that `include/etherparse.h` tells of.
+const _: () = prove!(size_of::<Error>() == 40 && size_of::<Rest>() == 16);
+
+const _: () = prove!(size_of::<Ipv4Fields>() == 64 && size_of::<Ipv4ReadAnswer>() == 120);
+
+const _: () = prove!(size_of::<Ipv4ViewFields>() == 24 && size_of::<Ipv4ViewAnswer>() == 80);
+
+const _: () = prove!(size_of::<Ipv4NewAnswer>() == 104 && size_of::<Ipv4LengthsAnswer>() == 48);
+
+const _: () = prove!(size_of::<Ipv4HeaderChecksumAnswer>() == 4 && size_of::<Ipv4Bytes>() == 61);
+
+const _: () = prove!(size_of::<Ipv6Fields>() == 44 && size_of::<Ipv6ReadAnswer>() == 104);
+
+const _: () = prove!(size_of::<Ipv6ViewFields>() == 44 && size_of::<Ipv6ViewAnswer>() == 104);
+
+const _: () = prove!(size_of::<Ipv6Bytes>() == 41 && size_of::<Ipv6WalkAnswer>() == 64);
