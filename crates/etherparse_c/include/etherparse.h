@@ -1,18 +1,20 @@
 /* IP headers and their checksums: the proved library for C.
  *
- * A slice is a pointer and a length in bytes, which is at most half of the address space. A null pointer with the length 0 is
- * the empty slice. No call keeps a pointer, takes memory or makes a system call.
+ * A slice is a pointer and a length in bytes, which is at most half of the address space. A null
+ * pointer with the length 0 is the empty slice. No call keeps a pointer, takes memory or makes a
+ * system call.
  *
- * Threads: the library has no state of its own, so any number of threads may call it at once, as long as none writes what a
- * call of another reads or writes.
+ * Threads: the library has no state of its own, so any number of threads may call it at once, as
+ * long as none writes what a call of another reads or writes.
  *
- * Systems: x86-64 with the System V calling convention, as Linux has it. The library is built for the processor level
- * x86-64-v2 (SSE4.2 and SSSE3, in every processor since about 2009) unless another was asked for; on an older processor a call
- * ends the process by an illegal instruction. The file etherparse.pc names the level of what is installed.
+ * Systems: x86-64 with the System V calling convention, as Linux has it. The library is built
+ * for the processor level x86-64-v2 (SSE4.2 and SSSE3, in every processor since about 2009)
+ * unless another was asked for; on an older processor a call ends the process by an illegal
+ * instruction. The file etherparse.pc names the level of what is installed.
  *
- * Byte order: a field of a struct is a number, whose high byte the packet has first. A sum, and a checksum made of a sum, has
- * the packet's first byte as its low byte; etherparse_swap_bytes turns the one form into the other. Each call says which it
- * takes and answers. */
+ * Byte order: a field of a struct is a number, whose high byte the packet has first. A sum, and
+ * a checksum made of a sum, has the packet's first byte as its low byte; etherparse_swap_bytes
+ * turns the one form into the other. Each call says which it takes and answers. */
 
 #ifndef ETHERPARSE_H
 #define ETHERPARSE_H
@@ -37,7 +39,8 @@
 #ifdef ETHERPARSE_STATIC_ASSERT
 #define ETHERPARSE_SIZE(type, bytes) ETHERPARSE_STATIC_ASSERT(sizeof(struct type) == (bytes))
 #define ETHERPARSE_FIELD(type, field, offset, bytes) \
-    ETHERPARSE_STATIC_ASSERT(offsetof(struct type, field) == (offset) && sizeof(((struct type *)0)->field) == (bytes))
+    ETHERPARSE_STATIC_ASSERT( \
+        offsetof(struct type, field) == (offset) && sizeof(((struct type *)0)->field) == (bytes))
 #endif
 
 #ifdef __cplusplus
@@ -46,14 +49,16 @@ extern "C" {
 
 /* Checksums of the internet protocols (RFC 1071).
  *
- * A sum begins at 0, or at what was summed before; so a checksum over a pseudo-header, a header and a payload is three calls
- * of add_slice and one of ones_complement. A slice with an odd number of bytes is padded with a byte 0, so only the last one
- * may have an odd number where the bytes belong together.
+ * A sum begins at 0, or at what was summed before; so a checksum over a pseudo-header, a header
+ * and a payload is three calls of add_slice and one of ones_complement. A slice with an odd
+ * number of bytes is padded with a byte 0, so only the last one may have an odd number where the
+ * bytes belong together.
  *
  * Two sums of the same words may be different numbers; their complements are the same.
  *
- * Byte order: in a sum, in its complement and in the checksum of a slice, the low byte is the one that a packet has first. So
- * memcpy puts a complement into a packet; as the number that header_checksum is, it goes through etherparse_swap_bytes. */
+ * Byte order: in a sum, in its complement and in the checksum of a slice, the low byte is the
+ * one that a packet has first. So memcpy puts a complement into a packet; as the number that
+ * header_checksum is, it goes through etherparse_swap_bytes. */
 
 /* Bytes of a list of pieces. */
 struct etherparse_slice {
@@ -69,42 +74,54 @@ uint32_t etherparse_u32_16bit_word_add_slice(uint32_t start_sum, const uint8_t *
 uint64_t etherparse_u64_16bit_word_add_slices(const struct etherparse_slice *pieces, size_t count);
 uint32_t etherparse_u32_16bit_word_add_slices(const struct etherparse_slice *pieces, size_t count);
 
-/* The checksum of what was summed, with the low byte first in a packet. It is 0 where the words sum to all ones, as those of a
- * right packet do with their checksum among them. */
+/* The checksum of what was summed, with the low byte first in a packet. It is 0 where the words
+ * sum to all ones, as those of a right packet do with their checksum among them. */
 uint16_t etherparse_u64_16bit_word_ones_complement(uint64_t sum);
 uint16_t etherparse_u32_16bit_word_ones_complement(uint32_t sum);
 
-/* The same, low byte first too, with 0xffff in place of 0, for UDP, where 0 says that there is no checksum (RFC 768). */
+/* The same, low byte first too, with 0xffff in place of 0, for UDP, where 0 says that there is
+ * no checksum (RFC 768). */
 uint16_t etherparse_u64_16bit_word_ones_complement_with_no_zero(uint64_t sum);
 uint16_t etherparse_u32_16bit_word_ones_complement_with_no_zero(uint32_t sum);
 
-/* The checksum of a slice after what was summed, low byte first: add_slice and ones_complement in one call. It is 0 exactly
- * where all the words together sum to all ones. */
+/* The checksum of a slice after what was summed, low byte first: add_slice and ones_complement
+ * in one call. It is 0 exactly where all the words together sum to all ones. */
 uint16_t etherparse_u64_16bit_word_checksum(uint64_t start_sum, const uint8_t *at, size_t len);
 uint16_t etherparse_u32_16bit_word_checksum(uint32_t start_sum, const uint8_t *at, size_t len);
 
-/* A checksum in the other byte order: of one that a call above answered the number that header_checksum is, and of such a number
- * what those calls answer. */
+/* A checksum in the other byte order: of one that a call above answered the number that
+ * header_checksum is, and of such a number what those calls answer. */
 uint16_t etherparse_swap_bytes(uint16_t checksum);
 
-/* The checksum after one of the words that it is over was changed from old_word to new_word (RFC 1624, equation 3): all three,
- * and the answer, are numbers whose high byte a packet has first, as header_checksum is. A wrong checksum is not made right. */
+/* The checksum after one of the words that it is over was changed from old_word to new_word (RFC
+ * 1624, equation 3): all three, and the answer, are numbers whose high byte a packet has first,
+ * as header_checksum is. A wrong checksum is not made right. */
 uint16_t etherparse_update_2bytes(uint16_t checksum, uint16_t old_word, uint16_t new_word);
 
-/* The same after four bytes, as an IPv4 address, or sixteen, as an IPv6 address, were changed at an even place. The bytes are as
- * the packet has them, the checksum is the number whose high byte comes first. */
-uint16_t etherparse_update_4bytes(uint16_t checksum, const uint8_t old_bytes[4], const uint8_t new_bytes[4]);
-uint16_t etherparse_update_16bytes(uint16_t checksum, const uint8_t old_bytes[16], const uint8_t new_bytes[16]);
+/* The same after four bytes, as an IPv4 address, or sixteen, as an IPv6 address, were changed at
+ * an even place. The bytes are as the packet has them, the checksum is the number whose high
+ * byte comes first. */
+uint16_t etherparse_update_4bytes(uint16_t checksum, const uint8_t old_bytes[4],
+    const uint8_t new_bytes[4]);
+uint16_t etherparse_update_16bytes(uint16_t checksum, const uint8_t old_bytes[16],
+    const uint8_t new_bytes[16]);
 
 /* Why a call refused, by its numbers. Each number that a kind does not have is 0. */
 struct etherparse_error {
     uint32_t kind; /* one of the kinds below; 0 says that nothing was refused */
-    uint16_t number; /* by the kind the version, the IHL, of TOO_MANY the header that is one too many, or which value it is */
-    uint16_t layer; /* of LEN, UNEXPECTED_VERSION, HEADER_LENGTH_SMALLER_THAN_HEADER and TOO_MANY: a layer below */
+    /* by the kind the version, the IHL, of TOO_MANY the header that is one too many, or which
+     * value it is */
+    uint16_t number;
+    /* of LEN, UNEXPECTED_VERSION, HEADER_LENGTH_SMALLER_THAN_HEADER and TOO_MANY: a layer below */
+    uint16_t layer;
     size_t required_len; /* of LEN: the length in bytes that is required */
-    size_t len; /* of LEN and BAD_OPTIONS_LEN: the length in bytes that there is; of VALUE_TOO_BIG the value */
-    size_t layer_start_offset; /* of LEN and TOO_MANY: where the header starts, in bytes from the start of the slice */
-    size_t limit; /* of TOO_MANY how many headers were allowed; of VALUE_TOO_BIG the greatest value that is allowed */
+    /* of LEN and BAD_OPTIONS_LEN: the length in bytes that there is; of VALUE_TOO_BIG the value */
+    size_t len;
+    /* of LEN and TOO_MANY: where the header starts, in bytes from the start of the slice */
+    size_t layer_start_offset;
+    /* of TOO_MANY how many headers were allowed; of VALUE_TOO_BIG the greatest value that is
+     * allowed */
+    size_t limit;
 };
 
 /* The kinds of errors. */
@@ -139,13 +156,15 @@ enum {
 /* Room in bytes for the longest text, with the 0 behind it. */
 #define ETHERPARSE_ERROR_TEXT_SIZE 301
 
-/* The text of an error in English, with no newline. As snprintf does, it writes as much of it as there is room for in len bytes
- * with a 0 behind it, and answers how many bytes the whole text has, without that 0; so len may be 0. Numbers that no error
- * has, as those of ETHERPARSE_OK, have the empty text. The pointer to the error is not null, and text is null only where len is
+/* The text of an error in English, with no newline. As snprintf does, it writes as much of it as
+ * there is room for in len bytes with a 0 behind it, and answers how many bytes the whole text
+ * has, without that 0; so len may be 0. Numbers that no error has, as those of ETHERPARSE_OK,
+ * have the empty text. The pointer to the error is not null, and text is null only where len is
  * 0. */
 size_t etherparse_error_text(const struct etherparse_error *error, char *text, size_t len);
 
-/* Where the bytes after a header, or after extension headers, are: the slice from this offset on. */
+/* Where the bytes after a header, or after extension headers, are: the slice from this offset
+ * on. */
 struct etherparse_rest {
     size_t offset;
     size_t len;
@@ -178,7 +197,8 @@ struct etherparse_ipv4_view_fields {
     uint16_t total_len; /* of the header and what follows it, in bytes */
     uint16_t identification;
     uint16_t fragment_offset; /* in units of 8 bytes, at most 8191 */
-    uint16_t header_checksum; /* the one that the header has, right or wrong: a number, the high byte first */
+    /* the one that the header has, right or wrong: a number, the high byte first */
+    uint16_t header_checksum;
     uint8_t ihl; /* the length of the header in words of 4 bytes, 5 to 15 */
     uint8_t dscp; /* at most 63 */
     uint8_t ecn; /* at most 3 */
@@ -189,16 +209,18 @@ struct etherparse_ipv4_view_fields {
     uint8_t protocol;
 };
 
-/* The header at the front of a slice, as a view. Its bytes are those of the slice up to rest.offset, and its options those from
- * byte 20 up to there. Where error.kind is not ETHERPARSE_OK, there is no header and all else is 0. */
+/* The header at the front of a slice, as a view. Its bytes are those of the slice up to
+ * rest.offset, and its options those from byte 20 up to there. Where error.kind is not
+ * ETHERPARSE_OK, there is no header and all else is 0. */
 struct etherparse_ipv4_view_answer {
     struct etherparse_ipv4_view_fields view;
     struct etherparse_error error;
     struct etherparse_rest rest;
 };
 
-/* The header at the front of a slice, with a copy of its options, which 0 follows in their array. The fields are within their
- * bounds, so they can be written again. Where error.kind is not ETHERPARSE_OK, there is no header and all else is 0. */
+/* The header at the front of a slice, with a copy of its options, which 0 follows in their
+ * array. The fields are within their bounds, so they can be written again. Where error.kind is
+ * not ETHERPARSE_OK, there is no header and all else is 0. */
 struct etherparse_ipv4_read_answer {
     struct etherparse_ipv4_fields fields;
     struct etherparse_error error;
@@ -211,7 +233,8 @@ struct etherparse_ipv4_bytes {
     uint8_t len; /* 20 to 60, or 0 */
 };
 
-/* A header without options. Where error.kind is not ETHERPARSE_OK, there is none and all else is 0. */
+/* A header without options. Where error.kind is not ETHERPARSE_OK, there is none and all else is
+ * 0. */
 struct etherparse_ipv4_new_answer {
     struct etherparse_ipv4_fields fields;
     struct etherparse_error error;
@@ -219,61 +242,71 @@ struct etherparse_ipv4_new_answer {
 
 /* The checksum that a header should have. */
 struct etherparse_ipv4_header_checksum_answer {
-    uint16_t checksum; /* the high byte first in the header, as header_checksum is; 0 where accepted is false */
+    /* the high byte first in the header, as header_checksum is; 0 where accepted is false */
+    uint16_t checksum;
     bool accepted; /* the fields are within their bounds */
 };
 
 /* The lengths of a header and of its payload. */
 struct etherparse_ipv4_lengths_answer {
     uint16_t payload_len; /* what total_len counts beyond the header, in bytes */
-    uint16_t max_payload_len; /* of the longest payload that fits after the header, in bytes: 65475 to 65515 */
+    /* of the longest payload that fits after the header, in bytes: 65475 to 65515 */
+    uint16_t max_payload_len;
     uint8_t header_len; /* with the options, in bytes: 20 to 60 */
     uint8_t ihl; /* the same in words of 4 bytes */
     struct etherparse_error error; /* why there is no payload_len */
 };
 
-/* The header at the front of a slice, and where the bytes after it are, however many total_len tells of.
+/* The header at the front of a slice, and where the bytes after it are, however many total_len
+ * tells of.
  *
- * The error is, in this order, a LEN where the slice has fewer than 20 bytes; UNEXPECTED_VERSION where the version is not 4;
- * HEADER_LENGTH_SMALLER_THAN_HEADER where the IHL is below 5; a LEN where the slice has fewer bytes than the IHL says. */
+ * The error is, in this order, a LEN where the slice has fewer than 20 bytes; UNEXPECTED_VERSION
+ * where the version is not 4; HEADER_LENGTH_SMALLER_THAN_HEADER where the IHL is below 5; a LEN
+ * where the slice has fewer bytes than the IHL says. */
 struct etherparse_ipv4_view_answer etherparse_ipv4_view(const uint8_t *at, size_t len);
 struct etherparse_ipv4_read_answer etherparse_ipv4_read(const uint8_t *at, size_t len);
 
-/* The bytes of the header of these fields, with the reserved bit 0 and the checksum that stands in the fields. The len of the
- * answer is 0 where a field is out of its bounds. The pointer is not null, and each bool is 0 or 1. */
+/* The bytes of the header of these fields, with the reserved bit 0 and the checksum that stands
+ * in the fields. The len of the answer is 0 where a field is out of its bounds. The pointer is
+ * not null, and each bool is 0 or 1. */
 struct etherparse_ipv4_bytes etherparse_ipv4_write(const struct etherparse_ipv4_fields *fields);
 
-/* The fields of a header with no field given, as the Rust crate has them: dont_fragment is true, the protocol 255, which is
- * reserved, and all else is 0. */
+/* The fields of a header with no field given, as the Rust crate has them: dont_fragment is true,
+ * the protocol 255, which is reserved, and all else is 0. */
 struct etherparse_ipv4_fields etherparse_ipv4_default(void);
 
-/* The fields of a header without options for a payload of this length in bytes. All else is as in the default, so the checksum
- * is 0: etherparse_ipv4_header_checksum gives the right one.
+/* The fields of a header without options for a payload of this length in bytes. All else is as
+ * in the default, so the checksum is 0: etherparse_ipv4_header_checksum gives the right one.
  *
- * The error is VALUE_TOO_BIG where the payload is longer than 65515 bytes. Neither pointer is null. */
-struct etherparse_ipv4_new_answer etherparse_ipv4_new(uint16_t payload_len, uint8_t time_to_live, uint8_t protocol,
-    const uint8_t source[4], const uint8_t destination[4]);
+ * The error is VALUE_TOO_BIG where the payload is longer than 65515 bytes. Neither pointer is
+ * null. */
+struct etherparse_ipv4_new_answer etherparse_ipv4_new(uint16_t payload_len, uint8_t time_to_live,
+    uint8_t protocol, const uint8_t source[4], const uint8_t destination[4]);
 
-/* The lengths of a header with this total length and so many bytes of options: those of a view have options_len =
- * rest.offset - 20.
+/* The lengths of a header with this total length and so many bytes of options: those of a view
+ * have options_len = rest.offset - 20.
  *
- * The error is BAD_OPTIONS_LEN where options cannot be of this length, and all else is 0 then; else a LEN where total_len is
- * below the length of the header, and payload_len is 0 then. */
-struct etherparse_ipv4_lengths_answer etherparse_ipv4_lengths(uint16_t total_len, uint8_t options_len);
+ * The error is BAD_OPTIONS_LEN where options cannot be of this length, and all else is 0 then;
+ * else a LEN where total_len is below the length of the header, and payload_len is 0 then. */
+struct etherparse_ipv4_lengths_answer etherparse_ipv4_lengths(uint16_t total_len,
+    uint8_t options_len);
 
-/* The checksum that a header of these fields should have, a number whose high byte the header has first. The stored
- * header_checksum, whatever it is, counts as 0, so that
+/* The checksum that a header of these fields should have, a number whose high byte the header
+ * has first. The stored header_checksum, whatever it is, counts as 0, so that
  *
  *     fields.header_checksum = etherparse_ipv4_header_checksum(&fields).checksum;
  *
  * makes it right. The pointer is not null, and each bool is 0 or 1. */
-struct etherparse_ipv4_header_checksum_answer etherparse_ipv4_header_checksum(const struct etherparse_ipv4_fields *fields);
+struct etherparse_ipv4_header_checksum_answer etherparse_ipv4_header_checksum(
+    const struct etherparse_ipv4_fields *fields);
 
-/* Sets the time to live, updates the stored header_checksum for it by etherparse_update_2bytes, and returns true. Where a field
- * is out of its bounds it returns false and changes nothing. The pointer is not null, and each bool is 0 or 1.
+/* Sets the time to live, updates the stored header_checksum for it by etherparse_update_2bytes,
+ * and returns true. Where a field is out of its bounds it returns false and changes nothing. The
+ * pointer is not null, and each bool is 0 or 1.
  *
- * In a packet that begins with the header of the fields, time_to_live is byte 8, and header_checksum bytes 10 and 11, the high
- * byte first. Write these three there, and the packet begins with the new header. */
+ * In a packet that begins with the header of the fields, time_to_live is byte 8, and
+ * header_checksum bytes 10 and 11, the high byte first. Write these three there, and the packet
+ * begins with the new header. */
 bool etherparse_ipv4_set_time_to_live(struct etherparse_ipv4_fields *fields, uint8_t time_to_live);
 
 /* IPv6 headers (RFC 8200 sections 3 and 4). */
@@ -285,7 +318,8 @@ struct etherparse_ipv6_fields {
     uint32_t flow_label; /* at most 1048575 */
     uint16_t payload_length; /* of all that follows the header, in bytes */
     uint8_t traffic_class; /* four times the DSCP, and the ECN */
-    uint8_t next_header; /* the number of what follows: an extension header or an upper-layer protocol */
+    /* the number of what follows: an extension header or an upper-layer protocol */
+    uint8_t next_header;
     uint8_t hop_limit;
 };
 
@@ -296,13 +330,15 @@ struct etherparse_ipv6_view_fields {
     uint32_t flow_label; /* at most 1048575 */
     uint16_t payload_length; /* of all that follows the header, in bytes */
     uint8_t traffic_class;
-    uint8_t dscp; /* the differentiated services code point: the upper 6 bits of the traffic class */
+    /* the differentiated services code point: the upper 6 bits of the traffic class */
+    uint8_t dscp;
     uint8_t ecn; /* the explicit congestion notification: its lower 2 bits */
     uint8_t next_header;
     uint8_t hop_limit;
 };
 
-/* The header at the front of a slice. Where error.kind is not ETHERPARSE_OK, there is no header and all else is 0. */
+/* The header at the front of a slice. Where error.kind is not ETHERPARSE_OK, there is no header
+ * and all else is 0. */
 struct etherparse_ipv6_view_answer {
     struct etherparse_ipv6_view_fields view;
     struct etherparse_error error;
@@ -321,45 +357,58 @@ struct etherparse_ipv6_bytes {
     uint8_t len; /* 40, or 0 */
 };
 
-/* Where a walk past extension headers, or past one of them, ended. Where error.kind is not ETHERPARSE_OK, all else is 0. */
+/* Where a walk past extension headers, or past one of them, ended. Where error.kind is not
+ * ETHERPARSE_OK, all else is 0. */
 struct etherparse_ipv6_walk_answer {
-    uint8_t next_header; /* the number of what follows them; of a whole walk the first of no header that can be skipped */
+    /* the number of what follows them; of a whole walk the first of no header that can be
+     * skipped */
+    uint8_t next_header;
     struct etherparse_error error;
     struct etherparse_rest rest; /* the bytes after all extension headers */
 };
 
-/* The header at the front of a slice, and where the bytes after it are, however many payload_length tells of.
+/* The header at the front of a slice, and where the bytes after it are, however many
+ * payload_length tells of.
  *
- * The error is a LEN where the slice has fewer than 40 bytes; else UNEXPECTED_VERSION where the version is not 6. */
+ * The error is a LEN where the slice has fewer than 40 bytes; else UNEXPECTED_VERSION where the
+ * version is not 6. */
 struct etherparse_ipv6_view_answer etherparse_ipv6_view(const uint8_t *at, size_t len);
 struct etherparse_ipv6_read_answer etherparse_ipv6_read(const uint8_t *at, size_t len);
 
-/* The fields of a header with no field given, as the Rust crate has them: next_header is 255, which is reserved, and all else is
- * 0. */
+/* The fields of a header with no field given, as the Rust crate has them: next_header is 255,
+ * which is reserved, and all else is 0. */
 struct etherparse_ipv6_fields etherparse_ipv6_default(void);
 
-/* The bytes of the header of these fields. The len of the answer is 0 where the flow label is above 1048575. The pointer is not
- * null. */
+/* The bytes of the header of these fields. The len of the answer is 0 where the flow label is
+ * above 1048575. The pointer is not null. */
 struct etherparse_ipv6_bytes etherparse_ipv6_write(const struct etherparse_ipv6_fields *fields);
 
-/* Skips the extension header of this number at the front of a slice: next_header is then the number of what follows it. With a
- * number of no header that can be skipped the answer is that number, and the rest is the whole slice. So a program that looks
- * at each header of a chain, as at the offset in a fragment header (44), goes from one to the next.
+/* Skips the extension header of this number at the front of a slice: next_header is then the
+ * number of what follows it. With a number of no header that can be skipped the answer is that
+ * number, and the rest is the whole slice. So a program that looks at each header of a chain, as
+ * at the offset in a fragment header (44), goes from one to the next.
  *
- * The error is a LEN where the slice is shorter than the header says. Where it has fewer than 2 bytes, 2 are required. */
-struct etherparse_ipv6_walk_answer etherparse_ipv6_skip(const uint8_t *at, size_t len, uint8_t next_header);
+ * The error is a LEN where the slice is shorter than the header says. Where it has fewer than 2
+ * bytes, 2 are required. */
+struct etherparse_ipv6_walk_answer etherparse_ipv6_skip(const uint8_t *at, size_t len,
+    uint8_t next_header);
 
-/* Skips all extension headers at the front of a slice, of which the first has this number: 0, 43, 44, 51, 60, 135, 139 and 140
- * can be skipped. With any other number there is none, and the rest is the whole slice. Those of a packet are at the front of
- * the rest after its header, and the first has the next_header of that; offsets then count from the front of that rest. A
- * fragment header is skipped whatever its offset: behind one of an offset above 0 come bytes from the middle of a payload.
+/* Skips all extension headers at the front of a slice, of which the first has this number: 0,
+ * 43, 44, 51, 60, 135, 139 and 140 can be skipped. With any other number there is none, and the
+ * rest is the whole slice. Those of a packet are at the front of the rest after its header, and
+ * the first has the next_header of that; offsets then count from the front of that rest. A
+ * fragment header is skipped whatever its offset: behind one of an offset above 0 come bytes
+ * from the middle of a payload.
  *
- * The error is a LEN, of the first header that is incomplete. Where fewer than 2 bytes are left, 2 are required. */
-struct etherparse_ipv6_walk_answer etherparse_ipv6_walk(const uint8_t *at, size_t len, uint8_t next_header);
+ * The error is a LEN, of the first header that is incomplete. Where fewer than 2 bytes are left,
+ * 2 are required. */
+struct etherparse_ipv6_walk_answer etherparse_ipv6_walk(const uint8_t *at, size_t len,
+    uint8_t next_header);
 
-/* The same past at most so many headers. The error is TOO_MANY where as many were skipped and the number after them is that of
- * one more, however many bytes are left; else a LEN, as above. */
-struct etherparse_ipv6_walk_answer etherparse_ipv6_walk_up_to(const uint8_t *at, size_t len, uint8_t next_header, size_t limit);
+/* The same past at most so many headers. The error is TOO_MANY where as many were skipped and
+ * the number after them is that of one more, however many bytes are left; else a LEN, as above. */
+struct etherparse_ipv6_walk_answer etherparse_ipv6_walk_up_to(const uint8_t *at, size_t len,
+    uint8_t next_header, size_t limit);
 
 /* The layout, as the library has it. */
 #ifdef ETHERPARSE_STATIC_ASSERT
