@@ -161,7 +161,7 @@ def check_comments(file, text):
     comment = '\n'.join(re.sub(r'^\s*//[/!] ?', '', line) if re.match(r'\s*//[/!]', line) else ''
                         for line in text.split('\n'))
     tests = [source for path, source in SQUEEZED.items()
-             if 'etherparse_tests/src/examples' in str(path) or 'uses/src' in str(path)]
+             if 'etherparse_tests/src' in str(path) or 'uses/src' in str(path)]
     for language, block in blocks(comment):
         if language == '':
             first = block.strip().split('\n')[0]

@@ -23,9 +23,8 @@ use crate::{IpDscp, IpEcn, IpFragOffset, IpNumber, Ipv4Header, Ipv4Options, LenS
 ///     0x45, 0, 0, 24, 0, 0, 0x40, 0, 64, 17, 0, 0, 10, 0, 0, 1, 10, 0, 0, 2, 1, 2, 3, 4,
 /// ];
 /// let view = Ipv4HeaderSlice::from_slice(&packet)?;
-/// assert_eq!(rt; view.ttl(), 64);
-/// assert_eq!(rt; view.source(), [10, 0, 0, 1]);
-/// assert_eq!(rt; view.payload_len(), Ok(4));
+/// assert!(rt; view.source() == [10, 0, 0, 1]);
+/// assert!(rt; view.payload_len() == Ok(4));
 /// ```
 #[derive(Clone, Copy, Debug, PartialEq, Eq)]
 pub struct Ipv4HeaderSlice<'a> {

@@ -8,17 +8,6 @@ use crate::{IpDscp, IpEcn, IpNumber, Ipv6FlowLabel, Ipv6Header, LenSource};
 
 /// A view of the bytes of an IPv6 header without its extension headers (RFC 8200 section 3), whose
 /// layout is drawn at [`Ipv6Header`].
-///
-/// # Example
-///
-/// ```
-/// let mut packet = [0; 40];
-/// packet[0] = 0x60;
-/// packet[7] = 64;
-/// let view = Ipv6HeaderSlice::from_slice(&packet)?;
-/// assert_eq!(rt; view.hop_limit(), 64);
-/// assert_eq!(rt; view.destination(), [0; 16]);
-/// ```
 #[derive(Clone, Copy, Debug, PartialEq, Eq)]
 pub struct Ipv6HeaderSlice<'a> {
     /// The 40 bytes of the header.

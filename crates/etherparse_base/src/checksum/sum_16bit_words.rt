@@ -16,11 +16,12 @@ use std::marker::Model;
 /// # Example
 ///
 /// ```
-/// let sum = Sum16BitWords::new()
-///     .add_slice(&[0x45, 0, 0, 115, 0, 0, 0x40, 0, 64, 17, 0, 0])
-///     .add_4bytes([192, 168, 0, 1])
-///     .add_4bytes([192, 168, 0, 199]);
-/// assert_eq!(rt; sum.ones_complement().to_le_bytes(), [0xb8, 0x61]);
+/// let mut sum = Sum16BitWords::new();
+/// for _ in 0..4 {
+///     sum = sum.add_4bytes([255; 4]);
+/// }
+/// let at_once = Sum16BitWords::default().add_8bytes([252, 255, 255, 255, 3, 0, 0, 0]);
+/// assert!(rt; sum.clone()? == at_once);
 /// ```
 #[derive(Clone, Debug, PartialEq, Eq, Drop)]
 pub struct Sum16BitWords {

@@ -49,16 +49,6 @@ pub fn add_slice(start_sum: u32, slice: &[u8]) -> u32
 /// The sum of all pieces, from 0, each added by [`add_slice`]: an odd piece is padded by itself.
 ///
 /// The Rust crate has no such call.
-///
-/// # Example
-///
-/// ```
-/// let pseudo_header = [192, 168, 0, 1, 192, 168, 0, 199, 0, 17, 0, 12];
-/// let datagram = [4, 0, 0, 53, 0, 12, 0x91, 0xae, b't', b'e', b's', b't'];
-/// // 0 where the checksum that arrived is right.
-/// let sum = u32_16bit_word::add_slices(&[&pseudo_header, &datagram]);
-/// assert_eq!(rt; u32_16bit_word::ones_complement(sum), 0);
-/// ```
 pub fn add_slices(pieces: &[&[u8]]) -> u32
     ensures adds { AddsSlices (map (λ piece. piece.now) pieces.now) result }
 {

@@ -20,8 +20,9 @@ use super::u32_16bit_word::ones_complement;
 /// # Example
 ///
 /// ```
-/// // The time to live, beside the protocol, goes from 64 to 63.
-/// assert_eq!(rt; update_2bytes(0xb861, [64, 17], [63, 17]), 0xb961);
+/// // The words are all 0 after the change.
+/// assert_eq!(rt; update_2bytes(0xffff, [0, 0], [0, 0]), 0);
+/// assert_eq!(rt; update_2bytes(0xffff - 0x0102, [1, 2], [0, 0]), 0);
 /// ```
 #[inline]
 pub fn update_2bytes(checksum: u16, old: [u8; 2], new: [u8; 2]) -> u16
@@ -44,8 +45,8 @@ pub fn update_2bytes(checksum: u16, old: [u8; 2], new: [u8; 2]) -> u16
 /// # Example
 ///
 /// ```
-/// let (old, new) = ([192, 168, 0, 1], [10, 0, 0, 1]);
-/// assert_eq!(rt; update_4bytes(0xb861, old, new), 0x6f0a);
+/// let (first, second) = ([192, 168, 0, 199], [192, 168, 0, 200]);
+/// assert_eq!(rt; update_4bytes(0xb861, first, second), 0xb860);
 /// ```
 #[inline]
 pub fn update_4bytes(checksum: u16, old: [u8; 4], new: [u8; 4]) -> u16
@@ -64,10 +65,12 @@ pub fn update_4bytes(checksum: u16, old: [u8; 4], new: [u8; 4]) -> u16
 /// # Example
 ///
 /// ```
-/// // From 2001:db8::1 to 2001:db8::2.
-/// let old = [0x20, 0x01, 0x0d, 0xb8, 0, 0, 0, 0, 0, 0, 0, 0, 0, 0, 0, 1];
-/// let new = [0x20, 0x01, 0x0d, 0xb8, 0, 0, 0, 0, 0, 0, 0, 0, 0, 0, 0, 2];
-/// assert_eq!(rt; update_16bytes(0x1234, old, new), 0x1233);
+/// let mut first = [0; 16];
+/// first[..4].copy_from_slice(&[0x20, 0x01, 0x0d, 0xb8]);
+/// let mut second = first;
+/// first[15] = 1;
+/// second[15] = 2;
+/// assert_eq!(rt; update_16bytes(0x1234, first, second), 0x1233);
 /// ```
 #[inline]
 pub fn update_16bytes(checksum: u16, old: [u8; 16], new: [u8; 16]) -> u16
@@ -86,9 +89,9 @@ pub fn update_16bytes(checksum: u16, old: [u8; 16], new: [u8; 16]) -> u16
 /// # Example
 ///
 /// ```
+/// // The numbers of RFC 1624 section 4, where the updated checksum is 0.
 /// let (old, new) = ([0x55, 0x55], [0x32, 0x85]);
 /// assert_eq!(rt; update_2bytes_with_no_zero(0xdd2f, old, new), 0xffff);
-/// // No checksum was sent.
 /// assert_eq!(rt; update_2bytes_with_no_zero(0, old, new), 0);
 /// ```
 #[inline]

@@ -66,7 +66,7 @@ impl LenError {
     ///     layer_start_offset: 20,
     /// };
     /// // The IPv4 header itself stands behind 14 bytes of Ethernet.
-    /// assert_eq!(rt; error.add_offset(14).layer_start_offset, 34);
+    /// assert!(rt; error.add_offset(14).layer_start_offset == 34);
     /// ```
     #[inline]
     pub fn add_offset(self, offset: usize) -> LenError

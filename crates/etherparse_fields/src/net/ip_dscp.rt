@@ -117,11 +117,8 @@ impl IpDscp {
     ///
     /// ```
     /// let dscp = IpDscp::try_new(46)?;
-    /// assert_eq!(rt; dscp, IpDscp::EF);
-    /// assert_eq!(rt; dscp.value(), 46);
-    /// if let Err(refusal) = IpDscp::try_new(64) {
-    ///     assert_eq!(rt; (refusal.actual, refusal.max_allowed), (64, 63));
-    /// }
+    /// assert!(rt; dscp == IpDscp::EF);
+    /// assert!(rt; IpDscp::try_new(64).is_err());
     /// ```
     #[inline]
     pub const fn try_new(value: u8) -> Result<IpDscp, ValueTooBigError<u8>>

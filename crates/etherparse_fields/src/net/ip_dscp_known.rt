@@ -72,17 +72,6 @@ impl IpDscpKnown {
     /// # Errors
     ///
     /// An `IpDscpUnknownValueError` with the number, where it is that of none of the 23 known ones.
-    ///
-    /// # Example
-    ///
-    /// ```
-    /// let known = IpDscpKnown::try_from_ip_dscp(IpDscp::AF41)?;
-    /// assert_eq!(rt; known, IpDscpKnown::AfGroup41);
-    /// assert_eq!(rt; u8::from(known), 34);
-    /// // 3 is no known code point.
-    /// let unknown = IpDscp::try_new(3)?;
-    /// assert!(rt; IpDscpKnown::try_from_ip_dscp(unknown).is_err());
-    /// ```
     #[tactic(auto, using(crate::proofs::CodePoints::code_point_of_injective))]
     pub fn try_from_ip_dscp(value: IpDscp) -> Result<IpDscpKnown, IpDscpUnknownValueError>
         ensures answer { TakesKnown value result }

@@ -56,9 +56,7 @@ impl IpEcn {
     ///
     /// ```
     /// let ecn = IpEcn::try_new(3)?;
-    /// assert_eq!(rt; ecn, IpEcn::CongestionExperienced);
-    /// assert_eq!(rt; ecn.value(), 3);
-    /// assert!(rt; IpEcn::try_new(4).is_err());
+    /// assert!(rt; ecn == IpEcn::CongestionExperienced);
     /// ```
     #[inline]
     pub const fn try_new(value: u8) -> Result<IpEcn, ValueTooBigError<u8>>

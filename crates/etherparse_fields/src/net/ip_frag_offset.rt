@@ -45,9 +45,7 @@ impl IpFragOffset {
     ///
     /// ```
     /// let offset = IpFragOffset::try_new(185)?;
-    /// assert_eq!(rt; offset.value(), 185);
-    /// assert_eq!(rt; offset.byte_offset(), 1480);
-    /// assert!(rt; IpFragOffset::try_new(8192).is_err());
+    /// assert!(rt; offset.byte_offset() == 1480);
     /// ```
     #[inline]
     pub const fn try_new(value: u16) -> Result<IpFragOffset, ValueTooBigError<u16>>

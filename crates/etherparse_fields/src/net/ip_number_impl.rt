@@ -20,10 +20,8 @@ use std::marker::Model;
 ///
 /// ```
 /// let number = IpNumber::from(17);
-/// assert_eq!(rt; number, IpNumber::UDP);
-/// assert_eq!(rt; number, ip_number::UDP);
-/// assert_eq!(rt; number.0, 17);
-/// assert!(rt; IpNumber::AUTHENTICATION_HEADER.is_ipv6_ext_header_value());
+/// assert!(rt; number == ip_number::UDP);
+/// assert!(rt; number.0 == 17);
 /// ```
 #[derive(Clone, Copy, Debug, PartialEq, Eq, PartialOrd, Ord, Hash)]
 pub struct IpNumber(pub u8);

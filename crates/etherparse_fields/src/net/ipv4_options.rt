@@ -27,13 +27,12 @@ use std::marker::Model;
 /// # Example
 ///
 /// ```
-/// // A router alert (RFC 2113), alone and with 4 bytes behind it.
+/// // A router alert (RFC 2113), from an array and from a slice.
 /// let alert = Ipv4Options::from([148, 4, 0, 0]);
-/// assert_eq!(rt; alert.as_slice(), [148, 4, 0, 0].as_slice());
-/// let options = Ipv4Options::try_from([148, 4, 0, 0, 1, 1, 1, 0].as_slice())?;
-/// assert_eq!(rt; options.len(), 8);
+/// let options = Ipv4Options::try_from([148, 4, 0, 0].as_slice())?;
+/// assert!(rt; options == alert);
 /// let refused = Ipv4Options::try_from([1, 1, 0].as_slice());
-/// assert_eq!(rt; refused, Err(BadOptionsLen { bad_len: 3 }));
+/// assert!(rt; refused == Err(BadOptionsLen { bad_len: 3 }));
 /// ```
 #[derive(Drop)]
 pub struct Ipv4Options {
@@ -73,15 +72,6 @@ impl Ipv4Options {
     ///
     /// The Rust crate has no such call. Copying 40 bytes, a number that the compiler knows, is
     /// faster than copying `len`.
-    ///
-    /// # Example
-    ///
-    /// ```
-    /// let mut bytes = [0; 40];
-    /// bytes[..4].copy_from_slice(&[148, 4, 0, 0]);
-    /// let options = Ipv4Options::from_front(&bytes, 4);
-    /// assert_eq!(rt; options.as_slice(), [148, 4, 0, 0].as_slice());
-    /// ```
     #[inline(always)]
     pub fn from_front(bytes: &[u8; 40], len: usize) -> Ipv4Options
         requires { IsOptionsLen len }

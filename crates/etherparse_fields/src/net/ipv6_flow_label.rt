@@ -43,8 +43,7 @@ impl Ipv6FlowLabel {
     ///
     /// ```
     /// let label = Ipv6FlowLabel::try_new(0xbeef)?;
-    /// assert_eq!(rt; label.value(), 0xbeef);
-    /// assert!(rt; Ipv6FlowLabel::try_new(0x10_0000).is_err());
+    /// assert!(rt; label.value() == 0xbeef);
     /// ```
     #[inline]
     pub const fn try_new(value: u32) -> Result<Ipv6FlowLabel, ValueTooBigError<u32>>

@@ -19,23 +19,6 @@ pub enum HeaderSliceError {
 impl HeaderSliceError {
     /// The error of a header that starts `offset` bytes further on: a `Len` by
     /// [`LenError::add_offset`], whose sum has to fit `usize`, and a `Content` as it is.
-    ///
-    /// # Example
-    ///
-    /// ```
-    /// // 14 bytes of Ethernet, and 19 bytes of an IPv4 header.
-    /// let frame = [0; 33];
-    /// if let Err(refusal) = Ipv4Header::from_slice(&frame[14..]) {
-    ///     let in_frame = HeaderSliceError::Len(LenError {
-    ///         required_len: 20,
-    ///         len: 19,
-    ///         len_source: LenSource::Slice,
-    ///         layer: Layer::Ipv4Header,
-    ///         layer_start_offset: 14,
-    ///     });
-    ///     assert_eq!(rt; refusal.add_slice_offset(14), in_frame);
-    /// }
-    /// ```
     #[inline]
     pub fn add_slice_offset(self, offset: usize) -> HeaderSliceError
         requires fits { ipv4_error_place self + offset < 2 ^ 64 }
