@@ -1,3 +1,4 @@
+pub mod Address
 pub mod Capture
 pub mod Echo
 pub mod Filter

@@ -2,6 +2,7 @@
 //! wants to know, proved from the public contracts of the library.
 #![tactic(auto)]
 
+pub mod address;
 pub mod capture;
 pub mod checksum;
 pub mod compare;
