@@ -1,0 +1,5 @@
+mod Fronts
+mod Led
+mod Skipped
+mod Runs
+mod Written

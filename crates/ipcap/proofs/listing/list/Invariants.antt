@@ -1,0 +1,13 @@
+use Rattle.std.specs.Io.KnownBytes.{append_known, prepend_known}
+use Rattle.ipcap.specs.Progress.{TellsKnown}
+use Rattle.ipcap.specs.Totals.{nothing_counted}
+use Rattle.ipcap.specs.Window.{unread}
+use Rattle.ipcap.specs.declared.listing.Turn.TheVariants.{GoesOn}
+use Rattle.ipcap.proofs.listing.list.Given as goal
+
+abbrev pub invariant-turns : goal.invariant-turns
+invariant-turns g l =
+    let contents = g.W.Write.contents in
+    let remaining = g.R.Read.remaining in
+    TellsKnown l.header l.is_quiet nothing_counted (prepend_known (unread l.fn.window) (remaining l.fn.reader)) l.totals (prepend_known (unread l.window) (remaining l.reader)) GoesOn
+    (append_known (contents l.fn.writer) l.fn.text.items) (append_known (contents l.writer) l.text.items)

@@ -1,0 +1,13 @@
+use Rattle.std.proofs.Common.{◌-◌, ◌≤◌, None}
+use Rattle.std.specs.Io.KnownBytes.{prepend_known}
+use Rattle.ipcap.specs.Progress.{Skips}
+use Rattle.ipcap.specs.Window.{unread}
+use Rattle.ipcap.proofs.listing.skip.Given as goal
+
+abbrev pub invariant-turns : goal.invariant-turns
+invariant-turns g l =
+    let remaining = g.R.Read.remaining in
+    record {
+      within : l.left ≤ l.len;
+      passed : Skips (prepend_known (unread l.fn.window) (remaining l.fn.reader)) (l.len - l.left) None (prepend_known (unread l.window) (remaining l.reader));
+    }

@@ -1,0 +1,142 @@
+-- The line of a record, and the lines at the end.
+use Rattle.std.specs.Prelude.{ℕ, ◌-◌, ◌/◌, ◌==◌, Bool, List, [], ◌++◌, length, codes, decimal}
+use Rattle.std.specs.Prelude.{replicate, nat_lt, if◌then◌else◌, Option, Some, None, Result, Ok, Err}
+use Rattle.std.specs.Net.Addr.{segments_of}
+use Rattle.std.specs.Net.Text.{ipv4_text, ipv6_text}
+use Rattle.etherparse.specs.Ipv4Errors.{ipv4_header_slice_error_text}
+use Rattle.etherparse.specs.Ipv6Errors.{ipv6_header_slice_error_text}
+use Rattle.etherparse.specs.LenError.{len_error_text}
+use Rattle.etherparse.specs.Reading.{too_short_error}
+use Rattle.etherparse.specs.declared.err.Layer.TheVariants as layer
+use Rattle.uses.specs.Capture.{Recorded}
+use Rattle.uses.specs.declared.capture.CaptureError.{CaptureError}
+use Rattle.uses.specs.declared.capture.CaptureError.TheVariants as capture
+use Rattle.uses.specs.declared.capture.CutOff as cut
+use Rattle.uses.specs.declared.capture.Resolution.{Resolution}
+use Rattle.uses.specs.declared.capture.Resolution.TheVariants.{Microseconds, Nanoseconds}
+use Rattle.uses.specs.declared.ip_slice.IpSliceError.{IpSliceError}
+use Rattle.uses.specs.declared.ip_slice.IpSliceError.TheVariants as error
+use Rattle.ipcap.specs.declared.packet.Address.{Address}
+use Rattle.ipcap.specs.declared.packet.Address.TheVariants.{V4, V6}
+use Rattle.ipcap.specs.declared.packet.Shown.{Shown}
+use Rattle.ipcap.specs.declared.totals.Totals.{Totals}
+
+-- zeros up to so many digits, and the number in decimal
+abbrev pub zero_padded : ℕ → ℕ → List ℕ
+zero_padded width n = replicate (width - length (decimal n)) 48 ++ decimal n
+
+-- a fraction of a second, in the digits of the unit that the file counts
+abbrev pub fraction_text : Resolution → ℕ → List ℕ
+fraction_text Microseconds nanoseconds = zero_padded 6 (nanoseconds / 1000)
+fraction_text Nanoseconds nanoseconds = zero_padded 9 nanoseconds
+
+-- the number of a record and its time
+unfoldable pub head_text : ℕ → ℕ → ℕ → Resolution → List ℕ
+head_text number seconds nanoseconds resolution =
+    decimal number ++ (codes " " ++ (decimal seconds ++ (codes "."
+    ++ (fraction_text resolution nanoseconds ++ codes " "))))
+
+-- an address: dotted decimals, or as RFC 5952 says
+abbrev pub address_text : Address → List ℕ
+address_text (V4 octets) = ipv4_text octets
+address_text (V6 octets) = ipv6_text (segments_of octets)
+
+-- the keyword of a protocol's number (IANA's registry of protocol numbers)
+unfoldable pub keyword_of : ℕ → Option (List ℕ)
+keyword_of number =
+    if number == 1 then Some (codes "ICMP")
+    else if number == 2 then Some (codes "IGMP")
+    else if number == 6 then Some (codes "TCP")
+    else if number == 17 then Some (codes "UDP")
+    else if number == 58 then Some (codes "IPv6-ICMP")
+    else None
+
+-- a protocol by its keyword, or by its number where it has none
+abbrev pub upper_text_by : Option (List ℕ) → ℕ → List ℕ
+upper_text_by None number = decimal number
+upper_text_by (Some keyword) number = keyword
+
+abbrev pub upper_text : ℕ → List ℕ
+upper_text number = upper_text_by (keyword_of number) number
+
+-- what is shown of a packet
+unfoldable pub shown_text : Shown → List ℕ
+shown_text shown = address_text shown.source ++ (codes " > "
+    ++ (address_text shown.destination ++ (codes " " ++ (upper_text shown.upper
+    ++ (codes " length " ++ (decimal shown.len ++ (codes " hops " ++ decimal shown.hops)))))))
+
+-- why a packet is refused: the text of the error
+abbrev pub ip_slice_error_text : IpSliceError → List ℕ
+ip_slice_error_text error.Empty = len_error_text (too_short_error layer.IpHeader 1 0)
+ip_slice_error_text (error.UnexpectedVersion version) =
+    codes "IP Header Error: Version " ++ (decimal version ++ codes " is neither 4 nor 6.")
+ip_slice_error_text (error.Ipv4Header e) = ipv4_header_slice_error_text e
+ip_slice_error_text (error.Ipv6Header e) = ipv6_header_slice_error_text e
+ip_slice_error_text (error.Packet e) = len_error_text e
+ip_slice_error_text (error.Extensions e) = len_error_text e
+
+-- what is said of a packet: what is shown of it, or why it is refused
+unfoldable pub reading_text : Result Shown IpSliceError → List ℕ
+reading_text (Ok shown) = shown_text shown
+reading_text (Err e) = codes "error: " ++ ip_slice_error_text e
+
+-- fewer bytes were captured than the packet had
+abbrev pub is_cut : Recorded → Bool
+is_cut found = nat_lt (length found.bytes) found.original_len
+
+-- how many bytes were captured, and of how many, where not all were
+unfoldable pub cut_text : ℕ → ℕ → List ℕ
+cut_text captured_len original_len =
+    if nat_lt captured_len original_len
+    then codes " cut " ++ (decimal captured_len ++ (codes "/" ++ decimal original_len))
+    else []
+
+-- the line of a record that is read
+abbrev pub record_line : Resolution → ℕ → Recorded → Result Shown IpSliceError → List ℕ
+record_line resolution number found reading =
+    head_text number found.seconds found.nanoseconds resolution ++ (reading_text reading
+    ++ (cut_text (length found.bytes) found.original_len ++ codes "\n"))
+
+-- what is said of a record that is longer than the room
+unfoldable pub skipped_text : ℕ → List ℕ
+skipped_text captured_len =
+    codes "skipped: " ++ (decimal captured_len ++ codes " bytes are too many\n")
+
+-- the line of a record that is skipped
+abbrev pub skipped_line : Resolution → ℕ → ℕ → ℕ → ℕ → List ℕ
+skipped_line resolution number seconds nanoseconds captured_len =
+    head_text number seconds nanoseconds resolution ++ skipped_text captured_len
+
+-- the line on a last record that is not whole
+unfoldable pub cut_off_line : cut.CutOff → List ℕ
+cut_off_line e =
+    codes "error: the last record is cut off: it needs " ++ (decimal e.required_len
+    ++ (codes " bytes, and there are " ++ (decimal e.len ++ codes "\n")))
+
+-- the line on how the capture ends, which is none where its last record is whole
+abbrev pub end_text : Option cut.CutOff → List ℕ
+end_text None = []
+end_text (Some e) = cut_off_line e
+
+-- the closing line
+unfoldable pub closing_line : Totals → List ℕ
+closing_line totals =
+    decimal totals.records ++ (codes " packets: " ++ (decimal totals.ipv4
+    ++ (codes " IPv4, " ++ (decimal totals.ipv6 ++ (codes " IPv6, " ++ (decimal totals.refused
+    ++ (codes " refused, " ++ (decimal totals.skipped ++ (codes " skipped, "
+    ++ (decimal totals.cut ++ codes " cut\n"))))))))))
+
+-- why an input is no capture
+unfoldable pub capture_error_line : CaptureError → List ℕ
+capture_error_line (capture.CutOff e) =
+    codes "error: no capture: " ++ (decimal e.len ++ codes " bytes are no file header\n")
+capture_error_line (capture.Magic magic) =
+    codes "error: no capture: the magic number is " ++ (decimal magic ++ codes "\n")
+capture_error_line (capture.Version major minor) =
+    codes "error: no capture: the version is " ++ (decimal major ++ (codes "."
+    ++ (decimal minor ++ codes "\n")))
+
+-- the line on a capture of packets that are not read
+unfoldable pub link_type_line : ℕ → List ℕ
+link_type_line link_type =
+    codes "error: link type " ++ (decimal link_type ++ codes " is not read\n")

@@ -1,0 +1,99 @@
+-- What is listed of the records of a capture, in their order.
+use Rattle.std.specs.Prelude.{ℕ, ◌≡◌, ◌+◌, ◌*◌, ◌<◌, ◌≤◌, Bool, true, false, is_err, nat_lt, List, [], ◌++◌}
+use Rattle.std.specs.Prelude.{length, drop, slice_range, Option, Some, None, Result, Ok, Err}
+use Rattle.std.specs.Int.{w32}
+use Rattle.uses.specs.Capture.{BeginsWithRecord, Recorded, ReadsRecord, nanoseconds_in, number_in}
+use Rattle.uses.specs.Capture.{record_len}
+use Rattle.uses.specs.IpSlice.{RefusesIp}
+use Rattle.uses.specs.declared.capture.CutOff as cut
+use Rattle.uses.specs.declared.capture.FileHeader.{FileHeader}
+use Rattle.uses.specs.declared.ip_slice.IpSliceError.{IpSliceError}
+use Rattle.ipcap.specs.Lines.{is_cut, record_line, skipped_line}
+use Rattle.ipcap.specs.Packet.{IsShown}
+use Rattle.ipcap.specs.Totals.{counted}
+use Rattle.ipcap.specs.declared.packet.Address.TheVariants.{V4, V6}
+use Rattle.ipcap.specs.declared.packet.Shown.{Shown}
+use Rattle.ipcap.specs.declared.totals.Outcome.{Outcome}
+use Rattle.ipcap.specs.declared.totals.Totals.{Totals}
+
+-- what is said of a packet is shown of it, or is why it is refused
+abbrev pub ReadsPacket : List ℕ → Result Shown IpSliceError → Type 0
+ReadsPacket packet (Ok shown) = IsShown packet shown
+ReadsPacket packet (Err e) = RefusesIp packet e
+
+-- whether it is shown as a packet of version 4, and of version 6
+abbrev pub is_version_4 : Result Shown IpSliceError → Bool
+is_version_4 (Ok shown) = elim shown.source [ V4 octets ↦ true | V6 octets ↦ false ]
+is_version_4 (Err e) = false
+
+abbrev pub is_version_6 : Result Shown IpSliceError → Bool
+is_version_6 (Ok shown) = elim shown.source [ V4 octets ↦ false | V6 octets ↦ true ]
+is_version_6 (Err e) = false
+
+-- what is counted of a record that is read
+abbrev pub outcome_of : Recorded → Result Shown IpSliceError → Outcome
+outcome_of found reading = record {
+  is_ipv4 = is_version_4 reading;
+  is_ipv6 = is_version_6 reading;
+  is_refused = is_err reading;
+  is_skipped = false;
+  is_cut = is_cut found;
+}
+
+-- what is counted of a record that is skipped
+abbrev pub skipped_outcome : Bool → Outcome
+skipped_outcome is_cut = record {
+  is_ipv4 = false;
+  is_ipv6 = false;
+  is_refused = false;
+  is_skipped = true;
+  is_cut = is_cut;
+}
+
+-- the greatest number of bytes of a record that are read
+abbrev pub max_captured_len : ℕ
+max_captured_len = 262144
+
+-- This is the line of a record after so many were counted, and what is counted with it.
+pub record IsToldOfRecord (header : FileHeader) (before : Totals) (found : Recorded)
+    (line : List ℕ) (after : Totals) : Type 0 where
+  pub reading : Result Shown IpSliceError
+  pub reads : ReadsPacket found.bytes reading
+  pub line_of : line ≡ record_line header.format.resolution (before.records + 1) found reading
+  pub counts : after ≡ counted (outcome_of found reading) before
+
+-- The data begins with the 16 bytes before a record that is longer than what is read, and this is
+-- its line.
+pub record IsToldOfLongRecord (header : FileHeader) (before : Totals) (s : List ℕ)
+    (line : List ℕ) (after : Totals) : Type 0 where
+  pub enough : 16 ≤ length s
+  pub long : 16 + max_captured_len < record_len header s
+  pub line_of : line ≡ skipped_line header.format.resolution (before.records + 1)
+      (number_in header.format.order w32 (slice_range s 0 4))
+      (number_in header.format.order w32 (slice_range s 4 8)
+      * nanoseconds_in header.format.resolution)
+      (number_in header.format.order w32 (slice_range s 8 12))
+  pub counts : after ≡ counted (skipped_outcome
+      (nat_lt (number_in header.format.order w32 (slice_range s 8 12))
+      (number_in header.format.order w32 (slice_range s 12 16)))) before
+
+-- The text is the lines of the records that the data is, one after the other, each of which counts
+-- on: a record that is read; or one that is skipped, since it is too long. The last one can be cut
+-- off by the end of the data.
+pub data Lists (header : FileHeader) : Totals → List ℕ → List ℕ → Totals → Option cut.CutOff
+    → Type 0 where
+  ends : {totals : Totals} → Lists header totals [] [] totals None
+  reads : {before after last : Totals} {s rest line text : List ℕ} {found : Recorded}
+      {end : Option cut.CutOff} → BeginsWithRecord header s found rest
+      → length found.bytes ≤ max_captured_len → IsToldOfRecord header before found line after
+      → Lists header after rest text last end → Lists header before s (line ++ text) last end
+  skips : {before after last : Totals} {s line text : List ℕ} {end : Option cut.CutOff}
+      → IsToldOfLongRecord header before s line after → record_len header s ≤ length s
+      → Lists header after (drop (record_len header s) s) text last end
+      → Lists header before s (line ++ text) last end
+  is_cut_off : {totals : Totals} {s : List ℕ} {e : cut.CutOff}
+      → ReadsRecord header s (Err e) → e.required_len ≤ 16 + max_captured_len
+      → Lists header totals s [] totals (Some e)
+  is_cut_off_long : {before after : Totals} {s line : List ℕ} {e : cut.CutOff}
+      → IsToldOfLongRecord header before s line after → ReadsRecord header s (Err e)
+      → Lists header before s line after (Some e)

@@ -1,0 +1,63 @@
+-- How far a listing has come.
+use Rattle.std.specs.Prelude.{ℕ, ◌≡◌, ◌≤◌, ◌<◌, Bool, List, [], ◌++◌, length, drop, Option, Some, None, Err}
+use Rattle.std.specs.Prelude.{if◌then◌else◌}
+use Rattle.std.specs.Io.KnownBytes.{Appends}
+use Rattle.uses.specs.Capture.{ReadsRecord}
+use Rattle.uses.specs.declared.capture.CutOff as cut
+use Rattle.uses.specs.declared.capture.FileHeader.{FileHeader}
+use Rattle.ipcap.specs.Listing.{Lists}
+use Rattle.ipcap.specs.declared.listing.Turn.{Turn}
+use Rattle.ipcap.specs.declared.listing.Turn.TheVariants as turn
+use Rattle.ipcap.specs.declared.totals.Totals.{Totals}
+
+-- a quiet run writes no lines
+abbrev pub unless_quiet : Bool → List ℕ → List ℕ
+unless_quiet is_quiet text = if is_quiet then [] else text
+
+-- These lines stand before those of the rest, whatever they are.
+abbrev pub GoesOn : FileHeader → Totals → List ℕ → List ℕ → Totals → List ℕ → Type 0
+GoesOn header before s lines after rest = (text : List ℕ) (last : Totals) (end : Option cut.CutOff)
+    → Lists header after rest text last end → Lists header before s (lines ++ text) last end
+
+-- the lines lead to the rest, or are all
+abbrev pub Leads : FileHeader → Totals → List ℕ → List ℕ → Totals → List ℕ → Turn → Type 0
+Leads header before s lines after rest turn.GoesOn = GoesOn header before s lines after rest
+Leads header before s lines after rest (turn.Ends end) = Lists header before s lines after end
+
+-- some lines lead from what was left of the input to what is left now, and were written
+pub record Told (header : FileHeader) (is_quiet : Bool) (before : Totals) (s : List ℕ)
+    (after : Totals) (rest : List ℕ) (turn : Turn) (old new : Option (List ℕ)) : Type 0 where
+  pub lines : List ℕ
+  pub leads : Leads header before s lines after rest turn
+  pub written : Appends old new (unless_quiet is_quiet lines)
+
+-- the same where it is known what is left
+abbrev pub TellsKnown : FileHeader → Bool → Totals → Option (List ℕ) → Totals → Option (List ℕ)
+    → Turn → Option (List ℕ) → Option (List ℕ) → Type 0
+TellsKnown header is_quiet before None after rest turn old new = Unit {0}
+TellsKnown header is_quiet before (Some s) after None turn old new = ⊥
+TellsKnown header is_quiet before (Some s) after (Some rest) turn old new =
+    Told header is_quiet before s after rest turn old new
+
+-- what the records at the front of the data leave: nothing, or a record that is not whole
+abbrev pub Stops : FileHeader → List ℕ → Option cut.CutOff → Type 0
+Stops header rest None = rest ≡ []
+Stops header rest (Some e) = ReadsRecord header rest (Err e)
+
+-- The whole records at the front of the data are so many bytes, whatever follows the data.
+pub record TellsFront (header : FileHeader) (is_quiet : Bool) (before : Totals) (s : List ℕ)
+    (passed : ℕ) (after : Totals) (stop : Option cut.CutOff) (old new : Option (List ℕ))
+    : Type 0 where
+  pub within : passed ≤ length s
+  pub lines : List ℕ
+  pub leads : (more : List ℕ)
+      → GoesOn header before (s ++ more) lines after (drop passed s ++ more)
+  pub stops : Stops header (drop passed s) stop
+  pub written : Appends old new (unless_quiet is_quiet lines)
+
+-- what is left of known bytes once so many are passed; or how many there were, fewer than that
+abbrev pub Skips : Option (List ℕ) → ℕ → Option ℕ → Option (List ℕ) → Type 0
+Skips None len there after = Unit {0}
+Skips (Some s) len there None = ⊥
+Skips (Some s) len None (Some rest) = (len ≤ length s) × (rest ≡ drop len s)
+Skips (Some s) len (Some there) (Some rest) = (length s < len) × (there ≡ length s)

@@ -1,0 +1,20 @@
+-- What is counted of the records.
+use Rattle.std.specs.Prelude.{◌+◌}
+use Rattle.std.specs.Int.{from_bool}
+use Rattle.ipcap.specs.declared.totals.Outcome.{Outcome}
+use Rattle.ipcap.specs.declared.totals.Totals.{Totals}
+
+-- before any record
+abbrev pub nothing_counted : Totals
+nothing_counted = record { records = 0; ipv4 = 0; ipv6 = 0; refused = 0; skipped = 0; cut = 0 }
+
+-- with one record more
+abbrev pub counted : Outcome → Totals → Totals
+counted outcome totals = record {
+  records = totals.records + 1;
+  ipv4 = totals.ipv4 + from_bool outcome.is_ipv4;
+  ipv6 = totals.ipv6 + from_bool outcome.is_ipv6;
+  refused = totals.refused + from_bool outcome.is_refused;
+  skipped = totals.skipped + from_bool outcome.is_skipped;
+  cut = totals.cut + from_bool outcome.is_cut;
+}

@@ -1,0 +1,289 @@
+//! The line of a record, and the lines at the end.
+
+ghost use Rattle.std.specs.Prelude.{◌≡◌, Some, OnOk, MatchOption, length};
+ghost use Rattle.std.specs.Io.KnownBytes.{Appends};
+ghost use Rattle.uses.specs.Capture.{recorded};
+ghost use Rattle.ipcap.specs.Lines.{address_text, capture_error_line, closing_line, cut_off_line};
+ghost use Rattle.ipcap.specs.Lines.{cut_text, fraction_text, head_text, keyword_of};
+ghost use Rattle.ipcap.specs.Lines.{link_type_line, reading_text, record_line, shown_text};
+ghost use Rattle.ipcap.specs.Lines.{skipped_line, skipped_text, upper_text, ip_slice_error_text};
+
+use crate::packet::{Address, Shown};
+use crate::totals::Totals;
+use etherparse::LenSource;
+use etherparse::err::{Layer, LenError};
+use std::io::Write;
+use std::net::Ipv4Addr;
+use std::{fmt, io};
+use uses::address::Ipv6Text;
+use uses::capture::{CaptureError, CutOff, Record, Resolution};
+use uses::ip_slice::IpSliceError;
+
+impl fmt::Display for Address {
+    ghost output = { λ address. Some (address_text address) };
+
+    fn fmt<W: fmt::Write>(&self, f: &mut fmt::Formatter<W>) -> fmt::Result {
+        match self {
+            Address::V4(octets) => fmt::Display::fmt(&Ipv4Addr::from_octets(*octets), f),
+            Address::V6(octets) => fmt::Display::fmt(&Ipv6Text(*octets), f),
+        }
+    }
+}
+
+// A protocol as it is shown.
+#[derive(Clone, Copy, Debug)]
+struct Upper(u8);
+
+impl fmt::Display for Upper {
+    ghost output = { λ upper. Some (upper_text upper.0) };
+
+    fn fmt<W: fmt::Write>(&self, f: &mut fmt::Formatter<W>) -> fmt::Result {
+        match keyword(self.0) {
+            Some(keyword) => f.write(keyword),
+            None => f.write(self.0),
+        }
+    }
+}
+
+// The keyword of a protocol's number.
+#[tactic(auto, unfolding(crate::specs::Lines::keyword_of))]
+fn keyword(number: u8) -> Option<&'static str>
+    ensures { MatchOption result (keyword_of number ≡ None)
+        (λ keyword. keyword_of number ≡ Some keyword.now) }
+{
+    match number {
+        1 => Some("ICMP"),
+        2 => Some("IGMP"),
+        6 => Some("TCP"),
+        17 => Some("UDP"),
+        58 => Some("IPv6-ICMP"),
+        _ => None,
+    }
+}
+
+/// Writes the line of a record that is read.
+pub fn write_record<W: Write>(
+    writer: &mut W,
+    resolution: Resolution,
+    number: u64,
+    record: &Record,
+    reading: &Result<Shown, IpSliceError>,
+) -> io::Result<()>
+    ensures { OnOk result (Appends (W.contents writer.old) (W.contents writer.new)
+        (record_line resolution number (recorded record.now) reading.now)) }
+{
+    write_head(
+        writer,
+        resolution,
+        number,
+        record.seconds,
+        record.nanoseconds,
+    )?;
+    write_reading(writer, reading)?;
+    write_cut(writer, record.bytes.len(), record.original_len)?;
+    writer.write_all(b"\n")
+}
+
+/// Writes the line of a record that is skipped.
+pub fn write_skipped<W: Write>(
+    writer: &mut W,
+    resolution: Resolution,
+    number: u64,
+    seconds: u32,
+    nanoseconds: u64,
+    captured_len: usize,
+) -> io::Result<()>
+    ensures { OnOk result (Appends (W.contents writer.old) (W.contents writer.new)
+        (skipped_line resolution number seconds nanoseconds captured_len)) }
+{
+    write_head(writer, resolution, number, seconds, nanoseconds)?;
+    write_skipped_text(writer, captured_len)
+}
+
+// Writes why a record is skipped.
+#[tactic(auto, unfolding(crate::specs::Lines::skipped_text))]
+fn write_skipped_text<W: Write>(writer: &mut W, captured_len: usize) -> io::Result<()>
+    ensures { OnOk result (Appends (W.contents writer.old) (W.contents writer.new)
+        (skipped_text captured_len)) }
+{
+    write!(writer, "skipped: {captured_len} bytes are too many\n")
+}
+
+// Writes the number of a record and its time.
+#[tactic(auto, unfolding(crate::specs::Lines::head_text))]
+fn write_head<W: Write>(
+    writer: &mut W,
+    resolution: Resolution,
+    number: u64,
+    seconds: u32,
+    nanoseconds: u64,
+) -> io::Result<()>
+    ensures { OnOk result (Appends (W.contents writer.old) (W.contents writer.new)
+        (head_text number seconds nanoseconds resolution)) }
+{
+    let fraction = Fraction {
+        resolution,
+        nanoseconds,
+    };
+    write!(writer, "{number} {seconds}.{fraction} ")
+}
+
+// A fraction of a second.
+#[derive(Clone, Copy, Debug)]
+struct Fraction {
+    resolution: Resolution,
+    nanoseconds: u64,
+}
+
+impl fmt::Display for Fraction {
+    ghost output = { λ fraction. Some (fraction_text fraction.resolution fraction.nanoseconds) };
+
+    fn fmt<W: fmt::Write>(&self, f: &mut fmt::Formatter<W>) -> fmt::Result {
+        match self.resolution {
+            Resolution::Microseconds => {
+                let microseconds = self.nanoseconds / 1000;
+                write!(f, "{microseconds:06}")
+            }
+            Resolution::Nanoseconds => {
+                let nanoseconds = self.nanoseconds;
+                write!(f, "{nanoseconds:09}")
+            }
+        }
+    }
+}
+
+// Writes what is said of a packet.
+#[tactic(auto, unfolding(crate::specs::Lines::reading_text))]
+fn write_reading<W: Write>(writer: &mut W, reading: &Result<Shown, IpSliceError>) -> io::Result<()>
+    ensures { OnOk result (Appends (W.contents writer.old) (W.contents writer.new)
+        (reading_text reading.now)) }
+{
+    match reading {
+        Ok(shown) => write_shown(writer, shown),
+        Err(e) => {
+            let refusal = Refusal(e);
+            write!(writer, "error: {refusal}")
+        }
+    }
+}
+
+// Writes what is shown of a packet.
+#[tactic(auto, unfolding(crate::specs::Lines::shown_text))]
+fn write_shown<W: Write>(writer: &mut W, shown: &Shown) -> io::Result<()>
+    ensures { OnOk result (Appends (W.contents writer.old) (W.contents writer.new)
+        (shown_text shown.now)) }
+{
+    let (source, destination) = (shown.source, shown.destination);
+    let upper = Upper(shown.upper);
+    let (len, hops) = (shown.len, shown.hops);
+    write!(
+        writer,
+        "{source} > {destination} {upper} length {len} hops {hops}"
+    )
+}
+
+// Why a packet is refused.
+#[derive(Clone, Copy, Debug)]
+struct Refusal<'a>(&'a IpSliceError);
+
+impl fmt::Display for Refusal<'_> {
+    ghost output = { λ refusal. Some (ip_slice_error_text refusal.0.now) };
+
+    fn fmt<W: fmt::Write>(&self, f: &mut fmt::Formatter<W>) -> fmt::Result {
+        match self.0 {
+            IpSliceError::Empty => {
+                let e = LenError {
+                    required_len: 1,
+                    len: 0,
+                    len_source: LenSource::Slice,
+                    layer: Layer::IpHeader,
+                    layer_start_offset: 0,
+                };
+                fmt::Display::fmt(&e, f)
+            }
+            IpSliceError::UnexpectedVersion { version_number } => {
+                let version = *version_number;
+                write!(f, "IP Header Error: Version {version} is neither 4 nor 6.")
+            }
+            IpSliceError::Ipv4Header(e) => fmt::Display::fmt(e, f),
+            IpSliceError::Ipv6Header(e) => fmt::Display::fmt(e, f),
+            IpSliceError::Packet(e) => fmt::Display::fmt(e, f),
+            IpSliceError::Extensions(e) => fmt::Display::fmt(e, f),
+        }
+    }
+}
+
+// Writes how much of a packet was captured, where it is not all.
+#[tactic(auto, unfolding(crate::specs::Lines::cut_text))]
+fn write_cut<W: Write>(writer: &mut W, captured_len: usize, original_len: u32) -> io::Result<()>
+    ensures { OnOk result (Appends (W.contents writer.old) (W.contents writer.new)
+        (cut_text captured_len original_len)) }
+{
+    if captured_len < original_len as usize {
+        write!(writer, " cut {captured_len}/{original_len}")
+    } else {
+        Ok(())
+    }
+}
+
+/// Writes the line on a last record that is not whole.
+#[tactic(auto, unfolding(crate::specs::Lines::cut_off_line))]
+pub fn write_cut_off<W: Write>(writer: &mut W, e: CutOff) -> io::Result<()>
+    ensures { OnOk result (Appends (W.contents writer.old) (W.contents writer.new)
+        (cut_off_line e)) }
+{
+    let (required_len, len) = (e.required_len, e.len);
+    write!(
+        writer,
+        "error: the last record is cut off: it needs {required_len} bytes, and there are {len}\n"
+    )
+}
+
+/// Writes the closing line.
+#[tactic(auto, unfolding(crate::specs::Lines::closing_line))]
+pub fn write_closing<W: Write>(writer: &mut W, totals: Totals) -> io::Result<()>
+    ensures { OnOk result (Appends (W.contents writer.old) (W.contents writer.new)
+        (closing_line totals)) }
+{
+    let (records, ipv4, ipv6) = (totals.records, totals.ipv4, totals.ipv6);
+    let (refused, skipped, cut) = (totals.refused, totals.skipped, totals.cut);
+    write!(
+        writer,
+        "{records} packets: {ipv4} IPv4, {ipv6} IPv6, {refused} refused, {skipped} skipped, {cut} cut\n"
+    )
+}
+
+/// Writes why an input is no capture.
+#[tactic(auto, unfolding(crate::specs::Lines::capture_error_line))]
+pub fn write_capture_error<W: Write>(writer: &mut W, e: CaptureError) -> io::Result<()>
+    ensures { OnOk result (Appends (W.contents writer.old) (W.contents writer.new)
+        (capture_error_line e)) }
+{
+    match e {
+        CaptureError::CutOff(e) => {
+            let len = e.len;
+            write!(
+                writer,
+                "error: no capture: {len} bytes are no file header\n"
+            )
+        }
+        CaptureError::Magic(magic) => {
+            write!(writer, "error: no capture: the magic number is {magic}\n")
+        }
+        CaptureError::Version { major, minor } => {
+            write!(
+                writer,
+                "error: no capture: the version is {major}.{minor}\n"
+            )
+        }
+    }
+}
+
+/// Writes the line on a capture of packets that are not read.
+#[tactic(auto, unfolding(crate::specs::Lines::link_type_line))]
+pub fn write_link_type<W: Write>(writer: &mut W, link_type: u32) -> io::Result<()>
+    ensures { OnOk result (Appends (W.contents writer.old) (W.contents writer.new)
+        (link_type_line link_type)) }
+{
+    write!(writer, "error: link type {link_type} is not read\n")
+}

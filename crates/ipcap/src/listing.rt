@@ -1,0 +1,346 @@
+//! The lines of the records, in their order.
+
+ghost use Rattle.std.specs.Prelude.{ℕ, ◌≡◌, ◌≤◌, ◌<◌, ◌+◌, ◌*◌, ◌⊎◌, List, [], Err, IfOk, IfSome, OnOk};
+ghost use Rattle.std.specs.Prelude.{length, slice_range};
+ghost use Rattle.std.specs.Int.{w32};
+ghost use Rattle.std.specs.Io.KnownBytes.{Appends, IsAtEnd, Keeps, append_known, prepend_known};
+ghost use Rattle.uses.specs.Capture.{ReadsRecord, nanoseconds_in, number_in, record_len};
+ghost use Rattle.uses.specs.Capture.{recorded};
+ghost use Rattle.ipcap.specs.Listing.{IsToldOfLongRecord, IsToldOfRecord, max_captured_len};
+ghost use Rattle.ipcap.specs.Listing.{outcome_of};
+ghost use Rattle.ipcap.specs.Progress.{Skips, TellsFront, TellsKnown, Told, unless_quiet};
+ghost use Rattle.ipcap.specs.Totals.{nothing_counted};
+ghost use Rattle.ipcap.specs.Window.{unread};
+
+use crate::lines::{write_record, write_skipped};
+use crate::packet::{Address, Shown, read_packet};
+use crate::totals::{Outcome, Totals};
+use crate::window::{ROOM, Window};
+use arrayvec::ArrayVec;
+use std::io;
+use std::io::{ErrorKind, Read, Write};
+use uses::capture::{ByteOrder, CutOff, FileHeader, Record, Resolution, next_record};
+use uses::ip_slice::IpSliceError;
+
+// The room for text that is not yet handed to the writer.
+const TEXT_ROOM: usize = 65_536;
+
+// The room that each line has.
+const LINE_ROOM: usize = 1024;
+
+/// Text that is not yet handed to the writer.
+pub type Text = ArrayVec<u8, TEXT_ROOM>;
+
+/// Whether there is more to list.
+#[derive(Clone, Copy, Debug, PartialEq, Eq)]
+pub enum Turn {
+    /// There can be more.
+    GoesOn,
+    /// There is no more: the last record is whole, or cut off.
+    Ends(Option<CutOff>),
+}
+
+/// Hands text to the writer.
+pub fn hand_over<W: Write>(text: &mut Text, writer: &mut W) -> io::Result<()>
+    ensures kept { OnOk result (Keeps
+        (append_known (W.contents writer.old) text.old.items)
+        (append_known (W.contents writer.new) text.new.items)) }
+    ensures empty { OnOk result (text.new.items ≡ []) }
+{
+    writer.write_all(text.as_slice())?;
+    text.clear();
+    Ok(())
+}
+
+// Hands text to the writer where there is no room for one line more.
+fn make_room<W: Write>(text: &mut Text, writer: &mut W) -> io::Result<()>
+    ensures { OnOk result (Keeps
+        (append_known (W.contents writer.old) text.old.items)
+        (append_known (W.contents writer.new) text.new.items)) }
+{
+    if text.remaining_capacity() < LINE_ROOM {
+        hand_over(text, writer)
+    } else {
+        Ok(())
+    }
+}
+
+// What is counted of a record that is read.
+fn outcome(record: &Record, reading: &Result<Shown, IpSliceError>) -> Outcome
+    ensures { result ≡ outcome_of (recorded record.now) reading.now }
+{
+    Outcome {
+        is_ipv4: matches!(reading, Ok(shown) if matches!(shown.source, Address::V4(_))),
+        is_ipv6: matches!(reading, Ok(shown) if matches!(shown.source, Address::V6(_))),
+        is_refused: reading.is_err(),
+        is_skipped: false,
+        is_cut: record.bytes.len() < record.original_len as usize,
+    }
+}
+
+// Lists a record.
+fn list_record<W: Write>(
+    header: &FileHeader,
+    record: &Record,
+    is_quiet: bool,
+    before: Totals,
+    text: &mut Text,
+    writer: &mut W,
+) -> io::Result<Totals>
+    ensures { IfOk result (λ after. (line : List ℕ)
+        × IsToldOfRecord header.now before (recorded record.now) line after
+        × Appends (append_known (W.contents writer.old) text.old.items)
+        (append_known (W.contents writer.new) text.new.items) (unless_quiet is_quiet line)) }
+{
+    let reading = read_packet(record.bytes);
+    let Some(after) = before.count(outcome(record, &reading)) else {
+        return Err(io::Error::from(ErrorKind::Other));
+    };
+    if is_quiet {
+        return Ok(after);
+    }
+    make_room(text, writer)?;
+    write_record(
+        text,
+        header.format.resolution,
+        after.records,
+        record,
+        &reading,
+    )?;
+    Ok(after)
+}
+
+// Lists the whole records at the front of the data: how many bytes they are, the totals after them,
+// and how the next record is cut off.
+fn list_front<W: Write>(
+    header: &FileHeader,
+    bytes: &[u8],
+    is_quiet: bool,
+    before: Totals,
+    text: &mut Text,
+    writer: &mut W,
+) -> io::Result<(usize, Totals, Option<CutOff>)>
+    requires { length bytes.now ≤ ROOM }
+    ensures { IfOk result (λ x. TellsFront header.now is_quiet before bytes.now x.0 x.1 x.2
+        (append_known (W.contents writer.old) text.old.items)
+        (append_known (W.contents writer.new) text.new.items)) }
+{
+    let mut rest = bytes;
+    let mut totals = before;
+    'records: loop {
+        match next_record(header, rest) {
+            Ok(Some((record, after))) => {
+                totals = list_record(header, &record, is_quiet, totals, text, writer)?;
+                rest = after;
+            }
+            Ok(None) => return Ok((bytes.len() - rest.len(), totals, None)),
+            Err(e) => return Ok((bytes.len() - rest.len(), totals, Some(e))),
+        }
+    }
+}
+
+// The number in four bytes.
+fn number_at(order: ByteOrder, bytes: &[u8], place: usize) -> u32
+    requires { place + 4 ≤ length bytes.now }
+    ensures { result ≡ number_in order w32 (slice_range bytes.now place (place + 4)) }
+{
+    let bytes = [
+        bytes[place],
+        bytes[place + 1],
+        bytes[place + 2],
+        bytes[place + 3],
+    ];
+    match order {
+        ByteOrder::BigEndian => u32::from_be_bytes(bytes),
+        ByteOrder::LittleEndian => u32::from_le_bytes(bytes),
+    }
+}
+
+// A fraction of a second in nanoseconds.
+fn nanoseconds(resolution: Resolution, fraction: u32) -> u64
+    ensures { result ≡ fraction * nanoseconds_in resolution }
+{
+    match resolution {
+        Resolution::Microseconds => u64::from(fraction) * 1000,
+        Resolution::Nanoseconds => u64::from(fraction),
+    }
+}
+
+// Lists a record that is too long, by the 16 bytes before it.
+fn list_long<W: Write>(
+    header: &FileHeader,
+    bytes: &[u8],
+    is_quiet: bool,
+    before: Totals,
+    text: &mut Text,
+    writer: &mut W,
+) -> io::Result<Totals>
+    requires enough { 16 ≤ length bytes.now }
+    requires long { 16 + max_captured_len < record_len header.now bytes.now }
+    ensures { IfOk result (λ after. (line : List ℕ)
+        × IsToldOfLongRecord header.now before bytes.now line after
+        × Appends (append_known (W.contents writer.old) text.old.items)
+        (append_known (W.contents writer.new) text.new.items) (unless_quiet is_quiet line)) }
+{
+    let order = header.format.order;
+    let captured_len = number_at(order, bytes, 8);
+    let is_cut = captured_len < number_at(order, bytes, 12);
+    let Some(after) = before.count(Outcome {
+        is_ipv4: false,
+        is_ipv6: false,
+        is_refused: false,
+        is_skipped: true,
+        is_cut,
+    }) else {
+        return Err(io::Error::from(ErrorKind::Other));
+    };
+    if is_quiet {
+        return Ok(after);
+    }
+    make_room(text, writer)?;
+    let resolution = header.format.resolution;
+    write_skipped(
+        text,
+        resolution,
+        after.records,
+        number_at(order, bytes, 0),
+        nanoseconds(resolution, number_at(order, bytes, 4)),
+        captured_len as usize,
+    )?;
+    Ok(after)
+}
+
+// Passes so many bytes; where the input has fewer, the answer is how many it has.
+fn skip<R: Read>(window: &mut Window, reader: &mut R, len: usize) -> io::Result<Option<usize>>
+    ensures { IfOk result (λ there. Skips
+        (prepend_known (unread window.old) (R.remaining reader.old)) len there
+        (prepend_known (unread window.new) (R.remaining reader.new))) }
+{
+    let mut left = len;
+    'turns: for _ in 0..u64::MAX {
+        let passed = window.unread().len().min(left);
+        window.pass(passed);
+        left -= passed;
+        if left == 0 {
+            return Ok(None);
+        }
+        if !window.fill(reader)? {
+            return Ok(Some(len - left));
+        }
+    }
+    Err(io::Error::from(ErrorKind::Other))
+}
+
+// Lists the record that the window begins with, which is too long, and passes it.
+fn list_past<R: Read, W: Write>(
+    header: &FileHeader,
+    is_quiet: bool,
+    before: Totals,
+    cut_off: CutOff,
+    window: &mut Window,
+    reader: &mut R,
+    text: &mut Text,
+    writer: &mut W,
+) -> io::Result<(Totals, Turn)>
+    requires reads { ReadsRecord header.now (unread window.old) (Err cut_off) }
+    requires long { 16 + max_captured_len < cut_off.required_len }
+    ensures { IfOk result (λ x. TellsKnown header.now is_quiet before
+        (prepend_known (unread window.old) (R.remaining reader.old)) x.0
+        (prepend_known (unread window.new) (R.remaining reader.new)) x.1
+        (append_known (W.contents writer.old) text.old.items)
+        (append_known (W.contents writer.new) text.new.items)) }
+{
+    let required_len = cut_off.required_len;
+    let after = list_long(header, window.unread(), is_quiet, before, text, writer)?;
+    match skip(window, reader, required_len)? {
+        None => Ok((after, Turn::GoesOn)),
+        Some(len) => Ok((after, Turn::Ends(Some(CutOff { required_len, len })))),
+    }
+}
+
+// Reads more of the input; where there is no more, the records end as it is given.
+fn read_on<R: Read>(window: &mut Window, reader: &mut R, end: Option<CutOff>) -> io::Result<Turn>
+    requires { length (unread window.old) < ROOM }
+    ensures kept { OnOk result (Keeps
+        (prepend_known (unread window.old) (R.remaining reader.old))
+        (prepend_known (unread window.new) (R.remaining reader.new))) }
+    ensures turn { IfOk result (λ turn. (turn ≡ Turn.GoesOn)
+        ⊎ ((turn ≡ Turn.Ends end) × (unread window.new ≡ unread window.old)
+        × IsAtEnd (R.remaining reader.new))) }
+{
+    if window.fill(reader)? {
+        Ok(Turn::GoesOn)
+    } else {
+        Ok(Turn::Ends(end))
+    }
+}
+
+// Lists the whole records that have been read, and reads more.
+fn list_turn<R: Read, W: Write>(
+    header: &FileHeader,
+    is_quiet: bool,
+    before: Totals,
+    window: &mut Window,
+    reader: &mut R,
+    text: &mut Text,
+    writer: &mut W,
+) -> io::Result<(Totals, Turn)>
+    ensures { IfOk result (λ x. TellsKnown header.now is_quiet before
+        (prepend_known (unread window.old) (R.remaining reader.old)) x.0
+        (prepend_known (unread window.new) (R.remaining reader.new)) x.1
+        (append_known (W.contents writer.old) text.old.items)
+        (append_known (W.contents writer.new) text.new.items)) }
+{
+    let (passed, totals, stop) = list_front(
+        header,
+        window.unread(),
+        is_quiet,
+        before,
+        text,
+        writer,
+    )?;
+    window.pass(passed);
+    match stop {
+        Some(e) if e.required_len > ROOM => {
+            let (after, turn) = list_past(
+                header, is_quiet, totals, e, window, reader, text, writer,
+            )?;
+            Ok((after, turn))
+        }
+        Some(e) => {
+            let turn = read_on(window, reader, Some(e))?;
+            Ok((totals, turn))
+        }
+        None => {
+            let turn = read_on(window, reader, None)?;
+            Ok((totals, turn))
+        }
+    }
+}
+
+/// Lists all records, and counts them; with the totals comes how the last one is cut off. Where
+/// `is_quiet` is true, it writes no lines.
+pub fn list<R: Read, W: Write>(
+    header: &FileHeader,
+    is_quiet: bool,
+    window: &mut Window,
+    reader: &mut R,
+    text: &mut Text,
+    writer: &mut W,
+) -> io::Result<(Totals, Option<CutOff>)>
+    ensures { IfOk result (λ x. IfSome
+        (prepend_known (unread window.old) (R.remaining reader.old)) (λ s.
+        Told header.now is_quiet nothing_counted s x.0 [] (Turn.Ends x.1)
+        (append_known (W.contents writer.old) text.old.items)
+        (append_known (W.contents writer.new) text.new.items))) }
+{
+    let mut totals = Totals::none();
+    'turns: for _ in 0..u64::MAX {
+        let (after, turn) = list_turn(header, is_quiet, totals, window, reader, text, writer)?;
+        totals = after;
+        if let Turn::Ends(end) = turn {
+            return Ok((totals, end));
+        }
+    }
+    Err(io::Error::from(ErrorKind::Other))
+}

@@ -1,0 +1,29 @@
+/// How a run ended.
+#[derive(Clone, Copy, Debug, PartialEq, Eq)]
+pub enum Status {
+    /// The capture was read to its end.
+    Done,
+    /// The capture ends within a record.
+    CutOff,
+    /// The input is no capture, or one of a link type that is not read.
+    NoCapture,
+    /// A read or a write failed.
+    Failed,
+}
+
+impl Status {
+    ghost use Rattle.std.specs.Prelude.{◌≡◌};
+    ghost use Rattle.ipcap.specs.Status.{code_of};
+
+    /// The exit status of the process: 0 to 3, in the order of the variants.
+    pub fn code(self) -> u8
+        ensures value { result ≡ code_of self }
+    {
+        match self {
+            Status::Done => 0,
+            Status::CutOff => 1,
+            Status::NoCapture => 2,
+            Status::Failed => 3,
+        }
+    }
+}

@@ -1,0 +1,66 @@
+//! What is counted.
+
+/// What is counted of a record.
+#[derive(Clone, Copy, Debug, PartialEq, Eq)]
+pub struct Outcome {
+    /// It is shown as an IPv4 packet.
+    pub is_ipv4: bool,
+    /// It is shown as an IPv6 packet.
+    pub is_ipv6: bool,
+    /// It is refused: it holds no packet of either version.
+    pub is_refused: bool,
+    /// It is skipped: it is longer than the room for a record.
+    pub is_skipped: bool,
+    /// Fewer bytes were captured than the packet had.
+    pub is_cut: bool,
+}
+
+/// How many records there were, and of which kinds.
+#[derive(Clone, Copy, Debug, PartialEq, Eq)]
+pub struct Totals {
+    /// All of them.
+    pub records: u64,
+    /// Those that are shown as IPv4 packets.
+    pub ipv4: u64,
+    /// Those that are shown as IPv6 packets.
+    pub ipv6: u64,
+    /// Those that are refused.
+    pub refused: u64,
+    /// Those that are skipped.
+    pub skipped: u64,
+    /// Those of which fewer bytes were captured than the packet had.
+    pub cut: u64,
+}
+
+impl Totals {
+    ghost use Rattle.std.specs.Prelude.{◌≡◌, IfSome};
+    ghost use Rattle.ipcap.specs.Totals.{counted, nothing_counted};
+
+    /// No record.
+    pub fn none() -> Totals
+        ensures { result ≡ nothing_counted }
+    {
+        Totals {
+            records: 0,
+            ipv4: 0,
+            ipv6: 0,
+            refused: 0,
+            skipped: 0,
+            cut: 0,
+        }
+    }
+
+    /// With one record more; `None` where a count is above 2^64 - 1 then.
+    pub fn count(self, outcome: Outcome) -> Option<Totals>
+        ensures { IfSome result (λ after. after ≡ counted outcome self) }
+    {
+        Some(Totals {
+            records: self.records.checked_add(1)?,
+            ipv4: self.ipv4.checked_add(u64::from(outcome.is_ipv4))?,
+            ipv6: self.ipv6.checked_add(u64::from(outcome.is_ipv6))?,
+            refused: self.refused.checked_add(u64::from(outcome.is_refused))?,
+            skipped: self.skipped.checked_add(u64::from(outcome.is_skipped))?,
+            cut: self.cut.checked_add(u64::from(outcome.is_cut))?,
+        })
+    }
+}
