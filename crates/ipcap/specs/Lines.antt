@@ -18,7 +18,12 @@ use Rattle.uses.specs.declared.ip_slice.IpSliceError.{IpSliceError}
 use Rattle.uses.specs.declared.ip_slice.IpSliceError.TheVariants as error
 use Rattle.ipcap.specs.declared.packet.Address.{Address}
 use Rattle.ipcap.specs.declared.packet.Address.TheVariants.{V4, V6}
+use Rattle.ipcap.specs.declared.packet.Detail.{Detail}
+use Rattle.ipcap.specs.declared.packet.Detail.TheVariants.{Message, Nothing, Ports}
+use Rattle.ipcap.specs.declared.packet.Mark.{Mark}
 use Rattle.ipcap.specs.declared.packet.Shown.{Shown}
+use Rattle.ipcap.specs.declared.packet.Verdict.{Verdict}
+use Rattle.ipcap.specs.declared.packet.Verdict.TheVariants.{Absent, Right, Wrong}
 use Rattle.ipcap.specs.declared.totals.Totals.{Totals}
 
 -- zeros up to so many digits, and the number in decimal
@@ -59,11 +64,41 @@ upper_text_by (Some keyword) number = keyword
 abbrev pub upper_text : ℕ → List ℕ
 upper_text number = upper_text_by (keyword_of number) number
 
--- what is shown of a packet
-unfoldable pub shown_text : Shown → List ℕ
-shown_text shown = address_text shown.source ++ (codes " > "
+-- ports, or type and code, or a dash
+abbrev pub detail_text : Detail → List ℕ
+detail_text (Ports source destination) = decimal source ++ (codes ">" ++ decimal destination)
+detail_text (Message kind code) = decimal kind ++ (codes "/" ++ decimal code)
+detail_text Nothing = codes "-"
+
+-- the identification of a fragment and its offset, with a plus where more fragments follow
+abbrev pub mark_text : Option Mark → List ℕ
+mark_text None = codes "-"
+mark_text (Some mark) = decimal mark.identification ++ (codes "@" ++ (decimal mark.offset
+    ++ (if mark.more then codes "+" else [])))
+
+-- a verdict on a checksum
+abbrev pub verdict_text : Verdict → List ℕ
+verdict_text Right = codes "right"
+verdict_text Wrong = codes "wrong"
+verdict_text Absent = codes "none"
+
+-- who sent the packet to whom, of which protocol
+unfoldable pub parties_text : Shown → List ℕ
+parties_text shown = address_text shown.source ++ (codes " > "
     ++ (address_text shown.destination ++ (codes " " ++ (upper_text shown.upper
-    ++ (codes " length " ++ (decimal shown.len ++ (codes " hops " ++ decimal shown.hops)))))))
+    ++ (codes " " ++ detail_text shown.detail)))))
+
+-- how long the payload is, how many hops are left, where a fragment stands, and the verdicts on the
+-- checksums of the IPv4 header and of the payload
+unfoldable pub payload_text : Shown → List ℕ
+payload_text shown = codes " length " ++ (decimal shown.len ++ (codes " hops "
+    ++ (decimal shown.hops ++ (codes " fragment " ++ (mark_text shown.mark
+    ++ (codes " checksums " ++ (verdict_text shown.header_checksum ++ (codes " "
+    ++ verdict_text shown.payload_checksum))))))))
+
+-- what is shown of a packet
+abbrev pub shown_text : Shown → List ℕ
+shown_text shown = parties_text shown ++ payload_text shown
 
 -- why a packet is refused: the text of the error
 abbrev pub ip_slice_error_text : IpSliceError → List ℕ

@@ -1,11 +1,26 @@
 -- What is shown of a packet.
-use Rattle.std.specs.Prelude.{ℕ, ◌≡◌, List, length}
+use Rattle.std.specs.Prelude.{ℕ, ◌≡◌, ◌*◌, ◌<◌, ◌^◌, ◌==◌, ◌&&◌, ◌||◌, ◌⊎◌, Bool, not, List, [], ◌∷◌, ◌++◌}
+use Rattle.std.specs.Prelude.{MatchBool, MatchOption, Option, Some, None, if◌then◌else◌, length}
+use Rattle.std.specs.Prelude.{nat_le, slice_index, slice_range, take}
+use Rattle.std.specs.Int.{from_be_bytes, to_be_bytes, w16, w32}
+use Rattle.etherparse.specs.Ipv4Header.{ipv4_header_len}
+use Rattle.etherparse.specs.WordSums.{SumsToAllOnes, ones_complement_sum}
+use Rattle.etherparse.specs.declared.err.LenError.{LenError}
+use Rattle.etherparse.specs.declared.net.ipv4_header.Ipv4Header.{Ipv4Header}
+use Rattle.etherparse.specs.declared.net.ipv6_header.Ipv6Header.{Ipv6Header}
+use Rattle.uses.specs.Fragment.{HasFragmentBehind, IsPart, IsUnfragmented, RefusesFragmentBehind}
 use Rattle.uses.specs.IpSlice.{IsIpPacket, payload_of, upper_of}
+use Rattle.uses.specs.declared.fragment.FragmentHeader.{FragmentHeader}
 use Rattle.uses.specs.declared.ip_slice.IpSlice.{IpSlice}
 use Rattle.uses.specs.declared.ip_slice.IpSlice.TheVariants as slice
 use Rattle.ipcap.specs.declared.packet.Address.{Address}
 use Rattle.ipcap.specs.declared.packet.Address.TheVariants.{V4, V6}
+use Rattle.ipcap.specs.declared.packet.Detail.{Detail}
+use Rattle.ipcap.specs.declared.packet.Detail.TheVariants.{Ports, Message, Nothing}
+use Rattle.ipcap.specs.declared.packet.Mark.{Mark}
 use Rattle.ipcap.specs.declared.packet.Shown.{Shown}
+use Rattle.ipcap.specs.declared.packet.Verdict.{Verdict}
+use Rattle.ipcap.specs.declared.packet.Verdict.TheVariants.{Right, Wrong, Absent}
 
 -- who sent the packet
 abbrev pub source_of : IpSlice → Address
@@ -22,16 +37,167 @@ abbrev pub hops_of : IpSlice → ℕ
 hops_of (slice.Ipv4 header payload) = header.time_to_live
 hops_of (slice.Ipv6 header extensions upper payload) = header.hop_limit
 
+-- the number of the control messages of a version: ICMP of IPv4, ICMPv6 of IPv6
+abbrev pub icmp_of : IpSlice → ℕ
+icmp_of (slice.Ipv4 header payload) = 1
+icmp_of (slice.Ipv6 header extensions upper payload) = 58
+
+-- What is shown of the header that a payload begins with: the ports of UDP (RFC 768) and TCP (RFC
+-- 9293), type and code of ICMP (RFC 792) and ICMPv6 (RFC 4443), where that header is there.
+unfoldable pub detail_of : ℕ → ℕ → List ℕ → Detail
+detail_of icmp number payload =
+    if number == 17 && nat_le 8 (length payload) || number == 6 && nat_le 20 (length payload)
+    then Ports (from_be_bytes w16 (slice_range payload 0 2))
+    (from_be_bytes w16 (slice_range payload 2 4))
+    else if number == icmp && nat_le 4 (length payload)
+    then Message (slice_index payload 0) (slice_index payload 1)
+    else Nothing
+
+-- a fragment that is not the first begins with no header
+abbrev pub detail_behind : Option Mark → ℕ → ℕ → List ℕ → Detail
+detail_behind None icmp number payload = detail_of icmp number payload
+detail_behind (Some mark) icmp number payload =
+    if mark.offset == 0 then detail_of icmp number payload else Nothing
+
+-- where an IPv4 fragment stands (RFC 791 section 3.1), whose offset counts units of 8 bytes
+abbrev pub ipv4_mark : Ipv4Header → Option Mark
+ipv4_mark header =
+    if header.more_fragments || not (header.fragment_offset == 0)
+    then Some (record {
+      identification = header.identification;
+      offset = 8 * header.fragment_offset;
+      more = header.more_fragments;
+    })
+    else None
+
+-- the same of an IPv6 fragment (RFC 8200 section 4.5)
+abbrev pub ipv6_mark : FragmentHeader → Mark
+ipv6_mark header = record {
+  identification = header.identification;
+  offset = 8 * header.fragment_offset;
+  more = header.more_fragments;
+}
+
+-- the packet is the fragment of this fragment header
+pub record IsMarkedBy (extensions : List ℕ) (first : ℕ) (mark : Mark) : Type 0 where
+  pub fragment : FragmentHeader
+  pub rest : List ℕ
+  pub has : HasFragmentBehind extensions first fragment rest
+  pub is_part : IsPart fragment
+  pub mark_of : mark ≡ ipv6_mark fragment
+
+-- The packet is whole: no fragment header comes before an upper layer, or one of a whole packet. Of
+-- bytes that are no chain of extension headers one can be incomplete.
+abbrev pub IsWholeBehind : List ℕ → ℕ → Type 0
+IsWholeBehind extensions first = IsUnfragmented extensions first
+    ⊎ ((fragment : FragmentHeader) × (rest : List ℕ)
+    × HasFragmentBehind extensions first fragment rest × ¬ IsPart fragment)
+    ⊎ ((e : LenError) × RefusesFragmentBehind extensions first e)
+
+-- this is where the fragment stands, or the payload is whole
+abbrev pub IsMark : IpSlice → Option Mark → Type 0
+IsMark (slice.Ipv4 header payload) mark = mark ≡ ipv4_mark header
+IsMark (slice.Ipv6 header extensions upper payload) mark = MatchOption mark
+    (IsWholeBehind extensions.now header.next_header)
+    (IsMarkedBy extensions.now header.next_header)
+
+-- the verdict is that the fact holds, or that it does not
+abbrev pub Judges : Verdict → Type 0 → Type 0
+Judges Right fact = fact
+Judges Wrong fact = ¬ fact
+Judges Absent fact = ⊥
+
+-- the verdict on the checksum of an IPv4 header; IPv6 has none
+abbrev pub IsHeaderVerdict : List ℕ → IpSlice → Verdict → Type 0
+IsHeaderVerdict packet (slice.Ipv4 header payload) verdict =
+    Judges verdict (SumsToAllOnes (take (ipv4_header_len header) packet))
+IsHeaderVerdict packet (slice.Ipv6 header extensions upper payload) verdict = verdict ≡ Absent
+
+-- the datagram, as long as its length field says, where that is neither below its header nor beyond
+-- the payload
+abbrev pub datagram_of : List ℕ → Option (List ℕ)
+datagram_of payload =
+    let len = from_be_bytes w16 (slice_range payload 4 6) in
+    if nat_le 8 (length payload) && (nat_le 8 len && nat_le len (length payload))
+    then Some (take len payload)
+    else None
+
+-- what a checksum of UDP, TCP, ICMP and ICMPv6 is over, where it is all there
+unfoldable pub segment_of : ℕ → ℕ → List ℕ → Option (List ℕ)
+segment_of icmp number payload =
+    if number == 17 then datagram_of payload
+    else if number == 6 && nat_le 20 (length payload) || number == icmp && nat_le 4 (length payload)
+    then Some payload
+    else None
+
+-- The segment sums to all ones with the pseudo-header of IPv4 (RFC 768, RFC 9293 section 3.1): both
+-- addresses, a byte 0, the number, the length in 16 bits.
+abbrev pub IsRightIpv4 : Ipv4Header → ℕ → List ℕ → Type 0
+IsRightIpv4 ip number segment = (length segment < 2 ^ 16) × (ones_complement_sum
+    (ip.source ∷ ip.destination ∷ (0 ∷ number ∷ to_be_bytes w16 (length segment)) ∷ segment ∷ [])
+    ≡ 65535)
+
+-- the same of IPv6 (RFC 8200 section 8.1): the length in 32 bits, three bytes 0 and the number
+abbrev pub IsRightIpv6 : Ipv6Header → ℕ → List ℕ → Type 0
+IsRightIpv6 ip number segment = (length segment < 2 ^ 32) × (ones_complement_sum
+    (ip.source ∷ ip.destination
+    ∷ (to_be_bytes w32 (length segment) ++ (0 ∷ 0 ∷ 0 ∷ number ∷ [])) ∷ segment ∷ []) ≡ 65535)
+
+-- a datagram whose checksum is 0 has none
+abbrev pub has_no_checksum : ℕ → List ℕ → Bool
+has_no_checksum number segment =
+    number == 17 && (nat_le 8 (length segment)
+    && from_be_bytes w16 (slice_range segment 6 8) == 0)
+
+-- the verdict on a segment over IPv4: that of ICMP is over the message alone (RFC 792)
+abbrev pub IsVerdictIpv4 : Ipv4Header → Option (List ℕ) → Verdict → Type 0
+IsVerdictIpv4 ip None verdict = verdict ≡ Absent
+IsVerdictIpv4 ip (Some segment) verdict =
+    MatchBool (has_no_checksum ip.protocol segment) (verdict ≡ Absent)
+    (MatchBool (ip.protocol == 1) (Judges verdict (SumsToAllOnes segment))
+    (Judges verdict (IsRightIpv4 ip ip.protocol segment)))
+
+-- the verdict on a segment over IPv6: a datagram has to have a checksum (RFC 8200 section 8.1)
+abbrev pub IsVerdictIpv6 : Ipv6Header → ℕ → Option (List ℕ) → Verdict → Type 0
+IsVerdictIpv6 ip number None verdict = verdict ≡ Absent
+IsVerdictIpv6 ip number (Some segment) verdict =
+    MatchBool (has_no_checksum number segment) (verdict ≡ Wrong)
+    (Judges verdict (IsRightIpv6 ip number segment))
+
+-- the verdict on the checksum of a payload of IPv4, which no fragment has whole
+abbrev pub IsPayloadVerdictIpv4 : Ipv4Header → Option Mark → List ℕ → Verdict → Type 0
+IsPayloadVerdictIpv4 header (Some mark) payload verdict = verdict ≡ Absent
+IsPayloadVerdictIpv4 header None payload verdict =
+    IsVerdictIpv4 header (segment_of 1 header.protocol payload) verdict
+
+-- the same of IPv6
+abbrev pub IsPayloadVerdictIpv6 : Ipv6Header → ℕ → Option Mark → List ℕ → Verdict → Type 0
+IsPayloadVerdictIpv6 header upper (Some mark) payload verdict = verdict ≡ Absent
+IsPayloadVerdictIpv6 header upper None payload verdict =
+    IsVerdictIpv6 header upper (segment_of 58 upper payload) verdict
+
+-- the verdict on the checksum of the payload
+abbrev pub IsPayloadVerdict : IpSlice → Option Mark → Verdict → Type 0
+IsPayloadVerdict (slice.Ipv4 header payload) mark verdict =
+    IsPayloadVerdictIpv4 header mark payload.now verdict
+IsPayloadVerdict (slice.Ipv6 header extensions upper payload) mark verdict =
+    IsPayloadVerdictIpv6 header upper mark payload.now verdict
+
 -- this is shown of the packet in these parts
-pub record ShowsSlice (parts : IpSlice) (shown : Shown) : Type 0 where
+pub record ShowsSlice (packet : List ℕ) (parts : IpSlice) (shown : Shown) : Type 0 where
   pub source : shown.source ≡ source_of parts
   pub destination : shown.destination ≡ destination_of parts
   pub upper : shown.upper ≡ upper_of parts
+  pub detail : shown.detail
+      ≡ detail_behind shown.mark (icmp_of parts) (upper_of parts) (payload_of parts)
   pub len : shown.len ≡ length (payload_of parts)
   pub hops : shown.hops ≡ hops_of parts
+  pub mark : IsMark parts shown.mark
+  pub header_checksum : IsHeaderVerdict packet parts shown.header_checksum
+  pub payload_checksum : IsPayloadVerdict parts shown.mark shown.payload_checksum
 
 -- the packet is whole, and this is shown of it
 pub record IsShown (packet : List ℕ) (shown : Shown) : Type 0 where
   pub parts : IpSlice
   pub is_packet : IsIpPacket packet parts
-  pub shows : ShowsSlice parts shown
+  pub shows : ShowsSlice packet parts shown

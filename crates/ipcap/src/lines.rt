@@ -3,12 +3,14 @@
 ghost use Rattle.std.specs.Prelude.{◌≡◌, Some, OnOk, MatchOption, length};
 ghost use Rattle.std.specs.Io.KnownBytes.{Appends};
 ghost use Rattle.uses.specs.Capture.{recorded};
+ghost use Rattle.ipcap.specs.Lines.{detail_text, mark_text, parties_text, payload_text};
+ghost use Rattle.ipcap.specs.Lines.{verdict_text};
 ghost use Rattle.ipcap.specs.Lines.{address_text, capture_error_line, closing_line, cut_off_line};
 ghost use Rattle.ipcap.specs.Lines.{cut_text, fraction_text, head_text, keyword_of};
 ghost use Rattle.ipcap.specs.Lines.{link_type_line, reading_text, record_line, shown_text};
 ghost use Rattle.ipcap.specs.Lines.{skipped_line, skipped_text, upper_text, ip_slice_error_text};
 
-use crate::packet::{Address, Shown};
+use crate::packet::{Address, Detail, Mark, Shown, Verdict};
 use crate::totals::Totals;
 use etherparse::LenSource;
 use etherparse::err::{Layer, LenError};
@@ -168,18 +170,87 @@ fn write_reading<W: Write>(writer: &mut W, reading: &Result<Shown, IpSliceError>
 }
 
 // Writes what is shown of a packet.
-#[tactic(auto, unfolding(crate::specs::Lines::shown_text))]
 fn write_shown<W: Write>(writer: &mut W, shown: &Shown) -> io::Result<()>
     ensures { OnOk result (Appends (W.contents writer.old) (W.contents writer.new)
         (shown_text shown.now)) }
 {
+    write_parties(writer, shown)?;
+    write_payload(writer, shown)
+}
+
+// Writes who sent a packet to whom, of which protocol.
+#[tactic(auto, unfolding(crate::specs::Lines::parties_text))]
+fn write_parties<W: Write>(writer: &mut W, shown: &Shown) -> io::Result<()>
+    ensures { OnOk result (Appends (W.contents writer.old) (W.contents writer.new)
+        (parties_text shown.now)) }
+{
     let (source, destination) = (shown.source, shown.destination);
-    let upper = Upper(shown.upper);
-    let (len, hops) = (shown.len, shown.hops);
+    let (upper, detail) = (Upper(shown.upper), shown.detail);
+    write!(writer, "{source} > {destination} {upper} {detail}")
+}
+
+// Writes how long the payload of a packet is, how many hops are left, where a fragment stands, and
+// the verdicts on checksums.
+#[tactic(auto, unfolding(crate::specs::Lines::payload_text))]
+fn write_payload<W: Write>(writer: &mut W, shown: &Shown) -> io::Result<()>
+    ensures { OnOk result (Appends (W.contents writer.old) (W.contents writer.new)
+        (payload_text shown.now)) }
+{
+    let (len, hops, mark) = (shown.len, shown.hops, Marked(shown.mark));
+    let (header, payload) = (shown.header_checksum, shown.payload_checksum);
     write!(
         writer,
-        "{source} > {destination} {upper} length {len} hops {hops}"
+        " length {len} hops {hops} fragment {mark} checksums {header} {payload}"
     )
+}
+
+impl fmt::Display for Detail {
+    ghost output = { λ detail. Some (detail_text detail) };
+
+    fn fmt<W: fmt::Write>(&self, f: &mut fmt::Formatter<W>) -> fmt::Result {
+        match self {
+            Detail::Ports(source, destination) => {
+                let (source, destination) = (*source, *destination);
+                write!(f, "{source}>{destination}")
+            }
+            Detail::Message(kind, code) => {
+                let (kind, code) = (*kind, *code);
+                write!(f, "{kind}/{code}")
+            }
+            Detail::Nothing => f.write_str("-"),
+        }
+    }
+}
+
+// Where a fragment stands, as it is shown.
+#[derive(Clone, Copy, Debug)]
+struct Marked(Option<Mark>);
+
+impl fmt::Display for Marked {
+    ghost output = { λ marked. Some (mark_text marked.0) };
+
+    fn fmt<W: fmt::Write>(&self, f: &mut fmt::Formatter<W>) -> fmt::Result {
+        match self.0 {
+            None => f.write_str("-"),
+            Some(mark) => {
+                let (identification, offset) = (mark.identification, mark.offset);
+                let more = if mark.more { "+" } else { "" };
+                write!(f, "{identification}@{offset}{more}")
+            }
+        }
+    }
+}
+
+impl fmt::Display for Verdict {
+    ghost output = { λ verdict. Some (verdict_text verdict) };
+
+    fn fmt<W: fmt::Write>(&self, f: &mut fmt::Formatter<W>) -> fmt::Result {
+        match self {
+            Verdict::Right => f.write_str("right"),
+            Verdict::Wrong => f.write_str("wrong"),
+            Verdict::Absent => f.write_str("none"),
+        }
+    }
 }
 
 // Why a packet is refused.

@@ -1,9 +1,19 @@
 //! What is shown of a packet.
 
-ghost use Rattle.std.specs.Prelude.{IfErr, IfOk};
-ghost use Rattle.uses.specs.IpSlice.{RefusesIp};
-ghost use Rattle.ipcap.specs.Packet.{IsShown, ShowsSlice};
+ghost use Rattle.std.specs.Prelude.{◌≡◌, ◌↔◌, [], ◌∷◌, IfErr, IfOk, IsTrue, MatchOption};
+ghost use Rattle.std.specs.Prelude.{◌≤◌, length, option_map, take};
+ghost use Rattle.etherparse.specs.Ipv4Header.{ipv4_header_len};
+ghost use Rattle.ipcap.specs.Packet.{IsPayloadVerdictIpv4, IsPayloadVerdictIpv6};
+ghost use Rattle.etherparse.specs.WordSums.{SumsToAllOnes, ones_complement_sum};
+ghost use Rattle.uses.specs.IpSlice.{IsIpPacket, RefusesIp};
+ghost use Rattle.ipcap.specs.Packet.{IsMarkedBy, IsRightIpv4, IsRightIpv6, IsShown};
+ghost use Rattle.ipcap.specs.Packet.{IsVerdictIpv4, IsVerdictIpv6, IsWholeBehind, Judges};
+ghost use Rattle.ipcap.specs.Packet.{ShowsSlice, detail_behind, detail_of, ipv4_mark, segment_of};
+ghost use Rattle.ipcap.specs.Packet.{has_no_checksum};
 
+use etherparse::checksum::u64_16bit_word;
+use etherparse::{IpNumber, Ipv4Header, Ipv6Header};
+use uses::fragment::fragment_behind;
 use uses::ip_slice::{IpSlice, IpSliceError};
 
 /// An address of either version.
@@ -13,6 +23,39 @@ pub enum Address {
     V4([u8; 4]),
     /// Of IPv6.
     V6([u8; 16]),
+}
+
+/// What is shown of the header that a payload begins with.
+#[derive(Clone, Copy, Debug, PartialEq, Eq)]
+pub enum Detail {
+    /// The ports of UDP and TCP: source and destination.
+    Ports(u16, u16),
+    /// Type and code of ICMP and ICMPv6.
+    Message(u8, u8),
+    /// Another protocol, or too few bytes.
+    Nothing,
+}
+
+/// Where a fragment stands.
+#[derive(Clone, Copy, Debug, PartialEq, Eq)]
+pub struct Mark {
+    /// Equal in all fragments of one packet.
+    pub identification: u32,
+    /// Where it stands in the payload that was cut, in bytes.
+    pub offset: u32,
+    /// Whether more fragments follow it.
+    pub more: bool,
+}
+
+/// Whether a checksum is right.
+#[derive(Clone, Copy, Debug, PartialEq, Eq)]
+pub enum Verdict {
+    /// It is right.
+    Right,
+    /// It is wrong.
+    Wrong,
+    /// There is none, or not all that it is over.
+    Absent,
 }
 
 /// What is shown of a packet.
@@ -25,10 +68,18 @@ pub struct Shown {
     /// The number of the payload: of IPv6 the first that is of no extension header that can be
     /// skipped.
     pub upper: u8,
+    /// What the payload's header says.
+    pub detail: Detail,
     /// The length of the payload, after any extension headers, in bytes.
     pub len: usize,
     /// The time to live, or the hop limit.
     pub hops: u8,
+    /// Where the payload stands, if it is a fragment.
+    pub mark: Option<Mark>,
+    /// Whether the checksum of an IPv4 header is right.
+    pub header_checksum: Verdict,
+    /// Whether the checksum of UDP, TCP, ICMP or ICMPv6 is right.
+    pub payload_checksum: Verdict,
 }
 
 /// What is shown of a packet that was captured whole.
@@ -41,31 +92,271 @@ pub fn read_packet(packet: &[u8]) -> Result<Shown, IpSliceError>
     ensures refused { IfErr result (RefusesIp packet.now) }
 {
     match IpSlice::from_slice(packet) {
-        Ok(slice) => Ok(shown_of(&slice)),
+        Ok(slice) => Ok(shown_of(packet, &slice)),
         Err(e) => Err(e),
     }
 }
 
-// What is shown of a slice.
-fn shown_of(slice: &IpSlice) -> Shown
-    ensures shows { ShowsSlice slice.now result }
+// What is shown of a packet in these parts.
+fn shown_of(packet: &[u8], slice: &IpSlice) -> Shown
+    requires is_packet { IsIpPacket packet.now slice.now }
+    ensures shows { ShowsSlice packet.now slice.now result }
 {
-    let upper = slice.upper().0;
-    let len = slice.payload().len();
     match slice {
-        IpSlice::Ipv4 { header, .. } => Shown {
-            source: Address::V4(header.source),
-            destination: Address::V4(header.destination),
+        IpSlice::Ipv4 { header, payload } => {
+            let upper = header.protocol.0;
+            let mark = ipv4_mark(header);
+            let header_checksum = header_verdict(packet, header);
+            let payload_checksum = payload_verdict_ipv4(header, mark, payload);
+            Shown {
+                source: Address::V4(header.source),
+                destination: Address::V4(header.destination),
+                upper,
+                detail: detail_behind(mark, 1, upper, payload),
+                len: payload.len(),
+                hops: header.time_to_live,
+                mark,
+                header_checksum,
+                payload_checksum,
+            }
+        }
+        IpSlice::Ipv6 {
+            header,
+            extensions,
             upper,
-            len,
-            hops: header.time_to_live,
-        },
-        IpSlice::Ipv6 { header, .. } => Shown {
-            source: Address::V6(header.source),
-            destination: Address::V6(header.destination),
-            upper,
-            len,
-            hops: header.hop_limit,
-        },
+            payload,
+        } => {
+            let upper = upper.0;
+            let mark = ipv6_mark(extensions, header.next_header);
+            let payload_checksum = payload_verdict_ipv6(header, upper, mark, payload);
+            Shown {
+                source: Address::V6(header.source),
+                destination: Address::V6(header.destination),
+                upper,
+                detail: detail_behind(mark, 58, upper, payload),
+                len: payload.len(),
+                hops: header.hop_limit,
+                mark,
+                header_checksum: Verdict::Absent,
+                payload_checksum,
+            }
+        }
     }
+}
+
+// Where an IPv4 fragment stands.
+fn ipv4_mark(header: &Ipv4Header) -> Option<Mark>
+    ensures { result ≡ ipv4_mark header.now }
+{
+    let offset = header.fragment_offset.value();
+    if header.more_fragments || offset != 0 {
+        Some(Mark {
+            identification: u32::from(header.identification),
+            offset: 8 * u32::from(offset),
+            more: header.more_fragments,
+        })
+    } else {
+        None
+    }
+}
+
+// Where an IPv6 fragment stands, by the first fragment header.
+fn ipv6_mark(extensions: &[u8], first: IpNumber) -> Option<Mark>
+    ensures { MatchOption result (IsWholeBehind extensions.now first)
+        (IsMarkedBy extensions.now first) }
+{
+    match fragment_behind(extensions, first) {
+        Ok(Some((fragment, _))) => {
+            if !fragment.is_fragmenting_payload() {
+                return None;
+            }
+            Some(Mark {
+                identification: fragment.identification,
+                offset: 8 * u32::from(fragment.fragment_offset.value()),
+                more: fragment.more_fragments,
+            })
+        }
+        Ok(None) => None,
+        Err(_) => None,
+    }
+}
+
+// What is shown of the header that a payload begins with, if it is its first part.
+fn detail_behind(mark: Option<Mark>, icmp: u8, number: u8, payload: &[u8]) -> Detail
+    ensures { result ≡ detail_behind mark icmp number payload.now }
+{
+    match mark {
+        Some(mark) if mark.offset != 0 => Detail::Nothing,
+        Some(_) => detail_of(icmp, number, payload),
+        None => detail_of(icmp, number, payload),
+    }
+}
+
+// What is shown of the header that a payload begins with.
+#[tactic(auto, unfolding(crate::specs::Packet::detail_of))]
+fn detail_of(icmp: u8, number: u8, payload: &[u8]) -> Detail
+    ensures { result ≡ detail_of icmp number payload.now }
+{
+    if number == 17 && payload.len() >= 8 || number == 6 && payload.len() >= 20 {
+        return Detail::Ports(
+            u16::from_be_bytes([payload[0], payload[1]]),
+            u16::from_be_bytes([payload[2], payload[3]]),
+        );
+    }
+    if number == icmp && payload.len() >= 4 {
+        return Detail::Message(payload[0], payload[1]);
+    }
+    Detail::Nothing
+}
+
+// What a checksum is over, where it is all there.
+#[tactic(auto, unfolding(crate::specs::Packet::segment_of))]
+fn segment_of(icmp: u8, number: u8, payload: &[u8]) -> Option<&[u8]>
+    ensures { option_map (λ segment. segment.now) result ≡ segment_of icmp number payload.now }
+{
+    let len = payload.len();
+    if number == 17 {
+        if len < 8 {
+            return None;
+        }
+        let datagram_len = usize::from(u16::from_be_bytes([payload[4], payload[5]]));
+        if datagram_len < 8 || len < datagram_len {
+            return None;
+        }
+        return Some(&payload[..datagram_len]);
+    }
+    if number == 6 && len >= 20 || number == icmp && len >= 4 {
+        return Some(payload);
+    }
+    None
+}
+
+// The verdict on the checksum of an IPv4 header.
+fn header_verdict(packet: &[u8], header: &Ipv4Header) -> Verdict
+    requires { ipv4_header_len header.now ≤ length packet.now }
+    ensures { Judges result (SumsToAllOnes (take (ipv4_header_len header.now) packet.now)) }
+{
+    verdict_on(&packet[..header.header_len()])
+}
+
+// The verdict on the checksum of a payload of IPv4, which no fragment has whole.
+fn payload_verdict_ipv4(header: &Ipv4Header, mark: Option<Mark>, payload: &[u8]) -> Verdict
+    ensures { IsPayloadVerdictIpv4 header.now mark payload.now result }
+{
+    match mark {
+        Some(_) => Verdict::Absent,
+        None => verdict_ipv4(header, segment_of(1, header.protocol.0, payload)),
+    }
+}
+
+// The verdict on the checksum of a payload of IPv6, which no fragment has whole.
+fn payload_verdict_ipv6(
+    header: &Ipv6Header,
+    upper: u8,
+    mark: Option<Mark>,
+    payload: &[u8],
+) -> Verdict
+    ensures { IsPayloadVerdictIpv6 header.now upper mark payload.now result }
+{
+    match mark {
+        Some(_) => Verdict::Absent,
+        None => verdict_ipv6(header, upper, segment_of(58, upper, payload)),
+    }
+}
+
+// Whether bytes sum to all ones.
+fn verdict_on(bytes: &[u8]) -> Verdict
+    ensures { Judges result (SumsToAllOnes bytes.now) }
+{
+    let sum = u64_16bit_word::add_slice(0, bytes);
+    if u64_16bit_word::ones_complement(sum) == 0 {
+        Verdict::Right
+    } else {
+        Verdict::Wrong
+    }
+}
+
+// The verdict on a segment over IPv4.
+fn verdict_ipv4(header: &Ipv4Header, segment: Option<&[u8]>) -> Verdict
+    ensures { IsVerdictIpv4 header.now (option_map (λ x. x.now) segment.entry) result }
+{
+    let Some(segment) = segment else {
+        return Verdict::Absent;
+    };
+    let number = header.protocol.0;
+    if has_no_checksum(number, segment) {
+        return Verdict::Absent;
+    }
+    if number == 1 {
+        return verdict_on(segment);
+    }
+    if is_right_ipv4(header, number, segment) {
+        Verdict::Right
+    } else {
+        Verdict::Wrong
+    }
+}
+
+// The verdict on a segment over IPv6.
+fn verdict_ipv6(header: &Ipv6Header, number: u8, segment: Option<&[u8]>) -> Verdict
+    ensures { IsVerdictIpv6 header.now number (option_map (λ x. x.now) segment.entry) result }
+{
+    let Some(segment) = segment else {
+        return Verdict::Absent;
+    };
+    if has_no_checksum(number, segment) {
+        return Verdict::Wrong;
+    }
+    if is_right_ipv6(header, number, segment) {
+        Verdict::Right
+    } else {
+        Verdict::Wrong
+    }
+}
+
+// Whether a segment is a datagram without a checksum.
+fn has_no_checksum(number: u8, segment: &[u8]) -> bool
+    ensures { result ≡ has_no_checksum number segment.now }
+{
+    number == 17 && segment.len() >= 8 && u16::from_be_bytes([segment[6], segment[7]]) == 0
+}
+
+// Whether a segment sums to all ones with the pseudo-header of IPv4.
+fn is_right_ipv4(header: &Ipv4Header, number: u8, segment: &[u8]) -> bool
+    ensures { IsTrue result ↔ IsRightIpv4 header.now number segment.now }
+{
+    let len = match u16::try_from(segment.len()) {
+        Ok(len) => len,
+        Err(_) => return false,
+    };
+    let [h, l] = len.to_be_bytes();
+    let before = [0, number, h, l];
+    are_all_ones(&header.source, &header.destination, &before, segment)
+}
+
+// Whether a segment sums to all ones with the pseudo-header of IPv6.
+fn is_right_ipv6(header: &Ipv6Header, number: u8, segment: &[u8]) -> bool
+    ensures { IsTrue result ↔ IsRightIpv6 header.now number segment.now }
+{
+    let len = match u32::try_from(segment.len()) {
+        Ok(len) => len,
+        Err(_) => return false,
+    };
+    let [a, b, c, d] = len.to_be_bytes();
+    let before = [a, b, c, d, 0, 0, 0, number];
+    are_all_ones(&header.source, &header.destination, &before, segment)
+}
+
+// Whether pieces sum to all ones.
+fn are_all_ones<'a>(
+    source: &'a [u8],
+    destination: &'a [u8],
+    before: &'a [u8],
+    segment: &'a [u8],
+) -> bool
+    ensures { IsTrue result ↔ (ones_complement_sum
+        (source.now ∷ destination.now ∷ before.now ∷ segment.now ∷ []) ≡ 65535) }
+{
+    let sum = u64_16bit_word::add_slices(&[source, destination, before, segment]);
+    u64_16bit_word::ones_complement(sum) == 0
 }
