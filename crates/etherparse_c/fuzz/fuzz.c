@@ -3,7 +3,7 @@
  *
  * An input is a random or mutated packet, which lies at one end of a page between two that can not be read, and fields, words
  * and an error of random numbers, which end at such a page. Of each EVERYth packet the calls are written to the file CASES and
- * the answers to ANSWERS, in the oracle's protocol. */
+ * the answers to ANSWERS, in the protocol of conformance/PROTOCOL.md. */
 
 #define _DEFAULT_SOURCE
 #include "reference.h"
@@ -387,7 +387,7 @@ static void check_text(void)
     expect(memcmp(at + shown + 1, before + shown + 1, room - shown - 1) == 0, "error_text: what stands behind");
 }
 
-/* The same calls and answers for the oracle. */
+/* The same calls and answers for the Rust crate. */
 
 static FILE *cases;
 static FILE *answers;
