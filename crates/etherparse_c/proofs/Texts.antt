@@ -1,5 +1,5 @@
 -- Texts in a buffer, as far as there is room.
-use Rattle.std.proofs.Common.{ℕ, ◌≡◌, ◌==◌, Bool, false, true, ◌+◌, ◌-◌, ◌<◌, ◌≤◌, ◌++◌, ◌∙◌, List, [], ◌∷◌, ap, arith, refl, sym, drop, get_or, length, length-append, min, slice_set, suc, take, take-append-drop}
+use Rattle.std.proofs.Common.{ℕ, ◌≡◌, ◌==◌, false, true, ◌+◌, ◌-◌, ◌<◌, ◌≤◌, ◌++◌, ◌∙◌, List, [], ◌∷◌, ap, arith, refl, drop, get_or, length, length-append, min, slice_set, suc, take, take-append-drop}
 use Rattle.std.proofs.lemmas.List.{append-nil, append_assoc, drop_all, drop_more, length-drop, length-take, set_at, take_more}
 use Rattle.std.proofs.lemmas.Grind.{flat_map-append}
 use Rattle.std.specs.List.{flat_map}
