@@ -3,19 +3,6 @@
 
 use etherparse::err::ipv6::ChainError;
 use etherparse::{IpNumber, Ipv6Header};
-use std::test::Fail;
-
-#[test]
-fn all_extension_headers(rt: HostRuntime) -> Result<(), Fail> {
-    // Hop-by-hop options, destination options, and 4 bytes of UDP.
-    let slice = [
-        60, 0, 0, 0, 0, 0, 0, 0, 17, 0, 0, 0, 0, 0, 0, 0, 4, 0, 0, 53,
-    ];
-    let first = IpNumber::IPV6_HEADER_HOP_BY_HOP;
-    let (upper, _) = Ipv6Header::skip_all_header_extensions_in_slice(&slice, first)?;
-    assert!(rt; upper == IpNumber::UDP);
-    Ok(())
-}
 
 #[test]
 fn one_extension_header_too_many(rt: HostRuntime) {

@@ -116,18 +116,6 @@ impl Ipv6Header {
     /// A `LenError` where a header is incomplete: the length that it requires, the bytes that are
     /// left, and the offset from the front of the slice at which it starts. Where fewer than 2
     /// bytes are left, 2 are required.
-    ///
-    /// # Example
-    ///
-    /// ```
-    /// // Hop-by-hop options, destination options, and 4 bytes of UDP.
-    /// let slice = [
-    ///     60, 0, 0, 0, 0, 0, 0, 0, 17, 0, 0, 0, 0, 0, 0, 0, 4, 0, 0, 53,
-    /// ];
-    /// let first = IpNumber::IPV6_HEADER_HOP_BY_HOP;
-    /// let (upper, _) = Ipv6Header::skip_all_header_extensions_in_slice(&slice, first)?;
-    /// assert!(rt; upper == IpNumber::UDP);
-    /// ```
     pub fn skip_all_header_extensions_in_slice(
         slice: &[u8],
         next_header: IpNumber,
