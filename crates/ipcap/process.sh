@@ -48,15 +48,15 @@ run() {
     "$program" "$@" <"$room/input" >"$room/output" 2>"$room/errors"
 }
 
-# closing RECORDS IPV4 IPV6: the closing line of a capture with no damage.
+# closing RECORDS IPV4 IPV6 WRONG: the closing line of a front of the capture.
 closing() {
-    echo "$1 packets: $2 IPv4, $3 IPv6, 0 refused, 0 skipped, 0 cut"
+    echo "$1 packets: $2 IPv4, $3 IPv6, 0 refused, 0 skipped, 0 cut, $4 with a wrong checksum"
 }
 
 whole_capture() {
     cp stdin "$room/input"
     cp stdout "$room/wanted"
-    closing 4 3 1 >"$room/wanted.errors"
+    closing 4 3 1 1 >"$room/wanted.errors"
     run
     judge 'the capture' $? 0
     dd if=stdin bs=1 2>/dev/null | "$program" >"$room/output" 2>"$room/errors"
@@ -111,7 +111,7 @@ cut_captures() {
             [ "$code" -eq 0 ] || echo "error: the last record is cut off: it needs $needs bytes," \
                 "and there are $there" >"$room/wanted.errors"
             ipv6=$((lines > 2 ? 1 : 0))
-            closing "$lines" $((lines - ipv6)) "$ipv6" >>"$room/wanted.errors"
+            closing "$lines" $((lines - ipv6)) "$ipv6" 0 >>"$room/wanted.errors"
         fi
         run
         judge "the first $len bytes" $? "$code"

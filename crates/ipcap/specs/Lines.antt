@@ -153,13 +153,22 @@ abbrev pub end_text : Option cut.CutOff → List ℕ
 end_text None = []
 end_text (Some e) = cut_off_line e
 
--- the closing line
-unfoldable pub closing_line : Totals → List ℕ
-closing_line totals =
+-- the first half of the closing line: how many records there are, and of which kinds
+unfoldable pub kinds_text : Totals → List ℕ
+kinds_text totals =
     decimal totals.records ++ (codes " packets: " ++ (decimal totals.ipv4
-    ++ (codes " IPv4, " ++ (decimal totals.ipv6 ++ (codes " IPv6, " ++ (decimal totals.refused
-    ++ (codes " refused, " ++ (decimal totals.skipped ++ (codes " skipped, "
-    ++ (decimal totals.cut ++ codes " cut\n"))))))))))
+    ++ (codes " IPv4, " ++ (decimal totals.ipv6 ++ (codes " IPv6, "
+    ++ (decimal totals.refused ++ codes " refused, "))))))
+
+-- the second half: how many are skipped, cut, or have a wrong checksum
+unfoldable pub damage_text : Totals → List ℕ
+damage_text totals =
+    decimal totals.skipped ++ (codes " skipped, " ++ (decimal totals.cut ++ (codes " cut, "
+    ++ (decimal totals.wrong ++ codes " with a wrong checksum\n"))))
+
+-- the closing line
+abbrev pub closing_line : Totals → List ℕ
+closing_line totals = kinds_text totals ++ damage_text totals
 
 -- why an input is no capture
 unfoldable pub capture_error_line : CaptureError → List ℕ

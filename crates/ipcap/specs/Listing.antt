@@ -1,5 +1,5 @@
 -- What is listed of the records of a capture, in their order.
-use Rattle.std.specs.Prelude.{ℕ, ◌≡◌, ◌+◌, ◌*◌, ◌<◌, ◌≤◌, Bool, true, false, is_err, nat_lt, List, [], ◌++◌}
+use Rattle.std.specs.Prelude.{ℕ, ◌≡◌, ◌+◌, ◌*◌, ◌||◌, ◌<◌, ◌≤◌, Bool, true, false, is_err, nat_lt, List, [], ◌++◌}
 use Rattle.std.specs.Prelude.{length, drop, slice_range, Option, Some, None, Result, Ok, Err}
 use Rattle.std.specs.Int.{w32}
 use Rattle.uses.specs.Capture.{BeginsWithRecord, Recorded, ReadsRecord, nanoseconds_in, number_in}
@@ -9,7 +9,7 @@ use Rattle.uses.specs.declared.capture.CutOff as cut
 use Rattle.uses.specs.declared.capture.FileHeader.{FileHeader}
 use Rattle.uses.specs.declared.ip_slice.IpSliceError.{IpSliceError}
 use Rattle.ipcap.specs.Lines.{is_cut, record_line, skipped_line}
-use Rattle.ipcap.specs.Packet.{IsShown}
+use Rattle.ipcap.specs.Packet.{IsShown, is_wrong}
 use Rattle.ipcap.specs.Totals.{counted}
 use Rattle.ipcap.specs.declared.packet.Address.TheVariants.{V4, V6}
 use Rattle.ipcap.specs.declared.packet.Shown.{Shown}
@@ -30,6 +30,11 @@ abbrev pub is_version_6 : Result Shown IpSliceError → Bool
 is_version_6 (Ok shown) = elim shown.source [ V4 octets ↦ false | V6 octets ↦ true ]
 is_version_6 (Err e) = false
 
+-- whether one of its checksums is wrong
+abbrev pub has_wrong_checksum : Result Shown IpSliceError → Bool
+has_wrong_checksum (Ok shown) = is_wrong shown.header_checksum || is_wrong shown.payload_checksum
+has_wrong_checksum (Err e) = false
+
 -- what is counted of a record that is read
 abbrev pub outcome_of : Recorded → Result Shown IpSliceError → Outcome
 outcome_of found reading = record {
@@ -38,6 +43,7 @@ outcome_of found reading = record {
   is_refused = is_err reading;
   is_skipped = false;
   is_cut = is_cut found;
+  is_wrong = has_wrong_checksum reading;
 }
 
 -- what is counted of a record that is skipped
@@ -48,6 +54,7 @@ skipped_outcome is_cut = record {
   is_refused = false;
   is_skipped = true;
   is_cut = is_cut;
+  is_wrong = false;
 }
 
 -- the greatest number of bytes of a record that are read

@@ -1,6 +1,6 @@
 -- What is shown of a packet.
 use Rattle.std.specs.Prelude.{ℕ, ◌≡◌, ◌*◌, ◌<◌, ◌^◌, ◌==◌, ◌&&◌, ◌||◌, ◌⊎◌, Bool, not, List, [], ◌∷◌, ◌++◌}
-use Rattle.std.specs.Prelude.{MatchBool, MatchOption, Option, Some, None, if◌then◌else◌, length}
+use Rattle.std.specs.Prelude.{false, true, MatchBool, MatchOption, Option, Some, None, if◌then◌else◌, length}
 use Rattle.std.specs.Prelude.{nat_le, slice_index, slice_range, take}
 use Rattle.std.specs.Int.{from_be_bytes, to_be_bytes, w16, w32}
 use Rattle.etherparse.specs.Ipv4Header.{ipv4_header_len}
@@ -106,6 +106,12 @@ abbrev pub Judges : Verdict → Type 0 → Type 0
 Judges Right fact = fact
 Judges Wrong fact = ¬ fact
 Judges Absent fact = ⊥
+
+-- the verdict is that the checksum is wrong
+abbrev pub is_wrong : Verdict → Bool
+is_wrong Right = false
+is_wrong Wrong = true
+is_wrong Absent = false
 
 -- the verdict on the checksum of an IPv4 header; IPv6 has none
 abbrev pub IsHeaderVerdict : List ℕ → IpSlice → Verdict → Type 0

@@ -6,7 +6,7 @@ use Rattle.ipcap.specs.declared.totals.Totals.{Totals}
 
 -- before any record
 abbrev pub nothing_counted : Totals
-nothing_counted = record { records = 0; ipv4 = 0; ipv6 = 0; refused = 0; skipped = 0; cut = 0 }
+nothing_counted = record { records = 0; ipv4 = 0; ipv6 = 0; refused = 0; skipped = 0; cut = 0; wrong = 0 }
 
 -- with one record more
 abbrev pub counted : Outcome → Totals → Totals
@@ -17,4 +17,5 @@ counted outcome totals = record {
   refused = totals.refused + from_bool outcome.is_refused;
   skipped = totals.skipped + from_bool outcome.is_skipped;
   cut = totals.cut + from_bool outcome.is_cut;
+  wrong = totals.wrong + from_bool outcome.is_wrong;
 }

@@ -4,7 +4,7 @@ ghost use Rattle.std.specs.Prelude.{◌≡◌, Some, OnOk, MatchOption, length};
 ghost use Rattle.std.specs.Io.KnownBytes.{Appends};
 ghost use Rattle.uses.specs.Capture.{recorded};
 ghost use Rattle.ipcap.specs.Lines.{detail_text, mark_text, parties_text, payload_text};
-ghost use Rattle.ipcap.specs.Lines.{verdict_text};
+ghost use Rattle.ipcap.specs.Lines.{damage_text, kinds_text, verdict_text};
 ghost use Rattle.ipcap.specs.Lines.{address_text, capture_error_line, closing_line, cut_off_line};
 ghost use Rattle.ipcap.specs.Lines.{cut_text, fraction_text, head_text, keyword_of};
 ghost use Rattle.ipcap.specs.Lines.{link_type_line, reading_text, record_line, shown_text};
@@ -311,16 +311,38 @@ pub fn write_cut_off<W: Write>(writer: &mut W, e: CutOff) -> io::Result<()>
 }
 
 /// Writes the closing line.
-#[tactic(auto, unfolding(crate::specs::Lines::closing_line))]
 pub fn write_closing<W: Write>(writer: &mut W, totals: Totals) -> io::Result<()>
     ensures { OnOk result (Appends (W.contents writer.old) (W.contents writer.new)
         (closing_line totals)) }
 {
+    write_kinds(writer, totals)?;
+    write_damage(writer, totals)
+}
+
+// Writes how many records there are, and of which kinds.
+#[tactic(auto, unfolding(crate::specs::Lines::kinds_text))]
+fn write_kinds<W: Write>(writer: &mut W, totals: Totals) -> io::Result<()>
+    ensures { OnOk result (Appends (W.contents writer.old) (W.contents writer.new)
+        (kinds_text totals)) }
+{
     let (records, ipv4, ipv6) = (totals.records, totals.ipv4, totals.ipv6);
-    let (refused, skipped, cut) = (totals.refused, totals.skipped, totals.cut);
+    let refused = totals.refused;
     write!(
         writer,
-        "{records} packets: {ipv4} IPv4, {ipv6} IPv6, {refused} refused, {skipped} skipped, {cut} cut\n"
+        "{records} packets: {ipv4} IPv4, {ipv6} IPv6, {refused} refused, "
+    )
+}
+
+// Writes how many are skipped, cut, or have a wrong checksum.
+#[tactic(auto, unfolding(crate::specs::Lines::damage_text))]
+fn write_damage<W: Write>(writer: &mut W, totals: Totals) -> io::Result<()>
+    ensures { OnOk result (Appends (W.contents writer.old) (W.contents writer.new)
+        (damage_text totals)) }
+{
+    let (skipped, cut, wrong) = (totals.skipped, totals.cut, totals.wrong);
+    write!(
+        writer,
+        "{skipped} skipped, {cut} cut, {wrong} with a wrong checksum\n"
     )
 }
 

@@ -7,7 +7,7 @@ ghost use Rattle.std.specs.Io.KnownBytes.{Appends, IsAtEnd, Keeps, append_known,
 ghost use Rattle.uses.specs.Capture.{ReadsRecord, nanoseconds_in, number_in, record_len};
 ghost use Rattle.uses.specs.Capture.{recorded};
 ghost use Rattle.ipcap.specs.Listing.{IsToldOfLongRecord, IsToldOfRecord, max_captured_len};
-ghost use Rattle.ipcap.specs.Listing.{outcome_of};
+ghost use Rattle.ipcap.specs.Listing.{has_wrong_checksum, outcome_of};
 ghost use Rattle.ipcap.specs.Progress.{Skips, TellsFront, TellsKnown, Told, unless_quiet};
 ghost use Rattle.ipcap.specs.Totals.{nothing_counted};
 ghost use Rattle.ipcap.specs.Window.{unread};
@@ -75,6 +75,17 @@ fn outcome(record: &Record, reading: &Result<Shown, IpSliceError>) -> Outcome
         is_refused: reading.is_err(),
         is_skipped: false,
         is_cut: record.bytes.len() < record.original_len as usize,
+        is_wrong: has_wrong_checksum(reading),
+    }
+}
+
+// Whether a packet is shown with a wrong checksum.
+fn has_wrong_checksum(reading: &Result<Shown, IpSliceError>) -> bool
+    ensures { result ≡ has_wrong_checksum reading.now }
+{
+    match reading {
+        Ok(shown) => shown.header_checksum.is_wrong() || shown.payload_checksum.is_wrong(),
+        Err(_) => false,
     }
 }
 
@@ -191,6 +202,7 @@ fn list_long<W: Write>(
         is_refused: false,
         is_skipped: true,
         is_cut,
+        is_wrong: false,
     }) else {
         return Err(io::Error::from(ErrorKind::Other));
     };

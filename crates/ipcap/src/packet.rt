@@ -58,6 +58,17 @@ pub enum Verdict {
     Absent,
 }
 
+impl Verdict {
+    ghost use Rattle.ipcap.specs.Packet.{is_wrong};
+
+    /// Whether it says that the checksum is wrong.
+    pub fn is_wrong(self) -> bool
+        ensures { result ≡ is_wrong self }
+    {
+        matches!(self, Verdict::Wrong)
+    }
+}
+
 /// What is shown of a packet.
 #[derive(Clone, Copy, Debug, PartialEq, Eq)]
 pub struct Shown {

@@ -13,6 +13,8 @@ pub struct Outcome {
     pub is_skipped: bool,
     /// Fewer bytes were captured than the packet had.
     pub is_cut: bool,
+    /// One of its checksums is wrong.
+    pub is_wrong: bool,
 }
 
 /// How many records there were, and of which kinds.
@@ -30,6 +32,8 @@ pub struct Totals {
     pub skipped: u64,
     /// Those of which fewer bytes were captured than the packet had.
     pub cut: u64,
+    /// Those with a wrong checksum.
+    pub wrong: u64,
 }
 
 impl Totals {
@@ -47,6 +51,7 @@ impl Totals {
             refused: 0,
             skipped: 0,
             cut: 0,
+            wrong: 0,
         }
     }
 
@@ -61,6 +66,7 @@ impl Totals {
             refused: self.refused.checked_add(u64::from(outcome.is_refused))?,
             skipped: self.skipped.checked_add(u64::from(outcome.is_skipped))?,
             cut: self.cut.checked_add(u64::from(outcome.is_cut))?,
+            wrong: self.wrong.checked_add(u64::from(outcome.is_wrong))?,
         })
     }
 }
