@@ -50,9 +50,8 @@ for crate in $crates; do
   grep "^$crate[: ]" "$here/../crates.txt"
 done > "$room/crates.txt"
 echo 'loops staticlib: etherparse arrayvec' >> "$room/crates.txt"
-mkdir -p "$room/crates/loops"
-rm -rf "$room/crates/loops/src"
-cp -r "$here/loops/src" "$room/crates/loops/src"
+mkdir -p "$room/crates/loops/src"
+cp "$here/src/loops.rt.txt" "$room/crates/loops/src/lib.rt" # the gate wants no other Rattle file beside the crates
 for crate in etherparse_c loops; do
   (cd "$room/crates/$crate" && rt lib "--cpu=$level") > "$out/$crate.txt" 2>&1 || {
     cat "$out/$crate.txt" >&2
