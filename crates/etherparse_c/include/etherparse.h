@@ -257,8 +257,8 @@ struct etherparse_ipv4_lengths_answer {
     struct etherparse_error error; /* why there is no payload_len */
 };
 
-/* The header at the front of a slice, and where the bytes after it are, however many total_len
- * tells of.
+/* The header at the front of a slice, and where the bytes after it are: all of them, whatever
+ * total_len says.
  *
  * The error is, in this order, a LEN where the slice has fewer than 20 bytes; UNEXPECTED_VERSION
  * where the version is not 4; HEADER_LENGTH_SMALLER_THAN_HEADER where the IHL is below 5; a LEN
@@ -367,8 +367,8 @@ struct etherparse_ipv6_walk_answer {
     struct etherparse_rest rest; /* the bytes after all extension headers */
 };
 
-/* The header at the front of a slice, and where the bytes after it are, however many
- * payload_length tells of.
+/* The header at the front of a slice, and where the bytes after it are: all of them, whatever
+ * payload_length says.
  *
  * The error is a LEN where the slice has fewer than 40 bytes; else UNEXPECTED_VERSION where the
  * version is not 6. */

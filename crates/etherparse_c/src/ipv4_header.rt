@@ -29,7 +29,7 @@ pub struct Ipv4Fields {
     pub ecn: u8,
     /// The length of the header and what follows it, in bytes.
     pub total_len: u16,
-    /// What the fragments of one packet have in common.
+    /// Equal in all fragments of one packet.
     pub identification: u16,
     /// Whether the packet must not be cut into fragments.
     pub dont_fragment: bool,
@@ -37,7 +37,7 @@ pub struct Ipv4Fields {
     pub more_fragments: bool,
     /// Where the fragment stands in the packet, in units of 8 bytes, at most 8191.
     pub fragment_offset: u16,
-    /// Lowered by one by each node that forwards the packet, which discards it at 0.
+    /// Decremented by every router; at 0 the packet is discarded.
     pub time_to_live: u8,
     /// The protocol of what follows the header.
     pub protocol: u8,
@@ -178,8 +178,8 @@ pub extern "C" fn etherparse_ipv4_new(
     }
 }
 
-/// The fields of the header at the front of a slice, and where the bytes after it are, however many
-/// `total_len` tells of.
+/// The fields of the header at the front of a slice, and where the bytes after it are: all of them,
+/// whatever `total_len` says.
 ///
 /// The error is, in this order, a length of fewer than 20 bytes; another version than 4; an IHL
 /// below 5; fewer bytes than the IHL says.

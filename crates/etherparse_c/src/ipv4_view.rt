@@ -19,7 +19,7 @@ pub struct Ipv4ViewFields {
     pub destination: [u8; 4],
     /// The length of the header and what follows it, in bytes.
     pub total_len: u16,
-    /// What the fragments of one packet have in common.
+    /// Equal in all fragments of one packet.
     pub identification: u16,
     /// Where the fragment stands in the packet, in units of 8 bytes, at most 8191.
     pub fragment_offset: u16,
@@ -38,7 +38,7 @@ pub struct Ipv4ViewFields {
     /// Whether the payload is a part of one that was cut: more fragments follow it, or its offset
     /// is not 0.
     pub is_fragmenting_payload: bool,
-    /// Lowered by one by each node that forwards the packet, which discards it at 0.
+    /// Decremented by every router; at 0 the packet is discarded.
     pub time_to_live: u8,
     /// The protocol of what follows the header.
     pub protocol: u8,

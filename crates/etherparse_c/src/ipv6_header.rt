@@ -27,7 +27,7 @@ pub struct Ipv6Fields {
     pub traffic_class: u8,
     /// What follows the header: an extension header or an upper-layer protocol.
     pub next_header: u8,
-    /// Lowered by one by each node that forwards the packet, which discards it at 0.
+    /// Decremented by every router; at 0 the packet is discarded.
     pub hop_limit: u8,
 }
 
@@ -61,8 +61,8 @@ pub extern "C" fn etherparse_ipv6_default() -> Ipv6Fields
     fields_of(&Ipv6Header::default())
 }
 
-/// The fields of the header at the front of a slice, and where the bytes after it are, however many
-/// `payload_length` tells of.
+/// The fields of the header at the front of a slice, and where the bytes after it are: all of them,
+/// whatever `payload_length` says.
 ///
 /// The error is a length of fewer than 40 bytes; else another version than 6.
 #[unsafe(no_mangle)]

@@ -29,7 +29,7 @@ pub struct Ipv6ViewFields {
     pub ecn: u8,
     /// What follows the header: an extension header or an upper-layer protocol.
     pub next_header: u8,
-    /// Lowered by one by each node that forwards the packet, which discards it at 0.
+    /// Decremented by every router; at 0 the packet is discarded.
     pub hop_limit: u8,
 }
 

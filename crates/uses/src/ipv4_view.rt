@@ -47,7 +47,7 @@ pub fn payload_len(view: &Ipv4HeaderSlice) -> (Result<u16, LenError>, Ipv4Header
     (view.payload_len(), view.to_header())
 }
 
-/// What the fragments of one packet have in common, beside the header.
+/// What is equal in all fragments of one packet, beside the header.
 pub fn identification(view: &Ipv4HeaderSlice) -> (u16, Ipv4Header)
     ensures field { result.0 ≡ result.1.identification }
     ensures header { IsIpv4Layout result.1 view.now.slice.now }

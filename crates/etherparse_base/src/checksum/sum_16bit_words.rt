@@ -48,7 +48,7 @@ impl Sum16BitWords {
     /// Adds the words of a slice. An odd last byte is paired with a byte 0 behind it (RFC 1071
     /// section 1).
     ///
-    /// The answer is one of the sums that have the right complement. Which one, is no promise.
+    /// The answer has the right complement; nothing else of it is promised.
     #[inline]
     pub fn add_slice(self, slice: &[u8]) -> Sum16BitWords
         ensures adds { AddsSlice self slice.now result }

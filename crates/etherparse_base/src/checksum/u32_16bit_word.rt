@@ -38,7 +38,7 @@ pub fn add_4bytes(start: u32, value: [u8; 4]) -> u32
 /// Adds the words of a slice. An odd last byte is paired with a byte 0 behind it (RFC 1071 section
 /// 1).
 ///
-/// The answer is one of the numbers that have the right complement. Which one, is no promise.
+/// The answer has the right complement; nothing else of it is promised.
 #[inline(always)]
 pub fn add_slice(start_sum: u32, slice: &[u8]) -> u32
     ensures adds { AddsSlice start_sum slice.now result }
