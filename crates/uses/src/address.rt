@@ -22,8 +22,7 @@ impl Ipv6Text {
     /// A law: what is displayed is the text that RFC 5952 recommends.
     pub fn is_recommended(&self)
         ensures { IsIpv6Text (fields_of self.now.0) (text_of (fields_of self.now.0)) }
-    {
-    }
+    {}
 }
 
 impl fmt::Display for Ipv6Text {
