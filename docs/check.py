@@ -107,11 +107,17 @@ def proves(block):
         return 'logic=proved' in done.stdout + done.stderr
 
 
+def has(compiler):
+    """whether a compiler is there; blocks of its language are left out where it is not"""
+    if not shutil.which(compiler):
+        print(f'left out: blocks for {compiler}, which is not there')
+    return shutil.which(compiler)
+
+
 def compiles(block):
     """whether a block in C compiles with the library's header file at hand, as a file or as the
     statements of a function that has a packet and the UDP packet in it"""
-    if not shutil.which('gcc'):
-        print('left out: C blocks, since gcc is not there')
+    if not has('gcc'):
         return True
     compiler = ['gcc', '-std=c11', '-fsyntax-only', '-xc', '-']
     include = ['-I', str(ROOT / 'crates/etherparse_c/include')]
@@ -120,6 +126,16 @@ def compiles(block):
     return any(subprocess.run(compiler + include, input=text, capture_output=True, text=True,
                               check=False).returncode == 0
                for text in (block, head + block + '}'))
+
+
+def compiles_by_rustc(block):
+    """whether a block in Rust, which is not Rattle, compiles as a program"""
+    if not has('rustc'):
+        return True
+    with tempfile.TemporaryDirectory() as room:
+        compiler = ['rustc', '--edition', '2021', '--emit=metadata', '--out-dir', room, '-']
+        return subprocess.run(compiler, input=block, capture_output=True, text=True,
+                              check=False).returncode == 0
 
 
 # What a page says.
@@ -141,6 +157,8 @@ def check_code(page, text):
             stands = any(squeezed in source for source in SQUEEZED.values())
             stands = stands or any(foreign in source for source in FOREIGN)
             judge(page, first, stands or proves(block), 'stands nowhere, and does not prove')
+        elif language == 'rs':
+            judge(page, first, compiles_by_rustc(block), 'does not compile')
         elif language in ('c', 'toml'):
             stands = any(foreign in source for source in FOREIGN)
             works = stands or (language == 'c' and compiles(block))
