@@ -1,5 +1,6 @@
 -- What the calls on IPv6 headers answer to C.
-use Rattle.std.specs.Prelude.{ℕ, ◌≡◌, ◌-◌, ◌/◌, ◌%◌, ◌^◌, ◌++◌, List, length, replicate, Result, Ok, Err}
+use Rattle.std.specs.Prelude.{ℕ, ◌≡◌, ◌-◌, ◌/◌, ◌%◌, ◌^◌, ◌++◌, List, length, replicate, Result}
+use Rattle.std.specs.Prelude.{Ok, Err}
 use Rattle.etherparse.specs.Ipv6Header.{IsIpv6Layout, Ipv6Reading}
 use Rattle.etherparse.specs.declared.net.ipv6_header.Ipv6Header.{Ipv6Header}
 use Rattle.etherparse_c.specs.Answer.{no_rest, rest_of}

@@ -42,7 +42,8 @@ pub extern "C" fn etherparse_error_text(error: &Error, text: &mut [u8]) -> usize
                 &[
                     "IPv4 Header Error: The 'internet header length' value '",
                     short_digits(&mut ihl, error.number),
-                    "' present in the IPv4 header is smaller than the minimum size of an IPv4 header. The minimum allowed value is '5'.",
+                    "' present in the IPv4 header is smaller than the minimum size of an IPv4 \
+                     header. The minimum allowed value is '5'.",
                 ],
                 text,
             );
@@ -71,7 +72,8 @@ pub extern "C" fn etherparse_error_text(error: &Error, text: &mut [u8]) -> usize
                 &[
                     "Slice of length ",
                     digits(&mut len, error.len),
-                    " cannot be set as IPv4 header options. The length must be a multiple of 4 and at maximum 40.",
+                    " cannot be set as IPv4 header options. The length must be a multiple of 4 \
+                     and at maximum 40.",
                 ],
                 text,
             );

@@ -2,7 +2,9 @@
 //! there.
 
 use etherparse::err::ipv4::BadOptionsLen;
-use etherparse::{IpDscp, IpEcn, IpFragOffset, IpNumber, Ipv4Options, Ipv6FlowLabel, ip_number};
+use etherparse::{
+    IpDscp, IpDscpKnown, IpEcn, IpFragOffset, IpNumber, Ipv4Options, Ipv6FlowLabel, ip_number,
+};
 use std::test::Fail;
 
 #[test]
@@ -50,4 +52,23 @@ fn options_of_arrays_and_slices(rt: HostRuntime) -> Result<(), Fail> {
     let refused = Ipv4Options::try_from([1, 1, 0].as_slice());
     assert!(rt; refused == Err(BadOptionsLen { bad_len: 3 }));
     Ok(())
+}
+
+#[test]
+fn a_known_code_point(rt: HostRuntime) -> Result<(), Fail> {
+    let known = IpDscpKnown::try_from_ip_dscp(IpDscp::EF)?;
+    assert!(rt; known == IpDscpKnown::ExpeditedForwarding);
+    // No code point of the registry has the number 2.
+    let dscp = IpDscp::try_new(2)?;
+    assert!(rt; IpDscpKnown::try_from_ip_dscp(dscp).is_err());
+    Ok(())
+}
+
+#[test]
+fn options_of_the_front_of_an_array(rt: HostRuntime) {
+    // A router alert (RFC 2113), and 36 bytes that are no part of it.
+    let mut room = [7; 40];
+    [room[0], room[1], room[2], room[3]] = [148, 4, 0, 0];
+    let options = Ipv4Options::from_front(&room, 4);
+    assert!(rt; options == Ipv4Options::from([148, 4, 0, 0]));
 }

@@ -1,6 +1,8 @@
 //! The examples in the doc comments of headers and views, line by line as they stand there.
 
-use etherparse::{IpNumber, Ipv4Header, Ipv4HeaderSlice, Ipv4Options, Ipv6Header};
+use etherparse::{
+    IpDscp, IpEcn, IpNumber, Ipv4Header, Ipv4HeaderSlice, Ipv4Options, Ipv6Header, Ipv6HeaderSlice,
+};
 use std::test::Fail;
 
 #[test]
@@ -86,5 +88,36 @@ fn an_ipv6_payload_without_its_padding(rt: HostRuntime) -> Result<(), Fail> {
     // `None` where the packet is cut short.
     let payload = rest.get(..usize::from(header.payload_length));
     assert!(rt; payload == Some([0; 4].as_slice()));
+    Ok(())
+}
+
+#[test]
+fn an_ipv6_header_written_and_read(rt: HostRuntime) -> Result<(), Fail> {
+    let mut header = Ipv6Header::default();
+    header.next_header = IpNumber::UDP;
+    header.hop_limit = 64;
+    header.set_payload_length(100)?;
+    let bytes = header.to_bytes();
+    let (read, _) = Ipv6Header::from_slice(&bytes)?;
+    assert!(rt; read == header);
+    Ok(())
+}
+
+#[test]
+fn a_traffic_class_by_its_parts(rt: HostRuntime) {
+    let mut header = Ipv6Header::default();
+    header.set_dscp(IpDscp::EF);
+    header.set_ecn(IpEcn::Ect0);
+    assert!(rt; header.traffic_class == 0b1011_1010);
+}
+
+#[test]
+fn an_ipv6_view(rt: HostRuntime) -> Result<(), Fail> {
+    // A payload of 4 bytes, the number of UDP, a hop limit of 64, and addresses of zeros.
+    let mut packet = [0; 44];
+    [packet[0], packet[5], packet[6], packet[7]] = [0x60, 4, 17, 64];
+    let view = Ipv6HeaderSlice::from_slice(&packet)?;
+    assert!(rt; view.next_header() == IpNumber::UDP);
+    assert!(rt; view.hop_limit() == 64);
     Ok(())
 }

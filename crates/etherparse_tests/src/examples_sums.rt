@@ -3,6 +3,7 @@
 
 use etherparse::LenSource;
 use etherparse::checksum::u64_16bit_word;
+use etherparse::err::ipv6::ChainError;
 use etherparse::err::{Layer, LenError};
 
 #[test]
@@ -41,4 +42,29 @@ fn an_error_further_on(rt: HostRuntime) {
     };
     // The IPv4 header itself stands behind 14 bytes of Ethernet.
     assert!(rt; error.add_offset(14).layer_start_offset == 34);
+}
+
+#[test]
+fn a_header_as_it_was_received(rt: HostRuntime) {
+    // An IPv4 header with its checksum in it: its words sum to all ones.
+    let header = [
+        0x45, 0, 0, 115, 0, 0, 0x40, 0, 64, 17, 0xb8, 0x61, 192, 168, 0, 1, 192, 168, 0, 199,
+    ];
+    assert!(rt; u64_16bit_word::checksum(0, &header) == 0);
+}
+
+#[test]
+fn a_chain_refused_further_on(rt: HostRuntime) {
+    // One header too many, 8 bytes behind the IPv6 header, and its place in the packet.
+    let error = ChainError::TooMany {
+        limit: 1,
+        next_header: 60,
+        layer_start_offset: 8,
+    };
+    let in_packet = ChainError::TooMany {
+        limit: 1,
+        next_header: 60,
+        layer_start_offset: 48,
+    };
+    assert!(rt; error.add_slice_offset(40) == in_packet);
 }

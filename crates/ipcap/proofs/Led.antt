@@ -6,7 +6,7 @@ use Rattle.uses.specs.Capture.{BeginsWithRecord, ReadsRecord, Recorded, record_l
 use Rattle.uses.specs.declared.capture.CutOff as cut
 use Rattle.uses.specs.declared.capture.FileHeader.{FileHeader}
 use Rattle.ipcap.specs.Listing.{IsToldOfLongRecord, IsToldOfRecord, Lists, ends, is_cut_off, is_cut_off_long, max_captured_len, reads, skips}
-use Rattle.ipcap.specs.Progress.{GoesOn, Leads, Skips, Stops, TellsFront, TellsKnown, Told, unless_quiet}
+use Rattle.ipcap.specs.Private.Progress.{GoesOn, Leads, Skips, Stops, TellsFront, TellsKnown, Told, unless_quiet}
 use Rattle.ipcap.specs.declared.listing.Turn.{Turn}
 use Rattle.ipcap.specs.declared.listing.Turn.TheVariants as turn
 use Rattle.ipcap.specs.declared.totals.Totals.{Totals}

@@ -7,7 +7,7 @@ use Rattle.uses.specs.declared.capture.CaptureError.{CaptureError}
 use Rattle.uses.specs.declared.capture.FileHeader.{FileHeader}
 use Rattle.ipcap.specs.Lines.{capture_error_line, closing_line, end_text, link_type_line}
 use Rattle.ipcap.specs.Output.{IsListing, IsOutcome, Writes, is_raw_ip, link_type_of, listed, refused, status_at}
-use Rattle.ipcap.specs.Progress.{Told}
+use Rattle.ipcap.specs.Private.Progress.{Told}
 use Rattle.ipcap.specs.Totals.{nothing_counted}
 use Rattle.ipcap.specs.declared.listing.Turn.TheVariants as turn
 use Rattle.ipcap.specs.declared.totals.Totals.{Totals}

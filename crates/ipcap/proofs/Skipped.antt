@@ -2,7 +2,7 @@
 use Rattle.std.proofs.Common.{ℕ, ◌≡◌, ◌<◌, ◌≤◌, ◌+◌, List, [], ◌++◌, length, drop, Option, Some, None, refl, sym, ap, ◌∙◌, arith, length-append, length-drop, drop-drop}
 use Rattle.std.proofs.lemmas.List.{drop-append-le}
 use Rattle.std.specs.Io.KnownBytes.{IsAtEnd, Keeps, prepend_known}
-use Rattle.ipcap.specs.Progress.{Skips}
+use Rattle.ipcap.specs.Private.Progress.{Skips}
 
 pub skips_none : (a : Option (List ℕ)) → Skips a 0 None a
 skips_none None = tt

@@ -2,7 +2,6 @@ pub mod Lines
 pub mod Listing
 pub mod Output
 pub mod Packet
-pub mod Progress
+pub mod Private
 pub mod Status
 pub mod Totals
-pub mod Window

@@ -1,6 +1,7 @@
 -- What is listed of the records of a capture, in their order.
-use Rattle.std.specs.Prelude.{ℕ, ◌≡◌, ◌+◌, ◌*◌, ◌||◌, ◌<◌, ◌≤◌, Bool, true, false, is_err, nat_lt, List, [], ◌++◌}
-use Rattle.std.specs.Prelude.{length, drop, slice_range, Option, Some, None, Result, Ok, Err}
+use Rattle.std.specs.Prelude.{ℕ, ◌≡◌, ◌+◌, ◌*◌, ◌||◌, ◌<◌, ◌≤◌, Bool, true, false, is_err, nat_lt}
+use Rattle.std.specs.Prelude.{List, [], ◌++◌, length, drop, slice_range, Option, Some, None}
+use Rattle.std.specs.Prelude.{Result, Ok, Err}
 use Rattle.std.specs.Int.{w32}
 use Rattle.uses.specs.Capture.{BeginsWithRecord, Recorded, ReadsRecord, nanoseconds_in, number_in}
 use Rattle.uses.specs.Capture.{record_len}

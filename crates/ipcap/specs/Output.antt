@@ -1,6 +1,6 @@
 -- What the program writes.
-use Rattle.std.specs.Prelude.{ℕ, ◌≡◌, ◌%◌, ◌^◌, ◌==◌, ◌||◌, ◌⊎◌, Bool, false, IsTrue, List, [], ◌++◌}
-use Rattle.std.specs.Prelude.{Option, Some, None, Err, if◌then◌else◌}
+use Rattle.std.specs.Prelude.{ℕ, ◌≡◌, ◌%◌, ◌^◌, ◌==◌, ◌||◌, ◌⊎◌, Bool, false, IsTrue, List, []}
+use Rattle.std.specs.Prelude.{◌++◌, Option, Some, None, Err, if◌then◌else◌}
 use Rattle.std.specs.Io.KnownBytes.{Appends}
 use Rattle.uses.specs.Capture.{BeginsWithFileHeader, ReadsFileHeader}
 use Rattle.uses.specs.declared.capture.CaptureError.{CaptureError}

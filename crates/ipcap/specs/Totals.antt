@@ -6,7 +6,8 @@ use Rattle.ipcap.specs.declared.totals.Totals.{Totals}
 
 -- before any record
 abbrev pub nothing_counted : Totals
-nothing_counted = record { records = 0; ipv4 = 0; ipv6 = 0; refused = 0; skipped = 0; cut = 0; wrong = 0 }
+nothing_counted =
+    record { records = 0; ipv4 = 0; ipv6 = 0; refused = 0; skipped = 0; cut = 0; wrong = 0 }
 
 -- with one record more
 abbrev pub counted : Outcome → Totals → Totals

@@ -68,21 +68,21 @@ pub fn write_record<W: Write>(
     writer: &mut W,
     resolution: Resolution,
     number: u64,
-    record: &Record,
+    captured: &Record,
     reading: &Result<Shown, IpSliceError>,
 ) -> io::Result<()>
     ensures { OnOk result (Appends (W.contents writer.old) (W.contents writer.new)
-        (record_line resolution number (recorded record.now) reading.now)) }
+        (record_line resolution number (recorded captured.now) reading.now)) }
 {
     write_head(
         writer,
         resolution,
         number,
-        record.seconds,
-        record.nanoseconds,
+        captured.seconds,
+        captured.nanoseconds,
     )?;
     write_reading(writer, reading)?;
-    write_cut(writer, record.bytes.len(), record.original_len)?;
+    write_cut(writer, captured.bytes.len(), captured.original_len)?;
     writer.write_all(b"\n")
 }
 

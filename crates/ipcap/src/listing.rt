@@ -1,16 +1,16 @@
 //! The lines of the records, in their order.
 
-ghost use Rattle.std.specs.Prelude.{ℕ, ◌≡◌, ◌≤◌, ◌<◌, ◌+◌, ◌*◌, ◌⊎◌, List, [], Err, IfOk, IfSome, OnOk};
-ghost use Rattle.std.specs.Prelude.{length, slice_range};
+ghost use Rattle.std.specs.Prelude.{ℕ, ◌≡◌, ◌≤◌, ◌<◌, ◌+◌, ◌*◌, ◌⊎◌, List, [], Err, IfOk};
+ghost use Rattle.std.specs.Prelude.{IfSome, OnOk, length, slice_range};
 ghost use Rattle.std.specs.Int.{w32};
 ghost use Rattle.std.specs.Io.KnownBytes.{Appends, IsAtEnd, Keeps, append_known, prepend_known};
 ghost use Rattle.uses.specs.Capture.{ReadsRecord, nanoseconds_in, number_in, record_len};
 ghost use Rattle.uses.specs.Capture.{recorded};
 ghost use Rattle.ipcap.specs.Listing.{IsToldOfLongRecord, IsToldOfRecord, max_captured_len};
 ghost use Rattle.ipcap.specs.Listing.{has_wrong_checksum, outcome_of};
-ghost use Rattle.ipcap.specs.Progress.{Skips, TellsFront, TellsKnown, Told, unless_quiet};
+ghost use Rattle.ipcap.specs.Private.Progress.{Skips, TellsFront, TellsKnown, Told, unless_quiet};
+ghost use Rattle.ipcap.specs.Private.Window.{unread};
 ghost use Rattle.ipcap.specs.Totals.{nothing_counted};
-ghost use Rattle.ipcap.specs.Window.{unread};
 
 use crate::lines::{write_record, write_skipped};
 use crate::packet::{Address, Shown, read_packet};
@@ -66,15 +66,15 @@ fn make_room<W: Write>(text: &mut Text, writer: &mut W) -> io::Result<()>
 }
 
 // What is counted of a record that is read.
-fn outcome(record: &Record, reading: &Result<Shown, IpSliceError>) -> Outcome
-    ensures { result ≡ outcome_of (recorded record.now) reading.now }
+fn outcome(captured: &Record, reading: &Result<Shown, IpSliceError>) -> Outcome
+    ensures { result ≡ outcome_of (recorded captured.now) reading.now }
 {
     Outcome {
         is_ipv4: matches!(reading, Ok(shown) if matches!(shown.source, Address::V4(_))),
         is_ipv6: matches!(reading, Ok(shown) if matches!(shown.source, Address::V6(_))),
         is_refused: reading.is_err(),
         is_skipped: false,
-        is_cut: record.bytes.len() < record.original_len as usize,
+        is_cut: captured.bytes.len() < captured.original_len as usize,
         is_wrong: has_wrong_checksum(reading),
     }
 }
@@ -92,19 +92,19 @@ fn has_wrong_checksum(reading: &Result<Shown, IpSliceError>) -> bool
 // Lists a record.
 fn list_record<W: Write>(
     header: &FileHeader,
-    record: &Record,
+    captured: &Record,
     is_quiet: bool,
     before: Totals,
     text: &mut Text,
     writer: &mut W,
 ) -> io::Result<Totals>
     ensures { IfOk result (λ after. (line : List ℕ)
-        × IsToldOfRecord header.now before (recorded record.now) line after
+        × IsToldOfRecord header.now before (recorded captured.now) line after
         × Appends (append_known (W.contents writer.old) text.old.items)
         (append_known (W.contents writer.new) text.new.items) (unless_quiet is_quiet line)) }
 {
-    let reading = read_packet(record.bytes);
-    let Some(after) = before.count(outcome(record, &reading)) else {
+    let reading = read_packet(captured.bytes);
+    let Some(after) = before.count(outcome(captured, &reading)) else {
         return Err(io::Error::from(ErrorKind::Other));
     };
     if is_quiet {
@@ -115,7 +115,7 @@ fn list_record<W: Write>(
         text,
         header.format.resolution,
         after.records,
-        record,
+        captured,
         &reading,
     )?;
     Ok(after)

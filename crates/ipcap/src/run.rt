@@ -7,7 +7,7 @@ ghost use Rattle.uses.specs.Capture.{BeginsWithFileHeader, ReadsFileHeader};
 ghost use Rattle.ipcap.specs.Output.{IsListing, IsOutcome, Writes, is_raw_ip};
 ghost use Rattle.ipcap.specs.Output.{status_at};
 ghost use Rattle.ipcap.specs.Lines.{end_text};
-ghost use Rattle.ipcap.specs.Window.{unread};
+ghost use Rattle.ipcap.specs.Private.Window.{unread};
 
 use crate::lines::{write_capture_error, write_closing, write_cut_off, write_link_type};
 use crate::listing::{Text, hand_over, list};
@@ -19,9 +19,9 @@ use uses::capture::{CaptureError, CutOff, FileHeader};
 
 /// Reads a capture, and writes a line for each record and then, to `errors`, the closing line.
 ///
-/// A quiet run writes the closing line alone, to `writer`. An input that is no capture of IP packets,
-/// and a last record that is cut off, have a line in `errors`. A read or a write that fails ends it
-/// at once. It takes no memory.
+/// A quiet run writes the closing line alone, to `writer`. An input that is no capture of IP
+/// packets, and a last record that is cut off, have a line in `errors`. A read or a write that
+/// fails ends it at once. It takes no memory.
 pub fn run<R: Read, W: Write, E: Write>(
     is_quiet: bool,
     reader: &mut R,

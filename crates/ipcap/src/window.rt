@@ -23,7 +23,7 @@ pub struct Window {
 impl Window {
     ghost use Rattle.std.specs.Prelude.{◌≡◌, ◌<◌, ◌-◌, [], IfOk, IsFalse, OnOk, drop, length, min};
     ghost use Rattle.std.specs.Io.KnownBytes.{IsAtEnd, Keeps, prepend_known};
-    ghost use Rattle.ipcap.specs.Window.{unread};
+    ghost use Rattle.ipcap.specs.Private.Window.{unread};
 
     /// Nothing.
     pub fn new() -> Window

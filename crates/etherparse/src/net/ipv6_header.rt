@@ -37,6 +37,18 @@ use std::marker::Model;
 /// ```
 ///
 /// The version, 6, is no field.
+///
+/// # Example
+///
+/// ```
+/// let mut header = Ipv6Header::default();
+/// header.next_header = IpNumber::UDP;
+/// header.hop_limit = 64;
+/// header.set_payload_length(100)?;
+/// let bytes = header.to_bytes();
+/// let (read, _) = Ipv6Header::from_slice(&bytes)?;
+/// assert!(rt; read == header);
+/// ```
 #[derive(Clone, Debug, PartialEq, Eq, Drop)]
 pub struct Ipv6Header {
     /// The traffic class: the DSCP in the upper 6 bits, the ECN in the lower 2 (RFC 2474, RFC
@@ -204,6 +216,15 @@ impl Ipv6Header {
     }
 
     /// Sets the differentiated services code point, and keeps the explicit congestion notification.
+    ///
+    /// # Example
+    ///
+    /// ```
+    /// let mut header = Ipv6Header::default();
+    /// header.set_dscp(IpDscp::EF);
+    /// header.set_ecn(IpEcn::Ect0);
+    /// assert!(rt; header.traffic_class == 0b1011_1010);
+    /// ```
     #[inline]
     pub fn set_dscp(&mut self, dscp: IpDscp)
         ensures set { self.new ≡ record self.old {

@@ -8,6 +8,17 @@ use crate::{IpDscp, IpEcn, IpNumber, Ipv6FlowLabel, Ipv6Header, LenSource};
 
 /// A view of the bytes of an IPv6 header without its extension headers (RFC 8200 section 3), whose
 /// layout is drawn at [`Ipv6Header`].
+///
+/// # Example
+///
+/// ```
+/// // A payload of 4 bytes, the number of UDP, a hop limit of 64, and addresses of zeros.
+/// let mut packet = [0; 44];
+/// [packet[0], packet[5], packet[6], packet[7]] = [0x60, 4, 17, 64];
+/// let view = Ipv6HeaderSlice::from_slice(&packet)?;
+/// assert!(rt; view.next_header() == IpNumber::UDP);
+/// assert!(rt; view.hop_limit() == 64);
+/// ```
 #[derive(Clone, Copy, Debug, PartialEq, Eq)]
 pub struct Ipv6HeaderSlice<'a> {
     /// The 40 bytes of the header.

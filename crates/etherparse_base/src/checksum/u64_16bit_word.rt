@@ -122,6 +122,16 @@ pub fn ones_complement_with_no_zero(sum: u64) -> u16
 /// [`ones_complement`] of [`add_slice`], as one call: the checksum of a slice after an earlier sum.
 ///
 /// The Rust crate has no such call.
+///
+/// # Example
+///
+/// ```
+/// // An IPv4 header with its checksum in it: its words sum to all ones.
+/// let header = [
+///     0x45, 0, 0, 115, 0, 0, 0x40, 0, 64, 17, 0xb8, 0x61, 192, 168, 0, 1, 192, 168, 0, 199,
+/// ];
+/// assert!(rt; u64_16bit_word::checksum(0, &header) == 0);
+/// ```
 #[inline(always)]
 pub fn checksum(start_sum: u64, slice: &[u8]) -> u16
     ensures complements { Complements (start_sum + little_endian_word_sum slice.now) result }

@@ -20,12 +20,16 @@ fn each_kind_has_its_text(rt: HostRuntime) {
     let len = etherparse_error_text(&error(LEN, 0, IPV6_HEADER), &mut text);
     assert_eq!(rt;
         &text[..len.min(256)],
-        "IPv6 Header Error: Not enough data to decode 'IPv6 header'. 40 byte(s) would be required, but only 39 byte(s) are available based on the slice length.".as_bytes()
+        "IPv6 Header Error: Not enough data to decode 'IPv6 header'. 40 byte(s) would be required, \
+         but only 39 byte(s) are available based on the slice length."
+            .as_bytes()
     );
     let len = etherparse_error_text(&error(UNEXPECTED_VERSION, 4, IPV6_HEADER), &mut text);
     assert_eq!(rt;
         &text[..len.min(256)],
-        "IPv6 Header Error: Encountered '4' as IP version number in the IPv6 header (must be '6' in an IPv6 header).".as_bytes()
+        "IPv6 Header Error: Encountered '4' as IP version number in the IPv6 header (must be '6' \
+         in an IPv6 header)."
+            .as_bytes()
     );
 }
 

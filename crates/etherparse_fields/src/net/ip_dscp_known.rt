@@ -72,6 +72,16 @@ impl IpDscpKnown {
     /// # Errors
     ///
     /// An `IpDscpUnknownValueError` with the number, where it is that of none of the 23 known ones.
+    ///
+    /// # Example
+    ///
+    /// ```
+    /// let known = IpDscpKnown::try_from_ip_dscp(IpDscp::EF)?;
+    /// assert!(rt; known == IpDscpKnown::ExpeditedForwarding);
+    /// // No code point of the registry has the number 2.
+    /// let dscp = IpDscp::try_new(2)?;
+    /// assert!(rt; IpDscpKnown::try_from_ip_dscp(dscp).is_err());
+    /// ```
     #[tactic(auto, using(crate::proofs::CodePoints::code_point_of_injective))]
     pub fn try_from_ip_dscp(value: IpDscp) -> Result<IpDscpKnown, IpDscpUnknownValueError>
         ensures answer { TakesKnown value result }

@@ -72,6 +72,16 @@ impl Ipv4Options {
     ///
     /// The Rust crate has no such call. Copying 40 bytes, a number that the compiler knows, is
     /// faster than copying `len`.
+    ///
+    /// # Example
+    ///
+    /// ```
+    /// // A router alert (RFC 2113), and 36 bytes that are no part of it.
+    /// let mut room = [7; 40];
+    /// [room[0], room[1], room[2], room[3]] = [148, 4, 0, 0];
+    /// let options = Ipv4Options::from_front(&room, 4);
+    /// assert!(rt; options == Ipv4Options::from([148, 4, 0, 0]));
+    /// ```
     #[inline(always)]
     pub fn from_front(bytes: &[u8; 40], len: usize) -> Ipv4Options
         requires { IsOptionsLen len }

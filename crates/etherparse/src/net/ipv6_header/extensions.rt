@@ -50,6 +50,17 @@ impl Ipv6Header {
     ///
     /// A `LenError` where the slice is shorter than the header says, at offset 0. Where it has
     /// fewer than 2 bytes, 2 are required.
+    ///
+    /// # Example
+    ///
+    /// ```
+    /// // Hop-by-hop options of 8 bytes, and the start of a UDP header.
+    /// let slice = [17, 0, 0, 0, 0, 0, 0, 0, 4, 0, 0, 53];
+    /// let first = IpNumber::IPV6_HEADER_HOP_BY_HOP;
+    /// let (next, rest) = Ipv6Header::skip_header_extension_in_slice(&slice, first)?;
+    /// assert!(rt; next == IpNumber::UDP);
+    /// assert!(rt; rest == [4, 0, 0, 53].as_slice());
+    /// ```
     pub fn skip_header_extension_in_slice(
         slice: &[u8],
         next_header: IpNumber,
@@ -116,6 +127,19 @@ impl Ipv6Header {
     /// A `LenError` where a header is incomplete: the length that it requires, the bytes that are
     /// left, and the offset from the front of the slice at which it starts. Where fewer than 2
     /// bytes are left, 2 are required.
+    ///
+    /// # Example
+    ///
+    /// ```
+    /// // Hop-by-hop options, destination options, and the start of a UDP header.
+    /// let slice = [
+    ///     60, 0, 0, 0, 0, 0, 0, 0, 17, 0, 0, 0, 0, 0, 0, 0, 4, 0, 0, 53,
+    /// ];
+    /// let first = IpNumber::IPV6_HEADER_HOP_BY_HOP;
+    /// let (upper, rest) = Ipv6Header::skip_all_header_extensions_in_slice(&slice, first)?;
+    /// assert!(rt; upper == IpNumber::UDP);
+    /// assert!(rt; rest == [4, 0, 0, 53].as_slice());
+    /// ```
     pub fn skip_all_header_extensions_in_slice(
         slice: &[u8],
         next_header: IpNumber,
@@ -132,6 +156,19 @@ impl Ipv6Header {
     /// # Errors
     ///
     /// Those of [`Ipv6Header::skip_all_header_extensions_in_slice`].
+    ///
+    /// # Example
+    ///
+    /// ```
+    /// // Hop-by-hop options, destination options, and the start of a UDP header.
+    /// let slice = [
+    ///     60, 0, 0, 0, 0, 0, 0, 0, 17, 0, 0, 0, 0, 0, 0, 0, 4, 0, 0, 53,
+    /// ];
+    /// let first = IpNumber::IPV6_HEADER_HOP_BY_HOP;
+    /// let (walked, turns) = Ipv6Header::skip_all_header_extensions_counted(&slice, first);
+    /// // The numbers 0, 60 and 17 were tested.
+    /// assert!(rt; walked.is_ok() && turns == 3);
+    /// ```
     pub fn skip_all_header_extensions_counted(
         slice: &[u8],
         next_header: IpNumber,

@@ -19,6 +19,16 @@ pub enum HeaderSliceError {
 impl HeaderSliceError {
     /// The error of a header that starts `offset` bytes further on: a `Len` by
     /// [`LenError::add_offset`], whose sum has to fit `usize`, and a `Content` as it is.
+    ///
+    /// # Example
+    ///
+    /// ```
+    /// let (outer, payload) = Ipv4Header::from_slice(packet)?;
+    /// match Ipv4Header::from_slice(payload) {
+    ///     Ok(inner) => Ok(inner),
+    ///     Err(e) => Err(e.add_slice_offset(outer.header_len())),
+    /// }
+    /// ```
     #[inline]
     pub fn add_slice_offset(self, offset: usize) -> HeaderSliceError
         requires fits { ipv4_error_place self + offset < 2 ^ 64 }

@@ -28,6 +28,23 @@ pub enum ChainError {
 impl ChainError {
     /// The error of a chain that starts `offset` bytes further on: the place of either variant
     /// grows by `offset`, and all else stays. The sum has to fit `usize`.
+    ///
+    /// # Example
+    ///
+    /// ```
+    /// // One header too many, 8 bytes behind the IPv6 header, and its place in the packet.
+    /// let error = ChainError::TooMany {
+    ///     limit: 1,
+    ///     next_header: 60,
+    ///     layer_start_offset: 8,
+    /// };
+    /// let in_packet = ChainError::TooMany {
+    ///     limit: 1,
+    ///     next_header: 60,
+    ///     layer_start_offset: 48,
+    /// };
+    /// assert!(rt; error.add_slice_offset(40) == in_packet);
+    /// ```
     #[inline]
     pub fn add_slice_offset(self, offset: usize) -> ChainError
         requires fits { chain_error_place self + offset < 2 ^ 64 }

@@ -1,7 +1,7 @@
 use Rattle.std.specs.Io.KnownBytes.{append_known, prepend_known}
-use Rattle.ipcap.specs.Progress.{TellsKnown}
+use Rattle.ipcap.specs.Private.Progress.{TellsKnown}
 use Rattle.ipcap.specs.Totals.{nothing_counted}
-use Rattle.ipcap.specs.Window.{unread}
+use Rattle.ipcap.specs.Private.Window.{unread}
 use Rattle.ipcap.specs.declared.listing.Turn.TheVariants.{GoesOn}
 use Rattle.ipcap.proofs.listing.list.Given as goal
 

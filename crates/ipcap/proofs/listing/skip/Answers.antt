@@ -1,6 +1,6 @@
 use Rattle.std.proofs.Common.{◌≤◌, length, arith, ap}
 use Rattle.ipcap.proofs.Skipped.{skips_kept, skips_more}
-use Rattle.ipcap.specs.Window.{unread}
+use Rattle.ipcap.specs.Private.Window.{unread}
 use Rattle.ipcap.proofs.listing.skip.Goals as goal
 
 pub returns-then-left-eq0 : goal.returns-then-left-eq0

@@ -1,7 +1,7 @@
 use Rattle.std.proofs.Common.{◌-◌, ◌≤◌, None}
 use Rattle.std.specs.Io.KnownBytes.{prepend_known}
-use Rattle.ipcap.specs.Progress.{Skips}
-use Rattle.ipcap.specs.Window.{unread}
+use Rattle.ipcap.specs.Private.Progress.{Skips}
+use Rattle.ipcap.specs.Private.Window.{unread}
 use Rattle.ipcap.proofs.listing.skip.Given as goal
 
 abbrev pub invariant-turns : goal.invariant-turns

@@ -1,5 +1,5 @@
 use Rattle.std.specs.Io.KnownBytes.{Keeps, prepend_known}
-use Rattle.ipcap.specs.Window.{unread}
+use Rattle.ipcap.specs.Private.Window.{unread}
 use Rattle.ipcap.proofs.run.fill_to_file_header.Given as goal
 
 abbrev pub invariant-reads : goal.invariant-reads

@@ -1,6 +1,6 @@
 -- How far a listing has come.
-use Rattle.std.specs.Prelude.{ℕ, ◌≡◌, ◌≤◌, ◌<◌, Bool, List, [], ◌++◌, length, drop, Option, Some, None, Err}
-use Rattle.std.specs.Prelude.{if◌then◌else◌}
+use Rattle.std.specs.Prelude.{ℕ, ◌≡◌, ◌≤◌, ◌<◌, Bool, List, [], ◌++◌, length, drop, Option, Some}
+use Rattle.std.specs.Prelude.{None, Err, if◌then◌else◌}
 use Rattle.std.specs.Io.KnownBytes.{Appends}
 use Rattle.uses.specs.Capture.{ReadsRecord}
 use Rattle.uses.specs.declared.capture.CutOff as cut
