@@ -196,11 +196,7 @@ fn headers(upstream: &Library, other: &Library) -> usize {
     let count = 100_000;
     for _ in 0..count {
         let fields = some_fields(&mut random);
-        let checksum = |library: &Library| {
-            let mut checksum = 0x1234;
-            let is_there = unsafe { (library.ipv4_header_checksum)(&fields, &mut checksum) };
-            (is_there, checksum)
-        };
+        let checksum = |library: &Library| unsafe { (library.ipv4_header_checksum)(&fields) };
         let (expected, found) = (checksum(upstream), checksum(other));
         assert_eq!(expected, found, "header checksum of {fields:?}");
         let write = |library: &Library| unsafe { (library.ipv4_write)(&fields) };
@@ -208,7 +204,7 @@ fn headers(upstream: &Library, other: &Library) -> usize {
         // Of a right checksum, the updated one is the one that is computed anew, but for the two forms of zero.
         let time_to_live = random.next() as u8;
         let hop = |library: &Library| {
-            let mut fields = Ipv4Fields { header_checksum: found.1, ..fields };
+            let mut fields = Ipv4Fields { header_checksum: found.checksum, ..fields };
             let is_there = unsafe { (library.ipv4_set_time_to_live)(&mut fields, time_to_live) };
             (is_there, fields)
         };

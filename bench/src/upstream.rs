@@ -6,11 +6,11 @@ mod c;
 mod loops;
 
 use c::{
-    Error, Ipv4Bytes, Ipv4Fields, Ipv4Lengths, Ipv4ReadAnswer, Ipv4View, Ipv4ViewAnswer, Ipv6Bytes, Ipv6Fields,
-    Ipv6ReadAnswer, Ipv6View, Ipv6ViewAnswer, Ipv6WalkAnswer, Rest,
+    Error, Ipv4Bytes, Ipv4Fields, Ipv4HeaderChecksumAnswer, Ipv4LengthsAnswer, Ipv4ReadAnswer, Ipv4ViewAnswer,
+    Ipv4ViewFields, Ipv6Bytes, Ipv6Fields, Ipv6ReadAnswer, Ipv6ViewAnswer, Ipv6ViewFields, Ipv6WalkAnswer, Rest,
 };
 use etherparse::checksum::{u32_16bit_word, u64_16bit_word};
-use etherparse::err::{ipv4, ipv6, LenError};
+use etherparse::err::{ipv4, ipv6, Layer, LenError};
 use etherparse::{
     IpDscp, IpEcn, IpFragOffset, IpNumber, Ipv4Header, Ipv4HeaderSlice, Ipv4Options, Ipv6FlowLabel, Ipv6Header,
     Ipv6HeaderSlice,
@@ -21,6 +21,7 @@ use std::slice;
 const NO_ERROR: Error = Error {
     kind: c::OK,
     number: 0,
+    layer: 0,
     required_len: 0,
     len: 0,
     layer_start_offset: 0,
@@ -46,7 +47,7 @@ const NO_IPV4_FIELDS: Ipv4Fields = Ipv4Fields {
     options: [0; 40],
 };
 
-const NO_IPV4_VIEW: Ipv4View = Ipv4View {
+const NO_IPV4_VIEW: Ipv4ViewFields = Ipv4ViewFields {
     ihl: 0,
     dscp: 0,
     ecn: 0,
@@ -73,7 +74,7 @@ const NO_IPV6_FIELDS: Ipv6Fields = Ipv6Fields {
     destination: [0; 16],
 };
 
-const NO_IPV6_VIEW: Ipv6View = Ipv6View {
+const NO_IPV6_VIEW: Ipv6ViewFields = Ipv6ViewFields {
     flow_label: 0,
     payload_length: 0,
     traffic_class: 0,
@@ -136,15 +137,12 @@ pub unsafe extern "C" fn upstream_u32_16bit_word_checksum(start_sum: u32, at: *c
     u32_16bit_word::ones_complement(u32_16bit_word::add_slice(start_sum, bytes))
 }
 
-/// The header checksum of these fields, or `false` where one is out of its range.
+/// The header checksum of these fields, and whether all of them are in their ranges.
 #[no_mangle]
-pub extern "C" fn upstream_ipv4_header_checksum(fields: &Ipv4Fields, checksum: &mut u16) -> bool {
+pub extern "C" fn upstream_ipv4_header_checksum(fields: &Ipv4Fields) -> Ipv4HeaderChecksumAnswer {
     match header_of(fields) {
-        Some(header) => {
-            *checksum = header.calc_header_checksum();
-            true
-        }
-        None => false,
+        Some(header) => Ipv4HeaderChecksumAnswer { checksum: header.calc_header_checksum(), accepted: true },
+        None => Ipv4HeaderChecksumAnswer { checksum: 0, accepted: false },
     }
 }
 
@@ -230,7 +228,7 @@ pub unsafe extern "C" fn upstream_ipv4_view(at: *const u8, len: usize) -> Ipv4Vi
         Ok(view) => Ipv4ViewAnswer {
             error: NO_ERROR,
             rest: rest_after(view.slice().len(), len),
-            view: Ipv4View {
+            view: Ipv4ViewFields {
                 ihl: view.ihl(),
                 dscp: view.dcp().value(),
                 ecn: view.ecn().value(),
@@ -293,16 +291,16 @@ pub extern "C" fn upstream_ipv4_write(fields: &Ipv4Fields) -> Ipv4Bytes {
 }
 
 #[no_mangle]
-pub extern "C" fn upstream_ipv4_lengths(total_len: u16, options_len: u8) -> Ipv4Lengths {
+pub extern "C" fn upstream_ipv4_lengths(total_len: u16, options_len: u8) -> Ipv4LengthsAnswer {
     let fields = Ipv4Fields { total_len, options_len, ..NO_IPV4_FIELDS };
     let Some(header) = header_of(&fields) else {
-        return Ipv4Lengths { error: NO_ERROR, payload_len: 0, max_payload_len: 0, header_len: 0, ihl: 0 };
+        return Ipv4LengthsAnswer { error: NO_ERROR, payload_len: 0, max_payload_len: 0, header_len: 0, ihl: 0 };
     };
     let (payload_len, error) = match header.payload_len() {
         Ok(len) => (len, NO_ERROR),
         Err(e) => (0, len_error(&e)),
     };
-    Ipv4Lengths {
+    Ipv4LengthsAnswer {
         error,
         payload_len,
         max_payload_len: header.max_payload_len(),
@@ -320,7 +318,7 @@ pub unsafe extern "C" fn upstream_ipv6_view(at: *const u8, len: usize) -> Ipv6Vi
         Ok(view) => Ipv6ViewAnswer {
             error: NO_ERROR,
             rest: rest_after(view.slice().len(), len),
-            view: Ipv6View {
+            view: Ipv6ViewFields {
                 flow_label: view.flow_label().value(),
                 payload_length: view.payload_length(),
                 traffic_class: view.traffic_class(),
@@ -423,8 +421,8 @@ fn walk_up_to(slice: &[u8], first: IpNumber, limit: usize) -> Result<(IpNumber, 
     while Ipv6Header::is_skippable_header_extension(number) {
         let offset = slice.len() - rest.len();
         if skipped == limit {
-            let number = u32::from(number.0);
-            return Err(Error { kind: c::TOO_MANY, number, layer_start_offset: offset, limit, ..NO_ERROR });
+            let (number, layer) = (u16::from(number.0), c::IPV6_EXT_HEADER);
+            return Err(Error { kind: c::TOO_MANY, number, layer, layer_start_offset: offset, limit, ..NO_ERROR });
         }
         match Ipv6Header::skip_header_extension_in_slice(rest, number) {
             Ok(after) => (number, rest) = after,
@@ -450,6 +448,13 @@ fn filled<const N: usize>(bytes: &[u8]) -> [u8; N] {
 fn len_error(e: &LenError) -> Error {
     Error {
         kind: c::LEN,
+        layer: match e.layer {
+            Layer::Ipv4Header => c::IPV4_HEADER,
+            Layer::Ipv4Packet => c::IPV4_PACKET,
+            Layer::Ipv6Header => c::IPV6_HEADER,
+            Layer::Ipv6ExtHeader => c::IPV6_EXT_HEADER,
+            _ => 0,
+        },
         required_len: e.required_len,
         len: e.len,
         layer_start_offset: e.layer_start_offset,
@@ -462,10 +467,11 @@ fn ipv4_error(e: &ipv4::HeaderSliceError) -> Error {
     match e {
         Len(e) => len_error(e),
         Content(UnexpectedVersion { version_number }) => {
-            Error { kind: c::UNEXPECTED_VERSION, number: u32::from(*version_number), ..NO_ERROR }
+            Error { kind: c::UNEXPECTED_VERSION, number: u16::from(*version_number), layer: c::IPV4_HEADER, ..NO_ERROR }
         }
         Content(HeaderLengthSmallerThanHeader { ihl }) => {
-            Error { kind: c::HEADER_LENGTH_SMALLER_THAN_HEADER, number: u32::from(*ihl), ..NO_ERROR }
+            let number = u16::from(*ihl);
+            Error { kind: c::HEADER_LENGTH_SMALLER_THAN_HEADER, number, layer: c::IPV4_HEADER, ..NO_ERROR }
         }
     }
 }
@@ -475,7 +481,7 @@ fn ipv6_error(e: &ipv6::HeaderSliceError) -> Error {
     match e {
         Len(e) => len_error(e),
         Content(UnexpectedVersion { version_number }) => {
-            Error { kind: c::UNEXPECTED_VERSION, number: u32::from(*version_number), ..NO_ERROR }
+            Error { kind: c::UNEXPECTED_VERSION, number: u16::from(*version_number), layer: c::IPV6_HEADER, ..NO_ERROR }
         }
     }
 }

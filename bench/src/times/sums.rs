@@ -1,6 +1,6 @@
-//! Sums of slices.
+//! Sums of slices, and checksums after a field has changed.
 
-use super::{batches, Line, Row, COLUMNS};
+use super::{batches, Line, Row, COLUMNS, PROVED};
 use crate::library::*;
 use crate::random::Random;
 use crate::rounds::Batch;
@@ -116,6 +116,36 @@ pub fn each(libraries: &Libraries, line: &mut Line) {
             batches: beside_linux!(libraries, checksum, mixed(u64_16bit_word_checksum, room, places)),
         });
     }
+    let own = libraries.own;
+    changed_line(libraries, line, "checksum after 4 bytes changed", &room[..20], own.update_4bytes);
+    changed_line(libraries, line, "checksum after 16 bytes changed", &room[..104], own.update_16bytes);
+}
+
+/// An update of a checksum by the old and the new bytes of a field.
+type Update<const N: usize> = unsafe extern "C" fn(u16, &[u8; N], &[u8; N]) -> u16;
+
+// The proved library updates the checksum. The others have no such call: they sum anew all bytes that it is over.
+fn changed_line<const N: usize>(libraries: &Libraries, line: &mut Line, what: &str, bytes: &[u8], update: Update<N>) {
+    let mut random = Random::new(12);
+    let mut fields = [[0; N]; 64];
+    for field in &mut fields {
+        random.fill(field);
+    }
+    let mut batches = beside_linux!(libraries, checksum, constant(u64_16bit_word_checksum, bytes));
+    batches[PROVED] = Some(updates(update, &fields));
+    line(&Row { what, bytes: bytes.len().to_string(), least_calls: 64, batches });
+}
+
+// Each field becomes the one behind it.
+fn updates<'a, const N: usize>(update: Update<N>, fields: &'a [[u8; N]; 64]) -> Box<Batch<'a>> {
+    Box::new(move |calls| {
+        let mut all = 0u64;
+        for number in 0..calls as usize {
+            let (old, new) = (&fields[number % 64], &fields[(number + 1) % 64]);
+            all += u64::from(unsafe { update(number as u16, old, new) });
+        }
+        all
+    })
 }
 
 // Offsets and lengths, each as likely as any other.
