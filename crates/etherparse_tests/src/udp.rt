@@ -2,8 +2,9 @@
 //! by hand, word by word (RFC 768, RFC 8200 section 8.1).
 
 use crate::headers::too_short;
-use etherparse::err::Layer;
-use etherparse::{IpNumber, Ipv4Header, Ipv6Header};
+use etherparse::err::ipv4::HeaderSliceError;
+use etherparse::err::{Layer, LenError};
+use etherparse::{IpNumber, Ipv4Header, Ipv6Header, LenSource};
 use std::process::Abort;
 use uses::translation::{
     translate_tcp_destination, translate_tcp_source, translate_udp_destination,
@@ -44,6 +45,42 @@ fn eight_bytes_are_read_written_and_read_back(rt: HostRuntime) {
     assert_eq!(rt; read.to_bytes(), [4, 0, 0, 53, 0, 12, 0x91, 0xae]);
     let e = UdpHeader::from_slice(&bytes[..7]).expect_err(&rt, "seven bytes");
     assert_eq!(rt; e, too_short(Layer::UdpHeader, 8, 7));
+}
+
+// The caller of `docs/LAYER.md`, line by line as it stands there.
+/// The UDP header of an IPv4 packet; `None` for another protocol and for a fragment.
+pub fn udp_header(packet: &[u8]) -> Result<Option<UdpHeader>, HeaderSliceError> {
+    let (header, rest) = Ipv4Header::from_slice(packet)?;
+    if header.protocol != IpNumber::UDP || header.is_fragmenting_payload() {
+        return Ok(None);
+    }
+    match UdpHeader::from_slice(rest) {
+        Ok((udp, _)) => Ok(Some(udp)),
+        Err(e) => Err(HeaderSliceError::Len(e.add_offset(header.header_len()))),
+    }
+}
+
+#[test]
+fn the_udp_header_of_a_packet_is_found_or_refused_with_its_place(rt: HostRuntime) {
+    let mut packet = [
+        0x45, 0, 0, 32, 0, 0, 0x40, 0, 64, 17, 0, 0, 10, 0, 0, 1, 10, 0, 0, 2, 4, 0, 0, 53, 0, 12,
+        0x91, 0xae,
+    ];
+    assert_eq!(rt; udp_header(&packet), Ok(Some(header(0x91ae))));
+    let cut_short = LenError {
+        required_len: 8,
+        len: 7,
+        len_source: LenSource::Slice,
+        layer: Layer::UdpHeader,
+        layer_start_offset: 20,
+    };
+    assert_eq!(rt;
+        udp_header(&packet[..27]),
+        Err(HeaderSliceError::Len(cut_short))
+    );
+    // Another fragment follows.
+    packet[6] = 0x20;
+    assert_eq!(rt; udp_header(&packet), Ok(None));
 }
 
 #[test]
