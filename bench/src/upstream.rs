@@ -292,10 +292,14 @@ pub extern "C" fn upstream_ipv4_write(fields: &Ipv4Fields) -> Ipv4Bytes {
 
 #[no_mangle]
 pub extern "C" fn upstream_ipv4_lengths(total_len: u16, options_len: u8) -> Ipv4LengthsAnswer {
-    let fields = Ipv4Fields { total_len, options_len, ..NO_IPV4_FIELDS };
-    let Some(header) = header_of(&fields) else {
-        return Ipv4LengthsAnswer { error: NO_ERROR, payload_len: 0, max_payload_len: 0, header_len: 0, ihl: 0 };
+    let options = match Ipv4Options::try_from(&[0; 255][..usize::from(options_len)]) {
+        Ok(options) => options,
+        Err(e) => {
+            let error = Error { kind: c::BAD_OPTIONS_LEN, len: e.bad_len, ..NO_ERROR };
+            return Ipv4LengthsAnswer { error, payload_len: 0, max_payload_len: 0, header_len: 0, ihl: 0 };
+        }
     };
+    let header = Ipv4Header { total_len, options, ..Default::default() };
     let (payload_len, error) = match header.payload_len() {
         Ok(len) => (len, NO_ERROR),
         Err(e) => (0, len_error(&e)),
