@@ -1,9 +1,10 @@
 #!/usr/bin/env bash
-# callers.sh: builds the library, and the callers in C, C++ and Rust as those compile them, and runs
-# them: the header file in each dialect of each compiler, the examples, whose output has to be
-# examples/inspect.txt, what a call stores at which offset, each way to link, and the tests of the
-# safe Rust crate over it. A compiler that is not there is told and left out. The last line is 'N
-# passed, M failed, K left out'.
+# callers.sh [--after-ci]: builds the library, and the callers in C, C++ and Rust as those compile
+# them, and runs them: worked values through the header file, the header file in each dialect of
+# each compiler, the examples, whose output has to be examples/inspect.txt, what a call stores at
+# which offset, each way to link, and the tests of the safe Rust crate over it. With --after-ci it
+# takes the libraries below as `rt ci` has just proved them, and proves this crate alone. A compiler
+# that is not there is told and left out. The last line is 'N passed, M failed, K left out'.
 set -euo pipefail
 here=$(cd "$(dirname "$0")" && pwd)
 out=$here/out/callers
@@ -52,9 +53,27 @@ prints_shared() {
 
 stands_there() { "$@" -o "$out/offsets" && "$out/offsets"; }
 
+answers_right() { "$@" -o "$out/cases" && "$out/cases"; }
+
 links_static() { echo 'int main(void) { return 0; }' | "$1" -xc -static -o "$out/static" - 2> "$out/said.txt"; }
 
-(cd "$here" && rt lib) > "$out/lib.txt" 2>&1 || { cat "$out/lib.txt"; exit 1; }
+# Builds the library over those below that `rt ci` left, which no stamp names, so `rt lib` would
+# prove them once more.
+build_after_ci() {
+  local kit crates below words=()
+  kit=$(dirname "$(dirname "$(readlink -f "$(command -v rt)")")")
+  crates=$(dirname "$here")
+  for below in std itoa; do words+=(--extern "$below=$kit/rlibs/$below.rlib"); done
+  words+=(-L "dependency=$kit/rlibs" --extern "etherparse=$crates/etherparse/out/rlib/etherparse.rlib")
+  for below in etherparse_base etherparse_fields etherparse; do words+=(-L "dependency=$crates/$below/out/rlib"); done
+  words+=(--antt-project "$kit/rattle/logic/antt-project.json" --logic-built "$kit/logic_built" --jobs 2)
+  words+=(--links etherparse_c= --crate-type staticlib --toolchain "$kit/toolchain" --backend llvm)
+  "$kit/bin/rattle" build --crate-name etherparse_c src/lib.rt "${words[@]}" -o out/libetherparse_c.a
+}
+
+build=(rt lib)
+[[ ${1:-} == --after-ci ]] && build=(build_after_ci)
+(cd "$here" && "${build[@]}") > "$out/lib.txt" 2>&1 || { cat "$out/lib.txt"; exit 1; }
 library=$here/out/libetherparse_c.a
 
 if has nm; then
@@ -72,6 +91,7 @@ for compiler in gcc clang; do
   for dialect in c99 c11 c17; do
     try "$compiler, $dialect" prints "$compiler" "-std=$dialect" "${strict[@]}" "$here/examples/inspect.c" "$library"
   done
+  try "$compiler, worked values" answers_right "$compiler" -std=c11 "${strict[@]}" "$here/tests/cases.c" "$library"
   try "$compiler, what a call stores where" stands_there "$compiler" -std=c11 "${strict[@]}" "$here/examples/offsets.c" "$library"
   example=("$compiler" -std=c11 "${strict[@]}" "$here/examples/inspect.c")
   try "$compiler, shared" prints_shared "${example[@]}"

@@ -137,6 +137,3 @@ pub extern "C" fn etherparse_update_16bytes(checksum: u16, old: &[u8; 16], new: 
 {
     update_16bytes(checksum, *old, *new)
 }
-
-#[cfg(test)]
-mod tests;

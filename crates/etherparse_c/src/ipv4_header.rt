@@ -472,6 +472,3 @@ fn no_fields() -> Ipv4Fields
         options: [0; 40],
     }
 }
-
-#[cfg(test)]
-mod tests;

@@ -129,6 +129,3 @@ fn refused(e: &HeaderSliceError) -> Ipv4ViewAnswer
         },
     }
 }
-
-#[cfg(test)]
-mod tests;

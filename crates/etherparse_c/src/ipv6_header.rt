@@ -159,6 +159,3 @@ fn refused(e: &HeaderSliceError) -> Ipv6ReadAnswer
         },
     }
 }
-
-#[cfg(test)]
-mod tests;

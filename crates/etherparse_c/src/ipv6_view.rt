@@ -115,6 +115,3 @@ fn refused(e: &HeaderSliceError) -> Ipv6ViewAnswer
         },
     }
 }
-
-#[cfg(test)]
-mod tests;

@@ -115,6 +115,3 @@ fn refused(error: Error) -> Ipv6WalkAnswer
         error,
     }
 }
-
-#[cfg(test)]
-mod tests;

@@ -314,6 +314,3 @@ fn end_at(len: usize, text: &mut [u8])
     let last = len.min(text.len() - 1);
     text[last] = 0;
 }
-
-#[cfg(test)]
-mod tests;
