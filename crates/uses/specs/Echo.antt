@@ -15,7 +15,7 @@ IsEchoReply reply_type request reply = reply ≡ reply_type ∷ 0
     ∷ slice_index reply 2 ∷ slice_index reply 3 ∷ drop 4 request
 
 -- what the checksum of an ICMPv6 message covers (RFC 4443 section 2.3): both addresses, the length
--- of the message in 32 bits, three bytes 0 and the number of ICMPv6, and the message
+-- of the message in 32 bits, three zero bytes and the number of ICMPv6, and the message
 abbrev pub icmpv6_pieces : List ℕ → List ℕ → List ℕ → List (List ℕ)
 icmpv6_pieces source destination message = source ∷ destination
     ∷ (to_be_bytes w32 (length message) ++ (0 ∷ 0 ∷ 0 ∷ 58 ∷ [])) ∷ message ∷ []
