@@ -13,9 +13,9 @@ use Rattle.etherparse.specs.Reading.{too_short_error}
 
 -- The length in bytes of an extension header, by its number and its second byte. A fragment header
 -- has 8 (RFC 8200 section 4.5). The second byte of an authentication header counts words of four
--- bytes, less two of them (RFC 4302 section 2.2); that of the others counts units of eight bytes,
--- less the first (RFC 8200 sections 4.3, 4.4 and 4.6; for 135 RFC 6275 section 6.1.1, for 139 RFC
--- 7401 section 5.1, for 140 RFC 5533 section 5.1).
+-- bytes, less two of them (RFC 4302 section 2.2). The second byte of the others counts units of
+-- eight bytes, less the first (RFC 8200 sections 4.3, 4.4 and 4.6; for 135 RFC 6275 section 6.1.1,
+-- for 139 RFC 7401 section 5.1, for 140 RFC 5533 section 5.1).
 abbrev pub extension_header_len : ℕ → ℕ → ℕ
 extension_header_len number second_byte =
     if number == 44 then 8

@@ -9,8 +9,8 @@ use Rattle.std.specs.Int.{swap_bytes, w16}
 abbrev pub end_around_sum : ℕ → ℕ → ℕ → ℕ
 end_around_sum greatest a b = if nat_lt greatest (a + b) then a + b - greatest else a + b
 
--- The ones-complement sum of sixteen bits, from the plain sum of the words (RFC 1071 section 1): of
--- 0 it is 0, and of any other sum the number from 1 to 65535 that differs by a multiple of 65535.
+-- The ones-complement sum of sixteen bits, from the plain sum of the words (RFC 1071 section 1). Of
+-- 0 it is 0; of any other sum it is the number from 1 to 65535 that differs by a multiple of 65535.
 abbrev pub folded_sum : ℕ → ℕ
 folded_sum zero = 0
 folded_sum (suc n) = 1 + n % 65535
@@ -68,8 +68,8 @@ updated_checksum_of_words words checksum old new = checksum_of ((65535 - checksu
     + (words * 65535 - network_order_word_sum old) + network_order_word_sum new)
 
 -- What is known of a checksum that was updated because words with the old sum became words with the
--- new: the checksum of a sum becomes that of the sum after the change, and what a receiver sums,
--- the checksum with the words, keeps its fold.
+-- new. The checksum of a sum becomes that of the sum after the change. What a receiver sums, the
+-- checksum with the words, keeps its fold.
 pub record UpdatesChecksum (checksum old new answer : ℕ) : Type 0 where
   pub anew : (sum : ℕ) → old ≤ sum → checksum ≡ checksum_of sum → 0 < sum - old + new
       → answer ≡ checksum_of (sum - old + new)

@@ -148,8 +148,8 @@ pub(crate) enum Outcome {
 }
 
 /// A row of a table of readings: the least and the greatest length, the least and the greatest
-/// first byte, what becomes of a slice of such a length that begins with such a byte, and how many
-/// bytes it needs.
+/// first byte, and what becomes of a slice of such a length that begins with such a byte. The last
+/// part is the number of bytes that it needs.
 pub(crate) type Row = (usize, usize, u8, u8, Outcome, usize);
 
 /// What a table says about a slice with a given length and first byte.

@@ -98,8 +98,8 @@ pub record EndsInExtensions (packet : List ℕ) (e : LenError) : Type 0 where
   pub moved : e ≡ len_error_moved 40 inside
 
 -- Why a packet is not sliced: it has no bytes; its version is neither 4 nor 6; it has no header of
--- its version; its total length is below its header, or it is shorter than its length field says;
--- it ends within an extension header.
+-- its version. Or its total length is below its header, or it is shorter than its length field
+-- says; or it ends within an extension header.
 abbrev pub RefusesIp : List ℕ → IpSliceError → Type 0
 RefusesIp packet error.Empty = length packet ≡ 0
 RefusesIp packet (error.UnexpectedVersion version) =

@@ -27,9 +27,9 @@ impl Ipv6Header {
     /// # Errors
     ///
     /// `TooMany` if `limit` headers were skipped and the number after them is that of one more,
-    /// even if no byte of it is left: the limit, this number, and the offset from the front of the
-    /// slice at which its header starts. Otherwise `Len` if a header is incomplete, with the error
-    /// of [`Ipv6Header::skip_all_header_extensions_in_slice`].
+    /// even if no byte of it is left. It has the limit, this number, and the offset from the front
+    /// of the slice at which that header starts. Otherwise `Len` if a header is incomplete, with
+    /// the error of [`Ipv6Header::skip_all_header_extensions_in_slice`].
     ///
     /// # Example
     ///
