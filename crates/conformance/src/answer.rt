@@ -5,7 +5,7 @@ use crate::{
 use std::alloc::{AllocError, Global};
 use std::str;
 
-/// Writes the answer to a line over that to the line before: `bad line`, where it is no case.
+/// Writes the answer to a line over that to the line before: `bad line` if it is not a case.
 pub fn answer_line(alloc: Global, line: &[u8], answer: &mut String) -> Result<(), AllocError> {
     answer.clear();
     if let Ok(text) = str::from_utf8(line) {
@@ -19,7 +19,7 @@ pub fn answer_line(alloc: Global, line: &[u8], answer: &mut String) -> Result<()
     answer.push_str("bad line")
 }
 
-// Makes the call and writes what it gave. Of a bad case, what is written is thrown away.
+// Makes the call and writes what it gave. For a bad case, what is written is thrown away.
 fn answer_case(arguments: &mut Arguments, answer: &mut String) -> Result<(), AllocError> {
     let operation = arguments.word();
     let (group, name) = operation.split_once('.').unwrap_or((operation, ""));

@@ -16,11 +16,11 @@ use std::str::FromStr;
 /// The words of a case that are yet to be read, with single spaces between them.
 ///
 /// A word that is missing, or is not what was asked for, makes the case a bad one and reads as some
-/// value. [`Arguments::were_all_good`] tells a bad case once all its words are read.
+/// value. [`Arguments::were_all_good`] says whether the case was good once all its words are read.
 #[derive(Drop)]
 pub struct Arguments<'a> {
     alloc: Global,
-    /// The text from the next word on; none where no word is left.
+    /// The text from the next word on; none if no word is left.
     pub rest: Option<&'a str>,
     /// Whether a word was missing or was not what was asked for.
     pub is_bad: bool,
@@ -41,7 +41,7 @@ impl<'a> Arguments<'a> {
         self.alloc
     }
 
-    // The next word, which may be empty; none where no word is left.
+    // The next word, which may be empty; none if no word is left.
     fn next_word(&mut self) -> Option<&'a str>
         ensures left { IsSome result ↔ IsSome self.old.rest }
         ensures first { IfSome result (λ word. IfSome self.old.rest (λ text.
@@ -78,7 +78,7 @@ impl<'a> Arguments<'a> {
         !self.is_bad && self.rest.is_none()
     }
 
-    /// The next word; an empty one where no word is left.
+    /// The next word; an empty one if no word is left.
     pub fn word(&mut self) -> &'a str {
         match self.next_word() {
             Some(word) => word,
@@ -89,14 +89,14 @@ impl<'a> Arguments<'a> {
         }
     }
 
-    /// Refuses the case where the next word is not this one.
+    /// Refuses the case if the next word is not this one.
     pub fn expect_word(&mut self, word: &str) {
         if self.word() != word {
             self.refuse();
         }
     }
 
-    /// What was made of words. Where it was refused, so is the case, and the default stands in.
+    /// What was made from words. If it was refused, so is the case, and the default is used.
     pub fn accepted<T: Default, E: Drop>(&mut self, made: Result<T, E>) -> T {
         match made {
             Ok(value) => value,
@@ -128,7 +128,7 @@ impl<'a> Arguments<'a> {
         word == "1"
     }
 
-    /// Bytes, however many, in lower-case hex digits; `-` where there is none.
+    /// Any number of bytes, in lower-case hex digits; `-` for none.
     pub fn bytes(&mut self) -> Result<Vec<u8>, AllocError> {
         let word = self.word();
         self.decoded(word)
@@ -189,7 +189,7 @@ impl<'a> Arguments<'a> {
         self.named(&LEN_SOURCES, LenSource::Slice)
     }
 
-    // What a table has under the next word; `other` where it has nothing.
+    // What a table has under the next word; `other` if it has nothing.
     fn named<T: Copy>(&mut self, table: &[(&str, T)], other: T) -> T {
         let name = self.word();
         for (known, value) in table {
@@ -202,7 +202,8 @@ impl<'a> Arguments<'a> {
     }
 }
 
-// Whether a word has the form of a number: digits, the first of which is 0 only if it is all.
+// Whether a word has the form of a number: digits, the first of which is 0 only if it is the only
+// one.
 fn is_canonical(word: &str) -> bool {
     word == "0" || !word.starts_with('0') && word.bytes().all(|b| b.is_ascii_digit())
 }

@@ -1,5 +1,5 @@
-//! The fields that have fewer values than their machine number, the known code points among them,
-//! and the numbers of protocols.
+//! The fields that have fewer values than their integer type, including the known code points, and
+//! the numbers of protocols.
 
 use crate::arguments::Arguments;
 use crate::shown::{Comparison, TooBig, write_shown};
@@ -28,7 +28,7 @@ pub fn answer_dscp(
     }
 }
 
-// A field, with its number as it has it and as it is converted.
+// A field, with its number by `value` and by conversion.
 fn write_field<F: Display, N: Display + Drop>(
     field: &F,
     value: N,
@@ -38,7 +38,7 @@ fn write_field<F: Display, N: Display + Drop>(
     write!(answer, "ok value={value} into={into} text={field}")
 }
 
-/// `known V`: the known code point of a number, and both numbers of it. `known.cmp A B`: two of
+/// `known V`: the known code point of a number, and both of its numbers. `known.cmp A B`: two of
 /// them against each other.
 pub fn answer_known(
     name: &str,

@@ -114,7 +114,7 @@ fn write_header(header: &Ipv4Header, rest: &[u8], answer: &mut String) -> Result
     )
 }
 
-// What a header says of itself beyond its fields.
+// What a header says about itself beyond its fields.
 fn answer_info(arguments: &mut Arguments, answer: &mut String) -> Result<(), AllocError> {
     let header = arguments.ipv4_header()?;
     let (ihl, header_len) = (header.ihl(), header.header_len());

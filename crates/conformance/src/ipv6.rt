@@ -120,7 +120,7 @@ fn write_header(header: &Ipv6Header, rest: &[u8], answer: &mut String) -> Result
     )
 }
 
-// What a header tells besides its fields, and its bytes.
+// What a header says about itself beyond its fields, and its bytes.
 fn answer_info(arguments: &mut Arguments, answer: &mut String) -> Result<(), AllocError> {
     let header = arguments.ipv6_header();
     write!(answer, "dscp={} ecn={} ", header.dscp(), header.ecn())?;

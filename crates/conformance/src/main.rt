@@ -1,4 +1,5 @@
-//! Answers cases, one a line: each is a call of `etherparse`, and its answer is what the call gave.
+//! Answers cases, one per line: each is a call of `etherparse`, and its answer is what the call
+//! returned.
 #![tactic(auto)]
 
 mod answer;

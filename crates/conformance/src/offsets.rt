@@ -8,8 +8,8 @@ use crate::shown::{ChainRefusal, Ipv4Refusal, Ipv6Refusal, Len, write_shown};
 use etherparse::err::{ipv4, ipv6};
 use std::alloc::AllocError;
 
-/// The cases `off.NAME OFFSET ERROR`: each makes an error of its arguments and adds the offset to
-/// its place. Where the sum does not fit, the case is a bad one.
+/// The cases `off.NAME OFFSET ERROR`: each makes an error from its arguments and adds the offset to
+/// its place. If the sum does not fit, the case is a bad one.
 pub fn answer(
     name: &str,
     arguments: &mut Arguments,

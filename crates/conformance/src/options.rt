@@ -80,7 +80,7 @@ fn from_array(bytes: &[u8]) -> Option<Ipv4Options> {
     Some(options)
 }
 
-// The first `N` bytes, of which there are so many.
+// The first `N` bytes of a slice that has that many.
 fn front<const N: usize>(bytes: &[u8]) -> [u8; N] {
     match bytes.first_chunk::<N>() {
         Some(front) => *front,

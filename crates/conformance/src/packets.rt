@@ -19,8 +19,8 @@ const SOURCE: [u8; 4] = [198, 51, 100, 7];
 
 const DESTINATION: [u8; 4] = [203, 0, 113, 9];
 
-/// `packet B`: the parts of a packet, what stands in its upper layer where it is no fragment, and
-/// its key where it is one.
+/// `packet B`: the parts of a packet; what its upper layer holds, if it is no fragment; its key, if
+/// it is one.
 pub fn answer(
     name: &str,
     arguments: &mut Arguments,
@@ -78,7 +78,7 @@ fn write_slice(slice: &IpSlice, answer: &mut String) -> Result<(), AllocError> {
     write!(answer, " fragment={}", slice.is_fragment())
 }
 
-// What stands in the payload of a packet that is no fragment.
+// What the payload of a packet that is no fragment holds.
 fn write_upper(slice: &IpSlice, alloc: Global, answer: &mut String) -> Result<(), AllocError> {
     let upper = slice.upper();
     let echoes = match slice {
@@ -119,7 +119,7 @@ fn write_udp_fields(udp: &UdpHeader, answer: &mut String) -> Result<(), AllocErr
     write!(answer, " ; udp {}", Named(&numbers))
 }
 
-// Whether the checksum of a datagram is right, and its header with one that is made, where the
+// Whether the checksum of a datagram is correct, and its header with a newly computed one, if the
 // payload has as many bytes as the length says.
 fn write_udp_checksum(
     slice: &IpSlice,
@@ -227,7 +227,8 @@ fn translated(header: &mut Ipv4Header, checksum: u16) -> u16 {
     translate_tcp_destination(header, checksum, DESTINATION)
 }
 
-// The reply to an echo request, or the message as it was. It goes back to where that came from.
+// The reply to an echo request, or the message as it was. The reply goes to the sender of the
+// request.
 fn write_echo(slice: &IpSlice, alloc: Global, answer: &mut String) -> Result<(), AllocError> {
     let mut message = slice.payload().to_vec(alloc)?;
     let is_reply = match slice {
@@ -243,7 +244,7 @@ fn write_echo(slice: &IpSlice, alloc: Global, answer: &mut String) -> Result<(),
     )
 }
 
-// The key by which fragments of a packet of version 4 belong together.
+// The key that the fragments of a packet of version 4 share.
 fn write_ipv4_key(packet: &[u8], answer: &mut String) -> Result<(), AllocError> {
     match ipv4_key(packet) {
         Ok(Some(key)) => write!(

@@ -1,4 +1,4 @@
-//! How what a call gave is written in an answer.
+//! How the result of a call is written in an answer.
 
 ghost use Rattle.std.specs.Prelude.{◌≡◌};
 
@@ -16,7 +16,7 @@ pub fn write_shown<T: Display>(shown: &T, answer: &mut String) -> Result<(), All
     write!(answer, "{shown}")
 }
 
-/// Bytes in lower-case hex digits, `-` where there is none.
+/// Bytes in lower-case hex digits, `-` for none.
 #[derive(Drop)]
 pub struct Bytes<'a>(pub &'a [u8]);
 
@@ -131,7 +131,7 @@ impl Display for BadOptions<'_> {
     }
 }
 
-/// Why bytes are no IPv4 header.
+/// Why bytes are not an IPv4 header.
 #[derive(Drop)]
 pub struct Ipv4Refusal<'a>(pub &'a ipv4::HeaderSliceError);
 
@@ -149,7 +149,7 @@ impl Display for Ipv4Refusal<'_> {
     }
 }
 
-/// Why bytes are no IPv6 header.
+/// Why bytes are not an IPv6 header.
 #[derive(Drop)]
 pub struct Ipv6Refusal<'a>(pub &'a ipv6::HeaderSliceError);
 
@@ -164,7 +164,7 @@ impl Display for Ipv6Refusal<'_> {
     }
 }
 
-/// Why a walk with a limit came to no upper layer.
+/// Why a walk with a limit did not reach an upper layer.
 #[derive(Drop)]
 pub struct ChainRefusal<'a>(pub &'a ipv6::ChainError);
 
@@ -222,7 +222,7 @@ impl<'a> Ipv4Fields<'a> {
         }
     }
 
-    /// What the getters of a view give.
+    /// What the getters of a view return.
     pub fn of_view(view: &Ipv4HeaderSlice<'a>) -> Ipv4Fields<'a> {
         Ipv4Fields {
             dscp: view.dcp(),

@@ -6,7 +6,7 @@ use etherparse::err::ip::IpDscpUnknownValueError;
 use etherparse::err::ipv4::BadOptionsLen;
 use std::alloc::AllocError;
 
-/// The cases `text.NAME`: each makes an error of its arguments and prints it.
+/// The cases `text.NAME`: each makes an error from its arguments and prints it.
 pub fn answer(
     name: &str,
     arguments: &mut Arguments,

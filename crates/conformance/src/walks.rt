@@ -23,7 +23,7 @@ pub fn answer_skip(
 }
 
 /// `walk B N` and `walk.counted B N`: all extension headers at the front of a slice.
-/// `walk.limit B N LIMIT`: so many at most.
+/// `walk.limit B N LIMIT`: at most that many.
 pub fn answer_walk(
     name: &str,
     arguments: &mut Arguments,

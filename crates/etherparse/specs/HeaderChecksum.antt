@@ -20,8 +20,8 @@ abbrev pub with_field_and_checksum : ℕ → List ℕ → ℕ → List ℕ → L
 with_field_and_checksum offset field checksum bytes =
     with_part 10 (to_be_bytes w16 checksum) (with_part offset field bytes)
 
--- with either reserved bit, a checksum that was computed is so after a change, and a receiver finds
--- it right where it was right before
+-- with either reserved bit, a checksum that was the computed one still is after a change, and a
+-- receiver finds it correct exactly when it was correct before
 pub record KeepsChecksum (old new : Ipv4Header) : Type 0 where
   pub stays_computed : (reserved : ℕ) (before after : List ℕ)
       → IsIpv4LayoutWith old reserved before → IsIpv4LayoutWith new reserved after
@@ -31,15 +31,16 @@ pub record KeepsChecksum (old new : Ipv4Header) : Type 0 where
       → IsIpv4LayoutWith old reserved before → IsIpv4LayoutWith new reserved after
       → SumsToAllOnes before ↔ SumsToAllOnes after
 
--- the changed packet begins with this header and the rest, and its checksum is as right as before
+-- the changed packet begins with this header and the rest, and its checksum is correct exactly when
+-- it was before
 pub record BecomesPacketOf (packet changed : List ℕ) (header : Ipv4Header) (rest : List ℕ)
     : Type 0 where
   pub begins : BeginsWith IsIpv4Layout changed header rest
   pub all_ones : SumsToAllOnes (take (ipv4_header_len header) packet)
       ↔ SumsToAllOnes (take (ipv4_header_len header) changed)
 
--- each packet of the old header becomes one of the new, where the field, from an offset on, and the
--- checksum of the new are written over the old
+-- each packet with the old header becomes one with the new, if the field, from an offset on, and
+-- the checksum of the new header overwrite the old ones
 abbrev pub ChangesInPlace : Ipv4Header → Ipv4Header → ℕ → List ℕ → Type 0
 ChangesInPlace old new offset field = (packet rest : List ℕ)
     → BeginsWith IsIpv4Layout packet old rest → BecomesPacketOf packet

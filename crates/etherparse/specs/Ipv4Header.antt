@@ -28,8 +28,8 @@ ipv4_header_len header = 20 + length header.options
 abbrev pub ipv4_ihl : Ipv4Header → ℕ
 ipv4_ihl header = 5 + length header.options / 4
 
--- The bytes of a header, in network byte order. The first of the flags is reserved and no field of
--- the header: it is given apart.
+-- The bytes of a header, in network byte order. The first of the flags is reserved and is not a
+-- field of the header: it is given separately.
 pub record IsIpv4LayoutWith (header : Ipv4Header) (reserved : ℕ) (bytes : List ℕ) : Type 0 where
   pub len : length bytes ≡ ipv4_header_len header
   pub are_bytes : IsBytes bytes
@@ -51,12 +51,12 @@ pub record IsIpv4LayoutWith (header : Ipv4Header) (reserved : ℕ) (bytes : List
   pub fragment_offset_fits : header.fragment_offset < 2 ^ 13
   pub reserved_fits : reserved < 2
 
--- the bytes are in the layout of the header, with either reserved bit
+-- the bytes have the layout of the header, with either reserved bit
 pub record IsIpv4Layout (header : Ipv4Header) (bytes : List ℕ) : Type 0 where
   pub reserved : ℕ
   pub layout : IsIpv4LayoutWith header reserved bytes
 
--- the fact holds of each header whose layout the bytes are in; there is at most one
+-- the fact holds of each header whose layout the bytes have; there is at most one
 abbrev pub OfIpv4Header : List ℕ → (Ipv4Header → Type 0) → Type 0
 OfIpv4Header bytes P = (header : Ipv4Header) → IsIpv4Layout header bytes → P header
 
@@ -64,13 +64,13 @@ OfIpv4Header bytes P = (header : Ipv4Header) → IsIpv4Layout header bytes → P
 abbrev pub with_reserved_bit_cleared : List ℕ → List ℕ
 with_reserved_bit_cleared bytes = slice_set bytes 6 (slice_index bytes 6 % 2 ^ 7)
 
--- the slice is not shorter than any header, and its version is 4
+-- the slice has the 20 bytes of the shortest header, and its version is 4
 pub record HasIhl (s : List ℕ) : Type 0 where
   pub enough : 20 ≤ length s
   pub version : version_of s ≡ 4
 
--- Why the front of a slice is no header: it is shorter than any; or else its version is not 4; or
--- else its IHL is too small; or else it is shorter than the IHL says.
+-- Why the front of a slice is no header: it is shorter than any header; or else its version is not
+-- 4; or else its IHL is too small; or else it is shorter than the IHL says.
 abbrev pub RefusesIpv4 : List ℕ → error.HeaderSliceError → Type 0
 RefusesIpv4 s (slice.Len e) = IsTooShort layer.Ipv4Header 20 s e
     ⊎ (HasIhl s × (5 ≤ ihl_of s) × IsTooShort layer.Ipv4Header (4 * ihl_of s) s e)
@@ -92,11 +92,11 @@ pub record IsIpv4ReadingOf (s : List ℕ) (answer : Ipv4Reading) : Type 0 where
   -- what was read is written again, with the reserved bit 0
   pub cleared : IfOk answer (λ x. (front : List ℕ) → s ≡ front ++ x.1
       → IsIpv4LayoutWith x.0 0 (with_reserved_bit_cleared front))
-  -- of bytes that have a header, it is the same exactly where they agree in all but that bit
+  -- bytes that have a header have the same one exactly when they agree in all but that bit
   pub same_header : IfOk answer (λ x. (front : List ℕ) → s ≡ front ++ x.1 → (bytes : List ℕ)
       → OfIpv4Header bytes (λ header. (header ≡ x.0)
       ↔ (with_reserved_bit_cleared bytes ≡ with_reserved_bit_cleared front)))
-  -- a packet that is cut behind the header begins with it still
+  -- a packet that is cut after the header still begins with it
   pub cut : IfOk answer (λ x. (n : ℕ) → n ≤ length x.1
       → BeginsWith IsIpv4Layout (take (ipv4_header_len x.0 + n) s) x.0 (take n x.1))
 
@@ -125,7 +125,7 @@ default_ipv4_header = record {
 abbrev pub ipv4_max_payload_len : Ipv4Header → ℕ
 ipv4_max_payload_len header = 65535 - ipv4_header_len header
 
--- what a total length counts beyond the header; an error where it counts less than the header
+-- what a total length counts beyond the header; an error if it counts less than the header
 abbrev pub payload_len_of : ℕ → ℕ → Result ℕ LenError
 payload_len_of header_len total_len =
     if nat_le header_len total_len

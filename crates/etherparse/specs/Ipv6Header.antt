@@ -27,7 +27,7 @@ pub record IsIpv6Layout (header : Ipv6Header) (bytes : List ℕ) : Type 0 where
   pub traffic_class_fits : header.traffic_class < 2 ^ 8
   pub flow_label_fits : header.flow_label < 2 ^ 20
 
--- the fact holds of each header whose layout the bytes are in; there is at most one
+-- the fact holds of each header whose layout the bytes have; there is at most one
 abbrev pub OfIpv6Header : List ℕ → (Ipv6Header → Type 0) → Type 0
 OfIpv6Header bytes P = (header : Ipv6Header) → IsIpv6Layout header bytes → P header
 
@@ -55,11 +55,11 @@ pub record HasIpv6Chain (packet : List ℕ) (header : Ipv6Header) (headers : Lis
 pub record IsIpv6ReadingOf (s : List ℕ) (answer : Ipv6Reading) : Type 0 where
   pub reads : ReadsIpv6 s answer
   pub only : (other : Ipv6Reading) → ReadsIpv6 s other → other ≡ answer
-  -- with a chain of extension headers behind it, the slice is the header, the chain and a rest
+  -- with a chain of extension headers after it, the slice is the header, the chain and a rest
   pub chain : IfOk answer (λ x. (headers : List (List ℕ)) (last : ℕ) (rest : List ℕ)
       → BeginsWithChain x.1 x.0.next_header headers last rest
       → HasIpv6Chain s x.0 headers last rest)
-  -- a packet that is cut behind the header begins with it still
+  -- a packet that is cut after the header still begins with it
   pub cut : IfOk answer (λ x. (n : ℕ) → n ≤ length x.1
       → BeginsWith IsIpv6Layout (take (40 + n) s) x.0 (take n x.1))
 

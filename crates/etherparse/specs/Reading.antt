@@ -7,7 +7,7 @@ use Rattle.etherparse_base.specs.declared.err.len_error.LenError.{LenError}
 use Rattle.etherparse_base.specs.declared.len_source.LenSource.TheVariants.{Slice}
 use Rattle.etherparse.specs.FirstByte.{version_of}
 
--- the slice is a front in the layout of the header, and the rest after it
+-- the slice is a front that has the layout of the header, and the rest after it
 pub record BeginsWith {H : Type 0} (Layout : H → List ℕ → Type 0) (s : List ℕ) (header : H)
     (rest : List ℕ) : Type 0 where
   pub front : List ℕ
@@ -20,7 +20,7 @@ abbrev pub Reads : {H E : Type 0} → (H → List ℕ → Type 0) → (List ℕ 
 Reads Layout Refuses s (Ok x) = BeginsWith Layout s x.0 x.1
 Reads Layout Refuses s (Err e) = Refuses s e
 
--- the slice begins with this front, which is in the layout of a header
+-- the slice begins with this front, which has the layout of a header
 pub record HasFront {H : Type 0} (Layout : H → List ℕ → Type 0) (s front : List ℕ) : Type 0 where
   pub header : H
   pub rest : List ℕ
@@ -54,6 +54,6 @@ pub record HasOtherVersion (min_len expected : ℕ) (s : List ℕ) (version : �
   pub other : version_of s ≢ expected
   pub found : version ≡ version_of s
 
--- what a reader or a walk answers, apart from where the rest lies in memory
+-- what a reader or a walk returns, apart from where the rest lies in memory
 abbrev pub found_and_rest : {A E : Type 0} → Result (A × Bor (List ℕ)) E → Result (A × List ℕ) E
 found_and_rest r = result_map_both (λ x. (x.0, x.1.now)) (λ e. e) r

@@ -1,5 +1,6 @@
 //! Laws of the derived equality and clones of headers and views, and of the parts of the traffic
-//! class, which no clause of one call alone says. Nothing calls them: they are there to be proved.
+//! class, for what no clause of a single call says. Nothing calls them: they are there to be
+//! proved.
 
 ghost use Rattle.std.specs.Prelude.{◌≡◌, ◌+◌, ◌*◌, ◌/◌, ◌%◌, ◌^◌, ◌↔◌, IsTrue, Ok};
 ghost use Rattle.etherparse_fields.specs.IpEcn.{ecn_value};
@@ -7,7 +8,7 @@ ghost use Rattle.etherparse_fields.specs.IpEcn.{ecn_value};
 use crate::{IpDscp, IpEcn, Ipv4Header, Ipv4HeaderSlice, Ipv6Header, Ipv6HeaderSlice};
 use std::alloc::AllocError;
 
-// Headers are equal where all their fields are.
+// Headers are equal if all their fields are.
 fn ipv4_header_equality(header: &Ipv4Header, other: &Ipv4Header) -> bool
     ensures same_value { IsTrue result ↔ (header.now ≡ other.now) }
 {
@@ -20,7 +21,7 @@ fn ipv6_header_equality(header: &Ipv6Header, other: &Ipv6Header) -> bool
     header == other
 }
 
-// Views are equal where they show the same bytes, the reserved bit included.
+// Views are equal if they show the same bytes, the reserved bit included.
 fn ipv4_view_equality(view: &Ipv4HeaderSlice, other: &Ipv4HeaderSlice) -> bool
     ensures same_bytes { IsTrue result ↔ (view.now.slice.now ≡ other.now.slice.now) }
 {
@@ -33,7 +34,7 @@ fn ipv6_view_equality(view: &Ipv6HeaderSlice, other: &Ipv6HeaderSlice) -> bool
     view == other
 }
 
-// The traffic class is put together of its parts, and setting one part keeps the other.
+// The traffic class is put together from its parts, and setting one part keeps the other.
 fn traffic_class_parts(header: &Ipv6Header) -> (IpDscp, IpEcn)
     ensures sum { header.now.traffic_class ≡ result.0 * 2 ^ 2 + ecn_value result.1 }
 {
@@ -56,7 +57,7 @@ fn dscp_set(header: &mut Ipv6Header, dscp: IpDscp) -> (IpDscp, IpEcn)
     (header.dscp(), header.ecn())
 }
 
-// A clone is equal, and nothing fails.
+// A clone is equal, and cloning never fails.
 fn ipv4_view_clone<'a>(view: &Ipv4HeaderSlice<'a>) -> Result<Ipv4HeaderSlice<'a>, AllocError>
     ensures same_value { result ≡ Ok view.now }
 {

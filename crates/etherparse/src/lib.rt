@@ -16,8 +16,9 @@
 //! }
 //! ```
 //!
-//! The other examples stand in tests of `etherparse_tests`, which are proved and run: `rt` is
-//! what such a test is called with, `?` hands an error to it, and all names come from `etherparse`.
+//! The other examples are also tests in `etherparse_tests`, which are proved and run. In them `rt`
+//! is the test's argument, `?` returns an error from the test, and all names come from
+//! `etherparse`.
 #![tactic(auto)]
 
 mod laws;

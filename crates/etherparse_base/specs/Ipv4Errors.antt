@@ -10,7 +10,7 @@ use Rattle.etherparse_base.specs.declared.err.ipv4.header_slice_error.HeaderSlic
     as slice
 use Rattle.etherparse_base.specs.LenError.{len_error_moved, len_error_text}
 
--- the text for options whose length cannot be
+-- the text for a length that options cannot have
 abbrev pub bad_options_len_text : BadOptionsLen → List ℕ
 bad_options_len_text e =
     codes "Slice of length " ++ decimal e.bad_len
@@ -32,12 +32,12 @@ abbrev pub ipv4_header_slice_error_text : error.HeaderSliceError → List ℕ
 ipv4_header_slice_error_text (slice.Len e) = len_error_text e
 ipv4_header_slice_error_text (slice.Content e) = ipv4_header_error_text e
 
--- where the error of a length says that its layer starts; one of content says no place
+-- where the error of a length says that its layer starts; an error of content has no place
 abbrev pub ipv4_error_place : error.HeaderSliceError → ℕ
 ipv4_error_place (slice.Len e) = e.layer_start_offset
 ipv4_error_place (slice.Content e) = 0
 
--- the error of a header that starts so many bytes further on
+-- the error of a header that starts this many bytes further on
 abbrev pub ipv4_error_moved : ℕ → error.HeaderSliceError → error.HeaderSliceError
 ipv4_error_moved offset (slice.Len e) = slice.Len (len_error_moved offset e)
 ipv4_error_moved offset (slice.Content e) = slice.Content e

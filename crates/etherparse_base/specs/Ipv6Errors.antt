@@ -21,12 +21,12 @@ abbrev pub ipv6_header_slice_error_text : error.HeaderSliceError → List ℕ
 ipv6_header_slice_error_text (slice.Len e) = len_error_text e
 ipv6_header_slice_error_text (slice.Content e) = ipv6_header_error_text e
 
--- where the error of a length says that its layer starts; one of content says no place
+-- where the error of a length says that its layer starts; an error of content has no place
 abbrev pub ipv6_error_place : error.HeaderSliceError → ℕ
 ipv6_error_place (slice.Len e) = e.layer_start_offset
 ipv6_error_place (slice.Content e) = 0
 
--- the error of a header that starts so many bytes further on
+-- the error of a header that starts this many bytes further on
 abbrev pub ipv6_error_moved : ℕ → error.HeaderSliceError → error.HeaderSliceError
 ipv6_error_moved offset (slice.Len e) = slice.Len (len_error_moved offset e)
 ipv6_error_moved offset (slice.Content e) = slice.Content e
@@ -39,12 +39,12 @@ chain_error_text (chain.TooMany limit next_header layer_start_offset) =
     ++ (codes " extension header(s) ('" ++ decimal next_header
     ++ (codes "' starts at overall parsed byte " ++ decimal layer_start_offset ++ codes ")."))
 
--- where the header starts that is incomplete or one too many
+-- where the header that is incomplete or one too many starts
 abbrev pub chain_error_place : ChainError → ℕ
 chain_error_place (chain.Len e) = e.layer_start_offset
 chain_error_place (chain.TooMany limit next_header layer_start_offset) = layer_start_offset
 
--- the error of a chain behind so many headers and bytes as that of the whole
+-- the error of a chain that follows this many headers and bytes, as the error of the whole chain
 abbrev pub chain_error_moved : ℕ → ℕ → ChainError → ChainError
 chain_error_moved headers offset (chain.Len e) = chain.Len (len_error_moved offset e)
 chain_error_moved headers offset (chain.TooMany limit next_header layer_start_offset) =

@@ -7,7 +7,7 @@ use Rattle.etherparse_base.specs.declared.err.len_error.LenError.{LenError}
 use Rattle.etherparse_base.specs.Layer.{layer_text, layer_title}
 use Rattle.etherparse_base.specs.LenSource.{len_source_text}
 
--- what was needed or, where the length is not below that, what was allowed; and what was there
+-- what was needed or, if the length is not below that, what was allowed; and what was there
 abbrev pub lengths_text : LenError → List ℕ
 lengths_text e = if nat_lt e.len e.required_len then concat (layer_title e.layer
     ∷ codes ": Not enough data to decode '" ∷ layer_text e.layer ∷ codes "'. "
@@ -18,7 +18,7 @@ lengths_text e = if nat_lt e.len e.required_len then concat (layer_title e.layer
     ∷ decimal e.required_len ∷ codes " bytes). The " ∷ len_source_text e.len_source
     ∷ codes " was used to determine the length" ∷ [])
 
--- where the layer starts in the data, which is left out at byte 0
+-- where the layer starts in the data, left out at byte 0
 abbrev pub place_text : LenError → List ℕ
 place_text e =
     if nat_lt 0 e.layer_start_offset
@@ -30,6 +30,6 @@ place_text e =
 abbrev pub len_error_text : LenError → List ℕ
 len_error_text e = lengths_text e ++ place_text e ++ codes "."
 
--- the error of the same layer, which starts so many bytes further on
+-- the error of the same layer, which starts this many bytes further on
 abbrev pub len_error_moved : ℕ → LenError → LenError
 len_error_moved offset e = record e { layer_start_offset = e.layer_start_offset + offset }

@@ -12,7 +12,7 @@ space_text e = concat (
     ∷ decimal e.required_len ∷ codes " byte(s), but only " ∷ decimal e.len
     ∷ codes " byte(s) were available" ∷ [])
 
--- where the layer starts in what is written, which is left out at byte 0
+-- where the layer starts in what is written, left out at byte 0
 abbrev pub write_start_text : error.SliceWriteSpaceError → List ℕ
 write_start_text e =
     if nat_lt 0 e.layer_start_offset

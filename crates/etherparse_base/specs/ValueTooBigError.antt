@@ -1,4 +1,4 @@
--- The error of a value that is too big: when it comes, and its text.
+-- The error of a value that is too big: when it occurs, and its text.
 use Rattle.std.specs.Prelude.{ℕ, ◌≡◌, ◌<◌, ◌≤◌, List, [], ◌∷◌, codes, Result, Ok, Err}
 use Rattle.std.specs.Fmt.{decimal}
 use Rattle.std.specs.List.{concat}
@@ -13,7 +13,7 @@ TakesUpTo number_of max value_type value (Ok x) = (value ≤ max) × (number_of 
 TakesUpTo number_of max value_type value (Err e) =
     (max < value) × (e ≡ record { actual = value; max_allowed = max; value_type = value_type })
 
--- the text of the error, at each unsigned type
+-- the text of the error, for each unsigned type
 abbrev pub value_too_big_error_text : error.ValueTooBigError ℕ → List ℕ
 value_too_big_error_text e = concat (
     codes "Error '" ∷ decimal e.actual ∷ codes "' is too big to be a '"

@@ -4,13 +4,13 @@ use Rattle.std.specs.Prelude.{List, [], ◌∷◌, ◌++◌, if◌then◌else◌
 use Rattle.std.specs.Prelude.{slice_set, sum_by}
 use Rattle.std.specs.Int.{swap_bytes, w16}
 
--- the sum of two numbers with the end-around carry: what goes beyond the greatest is added at the
+-- the sum of two numbers up to the greatest, with the end-around carry: a carry out is added at the
 -- low end (RFC 1071 section 1)
 abbrev pub end_around_sum : ℕ → ℕ → ℕ → ℕ
 end_around_sum greatest a b = if nat_lt greatest (a + b) then a + b - greatest else a + b
 
--- The ones-complement sum of sixteen bits, from the plain sum of the words (RFC 1071 section 1): of
--- 0 it is 0, and of any other sum the number from 1 to 65535 that differs by a multiple of 65535.
+-- The ones-complement sum of sixteen bits, from the plain sum of the words (RFC 1071 section 1). Of
+-- 0 it is 0; of any other sum it is the number from 1 to 65535 that differs by a multiple of 65535.
 abbrev pub folded_sum : ℕ → ℕ
 folded_sum zero = 0
 folded_sum (suc n) = 1 + n % 65535
@@ -20,19 +20,21 @@ abbrev pub weighted_byte_sum : ℕ → ℕ → List ℕ → ℕ
 weighted_byte_sum weight other [] = 0
 weighted_byte_sum weight other (byte ∷ bytes) = weight * byte + weighted_byte_sum other weight bytes
 
--- the sum of the words of two bytes, the low one first (RFC 1071 section 2 (B)); an odd one is low
+-- the sum of the words of two bytes, the low byte first (RFC 1071 section 2 (B)); an odd last byte
+-- is a low byte
 abbrev pub little_endian_word_sum : List ℕ → ℕ
 little_endian_word_sum bytes = weighted_byte_sum 1 256 bytes
 
--- the same in network order, the high one first (RFC 1071 section 1); an odd one is high
+-- the same in network order, the high byte first (RFC 1071 section 1); an odd last byte is a high
+-- byte
 abbrev pub network_order_word_sum : List ℕ → ℕ
 network_order_word_sum bytes = weighted_byte_sum 256 1 bytes
 
--- the words sum to all ones, by which a receiver tells that a checksum among them is right
+-- the words sum to all ones, by which a receiver knows that a checksum among them is correct
 abbrev pub SumsToAllOnes : List ℕ → Type 0
 SumsToAllOnes bytes = folded_sum (network_order_word_sum bytes) ≡ 65535
 
--- the ones-complement sum of the words of all pieces, each of which begins with a word of its own
+-- the ones-complement sum of the words of all pieces; each piece begins with a new word
 abbrev pub ones_complement_sum : List (List ℕ) → ℕ
 ones_complement_sum pieces = folded_sum (sum_by little_endian_word_sum pieces)
 
@@ -40,16 +42,17 @@ ones_complement_sum pieces = folded_sum (sum_by little_endian_word_sum pieces)
 abbrev pub checksum_of : ℕ → ℕ
 checksum_of sum = 65535 - folded_sum sum
 
--- a checksum that is never 0, by which UDP says that there is none: all ones stand for 0 (RFC 768)
+-- a checksum that is never 0, since 0 says in UDP that there is none: all ones stand for 0 (RFC
+-- 768)
 abbrev pub with_no_zero : ℕ → ℕ
 with_no_zero zero = 65535
 with_no_zero (suc n) = suc n
 
--- the number is one in which the sum of the words of these bytes can be kept
+-- the number can stand for the sum of the words of these bytes
 abbrev pub IsSumOf : ℕ → List ℕ → Type 0
 IsSumOf sum bytes = folded_sum sum ≡ folded_sum (little_endian_word_sum bytes)
 
--- in any longer sum the answer is as good as the words of the bytes and the start
+-- in any longer sum the answer has the same fold as the words of the bytes and the start
 abbrev pub StandsForWords : ℕ → List ℕ → ℕ → Type 0
 StandsForWords start bytes answer = (n : ℕ)
     → folded_sum (n + answer) ≡ folded_sum (n + little_endian_word_sum bytes + start)
@@ -64,16 +67,16 @@ abbrev pub updated_checksum_of_words : ℕ → ℕ → List ℕ → List ℕ →
 updated_checksum_of_words words checksum old new = checksum_of ((65535 - checksum)
     + (words * 65535 - network_order_word_sum old) + network_order_word_sum new)
 
--- What is known of a checksum that was updated where words of the old sum became words of the new:
--- the checksum of a sum becomes that of the sum after the change, and what a receiver sums, the
--- checksum with the words, has the fold that it had.
+-- What is known of a checksum that was updated because words with the old sum became words with the
+-- new. The checksum of a sum becomes that of the sum after the change. What a receiver sums, the
+-- checksum with the words, keeps its fold.
 pub record UpdatesChecksum (checksum old new answer : ℕ) : Type 0 where
   pub anew : (sum : ℕ) → old ≤ sum → checksum ≡ checksum_of sum → 0 < sum - old + new
       → answer ≡ checksum_of (sum - old + new)
   pub received : (sum : ℕ) → old ≤ sum → 0 < sum → 0 < sum - old + new
       → folded_sum (sum - old + new + answer) ≡ folded_sum (sum + checksum)
 
--- the same of a checksum that is never 0: 0 says that there is none, and stays
+-- the same for a checksum that is never 0: 0 says that there is none, and stays 0
 pub record UpdatesChecksumWithNoZero (checksum old new answer : ℕ) : Type 0 where
   pub none : checksum ≡ 0 → answer ≡ 0
   pub there : checksum ≢ 0 → answer ≢ 0
@@ -89,8 +92,8 @@ pub record ChangesOneByte (before after : List ℕ) : Type 0 where
   pub differs : byte ≢ slice_index before place
   pub changed : after ≡ slice_set before place byte
 
--- What is known of a sum to which the words of some bytes were added. Bytes that sum to all ones do
--- not with one of them changed.
+-- What is known of a sum to which the words of some bytes were added. Bytes that sum to all ones no
+-- longer do so with one of them changed.
 pub record AddsSlice (start : ℕ) (bytes : List ℕ) (answer : ℕ) : Type 0 where
   pub sum : folded_sum answer ≡ folded_sum (start + little_endian_word_sum bytes)
   pub in_a_sum : StandsForWords start bytes answer
@@ -100,8 +103,8 @@ pub record AddsSlice (start : ℕ) (bytes : List ℕ) (answer : ℕ) : Type 0 wh
   pub one_byte : SumsToAllOnes bytes
       → (changed : List ℕ) → ChangesOneByte bytes changed → ¬ SumsToAllOnes changed
 
--- What is known of the sum of pieces. It is that of the pieces with two neighbours exchanged too,
--- with a piece cut behind an even number of bytes, and with two pieces joined there.
+-- What is known of the sum of pieces. It stays the same if two neighbours are exchanged, if a piece
+-- is cut after an even number of bytes, and if two pieces are joined there.
 pub record AddsSlices (pieces : List (List ℕ)) (answer : ℕ) : Type 0 where
   pub sum : folded_sum answer ≡ ones_complement_sum pieces
   pub exchanged : (before after : List (List ℕ)) (first second : List ℕ)
@@ -114,9 +117,9 @@ pub record AddsSlices (pieces : List (List ℕ)) (answer : ℕ) : Type 0 where
       → pieces ≡ before ++ front ∷ back ∷ after → length front % 2 ≡ 0
       → folded_sum answer ≡ ones_complement_sum (before ++ (front ++ back) ∷ after)
 
--- What is known of the checksum of a sum. Each sum of this fold is all ones with the checksum among
--- its words; and of bytes whose sum it is, the checksum with its two bytes exchanged is that of the
--- words in network order.
+-- What is known of the checksum of a sum. Each sum with this fold is all ones with the checksum
+-- among its words. For bytes whose sum it is, the checksum with its two bytes exchanged is that of
+-- the words in network order.
 pub record Complements (sum checksum : ℕ) : Type 0 where
   pub value : checksum ≡ checksum_of sum
   pub completes : (n : ℕ) → folded_sum n ≡ folded_sum sum → folded_sum (n + checksum) ≡ 65535
@@ -124,7 +127,7 @@ pub record Complements (sum checksum : ℕ) : Type 0 where
       → swap_bytes w16 checksum ≡ checksum_of (network_order_word_sum bytes)
   pub all_ones : (bytes : List ℕ) → IsSumOf sum bytes → (SumsToAllOnes bytes ↔ (checksum ≡ 0))
 
--- the same of the checksum that is never 0; it completes no sum of 0
+-- the same for the checksum that is never 0; it completes no sum of 0
 pub record ComplementsWithNoZero (sum checksum : ℕ) : Type 0 where
   pub value : checksum ≡ with_no_zero (checksum_of sum)
   pub completes : (n : ℕ) → 0 < n → folded_sum n ≡ folded_sum sum

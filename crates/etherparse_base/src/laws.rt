@@ -1,11 +1,11 @@
 //! The laws of what the types derive, each as the clause of one small function. Nothing calls them:
-//! they are there to be proved. A derive that skips a field, variants in another order, or an impl
-//! by hand that answers otherwise leaves its law unproved.
+//! they are there to be proved. A derive that skips a field, variants in another order, or a
+//! hand-written impl that differs leaves its law unproved.
 //!
-//! Two values are equal exactly where their variants and all their fields are, two sums where the
-//! numbers are that they are kept in. A value can always be cloned, and the clone is the value.
-//! Layers and value types are ordered by their indices in `specs/`; that `<` and the like go with
-//! `cmp` is a law of std's `Ord`.
+//! Two values are equal exactly when their variants and all their fields are; two sums are equal
+//! exactly when their numbers are. A value can always be cloned, and the clone is the value. Layers
+//! and value types are ordered by their indices in `specs/`; that `<` and the like agree with `cmp`
+//! is a law of std's `Ord`.
 
 ghost use Rattle.std.specs.Prelude.{◌≡◌, ◌↔◌, IsTrue, Ok};
 ghost use Rattle.std.specs.Ordering.{nat_cmp};

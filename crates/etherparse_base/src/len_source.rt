@@ -1,7 +1,7 @@
 /// Where a length that limits the parsed data came from.
 #[derive(Clone, Copy, Debug, PartialEq, Eq, Hash)]
 pub enum LenSource {
-    /// The slice that was handed in ends there.
+    /// The end of the slice that was passed in.
     Slice,
     /// The "short length" field of a MACsec header.
     MacsecShortLength,

@@ -6,7 +6,7 @@ use Rattle.etherparse_fields.specs.declared.net.ip_dscp_known.IpDscpKnown.TheVar
 
 -- The number of each known code point: the class selectors (RFC 2474 section 4.2.2), assured
 -- forwarding (RFC 2597 section 6), expedited forwarding (RFC 3246), voice admit (RFC 5865) and
--- lower effort (RFC 8622). All that is said of known code points is said by this table.
+-- lower effort (RFC 8622). All that is said about known code points is said by this table.
 abbrev pub code_point_of : IpDscpKnown → ℕ
 code_point_of known.ClassSelector0 = 0
 code_point_of known.ClassSelector1 = 8
@@ -32,11 +32,12 @@ code_point_of known.ExpeditedForwarding = 46
 code_point_of known.VoiceAdmit = 44
 code_point_of known.LowerEffort = 1
 
--- the number of no known code point
+-- no known code point has the number
 abbrev pub IsUnknown : ℕ → Type 0
 IsUnknown number = (point : IpDscpKnown) → code_point_of point ≢ number
 
--- a number is taken as the known code point that has it, or else refused by an error that has it
+-- a number is taken as the known code point that has it, or else refused with an error that has the
+-- number
 abbrev pub TakesKnown : ℕ → Result IpDscpKnown error.IpDscpUnknownValueError → Type 0
 TakesKnown number (Ok point) = code_point_of point ≡ number
 TakesKnown number (Err e) = IsUnknown number × (e ≡ record { value = number })

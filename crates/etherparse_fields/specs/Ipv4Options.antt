@@ -7,7 +7,7 @@ pub record IsOptionsLen (n : ℕ) : Type 0 where
   pub fits : n ≤ 40
   pub in_words : n % 4 ≡ 0
 
--- bytes are taken as options where options can have as many; else the error has their number
+-- bytes are taken as options if options can have that many; otherwise the error has their number
 abbrev pub TakesOptions : List ℕ → Result (List ℕ) BadOptionsLen → Type 0
 TakesOptions bytes (Ok options) = IsOptionsLen (length bytes) × (options ≡ bytes)
 TakesOptions bytes (Err e) =

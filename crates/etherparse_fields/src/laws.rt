@@ -1,5 +1,5 @@
-//! Laws of derived calls, of hashes, and of a write through a lent slice, which no clause of theirs
-//! says. Nothing calls them: they are there to be proved.
+//! Laws of derived calls, of hashes, and of a write through a lent slice, for what no clause of
+//! these calls says. Nothing calls them: they are there to be proved.
 ghost use Rattle.std.specs.Prelude.{◌≡◌, ◌<◌, ◌↔◌, IsTrue, Ok, fold, length};
 ghost use Rattle.std.specs.Ordering.{nat_cmp};
 ghost use Rattle.std.specs.Hash as fed;

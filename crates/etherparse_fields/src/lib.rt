@@ -1,8 +1,8 @@
-//! Fields of IP headers with fewer values than their machine number, the numbers of protocols, and
+//! Fields of IP headers with fewer values than their integer type, the numbers of protocols, and
 //! IPv4 options.
 //!
-//! The examples in this crate stand in tests of `etherparse_tests`, which are proved and run: `rt`
-//! is what such a test is called with, `?` hands an error to it, and all names come from
+//! The examples in this crate are also tests in `etherparse_tests`, which are proved and run. In
+//! them `rt` is the test's argument, `?` returns an error from the test, and all names come from
 //! `etherparse`.
 #![tactic(auto)]
 

@@ -1,6 +1,6 @@
-//! That the sums run as words of two bytes do, one after the other, at every short length and place
-//! and across the lengths where another way to sum begins; worked values; what a sum prints. More
-//! worked values stand in the sample that `conformance` replays.
+//! That the sums are those of a word-by-word sum, at every short length and place and across the
+//! lengths where another way to sum begins; worked values; what a sum prints. More worked values
+//! are in the sample that `conformance` replays.
 
 use etherparse::checksum::{
     Sum16BitWords, u32_16bit_word, u64_16bit_word, update_2bytes, update_2bytes_with_no_zero,
@@ -209,7 +209,7 @@ fn sum_word_by_word(start: u64, slice: &[u8]) -> u16 {
     sum
 }
 
-// A sum with a word more, and the carry out of it added at the low end.
+// A sum with one more word, and the carry out of it added at the low end.
 fn add_word(sum: u16, word: u16) -> u16 {
     let (sum, carry) = sum.overflowing_add(word);
     if carry { sum + 1 } else { sum }

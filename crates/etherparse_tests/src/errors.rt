@@ -1,6 +1,6 @@
 //! What the errors, the layers and the value types print, with `{}` and `{:?}` and with a width;
-//! that a clone is there and hashes as its source does; and which types are an `Error`. The texts
-//! of all variants over many numbers stand in the sample that `conformance` replays.
+//! that they have clones, which hash as their source does; and which types are an `Error`. The
+//! texts of all variants over many numbers are in the sample that `conformance` replays.
 
 use etherparse::LenSource;
 use etherparse::err::ip::IpDscpUnknownValueError;
@@ -264,7 +264,7 @@ fn each_error_is_an_error(_rt: HostRuntime) {
 
 fn is_error<T: Error>() {}
 
-// Of a layer in a slice.
+// The error of a layer in a slice.
 fn in_slice(layer: Layer, required_len: usize, len: usize, layer_start_offset: usize) -> LenError {
     LenError {
         required_len,
@@ -275,7 +275,7 @@ fn in_slice(layer: Layer, required_len: usize, len: usize, layer_start_offset: u
     }
 }
 
-// Of a chain that goes on after as many headers as the limit allows.
+// The error of a chain that goes on after as many headers as the limit allows.
 fn too_many(limit: usize, next_header: u8, layer_start_offset: usize) -> ipv6::ChainError {
     ipv6::ChainError::TooMany {
         limit,
@@ -284,7 +284,7 @@ fn too_many(limit: usize, next_header: u8, layer_start_offset: usize) -> ipv6::C
     }
 }
 
-// Asserts what `{}` and `{:?}` print of a value, and that its clone is equal to it and hashes
+// Asserts what `{}` and `{:?}` print for a value, and that its clone is equal to it and hashes
 // alike.
 fn assert_shows<T: Clone + Debug + Display + Eq + Hash + Drop>(
     rt: &impl Abort,
@@ -307,7 +307,7 @@ fn assert_shows<T: Clone + Debug + Display + Eq + Hash + Drop>(
     Ok(())
 }
 
-// What std's hasher makes of a value.
+// The hash of a value by std's hasher.
 fn hash_of<T: Hash>(value: &T) -> u64 {
     let mut hasher = DefaultHasher::new();
     value.hash(&mut hasher);

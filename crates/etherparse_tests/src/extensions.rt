@@ -15,7 +15,7 @@ const LENGTHS: [(u8, usize); 8] = [
     (140, 24),
 ];
 
-// That a number and what follows are answered.
+// That a number and what follows it are returned.
 fn assert_answers(
     rt: &impl Abort,
     answer: &Result<(IpNumber, &[u8]), LenError>,
@@ -54,7 +54,7 @@ fn assert_refuses(
     }
 }
 
-// That both walks answer a number and what follows, and the counted one its turns.
+// That both walks return a number and what follows it, and the counted one its turns.
 fn assert_walks(
     rt: &impl Abort,
     slice: &[u8],
@@ -71,7 +71,7 @@ fn assert_walks(
     assert_answers(rt, &answer, number, rest);
 }
 
-// That both walks refuse the header at an offset, and the counted one tells its turns.
+// That both walks refuse the header at an offset, and the counted one returns its turns.
 fn assert_walk_refuses(
     rt: &impl Abort,
     slice: &[u8],

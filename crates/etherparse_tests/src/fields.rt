@@ -58,7 +58,7 @@ fn least_and_greatest_flow_labels_are_printed(rt: HostRuntime) -> Result<(), Fai
     assert_field::<Ipv6FlowLabel, u32>(&rt, rt.alloc(), &values)
 }
 
-// The machine numbers that fields are made of.
+// The integer types that fields are made of.
 trait Number: Copy + Debug + Display + Drop + Hash + Ord {}
 
 impl Number for u8 {}
@@ -67,8 +67,8 @@ impl Number for u16 {}
 
 impl Number for u32 {}
 
-// Asserts what is printed of values of a field by `{}`, by `{:08}` and by `{:?}`, and that a clone
-// hashes as its source does. The bounds are the traits that each field and its number have.
+// Asserts what `{}`, `{:08}` and `{:?}` print for values of a field, and that a clone hashes as its
+// source does. The bounds are the traits that each field and its number have.
 fn assert_field<F, N>(rt: &impl Abort, alloc: Global, values: &[(F, &str)]) -> Result<(), Fail>
 where
     F: Copy + Debug + Display + Drop + Hash + Into<N> + Ord,

@@ -22,12 +22,13 @@ pub(crate) const WITH_RESERVED_BIT: [u8; 20] = [
     0x45, 0x36, 0x80, 0x01, 0xfe, 0xdc, 0xbf, 0xff, 200, 6, 0x02, 0x03, 1, 2, 3, 4, 5, 6, 7, 8,
 ];
 
-/// What is written for the header of [`WITH_RESERVED_BIT`]: the same bytes with the reserved bit 0.
+/// The bytes that are written for the header of [`WITH_RESERVED_BIT`]: the same with the reserved
+/// bit 0.
 pub(crate) const WITHOUT_RESERVED_BIT: [u8; 20] = [
     0x45, 0x36, 0x80, 0x01, 0xfe, 0xdc, 0x3f, 0xff, 200, 6, 0x02, 0x03, 1, 2, 3, 4, 5, 6, 7, 8,
 ];
 
-/// The bytes of the header in which each field is as great as it can be, the reserved bit aside.
+/// The bytes of the header in which each field is as great as it can be, except the reserved bit.
 pub(crate) const GREATEST: [u8; 60] = [
     0x4f, 255, 255, 255, 255, 255, 0x7f, 255, 255, 255, 255, 255, 255, 255, 255, 255, 255, 255,
     255, 255, 255, 255, 255, 255, 255, 255, 255, 255, 255, 255, 255, 255, 255, 255, 255, 255, 255,
@@ -146,12 +147,12 @@ pub(crate) enum Outcome {
     Header,
 }
 
-/// A row of a table of reading: the least and the greatest length, the least and the greatest first
-/// byte, what becomes of a slice of such a length that begins with such a byte, and how many bytes
-/// are needed of it.
+/// A row of a table of readings: the least and the greatest length, the least and the greatest
+/// first byte, and what becomes of a slice of such a length that begins with such a byte. The last
+/// part is the number of bytes that it needs.
 pub(crate) type Row = (usize, usize, u8, u8, Outcome, usize);
 
-/// What a table says of a slice of a length and a first byte.
+/// What a table says about a slice with a given length and first byte.
 pub(crate) fn outcome_of(table: &[Row], len: usize, first: u8) -> Option<(Outcome, usize)> {
     for (least, most, low, high, outcome, needed) in table {
         if *least <= len && len <= *most && *low <= first && first <= *high {
@@ -161,7 +162,7 @@ pub(crate) fn outcome_of(table: &[Row], len: usize, first: u8) -> Option<(Outcom
     None
 }
 
-/// Asserts how often each outcome came.
+/// Asserts how often each outcome occurred.
 pub(crate) fn assert_counts(rt: &impl Abort, outcomes: &[Outcome], counts: &[(Outcome, usize)]) {
     for (outcome, count) in counts {
         assert_eq!(rt;
@@ -182,7 +183,7 @@ pub(crate) fn too_short(layer: Layer, required_len: usize, len: usize) -> LenErr
     }
 }
 
-/// What the default hasher makes of a value.
+/// The hash of a value by the default hasher.
 pub(crate) fn hash_of<T: Hash>(value: &T) -> u64 {
     let mut state = DefaultHasher::new();
     value.hash(&mut state);

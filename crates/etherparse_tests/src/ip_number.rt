@@ -1,8 +1,8 @@
 use etherparse::{IpNumber, ip_number};
 use std::test::Fail;
 
-// The number of each constant of `IpNumber`, that of the constant of the module with the same name,
-// and what they have to be.
+// The number of each constant of `IpNumber`, the number of the module's constant with the same
+// name, and what both have to be.
 static NUMBERS: [(u8, u8, u8); 144] = [
     (
         IpNumber::IPV6_HEADER_HOP_BY_HOP.0,

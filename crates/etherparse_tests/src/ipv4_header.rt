@@ -13,7 +13,7 @@ use std::hash::Hash;
 use std::process::Abort;
 use std::test::Fail;
 
-// That the reader answers the header and what follows it.
+// That the reader returns the header and what follows it.
 fn assert_reads(rt: &impl Abort, slice: &[u8], header: &Ipv4Header, rest: &[u8]) {
     let (actual, actual_rest) = Ipv4Header::from_slice(slice).expect(rt, "a header in front");
     assert_eq!(rt; actual, *header);

@@ -8,7 +8,7 @@ use etherparse::{Ipv6Header, Ipv6HeaderSlice};
 use std::process::Abort;
 use std::test::Fail;
 
-// That the reader answers the header and what follows it.
+// That the reader returns the header and what follows it.
 fn assert_reads(rt: &impl Abort, slice: &[u8], header: &Ipv6Header, rest: &[u8]) {
     if let Ok((actual, actual_rest)) = Ipv6Header::from_slice(slice) {
         assert_eq!(rt; actual, *header);

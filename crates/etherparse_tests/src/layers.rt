@@ -21,19 +21,19 @@ const SEGMENT: [u8; 20] = [
     4, 0, 0, 80, 0, 0, 0, 1, 0, 0, 0, 0, 0x50, 0x02, 0x20, 0, 0x09, 0x79, 0, 0,
 ];
 
-// A datagram of 4 bytes from 192.168.0.1 to 192.168.0.199, with two bytes behind it.
+// A datagram of 4 bytes from 192.168.0.1 to 192.168.0.199, with two bytes after it.
 const IPV4_PACKET: [u8; 26] = [
     0x45, 0, 0, 24, 0x12, 0x34, 0, 0, 64, 17, 0, 0, 192, 168, 0, 1, 192, 168, 0, 199, 1, 2, 3, 4,
     9, 9,
 ];
 
-// The second fragment of a packet, of which more follow: 4 bytes behind the fragment header.
+// The second fragment of a packet, which is not the last: 4 bytes after the fragment header.
 const IPV6_PACKET: [u8; 53] = [
     0x60, 0, 0, 0, 0, 12, 44, 64, 0x20, 0x01, 0x0d, 0xb8, 0, 0, 0, 0, 0, 0, 0, 0, 0, 0, 0, 1, 0x20,
     0x01, 0x0d, 0xb8, 0, 0, 0, 0, 0, 0, 0, 0, 0, 0, 0, 2, 17, 0, 0, 9, 1, 2, 3, 4, 5, 6, 7, 8, 9,
 ];
 
-// A file of one record of 3 bytes of a packet of 5, captured 2 microseconds into second 1.
+// A file with one record: 3 bytes of a packet of 5, captured 2 microseconds into second 1.
 const CAPTURE: [u8; 43] = [
     0xd4, 0xc3, 0xb2, 0xa1, 2, 0, 4, 0, 0, 0, 0, 0, 0, 0, 0, 0, 0xff, 0xff, 0, 0, 101, 0, 0, 0, 1,
     0, 0, 0, 2, 0, 0, 0, 3, 0, 0, 0, 5, 0, 0, 0, 97, 98, 99,

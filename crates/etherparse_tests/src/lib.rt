@@ -1,7 +1,7 @@
-//! Tests of the library and of the layers of `uses` from their public paths: what no clause says,
-//! and worked values of the standards.
+//! Tests of the library and of the layers of `uses` by their public paths: what no clause says, and
+//! worked values from the standards.
 //!
-//! They stand in a crate of their own, since each crate with tests is proved once more for them.
+//! They are in a crate of their own, since each crate with tests is proved once more for them.
 #![tactic(auto)]
 
 #[cfg(test)]

@@ -3,11 +3,11 @@ use etherparse::err::{Layer, LenError};
 use etherparse::{IpNumber, Ipv6Header, LenSource};
 use std::process::Abort;
 
-// The numbers of a chain of eight headers with 8 bytes each, but for the fragment header's second
-// byte, which is no length.
+// The numbers of a chain of eight headers with 8 bytes each, apart from the fragment header's
+// second byte, which is not a length.
 const CHAIN: [u8; 8] = [0, 43, 44, 51, 60, 135, 139, 140];
 
-// How many bytes 0 there are and the limit, where the header at an offset is one too many.
+// How many zero bytes there are, the limit, and the offset of the header that is one too many.
 const TOO_MANY: [(usize, usize, usize); 7] = [
     (24, 3, 24),
     (256, 32, 256),
@@ -18,7 +18,7 @@ const TOO_MANY: [(usize, usize, usize); 7] = [
     (264, 0, 0),
 ];
 
-// The same, where no byte is left of the header at an offset.
+// The same, with the offset of the header of which no byte is left.
 const INCOMPLETE: [(usize, usize, usize); 3] = [(24, 4, 24), (248, 32, 248), (24, usize::MAX, 24)];
 
 fn too_many(limit: usize, next_header: u8, offset: usize) -> ChainError {
@@ -40,7 +40,7 @@ fn incomplete(offset: usize) -> ChainError {
     })
 }
 
-// That a number and what follows are answered.
+// That a number and what follows it are returned.
 fn assert_walks(rt: &impl Abort, slice: &[u8], first: u8, limit: usize, number: u8, rest: &[u8]) {
     let answer = Ipv6Header::skip_header_extensions_up_to(slice, IpNumber(first), limit);
     if let Ok((actual, actual_rest)) = answer {

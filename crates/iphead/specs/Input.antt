@@ -5,7 +5,7 @@ use Rattle.std.specs.Prelude.{ℕ, ◌<◌, ◌⊎◌, ◌==◌, ◌||◌, Bool,
 abbrev pub is_blank : ℕ → Bool
 is_blank b = b == 32 || b == 9 || b == 13 || b == 10
 
--- the digits of the input: all that is no blank
+-- the digits of the input: all that is not a blank
 abbrev pub digits_of : List ℕ → List ℕ
 digits_of input = filter (λ b. not (is_blank b)) input
 

@@ -55,7 +55,7 @@ dotted address = decimal (slice_index address 0) ++ (codes "." ++ (decimal (slic
     ++ (codes "." ++ (decimal (slice_index address 2)
     ++ (codes "." ++ decimal (slice_index address 3))))))
 
--- options in hex digits, or a dash where there are none
+-- options in hex digits, or a dash if there are none
 abbrev pub options_text : List ℕ → List ℕ
 options_text [] = codes "-"
 options_text (b ∷ bytes) = encode_lower (b ∷ bytes)
@@ -95,11 +95,12 @@ abbrev pub upper_layer_lines : ℕ → ℕ → ℕ → List ℕ
 upper_layer_lines number place rest_len = line (codes "upper") (decimal number)
     ++ (line (codes "place") (decimal place) ++ line (codes "rest") (decimal rest_len))
 
--- the greatest number of extension headers that are walked past
+-- the greatest number of extension headers that the walk goes past
 abbrev pub max_extension_headers : ℕ
 max_extension_headers = 32
 
--- the outcome of the walk over so many bytes after an IPv6 header, from whose start places count
+-- the outcome of the walk over this many bytes after an IPv6 header; places count from that
+-- header's start
 abbrev pub walk_outcome : ℕ → LimitedWalkAnswer → Outcome
 walk_outcome len (Ok x) = (Done, upper_layer_lines x.0 (40 + (len - length x.1)) (length x.1))
 walk_outcome len (Err e) = (Refused, error_line (chain_error_text (chain_error_moved 0 40 e)))
@@ -120,19 +121,19 @@ ipv6_outcome (Ok x) =
     let walked = walk_outcome (length x.1) x.2 in (walked.0, ipv6_lines x.0 ++ walked.1)
 ipv6_outcome (Err e) = (Refused, error_line (ipv6_header_slice_error_text e))
 
--- the outcome for an IPv4 packet, of which the bytes that were read are shown too
+-- the outcome for an IPv4 packet, from the bytes that were read and their reading
 abbrev pub ipv4_outcome : List ℕ → Ipv4Reading → Outcome
 ipv4_outcome bytes (Ok x) = (Done, ipv4_lines x.0 (take (ipv4_header_len x.0) bytes) (length x.1))
 ipv4_outcome bytes (Err e) = (Refused, error_line (ipv4_header_slice_error_text e))
 
--- the outcome is that of a reading that the bytes have; there is one
+-- the outcome is that of a reading that the bytes have; there is exactly one reading
 pub record Reports {R : Type 0} (Reads : R → Type 0) (outcome_of : R → Outcome) (outcome : Outcome)
     : Type 0 where
   pub reading : R
   pub reads : Reads reading
   pub outcome_of_it : outcome ≡ outcome_of reading
 
--- bytes are read as IPv6 where their version is 6, and else, also where there are none, as IPv4
+-- bytes are read as IPv6 if their version is 6; otherwise, and if there are none, as IPv4
 abbrev pub ReportsBytes : Result (List ℕ) FromHexError → Outcome → Type 0
 ReportsBytes (Ok bytes) outcome = MatchBool (version_of bytes == 6)
     (Reports (ReadsIpv6Packet bytes) ipv6_outcome outcome)

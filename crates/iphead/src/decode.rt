@@ -4,9 +4,9 @@ ghost use Rattle.std.specs.List.{AllPass};
 ghost use Rattle.hex.specs.Hex.{decode_of, is_hex_digit};
 
 /// The bytes that hex digits of either case stand for, the upper half of each byte first. They are
-/// written to the front of `out`, what stands after them stays, and the answer is how many they
-/// are. It is `None`, with `out` left open, where the digits are odd in number or one of them is no
-/// hex digit.
+/// written to the front of `out`, and the rest of `out` stays as it was. The result is their
+/// number. It is `None`, and nothing is said about `out`, if the number of digits is odd or one of
+/// them is not a hex digit.
 pub fn decode_input(digits: &[u8], out: &mut [u8; 2048]) -> Option<usize>
     requires { length digits.now ≤ 4096 }
     ensures found { IsSome result

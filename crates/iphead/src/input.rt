@@ -12,13 +12,13 @@ use std::io::Read;
 // The greatest number of bytes that are read, of any kind.
 const MAX_LEN: usize = 65536;
 
-/// The greatest number of digits that are taken: those of 2048 bytes.
+/// The greatest number of digits that are accepted: those of 2048 bytes.
 pub const MAX_DIGITS: usize = 4096;
 
 // How many bytes are read at a time.
 const PIECE_LEN: usize = 512;
 
-// The digits so far, and how many bytes they stand among.
+// The digits so far, and the number of bytes among which they stood.
 #[derive(Drop)]
 struct Input {
     digits: ArrayVec<u8, MAX_DIGITS>,
@@ -60,7 +60,7 @@ fn push_digits(digits: &mut ArrayVec<u8, MAX_DIGITS>, piece: &[u8]) -> bool
     true
 }
 
-// Adds a byte that is no blank, unless there are too many.
+// Adds a byte that is not a blank, unless there are too many.
 fn push_digit(digits: &mut ArrayVec<u8, MAX_DIGITS>, byte: u8) -> bool
     ensures ok { OnTrue result (digits.new.items ≡ digits.old.items ++ digits_of (byte ∷ [])) }
     ensures too_many { OnFalse result
@@ -70,8 +70,8 @@ fn push_digit(digits: &mut ArrayVec<u8, MAX_DIGITS>, byte: u8) -> bool
     matches!(byte, b' ' | b'\t' | b'\r' | b'\n') || digits.try_push(byte).is_ok()
 }
 
-/// The digits of all that a reader holds, or `None` where they are above 4096 or the bytes are
-/// above 65536: it then reads no further.
+/// The digits of all that a reader holds, or `None` if there are more than 4096 digits or more than
+/// 65536 bytes: it then reads no further.
 pub fn read_digits<R: Read>(reader: &mut R) -> io::Result<Option<ArrayVec<u8, MAX_DIGITS>>>
     ensures { IfOk result (λ digits. IfSome (R.remaining reader.old) (λ input.
         MatchOption digits (IsTooLong input)

@@ -21,7 +21,7 @@ pub fn write_error<W: Write, D: Display + Drop>(writer: &mut W, reason: D) -> io
     writeln!(writer, "error: {reason}")
 }
 
-/// Writes the fields of an IPv6 header, one a line.
+/// Writes the fields of an IPv6 header, one per line.
 pub fn write_ipv6<W: Write>(writer: &mut W, view: &Ipv6HeaderSlice) -> io::Result<()>
     ensures { OnOk result (OfIpv6Header view.now.slice.now (λ header.
         Appends (W.contents writer.old) (W.contents writer.new) (ipv6_lines header))) }
@@ -55,7 +55,7 @@ pub fn write_upper_layer<W: Write>(
     Ok(())
 }
 
-/// Writes the fields of an IPv4 header, one a line, the checksum that it should have, whether its
+/// Writes the fields of an IPv4 header, one per line, the checksum that it should have, whether its
 /// bytes sum to all ones, and the number of bytes after it.
 pub fn write_ipv4<W: Write>(
     writer: &mut W,

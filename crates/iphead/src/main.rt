@@ -1,4 +1,4 @@
-//! Reads the hex digits of an IP header from standard input, and prints its fields, one a line.
+//! Reads the hex digits of an IP header from standard input, and prints its fields, one per line.
 #![tactic(auto)]
 
 mod decode;

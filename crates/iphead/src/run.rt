@@ -15,7 +15,7 @@ use etherparse::{IpNumber, Ipv4HeaderSlice, Ipv6Header, Ipv6HeaderSlice};
 use std::io;
 use std::io::{Read, Write};
 
-// The greatest number of extension headers that are walked past.
+// The greatest number of extension headers that the walk goes past.
 const MAX_EXTENSION_HEADERS: usize = 32;
 
 // The room for all that is printed, in bytes. The longest output has 426: eight fields of an IPv6
@@ -25,13 +25,13 @@ const OUTPUT_ROOM: usize = 1024;
 // All that is printed.
 type Text = ArrayVec<u8, OUTPUT_ROOM>;
 
-/// Reads the hex digits of a header and prints its fields, one a line, or one line that says why
-/// not.
+/// Reads the hex digits of a header and prints its fields, one per line, or one line that says why
+/// there are none.
 ///
-/// Blanks between the digits are dropped. It takes at most 4096 digits among at most 65536 bytes,
-/// reads in pieces of 512 bytes, walks past at most 32 extension headers, and takes no memory. It
-/// prints by one `write_all`, once the whole output is made. A read or a write that fails ends it
-/// at once.
+/// Blanks between the digits are dropped. `run` accepts at most 4096 digits among at most 65536
+/// bytes, reads in pieces of 512 bytes, walks past at most 32 extension headers, and allocates no
+/// memory. It prints with one `write_all`, once the whole output is made. A read or a write that
+/// fails ends it at once.
 pub fn run<R: Read, W: Write>(reader: &mut R, writer: &mut W) -> Status
     ensures output { result ≢ Status.Failed → IfSome (R.remaining reader.old) (λ input.
         Writes (IsOutput input) result (W.contents writer.old) (W.contents writer.new)) }
@@ -39,7 +39,7 @@ pub fn run<R: Read, W: Write>(reader: &mut R, writer: &mut W) -> Status
     try_run(reader, writer).unwrap_or(Status::Failed)
 }
 
-// `run`, where a read or a write that fails is an error.
+// `run`, except that a read or a write that fails is an error.
 fn try_run<R: Read, W: Write>(reader: &mut R, writer: &mut W) -> io::Result<Status>
     ensures { IfOk result (λ status. IfSome (R.remaining reader.old) (λ input.
         Writes (IsOutput input) status (W.contents writer.old) (W.contents writer.new))) }
@@ -56,7 +56,7 @@ fn try_run<R: Read, W: Write>(reader: &mut R, writer: &mut W) -> io::Result<Stat
     Ok(status)
 }
 
-// Prints what is to be said of the bytes that digits stand for.
+// Prints what is to be said about the bytes that digits stand for.
 fn report<W: Write>(digits: &[u8], writer: &mut W) -> io::Result<Status>
     requires { length digits.now ≤ 4096 }
     ensures { IfOk result (λ status. Writes (ReportsBytes (decode_of digits.now)) status
@@ -74,7 +74,7 @@ fn report<W: Write>(digits: &[u8], writer: &mut W) -> io::Result<Status>
     }
 }
 
-// Prints what is to be said of bytes that are read as IPv6.
+// Prints what is to be said about bytes that are read as IPv6.
 fn report_ipv6<W: Write>(bytes: &[u8], writer: &mut W) -> io::Result<Status>
     ensures { IfOk result (λ status. Writes (Reports (ReadsIpv6Packet bytes.now) ipv6_outcome)
         status (W.contents writer.old) (W.contents writer.new)) }
@@ -91,7 +91,7 @@ fn report_ipv6<W: Write>(bytes: &[u8], writer: &mut W) -> io::Result<Status>
     }
 }
 
-// Prints what is to be said of the bytes after an IPv6 header.
+// Prints what is to be said about the bytes after an IPv6 header.
 fn report_walk<W: Write>(bytes: &[u8], next_header: IpNumber, writer: &mut W) -> io::Result<Status>
     ensures { IfOk result (λ status. Writes
         (Reports (WalksUpTo max_extension_headers bytes.now next_header)
@@ -110,7 +110,7 @@ fn report_walk<W: Write>(bytes: &[u8], next_header: IpNumber, writer: &mut W) ->
     }
 }
 
-// Prints what is to be said of bytes that are read as IPv4.
+// Prints what is to be said about bytes that are read as IPv4.
 fn report_ipv4<W: Write>(bytes: &[u8], writer: &mut W) -> io::Result<Status>
     ensures { IfOk result (λ status. Writes
         (Reports (ReadsIpv4 bytes.now) (ipv4_outcome bytes.now)) status

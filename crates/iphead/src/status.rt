@@ -3,10 +3,10 @@
 pub enum Status {
     /// All fields were printed.
     Done,
-    /// The bytes are no header, or the walk past its extension headers was refused; the reason was
-    /// printed.
+    /// The bytes are not a header, or the walk past its extension headers was refused; the reason
+    /// was printed.
     Refused,
-    /// The input is no even number of hex digits or too long, and that was printed.
+    /// The input is not an even number of hex digits, or too long; the reason was printed.
     BadInput,
     /// A read or a write failed.
     Failed,

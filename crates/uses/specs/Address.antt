@@ -4,13 +4,13 @@ use Rattle.std.specs.Prelude.{replicate}
 use Rattle.std.specs.Net.Addr.{octets_of}
 use Rattle.std.specs.Net.Text.{groups_text, ipv4_text}
 
--- so many fields of 16 bits are 0, from this one on
+-- this many fields of 16 bits are 0, from this one on
 abbrev pub AreZeroFields : List ℕ → ℕ → ℕ → Type 0
 AreZeroFields fields start len =
     (start + len ≤ length fields) × (take len (drop start fields) ≡ replicate len 0)
 
--- The fields for which `::` stands: two at least (section 4.2.2), as many as there are anywhere
--- (section 4.2.1), and of those the first (section 4.2.3).
+-- The fields for which `::` stands: at least two (section 4.2.2), the longest run (section 4.2.1),
+-- and of equal runs the first (section 4.2.3).
 pub record AreShortened (fields : List ℕ) (start len : ℕ) : Type 0 where
   pub zeros : AreZeroFields fields start len
   pub several : 2 ≤ len

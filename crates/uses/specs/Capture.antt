@@ -16,18 +16,18 @@ use Rattle.uses.specs.declared.capture.Record.{Record}
 use Rattle.uses.specs.declared.capture.Resolution.{Resolution}
 use Rattle.uses.specs.declared.capture.Resolution.TheVariants.{Microseconds, Nanoseconds}
 
--- a number of the file, in the order of its numbers
+-- a number of the file, in the file's byte order
 abbrev pub number_in : ByteOrder → Width → List ℕ → ℕ
 number_in BigEndian width bytes = from_be_bytes width bytes
 number_in LittleEndian width bytes = from_le_bytes width bytes
 
--- the format of an order and a resolution
+-- the format with a byte order and a resolution
 abbrev pub format_in : ByteOrder → Resolution → Format
 format_in order resolution = record { order = order; resolution = resolution }
 
--- The magic number is a1b2c3d4 where fractions of a second are microseconds, a1b23c4d where they
--- are nanoseconds. The order in which it is written is that of all numbers: this is what the first
--- four bytes tell, read with the high byte first.
+-- The magic number is a1b2c3d4 if fractions of a second are microseconds, a1b23c4d if they are
+-- nanoseconds. The byte order in which it is written is that of all numbers. This is what the first
+-- four bytes say, read with the high byte first.
 unfoldable pub told_by : ℕ → Option Format
 told_by magic =
     if nat_eq magic 0xa1b2c3d4 then Some (format_in BigEndian Microseconds)
@@ -81,15 +81,15 @@ pub record HasOtherVersion (file : List ℕ) (found_major found_minor : ℕ) : T
 abbrev pub FileReading : Type 0
 FileReading = Result (FileHeader × List ℕ) CaptureError
 
--- reading a file header: it is there; or there are too few bytes; or else another magic number; or
--- else another version
+-- reading a file header: it is there; or there are too few bytes; or else the magic number is
+-- another one; or else the version is
 abbrev pub ReadsFileHeader : List ℕ → FileReading → Type 0
 ReadsFileHeader file (Ok x) = BeginsWithFileHeader file x.0 x.1
 ReadsFileHeader file (Err (error.CutOff e)) = IsCutOff 24 file e
 ReadsFileHeader file (Err (error.Magic found)) = HasOtherMagic file found
 ReadsFileHeader file (Err (error.Version major minor)) = HasOtherVersion file major minor
 
--- what a record tells, apart from where its bytes lie in memory
+-- what a record says, apart from where its bytes lie in memory
 pub record Recorded : Type 0 where
   pub seconds : ℕ
   pub nanoseconds : ℕ
@@ -133,7 +133,7 @@ ReadsRecord header s (Ok None) = length s ≡ 0
 ReadsRecord header s (Err e) = ((0 < length s) × IsCutOff 16 s e)
     ⊎ ((16 ≤ length s) × IsCutOff (record_len header s) s e)
 
--- what a reader of records answers, apart from where its bytes lie in memory
+-- what a reader of records returns, apart from where its bytes lie in memory
 abbrev pub record_and_rest : Result (Option (Record × Bor (List ℕ))) CutOff → RecordReading
 record_and_rest r =
     result_map_both (λ next. option_map (λ x. (recorded x.0, x.1.now)) next) (λ e. e) r

@@ -10,7 +10,7 @@ use Rattle.etherparse.specs.declared.net.ipv4_header.Ipv4Header.{Ipv4Header}
 use Rattle.etherparse.specs.declared.net.ipv6_header.Ipv6Header.{Ipv6Header}
 
 -- The bytes that are sent are the header of the packet with one hop less, and all else as it was,
--- the checksum too; they are read as that header, whatever follows.
+-- including the checksum; they are read as that header, whatever follows.
 pub record IsNextIpv4Hop (packet sent : List ℕ) : Type 0 where
   pub header : Ipv4Header
   pub rest : List ℕ
@@ -52,9 +52,9 @@ with_one_hop_less header = record header {
       ((header.time_to_live - 1) * 2 ^ 8 + header.protocol);
 }
 
--- The packet goes on as these bytes and the rest: the header with one hop less, written again, so
--- with the reserved bit 0. The bytes sum to all ones exactly where those that came did, once their
--- reserved bit was cleared.
+-- The packet goes on as these bytes and the rest: the header with one hop less, written again and
+-- so with the reserved bit 0. The bytes sum to all ones exactly when the received ones do, once
+-- their reserved bit is cleared.
 pub record IsForwardedIpv4 (packet sent rest : List ℕ) : Type 0 where
   pub header : Ipv4Header
   pub begins : BeginsWith IsIpv4Layout packet header rest
@@ -64,8 +64,8 @@ pub record IsForwardedIpv4 (packet sent rest : List ℕ) : Type 0 where
   pub written : IsIpv4LayoutWith next 0 sent
   pub right : SumsToAllOnes (with_reserved_bit_cleared begins.front) ↔ SumsToAllOnes sent
 
--- The packet goes on with bytes 8, 10 and 11 changed, and no other, to those of the header with one
--- hop less. The header's bytes sum to all ones exactly where they did.
+-- The packet goes on with only bytes 8, 10 and 11 changed, to those of the header with one hop
+-- less. The header's bytes sum to all ones exactly when they did before.
 pub record IsForwardedInPlace (packet sent : List ℕ) : Type 0 where
   pub header : Ipv4Header
   pub rest : List ℕ

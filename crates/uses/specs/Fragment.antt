@@ -1,5 +1,5 @@
--- The fragment header of IPv6, and by what the fragments of one packet belong together (RFC 791
--- section 3.2, RFC 8200 section 4.5).
+-- The fragment header of IPv6, and what the fragments of one packet have in common (RFC 791 section
+-- 3.2, RFC 8200 section 4.5).
 use Rattle.std.specs.Prelude.{ℕ, ◌≡◌, ◌≢◌, ◌==◌, ◌-◌, ◌/◌, ◌%◌, ◌^◌, ◌<◌, ◌≤◌, ◌⊎◌, List}
 use Rattle.std.specs.Prelude.{IsTrue, drop, length, slice_index, slice_range}
 use Rattle.std.specs.Int.{from_be_bytes, w16, w32}
@@ -23,7 +23,7 @@ use Rattle.uses.specs.declared.fragment.Ipv6Key.{Ipv6Key}
 
 -- The 8 bytes of a fragment header, in network byte order: the next header; a reserved byte; the
 -- fragment offset in 13 bits, two reserved bits, and the M flag; the identification. What is
--- reserved is no field, and can have any value.
+-- reserved is not a field, and can have any value.
 pub record IsFragmentLayout (header : FragmentHeader) (bytes : List ℕ) : Type 0 where
   pub len : length bytes ≡ 8
   pub are_bytes : IsBytes bytes
@@ -65,9 +65,9 @@ pub record AreOfOneIpv4Packet (a b : Ipv4Header) : Type 0 where
   pub protocol : a.protocol ≡ b.protocol
   pub identification : a.identification ≡ b.identification
 
--- What is reached behind extension headers at the front of a slice, of which the first has this
--- number, and none is a fragment header: a number, and the rest that it tells of. Each header that
--- is passed is whole.
+-- What is reached after extension headers at the front of a slice, the first of which has this
+-- number and none of which is a fragment header: a number, and the rest that it describes. Each
+-- header that is passed is whole.
 pub data Reaches (s : List ℕ) (first : ℕ) : ℕ → List ℕ → Type 0 where
   at_front : Reaches s first first s
   behind : {number : ℕ} {rest : List ℕ} → Reaches s first number rest → IsSkippable number
@@ -96,8 +96,8 @@ pub record EndsInFragmentHeader (s : List ℕ) (first : ℕ) (e : LenError) : Ty
   pub refused : RefusesFragment at inside
   pub moved : e ≡ len_error_moved (length s - length at) inside
 
--- the front of a slice is no whole extension header of this number, which is that of no fragment
--- header
+-- the front of a slice is not a whole extension header of this number, and the number is not that
+-- of a fragment header
 pub record IsIncomplete (number : ℕ) (s : List ℕ) (e : LenError) : Type 0 where
   pub skippable : IsSkippable number
   pub other : number ≢ 44
@@ -141,12 +141,12 @@ pub record EndsBeforeFragment (packet : List ℕ) (e : LenError) : Type 0 where
   pub refused : RefusesFragmentBehind body header.next_header inside
   pub moved : e ≡ len_error_moved 40 inside
 
--- why no fragment header is found: there is no IPv6 header, or an incomplete one behind it
+-- why no fragment header is found: there is no IPv6 header, or an incomplete header after it
 abbrev pub RefusesFragmented : List ℕ → HeaderSliceError → Type 0
 RefusesFragmented packet (Len e) = RefusesIpv6 packet (Len e) ⊎ EndsBeforeFragment packet e
 RefusesFragmented packet (Content e) = RefusesIpv6 packet (Content e)
 
--- the payload is a part of one that was cut: more fragments follow it, or its offset is not 0
+-- the payload is a fragment: more fragments follow it, or its offset is not 0
 abbrev pub IsPart : FragmentHeader → Type 0
 IsPart header = IsTrue header.more_fragments ⊎ (header.fragment_offset ≢ 0)
 

@@ -61,7 +61,8 @@ IsFragmentSlice (slice.Ipv6 header extensions upper payload) =
     (fragment : FragmentHeader) × (rest : List ℕ)
     × HasFragmentBehind extensions.now header.next_header fragment rest × IsPart fragment
 
--- the payload of a slice is whole; or in a slice of no packet an extension header is incomplete
+-- the payload of a slice is whole; or, in a slice that is not of a packet, an extension header is
+-- incomplete
 abbrev pub IsWholeSlice : IpSlice → Type 0
 IsWholeSlice (slice.Ipv4 header payload) = ¬ IsFragment header
 IsWholeSlice (slice.Ipv6 header extensions upper payload) =
@@ -78,7 +79,7 @@ pub record EndsInIpv4Payload (packet : List ℕ) (e : LenError) : Type 0 where
   pub short : length packet < header.total_len
   pub error : e ≡ too_short_error layer.Ipv4Packet header.total_len (length packet)
 
--- the packet is shorter than its payload length and the header
+-- the packet is shorter than its header and its payload length together
 pub record EndsInIpv6Payload (packet : List ℕ) (e : LenError) : Type 0 where
   pub header : Ipv6Header
   pub rest : List ℕ
@@ -96,9 +97,9 @@ pub record EndsInExtensions (packet : List ℕ) (e : LenError) : Type 0 where
   pub walks : Walks body header.next_header (Err inside)
   pub moved : e ≡ len_error_moved 40 inside
 
--- Why a packet is not sliced: it has no byte; its version is neither 4 nor 6; it has no header of
--- its version; its total length is below its header, or it is shorter than its length field says;
--- it ends within an extension header.
+-- Why a packet is not sliced: it has no bytes; its version is neither 4 nor 6; it has no header of
+-- its version. Or its total length is below its header, or it is shorter than its length field
+-- says; or it ends within an extension header.
 abbrev pub RefusesIp : List ℕ → IpSliceError → Type 0
 RefusesIp packet error.Empty = length packet ≡ 0
 RefusesIp packet (error.UnexpectedVersion version) =

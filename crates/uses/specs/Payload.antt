@@ -9,7 +9,7 @@ use Rattle.etherparse.specs.declared.err.ipv4.HeaderSliceError.TheVariants.{Len,
 use Rattle.etherparse.specs.declared.net.ipv4_header.Ipv4Header.{Ipv4Header}
 use Rattle.etherparse.specs.declared.net.ipv6_header.Ipv6Header.{Ipv6Header}
 
--- what follows an IPv4 header, as far as its total length says and the capture has
+-- what follows an IPv4 header, as far as its total length says and the capture has it
 pub record HasIpv4Payload (packet payload : List ℕ) : Type 0 where
   pub header : Ipv4Header
   pub rest : List ℕ
@@ -25,19 +25,19 @@ pub record HasNoIpv4Payload (packet : List ℕ) (e : LenError) : Type 0 where
   pub begins : BeginsWith IsIpv4Layout packet header rest
   pub says : ipv4_payload_len header ≡ Err e
 
--- why an IPv4 packet has no payload: it has no header, or that tells of none
+-- why an IPv4 packet has no payload: it has no header, or its total length is too small for one
 abbrev pub RefusesIpv4Payload : List ℕ → HeaderSliceError → Type 0
 RefusesIpv4Payload packet (Len e) = RefusesIpv4 packet (Len e) ⊎ HasNoIpv4Payload packet e
 RefusesIpv4Payload packet (Content e) = RefusesIpv4 packet (Content e)
 
--- what follows an IPv6 header, as far as its payload length says and the capture has
+-- what follows an IPv6 header, as far as its payload length says and the capture has it
 pub record HasIpv6Payload (packet payload : List ℕ) : Type 0 where
   pub header : Ipv6Header
   pub rest : List ℕ
   pub begins : BeginsWith IsIpv6Layout packet header rest
   pub cut : payload ≡ take (min header.payload_length (length rest)) rest
 
--- a packet with this many bytes more is as long as its IPv4 header needs, as far as it tells by now
+-- a packet with this many more bytes is as long as its IPv4 header needs, as far as can be said now
 pub record IsShortBy (count : ℕ) (packet : List ℕ) : Type 0 where
   pub error : LenError
   pub refused : RefusesIpv4 packet (Len error)

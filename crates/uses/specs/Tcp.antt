@@ -19,7 +19,7 @@ data_offset_of s = slice_index s 12 / 16
 abbrev pub flag_at : ℕ → List ℕ → ℕ
 flag_at place s = slice_index s 13 / 2 ^ place % 2
 
--- the slice is not shorter than any header, and its data offset says as much
+-- the slice has the 20 bytes of the shortest header, and its data offset is at least 5
 pub record HasDataOffset (s : List ℕ) : Type 0 where
   pub enough : 20 ≤ length s
   pub offset : 5 ≤ data_offset_of s
@@ -34,8 +34,9 @@ pub record HasTcpFront (s front : List ℕ) : Type 0 where
 abbrev pub tcp_len_error : ℕ → ℕ → LenError
 tcp_len_error required_len len = too_short_error layer.TcpHeader required_len len
 
--- what is seen: the header at the front; or it is refused, since the slice is shorter than any; or
--- else its data offset is below 5; or else the slice is shorter than that says
+-- what is seen: the header at the front; or it is refused, since the slice is shorter than any
+-- header; or else its data offset is below 5; or else the slice is shorter than the data offset
+-- says
 abbrev pub ViewsTcp : List ℕ → Result (List ℕ) TcpError → Type 0
 ViewsTcp s (Ok front) = HasTcpFront s front
 ViewsTcp s (Err (Len e)) = IsTooShort layer.TcpHeader 20 s e
@@ -43,23 +44,23 @@ ViewsTcp s (Err (Len e)) = IsTooShort layer.TcpHeader 20 s e
 ViewsTcp s (Err (DataOffset offset)) =
     (20 ≤ length s) × (data_offset_of s < 5) × (offset ≡ data_offset_of s)
 
--- what the checksum is over: both addresses, a byte 0, the number of TCP, the length of the segment
--- in 16 bits, and the segment
+-- what the checksum covers: both addresses, a zero byte, the number of TCP, the length of the
+-- segment in 16 bits, and the segment
 abbrev pub tcp_pieces_v4 : Ipv4Header → List ℕ → List (List ℕ)
 tcp_pieces_v4 ip segment = ip.source ∷ ip.destination
     ∷ (0 ∷ 6 ∷ to_be_bytes w16 (length segment)) ∷ segment ∷ []
 
--- the same over IPv6 (RFC 8200 section 8.1): the length in 32 bits, three bytes 0 and the number
+-- the same over IPv6 (RFC 8200 section 8.1): the length in 32 bits, three zero bytes and the number
 abbrev pub tcp_pieces_v6 : Ipv6Header → List ℕ → List (List ℕ)
 tcp_pieces_v6 ip segment = ip.source ∷ ip.destination
     ∷ (to_be_bytes w32 (length segment) ++ (0 ∷ 0 ∷ 0 ∷ 6 ∷ [])) ∷ segment ∷ []
 
--- a receiver finds the segment right: 16 bits can tell its length, and all pieces sum to all ones
+-- a receiver finds the segment correct: its length fits 16 bits, and all pieces sum to all ones
 abbrev pub IsTcpRightIpv4 : Ipv4Header → List ℕ → Type 0
 IsTcpRightIpv4 ip segment =
     (length segment < 2 ^ 16) × (ones_complement_sum (tcp_pieces_v4 ip segment) ≡ 65535)
 
--- the same over IPv6, where 32 bits tell the length
+-- the same over IPv6, where the length has 32 bits
 abbrev pub IsTcpRightIpv6 : Ipv6Header → List ℕ → Type 0
 IsTcpRightIpv6 ip segment =
     (length segment < 2 ^ 32) × (ones_complement_sum (tcp_pieces_v6 ip segment) ≡ 65535)

@@ -13,7 +13,7 @@ pub record HasInnerIpv4 (packet : List ℕ) (inner : Ipv4Header) (rest : List �
   pub begins : BeginsWith IsIpv4Layout packet outer payload
   pub follows : BeginsWith IsIpv4Layout payload inner rest
 
--- no header follows the first one; the place of the error is that in the whole packet
+-- no header follows the first one; the error gives the place in the whole packet
 pub record RefusesInside (packet : List ℕ) (e : HeaderSliceError) : Type 0 where
   pub outer : Ipv4Header
   pub payload : List ℕ

@@ -27,7 +27,8 @@ UdpReading = Result (UdpHeader × List ℕ) LenError
 abbrev pub ReadsUdp : List ℕ → UdpReading → Type 0
 ReadsUdp s reading = Reads IsUdpLayout (IsTooShort layer.UdpHeader 8) s reading
 
--- What the checksum is over: the addresses, a byte 0, the number of UDP, the length, the datagram.
+-- What the checksum covers: the addresses, a zero byte, the number of UDP, the length, the
+-- datagram.
 abbrev pub udp_pieces_v4 : Ipv4Header → ℕ → List ℕ → List ℕ → List (List ℕ)
 udp_pieces_v4 ip len header payload =
     ip.source ∷ ip.destination ∷ (0 ∷ 17 ∷ to_be_bytes w16 len) ∷ header ∷ payload ∷ []

@@ -36,14 +36,15 @@ abbrev pub RefusesUpperLayer : List ℕ → HeaderSliceError → Type 0
 RefusesUpperLayer packet (Len e) = RefusesIpv6 packet (Len e) ⊎ EndsInExtensionHeader packet e
 RefusesUpperLayer packet (Content e) = RefusesIpv6 packet (Content e)
 
--- what a checksum over IPv6 is summed of (RFC 8200 section 8.1): both addresses, the length of the
--- datagram in 32 bits, three bytes 0 and the number of UDP, and the datagram
+-- what a checksum over IPv6 covers (RFC 8200 section 8.1): both addresses, the length of the
+-- datagram in 32 bits, three zero bytes and the number of UDP, and the datagram
 abbrev pub udp_pieces : Ipv6Header → List ℕ → List (List ℕ)
 udp_pieces header datagram =
     header.source ∷ header.destination
     ∷ (to_be_bytes w32 (length datagram) ++ (0 ∷ 0 ∷ 0 ∷ 17 ∷ [])) ∷ datagram ∷ []
 
--- the packet is an IPv6 header, its extension headers and a UDP datagram, whose checksum is judged
+-- the packet is an IPv6 header, its extension headers and a UDP datagram; whether its checksum is
+-- correct
 pub record HasUdp (packet : List ℕ) (is_right : Bool) : Type 0 where
   pub header : Ipv6Header
   pub headers : List (List ℕ)
@@ -51,7 +52,7 @@ pub record HasUdp (packet : List ℕ) (is_right : Bool) : Type 0 where
   pub chain : HasIpv6Chain packet header headers 17 datagram
   pub judged : IsTrue is_right ↔ (ones_complement_sum (udp_pieces header datagram) ≡ 65535)
 
--- the upper layer of the packet is another one, or has more bytes than 32 bits can tell
+-- the upper layer of the packet is another one, or its length does not fit 32 bits
 pub record HasNoUdp (packet : List ℕ) : Type 0 where
   pub header : Ipv6Header
   pub headers : List (List ℕ)

@@ -8,8 +8,9 @@ use std::fmt;
 use std::net::Ipv6Addr;
 
 /// The text of an IPv6 address of 16 bytes: fields of 16 bits in lower-case hex with no leading
-/// zeros, `::` for the longest run of zero fields, the first of equal runs, and never for one field
-/// alone (RFC 5952 section 4). An IPv4-mapped address ends in dotted decimals (section 5).
+/// zeros. `::` stands for the longest run of zero fields, for the first of equal runs, and never
+/// for one field alone (RFC 5952 section 4). An IPv4-mapped address ends in dotted decimals
+/// (section 5).
 #[derive(Clone, Copy, Debug, PartialEq, Eq)]
 pub struct Ipv6Text(pub [u8; 16]);
 

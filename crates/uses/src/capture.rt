@@ -25,7 +25,7 @@ pub enum Resolution {
     Nanoseconds,
 }
 
-/// How a file writes its numbers and times: bytes 0 to 3, the magic number.
+/// How a file stores its numbers and times: bytes 0 to 3, the magic number.
 #[derive(Clone, Copy, Debug, PartialEq, Eq)]
 pub struct Format {
     /// The byte order in which the magic number is written.
@@ -37,7 +37,7 @@ pub struct Format {
 /// The header of a capture file, of 24 bytes. Bytes 8 to 15 are not read.
 #[derive(Clone, Copy, Debug, PartialEq, Eq)]
 pub struct FileHeader {
-    /// How numbers and times are written: bytes 0 to 3.
+    /// How numbers and times are stored: bytes 0 to 3.
     pub format: Format,
     /// The snap length, the most bytes of a packet that were to be kept: bytes 16 to 19. Records
     /// are not checked against it.
@@ -50,7 +50,7 @@ pub struct FileHeader {
 /// There are fewer bytes than a file header or a record needs.
 #[derive(Clone, Copy, Debug, PartialEq, Eq)]
 pub struct CutOff {
-    /// How many bytes are needed: 24 for a file header; for a record 16, and once there are as
+    /// How many bytes are needed: 24 for a file header; for a record 16 or, once there are that
     /// many, its whole length.
     pub required_len: usize,
     /// How many bytes there are.
@@ -62,7 +62,7 @@ pub struct CutOff {
 pub enum CaptureError {
     /// The slice has fewer than 24 bytes.
     CutOff(CutOff),
-    /// The first four bytes, with the high byte first, which are no known magic number.
+    /// The first four bytes, with the high byte first, which are not a known magic number.
     Magic(u32),
     /// The version, which is not 2.4: major in bytes 4 and 5, minor in bytes 6 and 7.
     Version { major: u16, minor: u16 },
@@ -73,10 +73,10 @@ pub enum CaptureError {
 pub struct Record<'a> {
     /// Seconds since the start of 1970, UTC: bytes 0 to 3.
     pub seconds: u32,
-    /// Nanoseconds of that second, also where the file counts microseconds: bytes 4 to 7. Not
+    /// Nanoseconds of that second, even if the file counts microseconds: bytes 4 to 7. They are not
     /// checked to be less than a second.
     pub nanoseconds: u64,
-    /// The length of the packet in bytes, of which fewer may have been kept: bytes 12 to 15.
+    /// The length of the packet in bytes, fewer of which may have been kept: bytes 12 to 15.
     pub original_len: u32,
     /// The bytes of the packet that were kept, as many as bytes 8 to 11 say. They live as long as
     /// the slice that was read.
@@ -88,8 +88,8 @@ impl FileHeader {
     ///
     /// # Errors
     ///
-    /// `CutOff` where the slice has fewer than 24 bytes; else `Magic` where the first four bytes
-    /// are no known magic number; else `Version` where the version is not 2.4.
+    /// `CutOff` if the slice has fewer than 24 bytes; otherwise `Magic` if the first four bytes are
+    /// not a known magic number; otherwise `Version` if the version is not 2.4.
     pub fn from_slice(file: &[u8]) -> Result<(FileHeader, &[u8]), CaptureError>
         ensures reads { ReadsFileHeader file.now (found_and_rest result) }
         ensures only { (other : FileReading) → ReadsFileHeader file.now other →
@@ -122,14 +122,14 @@ impl FileHeader {
 }
 
 /// The record at the front of a slice that follows the file header or another record, and all the
-/// bytes after it; `None` where the slice is empty. The bytes after it are fewer by 16 at least, so
-/// a loop over the records ends.
+/// bytes after it; `None` if the slice is empty. The bytes after it are fewer by at least 16, so a
+/// loop over the records ends.
 ///
-/// The captured length is not compared with the snap length nor with the original length.
+/// The captured length is not compared with the snap length or with the original length.
 ///
 /// # Errors
 ///
-/// A `CutOff` where the slice has some bytes, but fewer than 16; or fewer than 16 and the captured
+/// A `CutOff` if the slice has some bytes, but fewer than 16, or fewer than 16 plus the captured
 /// length.
 pub fn next_record<'a>(
     header: &FileHeader,
@@ -170,7 +170,7 @@ pub fn next_record<'a>(
     Ok(Some((record, &slice[end..])))
 }
 
-// What a magic number tells, read with the high byte first.
+// What a magic number says, read with the high byte first.
 #[tactic(auto, unfolding(crate::specs::Capture::told_by))]
 fn format_of(magic: u32) -> Option<Format>
     ensures value { result ≡ told_by magic }
@@ -186,7 +186,7 @@ fn format_of(magic: u32) -> Option<Format>
 }
 
 impl ByteOrder {
-    // The number that two bytes are.
+    // Two bytes as a number.
     fn u16_of(self, bytes: &[u8]) -> u16
         requires { length bytes.now ≡ 2 }
         ensures value { result ≡ number_in self w16 bytes.now }
@@ -198,7 +198,7 @@ impl ByteOrder {
         }
     }
 
-    // The number that four bytes are.
+    // Four bytes as a number.
     fn u32_of(self, bytes: &[u8]) -> u32
         requires { length bytes.now ≡ 4 }
         ensures value { result ≡ number_in self w32 bytes.now }

@@ -1,4 +1,4 @@
-//! A host that receives and sends datagrams: checksums that are judged and made.
+//! A host that receives and sends datagrams: checksums that are checked and computed.
 
 ghost use Rattle.std.specs.Prelude.{◌≡◌, ◌≢◌, ◌↔◌, ◌-◌, [], ◌∷◌, IsTrue};
 ghost use Rattle.etherparse.specs.WordSums.{SumsToAllOnes, ones_complement_sum, with_no_zero};
@@ -17,8 +17,8 @@ pub fn is_udp_checksum_right(pseudo_header: &[u8], header: &[u8], payload: &[u8]
 }
 
 /// The checksum that a UDP datagram is sent with, from the same pieces with 0 for the checksum. It
-/// is never 0, which would say that there is none. `to_le_bytes` gives the bytes of the header in
-/// their order.
+/// is never 0, which would say that there is none. `to_le_bytes` gives its two bytes in the order
+/// of the header.
 pub fn udp_checksum(pseudo_header: &[u8], header: &[u8], payload: &[u8]) -> u16
     ensures made { result ≡ with_no_zero (65535 - ones_complement_sum
         (pseudo_header.now ∷ header.now ∷ payload.now ∷ [])) }
@@ -28,7 +28,7 @@ pub fn udp_checksum(pseudo_header: &[u8], header: &[u8], payload: &[u8]) -> u16
     u64_16bit_word::ones_complement_with_no_zero(sum)
 }
 
-/// Whether the checksum of an IPv4 header is right as it was received, the reserved bit counted.
+/// Whether the checksum of an IPv4 header is correct as it was received, counting the reserved bit.
 pub fn is_ipv4_checksum_right(view: &Ipv4HeaderSlice) -> bool
     ensures right { IsTrue result ↔ SumsToAllOnes view.now.slice.now }
 {

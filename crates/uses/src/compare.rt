@@ -1,4 +1,4 @@
-//! A monitor: what was seen is compared, ordered, kept and told.
+//! A monitor: what was seen is compared, ordered, kept and described.
 
 ghost use Rattle.std.specs.Prelude.{◌≡◌, ◌<◌, ◌↔◌, IfOk, IsTrue, Ok};
 ghost use Rattle.std.specs.String.{string_bytes};
@@ -52,21 +52,21 @@ pub fn is_same_ipv6_header(sent: &Ipv6Header, received: &Ipv6Header) -> bool
     sent == received
 }
 
-/// Whether two packets have the same bytes of an IPv4 header.
+/// Whether the IPv4 headers of two packets have the same bytes.
 pub fn is_same_ipv4_view(first: &Ipv4HeaderSlice, other: &Ipv4HeaderSlice) -> bool
     ensures same { IsTrue result ↔ (first.now.slice.now ≡ other.now.slice.now) }
 {
     first == other
 }
 
-/// Whether two packets have the same bytes of an IPv6 header.
+/// Whether the IPv6 headers of two packets have the same bytes.
 pub fn is_same_ipv6_view(first: &Ipv6HeaderSlice, other: &Ipv6HeaderSlice) -> bool
     ensures same { IsTrue result ↔ (first.now.slice.now ≡ other.now.slice.now) }
 {
     first == other
 }
 
-/// Whether a fragment stands before another one in the payload that was cut.
+/// Whether a fragment comes before another one in the original payload.
 pub fn is_earlier(first: &Ipv4Header, other: &Ipv4Header) -> bool
     ensures order { IsTrue result ↔ (first.now.fragment_offset < other.now.fragment_offset) }
 {
@@ -94,21 +94,21 @@ pub fn kept_ipv6(header: &Ipv6Header) -> Result<Ipv6Header, AllocError>
     header.clone()
 }
 
-/// The bytes of a packet as its IPv4 header counts them, for a counter.
+/// The number of bytes of a packet by its IPv4 header, for a counter.
 pub fn counted_bytes(view: &Ipv4HeaderSlice) -> u32
     ensures count { OfIpv4Header view.now.slice.now (λ header. result ≡ header.total_len) }
 {
     u32::from(view.total_len())
 }
 
-/// The reason of a refusal, to be kept.
+/// The reason for a refusal, to be kept.
 pub fn kept_error(error: &ipv4::HeaderSliceError) -> Result<ipv4::HeaderSliceError, AllocError>
     ensures equal { result ≡ Ok error.now }
 {
     error.clone()
 }
 
-/// The reason of a refusal in words.
+/// The reason for a refusal, in words.
 pub fn reason(alloc: Global, error: &ipv4::HeaderSliceError) -> Result<String, AllocError>
     ensures text { IfOk result (λ text.
         string_bytes text ≡ ipv4_header_slice_error_text error.now) }
@@ -116,7 +116,7 @@ pub fn reason(alloc: Global, error: &ipv4::HeaderSliceError) -> Result<String, A
     format!(in alloc; "{error}")
 }
 
-/// Whether a layer stands before another.
+/// Whether a layer comes before another.
 pub fn is_lower_layer(first: Layer, other: Layer) -> bool
     ensures order { IsTrue result ↔ (layer_index first < layer_index other) }
 {

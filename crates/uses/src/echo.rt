@@ -8,11 +8,11 @@ ghost use Rattle.uses.specs.Echo.{IsEchoReply, IsEchoRequest, icmpv6_pieces};
 use etherparse::checksum::u64_16bit_word;
 
 /// Turns an ICMP echo request in place into its reply: type 0 in place of 8, and a checksum that is
-/// computed anew, so that it is right whatever that of the request was. All else stays.
+/// computed anew, so that it is correct whatever that of the request was. All else stays the same.
 ///
-/// `false` where the message is no echo request: it has fewer than 8 bytes, another type, or
-/// another code than 0. It is as it was then. The slice has to end where the packet's length field
-/// says, since each of its bytes counts in the checksum.
+/// `false`, with the message unchanged, if it is not an echo request: it has fewer than 8 bytes,
+/// another type, or a code other than 0. The slice has to end where the packet's length field says,
+/// since each of its bytes counts in the checksum.
 pub fn icmpv4_reply(message: &mut [u8]) -> bool
     ensures asked { IsTrue result ↔ IsEchoRequest 8 message.old }
     ensures made { OnTrue result (IsEchoReply 0 message.old message.new) }
@@ -22,7 +22,7 @@ pub fn icmpv4_reply(message: &mut [u8]) -> bool
     if message.len() < 8 || message[0] != 8 || message[1] != 0 {
         return false;
     }
-    // Type and code are 0, so that the words behind the checksum are all that counts.
+    // Type and code are 0, so that the words after the checksum are all that counts.
     let [h, l] = u64_16bit_word::checksum(0, &message[4..]).to_le_bytes();
     message[..4].copy_from_slice(&[0, 0, h, l]);
     true
@@ -30,11 +30,11 @@ pub fn icmpv4_reply(message: &mut [u8]) -> bool
 
 /// Turns an ICMPv6 echo request in place into its reply: type 129 in place of 128, and a checksum
 /// that is computed anew, over the addresses of the reply too (RFC 4443 section 2.3). All else
-/// stays.
+/// stays the same.
 ///
-/// `false` where the message is no echo request: it has fewer than 8 bytes or 2^32 and more,
-/// another type, or another code than 0. It is as it was then. The addresses are those of the
-/// reply: where the request was sent to a multicast address, that is not its source.
+/// `false`, with the message unchanged, if it is not an echo request: it has fewer than 8 bytes, or
+/// 2^32 or more, another type, or a code other than 0. The addresses are those of the reply: if the
+/// request was sent to a multicast address, the reply's source is another address.
 pub fn icmpv6_reply(source: [u8; 16], destination: [u8; 16], message: &mut [u8]) -> bool
     ensures asked { IsTrue result
         ↔ (IsEchoRequest 128 message.old × (length message.old < 2 ^ 32)) }

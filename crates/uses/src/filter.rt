@@ -1,4 +1,4 @@
-//! A packet filter: what a packet is, told from its bytes.
+//! A packet filter: what a packet is, by its bytes.
 
 ghost use Rattle.std.specs.Prelude.{ℕ, ◌≡◌, ◌<◌, ◌≤◌, ◌↔◌, List, IfErr, IfNone, IfOk, IfSome};
 ghost use Rattle.std.specs.Prelude.{IsFalse, IsTrue};
@@ -17,7 +17,7 @@ use etherparse::err::ipv6;
 use etherparse::{IpDscp, IpNumber, Ipv4Header, Ipv4HeaderSlice, Ipv6Header, Ipv6HeaderSlice};
 
 /// The destination port of a UDP packet that is no fragment; `None` for another protocol, a
-/// fragment, or fewer than 4 bytes behind the header; the reader's error where there is no header.
+/// fragment, or fewer than 4 bytes after the header; the reader's error if there is no header.
 pub fn udp_port(packet: &[u8]) -> Result<Option<u16>, HeaderSliceError>
     ensures found { IfOk result (λ found. IfSome found (HasUdpPort packet.now)) }
     ensures none { IfOk result (λ found. IfNone found (HasNoUdpPort packet.now)) }
@@ -48,7 +48,7 @@ pub fn is_ipv4_marked_for(packet: &[u8], dscp: IpDscp, destination: [u8; 4]) -> 
     Ipv4HeaderSlice::from_slice(packet).is_ok_and(|view| is_ipv4_view_for(&view, dscp, destination))
 }
 
-/// The hop limit of an IPv6 packet; `None` where it has no header.
+/// The hop limit of an IPv6 packet; `None` if it has no header.
 pub fn hop_limit(packet: &[u8]) -> Option<u8>
     ensures found { IfSome result (λ limit. StartsWithIpv6 packet.now (λ header.
         header.hop_limit ≡ limit)) }

@@ -16,7 +16,7 @@ use arrayvec::ArrayVec;
 use etherparse::err::{ipv4, ipv6};
 use etherparse::{IpDscp, IpEcn, Ipv4Header, Ipv6Header};
 
-/// The header of an IPv4 packet with one hop less to go, or `None` where it may go no further. The
+/// The header of an IPv4 packet with one hop less to go, or `None` if it may go no further. The
 /// checksum is still the one that was read: it has to be computed anew before the header is sent,
 /// or updated as [`ipv4_forwarded`] does.
 pub fn ipv4_next_hop(packet: &[u8]) -> Result<Option<ArrayVec<u8, 60>>, ipv4::HeaderSliceError>
@@ -34,9 +34,8 @@ pub fn ipv4_next_hop(packet: &[u8]) -> Result<Option<ArrayVec<u8, 60>>, ipv4::He
 }
 
 /// An IPv4 packet with one hop less to go: the bytes of its header, written again with the checksum
-/// updated, and what follows it; `None` where it may go no further. What is written has the
-/// reserved bit 0, so the checksum is right exactly where it was for the header with that bit
-/// cleared.
+/// updated, and what follows it; `None` if it may go no further. What is written has the reserved
+/// bit 0, so the checksum is correct exactly when it was for the header with that bit cleared.
 pub fn ipv4_forwarded(
     packet: &[u8],
 ) -> Result<Option<(ArrayVec<u8, 60>, &[u8])>, ipv4::HeaderSliceError>
@@ -54,9 +53,9 @@ pub fn ipv4_forwarded(
     Ok(Some((header.to_bytes(), rest)))
 }
 
-/// Takes one hop from an IPv4 packet in place, in bytes 8, 10 and 11 alone; `false` where it may go
-/// no further. The reserved bit stays, so the checksum is right exactly where it was. A packet that
-/// goes no further is as it was.
+/// Takes one hop from an IPv4 packet in place, in bytes 8, 10 and 11 alone; `false` if it may go no
+/// further. The reserved bit stays, so the checksum is correct exactly when it was before. A packet
+/// that goes no further is unchanged.
 pub fn ipv4_forward_in_place(packet: &mut [u8]) -> Result<bool, ipv4::HeaderSliceError>
     ensures next { IfOk result (λ goes_on.
         OnTrue goes_on (IsForwardedInPlace packet.old packet.new)) }
@@ -78,7 +77,7 @@ pub fn ipv4_forward_in_place(packet: &mut [u8]) -> Result<bool, ipv4::HeaderSlic
     Ok(true)
 }
 
-/// The header of an IPv6 packet with one hop less to go, or `None` where it may go no further.
+/// The header of an IPv6 packet with one hop less to go, or `None` if it may go no further.
 pub fn ipv6_next_hop(packet: &[u8]) -> Result<Option<[u8; 40]>, ipv6::HeaderSliceError>
     ensures next { IfOk result (λ sent. IfSome sent (IsNextIpv6Hop packet.now)) }
     ensures last { IfOk result (λ sent. IfNone sent (IsLastIpv6Hop packet.now)) }
@@ -104,8 +103,8 @@ pub fn ipv4_rewritten(packet: &[u8]) -> Result<(ArrayVec<u8, 60>, &[u8]), ipv4::
     Ok((header.to_bytes(), rest))
 }
 
-/// The bytes of an IPv6 header that was read and is written again, and what follows it: together
-/// the packet.
+/// The bytes of an IPv6 header that was read and is written again, and what follows it; together
+/// they are the packet.
 pub fn ipv6_rewritten(packet: &[u8]) -> Result<([u8; 40], &[u8]), ipv6::HeaderSliceError>
     ensures rest { IfOk result (λ x. (header : Header6) ×
         BeginsWith IsIpv6Layout packet.now header x.1.now) }
@@ -117,7 +116,7 @@ pub fn ipv6_rewritten(packet: &[u8]) -> Result<([u8; 40], &[u8]), ipv6::HeaderSl
 }
 
 /// Lets an IPv4 header announce a payload of 100 bytes. There is room for them, whatever its
-/// options, which stay.
+/// options, which stay the same.
 pub fn announce_hundred_bytes(header: &mut Ipv4Header)
     ensures set { header.new ≡ record header.old {
       total_len = 120 + length header.old.options;
@@ -126,9 +125,9 @@ pub fn announce_hundred_bytes(header: &mut Ipv4Header)
     header.set_payload_len(100).unwrap();
 }
 
-/// Marks that an IPv6 packet met congestion, and answers its class, which stays. That the sender is
-/// capable of it, so that the ECN was not `NotEct`, is for the caller to test first (RFC 3168
-/// section 5).
+/// Marks that an IPv6 packet met congestion, and returns its class, which stays the same. The
+/// caller has to test first that the sender is capable of it, so that the ECN was not `NotEct` (RFC
+/// 3168 section 5).
 pub fn mark_congestion(header: &mut Ipv6Header) -> IpDscp
     ensures class { result ≡ header.old.traffic_class / 2 ^ 2 }
     ensures set { header.new ≡ record header.old {

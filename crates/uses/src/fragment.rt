@@ -15,10 +15,10 @@ ghost use Rattle.uses.specs.declared.fragment.Ipv4Key.{Ipv4Key as Key4};
 use etherparse::err::{Layer, LenError, ipv4, ipv6};
 use etherparse::{IpFragOffset, IpNumber, Ipv4Header, Ipv6Header, LenSource};
 
-/// A fragment header of IPv6 (RFC 8200 section 4.5). Its reserved bits are no fields.
+/// A fragment header of IPv6 (RFC 8200 section 4.5). Its reserved bits are not fields.
 #[derive(Clone, Debug, PartialEq, Eq, Drop)]
 pub struct FragmentHeader {
-    /// What the part of the packet begins with that was cut: byte 0.
+    /// What the fragmented part of the packet begins with: byte 0.
     pub next_header: IpNumber,
     /// Where the fragment stands in that part, in units of 8 bytes: the upper 13 bits of bytes 2
     /// and 3.
@@ -42,7 +42,7 @@ impl FragmentHeader {
     ///
     /// # Errors
     ///
-    /// A `LenError` where the slice has fewer than 8 bytes.
+    /// A `LenError` if the slice has fewer than 8 bytes.
     pub fn from_slice(slice: &[u8]) -> Result<(FragmentHeader, &[u8]), LenError>
         ensures reads { Reads IsFragmentLayout RefusesFragment slice.now (found_and_rest result) }
         ensures only { (other : Result (Header × List ℕ) LenError) →
@@ -61,8 +61,7 @@ impl FragmentHeader {
         Ok((header_of(&slice[..8]), &slice[8..]))
     }
 
-    /// Whether the payload is a part of one that was cut: more fragments follow it, or its offset
-    /// is not 0.
+    /// Whether the payload is a fragment: more fragments follow it, or its offset is not 0.
     pub fn is_fragmenting_payload(&self) -> bool
         ensures value { IsTrue result ↔ IsPart self.now }
     {
@@ -91,7 +90,7 @@ pub struct Ipv4Key {
     pub source: [u8; 4],
     /// The address of the receiver.
     pub destination: [u8; 4],
-    /// The protocol of what was cut.
+    /// The protocol of what was fragmented.
     pub protocol: IpNumber,
     /// The number that the sender gave the packet.
     pub identification: u16,
@@ -108,8 +107,8 @@ pub struct Ipv6Key {
     pub identification: u32,
 }
 
-/// The key of an IPv4 packet that is a fragment; `None` where the packet is whole, since nothing is
-/// to be put together then, and others can have its identification (RFC 6864 section 4.1).
+/// The key of an IPv4 packet that is a fragment; `None` if the packet is whole, since there is then
+/// nothing to put together, and other packets can have its identification (RFC 6864 section 4.1).
 ///
 /// # Errors
 ///
@@ -166,13 +165,13 @@ pub fn is_of_one_ipv6_packet(a: &Ipv6Fragment, b: &Ipv6Fragment) -> bool
         && a.fragment.identification == b.fragment.identification
 }
 
-/// The first fragment header of an IPv6 packet, with what stands before and after it; `None` where
-/// a number that cannot be skipped, as that of an upper layer, comes before it.
+/// The first fragment header of an IPv6 packet, with what comes before and after it; `None` if a
+/// number that cannot be skipped, such as that of an upper layer, comes before it.
 ///
 /// # Errors
 ///
-/// Those of [`Ipv6Header::from_slice`]; `Len` where the fragment header or an extension header
-/// before it is incomplete, with the place of that header from the packet's start.
+/// Those of [`Ipv6Header::from_slice`]; `Len` if the fragment header or an extension header before
+/// it is incomplete, with the place of that header from the packet's start.
 pub fn ipv6_fragment(packet: &[u8]) -> Result<Option<Ipv6Fragment>, ipv6::HeaderSliceError>
     ensures found { IfOk result (λ found. IfSome found (λ x.
         HasFragmentHeader packet.now x.header x.fragment x.payload.now)) }
@@ -191,13 +190,13 @@ pub fn ipv6_fragment(packet: &[u8]) -> Result<Option<Ipv6Fragment>, ipv6::Header
     }
 }
 
-/// The first fragment header among extension headers at the front of a slice, of which the first
-/// has this number, and all the bytes after it; `None` where a number that cannot be skipped comes
+/// The first fragment header among extension headers at the front of a slice, the first of which
+/// has this number, and all the bytes after it; `None` if a number that cannot be skipped comes
 /// before it.
 ///
 /// # Errors
 ///
-/// A `LenError` where the fragment header or an extension header before it is incomplete, with the
+/// A `LenError` if the fragment header or an extension header before it is incomplete, with the
 /// place of that header from the front of the slice.
 pub fn fragment_behind(
     slice: &[u8],
@@ -228,7 +227,7 @@ pub fn fragment_behind(
     }
 }
 
-// What follows the extension header at the front of a slice, which is no fragment header.
+// What follows the extension header at the front of a slice, which is not a fragment header.
 fn skipped(slice: &[u8], number: IpNumber) -> Result<(IpNumber, &[u8]), LenError>
     requires skippable { IsSkippable number }
     requires other { number ≢ 44 }
@@ -244,8 +243,8 @@ fn skipped(slice: &[u8], number: IpNumber) -> Result<(IpNumber, &[u8]), LenError
     }
 }
 
-/// The key of an IPv6 packet that is a fragment; `None` where the packet is whole: it has no
-/// fragment header, or one with neither an offset nor more fragments. The latter is not to be put
+/// The key of an IPv6 packet that is a fragment; `None` if the packet is whole: it has no fragment
+/// header, or one with neither an offset nor more fragments. In the latter case it must not be put
 /// together with fragments that have its addresses and identification (RFC 6946 section 4).
 ///
 /// # Errors

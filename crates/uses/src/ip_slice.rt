@@ -8,8 +8,8 @@ use crate::fragment::fragment_behind;
 use etherparse::err::{Layer, LenError, ipv4, ipv6};
 use etherparse::{IpNumber, Ipv4Header, Ipv6Header, LenSource};
 
-/// The parts of an IP packet, cut at its length field: what stands behind the packet is in none.
-/// [`IpSlice::is_fragment`] says whether the payload is a fragment.
+/// The parts of an IP packet, cut at its length field: what comes after the packet is in none of
+/// them. [`IpSlice::is_fragment`] says whether the payload is a fragment.
 #[derive(Clone, Debug, PartialEq, Eq, Drop)]
 pub enum IpSlice<'a> {
     /// An IPv4 packet (RFC 791 section 3.1), cut at `total_len`.
@@ -26,7 +26,8 @@ pub enum IpSlice<'a> {
         /// The bytes of the extension headers, which can be none. A fragment header is among them,
         /// whatever its offset.
         extensions: &'a [u8],
-        /// The number of the payload: the first that is of no extension header that can be skipped.
+        /// The number of the payload: the first that is not the number of an extension header that
+        /// can be skipped.
         upper: IpNumber,
         /// What follows the extension headers.
         payload: &'a [u8],
@@ -36,7 +37,7 @@ pub enum IpSlice<'a> {
 /// Why a packet is not sliced.
 #[derive(Clone, Debug, PartialEq, Eq, Drop)]
 pub enum IpSliceError {
-    /// There is no byte.
+    /// There are no bytes.
     Empty,
     /// The version is neither 4 nor 6.
     UnexpectedVersion {
@@ -51,8 +52,8 @@ pub enum IpSliceError {
     /// the header length. Or the packet has fewer bytes than its length field says: `len` is then
     /// how many it has, `required_len` how many it should have, with the header.
     Packet(LenError),
-    /// An IPv6 packet ends within an extension header, before the end that its payload length
-    /// tells. `layer_start_offset` is the place of that header from the packet's start.
+    /// An IPv6 packet, cut at its payload length, ends within an extension header.
+    /// `layer_start_offset` is the place of that header from the packet's start.
     Extensions(LenError),
 }
 
@@ -104,13 +105,13 @@ impl<'a> IpSlice<'a> {
         }
     }
 
-    /// Whether the payload is a fragment: more fragments follow it, or its offset is not 0. Where
-    /// its offset is not 0, it is the middle of a payload, and begins with no header of an upper
-    /// layer.
+    /// Whether the payload is a fragment: more fragments follow it, or its offset is not 0. If its
+    /// offset is not 0, it is the middle of a payload, and does not begin with the header of an
+    /// upper layer.
     ///
-    /// Of IPv6 the first fragment header tells. A slice that was not made by
-    /// [`IpSlice::from_slice`] can have bytes for `extensions` that are no extension headers: its
-    /// payload is no fragment.
+    /// In IPv6, the first fragment header decides. A slice that was not made by
+    /// [`IpSlice::from_slice`] can have bytes for `extensions` that are not extension headers: its
+    /// payload is then no fragment.
     pub fn is_fragment(&self) -> bool
         ensures yes { IsTrue result → IsFragmentSlice self.now }
         ensures no { IsFalse result → IsWholeSlice self.now }
@@ -185,7 +186,7 @@ fn ipv6_slice(packet: &[u8]) -> Result<IpSlice, IpSliceError>
     })
 }
 
-// The header of a packet of version 6, and what its payload length tells of.
+// The header of a packet of version 6, and the bytes that its payload length covers.
 fn ipv6_body(packet: &[u8]) -> Result<(Ipv6Header, &[u8]), IpSliceError>
     requires some { 0 < length packet.now }
     requires version { version_of packet.now ≡ 6 }
@@ -209,7 +210,7 @@ fn ipv6_body(packet: &[u8]) -> Result<(Ipv6Header, &[u8]), IpSliceError>
     Ok((header, &rest[..len]))
 }
 
-// What stands in a slice before its rest.
+// What comes before the rest in a slice.
 fn before<'a>(slice: &'a [u8], rest: &[u8]) -> &'a [u8]
     requires rest { (front : List ℕ) × (slice.now ≡ front ++ rest.now) }
     ensures parts { slice.now ≡ result.now ++ rest.now }

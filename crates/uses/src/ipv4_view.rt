@@ -1,4 +1,4 @@
-//! A reader of IPv4 headers by their views: each getter answers the field of the view's header.
+//! A reader of IPv4 headers by their views: each getter returns the field of the view's header.
 
 ghost use Rattle.std.specs.Prelude.{◌≡◌, ◌↔◌, IsTrue, length, slice_index};
 ghost use Rattle.etherparse.specs.Ipv4Header.{IsIpv4Layout, IsFragment, ipv4_ihl};
@@ -55,7 +55,7 @@ pub fn identification(view: &Ipv4HeaderSlice) -> (u16, Ipv4Header)
     (view.identification(), view.to_header())
 }
 
-/// Whether the packet must not be cut, beside the header.
+/// Whether the packet must not be fragmented, beside the header.
 pub fn dont_fragment(view: &Ipv4HeaderSlice) -> (bool, Ipv4Header)
     ensures field { result.0 ≡ result.1.dont_fragment }
     ensures header { IsIpv4Layout result.1 view.now.slice.now }
@@ -135,7 +135,7 @@ pub fn options<'a>(view: &Ipv4HeaderSlice<'a>) -> (&'a [u8], Ipv4Header)
     (view.options(), view.to_header())
 }
 
-/// The headers of two views. They are the same where the bytes are.
+/// The headers of two views. They are the same if the bytes are.
 pub fn headers(view: &Ipv4HeaderSlice, other: &Ipv4HeaderSlice) -> (Ipv4Header, Ipv4Header)
     ensures same { view.now.slice.now ≡ other.now.slice.now → result.0 ≡ result.1 }
     ensures first { IsIpv4Layout result.0 view.now.slice.now }

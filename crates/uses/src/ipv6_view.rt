@@ -1,4 +1,4 @@
-//! A reader of IPv6 headers by their views: each getter answers the field of the view's header.
+//! A reader of IPv6 headers by their views: each getter returns the field of the view's header.
 
 ghost use Rattle.std.specs.Prelude.{◌≡◌, ◌/◌, ◌%◌, ◌^◌, length, slice_index};
 ghost use Rattle.etherparse.specs.IpEcn.{ecn_value};
@@ -78,7 +78,7 @@ pub fn destination(view: &Ipv6HeaderSlice) -> ([u8; 16], Ipv6Header)
     (view.destination(), view.to_header())
 }
 
-/// The headers of two views. They are the same where the bytes are.
+/// The headers of two views. They are the same if the bytes are.
 pub fn headers(view: &Ipv6HeaderSlice, other: &Ipv6HeaderSlice) -> (Ipv6Header, Ipv6Header)
     ensures same { view.now.slice.now ≡ other.now.slice.now → result.0 ≡ result.1 }
     ensures first { IsIpv6Layout result.0 view.now.slice.now }

@@ -14,7 +14,7 @@ ghost use Rattle.uses.specs.Payload.{HasIpv4Payload, HasIpv6Payload, IsShortBy, 
 use etherparse::err::{ipv4, ipv6};
 use etherparse::{Ipv4Header, Ipv4HeaderSlice, Ipv6Header};
 
-/// What follows an IPv6 header, as far as its payload length says and the capture has.
+/// What follows an IPv6 header, as far as its payload length says and the capture has it.
 pub fn ipv6_payload(packet: &[u8]) -> Result<&[u8], ipv6::HeaderSliceError>
     ensures cut { IfOk result (λ payload. HasIpv6Payload packet.now payload.now) }
     ensures refused { IfErr result (RefusesIpv6 packet.now) }
@@ -23,8 +23,8 @@ pub fn ipv6_payload(packet: &[u8]) -> Result<&[u8], ipv6::HeaderSliceError>
     Ok(&rest[..usize::from(header.payload_length).min(rest.len())])
 }
 
-/// An IPv6 header and its payload, where the packet is as long as the header says; what stands
-/// behind it is cut off.
+/// An IPv6 header and its payload, if the packet is as long as the header says; what comes after it
+/// is cut off.
 pub fn ipv6_packet(packet: &[u8]) -> Option<(Ipv6Header, &[u8])>
     ensures cut { IfSome result (λ x. BeginsWith IsIpv6Layout
         (take (40 + x.0.payload_length) packet.now) x.0 x.1.now) }
@@ -43,8 +43,8 @@ pub fn ipv6_packet(packet: &[u8]) -> Option<(Ipv6Header, &[u8])>
     Some((header, &rest[..len]))
 }
 
-/// What follows an IPv4 header, as far as its total length says and the capture has. A total length
-/// below that of the header is refused as a length error.
+/// What follows an IPv4 header, as far as its total length says and the capture has it. A total
+/// length below that of the header is refused as a length error.
 pub fn ipv4_payload(packet: &[u8]) -> Result<&[u8], ipv4::HeaderSliceError>
     ensures cut { IfOk result (λ payload. HasIpv4Payload packet.now payload.now) }
     ensures refused { IfErr result (RefusesIpv4Payload packet.now) }
@@ -54,7 +54,7 @@ pub fn ipv4_payload(packet: &[u8]) -> Result<&[u8], ipv4::HeaderSliceError>
     Ok(&rest[..len.min(rest.len())])
 }
 
-/// Where the payload of a fragment stands in the payload that was cut, in bytes.
+/// Where the payload of a fragment stands in the original payload, in bytes.
 pub fn fragment_start(view: &Ipv4HeaderSlice) -> usize
     ensures value { OfIpv4Header view.now.slice.now (λ header.
         result ≡ 8 * header.fragment_offset) }
@@ -62,8 +62,8 @@ pub fn fragment_start(view: &Ipv4HeaderSlice) -> usize
     usize::from(view.fragments_offset().byte_offset())
 }
 
-/// How many bytes a reader has to wait for before it can tell more of an IPv4 header than it can
-/// now; `None` where the header is whole, or the bytes are none.
+/// How many bytes a reader has to wait for before it can say more about an IPv4 header than it can
+/// now; `None` if the header is whole, or if the bytes are not a header.
 pub fn missing(packet: &[u8]) -> Option<usize>
     ensures more { IfSome result (λ count. IsShortBy count packet.now) }
     ensures none { (e : LengthError) → RefusesIpv4 packet.now (Len e) → IsSome result }

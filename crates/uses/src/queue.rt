@@ -18,7 +18,7 @@ pub enum Queue {
     Last,
 }
 
-/// The queue of a packet with this code point. One that is not known is served as most are (RFC
+/// The queue of a packet with this code point. An unknown code point is served as most are (RFC
 /// 2474 section 3).
 pub fn queue_of(dscp: IpDscp) -> Queue
     ensures known { (known : Known) → code_point_of known ≡ dscp → result ≡ queue_for known }

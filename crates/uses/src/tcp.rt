@@ -23,7 +23,7 @@ pub enum TcpError {
 pub struct TcpHeaderSlice<'a> {
     /// The bytes of the header, 20 to 60.
     pub slice: &'a [u8],
-    // What each view keeps.
+    // What every view keeps.
     pub ghost offset: { 5 ≤ data_offset_of slice.now },
     pub ghost len: { length slice.now ≡ 4 * data_offset_of slice.now },
     pub ghost are_bytes: { IsBytes slice.now },
@@ -40,8 +40,8 @@ impl<'a> TcpHeaderSlice<'a> {
     ///
     /// # Errors
     ///
-    /// `Len` where the slice has fewer than 20 bytes; else `DataOffset` where the data offset is
-    /// below 5; else `Len` where the slice has fewer bytes than the data offset says.
+    /// `Len` if the slice has fewer than 20 bytes; otherwise `DataOffset` if the data offset is
+    /// below 5; otherwise `Len` if the slice has fewer bytes than the data offset says.
     pub fn from_slice(slice: &'a [u8]) -> Result<TcpHeaderSlice<'a>, TcpError>
         ensures views { ViewsTcp slice.now
             (result_map_both (λ view. view.slice.now) (λ e. e) result) }
@@ -85,7 +85,7 @@ impl<'a> TcpHeaderSlice<'a> {
         u32::from_be_bytes([self.slice[4], self.slice[5], self.slice[6], self.slice[7]])
     }
 
-    /// The next sequence number that the sender expects, where ACK is set: bytes 8 to 11.
+    /// The next sequence number that the sender expects, if ACK is set: bytes 8 to 11.
     pub fn acknowledgment_number(&self) -> u32
         ensures bytes_8_to_11 { result ≡ from_be_bytes w32 (slice_range self.now.slice.now 8 12) }
     {
@@ -144,14 +144,14 @@ impl<'a> TcpHeaderSlice<'a> {
     }
 
     /// The checksum as it was received: bytes 16 and 17. [`is_tcp_right_ipv4`] and
-    /// [`is_tcp_right_ipv6`] judge it.
+    /// [`is_tcp_right_ipv6`] check it.
     pub fn checksum(&self) -> u16
         ensures bytes_16_17 { result ≡ from_be_bytes w16 (slice_range self.now.slice.now 16 18) }
     {
         u16::from_be_bytes([self.slice[16], self.slice[17]])
     }
 
-    /// Where urgent data ends, counted from the sequence number, where URG is set: bytes 18 and 19.
+    /// Where urgent data ends, counted from the sequence number, if URG is set: bytes 18 and 19.
     pub fn urgent_pointer(&self) -> u16
         ensures bytes_18_19 { result ≡ from_be_bytes w16 (slice_range self.now.slice.now 18 20) }
     {
@@ -167,10 +167,10 @@ impl<'a> TcpHeaderSlice<'a> {
     }
 }
 
-/// Whether the checksum of a TCP segment over IPv4 is right: that of its header, options and data,
-/// and of the pseudo-header with both addresses. The segment has to end where the total length of
-/// the packet says, since each byte of the slice counts. One of 65536 bytes or more, whose length
-/// the pseudo-header cannot tell, is not right.
+/// Whether the checksum of a TCP segment over IPv4 is correct: that of its header, options and
+/// data, and of the pseudo-header with both addresses. The segment has to end where the total
+/// length of the packet says, since each byte of the slice counts. For a segment of 65536 bytes or
+/// more, whose length does not fit the pseudo-header, the result is `false`.
 pub fn is_tcp_right_ipv4(header: &Ipv4Header, segment: &[u8]) -> bool
     ensures right { IsTrue result ↔ IsTcpRightIpv4 header.now segment.now }
 {
@@ -189,7 +189,7 @@ pub fn is_tcp_right_ipv4(header: &Ipv4Header, segment: &[u8]) -> bool
 }
 
 /// The same over IPv6 (RFC 8200 section 8.1). The destination is that of the header, which a
-/// routing header can have changed. A segment of 2^32 bytes or more is not right.
+/// routing header can have changed. For a segment of 2^32 bytes or more the result is `false`.
 pub fn is_tcp_right_ipv6(header: &Ipv6Header, segment: &[u8]) -> bool
     ensures right { IsTrue result ↔ IsTcpRightIpv6 header.now segment.now }
 {

@@ -1,4 +1,4 @@
-//! Address translation: another source or destination address, and what it changes in the checksums
+//! Address translation: another source or destination address, and how it changes the checksums
 //! (RFC 3022).
 
 ghost use Rattle.std.specs.Prelude.{◌≡◌};
@@ -9,8 +9,8 @@ ghost use Rattle.etherparse.specs.WordSums.{network_order_word_sum, updated_chec
 use etherparse::Ipv4Header;
 use etherparse::checksum::{update_4bytes, update_4bytes_with_no_zero};
 
-/// Gives a header another source address, and answers the UDP checksum for it; 0, which says that
-/// there is none, stays.
+/// Gives a header another source address, and returns the UDP checksum for it; 0, which says that
+/// there is none, stays 0.
 pub fn translate_udp_source(header: &mut Ipv4Header, udp_checksum: u16, source: [u8; 4]) -> u16
     ensures set { header.new ≡ record header.old {
       source = source;
@@ -47,7 +47,7 @@ pub fn translate_udp_destination(
     update_4bytes_with_no_zero(udp_checksum, old, destination)
 }
 
-/// Gives a header another source address, and answers the TCP checksum for it, which may be 0.
+/// Gives a header another source address, and returns the TCP checksum for it, which may be 0.
 pub fn translate_tcp_source(header: &mut Ipv4Header, tcp_checksum: u16, source: [u8; 4]) -> u16
     ensures set { header.new ≡ record header.old {
       source = source;

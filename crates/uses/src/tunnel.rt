@@ -22,8 +22,7 @@ pub fn inner_ipv4(packet: &[u8]) -> Result<(Ipv4Header, &[u8]), ipv4::HeaderSlic
     }
 }
 
-/// Why the header inside is none, in words, of an error that was made of the bytes after the outer
-/// header.
+/// Why there is no header inside, in words, from an error about the bytes after the outer header.
 pub fn inner_reason(
     alloc: Global,
     outer: &Ipv4Header,

@@ -14,7 +14,7 @@ pub struct UdpHeader {
     pub destination_port: u16,
     /// The length of the header and the payload, in bytes.
     pub length: u16,
-    /// The checksum, or 0 where there is none.
+    /// The checksum, or 0 if there is none.
     pub checksum: u16,
 }
 
@@ -32,7 +32,7 @@ impl UdpHeader {
     ///
     /// # Errors
     ///
-    /// A `LenError` where the slice has fewer than 8 bytes.
+    /// A `LenError` if the slice has fewer than 8 bytes.
     pub fn from_slice(slice: &[u8]) -> Result<(UdpHeader, &[u8]), LenError>
         ensures reads { ReadsUdp slice.now (found_and_rest result) }
         ensures only { (other : UdpReading) → ReadsUdp slice.now other →
@@ -59,8 +59,8 @@ impl UdpHeader {
         self.words()
     }
 
-    /// Sets the checksum of a datagram over IPv4. With it the datagram sums to all ones, and it is
-    /// not 0, which says that there is none.
+    /// Sets the checksum of a datagram over IPv4. With it the datagram sums to all ones. It is
+    /// never 0, which would say that there is none.
     pub fn set_checksum_ipv4(&mut self, ip: &Ipv4Header, payload: &[u8])
         ensures others { self.new ≡ record self.old { checksum = self.new.checksum } }
         ensures there { self.new.checksum ≢ 0 }
@@ -87,7 +87,7 @@ impl UdpHeader {
         );
     }
 
-    /// Whether the checksum of a datagram over IPv4 is right, or there is none.
+    /// Whether the checksum of a datagram over IPv4 is correct, or there is none.
     pub fn is_right_ipv4(&self, ip: &Ipv4Header, payload: &[u8]) -> bool
         ensures right { (header : List ℕ) → IsUdpLayout self.now header → (IsTrue result
             ↔ ((self.now.checksum ≡ 0) ⊎ (ones_complement_sum
@@ -97,8 +97,8 @@ impl UdpHeader {
         self.checksum == 0 || self.is_whole(&ip.source, &ip.destination, &[0, 17, h, l], payload)
     }
 
-    /// Whether the checksum of a datagram over IPv6 is right: there has to be one (RFC 8200 section
-    /// 8.1).
+    /// Whether the checksum of a datagram over IPv6 is correct: there has to be one (RFC 8200
+    /// section 8.1).
     pub fn is_right_ipv6(&self, ip: &Ipv6Header, payload: &[u8]) -> bool
         ensures right { (header : List ℕ) → IsUdpLayout self.now header → (IsTrue result
             ↔ ((self.now.checksum ≢ 0) × (ones_complement_sum
@@ -114,7 +114,7 @@ impl UdpHeader {
             )
     }
 
-    // Sets the checksum over the addresses, what else stands before the datagram, and the datagram.
+    // Sets the checksum over the addresses, the rest of the pseudo-header, and the datagram.
     fn complete<'a>(
         &mut self,
         source: &'a [u8],
@@ -134,7 +134,7 @@ impl UdpHeader {
         self.checksum = u64_16bit_word::ones_complement_with_no_zero(sum).swap_bytes();
     }
 
-    // Whether they sum to all ones.
+    // Whether the same bytes sum to all ones.
     fn is_whole<'a>(
         &self,
         source: &'a [u8],

@@ -15,9 +15,9 @@ use etherparse::err::LenError;
 use etherparse::err::ipv6::HeaderSliceError;
 use etherparse::{IpNumber, Ipv6Header};
 
-/// The number of the upper-layer protocol of an IPv6 packet, and its bytes; in a fragment that is
-/// not the first they begin in the middle of a payload, which [`ipv6_key`] tells. An error tells
-/// places from the packet's start.
+/// The number of the upper-layer protocol of an IPv6 packet, and its bytes. In a fragment that is
+/// not the first these begin in the middle of a payload; [`ipv6_key`] finds fragments. Places in an
+/// error count from the packet's start.
 pub fn upper_layer(packet: &[u8]) -> Result<(IpNumber, &[u8]), HeaderSliceError>
     ensures found { IfOk result (λ x. HasUpperLayer packet.now x.0 x.1.now) }
     ensures refused { IfErr result (RefusesUpperLayer packet.now) }
@@ -29,10 +29,10 @@ pub fn upper_layer(packet: &[u8]) -> Result<(IpNumber, &[u8]), HeaderSliceError>
     }
 }
 
-/// Whether the checksum of a UDP datagram over IPv6 is right, past any extension headers; `None`
-/// for another upper layer, or one of more bytes than 32 bits can tell, and for a fragment, in
-/// which there is no whole datagram. The destination is that of the IPv6 header, which a routing
-/// header can have changed.
+/// Whether the checksum of a UDP datagram over IPv6 is correct, past any extension headers. `None`
+/// for another upper layer, for one whose length does not fit 32 bits, and for a fragment, in which
+/// there is no whole datagram. The destination is that of the IPv6 header, which a routing header
+/// can have changed.
 pub fn is_udp_right(packet: &[u8]) -> Result<Option<bool>, HeaderSliceError>
     ensures whole { IfOk result (λ found. IfSome found (λ _. IsWholeIpv6 packet.now)) }
     ensures judged { IfOk result (λ found. IfSome found (HasUdp packet.now)) }
@@ -47,7 +47,7 @@ pub fn is_udp_right(packet: &[u8]) -> Result<Option<bool>, HeaderSliceError>
     judged(packet)
 }
 
-// The same of a packet that is no fragment.
+// The same for a packet that is no fragment.
 fn judged(packet: &[u8]) -> Result<Option<bool>, HeaderSliceError>
     ensures judged { IfOk result (λ found. IfSome found (HasUdp packet.now)) }
     ensures none { IfOk result (λ found. IfNone found (HasNoUdp packet.now)) }
@@ -70,7 +70,7 @@ fn judged(packet: &[u8]) -> Result<Option<bool>, HeaderSliceError>
     }
 }
 
-// Whether a datagram of this length sums to all ones with what stands before it in a checksum.
+// Whether a datagram of this length sums to all ones together with its pseudo-header.
 fn sums_to_all_ones(header: &Ipv6Header, len: u32, datagram: &[u8]) -> bool
     requires { len ≡ length datagram.now }
     ensures right { IsTrue result
@@ -86,8 +86,8 @@ fn sums_to_all_ones(header: &Ipv6Header, len: u32, datagram: &[u8]) -> bool
     u64_16bit_word::ones_complement(sum) == 0
 }
 
-/// The walk past all extension headers of a slice, from behind those that were skipped before:
-/// their rest, and its number.
+/// The walk past all extension headers of a slice, from the rest that follows those skipped before,
+/// and its number.
 pub fn walked_on<'a>(
     slice: &[u8],
     first: IpNumber,

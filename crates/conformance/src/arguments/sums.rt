@@ -3,7 +3,7 @@ use etherparse::checksum::Sum16BitWords;
 use std::alloc::AllocError;
 
 impl<'a> Arguments<'a> {
-    /// The bytes of each word that is left, however many words.
+    /// The bytes of each word that is left, for any number of words.
     pub fn pieces(&mut self) -> Result<Vec<Vec<u8>>, AllocError> {
         let mut pieces = Vec::new(self.alloc);
         if let Some(rest) = self.rest.take() {
@@ -14,7 +14,7 @@ impl<'a> Arguments<'a> {
         Ok(pieces)
     }
 
-    /// The sum of the steps that are left; more than one, where a `/` stands between them.
+    /// The sum of the steps that are left; more than one sum if `/` stands between steps.
     pub fn sums(&mut self) -> Result<Vec<Sum16BitWords>, AllocError> {
         let mut sums = Vec::new(self.alloc);
         let mut sum = Sum16BitWords::new();

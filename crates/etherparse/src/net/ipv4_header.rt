@@ -29,9 +29,9 @@ use fixed_and_options::front_and_options;
 /// +-+-+-+-+-+-+-+-+-+-+-+-+-+-+-+-+-+-+-+-+-+-+-+-+-+-+-+-+-+-+-+-+
 /// ```
 ///
-/// `D` is `dont_fragment` and `M` is `more_fragments`. The version, 4, and the IHL are no fields:
-/// they are written from the options' length. The reserved bit before `D` is no field either: it is
-/// read as 0 or 1, and written as 0.
+/// `D` is `dont_fragment` and `M` is `more_fragments`. The version, 4, and the IHL are not fields:
+/// the IHL is written from the options' length. The reserved bit before `D` is not a field either:
+/// it is read as 0 or 1, and written as 0.
 ///
 /// # Example
 ///
@@ -63,7 +63,7 @@ pub struct Ipv4Header {
     pub time_to_live: u8,
     /// The protocol of what follows the header.
     pub protocol: IpNumber,
-    /// The checksum over the header, right or wrong: bytes 10 and 11, the high byte first. What
+    /// The checksum over the header, correct or not: bytes 10 and 11, the high byte first. What
     /// [`ones_complement`](crate::checksum::u64_16bit_word::ones_complement) returns has the low
     /// byte first; its `swap_bytes` is the number for this field.
     pub header_checksum: u16,
@@ -71,7 +71,7 @@ pub struct Ipv4Header {
     pub source: [u8; 4],
     /// The address of the receiver.
     pub destination: [u8; 4],
-    /// What follows the fixed fields, 0 to 40 bytes in words of 4. A change of their length leaves
+    /// What follows the fixed fields, 0 to 40 bytes in words of 4. A change in their length leaves
     /// `total_len` as it was: call [`Ipv4Header::set_payload_len`] afterwards.
     pub options: Ipv4Options,
 }
@@ -111,11 +111,11 @@ impl Ipv4Header {
     const MAX_PAYLOAD_LEN: u16 = u16::MAX - Ipv4Header::MIN_LEN_U16;
 
     /// A header without options for a payload of this length in bytes. All else is as in the
-    /// default, so the checksum is 0: [`Ipv4Header::calc_header_checksum`] gives the right one.
+    /// default, so the checksum is 0: [`Ipv4Header::calc_header_checksum`] gives the correct one.
     ///
     /// # Errors
     ///
-    /// A `ValueTooBigError` where the payload is longer than 65515 bytes: with the header that is
+    /// A `ValueTooBigError` if the payload is longer than 65515 bytes: with the header, that is
     /// more than `total_len` has room for.
     ///
     /// # Example
@@ -190,12 +190,12 @@ impl Ipv4Header {
         Ipv4Header::MIN_LEN + self.options.len()
     }
 
-    /// The length of the payload in bytes: the total length, less the header.
+    /// The length of the payload in bytes: the total length less the header length.
     ///
     /// # Errors
     ///
-    /// A `LenError` where the total length is below the length of the header: `len` is then the
-    /// total length, `required_len` the header length.
+    /// A `LenError` if the total length is below the length of the header: `len` is then the total
+    /// length, `required_len` the header length.
     ///
     /// # Example
     ///
@@ -217,8 +217,8 @@ impl Ipv4Header {
         payload_len_between(self.header_len() as u16, self.total_len)
     }
 
-    /// The length of the longest payload that fits after the header, in bytes: 65515, less the
-    /// options.
+    /// The length of the longest payload that fits after the header, in bytes: 65515 less the
+    /// length of the options.
     #[inline]
     pub fn max_payload_len(&self) -> u16
         ensures value { result ≡ ipv4_max_payload_len self.now }
@@ -228,13 +228,13 @@ impl Ipv4Header {
         Ipv4Header::MAX_PAYLOAD_LEN - u16::from(self.options.len_u8())
     }
 
-    /// Sets the total length to that of the header and a payload of this length, in bytes. Options
-    /// that are changed afterwards do not change it: call it again then.
+    /// Sets the total length to that of the header and a payload of this length, in bytes. Changing
+    /// the options later does not change the total length: call this again then.
     ///
     /// # Errors
     ///
-    /// A `ValueTooBigError` where the payload is above [`Ipv4Header::max_payload_len`]. The header
-    /// is then as it was.
+    /// A `ValueTooBigError` if the payload is longer than [`Ipv4Header::max_payload_len`]. The
+    /// header is then unchanged.
     ///
     /// # Example
     ///
@@ -279,13 +279,13 @@ impl Ipv4Header {
         self.options.as_slice()
     }
 
-    /// Puts these bytes in the place of the options: an older way to set the field. The total
-    /// length stays what it was: call [`Ipv4Header::set_payload_len`] afterwards.
+    /// Replaces the options with these bytes: an older way to set the field. The total length stays
+    /// what it was: call [`Ipv4Header::set_payload_len`] afterwards.
     ///
     /// # Errors
     ///
-    /// A `BadOptionsLen` where there are more than 40 bytes, or not whole words of 4 bytes. The
-    /// header is then as it was.
+    /// A `BadOptionsLen` if there are more than 40 bytes, or a number of bytes that is not a
+    /// multiple of 4. The header is then unchanged.
     pub fn set_options(&mut self, data: &[u8]) -> Result<(), BadOptionsLen>
         ensures accepted { IsOk result ↔ IsOptionsLen (length «data».now) }
         ensures refused { IfErr result (λ e. e ≡ record { bad_len = length «data».now }) }
@@ -316,14 +316,14 @@ impl Ipv4Header {
         Ipv4Header::from_slice(slice)
     }
 
-    /// The header at the front of a slice, and all the bytes after it. They are not cut at
-    /// `total_len`, and may be fewer: [`Ipv4Header::payload_len`] says how many are the payload,
-    /// and `rest.get(..len)` takes these. The checksum is not tested.
+    /// The header at the front of a slice, and all the bytes after it. These are not cut at
+    /// `total_len`, and may be fewer than it says: [`Ipv4Header::payload_len`] says how many are
+    /// the payload, and `rest.get(..len)` takes those. The checksum is not tested.
     ///
     /// # Errors
     ///
-    /// In this order: `Len` where the slice has fewer than 20 bytes; `Content` where the version is
-    /// not 4, or the IHL is below 5; `Len` where the slice has fewer bytes than the IHL says.
+    /// In this order: `Len` if the slice has fewer than 20 bytes; `Content` if the version is not
+    /// 4, or the IHL is below 5; `Len` if the slice has fewer bytes than the IHL says.
     ///
     /// # Example
     ///
@@ -347,8 +347,8 @@ impl Ipv4Header {
         if len == Ipv4Header::MIN_LEN {
             return Ok((view.header_with(Ipv4Options::new()), rest));
         }
-        // A number of bytes that the compiler knows is copied with no call, so 40 are where there
-        // are as many.
+        // A number of bytes that the compiler knows is copied without a call, so 40 bytes are
+        // copied if there are that many.
         if slice.len() >= Ipv4Header::MAX_LEN {
             let bytes = slice[Ipv4Header::MIN_LEN..Ipv4Header::MAX_LEN]
                 .first_chunk::<40>()
@@ -359,8 +359,8 @@ impl Ipv4Header {
         Ok((view.header_with(options_of(view.options())), rest))
     }
 
-    /// The bytes of the header, in network byte order, with the reserved bit 0 and the checksum
-    /// that the header has.
+    /// The bytes of the header, in network byte order, with the reserved bit 0 and the stored
+    /// checksum.
     #[inline(always)]
     pub fn to_bytes(&self) -> ArrayVec<u8, 60>
         ensures layout { IsIpv4LayoutWith self.now 0 result.items }
@@ -372,7 +372,7 @@ impl Ipv4Header {
         ensures read_alone { ReadsIpv4 result.items (Ok (self.now, [])) }
         ensures viewed_alone { ViewsIpv4 result.items (Ok result.items) }
 
-        // A receiver finds the checksum right where it is the computed one, in either form of zero.
+        // A receiver finds the checksum correct if it is the computed one, in either form of zero.
         ensures sums_to_all_ones { SumsToAllOnes result.items
             ↔ ((self.now.header_checksum ≡ header_checksum_of result.items)
             ⊎ ((self.now.header_checksum ≡ 65535) × (header_checksum_of result.items ≡ 0))) }
@@ -380,7 +380,7 @@ impl Ipv4Header {
         front_and_options(&self.front(self.header_checksum), self.options.as_slice())
     }
 
-    // What stands before the options, with this checksum.
+    // The bytes before the options, with this checksum.
     #[inline(always)]
     #[rattlefmt::skip]
     fn front(&self, header_checksum: u16) -> [u8; 20]

@@ -14,7 +14,7 @@ use crate::{IpDscp, IpEcn, IpFragOffset, IpNumber, Ipv4Header, Ipv4Options, LenS
 /// A view of the bytes of an IPv4 header with its options (RFC 791 section 3.1), whose layout is
 /// drawn at [`Ipv4Header`].
 ///
-/// It keeps the reserved bit, which an [`Ipv4Header`] has no field for.
+/// It keeps the reserved bit, for which an [`Ipv4Header`] has no field.
 ///
 /// # Example
 ///
@@ -30,7 +30,7 @@ use crate::{IpDscp, IpEcn, IpFragOffset, IpNumber, Ipv4Header, Ipv4Options, LenS
 pub struct Ipv4HeaderSlice<'a> {
     /// The bytes of the header: 20, and those of the options.
     pub slice: &'a [u8],
-    // What each view keeps, and each literal of one has to prove.
+    // What every view keeps, and what every struct literal of a view has to prove.
     pub ghost version: { version_of slice.now ≡ 4 },
     pub ghost ihl: { 5 ≤ ihl_of slice.now },
     pub ghost len: { length slice.now ≡ 4 * ihl_of slice.now },
@@ -54,8 +54,8 @@ impl<'a> Ipv4HeaderSlice<'a> {
     ///
     /// # Errors
     ///
-    /// In this order: `Len` where the slice has fewer than 20 bytes; `Content` where the version is
-    /// not 4, or the IHL is below 5; `Len` where the slice has fewer bytes than the IHL says.
+    /// In this order: `Len` if the slice has fewer than 20 bytes; `Content` if the version is not
+    /// 4, or the IHL is below 5; `Len` if the slice has fewer bytes than the IHL says.
     #[inline(always)]
     pub fn from_slice(slice: &'a [u8]) -> Result<Ipv4HeaderSlice<'a>, HeaderSliceError>
         ensures views { ViewsIpv4 slice.now
@@ -128,12 +128,12 @@ impl<'a> Ipv4HeaderSlice<'a> {
         u16::from_be_bytes([self.slice[2], self.slice[3]])
     }
 
-    /// The length of the payload in bytes: the total length, less the header.
+    /// The length of the payload in bytes: the total length less the header length.
     ///
     /// # Errors
     ///
-    /// A `LenError` where the total length is below the length of the header: `len` is then the
-    /// total length, `required_len` the header length.
+    /// A `LenError` if the total length is below the length of the header: `len` is then the total
+    /// length, `required_len` the header length.
     #[inline]
     pub fn payload_len(&self) -> Result<u16, LenError>
         ensures value { OfIpv4Header self.now.slice.now (λ header.
@@ -178,14 +178,13 @@ impl<'a> Ipv4HeaderSlice<'a> {
         IpFragOffset::try_new(u16::from_be_bytes(bytes)).unwrap()
     }
 
-    /// Whether the payload is a part of one that was cut: more fragments follow it, or its offset
-    /// is not 0.
+    /// Whether the payload is a fragment: more fragments follow it, or its offset is not 0.
     #[inline]
     pub fn is_fragmenting_payload(&self) -> bool
         ensures value { OfIpv4Header self.now.slice.now (λ header.
             IsTrue result ↔ IsFragment header) }
     {
-        // More fragments and the offset, which stand side by side.
+        // The flag for more fragments and the offset, which are side by side.
         u16::from_be_bytes([self.slice[6], self.slice[7]]) & 0x3fff != 0
     }
 
@@ -207,7 +206,7 @@ impl<'a> Ipv4HeaderSlice<'a> {
         IpNumber(self.slice[9])
     }
 
-    /// The checksum that the header has, right or wrong: bytes 10 and 11.
+    /// The stored checksum, correct or not: bytes 10 and 11.
     #[inline]
     pub fn header_checksum(&self) -> u16
         ensures value { OfIpv4Header self.now.slice.now (λ header.
@@ -245,19 +244,19 @@ impl<'a> Ipv4HeaderSlice<'a> {
         &self.slice[Ipv4Header::MIN_LEN..]
     }
 
-    /// The header that the bytes are in the layout of, with either reserved bit.
+    /// The header whose layout the bytes have, with either reserved bit.
     #[inline]
     pub fn to_header(&self) -> Ipv4Header
         ensures layout { IsIpv4Layout result self.now.slice.now }
         ensures only { OfIpv4Header self.now.slice.now (λ header. header ≡ result) }
 
-        // It is written as the bytes are, with the reserved bit 0.
+        // It is written as these bytes, with the reserved bit 0.
         ensures cleared { IsIpv4LayoutWith result 0 (with_reserved_bit_cleared self.now.slice.now) }
     {
         self.header_with(options_of(self.options()))
     }
 
-    // The header that the bytes are in the layout of, with these options.
+    // The header whose layout the bytes have, with these options.
     #[inline(always)]
     pub(super) fn header_with(&self, options: Ipv4Options) -> Ipv4Header
         requires { options ≡ drop 20 self.now.slice.now }
@@ -282,8 +281,7 @@ impl<'a> Ipv4HeaderSlice<'a> {
     }
 }
 
-// The length of the header at the front of a slice, or 20, where the slice has fewer bytes than
-// that.
+// The length of the header at the front of a slice, or 20 if the slice has fewer than 20 bytes.
 #[inline(always)]
 fn header_len(slice: &[u8]) -> Result<usize, HeaderError>
     ensures whole { IfOk result (λ len. len ≤ length slice.now → (version_of slice.now ≡ 4)
@@ -296,7 +294,7 @@ fn header_len(slice: &[u8]) -> Result<usize, HeaderError>
         return Ok(Ipv4Header::MIN_LEN);
     }
     let first = slice[0];
-    // Version 4 and an IHL of 5 at least are one range, which the compiler tests by one comparison.
+    // Version 4 and an IHL of at least 5 are one range, which the compiler tests by one comparison.
     if first < 0x45 || first > 0x4f {
         let version_number = first >> 4;
         if version_number != 4 {
@@ -321,8 +319,8 @@ fn length_error(required_len: usize, len: usize) -> HeaderSliceError
     })
 }
 
-// The options of these bytes, by words of 4. Behind the last word it is read again, so that no
-// branch tells how many there are.
+// The options of these bytes, by words of 4. After the last word, that word is read again, so that
+// no branch depends on how many there are.
 #[inline(always)]
 pub(super) fn options_of(bytes: &[u8]) -> Ipv4Options
     requires { IsOptionsLen (length bytes.now) }

@@ -1,4 +1,4 @@
-//! The length of an IPv4 payload, of which an owned header and a view tell alike.
+//! The length of an IPv4 payload, for an owned header and for a view.
 
 ghost use Rattle.std.specs.Prelude.{◌≡◌, ◌+◌, ◌<◌, IfErr, IfOk};
 ghost use Rattle.etherparse.specs.Ipv4Header.{payload_len_of};
@@ -6,7 +6,7 @@ ghost use Rattle.etherparse.specs.Ipv4Header.{payload_len_of};
 use crate::LenSource;
 use crate::err::{Layer, LenError};
 
-// The length of a payload by the lengths of the header and of the packet.
+// The length of a payload, from the lengths of the header and of the packet.
 #[inline]
 pub(super) fn payload_len_between(header_len: u16, total_len: u16) -> Result<u16, LenError>
     ensures value { result ≡ payload_len_of header_len total_len }

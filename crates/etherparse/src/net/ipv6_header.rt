@@ -36,7 +36,7 @@ use std::marker::Model;
 /// +-+-+-+-+-+-+-+-+-+-+-+-+-+-+-+-+-+-+-+-+-+-+-+-+-+-+-+-+-+-+-+-+
 /// ```
 ///
-/// The version, 6, is no field.
+/// The version, 6, is not a field.
 ///
 /// # Example
 ///
@@ -69,8 +69,8 @@ pub struct Ipv6Header {
     pub destination: [u8; 16],
 }
 
-/// A contract sees the fields. Without this `impl` the check refuses `.ok()?` and `.map(..)` on
-/// what reads a header.
+/// A contract sees the fields. Without this `impl` the check refuses `.ok()?` and `.map(..)` on a
+/// reader's result.
 impl Model for Ipv6Header {
     ghost use Rattle.etherparse.specs.Ipv6HeaderFields.{Ipv6HeaderFields};
 
@@ -132,13 +132,14 @@ impl Ipv6Header {
         Ipv6Header::from_slice(slice)
     }
 
-    /// The header at the front of a slice, and all the bytes after it. They are not cut at
-    /// `payload_length`, and may be fewer: `rest.get(..usize::from(header.payload_length))` takes
-    /// those that are the payload, unless the length is 0, as of a jumbogram.
+    /// The header at the front of a slice, and all the bytes after it. These are not cut at
+    /// `payload_length`, and may be fewer than it says:
+    /// `rest.get(..usize::from(header.payload_length))` takes those that are the payload, unless
+    /// the length is 0, as in a jumbogram.
     ///
     /// # Errors
     ///
-    /// `Len` where the slice has fewer than 40 bytes; else `Content` where the version is not 6.
+    /// `Len` if the slice has fewer than 40 bytes; otherwise `Content` if the version is not 6.
     ///
     /// # Example
     ///
@@ -164,7 +165,7 @@ impl Ipv6Header {
     ///
     /// # Errors
     ///
-    /// A `ValueTooBigError` where the length is above 65535. The header is then as it was.
+    /// A `ValueTooBigError` if the length is above 65535. The header is then unchanged.
     pub fn set_payload_length(&mut self, size: usize) -> Result<(), ValueTooBigError<usize>>
         ensures accepted { IsOk result ↔ (size ≤ u16.MAX) }
         ensures refused { IfErr result (λ e. e ≡ record {
@@ -246,7 +247,7 @@ impl Ipv6Header {
         front_and_addresses(&self.front(), &self.source, &self.destination)
     }
 
-    // What stands before the addresses.
+    // The bytes before the addresses.
     #[inline(always)]
     fn front(&self) -> [u8; 8]
         ensures value { result ≡ to_be_bytes w32
@@ -270,7 +271,7 @@ impl Ipv6Header {
 
 const _: () = prove!(Ipv6Header::LEN == 40 && Ipv6Header::SERIALIZED_SIZE == 40);
 
-/// All fields are 0, but for the next header, which is 255.
+/// All fields are 0 except the next header, which is 255.
 impl Default for Ipv6Header {
     ghost use Rattle.std.specs.Prelude.{◌≡◌};
     ghost use Rattle.etherparse.specs.Ipv6Header.{default_ipv6_header};
@@ -290,7 +291,7 @@ impl Default for Ipv6Header {
     }
 }
 
-// Three parts, one after the other, as one literal: it is stored without a copy between.
+// Three parts, one after the other, as one literal: it is stored without a copy in between.
 #[inline(always)]
 #[rattlefmt::skip]
 fn front_and_addresses(front: &[u8], source: &[u8], destination: &[u8]) -> [u8; 40]

@@ -23,7 +23,7 @@ use crate::{IpDscp, IpEcn, IpNumber, Ipv6FlowLabel, Ipv6Header, LenSource};
 pub struct Ipv6HeaderSlice<'a> {
     /// The 40 bytes of the header.
     pub slice: &'a [u8],
-    // What each view keeps, and each literal of one has to prove.
+    // What every view keeps, and what every struct literal of a view has to prove.
     pub ghost len: { length slice.now ≡ 40 },
     pub ghost version: { version_of slice.now ≡ 6 },
     pub ghost are_bytes: { IsBytes slice.now },
@@ -44,7 +44,7 @@ impl<'a> Ipv6HeaderSlice<'a> {
     ///
     /// # Errors
     ///
-    /// `Len` where the slice has fewer than 40 bytes; else `Content` where the version is not 6.
+    /// `Len` if the slice has fewer than 40 bytes; otherwise `Content` if the version is not 6.
     pub fn from_slice(slice: &'a [u8]) -> Result<Ipv6HeaderSlice<'a>, HeaderSliceError>
         ensures views { ViewsIpv6 slice.now
             (result_map_both (λ view. view.slice.now) (λ e. e) result) }
@@ -176,7 +176,7 @@ impl<'a> Ipv6HeaderSlice<'a> {
         *self.slice[24..].first_chunk::<16>().unwrap()
     }
 
-    /// The header that the bytes are in the layout of.
+    /// The header whose layout the bytes have.
     pub fn to_header(&self) -> Ipv6Header
         ensures layout { IsIpv6Layout result self.now.slice.now }
         ensures only { OfIpv6Header self.now.slice.now (λ header. header ≡ result) }

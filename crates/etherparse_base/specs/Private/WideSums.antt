@@ -4,7 +4,7 @@ use Rattle.std.specs.Simd.Lanes.{sum_l, zip2}
 use Rattle.etherparse_base.specs.WordSums.{folded_sum, little_endian_word_sum}
 use Rattle.etherparse_base.specs.declared.checksum.wide_u64.Turns.{Turns}
 
--- whatever a number is added to, the fold is that of adding the words of the bytes before the rest
+-- in any sum, the number has the same fold as the words of the bytes before the rest
 abbrev pub StandsFor : ℕ → List ℕ → List ℕ → Type 0
 StandsFor number bytes rest = (n : ℕ) → folded_sum (n + number + little_endian_word_sum rest)
     ≡ folded_sum (n + little_endian_word_sum bytes)
@@ -34,7 +34,7 @@ pub record AddsInTurns (bytes total high : List ℕ) (sums carries : ℕ) (rest 
 abbrev pub lanes_added : List ℕ → List ℕ → List ℕ
 lanes_added xs ys = zip2 (λ x y. (x + y) % 2 ^ 64) xs ys
 
--- turns stand for the bytes before the rest, where totals kept beside are added to theirs
+-- turns stand for the bytes before the rest, with totals that are kept apart added to theirs
 abbrev pub AddsTurns : List ℕ → List ℕ → Turns → List ℕ → Type 0
 AddsTurns bytes beside at rest = AddsInTurns bytes (lanes_added at.total beside) at.high
     (sum_l at.first + sum_l at.second) at.carries rest

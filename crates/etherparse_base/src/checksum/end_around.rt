@@ -1,4 +1,4 @@
-//! Sums with the end-around carry: what goes beyond the width is added at the low end (RFC 1071
+//! Sums with the end-around carry: a carry out of the width is added at the low end (RFC 1071
 //! section 1).
 
 ghost use Rattle.std.specs.Prelude.{◌≡◌};
@@ -31,7 +31,7 @@ fn add_u16(a: u16, b: u16) -> u16
     if carry { sum + 1 } else { sum }
 }
 
-/// A sum of 64 bits in 32.
+/// A sum of 64 bits reduced to 32.
 #[inline(always)]
 pub(super) fn halve_u64(sum: u64) -> u32
     ensures folded { folded_sum result ≡ folded_sum sum }
@@ -39,7 +39,7 @@ pub(super) fn halve_u64(sum: u64) -> u32
     add_u32((sum & 0xffff_ffff) as u32, (sum >> 32) as u32)
 }
 
-/// A sum of 32 bits in 16, which is its fold.
+/// A sum of 32 bits reduced to 16, which is its fold.
 #[inline(always)]
 pub(super) fn halve_u32(sum: u32) -> u16
     ensures folded { result ≡ folded_sum sum }

@@ -7,11 +7,10 @@ ghost use Rattle.etherparse_base.specs.WordSums.{little_endian_word_sum};
 use super::u64_16bit_word;
 use std::marker::Model;
 
-/// The sum of words of sixteen bits, for the checksum of a header (RFC 1071). Each call answers a
+/// The sum of words of sixteen bits, for the checksum of a header (RFC 1071). Each call returns a
 /// new sum.
 ///
-/// Sums are equal where the numbers of 64 bits are that they are kept in: equal complements do not
-/// make them equal.
+/// Sums are equal if their 64-bit numbers are: equal complements do not make sums equal.
 ///
 /// # Example
 ///
@@ -28,7 +27,7 @@ pub struct Sum16BitWords {
     sum: u64,
 }
 
-/// A contract sees the number that the sum is kept in.
+/// A contract sees the 64-bit number of the sum.
 impl Model for Sum16BitWords {
     ghost Value = { ℕ };
 
@@ -45,10 +44,10 @@ impl Sum16BitWords {
         Sum16BitWords { sum: 0 }
     }
 
-    /// Adds the words of a slice. An odd last byte is paired with a byte 0 behind it (RFC 1071
+    /// Adds the words of a slice. An odd last byte is paired with a zero byte after it (RFC 1071
     /// section 1).
     ///
-    /// The answer has the right complement; nothing else of it is promised.
+    /// The result has the correct complement; nothing else about it is promised.
     #[inline]
     pub fn add_slice(self, slice: &[u8]) -> Sum16BitWords
         ensures adds { AddsSlice self slice.now result }
@@ -74,7 +73,7 @@ impl Sum16BitWords {
     /// Adds four bytes as one number, the low byte first. A carry out of the 64 bits is added at
     /// the low end (RFC 1071 section 1).
     ///
-    /// It changes nothing: what it answers is the new sum.
+    /// Leaves `self` unchanged and returns the new sum.
     #[inline]
     pub fn add_4bytes(&mut self, value: [u8; 4]) -> Sum16BitWords
         ensures sum { result ≡ end_around_sum u64.MAX self.old (from_le_bytes w32 value) }
@@ -90,7 +89,7 @@ impl Sum16BitWords {
     /// Adds eight bytes as one number, the low byte first. A carry out of the 64 bits is added at
     /// the low end (RFC 1071 section 1).
     ///
-    /// It changes nothing: what it answers is the new sum.
+    /// Leaves `self` unchanged and returns the new sum.
     #[inline]
     pub fn add_8bytes(&mut self, value: [u8; 8]) -> Sum16BitWords
         ensures sum { result ≡ end_around_sum u64.MAX self.old (from_le_bytes w64 value) }
@@ -106,7 +105,7 @@ impl Sum16BitWords {
     /// Adds sixteen bytes: the first eight, and then the last eight, as
     /// [`Sum16BitWords::add_8bytes`] does.
     ///
-    /// It changes nothing: what it answers is the new sum.
+    /// Leaves `self` unchanged and returns the new sum.
     #[inline]
     pub fn add_16bytes(&mut self, bytes: [u8; 16]) -> Sum16BitWords
         ensures sum { let half = end_around_sum u64.MAX self.old (from_le_bytes w64 (take 8 bytes))
@@ -124,10 +123,10 @@ impl Sum16BitWords {
         self.add_8bytes(first).add_8bytes(last)
     }
 
-    /// The checksum of what was summed, the ones-complement of the sum in sixteen bits: 0 where the
-    /// words sum to all ones.
+    /// The checksum of what was summed: the ones-complement of the sum in sixteen bits. It is 0 if
+    /// the words sum to all ones.
     ///
-    /// Its low byte stands first in a packet: `to_le_bytes` gives its two bytes in the order in
+    /// Its low byte comes first in a packet: `to_le_bytes` gives its two bytes in the order in
     /// which a header has them, and `swap_bytes` the number for a field such as `header_checksum`.
     #[inline]
     pub fn ones_complement(&self) -> u16
@@ -136,8 +135,8 @@ impl Sum16BitWords {
         u64_16bit_word::ones_complement(self.sum)
     }
 
-    /// The same with 0xffff in place of 0, as UDP has it: a checksum of 0 says there that there is
-    /// none (RFC 768).
+    /// The same with 0xffff in place of 0, as in UDP, where a checksum of 0 says that there is none
+    /// (RFC 768).
     #[inline]
     pub fn to_ones_complement_with_no_zero(&self) -> u16
         ensures complements { ComplementsWithNoZero self.now result }

@@ -1,6 +1,6 @@
 //! The sum of words of sixteen bits in 32 bits, and its complement, the checksum (RFC 1071).
 //!
-//! It is what [`u64_16bit_word`](super::u64_16bit_word) is at the other width, and gives the same
+//! The same as [`u64_16bit_word`](super::u64_16bit_word) in the other width, with the same
 //! complements.
 
 ghost use Rattle.std.specs.Prelude.{◌≡◌, ◌+◌, map};
@@ -35,10 +35,10 @@ pub fn add_4bytes(start: u32, value: [u8; 4]) -> u32
     add_u32(start, u32::from_le_bytes(value))
 }
 
-/// Adds the words of a slice. An odd last byte is paired with a byte 0 behind it (RFC 1071 section
-/// 1).
+/// Adds the words of a slice. An odd last byte is paired with a zero byte after it (RFC 1071
+/// section 1).
 ///
-/// The answer has the right complement; nothing else of it is promised.
+/// The result has the correct complement; nothing else about it is promised.
 #[inline(always)]
 pub fn add_slice(start_sum: u32, slice: &[u8]) -> u32
     ensures adds { AddsSlice start_sum slice.now result }
@@ -59,10 +59,10 @@ pub fn add_slices(pieces: &[&[u8]]) -> u32
     sum
 }
 
-/// The checksum of what was summed, the ones-complement of the sum in sixteen bits: 0 where the
+/// The checksum of what was summed: the ones-complement of the sum in sixteen bits. It is 0 if the
 /// words sum to all ones.
 ///
-/// Its low byte stands first in a packet: `to_le_bytes` gives its two bytes in the order in which a
+/// Its low byte comes first in a packet: `to_le_bytes` gives its two bytes in the order in which a
 /// header has them, and `swap_bytes` the number for a field such as `header_checksum`.
 #[inline]
 pub fn ones_complement(sum: u32) -> u16
@@ -71,7 +71,7 @@ pub fn ones_complement(sum: u32) -> u16
     !halve_u32(sum)
 }
 
-/// The same with 0xffff in place of 0, as UDP has it: a checksum of 0 says there that there is none
+/// The same with 0xffff in place of 0, as in UDP, where a checksum of 0 says that there is none
 /// (RFC 768).
 #[inline]
 pub fn ones_complement_with_no_zero(sum: u32) -> u16
@@ -81,7 +81,7 @@ pub fn ones_complement_with_no_zero(sum: u32) -> u16
     if checksum == 0 { 0xffff } else { checksum }
 }
 
-/// [`ones_complement`] of [`add_slice`], as one call: the checksum of a slice after an earlier sum.
+/// [`ones_complement`] of [`add_slice`], in one call: the checksum of a slice after an earlier sum.
 ///
 /// The Rust crate has no such call.
 #[inline(always)]

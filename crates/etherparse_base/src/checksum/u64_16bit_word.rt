@@ -1,8 +1,8 @@
 //! The sum of words of sixteen bits in 64 bits, and its complement, the checksum (RFC 1071).
 //!
-//! A sum begins at 0 and is handed from add to add, in any order. Words are read with the low byte
-//! first, so the low byte of the complement is the one that stands first in a header. Sums that
-//! differ by a multiple of 65535 have one complement, unless one of them is 0.
+//! A sum begins at 0 and is passed from add to add, in any order. Words are read with the low byte
+//! first, so the low byte of the complement is the one that comes first in a header. Sums that
+//! differ by a multiple of 65535 have the same complement, unless one of them is 0.
 
 ghost use Rattle.std.specs.Prelude.{◌≡◌, ◌+◌, map};
 ghost use Rattle.std.specs.Int.{from_le_bytes, w16, w32, w64};
@@ -47,10 +47,10 @@ pub fn add_8bytes(start: u64, value: [u8; 8]) -> u64
     add_u64(start, u64::from_le_bytes(value))
 }
 
-/// Adds the words of a slice. An odd last byte is paired with a byte 0 behind it (RFC 1071 section
-/// 1).
+/// Adds the words of a slice. An odd last byte is paired with a zero byte after it (RFC 1071
+/// section 1).
 ///
-/// The answer has the right complement; nothing else of it is promised.
+/// The result has the correct complement; nothing else about it is promised.
 #[inline(always)]
 pub fn add_slice(start_sum: u64, slice: &[u8]) -> u64
     ensures adds { AddsSlice start_sum slice.now result }
@@ -83,10 +83,10 @@ pub fn add_slices(pieces: &[&[u8]]) -> u64
     sum
 }
 
-/// The checksum of what was summed, the ones-complement of the sum in sixteen bits: 0 where the
+/// The checksum of what was summed: the ones-complement of the sum in sixteen bits. It is 0 if the
 /// words sum to all ones.
 ///
-/// Its low byte stands first in a packet: `to_le_bytes` gives its two bytes in the order in which a
+/// Its low byte comes first in a packet: `to_le_bytes` gives its two bytes in the order in which a
 /// header has them, and `swap_bytes` the number for a field such as `header_checksum`.
 ///
 /// # Example
@@ -109,7 +109,7 @@ pub fn ones_complement(sum: u64) -> u16
     complement_u64(sum)
 }
 
-/// The same with 0xffff in place of 0, as UDP has it: a checksum of 0 says there that there is none
+/// The same with 0xffff in place of 0, as in UDP, where a checksum of 0 says that there is none
 /// (RFC 768).
 #[inline]
 pub fn ones_complement_with_no_zero(sum: u64) -> u16
@@ -119,7 +119,7 @@ pub fn ones_complement_with_no_zero(sum: u64) -> u16
     if checksum == 0 { 0xffff } else { checksum }
 }
 
-/// [`ones_complement`] of [`add_slice`], as one call: the checksum of a slice after an earlier sum.
+/// [`ones_complement`] of [`add_slice`], in one call: the checksum of a slice after an earlier sum.
 ///
 /// The Rust crate has no such call.
 ///

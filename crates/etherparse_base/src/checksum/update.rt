@@ -1,4 +1,4 @@
-//! A checksum after a change of what it is over, from the change alone (RFC 1624).
+//! A checksum after a change in what it covers, from the change alone (RFC 1624).
 
 ghost use Rattle.std.specs.Prelude.{ℕ, ◌≡◌, ◌≤◌, ◌+◌, ◌-◌, ◌*◌};
 ghost use Rattle.std.specs.Int.{from_be_bytes, w16};
@@ -8,12 +8,12 @@ ghost use Rattle.etherparse_base.specs.WordSums.{updated_checksum, updated_check
 
 use super::u32_16bit_word::ones_complement;
 
-/// The checksum after one of the words that it is over was changed from `old` to `new` (RFC 1624
-/// section 3, equation 3). The words are given as they stand in the packet, and the checksum is a
-/// number that was read as they are, the high byte first.
+/// The checksum after one of the words that it covers changed from `old` to `new` (RFC 1624 section
+/// 3, equation 3). The words are given as their bytes in the packet; the checksum is a number that
+/// was read from its bytes with the high byte first.
 ///
-/// A right checksum becomes the one that would be computed anew, unless all words are 0 now: it is
-/// 0 then, and 0xffff computed anew. A wrong one is not made right.
+/// A correct checksum becomes the one that would be computed anew, unless all words are 0 now: it
+/// is then 0, and 0xffff if computed anew. An incorrect one is not repaired.
 ///
 /// The Rust crate has no such call.
 ///
@@ -37,8 +37,8 @@ pub fn update_2bytes(checksum: u16, old: [u8; 2], new: [u8; 2]) -> u16
     ones_complement(sum)
 }
 
-/// [`update_2bytes`] for two words at once, as an IPv4 address. It is right also where between two
-/// single updates all words would be 0.
+/// [`update_2bytes`] for two words at once, such as an IPv4 address. It is correct even if all
+/// words would be 0 between two single updates.
 ///
 /// The Rust crate has no such call.
 ///
@@ -57,8 +57,8 @@ pub fn update_4bytes(checksum: u16, old: [u8; 4], new: [u8; 4]) -> u16
     ones_complement(u32::from(!checksum) + (2 * 65535 - two_words(old)) + two_words(new))
 }
 
-/// [`update_2bytes`] for eight words at once, as an IPv6 address. It is right also where between
-/// two single updates all words would be 0.
+/// [`update_2bytes`] for eight words at once, such as an IPv6 address. It is correct even if all
+/// words would be 0 between two single updates.
 ///
 /// The Rust crate has no such call.
 ///
@@ -82,7 +82,7 @@ pub fn update_16bytes(checksum: u16, old: [u8; 16], new: [u8; 16]) -> u16
 }
 
 /// [`update_2bytes`] of a checksum in which 0 says that there is none, as in UDP over IPv4 (RFC
-/// 768): 0 stays 0, and 0xffff stands for any other that would be 0.
+/// 768): 0 stays 0, and any other that would become 0 becomes 0xffff.
 ///
 /// The Rust crate has no such call.
 ///
@@ -103,7 +103,7 @@ pub fn update_2bytes_with_no_zero(checksum: u16, old: [u8; 2], new: [u8; 2]) -> 
 }
 
 /// [`update_4bytes`] of a checksum in which 0 says that there is none, as in UDP over IPv4 (RFC
-/// 768): 0 stays 0, and 0xffff stands for any other that would be 0.
+/// 768): 0 stays 0, and any other that would become 0 becomes 0xffff.
 ///
 /// The Rust crate has no such call.
 #[inline]
@@ -114,8 +114,8 @@ pub fn update_4bytes_with_no_zero(checksum: u16, old: [u8; 4], new: [u8; 4]) -> 
     none_or(checksum, update_4bytes(checksum, old, new))
 }
 
-/// [`update_16bytes`] of a checksum in which 0 says that there is none: 0 stays 0, and 0xffff
-/// stands for any other that would be 0.
+/// [`update_16bytes`] of a checksum in which 0 says that there is none: 0 stays 0, and any other
+/// that would become 0 becomes 0xffff.
 ///
 /// The Rust crate has no such call.
 #[inline]
@@ -126,7 +126,7 @@ pub fn update_16bytes_with_no_zero(checksum: u16, old: [u8; 16], new: [u8; 16]) 
     none_or(checksum, update_16bytes(checksum, old, new))
 }
 
-// What becomes of a checksum of which 0 says that there is none, and of which this is the update.
+// The result for a checksum in which 0 says that there is none, from its plain update.
 #[inline(always)]
 fn none_or(checksum: u16, updated: u16) -> u16
     ensures updates { (old : ℕ) → (new : ℕ) → UpdatesChecksum checksum old new updated →

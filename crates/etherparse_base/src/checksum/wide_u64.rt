@@ -1,9 +1,9 @@
-//! The sum of a slice by words of eight bytes: eight a turn, and twelve where there are many.
+//! The sum of a slice by words of eight bytes: eight per turn, or twelve if there are many.
 //!
-//! Of each twelve, four go into four lanes: each lane has the total of its words and, apart, the
-//! sum of their high halves, from which the sum of the low halves comes back in the end. The other
-//! eight go into eight sums, with the carry out of each into the next, and that out of the last
-//! counted. The 32-bit sum of a slice is this one, halved.
+//! Of each twelve, four go into four lanes. Each lane has the total of its words and, separately,
+//! the sum of their high halves, from which the sum of the low halves is recovered at the end. The
+//! other eight go into eight sums: the carry out of each goes into the next, and the carry out of
+//! the last is counted. The 32-bit sum of a slice is this one, halved.
 
 ghost use Rattle.std.specs.Prelude.{List, ℕ, drop, ◌≡◌, ◌<◌, ◌≤◌, ◌+◌, ◌-◌, ◌*◌, ◌%◌, ◌^◌, length};
 ghost use Rattle.std.specs.Int.{from_bool};
@@ -17,13 +17,13 @@ use super::words::{
 };
 use std::simd::prelude::*;
 
-// How many bytes a turn sums.
+// The number of bytes that a turn sums.
 const TURN_LEN: usize = 96;
 
-// From how many bytes on turns are the faster.
+// From this many bytes on, turns are faster.
 const TURNS_FROM: usize = 1280;
 
-// Up to how many bytes no sum of halves in the lanes overflows.
+// Up to this many bytes, no sum of halves in the lanes overflows.
 const TURNS_UP_TO: usize = 0x2_0000_0000;
 
 /// The sum of a start and the words of a slice.
@@ -51,7 +51,7 @@ pub(super) fn checksum(start_sum: u64, slice: &[u8]) -> u16
     }
 }
 
-// The same of many bytes.
+// The same for many bytes.
 #[inline(never)]
 fn checksum_of_many(start_sum: u64, slice: &[u8]) -> u16
     requires { 8 ≤ length slice.now }
@@ -118,9 +118,9 @@ pub(super) struct Turns {
     pub(super) high: u64x4,
 }
 
-// Adds turns, three at a time where there are as many, until there are not enough bytes for one.
-// Each of three has a total of its own: with one total for all three, the compiler adds their words
-// first, and copies each of them.
+// Adds turns, three at a time while there are that many, until there are not enough bytes for one.
+// Each of the three has a total of its own: with one total for all three, the compiler adds their
+// words first, and copies each of them.
 #[inline(always)]
 fn add_turns<'a>(slice: &'a [u8]) -> Summed<'a>
     requires { length slice.now ≤ 2 ^ 33 }
@@ -237,7 +237,7 @@ fn add_eight_words<'a>(start: Summed<'a>) -> Summed<'a>
     Summed { sum, rest }
 }
 
-// Adds four words, where there are as many.
+// Adds four words, if there are that many.
 #[inline(always)]
 fn add_four_words<'a>(at: Summed<'a>) -> Summed<'a>
     requires { length at.rest.now < 64 }
@@ -257,7 +257,8 @@ fn add_four_words<'a>(at: Summed<'a>) -> Summed<'a>
     }
 }
 
-// A sum with four words more, the carry out of each added with the next, the last at the low end.
+// A sum with four more words: the carry out of each is added with the next, the last one at the low
+// end.
 #[inline(always)]
 fn add_four(sum: u64, words: [u64; 4]) -> u64
     ensures folded { folded_sum result ≡ folded_sum (sum + sum_l words) }
@@ -280,7 +281,7 @@ fn add_words(sum: u64, words: [u64; 4], carry: bool) -> (u64, bool)
     add_with_carry(sum, words[3], carry)
 }
 
-// A sum with a word more and a carry, and the carry out of it at the low end.
+// A sum with one more word and a carry; the carry out is added at the low end.
 #[inline(always)]
 fn add_last(sum: u64, word: u64, carry: bool) -> u64
     requires { sum + from_bool carry < 2 ^ 64 }
@@ -291,8 +292,8 @@ fn add_last(sum: u64, word: u64, carry: bool) -> u64
     sum + u64::from(carry)
 }
 
-// Each sum with its word, with a carry into the first, the carry out of each into the next, and
-// that out of the last.
+// Each sum with its word: a carry goes into the first, the carry out of each goes into the next,
+// and the carry out of the last is returned.
 #[inline(always)]
 fn add_to_each(sums: [u64; 4], words: [u64; 4], carry: bool) -> ([u64; 4], bool)
     ensures folded { (n : ℕ) → folded_sum (n + (sum_l result.0 + from_bool result.1))
@@ -305,8 +306,8 @@ fn add_to_each(sums: [u64; 4], words: [u64; 4], carry: bool) -> ([u64; 4], bool)
     ([a, b, c, d], carry)
 }
 
-// The sum of two words and a carry, and the carry out of it. The compiler makes one instruction of
-// this form.
+// The sum of two words and a carry, and the carry out of it. The compiler turns this form into one
+// instruction.
 #[inline(always)]
 fn add_with_carry(a: u64, b: u64, carry: bool) -> (u64, bool)
     ensures sum { result.0 + 2 ^ 64 * from_bool result.1 ≡ a + b + from_bool carry }

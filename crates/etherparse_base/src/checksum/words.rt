@@ -20,8 +20,8 @@ pub(super) fn split_word(bytes: &[u8]) -> (u64, &[u8])
     (u64::from_le_bytes(*word), rest)
 }
 
-/// The whole words of eight bytes, and the number of the bytes after them. These are read as the
-/// end of the last eight bytes, so no branch asks how many they are.
+/// The whole words of eight bytes, and the bytes after them as one number. These bytes are read as
+/// the end of the last eight bytes, so no branch depends on how many they are.
 #[inline(always)]
 pub(super) fn split_odd_bytes(bytes: &[u8]) -> (&[u8], u64)
     requires { 8 ≤ length bytes.now }
@@ -34,7 +34,7 @@ pub(super) fn split_odd_bytes(bytes: &[u8]) -> (&[u8], u64)
     (&bytes[..bytes.len() - count], last)
 }
 
-// The last of eight bytes, fewer than all, as a number.
+// The last `count` of eight bytes as a number, for a count below 8.
 #[inline(always)]
 fn number_of_last(bytes: &[u8], count: usize) -> u64
     requires eight { length bytes.now ≡ 8 }
@@ -46,7 +46,7 @@ fn number_of_last(bytes: &[u8], count: usize) -> u64
     (word >> 8) >> (56 - 8 * count)
 }
 
-/// The words of fewer than thirty-two bytes, and 0 for those that are not there.
+/// The words of fewer than thirty-two bytes, with 0 for words that are not there.
 #[inline(always)]
 pub(super) fn last_three_words(bytes: &[u8]) -> (u64, u64, u64)
     requires few { length bytes.now < 32 }
@@ -60,7 +60,7 @@ pub(super) fn last_three_words(bytes: &[u8]) -> (u64, u64, u64)
     )
 }
 
-// The word at a place, or 0 where there is none.
+// The word at a place, or 0 if there is none.
 #[inline(always)]
 fn word_or_zero(bytes: &[u8], place: usize) -> u64
     requires few { place ≤ 16 }
@@ -70,7 +70,7 @@ fn word_or_zero(bytes: &[u8], place: usize) -> u64
     split_word(eight_or_zeros(bytes, place)).0
 }
 
-// The eight bytes at a place, or zeros. Only an address depends on which: no branch is made of it.
+// The eight bytes at a place, or zeros. Only an address depends on which: there is no branch.
 #[inline(always)]
 fn eight_or_zeros(bytes: &[u8], place: usize) -> &[u8]
     requires few { place ≤ 16 }
@@ -101,7 +101,7 @@ pub(super) fn last_seven_bytes(bytes: &[u8]) -> u64
 // Zeros for bytes that are not there.
 static ZEROS: [u8; 8] = [0; 8];
 
-// So many bytes at the front, and what follows them; where there are fewer, zeros, and all.
+// The first `count` bytes and what follows them; if there are fewer, zeros and all the bytes.
 #[inline(always)]
 fn front_or_zeros<'a>(bytes: &'a [u8], count: usize) -> (&'a [u8], &'a [u8])
     requires even { count % 2 ≡ 0 }
@@ -118,7 +118,7 @@ fn front_or_zeros<'a>(bytes: &'a [u8], count: usize) -> (&'a [u8], &'a [u8])
     }
 }
 
-// The number of four bytes.
+// Four bytes as a number.
 #[inline(always)]
 fn half_word(bytes: &[u8]) -> u64
     requires { 4 ≡ length bytes.now }
@@ -129,7 +129,7 @@ fn half_word(bytes: &[u8]) -> u64
     u64::from(u32::from_le_bytes(*word))
 }
 
-// The number of two bytes.
+// Two bytes as a number.
 #[inline(always)]
 fn quarter_word(bytes: &[u8]) -> u64
     requires { 2 ≡ length bytes.now }

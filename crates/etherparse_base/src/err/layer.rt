@@ -3,7 +3,7 @@ ghost use Rattle.etherparse_base.specs.Layer.{layer_text, layer_title};
 
 use std::fmt;
 
-/// A layer of a packet in which an error can come up. Layers are ordered as they stand here.
+/// A layer of a packet in which an error can occur. Layers are ordered as listed here.
 #[derive(Clone, Copy, Debug, PartialEq, Eq, PartialOrd, Ord, Hash)]
 pub enum Layer {
     /// The Linux cooked capture header, version 1 (SLL).
@@ -59,7 +59,7 @@ pub enum Layer {
 }
 
 impl Layer {
-    /// The title with which the text of an error of this layer begins.
+    /// The title that begins the text of an error of this layer.
     pub fn error_title(&self) -> &'static str
         ensures title { result.now ≡ layer_title self.now }
     {

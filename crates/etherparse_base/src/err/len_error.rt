@@ -10,13 +10,13 @@ use std::error::Error;
 use std::fmt;
 use std::marker::Model;
 
-/// A length that does not fit the layer: too small where `required_len` is above `len`, and else
-/// too great.
+/// A length that does not fit the layer: too small if `required_len` is above `len`, otherwise too
+/// great.
 #[derive(Clone, Debug, PartialEq, Eq, Hash, Drop)]
 pub struct LenError {
     /// The least length that was needed, or the greatest that was allowed, in bytes.
     pub required_len: usize,
-    /// The length that there was, in bytes.
+    /// The length that was found, in bytes.
     pub len: usize,
     /// Where `len` came from.
     pub len_source: LenSource,
@@ -26,8 +26,8 @@ pub struct LenError {
     pub layer_start_offset: usize,
 }
 
-/// A contract sees the fields. Without this `impl` the check refuses `?` on what holds a reference
-/// beside an `IpNumber`.
+/// A contract sees the fields. Without this `impl` the check refuses `?` on a result that holds a
+/// reference beside an `IpNumber`.
 impl Model for LenError {
     ghost use Rattle.etherparse_base.specs.LenErrorFields.{LenErrorFields};
 
@@ -52,7 +52,7 @@ impl Model for LenError {
 
 impl LenError {
     /// The error of the same layer in data that starts `offset` bytes earlier: `layer_start_offset`
-    /// grows by `offset`, and every other field stays. The sum has to fit `usize`.
+    /// grows by `offset`, and every other field stays the same. The sum has to fit `usize`.
     ///
     /// # Example
     ///
@@ -80,7 +80,7 @@ impl LenError {
     }
 }
 
-/// Says what was needed, what was there and, unless the layer starts at byte 0, where it starts.
+/// Says what was needed, what was found and, unless the layer starts at byte 0, where it starts.
 impl fmt::Display for LenError {
     ghost output = { λ e. Some (len_error_text e) };
 

@@ -7,13 +7,13 @@ use super::Layer;
 use std::error::Error;
 use std::fmt;
 
-/// A slice with too little room for what is written to it. No call of these crates answers it: it
-/// is for the layers above.
+/// A slice with too little room for what is written to it. No call of these crates returns this
+/// error: it is for the layers above.
 #[derive(Clone, Debug, PartialEq, Eq, Hash, Drop)]
 pub struct SliceWriteSpaceError {
     /// The length that was needed, in bytes.
     pub required_len: usize,
-    /// The length that there was, in bytes.
+    /// The length that was available, in bytes.
     pub len: usize,
     /// The layer that was written.
     pub layer: Layer,
@@ -21,7 +21,8 @@ pub struct SliceWriteSpaceError {
     pub layer_start_offset: usize,
 }
 
-/// Says what was needed, what was there and, unless the layer starts at byte 0, where it starts.
+/// Says what was needed, what was available and, unless the layer starts at byte 0, where it
+/// starts.
 impl fmt::Display for SliceWriteSpaceError {
     ghost output = { λ e. Some (slice_write_space_error_text e) };
 

@@ -15,11 +15,11 @@ pub struct ValueTooBigError<T: Sized + Clone + Display + Debug + Eq + PartialEq 
     pub actual: T,
     /// The greatest value that is allowed.
     pub max_allowed: T,
-    /// What the value is.
+    /// What kind of value it is.
     pub value_type: ValueType,
 }
 
-/// Says which value was refused, what it is and how great it may be.
+/// Says which value was refused, what kind of value it is and how great it may be.
 impl fmt::Display for ValueTooBigError<u8> {
     ghost output = { λ e. Some (value_too_big_error_text e) };
 
@@ -35,7 +35,7 @@ impl fmt::Display for ValueTooBigError<u8> {
 
 impl Error for ValueTooBigError<u8> {}
 
-/// Says which value was refused, what it is and how great it may be.
+/// Says which value was refused, what kind of value it is and how great it may be.
 impl fmt::Display for ValueTooBigError<u16> {
     ghost output = { λ e. Some (value_too_big_error_text e) };
 
@@ -51,7 +51,7 @@ impl fmt::Display for ValueTooBigError<u16> {
 
 impl Error for ValueTooBigError<u16> {}
 
-/// Says which value was refused, what it is and how great it may be.
+/// Says which value was refused, what kind of value it is and how great it may be.
 impl fmt::Display for ValueTooBigError<u32> {
     ghost output = { λ e. Some (value_too_big_error_text e) };
 
@@ -67,7 +67,7 @@ impl fmt::Display for ValueTooBigError<u32> {
 
 impl Error for ValueTooBigError<u32> {}
 
-/// Says which value was refused, what it is and how great it may be.
+/// Says which value was refused, what kind of value it is and how great it may be.
 impl fmt::Display for ValueTooBigError<usize> {
     ghost output = { λ e. Some (value_too_big_error_text e) };
 

@@ -3,24 +3,24 @@ ghost use Rattle.etherparse_base.specs.ValueType.{value_type_text};
 
 use std::fmt;
 
-/// Which value an error is about. Values are ordered as they stand here.
+/// Which kind of value an error is about. The kinds are ordered as listed here.
 #[derive(Clone, Copy, Debug, PartialEq, Eq, PartialOrd, Ord, Hash)]
 pub enum ValueType {
-    /// The 12 bit identifier of a VLAN.
+    /// The 12-bit identifier of a VLAN.
     VlanId,
-    /// The 3 bit priority code point of a VLAN tag.
+    /// The 3-bit priority code point of a VLAN tag.
     VlanPcp,
-    /// The 2 bit association number of a MACsec header.
+    /// The 2-bit association number of a MACsec header.
     MacsecAn,
-    /// The 6 bit short length of a MACsec header.
+    /// The 6-bit short length of a MACsec header.
     MacsecShortLen,
-    /// The 13 bit fragment offset of an IP header.
+    /// The 13-bit fragment offset of an IP header.
     IpFragmentOffset,
-    /// The 6 bit differentiated services code point of an IP header.
+    /// The 6-bit differentiated services code point of an IP header.
     IpDscp,
-    /// The 2 bit explicit congestion notification of an IP header.
+    /// The 2-bit explicit congestion notification of an IP header.
     IpEcn,
-    /// The 20 bit flow label of an IPv6 header.
+    /// The 20-bit flow label of an IPv6 header.
     Ipv6FlowLabel,
     /// The length of an IPv4 payload, from which the total length is set.
     Ipv4PayloadLength,

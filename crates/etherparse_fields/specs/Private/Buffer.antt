@@ -1,4 +1,4 @@
--- What the room for options ends as, where its front is lent.
+-- What the room for options is at the end, if its front was lent.
 use Rattle.std.specs.Prelude.{ℕ, List, ◌++◌, length, drop}
 use Rattle.std.specs.Borrow.{Lends, MutBor, Fml, Array, u8}
 use Rattle.etherparse_fields.specs.declared.net.ipv4_options.buffer.Buffer.{Buffer}

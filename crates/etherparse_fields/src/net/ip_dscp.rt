@@ -9,8 +9,7 @@ use std::fmt;
 use std::marker::Model;
 
 /// The differentiated services code point of an IP header, a number of 6 bits (RFC 2474 section 3).
-/// It stands in the upper bits of byte 1 of an IPv4 header,
-/// and of the traffic class of an IPv6 header.
+/// It is in the upper bits of byte 1 of an IPv4 header, and of the traffic class of an IPv6 header.
 ///
 /// Equality, order and hash are those of the number.
 #[derive(Clone, Copy, Debug, PartialEq, Eq, PartialOrd, Ord, Hash)]
@@ -110,7 +109,7 @@ impl IpDscp {
     ///
     /// # Errors
     ///
-    /// A `ValueTooBigError` where the number needs more than 6 bits, which is above
+    /// A `ValueTooBigError` if the number needs more than 6 bits, that is, if it is above
     /// [`IpDscp::MAX_U8`].
     ///
     /// # Example

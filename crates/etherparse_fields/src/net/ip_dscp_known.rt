@@ -11,8 +11,8 @@ use etherparse_base::err::ip::IpDscpUnknownValueError;
 use std::cmp::Ordering;
 use std::hash::{Hash, Hasher};
 
-/// A differentiated services code point with a name in IANA's registry, which each variant's
-/// comment gives, with its RFC. It stands in an IP header as an [`IpDscp`].
+/// A differentiated services code point with a name in IANA's registry. Each variant's comment
+/// gives this name and its RFC. In an IP header the code point is an [`IpDscp`].
 ///
 /// Equality, order and hash are those of the code point's number,
 /// whatever the order of the variants.
@@ -71,7 +71,7 @@ impl IpDscpKnown {
     ///
     /// # Errors
     ///
-    /// An `IpDscpUnknownValueError` with the number, where it is that of none of the 23 known ones.
+    /// An `IpDscpUnknownValueError` with the number, if none of the 23 known code points has it.
     ///
     /// # Example
     ///

@@ -9,8 +9,7 @@ use etherparse_base::err::{ValueTooBigError, ValueType};
 use std::fmt;
 
 /// The explicit congestion notification of an IP header, a number of 2 bits (RFC 3168 section 5).
-/// It stands in the lower bits of byte 1 of an IPv4 header,
-/// and of the traffic class of an IPv6 header.
+/// It is in the lower bits of byte 1 of an IPv4 header, and of the traffic class of an IPv6 header.
 ///
 /// Equality, order and hash are those of the number.
 #[derive(Clone, Copy, Debug, PartialEq, Eq, PartialOrd, Ord, Hash)]
@@ -49,7 +48,7 @@ impl IpEcn {
     ///
     /// # Errors
     ///
-    /// A `ValueTooBigError` where the number needs more than 2 bits, which is above
+    /// A `ValueTooBigError` if the number needs more than 2 bits, that is, if it is above
     /// [`IpEcn::MAX_U8`].
     ///
     /// # Example

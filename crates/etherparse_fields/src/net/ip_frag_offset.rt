@@ -9,8 +9,7 @@ use std::fmt;
 use std::marker::Model;
 
 /// The fragment offset of an IP header, a number of 13 bits: where the payload of a fragment begins
-/// in the payload that was cut, in multiples of 8 bytes
-/// (RFC 791 section 3.1, RFC 8200 section 4.5).
+/// in the original payload, in units of 8 bytes (RFC 791 section 3.1, RFC 8200 section 4.5).
 ///
 /// Equality, order and hash are those of the number.
 #[derive(Clone, Copy, Debug, PartialEq, Eq, PartialOrd, Ord, Hash)]
@@ -34,11 +33,11 @@ impl IpFragOffset {
     /// The greatest offset, as a number: 8191.
     pub const MAX_U16: u16 = 0x1fff;
 
-    /// The offset of a number of 8 byte units.
+    /// The offset of a number of 8-byte units.
     ///
     /// # Errors
     ///
-    /// A `ValueTooBigError` where the number needs more than 13 bits, which is above
+    /// A `ValueTooBigError` if the number needs more than 13 bits, that is, if it is above
     /// [`IpFragOffset::MAX_U16`].
     ///
     /// # Example
@@ -63,7 +62,7 @@ impl IpFragOffset {
         }
     }
 
-    /// The number of 8 byte units, of at most 13 bits.
+    /// The number of 8-byte units, of at most 13 bits.
     #[inline]
     pub const fn value(self) -> u16
         ensures value { result ≡ self }
@@ -93,7 +92,7 @@ impl Default for IpFragOffset {
     }
 }
 
-/// Writes the number of 8 byte units in decimal digits.
+/// Writes the number of 8-byte units in decimal digits.
 impl fmt::Display for IpFragOffset {
     ghost output = { λ offset. Some (decimal offset) };
 

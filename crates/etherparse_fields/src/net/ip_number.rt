@@ -1,5 +1,5 @@
-//! The constants of [`IpNumber`] by themselves, to be named without the type,
-//! and nine of them by a short name too.
+//! The constants of [`IpNumber`] by themselves, so that they can be named without the type; nine of
+//! them also have a short name.
 
 use crate::IpNumber;
 

@@ -8,11 +8,11 @@ use std::marker::Model;
 /// the "next header" field of IPv6 (RFC 8200 section 3).
 ///
 /// The constants have the names of the Rust crate. There is none for 99, 143 to 252 and 255; any
-/// number can be made by `IpNumber(99)`. The module [`crate::ip_number`] has the constants too.
+/// number can be made, as in `IpNumber(99)`. The module [`crate::ip_number`] has the constants too.
 ///
-/// Each constant's comment has the keyword and the name that IANA's registry of protocol numbers
-/// has for it, and the RFC or other document that defines the protocol, where one does. A name
-/// that is the keyword is not repeated, and of a number without a keyword there is the name alone.
+/// Each constant's comment has the keyword and the name from IANA's registry of protocol numbers,
+/// and the RFC or other document that defines the protocol, if there is one. A name that equals the
+/// keyword is not repeated; a number without a keyword has its name alone.
 ///
 /// Equality, order and hash are those of the number.
 ///
@@ -480,7 +480,7 @@ impl IpNumber {
     }
 }
 
-/// 255, a number that is reserved.
+/// 255, which is reserved.
 impl Default for IpNumber {
     ghost is_default = { λ number. number ≡ 255 };
 

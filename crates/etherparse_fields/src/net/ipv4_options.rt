@@ -56,7 +56,7 @@ impl Ipv4Options {
     /// The greatest number of bytes: 40.
     pub const MAX_LEN: u8 = 40;
 
-    /// Options of no byte.
+    /// Options of zero bytes.
     #[inline]
     pub fn new() -> Ipv4Options
         ensures empty { result ≡ [] }
@@ -68,7 +68,7 @@ impl Ipv4Options {
     }
 
     /// The options in the first `len` bytes of an array. `len` has to be at most 40 and a multiple
-    /// of 4. What follows them in the array is no part of them.
+    /// of 4. What follows them in the array is not part of them.
     ///
     /// The Rust crate has no such call. Copying 40 bytes, a number that the compiler knows, is
     /// faster than copying `len`.
@@ -103,7 +103,7 @@ impl Ipv4Options {
         front(&self.buffer.bytes, usize::from(self.len))
     }
 
-    /// The bytes, for writing. Their number stays.
+    /// The bytes, for writing. Their number stays the same.
     #[inline]
     pub fn as_mut_slice(&mut self) -> &mut [u8]
         ensures* writes_back { sem 𝓛 (LendsBytes self.entry result) }
@@ -131,7 +131,7 @@ impl Ipv4Options {
         self.len() as u8
     }
 
-    /// Whether there is no byte.
+    /// Whether there are no bytes.
     #[inline]
     pub fn is_empty(&self) -> bool
         ensures empty { IsTrue result ↔ (self.now ≡ []) }
@@ -160,7 +160,8 @@ const _: () = prove!(Ipv4Options::MAX_LEN == 40u8);
 ///
 /// # Errors
 ///
-/// A `BadOptionsLen` where the slice has more than 40 bytes, or not whole words of 4 bytes.
+/// A `BadOptionsLen` if the slice has more than 40 bytes, or a number of bytes that is not a
+/// multiple of 4.
 impl TryFrom<&[u8]> for Ipv4Options {
     type Error = BadOptionsLen;
 
@@ -177,7 +178,7 @@ impl TryFrom<&[u8]> for Ipv4Options {
     }
 }
 
-/// Options of no byte.
+/// Options of zero bytes.
 impl Default for Ipv4Options {
     ghost is_default = { λ options. options ≡ [] };
 
@@ -212,7 +213,7 @@ impl fmt::Debug for Ipv4Options {
     }
 }
 
-/// Options are equal where their bytes are.
+/// Options are equal if their bytes are.
 impl PartialEq for Ipv4Options {
     ghost eq = { pointwise nat_eq };
 
@@ -250,8 +251,8 @@ impl PartialOrd for Ipv4Options {
     }
 }
 
-/// The order of lists: the first byte in which two differ decides,
-/// and a beginning is less than the whole.
+/// The order of lists: the first byte in which two differ decides, and a prefix is less than the
+/// whole.
 impl Ord for Ipv4Options {
     ghost cmp = { slice_cmp nat_cmp };
 

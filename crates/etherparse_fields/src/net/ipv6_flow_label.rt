@@ -36,7 +36,7 @@ impl Ipv6FlowLabel {
     ///
     /// # Errors
     ///
-    /// A `ValueTooBigError` where the number needs more than 20 bits, which is above
+    /// A `ValueTooBigError` if the number needs more than 20 bits, that is, if it is above
     /// [`Ipv6FlowLabel::MAX_U32`].
     ///
     /// # Example

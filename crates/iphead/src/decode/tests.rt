@@ -1,6 +1,6 @@
 use super::*;
 
-// Some(bytes) where the digits decode to these.
+// Whether the digits decode to these bytes.
 fn decodes_to(digits: &[u8], bytes: &[u8]) -> bool {
     let mut out = [0xee; 2048];
     if digits.len() > 4096 {

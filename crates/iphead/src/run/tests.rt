@@ -26,8 +26,8 @@ place 40
 rest 0
 ";
 
-// The same header with a payload length, a next header of 0, and an extension header that is whole
-// and one that is not.
+// The same header with a payload length, a next header of 0, a whole extension header and an
+// incomplete one.
 const INCOMPLETE: &str =
     "60000000 000b0040 00000000 00000000 00000000 00000001 00000000 00000000 00000000 00000002 \
     2b000000 00000000 060100";
@@ -45,7 +45,7 @@ error: IPv6 Extension Header Error: Not enough data to decode 'IPv6 extension he
 ('IPv6 extension header' starts at overall parsed byte 48).
 ";
 
-// The same header, after which 33 extension headers come: one more than are walked past.
+// The same header, followed by 33 extension headers: one more than the walk goes past.
 const ABOVE_THE_LIMIT: &str =
     "60000000 01080040 00000000 00000000 00000000 00000001 00000000 00000000 00000000 00000002";
 
@@ -61,7 +61,7 @@ error: IPv6 Extension Header Error: More than 32 extension header(s) \
 ('0' starts at overall parsed byte 296).
 ";
 
-// The same header, after which 32 extension headers come.
+// The same header, followed by 32 extension headers.
 const AT_THE_LIMIT: &str =
     "60000000 01000040 00000000 00000000 00000000 00000001 00000000 00000000 00000000 00000002";
 
@@ -165,7 +165,7 @@ const NOT_HEX: &str = "error: input is not hex\n";
 
 const TOO_LONG: &str = "error: input is too long\n";
 
-// Runs on an input, and holds what comes against a status and a text.
+// Runs on an input, and compares the outcome with a status and a text.
 fn expect(rt: &(impl Abort + AllocGlobal), input: &[u8], status: Status, text: &str) {
     let mut reader = input;
     let mut written = Vec::new(rt.alloc());
@@ -191,8 +191,8 @@ fn the_fields_of_an_ipv4_header_are_printed(rt: HostRuntime) {
     expect(&rt, OPTIONS.as_bytes(), Status::Done, OPTIONS_LINES);
 }
 
-// The flags, the stored checksum and how the bytes sum, of one header with options. The reserved
-// bit counts in the sum, and not in what is computed.
+// The flags, the stored checksum and how the bytes sum, for one header with options. The reserved
+// bit counts in the sum, but not in what is computed.
 const CHECKSUMS: [(&str, &str, &str); 3] = [
     ("2000", "4117", "good"),
     ("a000", "4117", "bad"),
@@ -234,7 +234,7 @@ fn an_incomplete_extension_header_is_told_after_the_fields(rt: HostRuntime) {
     );
 }
 
-// The digits of a header, of so many extension headers with nothing but 0 in them, and of what
+// The digits of a header, of a number of extension headers with nothing but 0 in them, and of what
 // comes after.
 fn with_zero_headers(
     alloc: Global,

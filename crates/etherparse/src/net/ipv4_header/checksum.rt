@@ -16,7 +16,8 @@ impl Ipv4Header {
     /// The checksum that the header should have: the complement of the ones-complement sum of its
     /// words in network byte order, with 0 for the checksum, whatever `header_checksum` is (RFC 791
     /// section 3.1, RFC 1071 section 1). It is never 0xffff. The reserved bit counts as 0, so a
-    /// packet that has it looks bad: sum the bytes of the view to judge what was received.
+    /// packet that has it set looks incorrect: sum the bytes of the view to check what was
+    /// received.
     #[inline(always)]
     pub fn calc_header_checksum(&self) -> u16
         ensures value { (bytes : List ℕ) → IsIpv4LayoutWith self.now 0 bytes →
@@ -33,7 +34,7 @@ impl Ipv4Header {
     }
 
     /// Sets the time to live, and updates the stored checksum for the word of the time to live and
-    /// the protocol, by [`update_2bytes`] (RFC 1624 section 3, equation 3). A correct checksum
+    /// the protocol, with [`update_2bytes`] (RFC 1624 section 3, equation 3). A correct checksum
     /// stays correct; an incorrect one is not repaired.
     ///
     /// The Rust crate has no such call.
@@ -60,7 +61,7 @@ impl Ipv4Header {
         } }
         ensures keeps_checksum { KeepsChecksum self.old self.new }
 
-        // In a packet that is bytes 8, 10 and 11 and no other.
+        // In a packet, that changes bytes 8, 10 and 11 and no others.
         ensures in_place { ChangesInPlace self.old self.new 8 (time_to_live ∷ []) }
     {
         let protocol = u8::from(self.protocol);
@@ -73,8 +74,8 @@ impl Ipv4Header {
     }
 
     /// Lowers the time to live by one, as a router does (RFC 1812 section 5.3.1), and updates the
-    /// stored checksum as [`Ipv4Header::set_time_to_live`] does. `false`, and the header as it was,
-    /// where the time to live is 0 or 1: the packet is to be discarded then.
+    /// stored checksum as [`Ipv4Header::set_time_to_live`] does. If the time to live is 0 or 1, it
+    /// returns `false` and leaves the header as it was: the packet is then to be discarded.
     ///
     /// The Rust crate has no such call.
     ///
@@ -99,7 +100,7 @@ impl Ipv4Header {
         ensures keeps_checksum { OnTrue result (KeepsChecksum self.old self.new) }
         ensures unchanged { OnFalse result (self.new ≡ self.old) }
 
-        // In a packet that is bytes 8, 10 and 11 and no other.
+        // In a packet, that changes bytes 8, 10 and 11 and no others.
         ensures in_place { OnTrue result
             (ChangesInPlace self.old self.new 8 ((self.old.time_to_live - 1) ∷ [])) }
     {
@@ -111,7 +112,7 @@ impl Ipv4Header {
         true
     }
 
-    /// Sets the source address, and updates the stored checksum for it, by [`update_4bytes`]. A
+    /// Sets the source address, and updates the stored checksum for it, with [`update_4bytes`]. A
     /// correct checksum stays correct; an incorrect one is not repaired.
     ///
     /// The Rust crate has no such call.
@@ -132,7 +133,7 @@ impl Ipv4Header {
         } }
         ensures keeps_checksum { KeepsChecksum self.old self.new }
 
-        // In a packet that is bytes 10 to 15 and no other.
+        // In a packet, that changes bytes 10 to 15 and no others.
         ensures in_place { ChangesInPlace self.old self.new 12 source }
     {
         are_bytes(&source);
@@ -140,8 +141,8 @@ impl Ipv4Header {
         self.source = source;
     }
 
-    /// Sets the destination address, and updates the stored checksum for it, by [`update_4bytes`].
-    /// A correct checksum stays correct; an incorrect one is not repaired.
+    /// Sets the destination address, and updates the stored checksum for it, with
+    /// [`update_4bytes`]. A correct checksum stays correct; an incorrect one is not repaired.
     ///
     /// The Rust crate has no such call.
     ///
@@ -160,7 +161,7 @@ impl Ipv4Header {
         } }
         ensures keeps_checksum { KeepsChecksum self.old self.new }
 
-        // In a packet that is bytes 10 and 11 and bytes 16 to 19, and no other.
+        // In a packet, that changes bytes 10 and 11 and bytes 16 to 19, and no others.
         ensures in_place { ChangesInPlace self.old self.new 16 destination }
     {
         are_bytes(&destination);

@@ -9,7 +9,7 @@ use crate::checksum::Sum16BitWords;
 use arrayvec::ArrayVec;
 
 // The fixed fields, and the options after them, with a case for each length: a number of bytes that
-// the compiler knows is copied with no call.
+// the compiler knows is copied without a call.
 #[inline(always)]
 pub(super) fn front_and_options(front: &[u8], options: &[u8]) -> ArrayVec<u8, 60>
     requires front_len { length front.now ≡ 20 }
@@ -47,7 +47,7 @@ fn front_and_options_of<const N: usize>(front: &[u8], options: &[u8]) -> ArrayVe
     bytes
 }
 
-// The sum of the fixed fields by words of four bytes: of fields of two bytes each, words of eight
+// The sum of the fixed fields by words of four bytes: from fields of two bytes each, words of eight
 // take longer to put together.
 #[inline(always)]
 pub(super) fn sum_of_fixed(front: [u8; 20]) -> Sum16BitWords
@@ -63,8 +63,8 @@ pub(super) fn sum_of_fixed(front: [u8; 20]) -> Sum16BitWords
         .add_4bytes([q, r, s, t])
 }
 
-// The sum with the words of the options, which most headers have none of. Each word has a place
-// that the compiler knows, with zeros behind the last one, so that no header is put into memory.
+// The sum with the words of the options; most headers have none. Each word has a place that the
+// compiler knows, with zeros after the last one, so that no header is put into memory.
 #[inline(always)]
 pub(super) fn add_options(fixed: Sum16BitWords, options: &[u8]) -> Sum16BitWords
     requires options_len { IsOptionsLen (length options.now) }
@@ -80,7 +80,7 @@ pub(super) fn add_options(fixed: Sum16BitWords, options: &[u8]) -> Sum16BitWords
     sum
 }
 
-// The word at a place, or zeros behind the last one.
+// The word at a place, or zeros after the last one.
 #[inline(always)]
 fn word_or_zeros(options: &[u8], place: usize) -> [u8; 4]
     requires options_len { IsOptionsLen (length options.now) }
@@ -97,7 +97,8 @@ fn word_or_zeros(options: &[u8], place: usize) -> [u8; 4]
     }
 }
 
-// The items of a slice are bytes to a proof; those of an array that is passed are so from here on.
+// To a proof, the items of a slice are bytes; the items of an array that is passed here are bytes
+// from here on.
 #[inline(always)]
 pub(super) fn are_bytes(bytes: &[u8])
     ensures { IsBytes bytes.now }

@@ -13,9 +13,9 @@ use crate::err::{Layer, LenError};
 use crate::{IpNumber, LenSource};
 
 // How many bytes a unit of an extension header's second byte stands for, by the header's number: 8,
-// in an authentication header (51) 4, in a fragment header (44) none. Where that byte is 0, each of
-// them has 8 bytes. All other numbers have `NOT_SKIPPABLE`. No branch tells the numbers apart, so
-// the time of a walk hardly depends on which are mixed.
+// in an authentication header (51) 4, in a fragment header (44) none. If that byte is 0, each of
+// these headers has 8 bytes. All other numbers have `NOT_SKIPPABLE`. No branch tells the numbers
+// apart, so the time of a walk hardly depends on which are mixed.
 const UNITS: [u8; 256] = [
     8, 1, 1, 1, 1, 1, 1, 1, 1, 1, 1, 1, 1, 1, 1, 1, 1, 1, 1, 1, 1, 1, 1, 1, 1, 1, 1, 1, 1, 1, 1, 1,
     1, 1, 1, 1, 1, 1, 1, 1, 1, 1, 1, 8, 0, 1, 1, 1, 1, 1, 1, 4, 1, 1, 1, 1, 1, 1, 1, 1, 8, 1, 1, 1,
@@ -41,15 +41,15 @@ impl Ipv6Header {
     ghost use Rattle.etherparse.specs.ExtensionHeaderChain.{required_len_of};
     ghost use Rattle.etherparse.specs.Reading.{found_and_rest};
 
-    /// Skips the extension header of a number at the front of a slice: the number of what follows
-    /// it, and all the bytes after it. A number of no header that can be skipped is answered with
-    /// the whole slice. A fragment header is skipped whatever its offset: behind one of an offset
-    /// above 0 comes the middle of a payload.
+    /// Skips the extension header with this number at the front of a slice, and returns the number
+    /// of what follows it and all the bytes after it. If no header with this number can be skipped,
+    /// returns the number and the whole slice. A fragment header is skipped whatever its offset:
+    /// after one with an offset above 0 comes the middle of a payload.
     ///
     /// # Errors
     ///
-    /// A `LenError` where the slice is shorter than the header says, at offset 0. Where it has
-    /// fewer than 2 bytes, 2 are required.
+    /// A `LenError` at offset 0 if the slice is shorter than the header says. If it has fewer than
+    /// 2 bytes, 2 are required.
     ///
     /// # Example
     ///
@@ -80,7 +80,7 @@ impl Ipv6Header {
             ≡ Err (incomplete_header_error next_header slice.now 0) }
 
         // For callers that skip one header after another: a chain before this slice goes on, or the
-        // walk of the whole ends.
+        // walk of the whole slice ends.
         ensures goes_on { (s : List ℕ) → (first : ℕ) → FollowsChain s first next_header slice.now →
             IfOk result (λ x. FollowsChain s first x.0 x.1.now) }
         ensures ends { (s : List ℕ) → (first : ℕ) → FollowsChain s first next_header slice.now →
@@ -101,14 +101,14 @@ impl Ipv6Header {
         Ok((IpNumber(slice[0]), &slice[required_len..]))
     }
 
-    /// Whether this is the number of an extension header that can be skipped, since it is known how
-    /// to tell its length and the number of what follows it: 0, 43, 44, 51, 60, 135, 139 and 140.
+    /// Whether this is the number of an extension header that can be skipped, since its length and
+    /// the number of what follows it can be determined: 0, 43, 44, 51, 60, 135, 139 and 140.
     ///
-    /// An encapsulating security payload (50) and headers for experiments (253, 254) can not.
+    /// An encapsulating security payload (50) and headers for experiments (253, 254) cannot.
     pub fn is_skippable_header_extension(ip_protocol_number: IpNumber) -> bool
         ensures value { IsTrue result ↔ IsSkippable ip_protocol_number }
 
-        // The walk of a slice ends where a number that can not be skipped follows a chain.
+        // The walk of a slice ends where a number that cannot be skipped follows a chain.
         ensures ends { (s : List ℕ) → (first : ℕ) → (rest : List ℕ) →
             FollowsChain s first ip_protocol_number rest →
             IsFalse result → IsWalkOf s first (Ok (ip_protocol_number, rest)) }
@@ -116,17 +116,18 @@ impl Ipv6Header {
         unit_of(ip_protocol_number) != NOT_SKIPPABLE
     }
 
-    /// Skips all extension headers at the front of a slice, of which the first has this number: the
-    /// first number that can not be skipped, and all the bytes after the header that gave it.
+    /// Skips all extension headers at the front of a slice, the first of which has this number.
+    /// Returns the first number that cannot be skipped, and all the bytes after the header that
+    /// gave it.
     ///
     /// A fragment header is skipped whatever its offset. In a fragment that is not the first, what
-    /// follows is the middle of a payload, and no header of an upper layer.
+    /// follows is the middle of a payload, not the header of an upper layer.
     ///
     /// # Errors
     ///
-    /// A `LenError` where a header is incomplete: the length that it requires, the bytes that are
-    /// left, and the offset from the front of the slice at which it starts. Where fewer than 2
-    /// bytes are left, 2 are required.
+    /// A `LenError` if a header is incomplete: the length that it requires, the number of bytes
+    /// that are left, and the offset from the front of the slice at which it starts. If fewer than
+    /// 2 bytes are left, 2 are required.
     ///
     /// # Example
     ///
@@ -150,8 +151,8 @@ impl Ipv6Header {
         Ipv6Header::skip_all_header_extensions_counted(slice, next_header).0
     }
 
-    /// The answer of [`Ipv6Header::skip_all_header_extensions_in_slice`], and how many numbers were
-    /// tested: one more than headers were skipped, and at most `slice.len() / 8 + 1`.
+    /// The result of [`Ipv6Header::skip_all_header_extensions_in_slice`], and how many numbers were
+    /// tested: one more than the number of skipped headers, and at most `slice.len() / 8 + 1`.
     ///
     /// # Errors
     ///
@@ -209,7 +210,7 @@ fn unit_of(number: IpNumber) -> u8
     UNITS[usize::from(number.0)]
 }
 
-// How many bytes the header of this number requires that starts at an offset of the slice.
+// How many bytes the header with this number, at an offset of the slice, requires.
 #[inline(always)]
 fn required_len_at(slice: &[u8], offset: usize, number: IpNumber) -> usize
     requires within { offset ≤ length slice.now }

@@ -1,4 +1,4 @@
-//! The errors of what both IP headers have.
+//! The errors of what both IP headers have in common.
 
 mod ip_dscp_unknown_value_error;
 

@@ -4,7 +4,7 @@ ghost use Rattle.etherparse_base.specs.Ipv4Errors.{bad_options_len_text};
 use std::error::Error;
 use std::fmt;
 
-/// A length that IPv4 options cannot have: above 40 bytes, or no multiple of 4 (RFC 791 section
+/// A length that IPv4 options cannot have: above 40 bytes, or not a multiple of 4 (RFC 791 section
 /// 3.1).
 #[derive(Clone, Debug, PartialEq, Eq, Hash, Drop)]
 pub struct BadOptionsLen {

@@ -4,7 +4,7 @@ ghost use Rattle.etherparse_base.specs.Ipv4Errors.{ipv4_header_error_text};
 use std::error::Error;
 use std::fmt;
 
-/// Why bytes that are long enough are no IPv4 header (RFC 791 section 3.1).
+/// Why a slice of sufficient length does not begin with an IPv4 header (RFC 791 section 3.1).
 #[derive(Clone, Debug, PartialEq, Eq, Hash, Drop)]
 pub enum HeaderError {
     /// The version field is not 4.
@@ -19,7 +19,7 @@ pub enum HeaderError {
     },
 }
 
-/// Says which version or which header length there was.
+/// Says which version or which header length was found.
 impl fmt::Display for HeaderError {
     ghost output = { λ e. Some (ipv4_header_error_text e) };
 

@@ -6,7 +6,7 @@ use crate::err::LenError;
 use std::error::Error;
 use std::fmt;
 
-/// Why a walk past extension headers, which has a limit, found no end of their chain (RFC 8200
+/// Why a walk past extension headers with a limit did not find the end of their chain (RFC 8200
 /// section 4).
 ///
 /// The Rust crate has no such type.
@@ -14,9 +14,9 @@ use std::fmt;
 pub enum ChainError {
     /// A header is incomplete.
     Len(LenError),
-    /// After as many headers as the limit allows comes one more.
+    /// After as many headers as the limit allows, there is one more.
     TooMany {
-        /// The greatest number of headers that was allowed.
+        /// The greatest number of headers allowed.
         limit: usize,
         /// The number of the header that is one too many.
         next_header: u8,
@@ -27,7 +27,7 @@ pub enum ChainError {
 
 impl ChainError {
     /// The error of a chain that starts `offset` bytes further on: the place of either variant
-    /// grows by `offset`, and all else stays. The sum has to fit `usize`.
+    /// grows by `offset`, and all else stays the same. The sum has to fit `usize`.
     ///
     /// # Example
     ///
@@ -65,8 +65,8 @@ impl ChainError {
     }
 }
 
-/// Says what a `Len` says, or how many headers were allowed and where the next one starts, also at
-/// byte 0.
+/// Writes the text of a `Len`, or how many headers were allowed and where the next one starts, even
+/// at byte 0.
 impl fmt::Display for ChainError {
     ghost output = { λ e. Some (chain_error_text e) };
 

@@ -4,7 +4,7 @@ ghost use Rattle.etherparse_base.specs.Ipv6Errors.{ipv6_header_error_text};
 use std::error::Error;
 use std::fmt;
 
-/// Why bytes that are long enough are no IPv6 header (RFC 8200 section 3).
+/// Why a slice of sufficient length does not begin with an IPv6 header (RFC 8200 section 3).
 #[derive(Clone, Debug, PartialEq, Eq, Hash, Drop)]
 pub enum HeaderError {
     /// The version field is not 6.
@@ -14,7 +14,7 @@ pub enum HeaderError {
     },
 }
 
-/// Says which version there was.
+/// Says which version was found.
 impl fmt::Display for HeaderError {
     ghost output = { λ e. Some (ipv6_header_error_text e) };
 

@@ -7,18 +7,18 @@ use crate::err::LenError;
 use std::error::Error;
 use std::fmt;
 
-/// Why the front of a slice is no IPv6 header.
+/// Why a slice does not begin with an IPv6 header.
 #[derive(Clone, Debug, PartialEq, Eq, Hash, Drop)]
 pub enum HeaderSliceError {
     /// The slice is shorter than the header.
     Len(LenError),
-    /// The bytes are those of no IPv6 header.
+    /// The bytes are not an IPv6 header.
     Content(HeaderError),
 }
 
 impl HeaderSliceError {
-    /// The error of a header that starts `offset` bytes further on: a `Len` by
-    /// [`LenError::add_offset`], whose sum has to fit `usize`, and a `Content` as it is.
+    /// The error of a header that starts `offset` bytes further on. A `Len` changes by
+    /// [`LenError::add_offset`], whose sum has to fit `usize`; a `Content` stays as it is.
     #[inline]
     pub fn add_slice_offset(self, offset: usize) -> HeaderSliceError
         requires fits { ipv6_error_place self + offset < 2 ^ 64 }
@@ -31,7 +31,7 @@ impl HeaderSliceError {
     }
 }
 
-/// Says what the error that it holds says.
+/// Writes the text of the error inside.
 impl fmt::Display for HeaderSliceError {
     ghost output = { λ e. Some (ipv6_header_slice_error_text e) };
 

@@ -3,8 +3,8 @@ ghost use Rattle.std.specs.Borrow.{sem};
 ghost use Rattle.etherparse_base.specs.Bytes.{IsBytes};
 ghost use Rattle.etherparse_fields.specs.Private.Buffer.{LendsFront};
 
-/// Room for the options. It is a struct of its own,
-/// so that a contract can say what a loan of its front leaves.
+/// Room for the options. It is a struct of its own, so that a contract can say what a loan of its
+/// front leaves in it.
 #[derive(Clone, Copy, Drop)]
 pub(super) struct Buffer {
     pub(super) bytes: [u8; 40],

@@ -1,11 +1,11 @@
-//! Readers and writers that hand over or take little at a time, fail at a chosen call, or never
-//! end. They watch how they are called.
+//! Readers and writers that give or take little at a time, fail at a chosen call, or never end.
+//! They record how they are called.
 
 use super::*;
 use std::io::ErrorKind;
 
-// A reader that gives at most so many bytes a call, and fails at the call of a number, counted
-// from 1.
+// A reader that gives at most a set number of bytes per call, and fails at the call with a given
+// number, counted from 1.
 #[derive(Drop)]
 struct Source<'a> {
     left: &'a [u8],
@@ -53,8 +53,8 @@ impl Read for Source<'_> {
     }
 }
 
-// A writer that takes at most so many bytes a call, and fails at the call of a number, counted from
-// 1: by an error, or by taking nothing where that is to be `WriteZero`.
+// A writer that takes at most a set number of bytes per call, and fails at the call with a given
+// number, counted from 1: by an error, or, for `WriteZero`, by taking nothing.
 #[derive(Drop)]
 struct Sink {
     taken: Vec<u8>,
@@ -114,8 +114,8 @@ fn expect_from(
     );
 }
 
-// Makes each read of a run fail in turn: it is the last one, and nothing is printed. The one after
-// the last is not made.
+// Makes each read of a run fail in turn: that read is the last one, and nothing is printed. There
+// is no read after the last.
 fn expect_each_read_ends_it(
     rt: &(impl Abort + AllocGlobal),
     input: &[u8],
@@ -177,9 +177,10 @@ fn input_without_an_end_is_too_long(rt: HostRuntime) {
     }
 }
 
-// Makes each write of a run fail in turn, over a writer that takes at most so many bytes a call: it
-// is the last one, and all that came before it is taken. The one after the last is not made. One
-// that was interrupted may be tried again, and then all of the text is taken.
+// Makes each write of a run fail in turn, over a writer that takes at most a set number of bytes
+// per call: that write is the last one, and all that came before it is taken. There is no write
+// after the last. A write that was interrupted may be tried again, and then all of the text is
+// taken.
 fn expect_each_write_ends_it(
     rt: &(impl Abort + AllocGlobal),
     input: &[u8],
@@ -214,7 +215,7 @@ fn expect_each_write_ends_it(
 }
 
 // Makes them fail in three ways, over writers that take one byte, a few, and all that they are
-// handed: the output is one write there.
+// given: for the last, the output is one write.
 fn expect_writes_that_fail(
     rt: &(impl Abort + AllocGlobal),
     input: &[u8],

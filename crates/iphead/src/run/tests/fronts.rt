@@ -1,5 +1,5 @@
 //! How runs end on every first byte at every length from 0 to 60, and on a header of each version
-//! at every length above. What they print is said by the clause of `run`.
+//! at every length above. The clause of `run` says what they print.
 
 use super::*;
 
@@ -12,7 +12,7 @@ fn status_of(rt: &impl AllocGlobal, bytes: &[u8]) -> Result<Status, AllocError> 
 }
 
 // Runs on every front with every first byte and the same byte in every other place, and counts
-// those of which all fields are printed. The others have to be refused.
+// those for which all fields are printed. The others have to be refused.
 fn done_on_every_front(rt: &(impl Abort + AllocGlobal), byte: u8) -> Result<u64, AllocError> {
     let mut done = 0u64;
     for first in 0..=255 {
@@ -30,19 +30,19 @@ fn done_on_every_front(rt: &(impl Abort + AllocGlobal), byte: u8) -> Result<u64,
 
 #[test]
 fn every_front_is_printed_or_refused(rt: HostRuntime) -> Result<(), Fail> {
-    // 231 are IPv4 headers with all that their IHL tells, and 336 are IPv6 headers, whose next
-    // header 165 is none to skip.
+    // 231 are IPv4 headers with as many bytes as their IHL says, and 336 are IPv6 headers, whose
+    // next header 165 cannot be skipped.
     assert_eq!(rt; done_on_every_front(&rt, 0xa5)?, 567);
-    // After an IPv6 header, and after each hop-by-hop header, there is to be a hop-by-hop header.
-    // So one is incomplete.
+    // After an IPv6 header, and after each hop-by-hop header, there should be a hop-by-hop header.
+    // So one of them is incomplete.
     assert_eq!(rt; done_on_every_front(&rt, 0)?, 231);
     Ok(())
 }
 
 #[test]
 fn every_longer_front_is_printed(rt: HostRuntime) -> Result<(), Fail> {
-    // An IPv4 header with no options, and an IPv6 header with the next header 59, after which there
-    // is none.
+    // An IPv4 header with no options, and an IPv6 header with the next header 59, which says that
+    // nothing follows.
     for first in [0x45, 0x60] {
         let mut packet = [59; 2048];
         packet[0] = first;

@@ -5,7 +5,8 @@ use etherparse::LenSource;
 use etherparse::err::ipv6::ChainError;
 use etherparse::err::{Layer, LenError};
 
-// The fields of an IPv6 header, with as many digits as each can have before an extension header.
+// The fields of an IPv6 header, with as many digits as each can have when an extension header
+// follows.
 const IPV6_FIELDS: &str = "version 6
 traffic_class 255
 flow_label 1048575
@@ -16,7 +17,8 @@ source ffffffffffffffffffffffffffffffff
 destination ffffffffffffffffffffffffffffffff
 ";
 
-// What is said of an IPv4 header with as many digits as each field can have, but for its last line.
+// What is printed for an IPv4 header with as many digits as each field can have, except the last
+// line.
 const IPV4_FIELDS: &str = "version 4
 ihl 15
 dscp 63
@@ -36,7 +38,7 @@ computed 9001
 sum good
 ";
 
-// Each text so many times, one after another.
+// Each text, repeated as often as the number beside it says.
 fn joined(alloc: Global, parts: &[(&str, usize)]) -> Result<Vec<u8>, AllocError> {
     let mut digits = Vec::new(alloc);
     for (part, times) in parts {

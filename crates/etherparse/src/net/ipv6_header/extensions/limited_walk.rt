@@ -14,22 +14,22 @@ impl Ipv6Header {
     ghost use Rattle.etherparse.specs.ExtensionHeaderChain.{WalkAnswer, Walks, WalksUpTo};
     ghost use Rattle.etherparse.specs.Reading.{found_and_rest};
 
-    /// Skips the extension headers at the front of a slice, of which the first has this number, but
-    /// no more than `limit` of them: the first number that can not be skipped, and all the bytes
-    /// after the header that gave it.
+    /// Skips the extension headers at the front of a slice, the first of which has this number, but
+    /// no more than `limit` of them. Returns the first number that cannot be skipped, and all the
+    /// bytes after the header that gave it.
     ///
     /// A fragment header is skipped whatever its offset. In a fragment that is not the first, what
-    /// follows is the middle of a payload, and no header of an upper layer.
+    /// follows is the middle of a payload, not the header of an upper layer.
     ///
-    /// A header has at least 8 bytes. So from a limit of `slice.len() / 8 + 1` on the answer is
-    /// that of [`Ipv6Header::skip_all_header_extensions_in_slice`].
+    /// A header has at least 8 bytes. So with a limit of `slice.len() / 8 + 1` or more the result
+    /// is that of [`Ipv6Header::skip_all_header_extensions_in_slice`].
     ///
     /// # Errors
     ///
-    /// `TooMany` where `limit` headers were skipped and the number after them is that of one more,
-    /// however many bytes are left: the limit, this number, and the offset from the front of the
-    /// slice at which its header starts. Else `Len` where a header is incomplete, with the error of
-    /// [`Ipv6Header::skip_all_header_extensions_in_slice`].
+    /// `TooMany` if `limit` headers were skipped and the number after them is that of one more,
+    /// even if no byte of it is left. It has the limit, this number, and the offset from the front
+    /// of the slice at which that header starts. Otherwise `Len` if a header is incomplete, with
+    /// the error of [`Ipv6Header::skip_all_header_extensions_in_slice`].
     ///
     /// # Example
     ///
@@ -59,7 +59,8 @@ impl Ipv6Header {
         ensures shorter { IfOk result (λ x. length x.1.now ≤ length slice.now) }
         ensures within { IfErr result (λ e. chain_error_place e ≤ length slice.now) }
 
-        // Behind a chain of a slice it is the walk of that slice; the limit counts its headers too.
+        // After a chain of a slice this is the walk of that slice; the limit counts the chain's
+        // headers too.
         ensures follows { (s : List ℕ) → (first : ℕ) → (headers : List (List ℕ)) →
             BeginsWithChain s first headers next_header slice.now →
             WalksUpTo (length headers + limit) s first (result_map_both (λ x. x)
