@@ -1,5 +1,5 @@
-//! The program `ipcap` in Rust, on the Rust crate etherparse: the same lines for captures of link type 101, the same closing line,
-//! and input and output in pieces of the same size. Its texts of refused packets are shorter.
+//! The program `ipcap` in Rust, on the Rust crate etherparse: the same lines for captures of link type 101, the same closing
+//! line, and input and output in pieces of the same size. Its texts of refused packets are shorter.
 
 use etherparse::checksum::u64_16bit_word::{add_slice, ones_complement};
 use etherparse::{IpNumber, Ipv4Header, Ipv6Header};

@@ -78,7 +78,7 @@ fn ipv4(random: &mut Random) -> Vec<u8> {
 }
 
 fn ipv6(random: &mut Random) -> Vec<u8> {
-    let addresses: Vec<u8> = (0..32).map(|at| if at % 16 < 4 { 0x20 + at / 16 } else { random.next() as u8 }).collect();
+    let addresses: Vec<u8> = (0..32).map(|at| *[0x20, 0x01, 0x0d, 0xb8].get(at % 16).unwrap_or(&(random.next() as u8))).collect();
     let (payload, number) = segment(random, &addresses);
     let mut chain = Vec::new();
     let mut first = number;
