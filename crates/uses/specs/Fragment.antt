@@ -21,6 +21,10 @@ use Rattle.uses.specs.declared.fragment.Ipv4Key.{Ipv4Key}
 use Rattle.uses.specs.declared.fragment.Ipv6Fragment.{Ipv6Fragment}
 use Rattle.uses.specs.declared.fragment.Ipv6Key.{Ipv6Key}
 
+-- the fragment offset of a fragment header: the upper 13 bits of bytes 2 and 3
+abbrev pub fragment_offset_of : List ℕ → ℕ
+fragment_offset_of header = from_be_bytes w16 (slice_range header 2 4) / 2 ^ 3
+
 -- The 8 bytes of a fragment header, in network byte order: the next header; a reserved byte; the
 -- fragment offset in 13 bits, two reserved bits, and the M flag; the identification. What is
 -- reserved is no field, and can have any value.
@@ -28,7 +32,7 @@ pub record IsFragmentLayout (header : FragmentHeader) (bytes : List ℕ) : Type 
   pub len : length bytes ≡ 8
   pub are_bytes : IsBytes bytes
   pub next_header : slice_index bytes 0 ≡ header.next_header
-  pub fragment_offset : from_be_bytes w16 (slice_range bytes 2 4) / 2 ^ 3 ≡ header.fragment_offset
+  pub fragment_offset : fragment_offset_of bytes ≡ header.fragment_offset
   pub more_fragments : (from_be_bytes w16 (slice_range bytes 2 4) % 2 == 1) ≡ header.more_fragments
   pub identification : from_be_bytes w32 (slice_range bytes 4 8) ≡ header.identification
 
