@@ -175,10 +175,6 @@ pub record HasIpv6Key (packet : List ℕ) (key : Ipv6Key) : Type 0 where
     identification = fragment.identification;
   }
 
--- the packet is a fragment
-abbrev pub IsIpv6Fragment : List ℕ → Type 0
-IsIpv6Fragment packet = (key : Ipv6Key) × HasIpv6Key packet key
-
 -- the packet has a fragment header, and is whole all the same (RFC 6946)
 pub record IsAtomic (packet : List ℕ) : Type 0 where
   pub header : Ipv6Header
