@@ -256,6 +256,10 @@ fn echo_requests_become_replies(rt: HostRuntime) {
     let mut message = [128, 0, 0, 0, 0x12, 0x34, 0, 1, 0x61, 0x62];
     assert!(rt; icmpv6_reply(FIRST, SECOND, &mut message));
     assert_eq!(rt; message, [129, 0, 0xaf, 0xae, 0x12, 0x34, 0, 1, 0x61, 0x62]);
+    // The words behind the checksum are all ones, and their complement is 0.
+    let mut message = [8, 0, 0xf7, 0xff, 0xff, 0xff, 0, 0];
+    assert!(rt; icmpv4_reply(&mut message));
+    assert_eq!(rt; message, [0, 0, 0, 0, 0xff, 0xff, 0, 0]);
     let mut short = [8, 0, 0, 0, 0, 0, 0];
     assert!(rt; !icmpv4_reply(&mut short));
 }
