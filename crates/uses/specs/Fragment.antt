@@ -85,7 +85,8 @@ pub record HasFragmentBehind (s : List ℕ) (first : ℕ) (fragment : FragmentHe
   pub reaches : Reaches s first 44 at
   pub begins : BeginsWith IsFragmentLayout at fragment rest
 
--- an upper layer comes in the slice with no fragment header before it
+-- a number that cannot be skipped comes in the slice with no fragment header before it: that of an
+-- upper layer, or of an extension header whose length cannot be told, behind which one may stand
 pub record IsUnfragmented (s : List ℕ) (first : ℕ) : Type 0 where
   pub number : ℕ
   pub rest : List ℕ
@@ -128,7 +129,7 @@ pub record HasFragmentHeader (packet : List ℕ) (header : Ipv6Header) (fragment
   pub begins : BeginsWith IsIpv6Layout packet header body
   pub has : HasFragmentBehind body header.next_header fragment payload
 
--- the packet is an IPv6 header and an upper layer with no fragment header before it
+-- the packet is an IPv6 header, and a number that cannot be skipped comes before a fragment header
 pub record HasNoFragmentHeader (packet : List ℕ) : Type 0 where
   pub header : Ipv6Header
   pub body : List ℕ
@@ -183,6 +184,6 @@ pub record IsAtomic (packet : List ℕ) : Type 0 where
   pub has : HasFragmentHeader packet header fragment payload
   pub is_whole : ¬ IsPart fragment
 
--- the packet is whole, no fragment
+-- the packet is whole, no fragment, as far as headers that can be skipped tell
 abbrev pub IsWholeIpv6 : List ℕ → Type 0
 IsWholeIpv6 packet = HasNoFragmentHeader packet ⊎ IsAtomic packet

@@ -167,7 +167,8 @@ pub fn is_of_one_ipv6_packet(a: &Ipv6Fragment, b: &Ipv6Fragment) -> bool
 }
 
 /// The first fragment header of an IPv6 packet, with what stands before and after it; `None` where
-/// a number that cannot be skipped, as that of an upper layer, comes before it.
+/// a number that cannot be skipped, as that of an upper layer, comes before it. Behind an extension
+/// header that cannot be skipped (50, 253, 254) none is looked for.
 ///
 /// # Errors
 ///
@@ -246,7 +247,8 @@ fn skipped(slice: &[u8], number: IpNumber) -> Result<(IpNumber, &[u8]), LenError
 
 /// The key of an IPv6 packet that is a fragment; `None` where the packet is whole: it has no
 /// fragment header, or one with neither an offset nor more fragments. The latter is not to be put
-/// together with fragments that have its addresses and identification (RFC 6946 section 4).
+/// together with fragments that have its addresses and identification (RFC 6946 section 4). The
+/// first fragment header tells, and one that [`ipv6_fragment`] finds.
 ///
 /// # Errors
 ///
