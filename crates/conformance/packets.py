@@ -105,15 +105,20 @@ def extension_len(number, body):
     return (body[1] + 2) * 4 if number == 51 else (body[1] + 1) * 8
 
 
-def read_extensions(body, number):
-    """the numbers and places of extension headers, and the number and place behind them"""
+def read_extensions(body, number, past_fragments=False):
+    """The numbers and places of extension headers, and the number and place behind them. RFC 8200
+    section 4.5: the headers behind a fragment header are in the first fragment alone; the reference
+    reads on past all of them."""
     chain, place = [], 0
     while number in EXTENSIONS:
         required = extension_len(number, body[place:])
         if len(body) - place < required:
             raise too_short(required, body[place:], 'Ipv6ExtHeader', 40 + place)
         chain.append((number, place))
+        is_later = number == 44 and read_fragment_header(body[place:])['fragment_offset'] > 0
         number, place = body[place], place + required
+        if is_later and not past_fragments:
+            break
     return chain, number, place
 
 
@@ -559,6 +564,10 @@ def worked_ipv6():
         for numbers in [44], [60, 44], [44, 60]:
             first, chain = in_chain(numbers, 17, data, {numbers.index(44): word})
             yield in_ipv6(chain, first)
+    # behind a fragment header with an offset nothing is a header, whatever number it names
+    for number in EXTENSIONS:
+        for n in 0, 1, 5, 8, 16:
+            yield in_ipv6(extension(44, number, 8) + counted(n), 44)
     for one, other in (0, 1), (8, 0), (9, 9):
         first, chain = in_chain([44, 44], 6, tcp(6, counted(8)), {0: one, 1: other})
         yield in_ipv6(chain, first)
@@ -596,7 +605,7 @@ def ask_sample(packet):
         case = f"walk {packet[40:].hex() or '-'} {packet[6]}"
         if case in known and len(packet) == 40 + int.from_bytes(packet[4:6], 'big'):
             try:
-                _, number, place = read_extensions(packet[40:], packet[6])
+                _, number, place = read_extensions(packet[40:], packet[6], past_fragments=True)
                 agree('the reference', 'upper layer', packet, known[case],
                       f'ok next={number} rest={shown(packet[40 + place:])}')
             except Refused as error:
@@ -816,9 +825,8 @@ def ask_tshark_of_chain(packet, parts, told, first):
                 for e in protocol.iter('field') if e.get('name') in FOLLOWING[parts['version']]]
     chain = parts.get('chain', [])
     fragments = [parts['body'][place:] for number, place in chain if number == 44]
-    # tshark stops at a fragment that is not the first, and at headers of these two numbers
-    end = next((parts['body'][place] for number, place in chain if number in (135, 139)
-                or number == 44 and parts['body'][place + 2:place + 4] >= bytes([0, 8])), None)
+    # tshark stops at headers of these two numbers
+    end = next((parts['body'][place] for number, place in chain if number in (135, 139)), None)
     agree('tshark', 'upper layer', packet, followed[-1], parts['upper'] if end is None else end)
     if end is None and at < len(protocols) and not parts['is_fragment']:
         place = next(e.get('pos') for e in protocols[at].iter() if e.get('pos') is not None)

@@ -9,7 +9,10 @@
 //! /// The destination port of a UDP packet that is no fragment.
 //! pub fn udp_port(packet: &[u8]) -> Result<Option<u16>, HeaderSliceError> {
 //!     let (header, rest) = Ipv4Header::from_slice(packet)?;
-//!     if header.protocol != IpNumber::UDP || header.is_fragmenting_payload() || rest.len() < 4 {
+//!     if header.protocol != IpNumber::UDP || header.is_fragmenting_payload() {
+//!         return Ok(None);
+//!     }
+//!     if rest.len() < 4 || usize::from(header.total_len) < header.header_len() + 4 {
 //!         return Ok(None);
 //!     }
 //!     Ok(Some(u16::from_be_bytes([rest[2], rest[3]])))

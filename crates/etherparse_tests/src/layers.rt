@@ -147,6 +147,38 @@ fn packets_are_cut_at_their_length_field(rt: HostRuntime) {
 }
 
 #[test]
+fn behind_a_later_fragment_header_stands_no_header(rt: HostRuntime) {
+    // An authentication header of these bytes would have 32 of them, and destination options 56.
+    let mut packet = IPV6_PACKET;
+    packet[40] = 51;
+    let sliced = IpSlice::from_slice(&packet).expect(&rt, "a packet");
+    assert!(rt; sliced.is_fragment());
+    assert_eq!(rt; sliced.upper(), IpNumber::AUTHENTICATION_HEADER);
+    assert_eq!(rt; sliced.payload(), [5, 6, 7, 8].as_slice());
+    // One byte is too short to tell the length of any header.
+    let mut packet = IPV6_PACKET;
+    packet[40] = 60;
+    packet[5] = 9;
+    let sliced = IpSlice::from_slice(&packet).expect(&rt, "a packet");
+    assert!(rt; sliced.is_fragment());
+    assert_eq!(rt; sliced.upper(), IpNumber::IPV6_DESTINATION_OPTIONS);
+    assert_eq!(rt; sliced.payload(), [5].as_slice());
+    // The first fragment has the header.
+    packet[43] = 1;
+    let inside = LenError {
+        required_len: 2,
+        len: 1,
+        len_source: LenSource::Slice,
+        layer: Layer::Ipv6ExtHeader,
+        layer_start_offset: 48,
+    };
+    assert_eq!(rt;
+        IpSlice::from_slice(&packet).err(),
+        Some(IpSliceError::Extensions(inside))
+    );
+}
+
+#[test]
 fn packets_are_refused_with_places_in_the_packet(rt: HostRuntime) {
     let refused = |packet: &[u8]| IpSlice::from_slice(packet).err();
     assert_eq!(rt; refused(&[]), Some(IpSliceError::Empty));
@@ -224,6 +256,10 @@ fn echo_requests_become_replies(rt: HostRuntime) {
     let mut message = [128, 0, 0, 0, 0x12, 0x34, 0, 1, 0x61, 0x62];
     assert!(rt; icmpv6_reply(FIRST, SECOND, &mut message));
     assert_eq!(rt; message, [129, 0, 0xaf, 0xae, 0x12, 0x34, 0, 1, 0x61, 0x62]);
+    // The words behind the checksum are all ones, and their complement is 0.
+    let mut message = [8, 0, 0xf7, 0xff, 0xff, 0xff, 0, 0];
+    assert!(rt; icmpv4_reply(&mut message));
+    assert_eq!(rt; message, [0, 0, 0, 0, 0xff, 0xff, 0, 0]);
     let mut short = [8, 0, 0, 0, 0, 0, 0];
     assert!(rt; !icmpv4_reply(&mut short));
 }

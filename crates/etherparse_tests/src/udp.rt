@@ -6,6 +6,7 @@ use etherparse::err::ipv4::HeaderSliceError;
 use etherparse::err::{Layer, LenError};
 use etherparse::{IpNumber, Ipv4Header, Ipv6Header, LenSource};
 use std::process::Abort;
+use uses::checksum::is_udp_right;
 use uses::translation::{
     translate_tcp_destination, translate_tcp_source, translate_udp_destination,
     translate_udp_source,
@@ -103,6 +104,29 @@ fn a_checksum_is_made_and_judged_over_ipv6(rt: HostRuntime) {
     assert_eq!(rt; udp.checksum, 0xb852);
     assert!(rt; udp.is_right_ipv6(&ip, b"test"));
     assert!(rt; !udp.is_right_ipv6(&ip, b"text"));
+}
+
+// A datagram of 12 bytes over IPv6, and one byte behind it in the packet.
+const OVER_IPV6: [u8; 53] = [
+    0x60, 0, 0, 0, 0, 13, 17, 64, 0x20, 0x01, 0x0d, 0xb8, 0, 0, 0, 0, 0, 0, 0, 0, 0, 0, 0, 1, 0x20,
+    0x01, 0x0d, 0xb8, 0, 0, 0, 0, 0, 0, 0, 0, 0, 0, 0, 2, 4, 0, 0, 53, 0, 12, 0xb8, 0x52, 0x74,
+    0x65, 0x73, 0x74, 0xff,
+];
+
+#[test]
+fn the_datagram_of_a_packet_is_judged_as_long_as_it_says(rt: HostRuntime) {
+    assert_eq!(rt; is_udp_right(&OVER_IPV6), Ok(Some(true)));
+    // Without a checksum.
+    let mut packet = OVER_IPV6;
+    packet[46] = 0;
+    packet[47] = 0;
+    assert_eq!(rt; is_udp_right(&packet), Ok(Some(false)));
+    // Shorter than a header, and than the packet would have to be.
+    let mut packet = OVER_IPV6;
+    packet[45] = 7;
+    assert_eq!(rt; is_udp_right(&packet), Ok(None));
+    packet[45] = 14;
+    assert_eq!(rt; is_udp_right(&packet), Ok(None));
 }
 
 #[test]

@@ -1,1 +1,2 @@
+mod Skips
 mod UdpLayout

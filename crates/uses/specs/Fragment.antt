@@ -21,6 +21,10 @@ use Rattle.uses.specs.declared.fragment.Ipv4Key.{Ipv4Key}
 use Rattle.uses.specs.declared.fragment.Ipv6Fragment.{Ipv6Fragment}
 use Rattle.uses.specs.declared.fragment.Ipv6Key.{Ipv6Key}
 
+-- the fragment offset of a fragment header: the upper 13 bits of bytes 2 and 3
+abbrev pub fragment_offset_of : List ℕ → ℕ
+fragment_offset_of header = from_be_bytes w16 (slice_range header 2 4) / 2 ^ 3
+
 -- The 8 bytes of a fragment header, in network byte order: the next header; a reserved byte; the
 -- fragment offset in 13 bits, two reserved bits, and the M flag; the identification. What is
 -- reserved is not a field, and can have any value.
@@ -28,7 +32,7 @@ pub record IsFragmentLayout (header : FragmentHeader) (bytes : List ℕ) : Type 
   pub len : length bytes ≡ 8
   pub are_bytes : IsBytes bytes
   pub next_header : slice_index bytes 0 ≡ header.next_header
-  pub fragment_offset : from_be_bytes w16 (slice_range bytes 2 4) / 2 ^ 3 ≡ header.fragment_offset
+  pub fragment_offset : fragment_offset_of bytes ≡ header.fragment_offset
   pub more_fragments : (from_be_bytes w16 (slice_range bytes 2 4) % 2 == 1) ≡ header.more_fragments
   pub identification : from_be_bytes w32 (slice_range bytes 4 8) ≡ header.identification
 
@@ -81,7 +85,8 @@ pub record HasFragmentBehind (s : List ℕ) (first : ℕ) (fragment : FragmentHe
   pub reaches : Reaches s first 44 at
   pub begins : BeginsWith IsFragmentLayout at fragment rest
 
--- an upper layer comes in the slice with no fragment header before it
+-- a number that cannot be skipped comes in the slice with no fragment header before it: that of an
+-- upper layer, or of an extension header whose length cannot be told, behind which one may stand
 pub record IsUnfragmented (s : List ℕ) (first : ℕ) : Type 0 where
   pub number : ℕ
   pub rest : List ℕ
@@ -124,7 +129,7 @@ pub record HasFragmentHeader (packet : List ℕ) (header : Ipv6Header) (fragment
   pub begins : BeginsWith IsIpv6Layout packet header body
   pub has : HasFragmentBehind body header.next_header fragment payload
 
--- the packet is an IPv6 header and an upper layer with no fragment header before it
+-- the packet is an IPv6 header, and a number that cannot be skipped comes before a fragment header
 pub record HasNoFragmentHeader (packet : List ℕ) : Type 0 where
   pub header : Ipv6Header
   pub body : List ℕ
@@ -171,10 +176,6 @@ pub record HasIpv6Key (packet : List ℕ) (key : Ipv6Key) : Type 0 where
     identification = fragment.identification;
   }
 
--- the packet is a fragment
-abbrev pub IsIpv6Fragment : List ℕ → Type 0
-IsIpv6Fragment packet = (key : Ipv6Key) × HasIpv6Key packet key
-
 -- the packet has a fragment header, and is whole all the same (RFC 6946)
 pub record IsAtomic (packet : List ℕ) : Type 0 where
   pub header : Ipv6Header
@@ -183,6 +184,6 @@ pub record IsAtomic (packet : List ℕ) : Type 0 where
   pub has : HasFragmentHeader packet header fragment payload
   pub is_whole : ¬ IsPart fragment
 
--- the packet is whole, no fragment
+-- the packet is whole, no fragment, as far as headers that can be skipped tell
 abbrev pub IsWholeIpv6 : List ℕ → Type 0
 IsWholeIpv6 packet = HasNoFragmentHeader packet ⊎ IsAtomic packet

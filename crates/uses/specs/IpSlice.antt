@@ -1,6 +1,9 @@
--- IP packets of either version, cut at the length field (RFC 791 section 3.1, RFC 8200 section 3).
-use Rattle.std.specs.Prelude.{ℕ, ◌≡◌, ◌≢◌, ◌+◌, ◌<◌, ◌≤◌, ◌⊎◌, List, ◌++◌, Err, length, take}
-use Rattle.etherparse.specs.ExtensionHeaderChain.{BeginsWithChain, Walks}
+-- IP packets of either version, cut at the length field (RFC 791 section 3.1, RFC 8200 section 3),
+-- and where the extension headers of IPv6 end (RFC 8200 sections 4 and 4.5).
+use Rattle.std.specs.Prelude.{ℕ, ◌≡◌, ◌≢◌, ◌+◌, ◌-◌, ◌<◌, ◌≤◌, ◌⊎◌, List, ◌++◌, drop, length}
+use Rattle.std.specs.Prelude.{slice_index, take}
+use Rattle.etherparse.specs.ExtensionHeaderChain.{BeginsWithChain, incomplete_header_error}
+use Rattle.etherparse.specs.ExtensionHeaderChain.{required_len_of}
 use Rattle.etherparse.specs.ExtensionHeaders.{IsSkippable}
 use Rattle.etherparse.specs.FirstByte.{version_of}
 use Rattle.etherparse.specs.Ipv4Header.{IsFragment, IsIpv4Layout, RefusesIpv4}
@@ -12,6 +15,7 @@ use Rattle.etherparse.specs.declared.err.Layer.TheVariants as layer
 use Rattle.etherparse.specs.declared.net.ipv4_header.Ipv4Header.{Ipv4Header}
 use Rattle.etherparse.specs.declared.net.ipv6_header.Ipv6Header.{Ipv6Header}
 use Rattle.uses.specs.Fragment.{HasFragmentBehind, IsPart, IsUnfragmented, RefusesFragmentBehind}
+use Rattle.uses.specs.Fragment.{fragment_offset_of}
 use Rattle.uses.specs.Payload.{HasNoIpv4Payload}
 use Rattle.uses.specs.declared.fragment.FragmentHeader.{FragmentHeader}
 use Rattle.uses.specs.declared.ip_slice.IpSlice.{IpSlice}
@@ -29,6 +33,48 @@ pub record HasIpv6Body (packet : List ℕ) (header : Ipv6Header) (body : List �
   pub enough : 40 + header.payload_length ≤ length packet
   pub begins : BeginsWith IsIpv6Layout (take (40 + header.payload_length) packet) header body
 
+-- The slice begins with the fragment header of a fragment that is not the first: its offset is not
+-- 0. The fragment itself follows it. Extension headers and the header of the upper layer, which can
+-- follow that of the first fragment, are in the first alone (RFC 8200 section 4.5).
+pub record IsLaterFragment (number : ℕ) (s : List ℕ) : Type 0 where
+  pub is_fragment_header : number ≡ 44
+  pub enough : 8 ≤ length s
+  pub later : fragment_offset_of s ≢ 0
+
+-- What is reached behind extension headers at the front of a slice, of which the first has this
+-- number, and none is the fragment header of a later fragment: a number, and the rest that it tells
+-- of. Each header that is passed is whole.
+pub data Passes (s : List ℕ) (first : ℕ) : ℕ → List ℕ → Type 0 where
+  at_front : Passes s first first s
+  behind : {number : ℕ} {rest : List ℕ} → Passes s first number rest → IsSkippable number
+      → ¬ IsLaterFragment number rest → required_len_of number rest ≤ length rest
+      → Passes s first (slice_index rest 0) (drop (required_len_of number rest) rest)
+
+-- The last extension header is the fragment header of a later fragment. The payload is what follows
+-- it, whatever the number that it names.
+pub record EndsAtLaterFragment (s : List ℕ) (first number : ℕ) (payload : List ℕ) : Type 0 where
+  pub last : ℕ
+  pub at : List ℕ
+  pub passes : Passes s first last at
+  pub is_later : IsLaterFragment last at
+  pub named : number ≡ slice_index at 0
+  pub follows : payload ≡ drop (required_len_of last at) at
+
+-- where the extension headers end, and the payload begins: at a number that is of none that can be
+-- skipped, or behind the fragment header of a later fragment
+abbrev pub EndsAt : List ℕ → ℕ → ℕ → List ℕ → Type 0
+EndsAt s first number payload = (Passes s first number payload × ¬ IsSkippable number)
+    ⊎ EndsAtLaterFragment s first number payload
+
+-- the slice ends within an extension header; the error says where that starts
+pub record EndsInHeader (s : List ℕ) (first : ℕ) (e : LenError) : Type 0 where
+  pub number : ℕ
+  pub rest : List ℕ
+  pub passes : Passes s first number rest
+  pub skippable : IsSkippable number
+  pub short : length rest < required_len_of number rest
+  pub error : e ≡ incomplete_header_error number rest (length s - length rest)
+
 -- The body of the packet is these bytes of extension headers, and this payload, of the number that
 -- the last of them gives.
 pub record IsIpv6Packet (packet : List ℕ) (header : Ipv6Header) (extensions : List ℕ) (upper : ℕ)
@@ -36,7 +82,7 @@ pub record IsIpv6Packet (packet : List ℕ) (header : Ipv6Header) (extensions : 
   pub cut : HasIpv6Body packet header (extensions ++ payload)
   pub headers : List (List ℕ)
   pub chain : BeginsWithChain (extensions ++ payload) header.next_header headers upper payload
-  pub ends : ¬ IsSkippable upper
+  pub ends : EndsAt (extensions ++ payload) header.next_header upper payload
 
 -- the packet is in these parts
 abbrev pub IsIpPacket : List ℕ → IpSlice → Type 0
@@ -94,7 +140,7 @@ pub record EndsInExtensions (packet : List ℕ) (e : LenError) : Type 0 where
   pub body : List ℕ
   pub cut : HasIpv6Body packet header body
   pub inside : LenError
-  pub walks : Walks body header.next_header (Err inside)
+  pub ends : EndsInHeader body header.next_header inside
   pub moved : e ≡ len_error_moved 40 inside
 
 -- Why a packet is not sliced: it has no bytes; its version is neither 4 nor 6; it has no header of

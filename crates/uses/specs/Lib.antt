@@ -1,5 +1,6 @@
 pub mod Address
 pub mod Capture
+pub mod Datagram
 pub mod Echo
 pub mod Filter
 pub mod Forward

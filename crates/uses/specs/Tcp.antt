@@ -55,12 +55,13 @@ abbrev pub tcp_pieces_v6 : Ipv6Header → List ℕ → List (List ℕ)
 tcp_pieces_v6 ip segment = ip.source ∷ ip.destination
     ∷ (to_be_bytes w32 (length segment) ++ (0 ∷ 0 ∷ 0 ∷ 6 ∷ [])) ∷ segment ∷ []
 
--- a receiver finds the segment correct: its length fits 16 bits, and all pieces sum to all ones
+-- a receiver finds the segment right: it is as long as a header at least, 16 bits can tell its
+-- length, and all pieces sum to all ones
 abbrev pub IsTcpRightIpv4 : Ipv4Header → List ℕ → Type 0
-IsTcpRightIpv4 ip segment =
-    (length segment < 2 ^ 16) × (ones_complement_sum (tcp_pieces_v4 ip segment) ≡ 65535)
+IsTcpRightIpv4 ip segment = (20 ≤ length segment) × (length segment < 2 ^ 16)
+    × (ones_complement_sum (tcp_pieces_v4 ip segment) ≡ 65535)
 
 -- the same over IPv6, where the length has 32 bits
 abbrev pub IsTcpRightIpv6 : Ipv6Header → List ℕ → Type 0
-IsTcpRightIpv6 ip segment =
-    (length segment < 2 ^ 32) × (ones_complement_sum (tcp_pieces_v6 ip segment) ≡ 65535)
+IsTcpRightIpv6 ip segment = (20 ≤ length segment) × (length segment < 2 ^ 32)
+    × (ones_complement_sum (tcp_pieces_v6 ip segment) ≡ 65535)

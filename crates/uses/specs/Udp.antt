@@ -1,8 +1,9 @@
 -- The UDP header (RFC 768).
-use Rattle.std.specs.Prelude.{ℕ, ◌≡◌, List, [], ◌∷◌, ◌++◌, length, Result}
+use Rattle.std.specs.Prelude.{ℕ, ◌≡◌, ◌≢◌, ◌⊎◌, List, [], ◌∷◌, ◌++◌, length, Result}
 use Rattle.std.specs.Int.{to_be_bytes, w16, w32}
 use Rattle.etherparse.specs.Bytes.{IsBytes, words_of}
 use Rattle.etherparse.specs.Reading.{IsTooShort, Reads}
+use Rattle.etherparse.specs.WordSums.{ones_complement_sum}
 use Rattle.etherparse.specs.declared.err.LenError.{LenError}
 use Rattle.etherparse.specs.declared.err.Layer.TheVariants as layer
 use Rattle.etherparse.specs.declared.net.ipv4_header.Ipv4Header.{Ipv4Header}
@@ -37,3 +38,14 @@ udp_pieces_v4 ip len header payload =
 abbrev pub udp_pieces_v6 : Ipv6Header → ℕ → List ℕ → List ℕ → List (List ℕ)
 udp_pieces_v6 ip len header payload = ip.source ∷ ip.destination
     ∷ (to_be_bytes w32 len ++ (0 ∷ 0 ∷ 0 ∷ 17 ∷ [])) ∷ header ∷ payload ∷ []
+
+-- a receiver finds a datagram of this header right: its checksum is 0, which says that there is
+-- none, or all pieces sum to all ones
+abbrev pub IsUdpRightIpv4 : Ipv4Header → UdpHeader → List ℕ → List ℕ → Type 0
+IsUdpRightIpv4 ip udp header payload = (udp.checksum ≡ 0)
+    ⊎ (ones_complement_sum (udp_pieces_v4 ip udp.length header payload) ≡ 65535)
+
+-- the same over IPv6, where there has to be a checksum (RFC 8200 section 8.1)
+abbrev pub IsUdpRightIpv6 : Ipv6Header → UdpHeader → List ℕ → List ℕ → Type 0
+IsUdpRightIpv6 ip udp header payload = (udp.checksum ≢ 0)
+    × (ones_complement_sum (udp_pieces_v6 ip udp.length header payload) ≡ 65535)

@@ -1,10 +1,17 @@
 //! A host that receives and sends datagrams: checksums that are checked and computed.
 
-ghost use Rattle.std.specs.Prelude.{◌≡◌, ◌≢◌, ◌↔◌, ◌-◌, [], ◌∷◌, IsTrue};
+ghost use Rattle.std.specs.Prelude.{ℕ, ◌≡◌, ◌≢◌, ◌↔◌, ◌-◌, List, [], ◌∷◌, IfErr, IfNone, IfOk};
+ghost use Rattle.std.specs.Prelude.{IfSome, IsTrue};
 ghost use Rattle.etherparse.specs.WordSums.{SumsToAllOnes, ones_complement_sum, with_no_zero};
+ghost use Rattle.uses.specs.Datagram.{HasDatagram, HasNoDatagram, IsDatagram, IsNoDatagram};
+ghost use Rattle.uses.specs.Datagram.{IsRightIn};
+ghost use Rattle.uses.specs.IpSlice.{RefusesIp};
+ghost use Rattle.uses.specs.Udp.{IsUdpLayout};
 
-use etherparse::Ipv4HeaderSlice;
+use crate::ip_slice::{IpSlice, IpSliceError};
+use crate::udp::UdpHeader;
 use etherparse::checksum::u64_16bit_word;
+use etherparse::{IpNumber, Ipv4HeaderSlice};
 
 /// Whether the checksum of a UDP datagram is right, from the pseudo-header of its addresses, its
 /// header and its payload.
@@ -34,4 +41,60 @@ pub fn is_ipv4_checksum_right(view: &Ipv4HeaderSlice) -> bool
 {
     let sum = u64_16bit_word::add_slice(0, view.slice());
     u64_16bit_word::ones_complement(sum) == 0
+}
+
+/// Whether the UDP datagram in a packet is right by its checksum. Over IPv4 a checksum of 0 says
+/// that there is none, and is right; over IPv6 there has to be one (RFC 8200 section 8.1). What
+/// stands behind the datagram, as its UDP length tells, does not count.
+///
+/// `None` where the packet has no datagram: its payload is of another protocol, or a fragment, or
+/// shorter than 8 bytes or than its UDP length says, or that is below 8. The destination is that of
+/// the IP header, which a routing header can have changed.
+///
+/// # Errors
+///
+/// Those of [`IpSlice::from_slice`].
+pub fn is_udp_right(packet: &[u8]) -> Result<Option<bool>, IpSliceError>
+    ensures judged { IfOk result (λ found. IfSome found (HasDatagram packet.now)) }
+    ensures none { IfOk result (λ found. IfNone found (HasNoDatagram packet.now)) }
+    ensures refused { IfErr result (RefusesIp packet.now) }
+{
+    let slice = match IpSlice::from_slice(packet) {
+        Ok(slice) => slice,
+        Err(e) => return Err(e),
+    };
+    if slice.upper() != IpNumber::UDP || slice.is_fragment() {
+        return Ok(None);
+    }
+    match datagram(slice.payload()) {
+        Some((udp, data)) => Ok(Some(is_right_in(&slice, &udp, data))),
+        None => Ok(None),
+    }
+}
+
+// The datagram that a payload is: its header and its data.
+fn datagram(payload: &[u8]) -> Option<(UdpHeader, &[u8])>
+    ensures found { IfSome result (λ x. IsDatagram payload.now x.0 x.1.now) }
+    ensures none { IfNone result (IsNoDatagram payload.now) }
+{
+    let (udp, rest) = match UdpHeader::from_slice(payload) {
+        Ok(read) => read,
+        Err(_) => return None,
+    };
+    let len = usize::from(udp.length);
+    if len < 8 || rest.len() < len - 8 {
+        return None;
+    }
+    Some((udp, &rest[..len - 8]))
+}
+
+// Whether a datagram in a packet of these parts is right.
+fn is_right_in(slice: &IpSlice, udp: &UdpHeader, data: &[u8]) -> bool
+    ensures right { (header : List ℕ) → IsUdpLayout udp.now header →
+        (IsTrue result ↔ IsRightIn slice.now udp.now header data.now) }
+{
+    match slice {
+        IpSlice::Ipv4 { header, .. } => udp.is_right_ipv4(header, data),
+        IpSlice::Ipv6 { header, .. } => udp.is_right_ipv6(header, data),
+    }
 }

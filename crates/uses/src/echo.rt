@@ -1,9 +1,9 @@
 //! A host that answers echo requests: ICMP (RFC 792) and ICMPv6 (RFC 4443 sections 4.1 and 4.2).
 
-ghost use Rattle.std.specs.Prelude.{◌≡◌, ◌↔◌, ◌<◌, ◌^◌, IsTrue, length};
+ghost use Rattle.std.specs.Prelude.{◌≡◌, ◌↔◌, ◌<◌, ◌^◌, [], ◌∷◌, IsTrue, length};
 ghost use Rattle.std.specs.Bool.{OnFalse, OnTrue};
 ghost use Rattle.etherparse.specs.WordSums.{SumsToAllOnes, ones_complement_sum};
-ghost use Rattle.uses.specs.Echo.{IsEchoReply, IsEchoRequest, icmpv6_pieces};
+ghost use Rattle.uses.specs.Echo.{IsEchoReply, IsEchoRequest, echo_reply, icmpv6_pieces};
 
 use etherparse::checksum::u64_16bit_word;
 
@@ -15,7 +15,8 @@ use etherparse::checksum::u64_16bit_word;
 /// since each of its bytes counts in the checksum.
 pub fn icmpv4_reply(message: &mut [u8]) -> bool
     ensures asked { IsTrue result ↔ IsEchoRequest 8 message.old }
-    ensures made { OnTrue result (IsEchoReply 0 message.old message.new) }
+    ensures made { OnTrue result
+        (IsEchoReply 0 message.old (echo_reply 0 0 message.old ∷ []) message.new) }
     ensures right { OnTrue result (SumsToAllOnes message.new) }
     ensures refused { OnFalse result (message.new ≡ message.old) }
 {
@@ -38,7 +39,8 @@ pub fn icmpv4_reply(message: &mut [u8]) -> bool
 pub fn icmpv6_reply(source: [u8; 16], destination: [u8; 16], message: &mut [u8]) -> bool
     ensures asked { IsTrue result
         ↔ (IsEchoRequest 128 message.old × (length message.old < 2 ^ 32)) }
-    ensures made { OnTrue result (IsEchoReply 129 message.old message.new) }
+    ensures made { OnTrue result (IsEchoReply 129 message.old
+        (icmpv6_pieces source destination (echo_reply 129 0 message.old)) message.new) }
     ensures right { OnTrue result
         (ones_complement_sum (icmpv6_pieces source destination message.new) ≡ 65535) }
     ensures refused { OnFalse result (message.new ≡ message.old) }

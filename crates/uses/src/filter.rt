@@ -17,14 +17,17 @@ use etherparse::err::ipv6;
 use etherparse::{IpDscp, IpNumber, Ipv4Header, Ipv4HeaderSlice, Ipv6Header, Ipv6HeaderSlice};
 
 /// The destination port of a UDP packet that is no fragment; `None` for another protocol, a
-/// fragment, or fewer than 4 bytes after the header; the reader's error if there is no header.
+/// fragment, or fewer than 4 bytes of payload; the reader's error where there is no header.
 pub fn udp_port(packet: &[u8]) -> Result<Option<u16>, HeaderSliceError>
     ensures found { IfOk result (λ found. IfSome found (HasUdpPort packet.now)) }
     ensures none { IfOk result (λ found. IfNone found (HasNoUdpPort packet.now)) }
     ensures refused { IfErr result (RefusesIpv4 packet.now) }
 {
     let (header, rest) = Ipv4Header::from_slice(packet)?;
-    if header.protocol != IpNumber::UDP || header.is_fragmenting_payload() || rest.len() < 4 {
+    if header.protocol != IpNumber::UDP || header.is_fragmenting_payload() {
+        return Ok(None);
+    }
+    if rest.len() < 4 || usize::from(header.total_len) < header.header_len() + 4 {
         return Ok(None);
     }
     Ok(Some(u16::from_be_bytes([rest[2], rest[3]])))

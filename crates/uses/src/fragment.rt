@@ -165,8 +165,9 @@ pub fn is_of_one_ipv6_packet(a: &Ipv6Fragment, b: &Ipv6Fragment) -> bool
         && a.fragment.identification == b.fragment.identification
 }
 
-/// The first fragment header of an IPv6 packet, with what comes before and after it; `None` if a
-/// number that cannot be skipped, such as that of an upper layer, comes before it.
+/// The first fragment header of an IPv6 packet, with what stands before and after it; `None` where
+/// a number that cannot be skipped, as that of an upper layer, comes before it. Behind an extension
+/// header that cannot be skipped (50, 253, 254) none is looked for.
 ///
 /// # Errors
 ///
@@ -243,9 +244,10 @@ fn skipped(slice: &[u8], number: IpNumber) -> Result<(IpNumber, &[u8]), LenError
     }
 }
 
-/// The key of an IPv6 packet that is a fragment; `None` if the packet is whole: it has no fragment
-/// header, or one with neither an offset nor more fragments. In the latter case it must not be put
-/// together with fragments that have its addresses and identification (RFC 6946 section 4).
+/// The key of an IPv6 packet that is a fragment; `None` where the packet is whole: it has no
+/// fragment header, or one with neither an offset nor more fragments. The latter is not to be put
+/// together with fragments that have its addresses and identification (RFC 6946 section 4). The
+/// first fragment header tells, and one that [`ipv6_fragment`] finds.
 ///
 /// # Errors
 ///

@@ -1,10 +1,15 @@
 //! A layer of one's own over `etherparse`: IP packets of either version, sliced into their parts.
 
-ghost use Rattle.std.specs.Prelude.{ℕ, ◌≡◌, ◌<◌, List, ◌++◌, IfErr, IfOk, length};
+ghost use Rattle.std.specs.Prelude.{ℕ, ◌≡◌, ◌<◌, ◌≤◌, ◌↔◌, List, ◌++◌, IfErr, IfOk, IsTrue};
+ghost use Rattle.std.specs.Prelude.{length};
+ghost use Rattle.etherparse.specs.ExtensionHeaderChain.{FollowsChain, incomplete_header_error};
+ghost use Rattle.etherparse.specs.ExtensionHeaderChain.{required_len_of};
+ghost use Rattle.etherparse.specs.ExtensionHeaders.{IsSkippable};
 ghost use Rattle.etherparse.specs.FirstByte.{version_of};
-ghost use Rattle.uses.specs.IpSlice.{HasIpv6Body, IsIpPacket, RefusesIp};
+ghost use Rattle.uses.specs.IpSlice.{EndsAt, EndsAtLaterFragment, EndsInHeader, HasIpv6Body};
+ghost use Rattle.uses.specs.IpSlice.{IsIpPacket, IsLaterFragment, Passes, RefusesIp};
 
-use crate::fragment::fragment_behind;
+use crate::fragment::{FragmentHeader, fragment_behind};
 use etherparse::err::{Layer, LenError, ipv4, ipv6};
 use etherparse::{IpNumber, Ipv4Header, Ipv6Header, LenSource};
 
@@ -23,11 +28,12 @@ pub enum IpSlice<'a> {
     Ipv6 {
         /// The header, without its extension headers.
         header: Ipv6Header,
-        /// The bytes of the extension headers, which can be none. A fragment header is among them,
-        /// whatever its offset.
+        /// The bytes of the extension headers, which can be none. A fragment header is among them.
+        /// If its offset is not 0 it is the last: what follows it is the fragment itself, and no
+        /// header (RFC 8200 section 4.5).
         extensions: &'a [u8],
-        /// The number of the payload: the first that is not the number of an extension header that
-        /// can be skipped.
+        /// The number of the payload: the first that is of no extension header that can be skipped,
+        /// or any that a fragment header with an offset other than 0 names.
         upper: IpNumber,
         /// What follows the extension headers.
         payload: &'a [u8],
@@ -173,7 +179,7 @@ fn ipv6_slice(packet: &[u8]) -> Result<IpSlice, IpSliceError>
         Ok(cut) => cut,
         Err(e) => return Err(e),
     };
-    let walked = match Ipv6Header::skip_all_header_extensions_in_slice(body, header.next_header) {
+    let walked = match behind_extensions(body, header.next_header) {
         Ok(walked) => walked,
         Err(e) => return Err(IpSliceError::Extensions(e.add_offset(Ipv6Header::LEN))),
     };
@@ -210,7 +216,64 @@ fn ipv6_body(packet: &[u8]) -> Result<(Ipv6Header, &[u8]), IpSliceError>
     Ok((header, &rest[..len]))
 }
 
-// What comes before the rest in a slice.
+// The number and the bytes of the payload behind extension headers, of which the first has this
+// number.
+fn behind_extensions(body: &[u8], first: IpNumber) -> Result<(IpNumber, &[u8]), LenError>
+    ensures chain { IfOk result (λ x. FollowsChain body.now first x.0 x.1.now) }
+    ensures ends { IfOk result (λ x. EndsAt body.now first x.0 x.1.now) }
+    ensures refused { IfErr result (EndsInHeader body.now first) }
+    ensures within { IfErr result (λ e. e.layer_start_offset ≤ length body.now) }
+{
+    let mut rest = body;
+    let mut number = first;
+    'headers: loop {
+        if !Ipv6Header::is_skippable_header_extension(number) {
+            return Ok((number, rest));
+        }
+        let is_later = is_later_fragment(rest, number);
+        match passed(rest, number) {
+            Ok(next) => {
+                if is_later {
+                    return Ok(next);
+                }
+                (number, rest) = next;
+            }
+            Err(e) => return Err(e.add_offset(body.len() - rest.len())),
+        }
+    }
+}
+
+// Whether a slice begins with the fragment header of a fragment that is not the first.
+fn is_later_fragment(slice: &[u8], number: IpNumber) -> bool
+    ensures value { IsTrue result ↔ IsLaterFragment number slice.now }
+{
+    number == IpNumber::IPV6_FRAGMENTATION_HEADER
+        && slice.len() >= FragmentHeader::LEN
+        && u16::from_be_bytes([slice[2], slice[3]]) >> 3 != 0
+}
+
+// What follows the extension header at the front of a slice.
+fn passed(slice: &[u8], number: IpNumber) -> Result<(IpNumber, &[u8]), LenError>
+    requires skippable { IsSkippable number }
+    ensures chain { (s : List ℕ) → (first : ℕ) → FollowsChain s first number slice.now →
+        IfOk result (λ x. FollowsChain s first x.0 x.1.now) }
+    ensures goes_on { ¬ IsLaterFragment number slice.now → (s : List ℕ) → (first : ℕ) →
+        Passes s first number slice.now → IfOk result (λ x. Passes s first x.0 x.1.now) }
+    ensures ends { IsLaterFragment number slice.now → (s : List ℕ) → (first : ℕ) →
+        Passes s first number slice.now →
+        IfOk result (λ x. EndsAtLaterFragment s first x.0 x.1.now) }
+    ensures short { IfErr result (λ e. length slice.now < required_len_of number slice.now) }
+    ensures error { IfErr result (λ e. e ≡ incomplete_header_error number slice.now 0) }
+    ensures shorter { IfOk result (λ x. length x.1.now < length slice.now) }
+    ensures at_front { IfErr result (λ e. e.layer_start_offset ≡ 0) }
+{
+    match Ipv6Header::skip_header_extension_in_slice(slice, number) {
+        Ok(next) => Ok(next),
+        Err(e) => Err(e),
+    }
+}
+
+// What stands in a slice before its rest.
 fn before<'a>(slice: &'a [u8], rest: &[u8]) -> &'a [u8]
     requires rest { (front : List ℕ) × (slice.now ≡ front ++ rest.now) }
     ensures parts { slice.now ≡ result.now ++ rest.now }

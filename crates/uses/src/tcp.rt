@@ -167,13 +167,16 @@ impl<'a> TcpHeaderSlice<'a> {
     }
 }
 
-/// Whether the checksum of a TCP segment over IPv4 is correct: that of its header, options and
-/// data, and of the pseudo-header with both addresses. The segment has to end where the total
-/// length of the packet says, since each byte of the slice counts. For a segment of 65536 bytes or
-/// more, whose length does not fit the pseudo-header, the result is `false`.
+/// Whether the checksum of a TCP segment over IPv4 is right: that of its header, options and data,
+/// and of the pseudo-header with both addresses. The segment has to end where the total length of
+/// the packet says, since each byte of the slice counts. One of fewer than 20 bytes, which is none,
+/// is not right, nor is one of 65536 or more, whose length the pseudo-header cannot tell.
 pub fn is_tcp_right_ipv4(header: &Ipv4Header, segment: &[u8]) -> bool
     ensures right { IsTrue result ↔ IsTcpRightIpv4 header.now segment.now }
 {
+    if segment.len() < 20 {
+        return false;
+    }
     let len = match u16::try_from(segment.len()) {
         Ok(len) => len,
         Err(_) => return false,
@@ -189,10 +192,14 @@ pub fn is_tcp_right_ipv4(header: &Ipv4Header, segment: &[u8]) -> bool
 }
 
 /// The same over IPv6 (RFC 8200 section 8.1). The destination is that of the header, which a
-/// routing header can have changed. For a segment of 2^32 bytes or more the result is `false`.
+/// routing header can have changed. A segment of fewer than 20 bytes, or of 2^32 or more, is not
+/// right.
 pub fn is_tcp_right_ipv6(header: &Ipv6Header, segment: &[u8]) -> bool
     ensures right { IsTrue result ↔ IsTcpRightIpv6 header.now segment.now }
 {
+    if segment.len() < 20 {
+        return false;
+    }
     let len = match u32::try_from(segment.len()) {
         Ok(len) => len,
         Err(_) => return false,

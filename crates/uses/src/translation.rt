@@ -55,6 +55,8 @@ pub fn translate_tcp_source(header: &mut Ipv4Header, tcp_checksum: u16, source: 
           header.old.source source;
     } }
     ensures keeps_checksum { KeepsChecksum header.old header.new }
+    ensures value { result
+        ≡ updated_checksum_of_words 2 tcp_checksum header.old.source source }
     ensures tcp { UpdatesChecksum tcp_checksum
         (network_order_word_sum header.old.source) (network_order_word_sum source) result }
 {
@@ -75,6 +77,8 @@ pub fn translate_tcp_destination(
           header.old.destination destination;
     } }
     ensures keeps_checksum { KeepsChecksum header.old header.new }
+    ensures value { result
+        ≡ updated_checksum_of_words 2 tcp_checksum header.old.destination destination }
     ensures tcp { UpdatesChecksum tcp_checksum
         (network_order_word_sum header.old.destination) (network_order_word_sum destination)
         result }

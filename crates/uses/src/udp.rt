@@ -19,14 +19,14 @@ pub struct UdpHeader {
 }
 
 impl UdpHeader {
-    ghost use Rattle.std.specs.Prelude.{ℕ, ◌≡◌, ◌≢◌, ◌<◌, ◌^◌, ◌↔◌, ◌⊎◌, List, [], ◌∷◌, ◌++◌};
+    ghost use Rattle.std.specs.Prelude.{ℕ, ◌≡◌, ◌≢◌, ◌<◌, ◌^◌, ◌↔◌, List, [], ◌∷◌, ◌++◌};
     ghost use Rattle.std.specs.Prelude.{Ok, IsTrue, map, slice_index};
     ghost use Rattle.std.specs.Int.{to_be_bytes, w16};
     ghost use Rattle.std.specs.List.{concat};
     ghost use Rattle.etherparse.specs.Reading.{found_and_rest};
     ghost use Rattle.etherparse.specs.WordSums.{little_endian_word_sum, ones_complement_sum};
-    ghost use Rattle.uses.specs.Udp.{IsUdpLayout, ReadsUdp, UdpReading};
-    ghost use Rattle.uses.specs.Udp.{udp_pieces_v4, udp_pieces_v6, udp_words};
+    ghost use Rattle.uses.specs.Udp.{IsUdpLayout, IsUdpRightIpv4, IsUdpRightIpv6, ReadsUdp};
+    ghost use Rattle.uses.specs.Udp.{UdpReading, udp_pieces_v4, udp_pieces_v6, udp_words};
 
     /// The header at the front of a slice, and all the bytes after it.
     ///
@@ -59,8 +59,10 @@ impl UdpHeader {
         self.words()
     }
 
-    /// Sets the checksum of a datagram over IPv4. With it the datagram sums to all ones. It is
-    /// never 0, which would say that there is none.
+    /// Sets the checksum of a datagram over IPv4. With it the datagram sums to all ones, and it is
+    /// not 0, which says that there is none.
+    ///
+    /// The sum counts the field `length` as it stands: set it first, to 8 and the payload's length.
     pub fn set_checksum_ipv4(&mut self, ip: &Ipv4Header, payload: &[u8])
         ensures others { self.new ≡ record self.old { checksum = self.new.checksum } }
         ensures there { self.new.checksum ≢ 0 }
@@ -71,7 +73,8 @@ impl UdpHeader {
         self.complete(&ip.source, &ip.destination, &[0, 17, h, l], payload);
     }
 
-    /// Sets the checksum of a datagram over IPv6, as [`UdpHeader::set_checksum_ipv4`] does.
+    /// Sets the checksum of a datagram over IPv6, as [`UdpHeader::set_checksum_ipv4`] does. In a
+    /// packet with a routing header, the destination has to be the last one (RFC 8200 section 8.1).
     pub fn set_checksum_ipv6(&mut self, ip: &Ipv6Header, payload: &[u8])
         ensures others { self.new ≡ record self.old { checksum = self.new.checksum } }
         ensures there { self.new.checksum ≢ 0 }
@@ -87,22 +90,24 @@ impl UdpHeader {
         );
     }
 
-    /// Whether the checksum of a datagram over IPv4 is correct, or there is none.
+    /// Whether the checksum of a datagram over IPv4 is right, or there is none.
+    ///
+    /// The payload has to end where the field `length` says, which is not compared with it:
+    /// [`crate::checksum::is_udp_right`] cuts it there.
     pub fn is_right_ipv4(&self, ip: &Ipv4Header, payload: &[u8]) -> bool
-        ensures right { (header : List ℕ) → IsUdpLayout self.now header → (IsTrue result
-            ↔ ((self.now.checksum ≡ 0) ⊎ (ones_complement_sum
-            (udp_pieces_v4 ip.now self.now.length header payload.now) ≡ 65535))) }
+        ensures right { (header : List ℕ) → IsUdpLayout self.now header →
+            (IsTrue result ↔ IsUdpRightIpv4 ip.now self.now header payload.now) }
     {
         let [h, l] = self.length.to_be_bytes();
         self.checksum == 0 || self.is_whole(&ip.source, &ip.destination, &[0, 17, h, l], payload)
     }
 
-    /// Whether the checksum of a datagram over IPv6 is correct: there has to be one (RFC 8200
-    /// section 8.1).
+    /// Whether the checksum of a datagram over IPv6 is right: there has to be one (RFC 8200 section
+    /// 8.1). The payload has to end as in [`UdpHeader::is_right_ipv4`]. The destination is that of
+    /// the header, which a routing header can have changed.
     pub fn is_right_ipv6(&self, ip: &Ipv6Header, payload: &[u8]) -> bool
-        ensures right { (header : List ℕ) → IsUdpLayout self.now header → (IsTrue result
-            ↔ ((self.now.checksum ≢ 0) × (ones_complement_sum
-            (udp_pieces_v6 ip.now self.now.length header payload.now) ≡ 65535))) }
+        ensures right { (header : List ℕ) → IsUdpLayout self.now header →
+            (IsTrue result ↔ IsUdpRightIpv6 ip.now self.now header payload.now) }
     {
         let [h, l] = self.length.to_be_bytes();
         self.checksum != 0

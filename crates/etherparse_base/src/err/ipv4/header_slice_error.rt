@@ -24,8 +24,11 @@ impl HeaderSliceError {
     ///
     /// ```
     /// let (outer, payload) = Ipv4Header::from_slice(packet)?;
+    /// if outer.protocol != IpNumber::IPV4 || outer.is_fragmenting_payload() {
+    ///     return Ok(None);
+    /// }
     /// match Ipv4Header::from_slice(payload) {
-    ///     Ok(inner) => Ok(inner),
+    ///     Ok(inner) => Ok(Some(inner)),
     ///     Err(e) => Err(e.add_slice_offset(outer.header_len())),
     /// }
     /// ```
