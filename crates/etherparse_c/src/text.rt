@@ -7,9 +7,9 @@ ghost use Rattle.std.specs.List.{flat_map};
 ghost use Rattle.etherparse.specs.Layer.{layer_text, layer_title};
 ghost use Rattle.etherparse.specs.LenSource.{len_source_text};
 ghost use Rattle.etherparse.specs.ValueType.{value_type_text};
-ghost use Rattle.etherparse.specs.declared.LenSource.{LenSource};
 ghost use Rattle.etherparse.specs.declared.err.Layer.{Layer};
 ghost use Rattle.etherparse.specs.declared.err.ValueType.{ValueType};
+ghost use Rattle.etherparse_c.specs.Error.{source_in_c};
 ghost use Rattle.etherparse_c.specs.ErrorText.{GivesText, error_text, len_text, len_text_in};
 ghost use Rattle.etherparse_c.specs.ErrorText.{value_text, value_text_of, version_text, with_text};
 
@@ -133,9 +133,9 @@ fn put_len_in(
     requires short_title { length title.now ≤ 64 }
     requires short_layer { length layer.now ≤ 64 }
     requires short_source { length source.now ≤ 64 }
-    ensures gives { (l : Layer) → (s : LenSource) → title.now ≡ layer_title l →
-        layer.now ≡ layer_text l → source.now ≡ len_source_text s →
-        GivesText (len_text_in error.now l s) text.old text.new result }
+    ensures gives { (l : Layer) → title.now ≡ layer_title l → layer.now ≡ layer_text l →
+        source.now ≡ len_source_text (source_in_c l) →
+        GivesText (len_text_in error.now l) text.old text.new result }
 {
     let mut required_len = Buffer::new();
     let mut len = Buffer::new();
