@@ -307,6 +307,7 @@ fn number_at(numbers: &[usize], place: usize) -> usize
 
 // Writes a piece from an offset of a buffer on, as much of it as there is room for; answers the
 // offset behind it.
+#[inline(never)]
 fn put_at(piece: &[u8], offset: usize, text: &mut [u8]) -> usize
     requires fits { offset + length piece.now < 2 ^ 64 }
     ensures written { text.new ≡ with_piece piece.now offset text.old }
