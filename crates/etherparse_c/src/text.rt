@@ -314,12 +314,12 @@ fn put_at(piece: &[u8], offset: usize, text: &mut [u8]) -> usize
     ensures len { result ≡ offset + length piece.now }
 {
     let end = offset + piece.len();
-    if offset >= text.len() {
-        return end;
-    }
-    // Byte by byte: of two slices the compiler can not tell that they lie apart, and a copy as a
-    // whole would be a call of `memmove`, which the library needs nowhere else.
-    for i in 0..piece.len().min(text.len() - offset) {
+    // Byte by byte, each with its own test for room: the compiler leaves this loop as short as it
+    // is, and calls neither `memcpy` nor `memmove` for it.
+    for i in 0..piece.len() {
+        if offset + i >= text.len() {
+            return end;
+        }
         text[offset + i] = piece[i];
     }
     end
