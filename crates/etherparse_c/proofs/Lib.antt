@@ -1,3 +1,4 @@
 mod Answered
+mod ErrorTexts
 mod Fields
 mod Texts

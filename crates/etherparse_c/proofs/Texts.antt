@@ -1,22 +1,12 @@
 -- Texts in a buffer, as far as there is room.
-use Rattle.std.proofs.Common.{ℕ, ◌≡◌, ◌==◌, false, true, ◌+◌, ◌-◌, ◌<◌, ◌≤◌, ◌++◌, ◌∙◌, List, [], ◌∷◌, ap, arith, refl, drop, get_or, length, length-append, min, slice_set, suc, take, take-append-drop}
-use Rattle.std.proofs.lemmas.List.{append-nil, append_assoc, drop_all, drop_more, length-drop, length-take, set_at, take_more}
-use Rattle.std.proofs.lemmas.Grind.{flat_map-append}
+use Rattle.std.proofs.Common.{Bool, ℕ, ◌≡◌, ◌==◌, false, true, ◌+◌, ◌-◌, ◌<◌, ◌≤◌, ◌++◌, ◌∙◌, List, [], ◌∷◌, ap, arith, refl, drop, get_or, length, length-append, min, slice_set, suc, sym, take, zero}
+use Rattle.std.proofs.lemmas.List.{append-nil, append_assoc, drop-drop, drop_all, drop_more, length-drop, length-take, set_at, take_more}
+use lib.Seq.{take-nil}
+use Rattle.std.specs.Borrow.{Bor}
+use Rattle.std.specs.Int.{from_bool}
 use Rattle.std.specs.List.{flat_map}
 use Rattle.etherparse_c.specs.ErrorText.{with_text}
-
--- the first pieces and one more
-pub one_more : {X : Type 0} (f : X → List ℕ) (xs : List X) (i : ℕ) (d : X) → i < length xs
-    → flat_map f (take (i + 1) xs) ≡ flat_map f (take i xs) ++ f (get_or xs i d)
-one_more f xs i d below = ap (flat_map f) (take_more xs i d below) ∙ flat_map-append f (take i xs) (get_or xs i d ∷ [])
-    ∙ ap (λ l. flat_map f (take i xs) ++ l) (append-nil (f (get_or xs i d)))
-
--- the first pieces are no longer than all of them
-pub part_le : {X : Type 0} (f : X → List ℕ) (xs : List X) (i : ℕ) → length (flat_map f (take i xs)) ≤ length (flat_map f xs)
-part_le f xs i =
-    let whole = ap (λ l. length (flat_map f l)) (take-append-drop i xs) in
-    let parts = ap length (flat_map-append f (take i xs) (drop i xs)) in
-    omega (arith, whole, parts, length-append (flat_map f (take i xs)) (flat_map f (drop i xs)))
+use Rattle.etherparse_c.specs.Private.Template.{IsWritten, filled, first_number, first_word, part_of, with_piece}
 
 -- a piece behind a text
 pub put_behind : (text piece before : List ℕ) (k m r : ℕ) → k ≡ length text → m ≡ length text + length piece → r ≡ length before - length text
@@ -72,10 +62,6 @@ end_of text (x ∷ xs) now k last a b e m =
     let at : last ≡ min (length text) (length xs) = omega (arith, a, m, long) in
     rw b' (ended text x xs last at)
 
--- the pieces of a place behind a text
-pub placed : (text a b c d e dot : List ℕ) → text ++ (a ++ b ++ c ++ d ++ e) ++ dot ≡ text ++ (a ++ (b ++ (c ++ (d ++ (e ++ dot)))))
-placed text a b c d e dot = simp append_assoc refl
-
 -- one byte more of a piece
 pub one_byte_more : (before piece now : List ℕ) (offset i byte : ℕ) → offset + i < length before → i < length piece → byte ≡ get_or piece i 0
     → now ≡ take offset before ++ take i piece ++ drop (offset + i) before
@@ -88,3 +74,65 @@ one_byte_more before piece now offset i byte room some is e =
     let same : offset + (i + 1) ≡ offset + i + 1 = omega arith in
     rw (e', set_at p (get_or before (offset + i) 0) (drop (offset + i + 1) before) byte (offset + i) len, is, take_more piece i 0 some, same)
     (simp append_assoc refl)
+
+-- nothing is written yet
+pub nothing : (text : List ℕ) → IsWritten [] text 0 text
+nothing text = record { as_long = refl; stands = rw (take-nil (length text)) refl }
+
+-- what a loop over a template has done
+pub record IsFilled (template : List ℕ) (words : List (Bor (List ℕ))) (numbers : List ℕ) (start : ℕ) (old : List ℕ) (i word number len : ℕ) (now : List ℕ) : Type 0 where
+  pub done : List ℕ
+  pub whole : filled template words numbers ≡ done ++ filled (drop i template) (drop word words) (drop number numbers)
+  pub written : (so_far before : List ℕ) → IsWritten so_far before start old → IsWritten (so_far ++ done) before len now
+
+pub nothing_done : (template : List ℕ) (words : List (Bor (List ℕ))) (numbers : List ℕ) (start : ℕ) (old : List ℕ)
+    → IsFilled template words numbers start old 0 0 0 start old
+nothing_done template words numbers start old = record { done = []; whole = refl; written = λ so_far before w. rw (append-nil so_far) w }
+
+-- the piece for one byte more
+pub one_piece_more : (template : List ℕ) (words : List (Bor (List ℕ))) (numbers : List ℕ) (start : ℕ) (old : List ℕ) (i word number len : ℕ) (now after : List ℕ)
+    (byte : ℕ) (piece : List ℕ) → i < length template → byte ≡ get_or template i 0
+    → piece ≡ part_of byte (first_word (drop word words)) (first_number (drop number numbers))
+    → after ≡ with_piece piece len now → IsFilled template words numbers start old i word number len now
+    → IsFilled template words numbers start old (i + 1) (word + from_bool (byte == 36)) (number + from_bool (byte == 35)) (len + length piece) after
+one_piece_more template words numbers start old i word number len now after byte piece below at is e f =
+    let next : filled (drop i template) (drop word words) (drop number numbers)
+    ≡ piece ++ filled (drop (i + 1) template) (drop (word + from_bool (byte == 36)) words) (drop (number + from_bool (byte == 35)) numbers) =
+    rw (is, at, drop_more template i 0 below, ← drop-drop (from_bool (get_or template i 0 == 36)) word words, ← drop-drop (from_bool (get_or template i 0 == 35)) number numbers) refl in
+    record {
+      done = f.done ++ piece;
+      whole = f.whole ∙ ap (λ l. f.done ++ l) next ∙ sym (append_assoc f.done piece _);
+      written = λ so_far before w.
+          let x = f.written so_far before w in
+          rw (← append_assoc so_far f.done piece) (record {
+            as_long = omega (arith, x.as_long, length-append (so_far ++ f.done) piece);
+            stands = put_next (so_far ++ f.done) piece before now after len x.as_long x.stands e;
+          });
+    }
+
+-- behind the last byte the whole text is written
+pub all_filled : (template : List ℕ) (words : List (Bor (List ℕ))) (numbers : List ℕ) (start : ℕ) (old : List ℕ) (i word number len : ℕ) (now : List ℕ) → length template ≤ i
+    → IsFilled template words numbers start old i word number len now
+    → (so_far before : List ℕ) → IsWritten so_far before start old → IsWritten (so_far ++ filled template words numbers) before len now
+all_filled template words numbers start old i word number len now past f so_far before w =
+    let none : filled (drop i template) (drop word words) (drop number numbers) ≡ [] = rw (drop_all i template past) refl in
+    rw (f.whole, none, append-nil f.done) (f.written so_far before w)
+
+pub from_bool_le : (b : Bool) → from_bool b ≤ 1
+from_bool_le true = omega arith
+from_bool_le false = omega arith
+
+-- a text in three parts, of which the first is the same in other words
+pub in_parts : (first place dot written : List ℕ) → first ≡ written → written ++ place ++ dot ≡ first ++ place ++ dot
+in_parts first place dot written e = rw e refl
+
+-- each word is no longer than all of them
+pub first_word_le : (words : List (Bor (List ℕ))) (place : ℕ) → length (first_word (drop place words)) ≤ length (flat_map (λ (word : Bor (List ℕ)). word.now) words)
+first_word_le [] zero = omega arith
+first_word_le [] (suc n) = omega arith
+first_word_le (w ∷ ws) zero = omega (arith, length-append w.now (flat_map (λ (word : Bor (List ℕ)). word.now) ws))
+first_word_le (w ∷ ws) (suc n) = omega (arith, first_word_le ws n, length-append w.now (flat_map (λ (word : Bor (List ℕ)). word.now) ws))
+
+-- the pieces of a place
+pub nested : (a b c d e : List ℕ) → a ++ b ++ c ++ d ++ e ≡ a ++ (b ++ (c ++ (d ++ e)))
+nested a b c d e = simp append_assoc refl

@@ -1,8 +1,14 @@
 -- The errors of the library as C has them: each by its numbers.
 use Rattle.std.specs.Prelude.{ℕ}
+use Rattle.etherparse.specs.declared.LenSource.{LenSource}
+use Rattle.etherparse.specs.declared.LenSource.TheVariants as source
 use Rattle.etherparse.specs.declared.err.Layer.{Layer}
 use Rattle.etherparse.specs.declared.err.Layer.TheVariants as layer
 use Rattle.etherparse.specs.declared.err.LenError.{LenError}
+use Rattle.etherparse.specs.declared.err.ValueTooBigError as value_error
+use Rattle.etherparse.specs.declared.err.ValueType.{ValueType}
+use Rattle.etherparse.specs.declared.err.ValueType.TheVariants as value
+use Rattle.etherparse.specs.declared.err.ipv4.BadOptionsLen.{BadOptionsLen}
 use Rattle.etherparse.specs.declared.err.ipv4.HeaderError.TheVariants as ipv4_content
 use Rattle.etherparse.specs.declared.err.ipv4.HeaderSliceError as ipv4
 use Rattle.etherparse.specs.declared.err.ipv4.HeaderSliceError.TheVariants as ipv4_slice
@@ -32,6 +38,11 @@ layer_in_c layer.Ipv4Packet = 2
 layer_in_c layer.Ipv6Header = 3
 layer_in_c layer.Ipv6ExtHeader = 4
 layer_in_c _ = 0
+
+-- where the length comes from that an error of one of these layers is about
+abbrev pub source_in_c : Layer → LenSource
+source_in_c layer.Ipv4Packet = source.Ipv4HeaderTotalLen
+source_in_c _ = source.Slice
 
 -- the layer, the length that it requires, the one that there is, and the place
 abbrev pub len_error_in_c : LenError → Error
@@ -67,3 +78,26 @@ chain_error_in_c (chain.TooMany limit number place) = record no_error {
   layer_start_offset = place;
   limit = limit;
 }
+
+-- the values that can be too big, and 0 for all others
+abbrev pub value_in_c : ValueType → ℕ
+value_in_c value.IpFragmentOffset = 1
+value_in_c value.IpDscp = 2
+value_in_c value.IpEcn = 3
+value_in_c value.Ipv6FlowLabel = 4
+value_in_c value.Ipv4PayloadLength = 5
+value_in_c value.Ipv6PayloadLength = 6
+value_in_c _ = 0
+
+-- of a value that is too big: which one, the value, and the greatest that is allowed
+abbrev pub value_error_in_c : value_error.ValueTooBigError ℕ → Error
+value_error_in_c e = record no_error {
+  kind = 5;
+  number = value_in_c e.value_type;
+  len = e.actual;
+  limit = e.max_allowed;
+}
+
+-- of a length that options cannot have
+abbrev pub options_error_in_c : BadOptionsLen → Error
+options_error_in_c e = record no_error { kind = 6; len = e.bad_len }

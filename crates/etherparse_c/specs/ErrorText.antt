@@ -5,8 +5,6 @@ use Rattle.etherparse.specs.Ipv4Errors.{bad_options_len_text, ipv4_header_error_
 use Rattle.etherparse.specs.Ipv6Errors.{chain_error_text, ipv6_header_error_text}
 use Rattle.etherparse.specs.LenError.{len_error_text}
 use Rattle.etherparse.specs.ValueTooBigError.{value_too_big_error_text}
-use Rattle.etherparse.specs.declared.LenSource.{LenSource}
-use Rattle.etherparse.specs.declared.LenSource.TheVariants as source
 use Rattle.etherparse.specs.declared.err.Layer.{Layer}
 use Rattle.etherparse.specs.declared.err.Layer.TheVariants as layer
 use Rattle.etherparse.specs.declared.err.ValueType.{ValueType}
@@ -14,14 +12,15 @@ use Rattle.etherparse.specs.declared.err.ValueType.TheVariants as value
 use Rattle.etherparse.specs.declared.err.ipv4.HeaderError.TheVariants as ipv4
 use Rattle.etherparse.specs.declared.err.ipv6.ChainError.TheVariants as chain
 use Rattle.etherparse.specs.declared.err.ipv6.HeaderError.TheVariants as ipv6
+use Rattle.etherparse_c.specs.Error.{source_in_c}
 use Rattle.etherparse_c.specs.declared.answer.Error.{Error}
 
 -- of a length that is too small, in this layer
-abbrev pub len_text_in : Error → Layer → LenSource → List ℕ
-len_text_in e l s = len_error_text (record {
+abbrev pub len_text_in : Error → Layer → List ℕ
+len_text_in e l = len_error_text (record {
   required_len = e.required_len;
   len = e.len;
-  len_source = s;
+  len_source = source_in_c l;
   layer = l;
   layer_start_offset = e.layer_start_offset;
 })
@@ -34,10 +33,10 @@ value_text_of e v = value_too_big_error_text
 -- by the number of the layer
 abbrev pub len_text : Error → List ℕ
 len_text e =
-    if e.layer == 1 then len_text_in e layer.Ipv4Header source.Slice
-    else (if e.layer == 2 then len_text_in e layer.Ipv4Packet source.Ipv4HeaderTotalLen
-    else (if e.layer == 3 then len_text_in e layer.Ipv6Header source.Slice
-    else (if e.layer == 4 then len_text_in e layer.Ipv6ExtHeader source.Slice else [])))
+    if e.layer == 1 then len_text_in e layer.Ipv4Header
+    else (if e.layer == 2 then len_text_in e layer.Ipv4Packet
+    else (if e.layer == 3 then len_text_in e layer.Ipv6Header
+    else (if e.layer == 4 then len_text_in e layer.Ipv6ExtHeader else [])))
 
 abbrev pub version_text : Error → List ℕ
 version_text e =

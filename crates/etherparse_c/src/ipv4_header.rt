@@ -6,9 +6,10 @@ ghost use Rattle.etherparse.specs.HeaderChecksum.{KeepsChecksum, header_checksum
 ghost use Rattle.etherparse.specs.Ipv4Header.{ReadsIpv4, default_ipv4_header};
 ghost use Rattle.etherparse.specs.Ipv4Options.{IsOptionsLen};
 ghost use Rattle.etherparse.specs.WordSums.{updated_checksum};
+ghost use Rattle.etherparse.specs.declared.err.ValueType.TheVariants.{Ipv4PayloadLength};
 ghost use Rattle.etherparse.specs.declared.net.ipv4_header.Ipv4Header.{Ipv4Header as Header};
 ghost use Rattle.etherparse_c.specs.Answer.{GivesAnswer};
-ghost use Rattle.etherparse_c.specs.Error.{no_error};
+ghost use Rattle.etherparse_c.specs.Error.{no_error, options_error_in_c, value_error_in_c};
 ghost use Rattle.etherparse_c.specs.Ipv4Answers.{AreIpv4Lengths, AreWrittenForIpv4};
 ghost use Rattle.etherparse_c.specs.Ipv4Answers.{ipv4_bytes_in_c, ipv4_reading_in_c};
 ghost use Rattle.etherparse_c.specs.Ipv4Fields.{AreWithinBounds, StandForIpv4, ipv4_fields_of};
@@ -146,7 +147,11 @@ pub extern "C" fn etherparse_ipv4_new(
       });
     } }
     ensures refused { 65515 < payload_len → result ≡ record {
-      error = record no_error { kind = 5; number = 5; len = payload_len; limit = 65515 };
+      error = value_error_in_c (record {
+        actual = payload_len;
+        max_allowed = 65515;
+        value_type = Ipv4PayloadLength;
+      });
       fields = ipv4_fields_of zero_ipv4_header;
     } }
 {
@@ -247,7 +252,7 @@ pub extern "C" fn etherparse_ipv4_lengths(total_len: u16, options_len: u8) -> Ip
     ensures value { IsOptionsLen options_len → (header : Header) → header.total_len ≡ total_len →
         length header.options ≡ options_len → AreIpv4Lengths result header }
     ensures refused { ¬ IsOptionsLen options_len → result ≡ record {
-      error = record no_error { kind = 6; len = options_len };
+      error = options_error_in_c (record { bad_len = options_len });
       payload_len = 0;
       max_payload_len = 0;
       header_len = 0;

@@ -11,6 +11,7 @@ pub mod ipv4_view;
 pub mod ipv6_header;
 pub mod ipv6_view;
 pub mod ipv6_walk;
+mod laws;
 mod room;
 pub mod text;
 

@@ -1,17 +1,21 @@
 //! The text of an error, in the words of the library.
 
-ghost use Rattle.std.specs.Prelude.{ℕ, ◌≡◌, ◌+◌, ◌-◌, ◌<◌, ◌≤◌, ◌^◌, ◌++◌};
+ghost use Rattle.std.specs.Prelude.{ℕ, ◌≡◌, ◌+◌, ◌-◌, ◌*◌, ◌<◌, ◌≤◌, ◌^◌, ◌++◌};
 ghost use Rattle.std.specs.Prelude.{List, drop, length, take};
 ghost use Rattle.std.specs.Fmt.{decimal};
 ghost use Rattle.std.specs.List.{flat_map};
 ghost use Rattle.etherparse.specs.Layer.{layer_text, layer_title};
+ghost use Rattle.etherparse.specs.LenError.{place_text};
 ghost use Rattle.etherparse.specs.LenSource.{len_source_text};
 ghost use Rattle.etherparse.specs.ValueType.{value_type_text};
-ghost use Rattle.etherparse.specs.declared.LenSource.{LenSource};
 ghost use Rattle.etherparse.specs.declared.err.Layer.{Layer};
+ghost use Rattle.etherparse.specs.declared.err.LenError.{LenError};
 ghost use Rattle.etherparse.specs.declared.err.ValueType.{ValueType};
+ghost use Rattle.etherparse_c.specs.Error.{source_in_c};
 ghost use Rattle.etherparse_c.specs.ErrorText.{GivesText, error_text, len_text, len_text_in};
 ghost use Rattle.etherparse_c.specs.ErrorText.{value_text, value_text_of, version_text, with_text};
+ghost use Rattle.etherparse_c.specs.Private.Template.{IsWritten, filled, first_number, first_word};
+ghost use Rattle.etherparse_c.specs.Private.Template.{part_of, with_piece};
 
 use crate::answer::{
     BAD_OPTIONS_LEN, Error, HEADER_LENGTH_SMALLER_THAN_HEADER, IP_DSCP, IP_ECN, IP_FRAGMENT_OFFSET,
@@ -33,52 +37,36 @@ pub extern "C" fn etherparse_error_text(error: &Error, text: &mut [u8]) -> usize
             if error.len < error.required_len {
                 return put_len(error, text);
             }
-            return put(&[], text);
+            return put("", &[], &[], text);
         }
         UNEXPECTED_VERSION => return put_version(error, text),
-        HEADER_LENGTH_SMALLER_THAN_HEADER => {
-            let mut ihl = Buffer::new();
-            return put(
-                &[
-                    "IPv4 Header Error: The 'internet header length' value '",
-                    short_digits(&mut ihl, error.number),
-                    "' present in the IPv4 header is smaller than the minimum size of an IPv4 \
-                     header. The minimum allowed value is '5'.",
-                ],
-                text,
-            );
-        }
-        TOO_MANY => {
-            let mut limit = Buffer::new();
-            let mut number = Buffer::new();
-            let mut place = Buffer::new();
-            return put(
-                &[
-                    "IPv6 Extension Header Error: More than ",
-                    digits(&mut limit, error.limit),
-                    " extension header(s) ('",
-                    short_digits(&mut number, error.number),
-                    "' starts at overall parsed byte ",
-                    digits(&mut place, error.layer_start_offset),
-                    ").",
-                ],
-                text,
-            );
-        }
+        HEADER_LENGTH_SMALLER_THAN_HEADER => return put(
+            "IPv4 Header Error: The 'internet header length' value '#' present in the IPv4 header \
+             is smaller than the minimum size of an IPv4 header. The minimum allowed value is '5'.",
+            &[],
+            &[usize::from(error.number)],
+            text,
+        ),
+        TOO_MANY => return put(
+            "IPv6 Extension Header Error: More than # extension header(s) ('#' starts at overall \
+             parsed byte #).",
+            &[],
+            &[
+                error.limit,
+                usize::from(error.number),
+                error.layer_start_offset,
+            ],
+            text,
+        ),
         VALUE_TOO_BIG => return put_value(error, text),
-        BAD_OPTIONS_LEN => {
-            let mut len = Buffer::new();
-            return put(
-                &[
-                    "Slice of length ",
-                    digits(&mut len, error.len),
-                    " cannot be set as IPv4 header options. The length must be a multiple of 4 \
-                     and at maximum 40.",
-                ],
-                text,
-            );
-        }
-        _ => return put(&[], text),
+        BAD_OPTIONS_LEN => return put(
+            "Slice of length # cannot be set as IPv4 header options. The length must be a multiple \
+             of 4 and at maximum 40.",
+            &[],
+            &[error.len],
+            text,
+        ),
+        _ => return put("", &[], &[], text),
     }
 }
 
@@ -116,7 +104,7 @@ fn put_len(error: &Error, text: &mut [u8]) -> usize
             "slice length",
             text,
         ),
-        _ => return put(&[], text),
+        _ => return put("", &[], &[], text),
     }
 }
 
@@ -133,77 +121,66 @@ fn put_len_in(
     requires short_title { length title.now ≤ 64 }
     requires short_layer { length layer.now ≤ 64 }
     requires short_source { length source.now ≤ 64 }
-    ensures gives { (l : Layer) → (s : LenSource) → title.now ≡ layer_title l →
-        layer.now ≡ layer_text l → source.now ≡ len_source_text s →
-        GivesText (len_text_in error.now l s) text.old text.new result }
+    ensures gives { (l : Layer) → title.now ≡ layer_title l → layer.now ≡ layer_text l →
+        source.now ≡ len_source_text (source_in_c l) →
+        GivesText (len_text_in error.now l) text.old text.new result }
 {
-    let mut required_len = Buffer::new();
-    let mut len = Buffer::new();
-    let mut place = Buffer::new();
-    let required_len = digits(&mut required_len, error.required_len);
-    let len = digits(&mut len, error.len);
-    if error.layer_start_offset == 0 {
-        return put(
-            &[
-                title,
-                ": Not enough data to decode '",
-                layer,
-                "'. ",
-                required_len,
-                " byte(s) would be required, but only ",
-                len,
-                " byte(s) are available based on the ",
-                source,
-                ".",
-            ],
-            text,
-        );
-    }
-    return put(
-        &[
-            title,
-            ": Not enough data to decode '",
-            layer,
-            "'. ",
-            required_len,
-            " byte(s) would be required, but only ",
-            len,
-            " byte(s) are available based on the ",
-            source,
-            " ('",
-            layer,
-            "' starts at overall parsed byte ",
-            digits(&mut place, error.layer_start_offset),
-            ").",
-        ],
+    let len = fill(
+        "$: Not enough data to decode '$'. # byte(s) would be required, but only # byte(s) are \
+         available based on the $",
+        &[title, layer, source],
+        &[error.required_len, error.len],
+        0,
         text,
     );
+    let len = fill_place(layer, error.layer_start_offset, len, text);
+    let len = fill(".", &[], &[], len, text);
+    end_at(len, text);
+    len
+}
+
+// Where a layer starts, which is left out at byte 0.
+fn fill_place(layer: &'static str, offset: usize, start: usize, text: &mut [u8]) -> usize
+    requires short { length layer.now ≤ 64 }
+    requires start { start < 2 ^ 32 }
+    ensures written { (e : LenError) → e.layer_start_offset ≡ offset →
+        layer.now ≡ layer_text e.layer → (so_far before : List ℕ) →
+        IsWritten so_far before start text.old →
+        IsWritten (so_far ++ place_text e) before result text.new }
+    ensures bounded { result ≤ start + 2 ^ 17 }
+{
+    if offset == 0 {
+        return start;
+    }
+    fill(
+        " ('$' starts at overall parsed byte #)",
+        &[layer],
+        &[offset],
+        start,
+        text,
+    )
 }
 
 // The text of another version than the one that is read, by the layer.
 fn put_version(error: &Error, text: &mut [u8]) -> usize
     ensures gives { GivesText (version_text error.now) text.old text.new result }
 {
-    let mut number = Buffer::new();
-    let number = short_digits(&mut number, error.number);
     match error.layer {
         IPV4_HEADER => return put(
-            &[
-                "IPv4 Header Error: Encountered '",
-                number,
-                "' as IP version number in the IPv4 header (must be '4' in an IPv4 header).",
-            ],
+            "IPv4 Header Error: Encountered '#' as IP version number in the IPv4 header (must be \
+             '4' in an IPv4 header).",
+            &[],
+            &[usize::from(error.number)],
             text,
         ),
         IPV6_HEADER => return put(
-            &[
-                "IPv6 Header Error: Encountered '",
-                number,
-                "' as IP version number in the IPv6 header (must be '6' in an IPv6 header).",
-            ],
+            "IPv6 Header Error: Encountered '#' as IP version number in the IPv6 header (must be \
+             '6' in an IPv6 header).",
+            &[],
+            &[usize::from(error.number)],
             text,
         ),
-        _ => return put(&[], text),
+        _ => return put("", &[], &[], text),
     }
 }
 
@@ -226,7 +203,7 @@ fn put_value(error: &Error, text: &mut [u8]) -> usize
             text,
         ),
         IPV6_PAYLOAD_LENGTH => return put_value_of(error, "IPv6 Header 'Payload Length'", text),
-        _ => return put(&[], text),
+        _ => return put("", &[], &[], text),
     }
 }
 
@@ -237,75 +214,120 @@ fn put_value_of(error: &Error, name: &'static str, text: &mut [u8]) -> usize
     ensures gives { (v : ValueType) → name.now ≡ value_type_text v →
         GivesText (value_text_of error.now v) text.old text.new result }
 {
-    let mut value = Buffer::new();
-    let mut most = Buffer::new();
-    return put(
-        &[
-            "Error '",
-            digits(&mut value, error.len),
-            "' is too big to be a '",
-            name,
-            "' (maximum allowed value is '",
-            digits(&mut most, error.limit),
-            "')",
-        ],
+    put(
+        "Error '#' is too big to be a '$' (maximum allowed value is '#')",
+        &[name],
+        &[error.len, error.limit],
         text,
-    );
+    )
 }
 
-// A number in decimal digits.
+// Writes a template to the front of a buffer, and a byte 0 behind it.
 #[inline(never)]
-fn digits(buffer: &mut Buffer, number: usize) -> &str
-    ensures text { result.now ≡ decimal number }
-    ensures short { length result.now ≤ 20 }
-{
-    buffer.format(number)
-}
-
-// A number of 16 bits in decimal digits.
-fn short_digits(buffer: &mut Buffer, number: u16) -> &str
-    ensures text { result.now ≡ decimal number }
-    ensures short { length result.now ≤ 20 }
-{
-    digits(buffer, usize::from(number))
-}
-
-// Writes pieces one after the other to the front of a buffer, and a byte 0 behind them.
-#[inline(never)]
-fn put(pieces: &[&str], text: &mut [u8]) -> usize
-    requires fits { length (flat_map (λ piece. piece.now) pieces.now) < 2 ^ 64 }
-    ensures gives { GivesText (flat_map (λ piece. piece.now) pieces.now)
+fn put(template: &str, words: &[&str], numbers: &[usize], text: &mut [u8]) -> usize
+    requires few { length template.now ≤ 512 }
+    requires short { length (flat_map (λ word. word.now) words.now) ≤ 256 }
+    ensures gives { GivesText (filled template.now words.now numbers.now)
         text.old text.new result }
 {
-    let mut len = 0;
-    for piece in pieces {
-        put_at(piece.as_bytes(), len, text);
-        len += piece.len();
-    }
+    let len = fill(template, words, numbers, 0, text);
     end_at(len, text);
     len
 }
 
-// Writes a piece from an offset of a buffer on, as much of it as there is room for.
-fn put_at(piece: &[u8], offset: usize, text: &mut [u8])
-    ensures written { text.new ≡ take offset text.old
-        ++ (take (length text.old - offset) piece.now
-        ++ drop (offset + length piece.now) text.old) }
+// Writes a template behind what stands in a buffer, as far as there is room: each `$` is the next
+// of the words, and each `#` the next of the numbers. Answers how long the text is then.
+#[inline(never)]
+fn fill(template: &str, words: &[&str], numbers: &[usize], start: usize, text: &mut [u8]) -> usize
+    requires few { length template.now ≤ 512 }
+    requires short { length (flat_map (λ word. word.now) words.now) ≤ 256 }
+    requires start { start < 2 ^ 32 }
+    ensures written { (so_far before : List ℕ) → IsWritten so_far before start text.old →
+        IsWritten (so_far ++ filled template.now words.now numbers.now) before result text.new }
+    ensures bounded { result ≤ start + 2 ^ 17 }
 {
-    if offset >= text.len() {
-        return;
+    let bytes = template.as_bytes();
+    let mut len = start;
+    let mut word = 0;
+    let mut number = 0;
+    for byte in bytes {
+        len = fill_one(
+            *byte,
+            word_at(words, word),
+            number_at(numbers, number),
+            len,
+            text,
+        );
+        word += usize::from(*byte == b'$');
+        number += usize::from(*byte == b'#');
     }
-    // Byte by byte: of two slices the compiler can not tell that they lie apart, and a copy as a
-    // whole would be a call of `memmove`, which the library needs nowhere else.
-    for i in 0..piece.len().min(text.len() - offset) {
+    len
+}
+
+// Writes what stands for one byte of a template.
+fn fill_one(byte: u8, word: &str, number: usize, start: usize, text: &mut [u8]) -> usize
+    requires short { length word.now ≤ 256 }
+    requires start { start < 2 ^ 33 }
+    ensures written { text.new
+        ≡ with_piece (part_of byte word.now number) start text.old }
+    ensures len { result ≡ start + length (part_of byte word.now number) }
+    ensures bounded { result ≤ start + 256 }
+{
+    match byte {
+        b'$' => return put_at(word.as_bytes(), start, text),
+        b'#' => {
+            let mut buffer = Buffer::new();
+            return put_at(buffer.format(number).as_bytes(), start, text);
+        }
+        _ => return put_at(&[byte], start, text),
+    }
+}
+
+// The word at a place, or the empty one where there is none.
+fn word_at<'a>(words: &[&'a str], place: usize) -> &'a str
+    requires short { length (flat_map (λ word. word.now) words.now) ≤ 256 }
+    ensures value { result.now ≡ first_word (drop place words.now) }
+    ensures short { length result.now ≤ 256 }
+{
+    if place < words.len() {
+        return words[place];
+    }
+    ""
+}
+
+// The number at a place, or 0 where there is none.
+fn number_at(numbers: &[usize], place: usize) -> usize
+    ensures value { result ≡ first_number (drop place numbers.now) }
+{
+    if place < numbers.len() {
+        return numbers[place];
+    }
+    0
+}
+
+// Writes a piece from an offset of a buffer on, as much of it as there is room for; answers the
+// offset behind it.
+#[inline(never)]
+fn put_at(piece: &[u8], offset: usize, text: &mut [u8]) -> usize
+    requires fits { offset + length piece.now < 2 ^ 64 }
+    ensures written { text.new ≡ with_piece piece.now offset text.old }
+    ensures len { result ≡ offset + length piece.now }
+{
+    let end = offset + piece.len();
+    // Byte by byte, each with its own test for room: the compiler leaves this loop as short as it
+    // is, and calls neither `memcpy` nor `memmove` for it.
+    for i in 0..piece.len() {
+        if offset + i >= text.len() {
+            return end;
+        }
         text[offset + i] = piece[i];
     }
+    end
 }
 
 // Writes a byte 0 behind a text of this length, or as the last byte where it fills the buffer.
 fn end_at(len: usize, text: &mut [u8])
-    ensures written { (whole before : List ℕ) → length whole ≡ len →
-        text.old ≡ take (length before) whole ++ drop len before →
+    ensures written { (whole before : List ℕ) → IsWritten whole before len text.old →
         text.new ≡ with_text whole before }
 {
     if text.is_empty() {

@@ -4,5 +4,5 @@ use Rattle.etherparse_c.proofs.text.end_at.Goals as goal
 
 pub returns : goal.returns
 returns c = record {
-  written = λ whole before len text. end_of whole before _ _ _ len text (sym c.is_empty.ensures ∙ c.if-is_empty.false) c.min-last.ensures;
+  written = λ whole before w. end_of whole before _ _ _ (sym w.as_long) w.stands (sym c.is_empty.ensures ∙ c.if-is_empty.false) c.min-last.ensures;
 }

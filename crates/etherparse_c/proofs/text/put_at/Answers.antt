@@ -4,5 +4,8 @@ use Rattle.etherparse_c.proofs.text.put_at.Goals as goal
 
 pub loop-i-preserved : goal.loop-i-preserved
 loop-i-preserved c =
-    one_byte_more c.args.text.now c.args.piece.now c.loop-i.text c.args.offset c.loop-i.i _ (omega (arith, c.if-offset-text.false, c.min-i-end.ensures, c.loop-i-test.true))
-    (omega (arith, c.min-i-end.ensures, c.loop-i-test.true)) refl c.loop-i.invariant
+    let l = c.loop-i in (
+      omega (arith, c.if-offset-i.false, l.auto.text),
+      one_byte_more c.args.text.now c.args.piece.now l.text c.args.offset l.i _ (omega (arith, c.if-offset-i.false, l.auto.text)) (omega (arith, c.loop-i-test.true)) refl
+      l.invariant.1,
+    )

@@ -1,27 +1,22 @@
-use Rattle.std.proofs.Common.{append-nil, append_assoc, arith, codes, decimal, subst, sym}
+use Rattle.std.proofs.Common.{[], codes, refl, subst}
 use Rattle.std.proofs.lemmas.Bool.{lt-ltb}
-use Rattle.etherparse.specs.Layer.{layer_text}
-use Rattle.etherparse.specs.LenError.{lengths_text}
+use Rattle.etherparse.specs.LenError.{lengths_text, place_text}
 use Rattle.etherparse.specs.declared.err.LenError.{LenError}
-use Rattle.etherparse_c.proofs.Texts.{placed}
+use Rattle.etherparse_c.proofs.Texts.{in_parts, nothing}
+use Rattle.etherparse_c.specs.Error.{source_in_c}
 use Rattle.etherparse_c.specs.ErrorText.{GivesText}
 use Rattle.etherparse_c.proofs.text.put_len_in.Goals as goal
 
-pub returns-then-error-eq0 : goal.returns-then-error-eq0
-returns-then-error-eq0 c = record {
-  gives = λ l s title layer source.
-      rw (lt-ltb _ _ c.requires.below, c.if-error-eq0.true, ← title, ← layer, ← source, ← c.digits-required_len.ensures.text, ← c.digits-len.ensures.text)
-      (simp (append_assoc, append-nil) c.put.ensures.gives);
-}
-
 pub returns : goal.returns
 returns c = record {
-  gives = λ l s title layer source.
+  gives = λ l title layer source.
       let error = c.args.error.now in
-      let offset = error.layer_start_offset in
-      let e : LenError = record { required_len = error.required_len; len = error.len; len_source = s; layer = l; layer_start_offset = offset } in
-      let parts = placed (lengths_text e) (codes " ('") (layer_text l) (codes "' starts at overall parsed byte ") (decimal offset) (codes ")") (codes ".") in
-      rw (lt-ltb 0 offset (omega (arith, c.if-error-eq0.false))) (subst (λ x. GivesText x c.args.text.now c.put-2.new.text c.put-2.result) (sym parts)
-      (rw (lt-ltb _ _ c.requires.below, ← title, ← layer, ← source, ← c.digits-required_len.ensures.text, ← c.digits-len.ensures.text, ← c.digits.ensures.text)
-      (simp (append_assoc, append-nil) c.put-2.ensures.gives)));
+      let old = c.args.text.now in
+      let e : LenError = record { required_len = error.required_len; len = error.len; len_source = source_in_c l; layer = l; layer_start_offset = error.layer_start_offset } in
+      let lengths = c.fill-len.ensures.written [] old (nothing old) in
+      let placed = c.fill_place-len.ensures.written e refl layer _ old lengths in
+      let whole = c.fill-len-2.ensures.written _ old placed in
+      subst (λ x. GivesText x old c.end_at.new.text c.fill-len-2.result)
+      (in_parts (lengths_text e) (place_text e) (codes ".") _ (rw (lt-ltb _ _ c.requires.below, ← title, ← layer, ← source) refl))
+      (record { len = whole.as_long; written = c.end_at.ensures.written _ old whole });
 }
