@@ -1,7 +1,9 @@
 pub mod Lines
+pub mod Link
 pub mod Listing
 pub mod Output
 pub mod Packet
 pub mod Private
+pub mod Reading
 pub mod Status
 pub mod Totals

@@ -3,8 +3,10 @@
 
 mod arguments;
 mod lines;
+mod link;
 mod listing;
 mod packet;
+mod reading;
 mod run;
 mod status;
 mod totals;
