@@ -223,6 +223,42 @@ link_types() {
     behind 276 "\201\0$sent\0\12\10\0" "\201\0$sent\0\12\206\335" "\0\4$sent" 'type 0x0004'
 }
 
+# Keywords of IANA's registry of protocol numbers.
+keywords='1:ICMP 2:IGMP 4:IPv4 6:TCP 17:UDP 41:IPv6 46:RSVP 47:GRE 50:ESP 51:AH 58:IPv6-ICMP
+    59:IPv6-NoNxt 88:EIGRP 89:OSPFIGP 94:IPIP 103:PIM 108:IPComp 112:VRRP 115:L2TP 132:SCTP
+    136:UDPLite 137:MPLS-in-IP'
+
+# A packet of each of these protocols, and of some that have no keyword here. Its header has the
+# checksum 20142 less the number.
+protocols() {
+    {
+        dd if=stdin bs=1 count=20 2>/dev/null
+        number 101
+        for protocol in 0: 3: $keywords 255:; do
+            upper=${protocol%%:*}
+            number 1700000001
+            number 1001
+            number 20
+            number 20
+            printf '\105\0\0\24\0\0\100\0\100'
+            for byte in "$upper" $(((20142 - upper) / 256)) $(((20142 - upper) % 256)); do
+                printf "\\$(printf %03o "$byte")"
+            done
+            printf '\300\0\2\1\306\63\144\7'
+        done
+    } >"$room/input"
+    line=0
+    for protocol in 0: 3: $keywords 255:; do
+        line=$((line + 1))
+        upper=${protocol#*:}
+        echo "$line 1700000001.001001 192.0.2.1 > 198.51.100.7 ${upper:-${protocol%:}}" \
+            '- length 0 hops 64 fragment - checksums right none'
+    done >"$room/wanted"
+    closing "$line" "$line" 0 0 0 0 >"$room/wanted.errors"
+    run
+    judge 'protocols' $? 0
+}
+
 # Whatever byte is changed: the exit code is one of those that are written down, which no signal
 # gives, and unless it is 2 there is a closing line.
 changed_captures() {
@@ -284,6 +320,7 @@ for build; do
     arguments
     cut_captures
     link_types
+    protocols
     changed_captures
     failing_ends
 done
