@@ -133,14 +133,15 @@ number() {
     done
 }
 
-# record START HEADER PLACE LENGTH: a record with the time of the record of `stdin` that starts at
-# this byte, a link header as `printf` takes it, and so many bytes of `stdin` from this place.
+# record START HEADER PLACE LENGTH [ORIGINAL]: a record with the time of the record of `stdin` that
+# starts at this byte, a link header as `printf` takes it, and so many bytes of `stdin` from this
+# place. The frame had so many bytes, or no more than these.
 record() {
     printf "$2" >"$room/header"
     length=$(($(wc -c <"$room/header") + $4))
     dd if=stdin bs=1 skip="$1" count=8 2>/dev/null
     number "$length"
-    number "$length"
+    number "${5:-$length}"
     cat "$room/header"
     dd if=stdin bs=1 skip="$3" count="$4" 2>/dev/null
 }
@@ -168,6 +169,31 @@ behind() {
     fi
     run
     judge "link type $1, and $5" $? 0
+}
+
+# Packets that the capture cut: behind the ports, or type and code, or before that.
+cut_packets() {
+    {
+        dd if=stdin bs=1 count=20 2>/dev/null
+        number 101
+        record 24 '' 54 24 33
+        record 100 '' 134 23 40
+        record 176 '' 214 42 52
+        record 266 '' 296 21 36
+    } >"$room/input"
+    {
+        echo '1 1700000001.001001 192.0.2.1 > 198.51.100.7 UDP 53>40000 length 13' \
+            'hops 64 fragment - checksums right none cut 24/33'
+        echo '2 1700000002.002002 198.51.100.7 > 192.0.2.1 TCP - length 20' \
+            'hops 55 fragment - checksums right none cut 23/40'
+        echo '3 1700000003.003003 2001:db8::1 > 2001:db8::1:0:0:2 IPv6-ICMP 128/0 length 12' \
+            'hops 255 fragment - checksums none none cut 42/52'
+        echo '4 1700000004.004004 192.0.2.1 > 198.51.100.7 ICMP - length 16' \
+            'hops 64 fragment - checksums wrong none cut 21/36'
+    } >"$room/wanted"
+    closing 4 3 1 0 4 1 >"$room/wanted.errors"
+    run
+    judge 'packets that are cut' $? 0
 }
 
 # fronts TYPE HEADER: frames that end within this link header, at each of its bytes.
@@ -320,6 +346,7 @@ for build; do
     arguments
     cut_captures
     link_types
+    cut_packets
     protocols
     changed_captures
     failing_ends

@@ -3,7 +3,7 @@ use Rattle.std.proofs.Common.{ℕ, ◌≡◌, ◌-◌, List, [], length, arith, 
 use Rattle.std.specs.Fmt.{char_count, format_spec, padded_integral}
 use Rattle.uses.specs.Capture.{Recorded}
 use Rattle.uses.specs.declared.capture.FileHeader.{FileHeader}
-use Rattle.ipcap.specs.Lines.{record_line, zero_padded}
+use Rattle.ipcap.specs.Lines.{is_cut, record_line, zero_padded}
 use Rattle.ipcap.specs.Link.{link_type_of}
 use Rattle.ipcap.specs.Listing.{IsToldOfRecord, outcome_of}
 use Rattle.ipcap.specs.Reading.{ReadsFrame}
@@ -20,7 +20,7 @@ padded_with_zeros width number =
 
 -- the line of a record and what is counted with it
 pub told_of_record : (h : FileHeader) (before after : Totals) (found : Recorded) (reading : Reading)
-    → ReadsFrame (link_type_of h) found.bytes reading → after ≡ counted (outcome_of found reading) before
+    → ReadsFrame (link_type_of h) (is_cut found) found.bytes reading → after ≡ counted (outcome_of found reading) before
     → IsToldOfRecord h before found (record_line h.format.resolution after.records found reading) after
 told_of_record h before after found reading reads e = record {
   reading = reading;

@@ -1,3 +1,4 @@
+pub mod Cut
 pub mod Lines
 pub mod Link
 pub mod Listing

@@ -47,7 +47,7 @@ max_captured_len = 262144
 pub record IsToldOfRecord (header : FileHeader) (before : Totals) (found : Recorded)
     (line : List ℕ) (after : Totals) : Type 0 where
   pub reading : Reading
-  pub reads : ReadsFrame (link_type_of header) found.bytes reading
+  pub reads : ReadsFrame (link_type_of header) (is_cut found) found.bytes reading
   pub line_of : line ≡ record_line header.format.resolution (before.records + 1) found reading
   pub counts : after ≡ counted (outcome_of found reading) before
 

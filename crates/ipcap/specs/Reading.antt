@@ -1,27 +1,27 @@
 -- What is said of a frame.
 use Rattle.std.specs.Prelude.{ℕ, ◌≡◌, ◌||◌, Bool, true, false, List, Result, Ok, Err}
-use Rattle.uses.specs.IpSlice.{RefusesIp}
 use Rattle.ipcap.specs.Link.{packet_of}
-use Rattle.ipcap.specs.Packet.{IsShown, is_wrong}
+use Rattle.ipcap.specs.Packet.{IsRefused, IsShownOf, is_wrong}
 use Rattle.ipcap.specs.declared.link.NoPacket.{NoPacket}
 use Rattle.ipcap.specs.declared.packet.Address.TheVariants.{V4, V6}
 use Rattle.ipcap.specs.declared.reading.Reading.{Reading}
 use Rattle.ipcap.specs.declared.reading.Reading.TheVariants.{Other, Packet, Refused}
 
--- what is said of a packet is shown of it, or is why it is refused
-abbrev pub ReadsPacket : List ℕ → Reading → Type 0
-ReadsPacket packet (Packet shown) = IsShown packet shown
-ReadsPacket packet (Refused e) = RefusesIp packet e
-ReadsPacket packet (Other e) = ⊥
+-- what is said of a packet, which the capture can have cut, is shown of it, or is why it is refused
+abbrev pub ReadsPacket : Bool → List ℕ → Reading → Type 0
+ReadsPacket is_cut packet (Packet shown) = IsShownOf is_cut packet shown
+ReadsPacket is_cut packet (Refused e) = IsRefused is_cut packet e
+ReadsPacket is_cut packet (Other e) = ⊥
 
 -- what is said of a frame that has a packet is said of the packet; else it is why there is none
-abbrev pub ReadsCarried : Result (List ℕ) NoPacket → Reading → Type 0
-ReadsCarried (Ok packet) reading = ReadsPacket packet reading
-ReadsCarried (Err e) reading = reading ≡ Other e
+abbrev pub ReadsCarried : Bool → Result (List ℕ) NoPacket → Reading → Type 0
+ReadsCarried is_cut (Ok packet) reading = ReadsPacket is_cut packet reading
+ReadsCarried is_cut (Err e) reading = reading ≡ Other e
 
--- what is said of a frame of this link type
-abbrev pub ReadsFrame : ℕ → List ℕ → Reading → Type 0
-ReadsFrame link_type frame reading = ReadsCarried (packet_of link_type frame) reading
+-- what is said of a frame of this link type, which the capture can have cut
+abbrev pub ReadsFrame : ℕ → Bool → List ℕ → Reading → Type 0
+ReadsFrame link_type is_cut frame reading =
+    ReadsCarried is_cut (packet_of link_type frame) reading
 
 -- whether it is shown as a packet of version 4, and of version 6
 abbrev pub is_version_4 : Reading → Bool

@@ -2,9 +2,8 @@
 
 ghost use Rattle.std.specs.Prelude.{◌≡◌, ◌+◌, ◌≤◌, option_map};
 ghost use Rattle.std.specs.Result.{result_map_both};
-ghost use Rattle.ipcap.specs.Link.{is_ip_type, is_read, is_tag, packet_behind, packet_of};
-ghost use Rattle.ipcap.specs.Link.{family_of, packet_of_family, packet_of_loopback, past_tag};
-ghost use Rattle.ipcap.specs.Link.{past_tags, typed, typed_at};
+ghost use Rattle.ipcap.specs.Link.{family_of, is_read, packet_behind, packet_of};
+ghost use Rattle.ipcap.specs.Link.{packet_of_loopback, past_tag, past_tags, typed, typed_at};
 
 /// Why a frame carries no IP packet.
 #[derive(Clone, Copy, Debug, PartialEq, Eq)]

@@ -7,6 +7,7 @@ ghost use Rattle.std.specs.Io.KnownBytes.{Appends, IsAtEnd, Keeps, append_known,
 ghost use Rattle.uses.specs.Capture.{ReadsRecord, nanoseconds_in, number_in, record_len};
 ghost use Rattle.uses.specs.Capture.{recorded};
 ghost use Rattle.ipcap.specs.Listing.{IsToldOfLongRecord, IsToldOfRecord, max_captured_len};
+ghost use Rattle.ipcap.specs.Lines.{is_cut};
 ghost use Rattle.ipcap.specs.Listing.{outcome_of};
 ghost use Rattle.ipcap.specs.Private.Progress.{Skips, TellsFront, TellsKnown, Told, unless_quiet};
 ghost use Rattle.ipcap.specs.Private.Window.{unread};
@@ -64,6 +65,13 @@ fn make_room<W: Write>(text: &mut Text, writer: &mut W) -> io::Result<()>
     }
 }
 
+// Whether the capture cut the packet of a record.
+fn is_cut(captured: &Record) -> bool
+    ensures { result ≡ is_cut (recorded captured.now) }
+{
+    captured.bytes.len() < captured.original_len as usize
+}
+
 // What is counted of a record that is read.
 fn outcome(captured: &Record, reading: &Reading) -> Outcome
     ensures { result ≡ outcome_of (recorded captured.now) reading.now }
@@ -74,7 +82,7 @@ fn outcome(captured: &Record, reading: &Reading) -> Outcome
         is_other: reading.is_other(),
         is_refused: reading.is_refused(),
         is_skipped: false,
-        is_cut: captured.bytes.len() < captured.original_len as usize,
+        is_cut: is_cut(captured),
         is_wrong: reading.has_wrong_checksum(),
     }
 }
@@ -93,7 +101,7 @@ fn list_record<W: Write>(
         × Appends (append_known (W.contents writer.old) text.old.items)
         (append_known (W.contents writer.new) text.new.items) (unless_quiet is_quiet line)) }
 {
-    let reading = read_frame(header.link_type % 65_536, captured.bytes);
+    let reading = read_frame(header.link_type % 65_536, is_cut(captured), captured.bytes);
     let Some(after) = before.count(outcome(captured, &reading)) else {
         return Err(io::Error::from(ErrorKind::Other));
     };

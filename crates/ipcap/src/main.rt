@@ -2,6 +2,7 @@
 #![tactic(auto)]
 
 mod arguments;
+mod cut;
 mod lines;
 mod link;
 mod listing;

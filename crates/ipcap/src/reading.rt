@@ -17,13 +17,14 @@ pub enum Reading {
     Other(NoPacket),
 }
 
-/// What is said of a frame, by a link type that is read.
-pub fn read_frame(link_type: u32, frame: &[u8]) -> Reading
-    ensures { ReadsFrame link_type frame.now result }
+/// What is said of a frame, by a link type that is read. Where the capture cut the frame, the packet
+/// can be cut in its payload.
+pub fn read_frame(link_type: u32, is_cut: bool, frame: &[u8]) -> Reading
+    ensures { ReadsFrame link_type is_cut frame.now result }
 {
     match packet_of(link_type, frame) {
         Err(e) => Reading::Other(e),
-        Ok(packet) => match read_packet(packet) {
+        Ok(packet) => match read_packet(is_cut, packet) {
             Ok(shown) => Reading::Packet(shown),
             Err(e) => Reading::Refused(e),
         },
