@@ -1,7 +1,8 @@
 #!/bin/sh
 # Runs the built program as a process, and holds its exit code and all that it writes against what
 # is wanted: on the capture in `stdin`, on that capture cut at each of its bytes and with bytes
-# changed, and where standard input or output is closed, full or nobody reads it.
+# changed, on its packets behind the headers of each other link type, and where standard input or
+# output is closed, full or nobody reads it.
 #
 #     ./process.sh            both builds that `rt ci` leaves in out/: ipcap, and ipcap.by-rattle,
 #                             which Rattle's own compiler makes after it
@@ -48,15 +49,23 @@ run() {
     "$program" "$@" <"$room/input" >"$room/output" 2>"$room/errors"
 }
 
-# closing RECORDS IPV4 IPV6 WRONG: the closing line of a front of the capture.
+# closing RECORDS IPV4 IPV6 OTHER CUT WRONG: the closing line of a capture.
 closing() {
-    echo "$1 packets: $2 IPv4, $3 IPv6, 0 refused, 0 skipped, 0 cut, $4 with a wrong checksum"
+    echo "$1 packets: $2 IPv4, $3 IPv6, $4 other, 0 refused, 0 skipped, $5 cut," \
+        "$6 with a wrong checksum"
+}
+
+# closing_of RECORDS: the closing line of a front of the capture in `stdin`: two packets of IPv4,
+# one of IPv6, one of IPv4 with a wrong checksum, ARP, and a frame that is cut in its link header.
+closing_of() {
+    closing "$1" $(($1 < 3 ? $1 : $1 > 3 ? 3 : 2)) $(($1 > 2)) $(($1 > 4 ? $1 - 4 : 0)) \
+        $(($1 > 5)) $(($1 > 3))
 }
 
 whole_capture() {
     cp stdin "$room/input"
     cp stdout "$room/wanted"
-    closing 4 3 1 1 >"$room/wanted.errors"
+    closing_of 6 >"$room/wanted.errors"
     run
     judge 'the capture' $? 0
     dd if=stdin bs=1 2>/dev/null | "$program" >"$room/output" 2>"$room/errors"
@@ -78,7 +87,7 @@ arguments() {
     judge 'two arguments' $? 2
 }
 
-# The records start at these bytes: 24, 73, 129 and 197, and the capture ends at 249.
+# The records start at these bytes: 24, 100, 176, 266, 342 and 418, and the capture ends at 447.
 cut_captures() {
     size=$(wc -c <stdin)
     len=0
@@ -87,7 +96,7 @@ cut_captures() {
         code=1
         start=0
         lines=0
-        for place in 24 73 129 197; do
+        for place in 24 100 176 266 342 418; do
             [ "$len" -ge "$place" ] && start=$place
             [ "$len" -ge "$place" ] && [ "$place" -gt 24 ] && lines=$((lines + 1))
             [ "$len" -eq "$place" ] && code=0
@@ -102,21 +111,178 @@ cut_captures() {
             needs=16
             if [ "$there" -ge 16 ]; then
                 case $start in
-                    24) needs=49 ;;
-                    73) needs=56 ;;
-                    129) needs=68 ;;
-                    *) needs=52 ;;
+                    176) needs=90 ;;
+                    418) needs=29 ;;
+                    *) needs=76 ;;
                 esac
             fi
             [ "$code" -eq 0 ] || echo "error: the last record is cut off: it needs $needs bytes," \
                 "and there are $there" >"$room/wanted.errors"
-            ipv6=$((lines > 2 ? 1 : 0))
-            closing "$lines" $((lines - ipv6)) "$ipv6" 0 >>"$room/wanted.errors"
+            closing_of "$lines" >>"$room/wanted.errors"
         fi
         run
         judge "the first $len bytes" $? "$code"
         len=$((len + 1))
     done
+}
+
+# number LENGTH: a number in four bytes, the low byte first.
+number() {
+    for shift in 1 256 65536 16777216; do
+        printf "\\$(printf %03o $(($1 / shift % 256)))"
+    done
+}
+
+# record START HEADER PLACE LENGTH [ORIGINAL]: a record with the time of the record of `stdin` that
+# starts at this byte, a link header as `printf` takes it, and so many bytes of `stdin` from this
+# place. The frame had so many bytes, or no more than these.
+record() {
+    printf "$2" >"$room/header"
+    length=$(($(wc -c <"$room/header") + $4))
+    dd if=stdin bs=1 skip="$1" count=8 2>/dev/null
+    number "$length"
+    number "${5:-$length}"
+    cat "$room/header"
+    dd if=stdin bs=1 skip="$3" count="$4" 2>/dev/null
+}
+
+# behind TYPE HEADER4 HEADER6 OTHER LINE: the four packets of `stdin` behind the link headers for
+# IPv4 and IPv6 have the lines of `stdout`, and a frame of another protocol has its own.
+behind() {
+    {
+        dd if=stdin bs=1 count=20 2>/dev/null
+        number "$1"
+        record 24 "$2" 54 33
+        record 100 "$2" 134 40
+        record 176 "$3" 214 52
+        record 266 "$2" 296 36
+        if [ -n "$4" ]; then
+            record 342 "$4" 372 28
+        fi
+    } >"$room/input"
+    head -n 4 stdout >"$room/wanted"
+    if [ -n "$4" ]; then
+        echo "5 1700000005.005005 other: $5" >>"$room/wanted"
+        closing 5 3 1 1 0 1 >"$room/wanted.errors"
+    else
+        closing 4 3 1 0 0 1 >"$room/wanted.errors"
+    fi
+    run
+    judge "link type $1, and $5" $? 0
+}
+
+# Packets that the capture cut: behind the ports, or type and code, or before that.
+cut_packets() {
+    {
+        dd if=stdin bs=1 count=20 2>/dev/null
+        number 101
+        record 24 '' 54 24 33
+        record 100 '' 134 23 40
+        record 176 '' 214 42 52
+        record 266 '' 296 21 36
+    } >"$room/input"
+    {
+        echo '1 1700000001.001001 192.0.2.1 > 198.51.100.7 UDP 53>40000 length 13' \
+            'hops 64 fragment - checksums right none cut 24/33'
+        echo '2 1700000002.002002 198.51.100.7 > 192.0.2.1 TCP - length 20' \
+            'hops 55 fragment - checksums right none cut 23/40'
+        echo '3 1700000003.003003 2001:db8::1 > 2001:db8::1:0:0:2 IPv6-ICMP 128/0 length 12' \
+            'hops 255 fragment - checksums none none cut 42/52'
+        echo '4 1700000004.004004 192.0.2.1 > 198.51.100.7 ICMP - length 16' \
+            'hops 64 fragment - checksums wrong none cut 21/36'
+    } >"$room/wanted"
+    closing 4 3 1 0 4 1 >"$room/wanted.errors"
+    run
+    judge 'packets that are cut' $? 0
+}
+
+# fronts TYPE HEADER: frames that end within this link header, at each of its bytes.
+fronts() {
+    printf "$2" >"$room/front"
+    size=$(wc -c <"$room/front")
+    {
+        dd if=stdin bs=1 count=20 2>/dev/null
+        number "$1"
+        len=0
+        while [ "$len" -lt "$size" ]; do
+            number 1700000001
+            number 1001
+            number "$len"
+            number "$len"
+            dd if="$room/front" bs=1 count="$len" 2>/dev/null
+            len=$((len + 1))
+        done
+    } >"$room/input"
+    len=0
+    while [ "$len" -lt "$size" ]; do
+        echo "$((len + 1)) 1700000001.001001 other: $len bytes are no link header"
+        len=$((len + 1))
+    done >"$room/wanted"
+    closing "$size" 0 0 "$size" 0 0 >"$room/wanted.errors"
+    run
+    judge "link type $1, in a header of $size bytes" $? 0
+}
+
+link_types() {
+    for type in 12 14 101 228 229; do
+        behind "$type" '' '' '' ''
+    done
+    fronts 0 '\2\0\0\0'
+    behind 0 '\2\0\0\0' '\30\0\0\0' '\7\0\0\0' 'family 7'
+    behind 0 '\2\0\0\0' '\34\0\0\0' '\0\0\0\27' 'family 23'
+    behind 0 '\0\0\0\2' '\0\0\0\36' '\0\0\0\0' 'family 0'
+    fronts 108 '\0\0\0\2'
+    behind 108 '\0\0\0\2' '\0\0\0\30' '\2\0\0\0' 'family 33554432'
+    tag='\201\0\0\12'
+    macs='\2\0\0\0\0\7\2\0\0\0\0\1'
+    fronts 1 "$macs\10\0"
+    fronts 1 "$macs$tag$tag\10\0"
+    behind 1 "$macs\10\0" "$macs\221\0\0\12$tag\206\335" "$macs$tag$tag$tag\10\0" 'type 0x8100'
+    behind 1 "$macs$tag$tag\10\0" "$macs\210\250\0\12\206\335" "$macs\0\46" 'type 0x0026'
+    sent='\0\0\0\1\0\6\2\0\0\0\0\1\0\0'
+    fronts 113 "$sent$tag\10\0"
+    behind 113 "$sent\10\0" "$sent\206\335" "$sent\10\6" 'type 0x0806'
+    behind 113 "$sent$tag\10\0" "$sent$tag\206\335" "$sent\0\4" 'type 0x0004'
+    sent='\0\0\0\0\0\2\0\1\0\6\2\0\0\0\0\1\0\0'
+    fronts 276 "\10\0$sent"
+    behind 276 "\10\0$sent" "\206\335$sent" "\10\6$sent" 'type 0x0806'
+    behind 276 "\201\0$sent\0\12\10\0" "\201\0$sent\0\12\206\335" "\0\4$sent" 'type 0x0004'
+}
+
+# Keywords of IANA's registry of protocol numbers.
+keywords='1:ICMP 2:IGMP 4:IPv4 6:TCP 17:UDP 41:IPv6 46:RSVP 47:GRE 50:ESP 51:AH 58:IPv6-ICMP
+    59:IPv6-NoNxt 88:EIGRP 89:OSPFIGP 94:IPIP 103:PIM 108:IPComp 112:VRRP 115:L2TP 132:SCTP
+    136:UDPLite 137:MPLS-in-IP'
+
+# A packet of each of these protocols, and of some that have no keyword here. Its header has the
+# checksum 20142 less the number.
+protocols() {
+    {
+        dd if=stdin bs=1 count=20 2>/dev/null
+        number 101
+        for protocol in 0: 3: $keywords 255:; do
+            upper=${protocol%%:*}
+            number 1700000001
+            number 1001
+            number 20
+            number 20
+            printf '\105\0\0\24\0\0\100\0\100'
+            for byte in "$upper" $(((20142 - upper) / 256)) $(((20142 - upper) % 256)); do
+                printf "\\$(printf %03o "$byte")"
+            done
+            printf '\300\0\2\1\306\63\144\7'
+        done
+    } >"$room/input"
+    line=0
+    for protocol in 0: 3: $keywords 255:; do
+        line=$((line + 1))
+        upper=${protocol#*:}
+        echo "$line 1700000001.001001 192.0.2.1 > 198.51.100.7 ${upper:-${protocol%:}}" \
+            '- length 0 hops 64 fragment - checksums right none'
+    done >"$room/wanted"
+    closing "$line" "$line" 0 0 0 0 >"$room/wanted.errors"
+    run
+    judge 'protocols' $? 0
 }
 
 # Whatever byte is changed: the exit code is one of those that are written down, which no signal
@@ -179,6 +345,9 @@ for build; do
     whole_capture
     arguments
     cut_captures
+    link_types
+    cut_packets
+    protocols
     changed_captures
     failing_ends
 done

@@ -1,5 +1,6 @@
 mod Fronts
 mod Led
+mod OneReading
 mod Skipped
 mod Runs
 mod Written

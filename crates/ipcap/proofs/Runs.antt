@@ -6,7 +6,8 @@ use Rattle.uses.specs.Capture.{BeginsWithFileHeader, ReadsFileHeader}
 use Rattle.uses.specs.declared.capture.CaptureError.{CaptureError}
 use Rattle.uses.specs.declared.capture.FileHeader.{FileHeader}
 use Rattle.ipcap.specs.Lines.{capture_error_line, closing_line, end_text, link_type_line}
-use Rattle.ipcap.specs.Output.{IsListing, IsOutcome, Writes, is_raw_ip, link_type_of, listed, refused, status_at}
+use Rattle.ipcap.specs.Link.{is_read, link_type_of}
+use Rattle.ipcap.specs.Output.{IsListing, IsOutcome, Writes, listed, refused, status_at}
 use Rattle.ipcap.specs.Private.Progress.{Told}
 use Rattle.ipcap.specs.Totals.{nothing_counted}
 use Rattle.ipcap.specs.declared.listing.Turn.TheVariants as turn
@@ -52,12 +53,12 @@ no_capture is_quiet (Some input) (Some more) u e o p q k enough reads w = record
   errors = w;
 }
 
-pub other_packets : (is_quiet : Bool) (a r : Option (List ℕ)) (u rest : List ℕ) (header : FileHeader) (o p q : Option (List ℕ))
-    → Keeps a (prepend_known u r) → BeginsWithFileHeader u header rest → is_raw_ip (link_type_of header) ≡ false
+pub other_frames : (is_quiet : Bool) (a r : Option (List ℕ)) (u rest : List ℕ) (header : FileHeader) (o p q : Option (List ℕ))
+    → Keeps a (prepend_known u r) → BeginsWithFileHeader u header rest → is_read (link_type_of header) ≡ false
     → Appends p q (link_type_line (link_type_of header)) → IfSome a (λ input. Writes (IsOutcome is_quiet input) NoCapture o o p q)
-other_packets is_quiet None r u rest header o p q k begins other w = tt
-other_packets is_quiet (Some input) None u rest header o p q k begins other w = absurd k
-other_packets is_quiet (Some input) (Some more) u rest header o p q k begins other w = record {
+other_frames is_quiet None r u rest header o p q k begins other w = tt
+other_frames is_quiet (Some input) None u rest header o p q k begins other w = absurd k
+other_frames is_quiet (Some input) (Some more) u rest header o p q k begins other w = record {
   outcome = refused (link_type_line (link_type_of header));
   is_outcome = inr (inl (record {
     header = header;
@@ -72,7 +73,7 @@ other_packets is_quiet (Some input) (Some more) u rest header o p q k begins oth
 }
 
 pub listed_input : (is_quiet : Bool) (a r : Option (List ℕ)) (u rest : List ℕ) (header : FileHeader) (status : Status) (o n p q : Option (List ℕ))
-    → Keeps a (prepend_known u r) → BeginsWithFileHeader u header rest → is_raw_ip (link_type_of header) ≡ true
+    → Keeps a (prepend_known u r) → BeginsWithFileHeader u header rest → is_read (link_type_of header) ≡ true
     → IfSome (prepend_known (drop 24 u) r) (λ records. Writes (IsListing is_quiet header records) status o n p q)
     → IfSome a (λ input. Writes (IsOutcome is_quiet input) status o n p q)
 listed_input is_quiet None r u rest header status o n p q k begins raw w = tt

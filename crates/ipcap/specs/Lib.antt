@@ -1,7 +1,10 @@
+pub mod Cut
 pub mod Lines
+pub mod Link
 pub mod Listing
 pub mod Output
 pub mod Packet
 pub mod Private
+pub mod Reading
 pub mod Status
 pub mod Totals

@@ -1,6 +1,7 @@
 -- The line of a record, and the lines at the end.
 use Rattle.std.specs.Prelude.{ℕ, ◌-◌, ◌/◌, ◌==◌, Bool, List, [], ◌++◌, length, codes, decimal}
-use Rattle.std.specs.Prelude.{replicate, nat_lt, if◌then◌else◌, Option, Some, None, Result, Ok, Err}
+use Rattle.std.specs.Prelude.{replicate, nat_lt, if◌then◌else◌, Option, Some, None, false}
+use Rattle.std.specs.Fmt.{digits}
 use Rattle.std.specs.Net.Addr.{segments_of}
 use Rattle.std.specs.Net.Text.{ipv4_text, ipv6_text}
 use Rattle.etherparse.specs.Ipv4Errors.{ipv4_header_slice_error_text}
@@ -16,6 +17,8 @@ use Rattle.uses.specs.declared.capture.Resolution.{Resolution}
 use Rattle.uses.specs.declared.capture.Resolution.TheVariants.{Microseconds, Nanoseconds}
 use Rattle.uses.specs.declared.ip_slice.IpSliceError.{IpSliceError}
 use Rattle.uses.specs.declared.ip_slice.IpSliceError.TheVariants as error
+use Rattle.ipcap.specs.declared.link.NoPacket.{NoPacket}
+use Rattle.ipcap.specs.declared.link.NoPacket.TheVariants.{NoLinkHeader, OtherFamily, OtherType}
 use Rattle.ipcap.specs.declared.packet.Address.{Address}
 use Rattle.ipcap.specs.declared.packet.Address.TheVariants.{V4, V6}
 use Rattle.ipcap.specs.declared.packet.Detail.{Detail}
@@ -24,16 +27,18 @@ use Rattle.ipcap.specs.declared.packet.Mark.{Mark}
 use Rattle.ipcap.specs.declared.packet.Shown.{Shown}
 use Rattle.ipcap.specs.declared.packet.Verdict.{Verdict}
 use Rattle.ipcap.specs.declared.packet.Verdict.TheVariants.{Absent, Right, Wrong}
+use Rattle.ipcap.specs.declared.reading.Reading.{Reading}
+use Rattle.ipcap.specs.declared.reading.Reading.TheVariants.{Other, Packet, Refused}
 use Rattle.ipcap.specs.declared.totals.Totals.{Totals}
 
--- zeros up to so many digits, and the number in decimal
-abbrev pub zero_padded : ℕ → ℕ → List ℕ
-zero_padded width n = replicate (width - length (decimal n)) 48 ++ decimal n
+-- a number's digits, and before them zeros up to so many digits
+abbrev pub zero_padded : ℕ → List ℕ → List ℕ
+zero_padded width number = replicate (width - length number) 48 ++ number
 
 -- a fraction of a second, in the digits of the unit that the file counts
 abbrev pub fraction_text : Resolution → ℕ → List ℕ
-fraction_text Microseconds nanoseconds = zero_padded 6 (nanoseconds / 1000)
-fraction_text Nanoseconds nanoseconds = zero_padded 9 nanoseconds
+fraction_text Microseconds nanoseconds = zero_padded 6 (decimal (nanoseconds / 1000))
+fraction_text Nanoseconds nanoseconds = zero_padded 9 (decimal nanoseconds)
 
 -- the number of a record and its time
 unfoldable pub head_text : ℕ → ℕ → ℕ → Resolution → List ℕ
@@ -51,9 +56,26 @@ unfoldable pub keyword_of : ℕ → Option (List ℕ)
 keyword_of number =
     if number == 1 then Some (codes "ICMP")
     else if number == 2 then Some (codes "IGMP")
+    else if number == 4 then Some (codes "IPv4")
     else if number == 6 then Some (codes "TCP")
     else if number == 17 then Some (codes "UDP")
+    else if number == 41 then Some (codes "IPv6")
+    else if number == 46 then Some (codes "RSVP")
+    else if number == 47 then Some (codes "GRE")
+    else if number == 50 then Some (codes "ESP")
+    else if number == 51 then Some (codes "AH")
     else if number == 58 then Some (codes "IPv6-ICMP")
+    else if number == 59 then Some (codes "IPv6-NoNxt")
+    else if number == 88 then Some (codes "EIGRP")
+    else if number == 89 then Some (codes "OSPFIGP")
+    else if number == 94 then Some (codes "IPIP")
+    else if number == 103 then Some (codes "PIM")
+    else if number == 108 then Some (codes "IPComp")
+    else if number == 112 then Some (codes "VRRP")
+    else if number == 115 then Some (codes "L2TP")
+    else if number == 132 then Some (codes "SCTP")
+    else if number == 136 then Some (codes "UDPLite")
+    else if number == 137 then Some (codes "MPLS-in-IP")
     else None
 
 -- a protocol by its keyword, or by its number where it has none
@@ -110,10 +132,21 @@ ip_slice_error_text (error.Ipv6Header e) = ipv6_header_slice_error_text e
 ip_slice_error_text (error.Packet e) = len_error_text e
 ip_slice_error_text (error.Extensions e) = len_error_text e
 
--- what is said of a packet: what is shown of it, or why it is refused
-unfoldable pub reading_text : Result Shown IpSliceError → List ℕ
-reading_text (Ok shown) = shown_text shown
-reading_text (Err e) = codes "error: " ++ ip_slice_error_text e
+-- four digits of hex, of which those above 9 are small letters
+abbrev pub hex_text : ℕ → List ℕ
+hex_text number = zero_padded 4 (digits 16 false number)
+
+-- why a frame has no packet
+abbrev pub no_packet_text : NoPacket → List ℕ
+no_packet_text (NoLinkHeader len) = decimal len ++ codes " bytes are no link header"
+no_packet_text (OtherType ether_type) = codes "type 0x" ++ hex_text ether_type
+no_packet_text (OtherFamily family) = codes "family " ++ decimal family
+
+-- what is said of a frame: what is shown of its packet, or why that is refused, or why there is none
+unfoldable pub reading_text : Reading → List ℕ
+reading_text (Packet shown) = shown_text shown
+reading_text (Refused e) = codes "error: " ++ ip_slice_error_text e
+reading_text (Other e) = codes "other: " ++ no_packet_text e
 
 -- fewer bytes were captured than the packet had
 abbrev pub is_cut : Recorded → Bool
@@ -127,7 +160,7 @@ cut_text captured_len original_len =
     else []
 
 -- the line of a record that is read
-abbrev pub record_line : Resolution → ℕ → Recorded → Result Shown IpSliceError → List ℕ
+abbrev pub record_line : Resolution → ℕ → Recorded → Reading → List ℕ
 record_line resolution number found reading =
     head_text number found.seconds found.nanoseconds resolution ++ (reading_text reading
     ++ (cut_text (length found.bytes) found.original_len ++ codes "\n"))
@@ -158,7 +191,8 @@ unfoldable pub kinds_text : Totals → List ℕ
 kinds_text totals =
     decimal totals.records ++ (codes " packets: " ++ (decimal totals.ipv4
     ++ (codes " IPv4, " ++ (decimal totals.ipv6 ++ (codes " IPv6, "
-    ++ (decimal totals.refused ++ codes " refused, "))))))
+    ++ (decimal totals.other ++ (codes " other, "
+    ++ (decimal totals.refused ++ codes " refused, "))))))))
 
 -- the second half: how many are skipped, cut, or have a wrong checksum
 unfoldable pub damage_text : Totals → List ℕ
@@ -180,7 +214,7 @@ capture_error_line (capture.Version major minor) =
     codes "error: no capture: the version is " ++ (decimal major ++ (codes "."
     ++ (decimal minor ++ codes "\n")))
 
--- the line on a capture of packets that are not read
+-- the line on a capture of frames that are not read
 unfoldable pub link_type_line : ℕ → List ℕ
 link_type_line link_type =
     codes "error: link type " ++ (decimal link_type ++ codes " is not read\n")

@@ -1,47 +1,27 @@
 -- What is listed of the records of a capture, in their order.
-use Rattle.std.specs.Prelude.{ℕ, ◌≡◌, ◌+◌, ◌*◌, ◌||◌, ◌<◌, ◌≤◌, Bool, true, false, is_err, nat_lt}
-use Rattle.std.specs.Prelude.{List, [], ◌++◌, length, drop, slice_range, Option, Some, None}
-use Rattle.std.specs.Prelude.{Result, Ok, Err}
+use Rattle.std.specs.Prelude.{ℕ, ◌≡◌, ◌+◌, ◌*◌, ◌<◌, ◌≤◌, Bool, true, false, nat_lt, List, [], ◌++◌}
+use Rattle.std.specs.Prelude.{length, drop, slice_range, Option, Some, None, Err}
 use Rattle.std.specs.Int.{w32}
 use Rattle.uses.specs.Capture.{BeginsWithRecord, Recorded, ReadsRecord, nanoseconds_in, number_in}
 use Rattle.uses.specs.Capture.{record_len}
-use Rattle.uses.specs.IpSlice.{RefusesIp}
 use Rattle.uses.specs.declared.capture.CutOff as cut
 use Rattle.uses.specs.declared.capture.FileHeader.{FileHeader}
-use Rattle.uses.specs.declared.ip_slice.IpSliceError.{IpSliceError}
 use Rattle.ipcap.specs.Lines.{is_cut, record_line, skipped_line}
-use Rattle.ipcap.specs.Packet.{IsShown, is_wrong}
+use Rattle.ipcap.specs.Link.{link_type_of}
+use Rattle.ipcap.specs.Reading.{ReadsFrame, has_wrong_checksum, is_other, is_refused}
+use Rattle.ipcap.specs.Reading.{is_version_4, is_version_6}
 use Rattle.ipcap.specs.Totals.{counted}
-use Rattle.ipcap.specs.declared.packet.Address.TheVariants.{V4, V6}
-use Rattle.ipcap.specs.declared.packet.Shown.{Shown}
+use Rattle.ipcap.specs.declared.reading.Reading.{Reading}
 use Rattle.ipcap.specs.declared.totals.Outcome.{Outcome}
 use Rattle.ipcap.specs.declared.totals.Totals.{Totals}
 
--- what is said of a packet is shown of it, or is why it is refused
-abbrev pub ReadsPacket : List ℕ → Result Shown IpSliceError → Type 0
-ReadsPacket packet (Ok shown) = IsShown packet shown
-ReadsPacket packet (Err e) = RefusesIp packet e
-
--- whether it is shown as a packet of version 4, and of version 6
-abbrev pub is_version_4 : Result Shown IpSliceError → Bool
-is_version_4 (Ok shown) = elim shown.source [ V4 octets ↦ true | V6 octets ↦ false ]
-is_version_4 (Err e) = false
-
-abbrev pub is_version_6 : Result Shown IpSliceError → Bool
-is_version_6 (Ok shown) = elim shown.source [ V4 octets ↦ false | V6 octets ↦ true ]
-is_version_6 (Err e) = false
-
--- whether one of its checksums is wrong
-abbrev pub has_wrong_checksum : Result Shown IpSliceError → Bool
-has_wrong_checksum (Ok shown) = is_wrong shown.header_checksum || is_wrong shown.payload_checksum
-has_wrong_checksum (Err e) = false
-
 -- what is counted of a record that is read
-abbrev pub outcome_of : Recorded → Result Shown IpSliceError → Outcome
+abbrev pub outcome_of : Recorded → Reading → Outcome
 outcome_of found reading = record {
   is_ipv4 = is_version_4 reading;
   is_ipv6 = is_version_6 reading;
-  is_refused = is_err reading;
+  is_other = is_other reading;
+  is_refused = is_refused reading;
   is_skipped = false;
   is_cut = is_cut found;
   is_wrong = has_wrong_checksum reading;
@@ -52,6 +32,7 @@ abbrev pub skipped_outcome : Bool → Outcome
 skipped_outcome is_cut = record {
   is_ipv4 = false;
   is_ipv6 = false;
+  is_other = false;
   is_refused = false;
   is_skipped = true;
   is_cut = is_cut;
@@ -65,8 +46,8 @@ max_captured_len = 262144
 -- This is the line of a record after so many were counted, and what is counted with it.
 pub record IsToldOfRecord (header : FileHeader) (before : Totals) (found : Recorded)
     (line : List ℕ) (after : Totals) : Type 0 where
-  pub reading : Result Shown IpSliceError
-  pub reads : ReadsPacket found.bytes reading
+  pub reading : Reading
+  pub reads : ReadsFrame (link_type_of header) (is_cut found) found.bytes reading
   pub line_of : line ≡ record_line header.format.resolution (before.records + 1) found reading
   pub counts : after ≡ counted (outcome_of found reading) before
 

@@ -1,27 +1,18 @@
 -- What the program writes.
-use Rattle.std.specs.Prelude.{ℕ, ◌≡◌, ◌%◌, ◌^◌, ◌==◌, ◌||◌, ◌⊎◌, Bool, false, IsTrue, List, []}
-use Rattle.std.specs.Prelude.{◌++◌, Option, Some, None, Err, if◌then◌else◌}
+use Rattle.std.specs.Prelude.{ℕ, ◌≡◌, ◌⊎◌, Bool, false, IsTrue, List, [], ◌++◌, Option, Some, None}
+use Rattle.std.specs.Prelude.{Err, if◌then◌else◌}
 use Rattle.std.specs.Io.KnownBytes.{Appends}
 use Rattle.uses.specs.Capture.{BeginsWithFileHeader, ReadsFileHeader}
 use Rattle.uses.specs.declared.capture.CaptureError.{CaptureError}
 use Rattle.uses.specs.declared.capture.CutOff as cut
 use Rattle.uses.specs.declared.capture.FileHeader.{FileHeader}
 use Rattle.ipcap.specs.Lines.{capture_error_line, closing_line, end_text, link_type_line}
+use Rattle.ipcap.specs.Link.{is_read, link_type_of}
 use Rattle.ipcap.specs.Listing.{Lists}
 use Rattle.ipcap.specs.Totals.{nothing_counted}
 use Rattle.ipcap.specs.declared.status.Status.{Status}
 use Rattle.ipcap.specs.declared.status.Status.TheVariants as status
 use Rattle.ipcap.specs.declared.totals.Totals.{Totals}
-
--- the link type without the bits above it, which tell of a frame check sequence
-abbrev pub link_type_of : FileHeader → ℕ
-link_type_of header = header.link_type % 2 ^ 16
-
--- packets begin with their IP header (the registry of link types: 101, and 12 and 14 of some
--- systems; 228 of version 4, 229 of version 6)
-abbrev pub is_raw_ip : ℕ → Bool
-is_raw_ip link_type = link_type == 12 || link_type == 14 || link_type == 101
-    || link_type == 228 || link_type == 229
 
 -- a status, what is written to standard output, and what to standard error
 pub record Outcome : Type 0 where
@@ -56,20 +47,20 @@ pub record IsListing (is_quiet : Bool) (header : FileHeader) (records : List ℕ
   pub lists : Lists header nothing_counted records text totals end
   pub outcome_of : outcome ≡ listed is_quiet text totals end
 
--- The input is a capture of packets that are read: a file header, and records, which are listed.
+-- The input is a capture of frames that are read: a file header, and records, which are listed.
 pub record IsListed (is_quiet : Bool) (input : List ℕ) (outcome : Outcome) : Type 0 where
   pub header : FileHeader
   pub records : List ℕ
   pub begins : BeginsWithFileHeader input header records
-  pub is_read : IsTrue (is_raw_ip (link_type_of header))
+  pub is_read : IsTrue (is_read (link_type_of header))
   pub listing : IsListing is_quiet header records outcome
 
--- The input is a capture of other packets.
-pub record HasOtherPackets (input : List ℕ) (outcome : Outcome) : Type 0 where
+-- The input is a capture of other frames.
+pub record HasOtherFrames (input : List ℕ) (outcome : Outcome) : Type 0 where
   pub header : FileHeader
   pub records : List ℕ
   pub begins : BeginsWithFileHeader input header records
-  pub other : is_raw_ip (link_type_of header) ≡ false
+  pub other : is_read (link_type_of header) ≡ false
   pub outcome_of : outcome ≡ refused (link_type_line (link_type_of header))
 
 -- The input is no capture.
@@ -81,7 +72,7 @@ pub record IsNoCapture (input : List ℕ) (outcome : Outcome) : Type 0 where
 -- the outcome for an input
 abbrev pub IsOutcome : Bool → List ℕ → Outcome → Type 0
 IsOutcome is_quiet input outcome = IsListed is_quiet input outcome
-    ⊎ HasOtherPackets input outcome ⊎ IsNoCapture input outcome
+    ⊎ HasOtherFrames input outcome ⊎ IsNoCapture input outcome
 
 -- what both writers hold is what they held before, and after that the texts of such an outcome
 pub record Writes (P : Outcome → Type 0) (status : Status) (old new old_errors new_errors

@@ -1,6 +1,6 @@
 -- What is shown of a packet.
-use Rattle.std.specs.Prelude.{ℕ, ◌≡◌, ◌*◌, ◌<◌, ◌^◌, ◌==◌, ◌&&◌, ◌||◌, ◌⊎◌, Bool, not, List, []}
-use Rattle.std.specs.Prelude.{◌∷◌, ◌++◌, false, true, MatchBool, MatchOption, Option, Some, None}
+use Rattle.std.specs.Prelude.{ℕ, ◌≡◌, ◌-◌, ◌*◌, ◌<◌, ◌^◌, ◌==◌, ◌&&◌, ◌||◌, ◌⊎◌, Bool, not, List, []}
+use Rattle.std.specs.Prelude.{◌∷◌, ◌++◌, false, true, IsTrue, MatchBool, MatchOption, Option, Some, None}
 use Rattle.std.specs.Prelude.{if◌then◌else◌, length, nat_le, slice_index, slice_range, take}
 use Rattle.std.specs.Int.{from_be_bytes, to_be_bytes, w16, w32}
 use Rattle.etherparse.specs.Ipv4Header.{ipv4_header_len}
@@ -9,10 +9,12 @@ use Rattle.etherparse.specs.declared.err.LenError.{LenError}
 use Rattle.etherparse.specs.declared.net.ipv4_header.Ipv4Header.{Ipv4Header}
 use Rattle.etherparse.specs.declared.net.ipv6_header.Ipv6Header.{Ipv6Header}
 use Rattle.uses.specs.Fragment.{HasFragmentBehind, IsPart, IsUnfragmented, RefusesFragmentBehind}
-use Rattle.uses.specs.IpSlice.{IsIpPacket, payload_of, upper_of}
+use Rattle.uses.specs.IpSlice.{IsIpPacket, RefusesIp, payload_of, upper_of}
 use Rattle.uses.specs.declared.fragment.FragmentHeader.{FragmentHeader}
 use Rattle.uses.specs.declared.ip_slice.IpSlice.{IpSlice}
 use Rattle.uses.specs.declared.ip_slice.IpSlice.TheVariants as slice
+use Rattle.uses.specs.declared.ip_slice.IpSliceError.{IpSliceError}
+use Rattle.ipcap.specs.Cut.{IsCutPacket, IsNoCutIpv4, IsNoCutIpv6}
 use Rattle.ipcap.specs.declared.packet.Address.{Address}
 use Rattle.ipcap.specs.declared.packet.Address.TheVariants.{V4, V6}
 use Rattle.ipcap.specs.declared.packet.Detail.{Detail}
@@ -42,22 +44,30 @@ abbrev pub icmp_of : IpSlice → ℕ
 icmp_of (slice.Ipv4 header payload) = 1
 icmp_of (slice.Ipv6 header extensions upper payload) = 58
 
+-- how long the payload is by the length field, also where the capture cut it
+abbrev pub len_of : IpSlice → ℕ
+len_of (slice.Ipv4 header payload) = header.total_len - ipv4_header_len header
+len_of (slice.Ipv6 header extensions upper payload) =
+    header.payload_length - length extensions.now
+
 -- What is shown of the header that a payload begins with: the ports of UDP (RFC 768) and TCP (RFC
--- 9293), type and code of ICMP (RFC 792) and ICMPv6 (RFC 4443), where that header is there.
-unfoldable pub detail_of : ℕ → ℕ → List ℕ → Detail
-detail_of icmp number payload =
-    if number == 17 && nat_le 8 (length payload) || number == 6 && nat_le 20 (length payload)
+-- 9293), type and code of ICMP (RFC 792) and ICMPv6 (RFC 4443), where that header is there. Of a
+-- payload that the capture cut, it is enough that the ports are there, or type and code.
+unfoldable pub detail_of : Bool → ℕ → ℕ → List ℕ → Detail
+detail_of is_cut icmp number payload =
+    if number == 17 && nat_le (if is_cut then 4 else 8) (length payload)
+    || number == 6 && nat_le (if is_cut then 4 else 20) (length payload)
     then Ports (from_be_bytes w16 (slice_range payload 0 2))
     (from_be_bytes w16 (slice_range payload 2 4))
-    else if number == icmp && nat_le 4 (length payload)
+    else if number == icmp && nat_le (if is_cut then 2 else 4) (length payload)
     then Message (slice_index payload 0) (slice_index payload 1)
     else Nothing
 
 -- a fragment that is not the first begins with no header
-abbrev pub detail_behind : Option Mark → ℕ → ℕ → List ℕ → Detail
-detail_behind None icmp number payload = detail_of icmp number payload
-detail_behind (Some mark) icmp number payload =
-    if mark.offset == 0 then detail_of icmp number payload else Nothing
+abbrev pub detail_behind : Bool → Option Mark → ℕ → ℕ → List ℕ → Detail
+detail_behind is_cut None icmp number payload = detail_of is_cut icmp number payload
+detail_behind is_cut (Some mark) icmp number payload =
+    if mark.offset == 0 then detail_of is_cut icmp number payload else Nothing
 
 -- where an IPv4 fragment stands (RFC 791 section 3.1), whose offset counts units of 8 bytes
 abbrev pub ipv4_mark : Ipv4Header → Option Mark
@@ -189,21 +199,40 @@ IsPayloadVerdict (slice.Ipv4 header payload) mark verdict =
 IsPayloadVerdict (slice.Ipv6 header extensions upper payload) mark verdict =
     IsPayloadVerdictIpv6 header upper mark payload.now verdict
 
--- this is shown of the packet in these parts
-pub record ShowsSlice (packet : List ℕ) (parts : IpSlice) (shown : Shown) : Type 0 where
+-- this is shown of the packet in these parts, of which the capture can have cut the payload
+pub record ShowsSlice (is_cut : Bool) (packet : List ℕ) (parts : IpSlice) (shown : Shown)
+    : Type 0 where
   pub source : shown.source ≡ source_of parts
   pub destination : shown.destination ≡ destination_of parts
   pub upper : shown.upper ≡ upper_of parts
   pub detail : shown.detail
-      ≡ detail_behind shown.mark (icmp_of parts) (upper_of parts) (payload_of parts)
-  pub len : shown.len ≡ length (payload_of parts)
+      ≡ detail_behind is_cut shown.mark (icmp_of parts) (upper_of parts) (payload_of parts)
+  pub len : shown.len ≡ len_of parts
   pub hops : shown.hops ≡ hops_of parts
   pub mark : IsMark parts shown.mark
   pub header_checksum : IsHeaderVerdict packet parts shown.header_checksum
-  pub payload_checksum : IsPayloadVerdict parts shown.mark shown.payload_checksum
+  pub payload_checksum : MatchBool is_cut (shown.payload_checksum ≡ Absent)
+      (IsPayloadVerdict parts shown.mark shown.payload_checksum)
 
 -- the packet is whole, and this is shown of it
 pub record IsShown (packet : List ℕ) (shown : Shown) : Type 0 where
   pub parts : IpSlice
   pub is_packet : IsIpPacket packet parts
-  pub shows : ShowsSlice packet parts shown
+  pub shows : ShowsSlice false packet parts shown
+
+-- the packet is shorter than its length field says, and this is shown of what there is
+pub record IsShownCut (packet : List ℕ) (shown : Shown) : Type 0 where
+  pub parts : IpSlice
+  pub is_cut : IsCutPacket packet parts
+  pub shows : ShowsSlice true packet parts shown
+
+-- what is shown of a packet, which is whole or which the capture cut
+abbrev pub IsShownOf : Bool → List ℕ → Shown → Type 0
+IsShownOf is_cut packet shown =
+    IsShown packet shown ⊎ (IsTrue is_cut × IsShownCut packet shown)
+
+-- why a packet is refused, which the capture cut in no payload
+pub record IsRefused (is_cut : Bool) (packet : List ℕ) (e : IpSliceError) : Type 0 where
+  pub refuses : RefusesIp packet e
+  pub ipv4 : IsTrue is_cut → IsNoCutIpv4 packet
+  pub ipv6 : IsTrue is_cut → IsNoCutIpv6 packet

@@ -6,8 +6,16 @@ use Rattle.ipcap.specs.declared.totals.Totals.{Totals}
 
 -- before any record
 abbrev pub nothing_counted : Totals
-nothing_counted =
-    record { records = 0; ipv4 = 0; ipv6 = 0; refused = 0; skipped = 0; cut = 0; wrong = 0 }
+nothing_counted = record {
+  records = 0;
+  ipv4 = 0;
+  ipv6 = 0;
+  other = 0;
+  refused = 0;
+  skipped = 0;
+  cut = 0;
+  wrong = 0;
+}
 
 -- with one record more
 abbrev pub counted : Outcome → Totals → Totals
@@ -15,6 +23,7 @@ counted outcome totals = record {
   records = totals.records + 1;
   ipv4 = totals.ipv4 + from_bool outcome.is_ipv4;
   ipv6 = totals.ipv6 + from_bool outcome.is_ipv6;
+  other = totals.other + from_bool outcome.is_other;
   refused = totals.refused + from_bool outcome.is_refused;
   skipped = totals.skipped + from_bool outcome.is_skipped;
   cut = totals.cut + from_bool outcome.is_cut;

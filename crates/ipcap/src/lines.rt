@@ -6,11 +6,14 @@ ghost use Rattle.uses.specs.Capture.{recorded};
 ghost use Rattle.ipcap.specs.Lines.{detail_text, mark_text, parties_text, payload_text};
 ghost use Rattle.ipcap.specs.Lines.{damage_text, kinds_text, verdict_text};
 ghost use Rattle.ipcap.specs.Lines.{address_text, capture_error_line, closing_line, cut_off_line};
-ghost use Rattle.ipcap.specs.Lines.{cut_text, fraction_text, head_text, keyword_of};
-ghost use Rattle.ipcap.specs.Lines.{link_type_line, reading_text, record_line, shown_text};
-ghost use Rattle.ipcap.specs.Lines.{skipped_line, skipped_text, upper_text, ip_slice_error_text};
+ghost use Rattle.ipcap.specs.Lines.{cut_text, fraction_text, head_text, hex_text, keyword_of};
+ghost use Rattle.ipcap.specs.Lines.{link_type_line, no_packet_text, reading_text, record_line};
+ghost use Rattle.ipcap.specs.Lines.{shown_text, skipped_line, skipped_text, upper_text};
+ghost use Rattle.ipcap.specs.Lines.{ip_slice_error_text};
 
+use crate::link::NoPacket;
 use crate::packet::{Address, Detail, Mark, Shown, Verdict};
+use crate::reading::Reading;
 use crate::totals::Totals;
 use etherparse::LenSource;
 use etherparse::err::{Layer, LenError};
@@ -56,9 +59,26 @@ fn keyword(number: u8) -> Option<&'static str>
     match number {
         1 => Some("ICMP"),
         2 => Some("IGMP"),
+        4 => Some("IPv4"),
         6 => Some("TCP"),
         17 => Some("UDP"),
+        41 => Some("IPv6"),
+        46 => Some("RSVP"),
+        47 => Some("GRE"),
+        50 => Some("ESP"),
+        51 => Some("AH"),
         58 => Some("IPv6-ICMP"),
+        59 => Some("IPv6-NoNxt"),
+        88 => Some("EIGRP"),
+        89 => Some("OSPFIGP"),
+        94 => Some("IPIP"),
+        103 => Some("PIM"),
+        108 => Some("IPComp"),
+        112 => Some("VRRP"),
+        115 => Some("L2TP"),
+        132 => Some("SCTP"),
+        136 => Some("UDPLite"),
+        137 => Some("MPLS-in-IP"),
         _ => None,
     }
 }
@@ -69,7 +89,7 @@ pub fn write_record<W: Write>(
     resolution: Resolution,
     number: u64,
     captured: &Record,
-    reading: &Result<Shown, IpSliceError>,
+    reading: &Reading,
 ) -> io::Result<()>
     ensures { OnOk result (Appends (W.contents writer.old) (W.contents writer.new)
         (record_line resolution number (recorded captured.now) reading.now)) }
@@ -154,18 +174,56 @@ impl fmt::Display for Fraction {
     }
 }
 
-// Writes what is said of a packet.
+// Writes what is said of a frame.
 #[tactic(auto, unfolding(crate::specs::Lines::reading_text))]
-fn write_reading<W: Write>(writer: &mut W, reading: &Result<Shown, IpSliceError>) -> io::Result<()>
+fn write_reading<W: Write>(writer: &mut W, reading: &Reading) -> io::Result<()>
     ensures { OnOk result (Appends (W.contents writer.old) (W.contents writer.new)
         (reading_text reading.now)) }
 {
     match reading {
-        Ok(shown) => write_shown(writer, shown),
-        Err(e) => {
+        Reading::Packet(shown) => write_shown(writer, shown),
+        Reading::Refused(e) => {
             let refusal = Refusal(e);
             write!(writer, "error: {refusal}")
         }
+        Reading::Other(reason) => {
+            let reason = *reason;
+            write!(writer, "other: {reason}")
+        }
+    }
+}
+
+impl fmt::Display for NoPacket {
+    ghost output = { λ reason. Some (no_packet_text reason) };
+
+    fn fmt<W: fmt::Write>(&self, f: &mut fmt::Formatter<W>) -> fmt::Result {
+        match self {
+            NoPacket::NoLinkHeader(len) => {
+                let len = *len;
+                write!(f, "{len} bytes are no link header")
+            }
+            NoPacket::OtherType(ether_type) => {
+                let ether_type = Hex(*ether_type);
+                write!(f, "type 0x{ether_type}")
+            }
+            NoPacket::OtherFamily(family) => {
+                let family = *family;
+                write!(f, "family {family}")
+            }
+        }
+    }
+}
+
+// A number in four digits of hex.
+#[derive(Clone, Copy, Debug)]
+struct Hex(u16);
+
+impl fmt::Display for Hex {
+    ghost output = { λ hex. Some (hex_text hex.0) };
+
+    fn fmt<W: fmt::Write>(&self, f: &mut fmt::Formatter<W>) -> fmt::Result {
+        let number = self.0;
+        write!(f, "{number:04x}")
     }
 }
 
@@ -326,10 +384,10 @@ fn write_kinds<W: Write>(writer: &mut W, totals: Totals) -> io::Result<()>
         (kinds_text totals)) }
 {
     let (records, ipv4, ipv6) = (totals.records, totals.ipv4, totals.ipv6);
-    let refused = totals.refused;
+    let (other, refused) = (totals.other, totals.refused);
     write!(
         writer,
-        "{records} packets: {ipv4} IPv4, {ipv6} IPv6, {refused} refused, "
+        "{records} packets: {ipv4} IPv4, {ipv6} IPv6, {other} other, {refused} refused, "
     )
 }
 
@@ -372,7 +430,7 @@ pub fn write_capture_error<W: Write>(writer: &mut W, e: CaptureError) -> io::Res
     }
 }
 
-/// Writes the line on a capture of packets that are not read.
+/// Writes the line on a capture of frames that are not read.
 #[tactic(auto, unfolding(crate::specs::Lines::link_type_line))]
 pub fn write_link_type<W: Write>(writer: &mut W, link_type: u32) -> io::Result<()>
     ensures { OnOk result (Appends (W.contents writer.old) (W.contents writer.new)

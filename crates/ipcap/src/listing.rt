@@ -7,20 +7,20 @@ ghost use Rattle.std.specs.Io.KnownBytes.{Appends, IsAtEnd, Keeps, append_known,
 ghost use Rattle.uses.specs.Capture.{ReadsRecord, nanoseconds_in, number_in, record_len};
 ghost use Rattle.uses.specs.Capture.{recorded};
 ghost use Rattle.ipcap.specs.Listing.{IsToldOfLongRecord, IsToldOfRecord, max_captured_len};
-ghost use Rattle.ipcap.specs.Listing.{has_wrong_checksum, outcome_of};
+ghost use Rattle.ipcap.specs.Lines.{is_cut};
+ghost use Rattle.ipcap.specs.Listing.{outcome_of};
 ghost use Rattle.ipcap.specs.Private.Progress.{Skips, TellsFront, TellsKnown, Told, unless_quiet};
 ghost use Rattle.ipcap.specs.Private.Window.{unread};
 ghost use Rattle.ipcap.specs.Totals.{nothing_counted};
 
 use crate::lines::{write_record, write_skipped};
-use crate::packet::{Address, Shown, read_packet};
+use crate::reading::{Reading, read_frame};
 use crate::totals::{Outcome, Totals};
 use crate::window::{ROOM, Window};
 use arrayvec::ArrayVec;
 use std::io;
 use std::io::{ErrorKind, Read, Write};
 use uses::capture::{ByteOrder, CutOff, FileHeader, Record, Resolution, next_record};
-use uses::ip_slice::IpSliceError;
 
 // The room for text that is not yet handed to the writer.
 const TEXT_ROOM: usize = 65_536;
@@ -65,27 +65,25 @@ fn make_room<W: Write>(text: &mut Text, writer: &mut W) -> io::Result<()>
     }
 }
 
+// Whether the capture cut the packet of a record.
+fn is_cut(captured: &Record) -> bool
+    ensures { result ≡ is_cut (recorded captured.now) }
+{
+    captured.bytes.len() < captured.original_len as usize
+}
+
 // What is counted of a record that is read.
-fn outcome(captured: &Record, reading: &Result<Shown, IpSliceError>) -> Outcome
+fn outcome(captured: &Record, reading: &Reading) -> Outcome
     ensures { result ≡ outcome_of (recorded captured.now) reading.now }
 {
     Outcome {
-        is_ipv4: matches!(reading, Ok(shown) if matches!(shown.source, Address::V4(_))),
-        is_ipv6: matches!(reading, Ok(shown) if matches!(shown.source, Address::V6(_))),
-        is_refused: reading.is_err(),
+        is_ipv4: reading.is_ipv4(),
+        is_ipv6: reading.is_ipv6(),
+        is_other: reading.is_other(),
+        is_refused: reading.is_refused(),
         is_skipped: false,
-        is_cut: captured.bytes.len() < captured.original_len as usize,
-        is_wrong: has_wrong_checksum(reading),
-    }
-}
-
-// Whether a packet is shown with a wrong checksum.
-fn has_wrong_checksum(reading: &Result<Shown, IpSliceError>) -> bool
-    ensures { result ≡ has_wrong_checksum reading.now }
-{
-    match reading {
-        Ok(shown) => shown.header_checksum.is_wrong() || shown.payload_checksum.is_wrong(),
-        Err(_) => false,
+        is_cut: is_cut(captured),
+        is_wrong: reading.has_wrong_checksum(),
     }
 }
 
@@ -103,7 +101,7 @@ fn list_record<W: Write>(
         × Appends (append_known (W.contents writer.old) text.old.items)
         (append_known (W.contents writer.new) text.new.items) (unless_quiet is_quiet line)) }
 {
-    let reading = read_packet(captured.bytes);
+    let reading = read_frame(header.link_type % 65_536, is_cut(captured), captured.bytes);
     let Some(after) = before.count(outcome(captured, &reading)) else {
         return Err(io::Error::from(ErrorKind::Other));
     };
@@ -199,6 +197,7 @@ fn list_long<W: Write>(
     let Some(after) = before.count(Outcome {
         is_ipv4: false,
         is_ipv6: false,
+        is_other: false,
         is_refused: false,
         is_skipped: true,
         is_cut,

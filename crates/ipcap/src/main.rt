@@ -2,9 +2,12 @@
 #![tactic(auto)]
 
 mod arguments;
+mod cut;
 mod lines;
+mod link;
 mod listing;
 mod packet;
+mod reading;
 mod run;
 mod status;
 mod totals;

@@ -1,16 +1,18 @@
 //! What is shown of a packet.
 
 ghost use Rattle.std.specs.Prelude.{◌≡◌, ◌↔◌, [], ◌∷◌, IfErr, IfOk, IsTrue, MatchOption};
-ghost use Rattle.std.specs.Prelude.{◌≤◌, length, option_map, take};
+ghost use Rattle.std.specs.Prelude.{◌≤◌, ◌⊎◌, length, option_map, take};
 ghost use Rattle.etherparse.specs.Ipv4Header.{ipv4_header_len};
+ghost use Rattle.ipcap.specs.Cut.{IsCutPacket};
 ghost use Rattle.ipcap.specs.Packet.{IsPayloadVerdictIpv4, IsPayloadVerdictIpv6};
 ghost use Rattle.etherparse.specs.WordSums.{SumsToAllOnes, ones_complement_sum};
 ghost use Rattle.uses.specs.IpSlice.{IsIpPacket, RefusesIp};
-ghost use Rattle.ipcap.specs.Packet.{IsMarkedBy, IsRightIpv4, IsRightIpv6, IsShown};
+ghost use Rattle.ipcap.specs.Packet.{IsMarkedBy, IsRefused, IsRightIpv4, IsRightIpv6, IsShownOf};
 ghost use Rattle.ipcap.specs.Packet.{IsVerdictIpv4, IsVerdictIpv6, IsWholeBehind, Judges};
 ghost use Rattle.ipcap.specs.Packet.{ShowsSlice, detail_behind, detail_of, ipv4_mark, segment_of};
 ghost use Rattle.ipcap.specs.Packet.{has_no_checksum};
 
+use crate::cut::cut_slice;
 use etherparse::checksum::u64_16bit_word;
 use etherparse::{IpNumber, Ipv4Header, Ipv6Header};
 use uses::fragment::fragment_behind;
@@ -93,38 +95,57 @@ pub struct Shown {
     pub payload_checksum: Verdict,
 }
 
-/// What is shown of a packet that was captured whole.
+/// What is shown of a packet. One that the capture cut can be shorter than its length field says.
 ///
 /// # Errors
 ///
-/// Those of [`IpSlice::from_slice`].
-pub fn read_packet(packet: &[u8]) -> Result<Shown, IpSliceError>
-    ensures found { IfOk result (IsShown packet.now) }
-    ensures refused { IfErr result (RefusesIp packet.now) }
+/// Those of [`IpSlice::from_slice`], but none where the capture cut the payload.
+pub fn read_packet(is_cut: bool, packet: &[u8]) -> Result<Shown, IpSliceError>
+    ensures found { IfOk result (IsShownOf is_cut packet.now) }
+    ensures refused { IfErr result (IsRefused is_cut packet.now) }
 {
     match IpSlice::from_slice(packet) {
-        Ok(slice) => Ok(shown_of(packet, &slice)),
-        Err(e) => Err(e),
+        Ok(slice) => Ok(shown_of(false, packet, &slice)),
+        Err(e) => read_cut(is_cut, packet, e),
     }
 }
 
-// What is shown of a packet in these parts.
-fn shown_of(packet: &[u8], slice: &IpSlice) -> Shown
-    requires is_packet { IsIpPacket packet.now slice.now }
-    ensures shows { ShowsSlice packet.now slice.now result }
+// What is shown of a packet that is refused as a whole one.
+fn read_cut(is_cut: bool, packet: &[u8], e: IpSliceError) -> Result<Shown, IpSliceError>
+    requires { RefusesIp packet.now e }
+    ensures found { IfOk result (IsShownOf is_cut packet.now) }
+    ensures refused { IfErr result (IsRefused is_cut packet.now) }
+{
+    if !is_cut {
+        return Err(e);
+    }
+    match cut_slice(packet) {
+        Some(slice) => Ok(shown_of(true, packet, &slice)),
+        None => Err(e),
+    }
+}
+
+// What is shown of a packet in these parts, of which the capture can have cut the payload.
+fn shown_of(is_cut: bool, packet: &[u8], slice: &IpSlice) -> Shown
+    requires is_packet { IsIpPacket packet.now slice.now ⊎ IsCutPacket packet.now slice.now }
+    ensures shows { ShowsSlice is_cut packet.now slice.now result }
 {
     match slice {
         IpSlice::Ipv4 { header, payload } => {
             let upper = header.protocol.0;
             let mark = ipv4_mark(header);
             let header_checksum = header_verdict(packet, header);
-            let payload_checksum = payload_verdict_ipv4(header, mark, payload);
+            let payload_checksum = if is_cut {
+                Verdict::Absent
+            } else {
+                payload_verdict_ipv4(header, mark, payload)
+            };
             Shown {
                 source: Address::V4(header.source),
                 destination: Address::V4(header.destination),
                 upper,
-                detail: detail_behind(mark, 1, upper, payload),
-                len: payload.len(),
+                detail: detail_behind(is_cut, mark, 1, upper, payload),
+                len: usize::from(header.total_len).saturating_sub(header.header_len()),
                 hops: header.time_to_live,
                 mark,
                 header_checksum,
@@ -139,13 +160,17 @@ fn shown_of(packet: &[u8], slice: &IpSlice) -> Shown
         } => {
             let upper = upper.0;
             let mark = ipv6_mark(extensions, header.next_header);
-            let payload_checksum = payload_verdict_ipv6(header, upper, mark, payload);
+            let payload_checksum = if is_cut {
+                Verdict::Absent
+            } else {
+                payload_verdict_ipv6(header, upper, mark, payload)
+            };
             Shown {
                 source: Address::V6(header.source),
                 destination: Address::V6(header.destination),
                 upper,
-                detail: detail_behind(mark, 58, upper, payload),
-                len: payload.len(),
+                detail: detail_behind(is_cut, mark, 58, upper, payload),
+                len: usize::from(header.payload_length).saturating_sub(extensions.len()),
                 hops: header.hop_limit,
                 mark,
                 header_checksum: Verdict::Absent,
@@ -193,28 +218,29 @@ fn ipv6_mark(extensions: &[u8], first: IpNumber) -> Option<Mark>
 }
 
 // What is shown of the header that a payload begins with, if it is its first part.
-fn detail_behind(mark: Option<Mark>, icmp: u8, number: u8, payload: &[u8]) -> Detail
-    ensures { result ≡ detail_behind mark icmp number payload.now }
+fn detail_behind(is_cut: bool, mark: Option<Mark>, icmp: u8, number: u8, payload: &[u8]) -> Detail
+    ensures { result ≡ detail_behind is_cut mark icmp number payload.now }
 {
     match mark {
         Some(mark) if mark.offset != 0 => Detail::Nothing,
-        Some(_) => detail_of(icmp, number, payload),
-        None => detail_of(icmp, number, payload),
+        Some(_) => detail_of(is_cut, icmp, number, payload),
+        None => detail_of(is_cut, icmp, number, payload),
     }
 }
 
 // What is shown of the header that a payload begins with.
 #[tactic(auto, unfolding(crate::specs::Packet::detail_of))]
-fn detail_of(icmp: u8, number: u8, payload: &[u8]) -> Detail
-    ensures { result ≡ detail_of icmp number payload.now }
+fn detail_of(is_cut: bool, icmp: u8, number: u8, payload: &[u8]) -> Detail
+    ensures { result ≡ detail_of is_cut icmp number payload.now }
 {
-    if number == 17 && payload.len() >= 8 || number == 6 && payload.len() >= 20 {
+    let (udp_len, tcp_len, icmp_len) = if is_cut { (4, 4, 2) } else { (8, 20, 4) };
+    if number == 17 && payload.len() >= udp_len || number == 6 && payload.len() >= tcp_len {
         return Detail::Ports(
             u16::from_be_bytes([payload[0], payload[1]]),
             u16::from_be_bytes([payload[2], payload[3]]),
         );
     }
-    if number == icmp && payload.len() >= 4 {
+    if number == icmp && payload.len() >= icmp_len {
         return Detail::Message(payload[0], payload[1]);
     }
     Detail::Nothing

@@ -4,12 +4,12 @@ ghost use Rattle.std.specs.Prelude.{◌≡◌, ◌≢◌, ◌≤◌, ◌⊎◌, 
 ghost use Rattle.std.specs.Prelude.{length};
 ghost use Rattle.std.specs.Io.KnownBytes.{Appends, IsAtEnd, Keeps, prepend_known};
 ghost use Rattle.uses.specs.Capture.{BeginsWithFileHeader, ReadsFileHeader};
-ghost use Rattle.ipcap.specs.Output.{IsListing, IsOutcome, Writes, is_raw_ip};
-ghost use Rattle.ipcap.specs.Output.{status_at};
+ghost use Rattle.ipcap.specs.Output.{IsListing, IsOutcome, Writes, status_at};
 ghost use Rattle.ipcap.specs.Lines.{end_text};
 ghost use Rattle.ipcap.specs.Private.Window.{unread};
 
 use crate::lines::{write_capture_error, write_closing, write_cut_off, write_link_type};
+use crate::link::is_read;
 use crate::listing::{Text, hand_over, list};
 use crate::status::Status;
 use crate::window::Window;
@@ -19,9 +19,9 @@ use uses::capture::{CaptureError, CutOff, FileHeader};
 
 /// Reads a capture, and writes a line for each record and then, to `errors`, the closing line.
 ///
-/// A quiet run writes the closing line alone, to `writer`. An input that is no capture of IP
-/// packets, and a last record that is cut off, have a line in `errors`. A read or a write that
-/// fails ends it at once. It takes no memory.
+/// A quiet run writes the closing line alone, to `writer`. An input that is no capture of a link
+/// type that is read, and a last record that is cut off, have a line in `errors`. A read or a write
+/// that fails ends it at once. It takes no memory.
 pub fn run<R: Read, W: Write, E: Write>(
     is_quiet: bool,
     reader: &mut R,
@@ -69,7 +69,7 @@ fn read_file_header(window: &Window) -> Result<FileHeader, CaptureError>
     }
 }
 
-// Lists a capture from behind its file header, where its packets are read.
+// Lists a capture from behind its file header, where its frames are read.
 fn list_capture<R: Read, W: Write, E: Write>(
     is_quiet: bool,
     header: &FileHeader,
@@ -86,7 +86,7 @@ fn list_capture<R: Read, W: Write, E: Write>(
         (E.contents errors.old) (E.contents errors.new))) }
 {
     let link_type = header.link_type % 65_536;
-    if !begins_with_ip(link_type) {
+    if !is_read(link_type) {
         write_link_type(errors, link_type)?;
         return Ok(Status::NoCapture);
     }
@@ -135,13 +135,6 @@ fn write_end<E: Write>(errors: &mut E, end: Option<CutOff>) -> io::Result<Status
             Ok(Status::CutOff)
         }
     }
-}
-
-// Whether packets begin with their IP header.
-fn begins_with_ip(link_type: u32) -> bool
-    ensures { result ≡ is_raw_ip link_type }
-{
-    matches!(link_type, 12 | 14 | 101 | 228 | 229)
 }
 
 // Reads until there is a file header, or the input is at its end.

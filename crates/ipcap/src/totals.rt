@@ -7,6 +7,8 @@ pub struct Outcome {
     pub is_ipv4: bool,
     /// It is shown as an IPv6 packet.
     pub is_ipv6: bool,
+    /// It is no frame of an IP packet.
+    pub is_other: bool,
     /// It is refused: it holds no packet of either version.
     pub is_refused: bool,
     /// It is skipped: it is longer than the room for a record.
@@ -26,6 +28,8 @@ pub struct Totals {
     pub ipv4: u64,
     /// Those that are shown as IPv6 packets.
     pub ipv6: u64,
+    /// Those that are no frames of IP packets.
+    pub other: u64,
     /// Those that are refused.
     pub refused: u64,
     /// Those that are skipped.
@@ -48,6 +52,7 @@ impl Totals {
             records: 0,
             ipv4: 0,
             ipv6: 0,
+            other: 0,
             refused: 0,
             skipped: 0,
             cut: 0,
@@ -63,6 +68,7 @@ impl Totals {
             records: self.records.checked_add(1)?,
             ipv4: self.ipv4.checked_add(u64::from(outcome.is_ipv4))?,
             ipv6: self.ipv6.checked_add(u64::from(outcome.is_ipv6))?,
+            other: self.other.checked_add(u64::from(outcome.is_other))?,
             refused: self.refused.checked_add(u64::from(outcome.is_refused))?,
             skipped: self.skipped.checked_add(u64::from(outcome.is_skipped))?,
             cut: self.cut.checked_add(u64::from(outcome.is_cut))?,

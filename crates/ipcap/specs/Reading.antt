@@ -1,0 +1,54 @@
+-- What is said of a frame.
+use Rattle.std.specs.Prelude.{ℕ, ◌≡◌, ◌||◌, Bool, true, false, List, Result, Ok, Err}
+use Rattle.ipcap.specs.Link.{packet_of}
+use Rattle.ipcap.specs.Packet.{IsRefused, IsShownOf, is_wrong}
+use Rattle.ipcap.specs.declared.link.NoPacket.{NoPacket}
+use Rattle.ipcap.specs.declared.packet.Address.TheVariants.{V4, V6}
+use Rattle.ipcap.specs.declared.reading.Reading.{Reading}
+use Rattle.ipcap.specs.declared.reading.Reading.TheVariants.{Other, Packet, Refused}
+
+-- what is said of a packet, which the capture can have cut, is shown of it, or is why it is refused
+abbrev pub ReadsPacket : Bool → List ℕ → Reading → Type 0
+ReadsPacket is_cut packet (Packet shown) = IsShownOf is_cut packet shown
+ReadsPacket is_cut packet (Refused e) = IsRefused is_cut packet e
+ReadsPacket is_cut packet (Other e) = ⊥
+
+-- what is said of a frame that has a packet is said of the packet; else it is why there is none
+abbrev pub ReadsCarried : Bool → Result (List ℕ) NoPacket → Reading → Type 0
+ReadsCarried is_cut (Ok packet) reading = ReadsPacket is_cut packet reading
+ReadsCarried is_cut (Err e) reading = reading ≡ Other e
+
+-- what is said of a frame of this link type, which the capture can have cut
+abbrev pub ReadsFrame : ℕ → Bool → List ℕ → Reading → Type 0
+ReadsFrame link_type is_cut frame reading =
+    ReadsCarried is_cut (packet_of link_type frame) reading
+
+-- whether it is shown as a packet of version 4, and of version 6
+abbrev pub is_version_4 : Reading → Bool
+is_version_4 (Packet shown) = elim shown.source [ V4 octets ↦ true | V6 octets ↦ false ]
+is_version_4 (Refused e) = false
+is_version_4 (Other e) = false
+
+abbrev pub is_version_6 : Reading → Bool
+is_version_6 (Packet shown) = elim shown.source [ V4 octets ↦ false | V6 octets ↦ true ]
+is_version_6 (Refused e) = false
+is_version_6 (Other e) = false
+
+-- whether it has a packet that is refused
+abbrev pub is_refused : Reading → Bool
+is_refused (Packet shown) = false
+is_refused (Refused e) = true
+is_refused (Other e) = false
+
+-- whether it has no packet of IP
+abbrev pub is_other : Reading → Bool
+is_other (Packet shown) = false
+is_other (Refused e) = false
+is_other (Other e) = true
+
+-- whether one of its checksums is wrong
+abbrev pub has_wrong_checksum : Reading → Bool
+has_wrong_checksum (Packet shown) =
+    is_wrong shown.header_checksum || is_wrong shown.payload_checksum
+has_wrong_checksum (Refused e) = false
+has_wrong_checksum (Other e) = false

@@ -1,0 +1,79 @@
+//! What is said of a frame.
+
+ghost use Rattle.ipcap.specs.Reading.{ReadsFrame};
+
+use crate::link::{NoPacket, packet_of};
+use crate::packet::{Address, Shown, read_packet};
+use uses::ip_slice::IpSliceError;
+
+/// What is said of a frame.
+#[derive(Clone, Debug, PartialEq, Eq, Drop)]
+pub enum Reading {
+    /// It carries an IP packet, of which this is shown.
+    Packet(Shown),
+    /// It carries an IP packet that is refused.
+    Refused(IpSliceError),
+    /// It carries no IP packet.
+    Other(NoPacket),
+}
+
+/// What is said of a frame, by a link type that is read. Where the capture cut the frame, the packet
+/// can be cut in its payload.
+pub fn read_frame(link_type: u32, is_cut: bool, frame: &[u8]) -> Reading
+    ensures { ReadsFrame link_type is_cut frame.now result }
+{
+    match packet_of(link_type, frame) {
+        Err(e) => Reading::Other(e),
+        Ok(packet) => match read_packet(is_cut, packet) {
+            Ok(shown) => Reading::Packet(shown),
+            Err(e) => Reading::Refused(e),
+        },
+    }
+}
+
+impl Reading {
+    ghost use Rattle.std.specs.Prelude.{◌≡◌};
+    ghost use Rattle.ipcap.specs.Reading.{has_wrong_checksum, is_other, is_refused};
+    ghost use Rattle.ipcap.specs.Reading.{is_version_4, is_version_6};
+
+    /// Whether an IPv4 packet is shown.
+    pub fn is_ipv4(&self) -> bool
+        ensures { result ≡ is_version_4 self.now }
+    {
+        matches!(self, Reading::Packet(shown) if matches!(shown.source, Address::V4(_)))
+    }
+
+    /// Whether an IPv6 packet is shown.
+    pub fn is_ipv6(&self) -> bool
+        ensures { result ≡ is_version_6 self.now }
+    {
+        matches!(self, Reading::Packet(shown) if matches!(shown.source, Address::V6(_)))
+    }
+
+    /// Whether a packet is refused.
+    pub fn is_refused(&self) -> bool
+        ensures { result ≡ is_refused self.now }
+    {
+        matches!(self, Reading::Refused(_))
+    }
+
+    /// Whether there is no IP packet.
+    pub fn is_other(&self) -> bool
+        ensures { result ≡ is_other self.now }
+    {
+        matches!(self, Reading::Other(_))
+    }
+
+    /// Whether a packet is shown with a wrong checksum.
+    pub fn has_wrong_checksum(&self) -> bool
+        ensures { result ≡ has_wrong_checksum self.now }
+    {
+        match self {
+            Reading::Packet(shown) => {
+                shown.header_checksum.is_wrong() || shown.payload_checksum.is_wrong()
+            }
+            Reading::Refused(_) => false,
+            Reading::Other(_) => false,
+        }
+    }
+}
