@@ -66,9 +66,26 @@ impl Display for Upper {
         match self.0 {
             1 => f.write_str("ICMP"),
             2 => f.write_str("IGMP"),
+            4 => f.write_str("IPv4"),
             6 => f.write_str("TCP"),
             17 => f.write_str("UDP"),
+            41 => f.write_str("IPv6"),
+            46 => f.write_str("RSVP"),
+            47 => f.write_str("GRE"),
+            50 => f.write_str("ESP"),
+            51 => f.write_str("AH"),
             58 => f.write_str("IPv6-ICMP"),
+            59 => f.write_str("IPv6-NoNxt"),
+            88 => f.write_str("EIGRP"),
+            89 => f.write_str("OSPFIGP"),
+            94 => f.write_str("IPIP"),
+            103 => f.write_str("PIM"),
+            108 => f.write_str("IPComp"),
+            112 => f.write_str("VRRP"),
+            115 => f.write_str("L2TP"),
+            132 => f.write_str("SCTP"),
+            136 => f.write_str("UDPLite"),
+            137 => f.write_str("MPLS-in-IP"),
             number => number.fmt(f),
         }
     }
@@ -357,7 +374,7 @@ fn main() -> ExitCode {
     match list(is_quiet, &mut input, &mut output) {
         Ok(Some(totals)) => {
             let line = format!(
-                "{} packets: {} IPv4, {} IPv6, {} refused, 0 skipped, {} cut, {} with a wrong checksum\n",
+                "{} packets: {} IPv4, {} IPv6, 0 other, {} refused, 0 skipped, {} cut, {} with a wrong checksum\n",
                 totals.records, totals.ipv4, totals.ipv6, totals.refused, totals.cut, totals.wrong
             );
             let written = if is_quiet { output.write_all(line.as_bytes()) } else { io::stderr().write_all(line.as_bytes()) };

@@ -28,15 +28,13 @@ pub record IsExtensionHeader (number : ℕ) (header : List ℕ) : Type 0 where
   pub len : length header ≡ extension_header_len number (slice_index header 1)
 
 -- How many bytes the header of a number requires of a slice that begins with it. If there are fewer
--- than two, which say no length, two are required, even for a fragment header: this rule is our
--- own.
+-- than two, two are required, even for a fragment header: this rule is our own.
 abbrev pub required_len_of : ℕ → List ℕ → ℕ
 required_len_of number s =
     if nat_lt (length s) 2 then 2 else extension_header_len number (slice_index s 1)
 
 -- Extension headers: the first has this number, each other one has the number that the first byte
--- of the one before it gives, and the last gives that number. With no header both numbers are the
--- same.
+-- of the one before it gives, and the last gives that number. With no header both are the same.
 abbrev pub IsExtensionHeaderChain : ℕ → List (List ℕ) → ℕ → Type 0
 IsExtensionHeaderChain first [] last = last ≡ first
 IsExtensionHeaderChain first (header ∷ headers) last =

@@ -20,13 +20,11 @@ abbrev pub weighted_byte_sum : ℕ → ℕ → List ℕ → ℕ
 weighted_byte_sum weight other [] = 0
 weighted_byte_sum weight other (byte ∷ bytes) = weight * byte + weighted_byte_sum other weight bytes
 
--- the sum of the words of two bytes, the low byte first (RFC 1071 section 2 (B)); an odd last byte
--- is a low byte
+-- the sum of words of two bytes, low byte first (RFC 1071 section 2 (B)); an odd byte is a low one
 abbrev pub little_endian_word_sum : List ℕ → ℕ
 little_endian_word_sum bytes = weighted_byte_sum 1 256 bytes
 
--- the same in network order, the high byte first (RFC 1071 section 1); an odd last byte is a high
--- byte
+-- the same in network order, high byte first (RFC 1071 section 1); an odd byte is a high one
 abbrev pub network_order_word_sum : List ℕ → ℕ
 network_order_word_sum bytes = weighted_byte_sum 256 1 bytes
 
@@ -42,8 +40,7 @@ ones_complement_sum pieces = folded_sum (sum_by little_endian_word_sum pieces)
 abbrev pub checksum_of : ℕ → ℕ
 checksum_of sum = 65535 - folded_sum sum
 
--- a checksum that is never 0, since 0 says in UDP that there is none: all ones stand for 0 (RFC
--- 768)
+-- a checksum that is never 0, which in UDP says that there is none: 0xffff stands for 0 (RFC 768)
 abbrev pub with_no_zero : ℕ → ℕ
 with_no_zero zero = 65535
 with_no_zero (suc n) = suc n

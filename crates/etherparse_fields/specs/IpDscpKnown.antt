@@ -36,8 +36,7 @@ code_point_of known.LowerEffort = 1
 abbrev pub IsUnknown : ℕ → Type 0
 IsUnknown number = (point : IpDscpKnown) → code_point_of point ≢ number
 
--- a number is taken as the known code point that has it, or else refused with an error that has the
--- number
+-- a number is taken as the known code point that has it, or else refused with an error that has it
 abbrev pub TakesKnown : ℕ → Result IpDscpKnown error.IpDscpUnknownValueError → Type 0
 TakesKnown number (Ok point) = code_point_of point ≡ number
 TakesKnown number (Err e) = IsUnknown number × (e ≡ record { value = number })

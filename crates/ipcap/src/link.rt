@@ -10,9 +10,8 @@ ghost use Rattle.ipcap.specs.Link.{packet_of_loopback, past_tag, past_tags, type
 pub enum NoPacket {
     /// The frame ends within its link header: it has so many bytes.
     NoLinkHeader(usize),
-    /// It carries another protocol, of this EtherType. Up to 1500 it is no EtherType: in an Ethernet
-    /// frame it is a length (IEEE 802.3 section 3.2.6), in a Linux cooked capture a number of
-    /// Linux's own.
+    /// It carries another protocol, of this EtherType. Up to 1500 it is no EtherType: in Ethernet a
+    /// length (IEEE 802.3 section 3.2.6), in a Linux cooked capture a number of Linux's own.
     OtherType(u16),
     /// It carries another protocol, of this family of a loopback interface.
     OtherFamily(u32),

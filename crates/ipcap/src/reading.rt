@@ -17,7 +17,7 @@ pub enum Reading {
     Other(NoPacket),
 }
 
-/// What is said of a frame, by a link type that is read. Where the capture cut the frame, the packet
+/// What is said of a frame, by a link type that is read. If the capture cut the frame, its packet
 /// can be cut in its payload.
 pub fn read_frame(link_type: u32, is_cut: bool, frame: &[u8]) -> Reading
     ensures { ReadsFrame link_type is_cut frame.now result }

@@ -99,8 +99,7 @@ upper_layer_lines number place rest_len = line (codes "upper") (decimal number)
 abbrev pub max_extension_headers : ℕ
 max_extension_headers = 32
 
--- the outcome of the walk over this many bytes after an IPv6 header; places count from that
--- header's start
+-- the outcome of the walk over the bytes after an IPv6 header; places count from the header's start
 abbrev pub walk_outcome : ℕ → LimitedWalkAnswer → Outcome
 walk_outcome len (Ok x) = (Done, upper_layer_lines x.0 (40 + (len - length x.1)) (length x.1))
 walk_outcome len (Err e) = (Refused, error_line (chain_error_text (chain_error_moved 0 40 e)))
