@@ -142,7 +142,8 @@ no_packet_text (NoLinkHeader len) = decimal len ++ codes " bytes are no link hea
 no_packet_text (OtherType ether_type) = codes "type 0x" ++ hex_text ether_type
 no_packet_text (OtherFamily family) = codes "family " ++ decimal family
 
--- what is said of a frame: what is shown of its packet, or why that is refused, or why there is none
+-- what is said of a frame: what is shown of its packet, or why that is refused, or why there is
+-- none
 unfoldable pub reading_text : Reading → List ℕ
 reading_text (Packet shown) = shown_text shown
 reading_text (Refused e) = codes "error: " ++ ip_slice_error_text e

@@ -93,8 +93,8 @@ packet_of_loopback link_type frame =
     else Err (NoLinkHeader (length frame))
 
 -- The packet of a frame. An Ethernet header has 14 bytes, the last two of which are the EtherType
--- (IEEE 802.3 section 3.1.1); that of a Linux cooked capture has 16 with the EtherType at their end,
--- or in its second version 20 with the EtherType at their front.
+-- (IEEE 802.3 section 3.1.1). That of a Linux cooked capture has 16, with the EtherType at their
+-- end, or in its second version 20, with the EtherType at their front.
 abbrev pub packet_of : ℕ → List ℕ → Result (List ℕ) NoPacket
 packet_of link_type frame =
     if link_type == 1 then packet_behind frame (past_tags (typed_at 14 12 frame))

@@ -1,7 +1,8 @@
 -- What is shown of a packet.
-use Rattle.std.specs.Prelude.{ℕ, ◌≡◌, ◌-◌, ◌*◌, ◌<◌, ◌^◌, ◌==◌, ◌&&◌, ◌||◌, ◌⊎◌, Bool, not, List, []}
-use Rattle.std.specs.Prelude.{◌∷◌, ◌++◌, false, true, IsTrue, MatchBool, MatchOption, Option, Some, None}
-use Rattle.std.specs.Prelude.{if◌then◌else◌, length, nat_le, slice_index, slice_range, take}
+use Rattle.std.specs.Prelude.{ℕ, ◌≡◌, ◌-◌, ◌*◌, ◌<◌, ◌^◌, ◌==◌, ◌&&◌, ◌||◌, ◌⊎◌, Bool, not, List}
+use Rattle.std.specs.Prelude.{[], ◌∷◌, ◌++◌, false, true, IsTrue, MatchBool, MatchOption, Option}
+use Rattle.std.specs.Prelude.{Some, None, if◌then◌else◌, length, nat_le, slice_index, slice_range}
+use Rattle.std.specs.Prelude.{take}
 use Rattle.std.specs.Int.{from_be_bytes, to_be_bytes, w16, w32}
 use Rattle.etherparse.specs.Ipv4Header.{ipv4_header_len}
 use Rattle.etherparse.specs.WordSums.{SumsToAllOnes, ones_complement_sum}
