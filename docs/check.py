@@ -116,13 +116,13 @@ def has(compiler):
 
 def compiles(block):
     """whether a block in C compiles with the library's header file at hand, as a file or as the
-    statements of a function that has a packet and the UDP packet in it"""
+    statements of a function that has a packet of some length and the UDP packet in it"""
     if not has('gcc'):
         return True
     compiler = ['gcc', '-std=c11', '-fsyntax-only', '-xc', '-']
     include = ['-I', str(ROOT / 'crates/etherparse_c/include')]
     head = ('#include <etherparse.h>\n#include <string.h>\n'
-            'void tried(const uint8_t *packet, uint8_t *udp, uint16_t udp_len) {')
+            'void tried(const uint8_t *packet, size_t len, uint8_t *udp, uint16_t udp_len) {')
     return any(subprocess.run(compiler + include, input=text, capture_output=True, text=True,
                               check=False).returncode == 0
                for text in (block, head + block + '}'))
