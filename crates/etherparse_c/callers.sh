@@ -1,10 +1,10 @@
 #!/usr/bin/env bash
-# callers.sh [--after-ci]: builds the library, and the callers in C, C++ and Rust as those compile
-# them, and runs them: worked values through the header file, the header file in each dialect of
-# each compiler, the examples, whose output has to be examples/inspect.txt, what a call stores at
-# which offset, each way to link, and the tests of the safe Rust crate over it. With --after-ci it
-# takes the libraries below as `rt ci` has just proved them, and proves this crate alone. A compiler
-# that is not there is told and left out. The last line is 'N passed, M failed, K left out'.
+# callers.sh [--after-ci]: builds the library and its callers in C, C++ and Rust, and runs them:
+# worked values through the header file, the header file in each dialect of each compiler, the
+# examples, whose output has to be examples/inspect.txt, what a call stores at which offset, each
+# way to link, and the tests of the safe Rust crate over it. With --after-ci it takes the libraries
+# below as `rt ci` has just proved them, and proves this crate alone. It names each compiler that is
+# missing and leaves it out. The last line is 'N passed, M failed, K left out'.
 set -euo pipefail
 here=$(cd "$(dirname "$0")" && pwd)
 out=$here/out/callers
@@ -13,7 +13,7 @@ passed=0
 failed=0
 left_out=0
 
-# Runs a command under a name, and keeps what it prints for the case that it fails.
+# Runs a command under a name, and prints its output if it fails.
 try() {
   local name=$1
   shift
@@ -34,7 +34,7 @@ leave_out() {
 
 has() { command -v "$1" > /dev/null; }
 
-# Whether the library wants nothing of the C library but `memcpy`.
+# Whether the library needs nothing of the C library but `memcpy`.
 wants_little() {
   nm --undefined-only "$library" | awk 'NF == 2 { print $2 }' | sort -u > "$out/undefined.txt"
   ! grep -vx -e memcpy "$out/undefined.txt"
@@ -57,8 +57,8 @@ answers_right() { "$@" -o "$out/cases" && "$out/cases"; }
 
 links_static() { echo 'int main(void) { return 0; }' | "$1" -xc -static -o "$out/static" - 2> "$out/said.txt"; }
 
-# Builds the library over those below that `rt ci` left, which no stamp names, so `rt lib` would
-# prove them once more.
+# Builds the library on top of the proved crates that `rt ci` left. They have no stamp, so `rt lib`
+# would prove them once more.
 build_after_ci() {
   local kit crates below words=()
   kit=$(dirname "$(dirname "$(readlink -f "$(command -v rt)")")")

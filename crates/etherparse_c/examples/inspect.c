@@ -11,7 +11,7 @@ struct packet {
     size_t len;
 };
 
-/* The bytes of hex digits, with blanks anywhere. */
+/* The bytes that hex digits spell; blanks may stand anywhere. */
 static struct packet packet_of(const char *digits)
 {
     struct packet made;
@@ -25,7 +25,7 @@ static struct packet packet_of(const char *digits)
     return made;
 }
 
-/* The same, and 0 up to a length. */
+/* The same, padded with 0 to a length. */
 static struct packet padded(const char *digits, size_t len)
 {
     struct packet made = packet_of(digits);
@@ -46,8 +46,8 @@ static const char *yes_or_no(bool is)
     return is ? "yes" : "no";
 }
 
-/* The numbers of an error, and its text. Where an error counts from the start of a packet, its header is before the slice that
- * was refused. */
+/* Prints the numbers of an error, and its text. `before` is how many bytes of the packet come before the slice that was refused:
+ * its header, or none. */
 static void print_error(struct etherparse_error error, size_t before)
 {
     char text[ETHERPARSE_ERROR_TEXT_SIZE];
@@ -71,7 +71,7 @@ static void print_ipv4_getters(const struct etherparse_ipv4_view_fields *view)
     print_hex("destination", view->destination, sizeof view->destination);
 }
 
-/* What the getters of a view show, and what the owned header says. */
+/* Prints what the getters of a view return, and the fields of the owned header. */
 static void show_ipv4(const char *name, const uint8_t *at, size_t len)
 {
     printf("IPv4, %s\n", name);
@@ -95,7 +95,7 @@ static void show_ipv4(const char *name, const uint8_t *at, size_t len)
     printf("  rest at %zu, %zu bytes\n", read.rest.offset, read.rest.len);
 }
 
-/* The packet goes on to the next hop. */
+/* Forwards a packet to the next hop. */
 static void show_next_hop(const uint8_t *at, size_t len, uint8_t time_to_live)
 {
     struct etherparse_ipv4_read_answer read = etherparse_ipv4_read(at, len);
@@ -205,7 +205,7 @@ static void fill(uint8_t *at, size_t len, uint8_t first)
         at[i] = (uint8_t)(first + i);
 }
 
-/* Headers of fields no two of which are alike, written and read again. */
+/* Headers whose fields all differ, written and read again. */
 static void show_made(void)
 {
     struct etherparse_ipv4_fields ipv4 = etherparse_ipv4_default();
@@ -268,7 +268,7 @@ static void show_new(void)
     print_error(etherparse_ipv4_new(65516, 64, 17, source, destination).error, 0);
 }
 
-/* Fields out of their bounds are those of no header. */
+/* Fields that are out of bounds are refused. */
 static void show_refused_fields(void)
 {
     struct etherparse_ipv4_fields ipv4 = etherparse_ipv4_default();

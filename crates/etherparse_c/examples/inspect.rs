@@ -6,7 +6,7 @@ mod etherparse;
 use etherparse::*;
 use std::ptr;
 
-// A slice as the library takes it: an empty one by a null pointer.
+// A slice as the library takes it: an empty one is a null pointer.
 fn parts(bytes: &[u8]) -> (*const u8, usize) {
     let at = if bytes.is_empty() { ptr::null() } else { bytes.as_ptr() };
     (at, bytes.len())
@@ -49,7 +49,7 @@ fn walk_up_to(bytes: &[u8], next_header: u8, limit: usize) -> Ipv6WalkAnswer {
 }
 
 fn write_ipv4(fields: &Ipv4Fields) -> Ipv4Bytes {
-    // SAFETY: a reference is to fields.
+    // SAFETY: a reference points to fields.
     unsafe { etherparse_ipv4_write(fields) }
 }
 
@@ -59,13 +59,13 @@ fn write_ipv6(fields: &Ipv6Fields) -> Ipv6Bytes {
 }
 
 fn header_checksum(fields: &Ipv4Fields) -> Ipv4HeaderChecksumAnswer {
-    // SAFETY: a reference is to fields.
+    // SAFETY: a reference points to fields.
     unsafe { etherparse_ipv4_header_checksum(fields) }
 }
 
 // A header without options, from one host to another.
 fn new_header(payload_len: u16) -> Ipv4NewAnswer {
-    // SAFETY: both references are to four bytes.
+    // SAFETY: both references point to four bytes.
     unsafe { etherparse_ipv4_new(payload_len, 64, 17, &[192, 168, 0, 1], &[192, 168, 0, 199]) }
 }
 
@@ -76,12 +76,12 @@ fn skip(bytes: &[u8], next_header: u8) -> Ipv6WalkAnswer {
 }
 
 fn set_time_to_live(fields: &mut Ipv4Fields, time_to_live: u8) -> bool {
-    // SAFETY: a reference is to fields.
+    // SAFETY: a reference points to fields.
     unsafe { etherparse_ipv4_set_time_to_live(fields, time_to_live) }
 }
 
 fn lengths(total_len: u16, options_len: u8) -> Ipv4LengthsAnswer {
-    // SAFETY: numbers alone are passed.
+    // SAFETY: only numbers are passed.
     unsafe { etherparse_ipv4_lengths(total_len, options_len) }
 }
 
@@ -94,7 +94,7 @@ fn checksums(pieces: &[&[u8]]) -> (u16, u16) {
             Slice { at, len }
         })
         .collect();
-    // SAFETY: each piece is a slice that lives on.
+    // SAFETY: each piece is a slice that outlives the call.
     unsafe {
         let wide = etherparse_u64_16bit_word_add_slices(pieces.as_ptr(), pieces.len());
         let narrow = etherparse_u32_16bit_word_add_slices(pieces.as_ptr(), pieces.len());
@@ -105,7 +105,7 @@ fn checksums(pieces: &[&[u8]]) -> (u16, u16) {
     }
 }
 
-// The bytes of hex digits, with blanks anywhere.
+// The bytes that hex digits spell; blanks may stand anywhere.
 fn bytes_of(digits: &str) -> Vec<u8> {
     let digits: Vec<u8> = digits
         .chars()
@@ -115,7 +115,7 @@ fn bytes_of(digits: &str) -> Vec<u8> {
     digits.chunks(2).map(|pair| 16 * pair[0] + pair[1]).collect()
 }
 
-// The same, and 0 up to a length.
+// The same, padded with 0 to a length.
 fn padded(digits: &str, len: usize) -> Vec<u8> {
     let mut bytes = bytes_of(digits);
     bytes.resize(len, 0);
@@ -135,8 +135,8 @@ fn yes_or_no(is: bool) -> &'static str {
     }
 }
 
-// The numbers of an error, and its text. Where an error counts from the start of a packet, its
-// header is before the slice that was refused.
+// Prints the numbers of an error, and its text. `before` is how many bytes of the packet come
+// before the slice that was refused: its header, or none.
 fn print_error(mut error: Error, before: usize) {
     error.layer_start_offset += before;
     println!(
@@ -150,12 +150,12 @@ fn print_error(mut error: Error, before: usize) {
         error.limit
     );
     let mut text = [0; ERROR_TEXT_SIZE];
-    // SAFETY: the pointer is to so many bytes.
+    // SAFETY: the pointer points to that many bytes.
     let len = unsafe { etherparse_error_text(&error, text.as_mut_ptr(), text.len()) };
     println!("  {len} bytes: {}", String::from_utf8_lossy(&text[..len]));
 }
 
-// What the getters of a view show, and what the owned header says.
+// Prints what the getters of a view return, and the fields of the owned header.
 fn show_ipv4(name: &str, bytes: &[u8]) {
     println!("IPv4, {name}");
     let (seen, read) = (view_ipv4(bytes), read_ipv4(bytes));
@@ -200,7 +200,7 @@ fn print_ipv4_getters(view: &Ipv4ViewFields) {
     print_hex("destination", &view.destination);
 }
 
-// The packet goes on to the next hop.
+// Forwards a packet to the next hop.
 fn show_next_hop(bytes: &[u8], time_to_live: u8) {
     let mut fields = read_ipv4(bytes).fields;
     if !set_time_to_live(&mut fields, time_to_live) {
@@ -304,7 +304,7 @@ fn show_checksums() {
         )
     };
     println!("checksum of one piece: {wide:04x}, {narrow:04x}");
-    // SAFETY: numbers alone are passed.
+    // SAFETY: only numbers are passed.
     let (swapped, updated) =
         unsafe { (etherparse_swap_bytes(wide), etherparse_update_2bytes(0xdd2f, 0x5555, 0x3285)) };
     println!("in the other byte order: {swapped:04x}");
@@ -324,7 +324,7 @@ fn show_pseudo_header() {
     let pseudo_header = [192, 0, 2, 1, 192, 0, 2, 2, 0, 17, 0, 12];
     let mut udp = *b"\x30\x39\x00\x35\x00\x0c\x00\x00abcd";
     let sum = added(0, &pseudo_header);
-    // SAFETY: a number alone is passed.
+    // SAFETY: only a number is passed.
     let checksum = unsafe { etherparse_u64_16bit_word_ones_complement_with_no_zero(added(sum, &udp)) };
     udp[6..8].copy_from_slice(&checksum.to_le_bytes());
     print_hex("UDP", &udp);
@@ -333,7 +333,7 @@ fn show_pseudo_header() {
     println!("  a receiver's sum {received:04x}");
 }
 
-// Headers of fields no two of which are alike, written and read again.
+// Headers whose fields all differ, written and read again.
 fn show_made() {
     let mut options = [0; 40];
     options[..4].copy_from_slice(&[19, 20, 21, 22]);
@@ -405,7 +405,7 @@ fn show_new() {
     print_error(new_header(65516).error, 0);
 }
 
-// Fields out of their bounds are those of no header.
+// Fields that are out of bounds are refused.
 fn show_refused_fields() {
     let mut ipv4 = read_ipv4(&padded("45", 20)).fields;
     ipv4.dscp = 64;

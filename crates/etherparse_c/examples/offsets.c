@@ -1,12 +1,12 @@
-/* Says at which offset of its answer a call stores which number. It reads an answer as bytes, with no field of a struct, so the
- * order of the fields in etherparse.h is no part of it. */
+/* Tests at which offset of its result a call stores which number. It reads a result as bytes and names no field of a struct, so
+ * the order of the fields in etherparse.h has no influence. */
 
 #include "etherparse.h"
 
 #include <stdio.h>
 #include <string.h>
 
-/* A number of so many bytes, of which the first in memory is the low one. */
+/* A number in that many bytes, the low byte first. */
 struct place {
     const char *name;
     size_t offset;
@@ -37,7 +37,7 @@ static void compare(const char *call, const void *answer, const struct place *pl
 
 #define COMPARE(call, answer, places) compare(call, &(answer), places, sizeof(places) / sizeof((places)[0]))
 
-/* No two fields of a header are alike, nor any two numbers of its error. */
+/* All fields of a header differ, and so do all numbers of its error. */
 static const uint8_t IPV4[26] = {
     0x46, 0x29, 1, 2, 3, 4, 0x55, 6, 7, 8, 9, 10, 11, 12, 13, 14, 15, 16, 17, 18, 19, 20, 21, 22, 23, 24,
 };

@@ -1,9 +1,9 @@
 /* fuzz COUNT SECONDS EVERY CASES ANSWERS [SEED]: calls every function of the library on COUNT inputs, for SECONDS at most, and
  * compares each answer with that of the reference.
  *
- * An input is a random or mutated packet, which lies at one end of a page between two that can not be read, and fields, words
- * and an error of random numbers, which end at such a page. Of each EVERYth packet the calls are written to the file CASES and
- * the answers to ANSWERS, in the protocol of conformance/PROTOCOL.md. */
+ * An input is a random or mutated packet, at one end of a page between two pages that cannot be read, and fields, words and an
+ * error of random numbers, which end at such a page. For each EVERYth packet the calls are written to the file CASES and the
+ * answers to ANSWERS, in the protocol of conformance/PROTOCOL.md. */
 
 #define _DEFAULT_SOURCE
 #include "reference.h"
@@ -43,7 +43,7 @@ static void fill(uint8_t *at, size_t len)
         at[i] = (uint8_t)(next_random() >> 56);
 }
 
-/* The packet at hand, for the report of a failure. */
+/* The current packet, for the report of a failure. */
 static const uint8_t *packet;
 static size_t packet_len;
 
@@ -82,7 +82,7 @@ static size_t make_ipv6(uint8_t *at, uint8_t next_header)
     return 40;
 }
 
-/* Extension headers, of which the first has this number. */
+/* Extension headers; the first has this number. */
 static size_t make_chain(uint8_t *at, uint8_t number)
 {
     size_t len = 0;
@@ -129,8 +129,8 @@ static size_t make_packet(uint8_t *at, uint8_t *number)
     return len;
 }
 
-/* What the calls on one packet answer, beside the reference. Structs are compared by field, since between fields there may be
- * bytes that nothing sets. */
+/* Compares the results of the calls on one packet with the reference. Structs are compared by field, since the padding between
+ * fields is not set. */
 
 static bool same_error(const struct etherparse_error *a, const struct etherparse_error *b)
 {
@@ -226,7 +226,7 @@ static uint64_t some_number(uint64_t most)
     }
 }
 
-/* The checksum of a sum that folds so, with the low byte first, and the one with no zero. */
+/* The checksum of a sum with this fold, the low byte first, and its form with no zero. */
 static void check_complements(uint64_t wide, uint32_t narrow)
 {
     uint16_t of_wide = (uint16_t)~reference_fold(wide);
@@ -268,7 +268,7 @@ static void check_sums(void)
     expect(reference_fold(etherparse_u32_16bit_word_add_slices(list, count)) == of_pieces, "u32 add_slices");
 }
 
-/* Room at the end of a page, behind which nothing can be read or written. */
+/* Room at the end of a page; nothing after it can be read or written. */
 static uint8_t *page_end;
 
 static void fill_words(uint8_t *at, size_t len)
@@ -313,7 +313,7 @@ static struct etherparse_ipv4_fields made_fields(void)
     return fields;
 }
 
-/* Headers of fields, which lie at the end of the page. */
+/* Headers made of fields at the end of the page. */
 static void check_ipv4_fields(void)
 {
     struct etherparse_ipv4_fields *fields = (struct etherparse_ipv4_fields *)(page_end - sizeof *fields);
@@ -358,7 +358,7 @@ static void check_ipv6_fields(void)
     expect(same_ipv6_fields(&given, &none), "ipv6_default");
 }
 
-/* The text of numbers that an error has, or of any others, in a room of any size at the end of the page. */
+/* The text of the numbers of an error, or of any numbers, in a buffer of any size at the end of the page. */
 static void check_text(void)
 {
     char text[ETHERPARSE_ERROR_TEXT_SIZE];
@@ -387,7 +387,7 @@ static void check_text(void)
     expect(memcmp(at + shown + 1, before + shown + 1, room - shown - 1) == 0, "error_text: what stands behind");
 }
 
-/* The same calls and answers for the Rust crate. */
+/* The same calls and results, for the comparison with the Rust crate. */
 
 static FILE *cases;
 static FILE *answers;
@@ -648,7 +648,7 @@ static void tell_all(uint8_t number)
     tell_update();
 }
 
-/* A page that can be read and written, between two that can not. */
+/* A page that can be read and written, between two that cannot. */
 static uint8_t *guarded_page(size_t page_len)
 {
     uint8_t *at = mmap(NULL, 3 * page_len, PROT_NONE, MAP_PRIVATE | MAP_ANONYMOUS, -1, 0);

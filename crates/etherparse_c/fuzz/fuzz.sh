@@ -1,8 +1,8 @@
 #!/bin/sh
-# fuzz.sh [REFERENCE [COUNT [SEED]]]: calls every function of the library on COUNT inputs, 10,000,000 where no COUNT is given, from
-# a program in C under gcc's address and undefined-behaviour sanitizers, and compares each answer with that of a reference in C
-# from the RFCs (reference.c). Each buffer begins or ends at a page that faults. With REFERENCE, a program that answers the cases of
-# the Rust crate by lines, the answers to a sample of the packets are compared with its own; an empty REFERENCE is none.
+# fuzz.sh [REFERENCE [COUNT [SEED]]]: calls every function of the library on COUNT inputs, by default 10,000,000, from a program in
+# C under gcc's address and undefined-behaviour sanitizers, and compares each result with that of a reference in C written from the
+# RFCs (reference.c). Each buffer begins or ends at a page that faults. With REFERENCE, the program of conformance/ over the Rust
+# crate, the results for a sample of the packets are compared with the crate's too; an empty REFERENCE is none.
 set -eu
 here=$(CDPATH= cd -- "$(dirname -- "$0")" && pwd)
 library=$here/..

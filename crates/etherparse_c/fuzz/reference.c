@@ -54,7 +54,7 @@ static struct etherparse_error of_number(uint32_t kind, uint16_t layer, uint32_t
     return error;
 }
 
-/* The text in the layers' words. */
+/* The text, with the titles and names of the layers. */
 static int len_text(char *text, const char *title, const char *layer, const char *source, const struct etherparse_error *error)
 {
     int len = snprintf(text, ETHERPARSE_ERROR_TEXT_SIZE,
@@ -116,7 +116,7 @@ size_t reference_text(const struct etherparse_error *error, char text[ETHERPARSE
     return (size_t)len;
 }
 
-/* Sums (RFC 1071 section 1): with the carries added at the low end until none is left. */
+/* Sums (RFC 1071 section 1): carries are added at the low end until none is left. */
 
 uint16_t reference_fold(uint64_t sum)
 {
@@ -409,7 +409,7 @@ static size_t required_len(const uint8_t *at, size_t len, size_t offset, uint8_t
     return number == 51 ? 4 * ((size_t)at[offset + 1] + 2) : 8 * ((size_t)at[offset + 1] + 1);
 }
 
-/* A walk past at most so many headers; where the limit is told, one more is an error, and else the walk stays there. */
+/* A walk past at most this many headers. If is_told, one header more is an error; otherwise the walk ends there. */
 static struct etherparse_ipv6_walk_answer walked(const uint8_t *at, size_t len, uint8_t number, size_t limit, bool is_told)
 {
     struct etherparse_ipv6_walk_answer answer;

@@ -1,12 +1,12 @@
-/* What each call of the library has to answer, written again in C from the RFCs, one bit of a figure after the other and with no
- * thought of speed. Nothing of it calls the library. */
+/* What each call of the library has to return, written in C from the RFCs, bit by bit as their figures show and without regard to
+ * speed. None of it calls the library. */
 
 #ifndef REFERENCE_H
 #define REFERENCE_H
 
 #include "etherparse.h"
 
-/* The number of so many bits from a bit of a figure on, as the RFCs count them: bit 0 is the highest one of the first byte. */
+/* The number in so many bits, starting at a bit of a figure. As in the RFCs, bit 0 is the highest bit of the first byte. */
 uint32_t bits_at(const uint8_t *at, size_t first, size_t count);
 
 struct etherparse_ipv4_view_answer reference_ipv4_view(const uint8_t *at, size_t len);
@@ -35,7 +35,7 @@ uint16_t reference_add(uint16_t a, uint16_t b);
 /* The checksum after words were changed (RFC 1624, equation 3), all high byte first. */
 uint16_t reference_update(uint16_t checksum, const uint8_t *old_bytes, const uint8_t *new_bytes, size_t len);
 
-/* The text of an error, with a 0 behind it, and its length. */
+/* The text of an error, with a 0 after it, and its length. */
 size_t reference_text(const struct etherparse_error *error, char text[ETHERPARSE_ERROR_TEXT_SIZE]);
 
 #endif

@@ -1,20 +1,20 @@
 /* IP headers and their checksums: the proved library for C.
  *
  * A slice is a pointer and a length in bytes, which is at most half of the address space. A null
- * pointer with the length 0 is the empty slice. No call keeps a pointer, takes memory or makes a
- * system call.
+ * pointer with the length 0 is the empty slice. No call keeps a pointer, allocates memory or makes
+ * a system call.
  *
- * Threads: the library has no state of its own, so any number of threads may call it at once, as
- * long as none writes what a call of another reads or writes.
+ * Threads: the library has no state, so any number of threads may call it at once, as long as no
+ * thread writes what a call of another reads or writes.
  *
  * Systems: x86-64 with the System V calling convention, as Linux has it. The library is built
  * for the processor level x86-64-v2 (SSE4.2 and SSSE3, in every processor since about 2009)
- * unless another was asked for; on an older processor a call ends the process by an illegal
- * instruction. The file etherparse.pc names the level of what is installed.
+ * unless it was built for another; on an older processor a call ends the process with an illegal
+ * instruction. The file etherparse.pc names the level of the installed library.
  *
- * Byte order: a field of a struct is a number, whose high byte the packet has first. A sum, and
- * a checksum made of a sum, has the packet's first byte as its low byte; etherparse_swap_bytes
- * turns the one form into the other. Each call says which it takes and answers. */
+ * Byte order: a field of a struct is a number whose high byte comes first in the packet. In a
+ * sum, and in a checksum made from a sum, the low byte comes first; etherparse_swap_bytes converts
+ * one form into the other. Each call says which form it takes and returns. */
 
 #ifndef ETHERPARSE_H
 #define ETHERPARSE_H
@@ -23,7 +23,7 @@
 #include <stddef.h>
 #include <stdint.h>
 
-/* The version of this file and of the library that it stands beside. */
+/* The version of this file and of the library that it belongs to. */
 #define ETHERPARSE_VERSION_MAJOR 0
 #define ETHERPARSE_VERSION_MINOR 1
 #define ETHERPARSE_VERSION_PATCH 0
@@ -49,16 +49,16 @@ extern "C" {
 
 /* Checksums of the internet protocols (RFC 1071).
  *
- * A sum begins at 0, or at what was summed before; so a checksum over a pseudo-header, a header
- * and a payload is three calls of add_slice and one of ones_complement. A slice with an odd
- * number of bytes is padded with a byte 0, so only the last one may have an odd number where the
- * bytes belong together.
+ * A sum starts at 0 or at an earlier sum. So a checksum over a pseudo-header, a header and a
+ * payload takes three calls of add_slice and one of ones_complement. A slice with an odd number
+ * of bytes is padded with a byte 0, so of slices that belong together only the last may have an
+ * odd number.
  *
  * Two sums of the same words may be different numbers; their complements are the same.
  *
- * Byte order: in a sum, in its complement and in the checksum of a slice, the low byte is the
- * one that a packet has first. So memcpy puts a complement into a packet; as the number that
- * header_checksum is, it goes through etherparse_swap_bytes. */
+ * Byte order: in a sum, in its complement and in the checksum of a slice, the low byte comes
+ * first in the packet. So memcpy puts a complement into a packet; etherparse_swap_bytes makes it
+ * a number like header_checksum. */
 
 /* Bytes of a list of pieces. */
 struct etherparse_slice {
@@ -66,7 +66,7 @@ struct etherparse_slice {
     size_t len;
 };
 
-/* Adds the words of a slice to a sum. The 64 bits are the faster. */
+/* Adds the words of a slice to a sum. Both widths take about the same time. */
 uint64_t etherparse_u64_16bit_word_add_slice(uint64_t start_sum, const uint8_t *at, size_t len);
 uint32_t etherparse_u32_16bit_word_add_slice(uint32_t start_sum, const uint8_t *at, size_t len);
 
@@ -74,52 +74,52 @@ uint32_t etherparse_u32_16bit_word_add_slice(uint32_t start_sum, const uint8_t *
 uint64_t etherparse_u64_16bit_word_add_slices(const struct etherparse_slice *pieces, size_t count);
 uint32_t etherparse_u32_16bit_word_add_slices(const struct etherparse_slice *pieces, size_t count);
 
-/* The checksum of what was summed, with the low byte first in a packet. It is 0 where the words
- * sum to all ones, as those of a right packet do with their checksum among them. */
+/* The checksum of what was summed, the low byte first. It is 0 exactly if the words sum to all
+ * ones, as those of a correct packet do, its checksum included. */
 uint16_t etherparse_u64_16bit_word_ones_complement(uint64_t sum);
 uint16_t etherparse_u32_16bit_word_ones_complement(uint32_t sum);
 
-/* The same, low byte first too, with 0xffff in place of 0, for UDP, where 0 says that there is
+/* The same, also low byte first, with 0xffff in place of 0, for UDP: there 0 says that there is
  * no checksum (RFC 768). */
 uint16_t etherparse_u64_16bit_word_ones_complement_with_no_zero(uint64_t sum);
 uint16_t etherparse_u32_16bit_word_ones_complement_with_no_zero(uint32_t sum);
 
-/* The checksum of a slice after what was summed, low byte first: add_slice and ones_complement
- * in one call. It is 0 exactly where all the words together sum to all ones. */
+/* The checksum of a slice after an earlier sum, low byte first: add_slice and ones_complement in
+ * one call. It is 0 exactly if all the words together sum to all ones. */
 uint16_t etherparse_u64_16bit_word_checksum(uint64_t start_sum, const uint8_t *at, size_t len);
 uint16_t etherparse_u32_16bit_word_checksum(uint32_t start_sum, const uint8_t *at, size_t len);
 
-/* A checksum in the other byte order: of one that a call above answered the number that
- * header_checksum is, and of such a number what those calls answer. */
+/* A checksum in the other byte order: converts what a call above returns into a number like
+ * header_checksum, and back. */
 uint16_t etherparse_swap_bytes(uint16_t checksum);
 
-/* The checksum after one of the words that it is over was changed from old_word to new_word (RFC
- * 1624, equation 3): all three, and the answer, are numbers whose high byte a packet has first,
- * as header_checksum is. A wrong checksum is not made right. */
+/* The checksum after one of the words that it covers was changed from old_word to new_word (RFC
+ * 1624, equation 3). All three, and the result, are numbers whose high byte comes first in the
+ * packet, like header_checksum. An incorrect checksum is not repaired. */
 uint16_t etherparse_update_2bytes(uint16_t checksum, uint16_t old_word, uint16_t new_word);
 
-/* The same after four bytes, as an IPv4 address, or sixteen, as an IPv6 address, were changed at
- * an even place. The bytes are as the packet has them, the checksum is the number whose high
- * byte comes first. */
+/* The same after four bytes (such as an IPv4 address) or sixteen (an IPv6 address) were changed
+ * at an even offset. The bytes are those of the packet; the high byte of the checksum comes
+ * first. */
 uint16_t etherparse_update_4bytes(uint16_t checksum, const uint8_t old_bytes[4],
     const uint8_t new_bytes[4]);
 uint16_t etherparse_update_16bytes(uint16_t checksum, const uint8_t old_bytes[16],
     const uint8_t new_bytes[16]);
 
-/* Why a call refused, by its numbers. Each number that a kind does not have is 0. */
+/* Why a call refused, as numbers. Each number that a kind does not have is 0. */
 struct etherparse_error {
-    uint32_t kind; /* one of the kinds below; 0 says that nothing was refused */
-    /* by the kind the version, the IHL, of TOO_MANY the header that is one too many, or which
-     * value it is */
+    uint32_t kind; /* one of the kinds below; 0 if nothing was refused */
+    /* depending on the kind: the version, the IHL, the number of the header that is one too many,
+     * or which value it is */
     uint16_t number;
     /* of LEN, UNEXPECTED_VERSION, HEADER_LENGTH_SMALLER_THAN_HEADER and TOO_MANY: a layer below */
     uint16_t layer;
     size_t required_len; /* of LEN: the length in bytes that is required */
-    /* of LEN and BAD_OPTIONS_LEN: the length in bytes that there is; of VALUE_TOO_BIG the value */
+    /* of LEN and BAD_OPTIONS_LEN: the actual length in bytes; of VALUE_TOO_BIG: the value */
     size_t len;
     /* of LEN and TOO_MANY: where the header starts, in bytes from the start of the slice */
     size_t layer_start_offset;
-    /* of TOO_MANY how many headers were allowed; of VALUE_TOO_BIG the greatest value that is
+    /* of TOO_MANY: how many headers were allowed; of VALUE_TOO_BIG: the greatest value that is
      * allowed */
     size_t limit;
 };
@@ -127,12 +127,12 @@ struct etherparse_error {
 /* The kinds of errors. */
 enum {
     ETHERPARSE_OK = 0,
-    ETHERPARSE_LEN = 1, /* a length is below the one that is required */
+    ETHERPARSE_LEN = 1, /* a length is below the required one */
     ETHERPARSE_UNEXPECTED_VERSION = 2, /* the version field has another number */
     ETHERPARSE_HEADER_LENGTH_SMALLER_THAN_HEADER = 3, /* the IHL field is below 5 */
     ETHERPARSE_TOO_MANY = 4, /* there are more extension headers than are allowed */
-    ETHERPARSE_VALUE_TOO_BIG = 5, /* a value is above the greatest that its field has room for */
-    ETHERPARSE_BAD_OPTIONS_LEN = 6 /* options cannot be of this length */
+    ETHERPARSE_VALUE_TOO_BIG = 5, /* a value does not fit its field */
+    ETHERPARSE_BAD_OPTIONS_LEN = 6 /* options cannot have this length */
 };
 
 /* The layers that an error is about. */
@@ -153,18 +153,17 @@ enum {
     ETHERPARSE_IPV6_PAYLOAD_LENGTH = 6
 };
 
-/* Room in bytes for the longest text, with the 0 behind it. */
+/* Room in bytes for the longest text and the 0 after it. */
 #define ETHERPARSE_ERROR_TEXT_SIZE 301
 
-/* The text of an error in English, with no newline. As snprintf does, it writes as much of it as
- * there is room for in len bytes with a 0 behind it, and answers how many bytes the whole text
- * has, without that 0; so len may be 0. Numbers that no error has, as those of ETHERPARSE_OK,
- * have the empty text. The pointer to the error is not null, and text is null only where len is
- * 0. */
+/* Writes the text of an error, in English and with no newline. As snprintf does, it writes as much
+ * of the text as fits into len bytes with a 0 after it, and returns how many bytes the whole text
+ * has, without that 0; so len may be 0. Numbers that no error has, such as those of
+ * ETHERPARSE_OK, have the empty text. The pointer to the error is not null; text may be null only
+ * if len is 0. */
 size_t etherparse_error_text(const struct etherparse_error *error, char *text, size_t len);
 
-/* Where the bytes after a header, or after extension headers, are: the slice from this offset
- * on. */
+/* The bytes after a header, or after extension headers: the slice from this offset on. */
 struct etherparse_rest {
     size_t offset;
     size_t len;
@@ -186,18 +185,18 @@ struct etherparse_ipv4_fields {
     uint16_t header_checksum; /* bytes 10 and 11 as a number, the high byte first */
     uint8_t source[4];
     uint8_t destination[4];
-    uint8_t options_len; /* how many bytes of options there are: at most 40, in words of 4 */
-    uint8_t options[40]; /* what follows the options in the array is no part of them */
+    uint8_t options_len; /* the number of bytes of options: at most 40, in words of 4 */
+    uint8_t options[40]; /* what follows the options in the array does not matter */
 };
 
-/* What the getters of a view answer. */
+/* What the getters of a view return. */
 struct etherparse_ipv4_view_fields {
     uint8_t source[4];
     uint8_t destination[4];
     uint16_t total_len; /* of the header and what follows it, in bytes */
     uint16_t identification;
     uint16_t fragment_offset; /* in units of 8 bytes, at most 8191 */
-    /* the one that the header has, right or wrong: a number, the high byte first */
+    /* the one that the header has, correct or not: a number, the high byte first */
     uint16_t header_checksum;
     uint8_t ihl; /* the length of the header in words of 4 bytes, 5 to 15 */
     uint8_t dscp; /* at most 63 */
@@ -210,7 +209,7 @@ struct etherparse_ipv4_view_fields {
 };
 
 /* The header at the front of a slice, as a view. Its bytes are those of the slice up to
- * rest.offset, and its options those from byte 20 up to there. Where error.kind is not
+ * rest.offset, and its options those from byte 20 up to there. If error.kind is not
  * ETHERPARSE_OK, there is no header and all else is 0. */
 struct etherparse_ipv4_view_answer {
     struct etherparse_ipv4_view_fields view;
@@ -218,23 +217,22 @@ struct etherparse_ipv4_view_answer {
     struct etherparse_rest rest;
 };
 
-/* The header at the front of a slice, with a copy of its options, which 0 follows in their
- * array. The fields are within their bounds, so they can be written again. Where error.kind is
- * not ETHERPARSE_OK, there is no header and all else is 0. */
+/* The header at the front of a slice, with a copy of its options, and 0 after them in their array.
+ * The fields are within their bounds, so they can be written again. If error.kind is not
+ * ETHERPARSE_OK, there is no header and all else is 0. */
 struct etherparse_ipv4_read_answer {
     struct etherparse_ipv4_fields fields;
     struct etherparse_error error;
     struct etherparse_rest rest;
 };
 
-/* The bytes of a header, and 0 after them. Where the fields are those of no header, all is 0. */
+/* The bytes of a header, and 0 after them. If a field is out of its bounds, all is 0. */
 struct etherparse_ipv4_bytes {
     uint8_t bytes[60];
     uint8_t len; /* 20 to 60, or 0 */
 };
 
-/* A header without options. Where error.kind is not ETHERPARSE_OK, there is none and all else is
- * 0. */
+/* A header without options. If error.kind is not ETHERPARSE_OK, there is none and all else is 0. */
 struct etherparse_ipv4_new_answer {
     struct etherparse_ipv4_fields fields;
     struct etherparse_error error;
@@ -242,7 +240,7 @@ struct etherparse_ipv4_new_answer {
 
 /* The checksum that a header should have. */
 struct etherparse_ipv4_header_checksum_answer {
-    /* the high byte first in the header, as header_checksum is; 0 where accepted is false */
+    /* the high byte first, like header_checksum; 0 if accepted is false */
     uint16_t checksum;
     bool accepted; /* the fields are within their bounds */
 };
@@ -260,53 +258,53 @@ struct etherparse_ipv4_lengths_answer {
 /* The header at the front of a slice, and where the bytes after it are: all of them, whatever
  * total_len says.
  *
- * The error is, in this order, a LEN where the slice has fewer than 20 bytes; UNEXPECTED_VERSION
- * where the version is not 4; HEADER_LENGTH_SMALLER_THAN_HEADER where the IHL is below 5; a LEN
- * where the slice has fewer bytes than the IHL says. */
+ * The error is the first of these: LEN if the slice has fewer than 20 bytes; UNEXPECTED_VERSION
+ * if the version is not 4; HEADER_LENGTH_SMALLER_THAN_HEADER if the IHL is below 5; LEN if the
+ * slice has fewer bytes than the IHL says. */
 struct etherparse_ipv4_view_answer etherparse_ipv4_view(const uint8_t *at, size_t len);
 struct etherparse_ipv4_read_answer etherparse_ipv4_read(const uint8_t *at, size_t len);
 
-/* The bytes of the header of these fields, with the reserved bit 0 and the checksum that stands
- * in the fields. The len of the answer is 0 where a field is out of its bounds. The pointer is
- * not null, and each bool is 0 or 1. */
+/* The bytes of the header with these fields, with the reserved bit 0 and the stored checksum. The
+ * len of the result is 0 if a field is out of its bounds. The pointer is not null, and each bool
+ * is 0 or 1. */
 struct etherparse_ipv4_bytes etherparse_ipv4_write(const struct etherparse_ipv4_fields *fields);
 
-/* The fields of a header with no field given, as the Rust crate has them: dont_fragment is true,
- * the protocol 255, which is reserved, and all else is 0. */
+/* The default header, as in the Rust crate: dont_fragment is true, the protocol 255, which is
+ * reserved, and all else is 0. */
 struct etherparse_ipv4_fields etherparse_ipv4_default(void);
 
 /* The fields of a header without options for a payload of this length in bytes. All else is as
- * in the default, so the checksum is 0: etherparse_ipv4_header_checksum gives the right one.
+ * in the default, so the checksum is 0: etherparse_ipv4_header_checksum gives the correct one.
  *
- * The error is VALUE_TOO_BIG where the payload is longer than 65515 bytes. Neither pointer is
+ * The error is VALUE_TOO_BIG if the payload is longer than 65515 bytes. Neither pointer is
  * null. */
 struct etherparse_ipv4_new_answer etherparse_ipv4_new(uint16_t payload_len, uint8_t time_to_live,
     uint8_t protocol, const uint8_t source[4], const uint8_t destination[4]);
 
-/* The lengths of a header with this total length and so many bytes of options: those of a view
- * have options_len = rest.offset - 20.
+/* The lengths of a header with this total length and this many bytes of options; for a view pass
+ * rest.offset - 20 as options_len.
  *
- * The error is BAD_OPTIONS_LEN where options cannot be of this length, and all else is 0 then;
- * else a LEN where total_len is below the length of the header, and payload_len is 0 then. */
+ * The error is BAD_OPTIONS_LEN if options cannot have this length; all else is then 0. Otherwise
+ * it is LEN if total_len is below the length of the header; payload_len is then 0. */
 struct etherparse_ipv4_lengths_answer etherparse_ipv4_lengths(uint16_t total_len,
     uint8_t options_len);
 
-/* The checksum that a header of these fields should have, a number whose high byte the header
- * has first. The stored header_checksum, whatever it is, counts as 0, so that
+/* The checksum that a header with these fields should have, a number whose high byte comes first
+ * in the header. It does not depend on the stored header_checksum, so
  *
  *     fields.header_checksum = etherparse_ipv4_header_checksum(&fields).checksum;
  *
- * makes it right. The pointer is not null, and each bool is 0 or 1. */
+ * makes it correct. The pointer is not null, and each bool is 0 or 1. */
 struct etherparse_ipv4_header_checksum_answer etherparse_ipv4_header_checksum(
     const struct etherparse_ipv4_fields *fields);
 
-/* Sets the time to live, updates the stored header_checksum for it by etherparse_update_2bytes,
- * and returns true. Where a field is out of its bounds it returns false and changes nothing. The
- * pointer is not null, and each bool is 0 or 1.
+/* Sets the time to live, updates the stored header_checksum for it as etherparse_update_2bytes
+ * does, and returns true. If a field is out of its bounds, it returns false and changes nothing.
+ * The pointer is not null, and each bool is 0 or 1.
  *
- * In a packet that begins with the header of the fields, time_to_live is byte 8, and
- * header_checksum bytes 10 and 11, the high byte first. Write these three there, and the packet
- * begins with the new header. */
+ * In a packet that begins with this header, time_to_live is byte 8, and header_checksum is bytes
+ * 10 and 11, the high byte first. Write these three bytes, and the packet begins with the new
+ * header. */
 bool etherparse_ipv4_set_time_to_live(struct etherparse_ipv4_fields *fields, uint8_t time_to_live);
 
 /* IPv6 headers (RFC 8200 sections 3 and 4). */
@@ -317,13 +315,13 @@ struct etherparse_ipv6_fields {
     uint8_t destination[16];
     uint32_t flow_label; /* at most 1048575 */
     uint16_t payload_length; /* of all that follows the header, in bytes */
-    uint8_t traffic_class; /* four times the DSCP, and the ECN */
+    uint8_t traffic_class; /* four times the DSCP plus the ECN */
     /* the number of what follows: an extension header or an upper-layer protocol */
     uint8_t next_header;
     uint8_t hop_limit;
 };
 
-/* What the getters of a view answer. */
+/* What the getters of a view return. */
 struct etherparse_ipv6_view_fields {
     uint8_t source[16];
     uint8_t destination[16];
@@ -337,8 +335,8 @@ struct etherparse_ipv6_view_fields {
     uint8_t hop_limit;
 };
 
-/* The header at the front of a slice. Where error.kind is not ETHERPARSE_OK, there is no header
- * and all else is 0. */
+/* The header at the front of a slice. If error.kind is not ETHERPARSE_OK, there is no header and
+ * all else is 0. */
 struct etherparse_ipv6_view_answer {
     struct etherparse_ipv6_view_fields view;
     struct etherparse_error error;
@@ -351,16 +349,16 @@ struct etherparse_ipv6_read_answer {
     struct etherparse_rest rest;
 };
 
-/* The bytes of a header. Where the flow label is too great, all is 0. */
+/* The bytes of a header. If the flow label is too great, all is 0. */
 struct etherparse_ipv6_bytes {
     uint8_t bytes[40];
     uint8_t len; /* 40, or 0 */
 };
 
-/* Where a walk past extension headers, or past one of them, ended. Where error.kind is not
+/* Where a walk past extension headers, or past one of them, ended. If error.kind is not
  * ETHERPARSE_OK, all else is 0. */
 struct etherparse_ipv6_walk_answer {
-    /* the number of what follows them; of a whole walk the first of no header that can be
+    /* the number of what follows them; after a whole walk the first number that cannot be
      * skipped */
     uint8_t next_header;
     struct etherparse_error error;
@@ -370,43 +368,42 @@ struct etherparse_ipv6_walk_answer {
 /* The header at the front of a slice, and where the bytes after it are: all of them, whatever
  * payload_length says.
  *
- * The error is a LEN where the slice has fewer than 40 bytes; else UNEXPECTED_VERSION where the
+ * The error is LEN if the slice has fewer than 40 bytes; otherwise UNEXPECTED_VERSION if the
  * version is not 6. */
 struct etherparse_ipv6_view_answer etherparse_ipv6_view(const uint8_t *at, size_t len);
 struct etherparse_ipv6_read_answer etherparse_ipv6_read(const uint8_t *at, size_t len);
 
-/* The fields of a header with no field given, as the Rust crate has them: next_header is 255,
- * which is reserved, and all else is 0. */
+/* The default header, as in the Rust crate: next_header is 255, which is reserved, and all else
+ * is 0. */
 struct etherparse_ipv6_fields etherparse_ipv6_default(void);
 
-/* The bytes of the header of these fields. The len of the answer is 0 where the flow label is
+/* The bytes of the header with these fields. The len of the result is 0 if the flow label is
  * above 1048575. The pointer is not null. */
 struct etherparse_ipv6_bytes etherparse_ipv6_write(const struct etherparse_ipv6_fields *fields);
 
-/* Skips the extension header of this number at the front of a slice: next_header is then the
- * number of what follows it. With a number of no header that can be skipped the answer is that
- * number, and the rest is the whole slice. So a program that looks at each header of a chain, as
- * at the offset in a fragment header (44), goes from one to the next.
+/* Skips the extension header of this number at the front of a slice; next_header is then the
+ * number of what follows it. For a number that cannot be skipped, next_header is that number and
+ * the rest is the whole slice. With this call a program can look at each header of a chain, such
+ * as the offset in a fragment header (44).
  *
- * The error is a LEN where the slice is shorter than the header says. Where it has fewer than 2
- * bytes, 2 are required. */
+ * The error is LEN if the slice is shorter than the header says. If it has fewer than 2 bytes, 2
+ * are required. */
 struct etherparse_ipv6_walk_answer etherparse_ipv6_skip(const uint8_t *at, size_t len,
     uint8_t next_header);
 
-/* Skips all extension headers at the front of a slice, of which the first has this number: 0,
- * 43, 44, 51, 60, 135, 139 and 140 can be skipped. With any other number there is none, and the
- * rest is the whole slice. Those of a packet are at the front of the rest after its header, and
- * the first has the next_header of that; offsets then count from the front of that rest. A
- * fragment header is skipped whatever its offset: behind one of an offset above 0 come bytes
- * from the middle of a payload.
+/* Skips all extension headers at the front of a slice; next_header is the number of the first.
+ * The numbers 0, 43, 44, 51, 60, 135, 139 and 140 can be skipped; for any other the rest is the
+ * whole slice. In a packet, pass the rest after the IPv6 header and the next_header of that
+ * header; offsets then count from the start of that rest. A fragment header is skipped whatever
+ * its offset: after one with an offset above 0 come bytes from the middle of a payload.
  *
- * The error is a LEN, of the first header that is incomplete. Where fewer than 2 bytes are left,
- * 2 are required. */
+ * The error is LEN, for the first header that is incomplete. If fewer than 2 bytes are left, 2
+ * are required. */
 struct etherparse_ipv6_walk_answer etherparse_ipv6_walk(const uint8_t *at, size_t len,
     uint8_t next_header);
 
-/* The same past at most so many headers. The error is TOO_MANY where as many were skipped and
- * the number after them is that of one more, however many bytes are left; else a LEN, as above. */
+/* The same past at most limit headers. The error is TOO_MANY if that many were skipped and the
+ * number after them is that of one more, whatever bytes are left; otherwise LEN, as above. */
 struct etherparse_ipv6_walk_answer etherparse_ipv6_walk_up_to(const uint8_t *at, size_t len,
     uint8_t next_header, size_t limit);
 

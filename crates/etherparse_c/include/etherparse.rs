@@ -1,8 +1,8 @@
 //! The declarations of `etherparse.h` for Rust, in the editions 2021 and 2024. Functions have the
-//! same names, constants those without the prefix, and structs those in Rust's spelling, as
-//! `Ipv4ViewAnswer`. What each call does, and what a caller owes, stands there.
+//! same names; constants have no prefix, and structs have names in Rust's style, such as
+//! `Ipv4ViewAnswer`. That file says what each call does, and what it requires of a caller.
 //!
-//! A safe crate over them is `bindings/rust` of the repository.
+//! The repository has a safe crate on top of them, `bindings/rust`.
 
 #![allow(dead_code)]
 
@@ -26,7 +26,7 @@ pub const IPV6_FLOW_LABEL: u16 = 4;
 pub const IPV4_PAYLOAD_LENGTH: u16 = 5;
 pub const IPV6_PAYLOAD_LENGTH: u16 = 6;
 
-/// Room in bytes for the longest text of an error, with the 0 behind it.
+/// Room in bytes for the longest text of an error and the 0 after it.
 pub const ERROR_TEXT_SIZE: usize = 301;
 
 /// Bytes of a list of pieces.
@@ -37,7 +37,7 @@ pub struct Slice {
     pub len: usize,
 }
 
-/// Why a call refused, by its numbers.
+/// Why a call refused, as numbers.
 #[repr(C)]
 #[derive(Clone, Copy, Debug, Default, PartialEq, Eq)]
 pub struct Error {
@@ -78,7 +78,7 @@ pub struct Ipv4Fields {
     pub options: [u8; 40],
 }
 
-/// What the getters of a view of an IPv4 header answer.
+/// What the getters of a view of an IPv4 header return.
 #[repr(C)]
 #[derive(Clone, Copy, Debug, PartialEq, Eq)]
 pub struct Ipv4ViewFields {
@@ -164,7 +164,7 @@ pub struct Ipv6Fields {
     pub hop_limit: u8,
 }
 
-/// What the getters of a view of an IPv6 header answer.
+/// What the getters of a view of an IPv6 header return.
 #[repr(C)]
 #[derive(Clone, Copy, Debug, PartialEq, Eq)]
 pub struct Ipv6ViewFields {

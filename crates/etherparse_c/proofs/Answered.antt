@@ -1,4 +1,4 @@
--- From an answer of the library to what C gets of it.
+-- From an answer of the library to what C gets for it.
 use Rattle.std.proofs.Common.{ℕ, ◌≡◌, ◌+◌, List, Ok, Err, Result, sym, ap, subst, ◌∙◌, arith, length, length-append}
 use Rattle.etherparse.specs.Reading.{HasFront, Reads, Views}
 use Rattle.etherparse_c.specs.Answer.{GivesAnswer}
@@ -8,7 +8,7 @@ pub answered : {A C : Type 0} {Allows : A → Type 0} {in_c : A → C} {result :
     → ((other : A) → Allows other → other ≡ a) → result ≡ in_c a → GivesAnswer Allows in_c result
 answered {A} {C} {Allows} {in_c} a allowed only given = record { answer = a; allowed = allowed; only = λ each e. given ∙ ap in_c (sym (only each e)) }
 
--- where one front is seen, C gets the view of each header that is read
+-- if a front is viewed, C gets the view of each header that is read
 pub seen : {H E C : Type 0} {in_c : Result (H × List ℕ) E → C} {result : C} (Layout : H → List ℕ → Type 0) (Refuses : List ℕ → E → Type 0) (s front : List ℕ)
     → HasFront Layout s front → ((other : Result (List ℕ) E) → Views Layout Refuses s other → other ≡ Ok front)
     → ((h : H) (rest : List ℕ) → Layout h front → length front + length rest ≡ length s → result ≡ in_c (Ok (h, rest)))
@@ -23,7 +23,7 @@ seen {H} {E} {C} {in_c} {result} Layout Refuses s front v only gives =
         gives x.0 x.1 (subst (λ p. Layout x.0 p) same b.layout) (omega (arith, ap length b.whole, length-append b.front x.1, ap length same))
     each (Err e) r = let wrong : Err e ≡ Ok front = only (Err e) r in cc
 
--- where none is, C gets the error
+-- otherwise C gets the error
 pub unseen : {H E C : Type 0} {in_c : Result (H × List ℕ) E → C} {result : C} (Layout : H → List ℕ → Type 0) (Refuses : List ℕ → E → Type 0) (s : List ℕ) (e : E)
     → Refuses s e → ((other : Result (List ℕ) E) → Views Layout Refuses s other → other ≡ Err e)
     → result ≡ in_c (Err e) → GivesAnswer (Reads Layout Refuses s) in_c result

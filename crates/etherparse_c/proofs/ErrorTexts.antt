@@ -1,4 +1,4 @@
--- The text by the numbers of an error is the library's text of it.
+-- The text for the numbers of an error is the library's text of that error.
 use Rattle.std.proofs.Common.{ℕ, ◌≡◌, ◌<◌, ◌-◌, ◌*◌, ◌∙◌, Bool, true, false, List, Ok, Err, Result, inl, inr, ap, arith, lit<, refl, sym, length, leb-false}
 use Rattle.std.proofs.lemmas.Bool.{lt-ltb}
 use Rattle.std.specs.Prelude.{if◌then◌else◌, nat_le}
@@ -49,7 +49,7 @@ pub text_of_len : (e : LenError) → 0 < layer_in_c e.layer → e.len_source ≡
     → error_text (len_error_in_c e) ≡ len_error_text e
 text_of_len e some from below = by_layer e.required_len e.len e.layer_start_offset e.layer some below ∙ ap (λ s. len_error_text (record e { len_source = s })) (sym from)
 
--- the text of bytes that are those of no header
+-- the text of bytes that are no header
 pub text_of_ipv4_content : (e : ipv4_content_error.HeaderError) → error_text (ipv4_error_in_c (ipv4_slice.Content e)) ≡ ipv4_header_error_text e
 text_of_ipv4_content (ipv4_content.UnexpectedVersion version) = refl
 text_of_ipv4_content (ipv4_content.HeaderLengthSmallerThanHeader ihl) = refl
@@ -57,7 +57,7 @@ text_of_ipv4_content (ipv4_content.HeaderLengthSmallerThanHeader ihl) = refl
 pub text_of_ipv6_content : (e : ipv6_content_error.HeaderError) → error_text (ipv6_error_in_c (ipv6_slice.Content e)) ≡ ipv6_header_error_text e
 text_of_ipv6_content (ipv6_content.UnexpectedVersion version) = refl
 
--- the text of a value that is too big, by which value it is
+-- the text of a value that is too big, by the kind of value
 by_value : (actual most : ℕ) (v : ValueType) → 0 < value_in_c v → (e : value_error.ValueTooBigError ℕ) → e ≡ record { actual = actual; max_allowed = most; value_type = v }
     → error_text (value_error_in_c e) ≡ value_too_big_error_text e
 by_value actual most value.IpFragmentOffset some e is = rw is refl
@@ -85,7 +85,7 @@ pub text_of_ipv6 : (s : List ℕ) (e : ipv6.HeaderSliceError) → ReadsIpv6 s (E
 text_of_ipv6 s (ipv6_slice.Len e) t = too_short layer.Ipv6Header 40 s e (lit< tt) refl t
 text_of_ipv6 s (ipv6_slice.Content e) r = text_of_ipv6_content e
 
--- a total length that is too small, by the test for it
+-- a total length that is too small, by its test
 too_small : (header_len total_len : ℕ) (e : LenError) (fits : Bool) → nat_le header_len total_len ≡ fits
     → ◌≡◌ {A = Result ℕ LenError} (if fits then Ok (total_len - header_len) else Err (of_layer header_len total_len 0 layer.Ipv4Packet)) (Err e)
     → error_text (len_error_in_c e) ≡ len_error_text e

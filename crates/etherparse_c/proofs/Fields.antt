@@ -17,7 +17,7 @@ use Rattle.etherparse_c.specs.Ipv6Fields.{ipv6_fields_of}
 use Rattle.etherparse_c.specs.declared.ipv4_header.Ipv4Fields.{Ipv4Fields}
 use Rattle.etherparse_c.specs.declared.ipv6_header.Ipv6Fields.{Ipv6Fields}
 
--- a code point is known by its number
+-- a code point is determined by its number
 same_ecn : (a b : IpEcn) → ecn_value a ≡ ecn_value b → a ≡ b
 same_ecn a b e = search rules
 
@@ -28,7 +28,7 @@ one_ipv4_header fields g h a b =
     (ap (λ f. f.dont_fragment) e) (ap (λ f. f.more_fragments) e) (ap (λ f. f.fragment_offset) e) (ap (λ f. f.time_to_live) e) (ap (λ f. f.protocol) e)
     (ap (λ f. f.header_checksum) e) (ap (λ f. f.source) e) (ap (λ f. f.destination) e) (a.options ∙ sym b.options)
 
--- what is written for the fields is in the layout of that header
+-- the bytes written for the fields have the layout of that header
 pub written_ipv4_layout : (fields : Ipv4Fields) (h : Ipv4Header) (p : List ℕ) → StandForIpv4 fields h → AreWrittenForIpv4 fields p → IsIpv4LayoutWith h 0 p
 written_ipv4_layout fields h p same w = subst (λ x. IsIpv4LayoutWith x 0 p) (one_ipv4_header fields w.header h w.same same) w.layout
 

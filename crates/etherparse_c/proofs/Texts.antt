@@ -8,7 +8,7 @@ use Rattle.std.specs.List.{flat_map}
 use Rattle.etherparse_c.specs.ErrorText.{with_text}
 use Rattle.etherparse_c.specs.Private.Template.{IsWritten, filled, first_number, first_word, part_of, with_piece}
 
--- a piece behind a text
+-- a piece after a text
 pub put_behind : (text piece before : List ℕ) (k m r : ℕ) → k ≡ length text → m ≡ length text + length piece → r ≡ length before - length text
     → take k (take (length before) text ++ drop (length text) before) ++ (take r piece ++ drop m (take (length before) text ++ drop (length text) before))
     ≡ take (length before) (text ++ piece) ++ drop m before
@@ -20,13 +20,13 @@ put_behind (w ∷ ws) piece (x ∷ xs) k m r a b c =
     let room : r ≡ length xs - length ws = omega (arith, c) in
     rw (a, more) (ap (λ l. w ∷ l) (put_behind ws piece xs _ _ r refl refl room))
 
--- such a buffer is as long as it was
+-- such a buffer is as long as before
 same_len : (text before : List ℕ) → length (take (length before) text ++ drop (length text) before) ≡ length before
 same_len text before =
     let a = length-append (take (length before) text) (drop (length text) before) in
     omega (arith, a, length-take (length before) text, length-drop (length text) before)
 
--- what is written of a piece behind a text
+-- what is written of a piece after a text
 pub put_next : (text piece before now after : List ℕ) (k : ℕ) → k ≡ length text → now ≡ take (length before) text ++ drop k before
     → after ≡ take k now ++ (take (length now - k) piece ++ drop (k + length piece) now)
     → after ≡ take (length before) (text ++ piece) ++ drop (k + length piece) before
@@ -36,7 +36,7 @@ put_next text piece before now after k a b e =
     let room = same_len text before in
     rw a (e' ∙ put_behind text piece before (length text) (length text + length piece) _ refl refl (ap (λ n. n - length text) room))
 
--- a byte 0 behind the text, or as the last byte of the buffer
+-- a byte 0 after the text, or as the last byte of the buffer
 pub ended : (text : List ℕ) (first : ℕ) (others : List ℕ) (last : ℕ) → last ≡ min (length text) (length others)
     → slice_set (take (suc (length others)) text ++ drop (length text) (first ∷ others)) last 0 ≡ with_text text (first ∷ others)
 ended [] first [] last e = let none : last ≡ 0 = omega (arith, e) in rw none refl
@@ -49,7 +49,7 @@ ended (w ∷ ws) first (o ∷ os) last e =
     let more : last ≡ suc (min (length ws) (length os)) = omega (arith, e) in
     rw more (ap (λ l. w ∷ l) (ended ws o os _ refl))
 
--- the same of a buffer that is not empty, with the lengths that are known of it
+-- the same for a buffer that is not empty, with its known lengths
 pub end_of : (text before now : List ℕ) (k last : ℕ) → length text ≡ k → now ≡ take (length before) text ++ drop k before → (length now == 0) ≡ false
     → last ≡ min k (length now - 1) → slice_set now last 0 ≡ with_text text before
 end_of text [] now k last a b e m =
@@ -62,7 +62,7 @@ end_of text (x ∷ xs) now k last a b e m =
     let at : last ≡ min (length text) (length xs) = omega (arith, a, m, long) in
     rw b' (ended text x xs last at)
 
--- one byte more of a piece
+-- one more byte of a piece
 pub one_byte_more : (before piece now : List ℕ) (offset i byte : ℕ) → offset + i < length before → i < length piece → byte ≡ get_or piece i 0
     → now ≡ take offset before ++ take i piece ++ drop (offset + i) before
     → slice_set now (offset + i) byte ≡ take offset before ++ take (i + 1) piece ++ drop (offset + (i + 1)) before
@@ -89,7 +89,7 @@ pub nothing_done : (template : List ℕ) (words : List (Bor (List ℕ))) (number
     → IsFilled template words numbers start old 0 0 0 start old
 nothing_done template words numbers start old = record { done = []; whole = refl; written = λ so_far before w. rw (append-nil so_far) w }
 
--- the piece for one byte more
+-- the piece for one more byte
 pub one_piece_more : (template : List ℕ) (words : List (Bor (List ℕ))) (numbers : List ℕ) (start : ℕ) (old : List ℕ) (i word number len : ℕ) (now after : List ℕ)
     (byte : ℕ) (piece : List ℕ) → i < length template → byte ≡ get_or template i 0
     → piece ≡ part_of byte (first_word (drop word words)) (first_number (drop number numbers))
@@ -110,7 +110,7 @@ one_piece_more template words numbers start old i word number len now after byte
           });
     }
 
--- behind the last byte the whole text is written
+-- after the last byte the whole text is written
 pub all_filled : (template : List ℕ) (words : List (Bor (List ℕ))) (numbers : List ℕ) (start : ℕ) (old : List ℕ) (i word number len : ℕ) (now : List ℕ) → length template ≤ i
     → IsFilled template words numbers start old i word number len now
     → (so_far before : List ℕ) → IsWritten so_far before start old → IsWritten (so_far ++ filled template words numbers) before len now
@@ -122,7 +122,7 @@ pub from_bool_le : (b : Bool) → from_bool b ≤ 1
 from_bool_le true = omega arith
 from_bool_le false = omega arith
 
--- a text in three parts, of which the first is the same in other words
+-- a text in three parts; the first is written in another way
 pub in_parts : (first place dot written : List ℕ) → first ≡ written → written ++ place ++ dot ≡ first ++ place ++ dot
 in_parts first place dot written e = rw e refl
 

@@ -1,4 +1,4 @@
--- What C gets of an answer of the library.
+-- What C gets for an answer of the library.
 use Rattle.std.specs.Prelude.{ℕ, ◌≡◌, ◌-◌, List, length}
 use Rattle.etherparse_c.specs.declared.answer.Rest.{Rest}
 
@@ -13,6 +13,6 @@ pub record GivesAnswer {A C : Type 0} (Allows : A → Type 0) (in_c : A → C) (
 abbrev pub rest_of : List ℕ → List ℕ → Rest
 rest_of s rest = record { offset = length s - length rest; len = length rest }
 
--- nowhere: there is no rest
+-- no rest
 abbrev pub no_rest : Rest
 no_rest = record { offset = 0; len = 0 }

@@ -1,4 +1,4 @@
--- The errors of the library as C has them: each by its numbers.
+-- The errors of the library as C has them: as numbers.
 use Rattle.std.specs.Prelude.{ℕ}
 use Rattle.etherparse.specs.declared.LenSource.{LenSource}
 use Rattle.etherparse.specs.declared.LenSource.TheVariants as source
@@ -39,12 +39,12 @@ layer_in_c layer.Ipv6Header = 3
 layer_in_c layer.Ipv6ExtHeader = 4
 layer_in_c _ = 0
 
--- where the length comes from that an error of one of these layers is about
+-- the source of the length in an error of one of these layers
 abbrev pub source_in_c : Layer → LenSource
 source_in_c layer.Ipv4Packet = source.Ipv4HeaderTotalLen
 source_in_c _ = source.Slice
 
--- the layer, the length that it requires, the one that there is, and the place
+-- the layer, the required length, the actual one, and the offset
 abbrev pub len_error_in_c : LenError → Error
 len_error_in_c e = record no_error {
   kind = 1;
@@ -54,7 +54,7 @@ len_error_in_c e = record no_error {
   layer_start_offset = e.layer_start_offset;
 }
 
--- of an IPv4 header: a length, another version, or an IHL that is too small
+-- of an IPv4 reader: a length, an unexpected version, or an IHL that is too small
 abbrev pub ipv4_error_in_c : ipv4.HeaderSliceError → Error
 ipv4_error_in_c (ipv4_slice.Len e) = len_error_in_c e
 ipv4_error_in_c (ipv4_slice.Content (ipv4_content.UnexpectedVersion version)) =
@@ -62,13 +62,13 @@ ipv4_error_in_c (ipv4_slice.Content (ipv4_content.UnexpectedVersion version)) =
 ipv4_error_in_c (ipv4_slice.Content (ipv4_content.HeaderLengthSmallerThanHeader ihl)) =
     record no_error { kind = 3; number = ihl; layer = 1 }
 
--- of an IPv6 header: a length, or another version
+-- of an IPv6 reader: a length, or an unexpected version
 abbrev pub ipv6_error_in_c : ipv6.HeaderSliceError → Error
 ipv6_error_in_c (ipv6_slice.Len e) = len_error_in_c e
 ipv6_error_in_c (ipv6_slice.Content (ipv6_content.UnexpectedVersion version)) =
     record no_error { kind = 2; number = version; layer = 3 }
 
--- of a chain of extension headers: a length, or one header more than the limit
+-- of a walk past extension headers: a length, or one header more than the limit
 abbrev pub chain_error_in_c : ipv6_chain.ChainError → Error
 chain_error_in_c (chain.Len e) = len_error_in_c e
 chain_error_in_c (chain.TooMany limit number place) = record no_error {
@@ -89,7 +89,7 @@ value_in_c value.Ipv4PayloadLength = 5
 value_in_c value.Ipv6PayloadLength = 6
 value_in_c _ = 0
 
--- of a value that is too big: which one, the value, and the greatest that is allowed
+-- of a value that is too big: which one, the value, and the greatest allowed one
 abbrev pub value_error_in_c : value_error.ValueTooBigError ℕ → Error
 value_error_in_c e = record no_error {
   kind = 5;

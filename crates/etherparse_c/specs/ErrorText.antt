@@ -1,4 +1,4 @@
--- The text of an error by its numbers, in the words of the library.
+-- The text of an error from its numbers, as the library prints it.
 use Rattle.std.specs.Prelude.{ℕ, ◌≡◌, ◌==◌, ◌++◌, List, [], ◌∷◌, drop, length, nat_lt, take}
 use Rattle.std.specs.Prelude.{if◌then◌else◌}
 use Rattle.etherparse.specs.Ipv4Errors.{bad_options_len_text, ipv4_header_error_text}
@@ -53,7 +53,7 @@ value_text e =
     else (if e.number == 5 then value_text_of e value.Ipv4PayloadLength
     else (if e.number == 6 then value_text_of e value.Ipv6PayloadLength else [])))))
 
--- the text of the error with these numbers; none where no error has them
+-- the text of the error with these numbers; empty if no error has them
 abbrev pub error_text : Error → List ℕ
 error_text e =
     if e.kind == 1 then (if nat_lt e.len e.required_len then len_text e else [])
@@ -64,12 +64,12 @@ error_text e =
     else (if e.kind == 5 then value_text e
     else (if e.kind == 6 then bad_options_len_text (record { bad_len = e.len }) else [])))))
 
--- a buffer after a text: as much of it as there is room for before a byte 0, and what stood behind
+-- a buffer with a text: as much of it as there is room for, a byte 0, and then what was there
 abbrev pub with_text : List ℕ → List ℕ → List ℕ
 with_text text [] = []
 with_text text (first ∷ others) = take (length others) text ++ 0 ∷ drop (length text) others
 
--- the text stands in the buffer, and the answer is how long all of it is
+-- the text is in the buffer, and the answer is the length of the whole text
 pub record GivesText (text before after : List ℕ) (answer : ℕ) : Type 0 where
   pub len : answer ≡ length text
   pub written : after ≡ with_text text before

@@ -1,4 +1,4 @@
--- What the calls on IPv4 headers answer to C.
+-- What the calls on IPv4 headers return to C.
 use Rattle.std.specs.Prelude.{ℕ, ◌≡◌, ◌==◌, ◌-◌, ◌||◌, ◌++◌, List, length, not, replicate}
 use Rattle.std.specs.Prelude.{Ok, Err, MatchResult}
 use Rattle.etherparse.specs.IpEcn.{ecn_value}
@@ -22,7 +22,7 @@ ipv4_reading_in_c s (Ok x) =
 ipv4_reading_in_c s (Err e) =
     record { error = ipv4_error_in_c e; rest = no_rest; fields = ipv4_fields_of zero_ipv4_header }
 
--- what the getters of a view answer, of this header
+-- what the getters of a view of this header return
 abbrev pub ipv4_view_of : Ipv4Header → Ipv4ViewFields
 ipv4_view_of header = record {
   ihl = ipv4_ihl header;
@@ -41,7 +41,7 @@ ipv4_view_of header = record {
   destination = header.destination;
 }
 
--- no view is given: all is 0, or false
+-- no view: all is 0, or false
 abbrev pub no_ipv4_view : Ipv4ViewFields
 no_ipv4_view = record (ipv4_view_of zero_ipv4_header) { ihl = 0 }
 
@@ -52,7 +52,7 @@ ipv4_view_in_c s (Ok x) =
 ipv4_view_in_c s (Err e) =
     record { error = ipv4_error_in_c e; rest = no_rest; view = no_ipv4_view }
 
--- the bytes are those of the header that the fields stand for, with the reserved bit 0
+-- the bytes are those of the header with these fields, with the reserved bit 0
 pub record AreWrittenForIpv4 (fields : Ipv4Fields) (bytes : List ℕ) : Type 0 where
   pub header : Ipv4Header
   pub same : StandForIpv4 fields header
@@ -63,7 +63,7 @@ abbrev pub ipv4_bytes_in_c : List ℕ → Ipv4Bytes
 ipv4_bytes_in_c bytes =
     record { bytes = bytes ++ replicate (60 - length bytes) 0; len = length bytes }
 
--- the lengths of this header, with 0 and an error where its total length tells of no payload
+-- the lengths of this header; for the payload, 0 and an error if the total length is too small
 pub record AreIpv4Lengths (lengths : Ipv4LengthsAnswer) (header : Ipv4Header) : Type 0 where
   pub header_len : lengths.header_len ≡ ipv4_header_len header
   pub ihl : lengths.ihl ≡ ipv4_ihl header

@@ -6,7 +6,7 @@ use Rattle.etherparse.specs.Ipv4Options.{IsOptionsLen}
 use Rattle.etherparse.specs.declared.net.ipv4_header.Ipv4Header.{Ipv4Header}
 use Rattle.etherparse_c.specs.declared.ipv4_header.Ipv4Fields.{Ipv4Fields}
 
--- each field has no more bits than in a header, and options can have so many bytes
+-- each field fits its bits in a header, and options can have this many bytes
 pub record AreWithinBounds (fields : Ipv4Fields) : Type 0 where
   pub dscp : fields.dscp < 2 ^ 6
   pub ecn : fields.ecn < 2 ^ 2
@@ -36,7 +36,7 @@ ipv4_fields_of header = record {
 abbrev pub zero_ipv4_header : Ipv4Header
 zero_ipv4_header = record default_ipv4_header { dont_fragment = false; protocol = 0 }
 
--- the fields stand for this header, whatever follows the options in their array
+-- the fields are those of this header, whatever follows the options in their array
 pub record StandForIpv4 (fields : Ipv4Fields) (header : Ipv4Header) : Type 0 where
   pub options : header.options ≡ take fields.options_len fields.options
   pub others : fields ≡

@@ -1,4 +1,4 @@
--- What the calls on IPv6 headers answer to C.
+-- What the calls on IPv6 headers return to C.
 use Rattle.std.specs.Prelude.{ℕ, ◌≡◌, ◌-◌, ◌/◌, ◌%◌, ◌^◌, ◌++◌, List, length, replicate, Result}
 use Rattle.std.specs.Prelude.{Ok, Err}
 use Rattle.etherparse.specs.Ipv6Header.{IsIpv6Layout, Ipv6Reading}
@@ -21,7 +21,7 @@ ipv6_reading_in_c s (Ok x) =
 ipv6_reading_in_c s (Err e) =
     record { error = ipv6_error_in_c e; rest = no_rest; fields = ipv6_fields_of zero_ipv6_header }
 
--- what the getters of a view answer, of this header
+-- what the getters of a view of this header return
 abbrev pub ipv6_view_of : Ipv6Header → Ipv6ViewFields
 ipv6_view_of header = record {
   traffic_class = header.traffic_class;

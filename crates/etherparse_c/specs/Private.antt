@@ -1,2 +1,2 @@
--- What private functions keep on their way. No public clause cites it: a reader may pass by.
+-- Definitions for private functions. No public clause cites them, so a reader may skip them.
 pub mod Template

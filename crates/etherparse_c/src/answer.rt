@@ -1,5 +1,4 @@
-//! What the answers of several calls have: an error by its numbers, and where the rest of a slice
-//! is.
+//! Parts of several calls' results: an error as numbers, and where the rest of a slice is.
 
 ghost use Rattle.std.specs.Prelude.{ℕ, ◌≡◌, ◌≤◌, ◌+◌, List, length};
 ghost use Rattle.etherparse.specs.declared.err.ipv4.HeaderSliceError.TheVariants as ipv4_slice;
@@ -46,27 +45,27 @@ pub(crate) const IPV4_PAYLOAD_LENGTH: u16 = 5;
 
 pub(crate) const IPV6_PAYLOAD_LENGTH: u16 = 6;
 
-/// Why a call refused, by its numbers; each number that its kind does not have is 0.
+/// Why a call refused, as numbers; each number that its kind does not have is 0.
 #[repr(C)]
 #[derive(Drop)]
 pub struct Error {
     /// Which error it is: 0 none, 1 a length, 2 another version, 3 an IHL below 5, 4 too many
     /// extension headers, 5 a value that is too big, 6 a length that options cannot have.
     pub kind: u32,
-    /// Of kind 2 the version number, of kind 3 the IHL, of kind 4 the number of the header that is
-    /// one too many, of kind 5 which value it is: 1 a fragment offset, 2 a DSCP, 3 an ECN, 4 a flow
-    /// label, 5 the length of an IPv4 payload, 6 that of an IPv6 payload.
+    /// For kind 2 the version number, for kind 3 the IHL, for kind 4 the number of the header that
+    /// is one too many, for kind 5 which value it is: 1 a fragment offset, 2 a DSCP, 3 an ECN, 4 a
+    /// flow label, 5 the length of an IPv4 payload, 6 that of an IPv6 payload.
     pub number: u16,
-    /// Of kinds 1 to 4 the layer: 1 an IPv4 header, 2 an IPv4 packet, whose length is the total
+    /// For kinds 1 to 4 the layer: 1 an IPv4 header, 2 an IPv4 packet, whose length is the total
     /// length of its header, 3 an IPv6 header, 4 an IPv6 extension header.
     pub layer: u16,
-    /// Of kind 1 the length that is required, in bytes.
+    /// For kind 1 the required length, in bytes.
     pub required_len: usize,
-    /// Of kinds 1 and 6 the length that there is, in bytes; of kind 5 the value.
+    /// For kinds 1 and 6 the actual length, in bytes; for kind 5 the value.
     pub len: usize,
-    /// Of kinds 1 and 4 where the header starts, in bytes from the start of the slice.
+    /// For kinds 1 and 4 where the header starts, in bytes from the start of the slice.
     pub layer_start_offset: usize,
-    /// Of kind 4 how many headers were allowed, of kind 5 the greatest value that is allowed.
+    /// For kind 4 how many headers were allowed, for kind 5 the greatest allowed value.
     pub limit: usize,
 }
 
@@ -74,14 +73,14 @@ pub struct Error {
 #[repr(C)]
 #[derive(Drop)]
 pub struct Rest {
-    /// How many bytes of the slice stand before it.
+    /// How many bytes of the slice come before it.
     pub offset: usize,
     /// How many bytes it has.
     pub len: usize,
 }
 
 impl Error {
-    // That there is none.
+    // No error.
     #[inline(always)]
     pub(crate) fn none() -> Error
         ensures value { result ≡ no_error }
@@ -97,7 +96,7 @@ impl Error {
         }
     }
 
-    // Of a length that is too small.
+    // The error of a length that is too small.
     #[inline(always)]
     pub(crate) fn of_len(e: &LenError) -> Error
         ensures value { result ≡ len_error_in_c e.now }
@@ -112,7 +111,7 @@ impl Error {
         }
     }
 
-    // Of an IPv4 header.
+    // The error of an IPv4 reader.
     #[inline(always)]
     pub(crate) fn of_ipv4(e: &ipv4::HeaderSliceError) -> Error
         ensures value { result ≡ ipv4_error_in_c e.now }
@@ -123,7 +122,7 @@ impl Error {
         }
     }
 
-    // Of bytes that are those of no IPv4 header.
+    // The error of bytes that are no IPv4 header.
     #[inline(always)]
     fn of_ipv4_content(e: &ipv4::HeaderError) -> Error
         ensures value { result ≡ ipv4_error_in_c (ipv4_slice.Content e.now) }
@@ -144,7 +143,7 @@ impl Error {
         }
     }
 
-    // Of an IPv6 header.
+    // The error of an IPv6 reader.
     #[inline(always)]
     pub(crate) fn of_ipv6(e: &ipv6::HeaderSliceError) -> Error
         ensures value { result ≡ ipv6_error_in_c e.now }
@@ -162,7 +161,7 @@ impl Error {
         }
     }
 
-    // Of a chain of extension headers.
+    // The error of a walk past extension headers.
     #[inline(always)]
     pub(crate) fn of_chain(e: &ipv6::ChainError) -> Error
         ensures value { result ≡ chain_error_in_c e.now }
@@ -198,7 +197,7 @@ impl Rest {
         }
     }
 
-    // What follows a front of a slice.
+    // What follows the front of a slice.
     #[inline(always)]
     pub(crate) fn after(slice: &[u8], front: &[u8]) -> Rest
         requires { length front.now ≤ length slice.now }

@@ -11,8 +11,8 @@ use etherparse::checksum::{
     u32_16bit_word, u64_16bit_word, update_2bytes, update_4bytes, update_16bytes,
 };
 
-/// Adds the words of a slice to a sum of 64 bits, which begins at 0. An odd last byte is a word
-/// with a byte 0 behind it.
+/// Adds the words of a slice to a sum of 64 bits, which begins at 0. An odd last byte is padded
+/// with a byte 0.
 #[unsafe(no_mangle)]
 pub extern "C" fn etherparse_u64_16bit_word_add_slice(start_sum: u64, slice: &[u8]) -> u64
     ensures adds { AddsSlice start_sum slice.now result }
@@ -28,8 +28,7 @@ pub extern "C" fn etherparse_u64_16bit_word_add_slices(pieces: &[&[u8]]) -> u64
     u64_16bit_word::add_slices(pieces)
 }
 
-/// The checksum of what was summed in 64 bits. Its low byte is the first of the two that a header
-/// has.
+/// The checksum of what was summed in 64 bits. Its low byte comes first in a packet.
 #[unsafe(no_mangle)]
 pub extern "C" fn etherparse_u64_16bit_word_ones_complement(sum: u64) -> u16
     ensures complements { Complements sum result }
@@ -37,8 +36,7 @@ pub extern "C" fn etherparse_u64_16bit_word_ones_complement(sum: u64) -> u16
     u64_16bit_word::ones_complement(sum)
 }
 
-/// The same with 0xffff in place of 0, as UDP has it: a checksum of 0 says there that there is none
-/// (RFC 768).
+/// The same with 0xffff in place of 0, for UDP: there 0 says that there is no checksum (RFC 768).
 #[unsafe(no_mangle)]
 pub extern "C" fn etherparse_u64_16bit_word_ones_complement_with_no_zero(sum: u64) -> u16
     ensures complements { ComplementsWithNoZero sum result }
@@ -46,8 +44,8 @@ pub extern "C" fn etherparse_u64_16bit_word_ones_complement_with_no_zero(sum: u6
     u64_16bit_word::ones_complement_with_no_zero(sum)
 }
 
-/// The checksum of a slice after what was summed in 64 bits, in one call. The Rust crate has no
-/// such call.
+/// The checksum of a slice after an earlier sum of 64 bits, in one call. The Rust crate has no such
+/// call.
 #[unsafe(no_mangle)]
 pub extern "C" fn etherparse_u64_16bit_word_checksum(start_sum: u64, slice: &[u8]) -> u16
     ensures complements { Complements (start_sum + little_endian_word_sum slice.now) result }
@@ -55,8 +53,8 @@ pub extern "C" fn etherparse_u64_16bit_word_checksum(start_sum: u64, slice: &[u8
     u64_16bit_word::checksum(start_sum, slice)
 }
 
-/// Adds the words of a slice to a sum of 32 bits, which begins at 0. An odd last byte is a word
-/// with a byte 0 behind it.
+/// Adds the words of a slice to a sum of 32 bits, which begins at 0. An odd last byte is padded
+/// with a byte 0.
 #[unsafe(no_mangle)]
 pub extern "C" fn etherparse_u32_16bit_word_add_slice(start_sum: u32, slice: &[u8]) -> u32
     ensures adds { AddsSlice start_sum slice.now result }
@@ -72,8 +70,7 @@ pub extern "C" fn etherparse_u32_16bit_word_add_slices(pieces: &[&[u8]]) -> u32
     u32_16bit_word::add_slices(pieces)
 }
 
-/// The checksum of what was summed in 32 bits. Its low byte is the first of the two that a header
-/// has.
+/// The checksum of what was summed in 32 bits. Its low byte comes first in a packet.
 #[unsafe(no_mangle)]
 pub extern "C" fn etherparse_u32_16bit_word_ones_complement(sum: u32) -> u16
     ensures complements { Complements sum result }
@@ -81,8 +78,7 @@ pub extern "C" fn etherparse_u32_16bit_word_ones_complement(sum: u32) -> u16
     u32_16bit_word::ones_complement(sum)
 }
 
-/// The same with 0xffff in place of 0, as UDP has it: a checksum of 0 says there that there is none
-/// (RFC 768).
+/// The same with 0xffff in place of 0, for UDP: there 0 says that there is no checksum (RFC 768).
 #[unsafe(no_mangle)]
 pub extern "C" fn etherparse_u32_16bit_word_ones_complement_with_no_zero(sum: u32) -> u16
     ensures complements { ComplementsWithNoZero sum result }
@@ -90,8 +86,8 @@ pub extern "C" fn etherparse_u32_16bit_word_ones_complement_with_no_zero(sum: u3
     u32_16bit_word::ones_complement_with_no_zero(sum)
 }
 
-/// The checksum of a slice after what was summed in 32 bits, in one call. The Rust crate has no
-/// such call.
+/// The checksum of a slice after an earlier sum of 32 bits, in one call. The Rust crate has no such
+/// call.
 #[unsafe(no_mangle)]
 pub extern "C" fn etherparse_u32_16bit_word_checksum(start_sum: u32, slice: &[u8]) -> u16
     ensures complements { Complements (start_sum + little_endian_word_sum slice.now) result }
@@ -99,8 +95,8 @@ pub extern "C" fn etherparse_u32_16bit_word_checksum(start_sum: u32, slice: &[u8
     u32_16bit_word::checksum(start_sum, slice)
 }
 
-/// A checksum in the other byte order: one of the calls above as the number that a header's field
-/// is read as, or such a number as those calls answer it.
+/// A checksum in the other byte order: converts what the calls above return into the number of a
+/// header's field, and back.
 #[unsafe(no_mangle)]
 pub extern "C" fn etherparse_swap_bytes(checksum: u16) -> u16
     ensures value { result ≡ swap_bytes w16 checksum }
@@ -108,8 +104,8 @@ pub extern "C" fn etherparse_swap_bytes(checksum: u16) -> u16
     checksum.swap_bytes()
 }
 
-/// The checksum after one of the words that it is over was changed from `old` to `new`, all three
-/// as numbers whose high byte a header has first (RFC 1624 section 3, equation 3).
+/// The checksum after one of the words that it covers was changed from `old` to `new`, all three as
+/// numbers whose high byte comes first in a packet (RFC 1624 section 3, equation 3).
 #[unsafe(no_mangle)]
 pub extern "C" fn etherparse_update_2bytes(checksum: u16, old: u16, new: u16) -> u16
     ensures value { result ≡ updated_checksum checksum old new }
@@ -118,7 +114,7 @@ pub extern "C" fn etherparse_update_2bytes(checksum: u16, old: u16, new: u16) ->
     update_2bytes(checksum, old.to_be_bytes(), new.to_be_bytes())
 }
 
-/// The same after four bytes, as an IPv4 address, were changed at an even place.
+/// The same after four bytes, such as an IPv4 address, were changed at an even offset.
 #[unsafe(no_mangle)]
 pub extern "C" fn etherparse_update_4bytes(checksum: u16, old: &[u8; 4], new: &[u8; 4]) -> u16
     ensures value { result ≡ updated_checksum_of_words 2 checksum old.now new.now }
@@ -128,7 +124,7 @@ pub extern "C" fn etherparse_update_4bytes(checksum: u16, old: &[u8; 4], new: &[
     update_4bytes(checksum, *old, *new)
 }
 
-/// The same after sixteen bytes, as an IPv6 address, were changed at an even place.
+/// The same after sixteen bytes, such as an IPv6 address, were changed at an even offset.
 #[unsafe(no_mangle)]
 pub extern "C" fn etherparse_update_16bytes(checksum: u16, old: &[u8; 16], new: &[u8; 16]) -> u16
     ensures value { result ≡ updated_checksum_of_words 8 checksum old.now new.now }

@@ -36,7 +36,7 @@ pub struct Ipv4Fields {
     pub dont_fragment: bool,
     /// Whether more fragments follow this one.
     pub more_fragments: bool,
-    /// Where the fragment stands in the packet, in units of 8 bytes, at most 8191.
+    /// The fragment's offset in the packet, in units of 8 bytes, at most 8191.
     pub fragment_offset: u16,
     /// Decremented by every router; at 0 the packet is discarded.
     pub time_to_live: u8,
@@ -50,7 +50,7 @@ pub struct Ipv4Fields {
     pub destination: [u8; 4],
     /// How many bytes of options there are: at most 40, in words of 4.
     pub options_len: u8,
-    /// The options; what follows them in the array is no part of them.
+    /// The options; what follows them in the array does not matter.
     pub options: [u8; 40],
 }
 
@@ -60,7 +60,7 @@ pub struct Ipv4Fields {
 pub struct Ipv4ReadAnswer {
     /// Its fields, with 0 after the options in their array.
     pub fields: Ipv4Fields,
-    /// Why there is none; its kind is 0 where there is one.
+    /// Why there is none; its kind is 0 if there is one.
     pub error: Error,
     /// All the bytes after the header.
     pub rest: Rest,
@@ -72,7 +72,7 @@ pub struct Ipv4ReadAnswer {
 pub struct Ipv4Bytes {
     /// The bytes, in network byte order, and 0 after them.
     pub bytes: [u8; 60],
-    /// How many there are: 20 to 60, or 0 where the fields are those of no header.
+    /// How many there are: 20 to 60, or 0 if a field is out of its bounds.
     pub len: u8,
 }
 
@@ -82,7 +82,7 @@ pub struct Ipv4Bytes {
 pub struct Ipv4NewAnswer {
     /// Its fields.
     pub fields: Ipv4Fields,
-    /// Why there is none; its kind is 0 where there is one.
+    /// Why there is none; its kind is 0 if there is one.
     pub error: Error,
 }
 
@@ -90,8 +90,8 @@ pub struct Ipv4NewAnswer {
 #[repr(C)]
 #[derive(Drop)]
 pub struct Ipv4HeaderChecksumAnswer {
-    /// The checksum as a number whose high byte a header has first, or 0 where the fields are those
-    /// of no header.
+    /// The checksum as a number whose high byte comes first in the header, or 0 if a field is out
+    /// of its bounds.
     pub checksum: u16,
     /// Whether the fields are within their bounds.
     pub accepted: bool,
@@ -101,21 +101,21 @@ pub struct Ipv4HeaderChecksumAnswer {
 #[repr(C)]
 #[derive(Drop)]
 pub struct Ipv4LengthsAnswer {
-    /// The length of the payload in bytes, as the total length tells of it.
+    /// The length of the payload in bytes, by the total length.
     pub payload_len: u16,
     /// The length of the longest payload that fits after the header, in bytes.
     pub max_payload_len: u16,
-    /// The length of the header with its options, in bytes, or 0 where options can not be of this
+    /// The length of the header with its options, in bytes, or 0 if options cannot have this
     /// length.
     pub header_len: u8,
     /// The same in words of 4 bytes.
     pub ihl: u8,
-    /// Why there is no length of the payload; its kind is 0 where there is one.
+    /// Why there is no length of the payload; its kind is 0 if there is one.
     pub error: Error,
 }
 
-/// The fields of a header with no field given: the packet must not be fragmented and its protocol
-/// is 255, and all else is 0, false or empty.
+/// The default header: the packet must not be fragmented, its protocol is 255, and all else is 0,
+/// false or empty.
 #[unsafe(no_mangle)]
 pub extern "C" fn etherparse_ipv4_default() -> Ipv4Fields
     ensures value { result ≡ ipv4_fields_of default_ipv4_header }
@@ -126,8 +126,7 @@ pub extern "C" fn etherparse_ipv4_default() -> Ipv4Fields
 /// The fields of a header without options for a payload of this length in bytes. All else is as in
 /// the default, so the checksum is 0.
 ///
-/// The error is a payload above 65515 bytes: with the header that is more than `total_len` has room
-/// for.
+/// A payload above 65515 bytes is an error: with its header it does not fit `total_len`.
 #[unsafe(no_mangle)]
 pub extern "C" fn etherparse_ipv4_new(
     payload_len: u16,
@@ -186,20 +185,20 @@ pub extern "C" fn etherparse_ipv4_new(
 /// The fields of the header at the front of a slice, and where the bytes after it are: all of them,
 /// whatever `total_len` says.
 ///
-/// The error is, in this order, a length of fewer than 20 bytes; another version than 4; an IHL
-/// below 5; fewer bytes than the IHL says.
+/// The error is the first of these: fewer than 20 bytes; a version other than 4; an IHL below 5;
+/// fewer bytes than the IHL says.
 #[unsafe(no_mangle)]
 pub extern "C" fn etherparse_ipv4_read(slice: &[u8]) -> Ipv4ReadAnswer
     ensures reads { GivesAnswer (ReadsIpv4 slice.now) (ipv4_reading_in_c slice.now) result }
 {
     match Ipv4Header::from_slice(slice) {
-        // Each arm has its `return`, which the speed rests on: as the value of the `match` the
-        // answer takes more instructions, a third more in `etherparse_ipv4_view`.
+        // Each arm has its own `return`, for speed: as the value of the `match` the answer takes
+        // more instructions, a third more in `etherparse_ipv4_view`.
         Ok((header, rest)) => {
             let rest = Rest::of(slice, rest);
-            // From the slice itself: those of the header would be copied twice.
+            // From the slice itself: the header's own options would be copied twice.
             let options = &slice[Ipv4Header::MIN_LEN..rest.offset];
-            // Most headers have no options, and nothing is copied then.
+            // Most headers have no options; then nothing is copied.
             if options.is_empty() {
                 return Ipv4ReadAnswer {
                     error: Error::none(),
@@ -217,15 +216,14 @@ pub extern "C" fn etherparse_ipv4_read(slice: &[u8]) -> Ipv4ReadAnswer
     }
 }
 
-/// The bytes of the header of these fields, with the reserved bit 0 and the checksum that stands in
-/// the fields.
+/// The bytes of the header with these fields, with the reserved bit 0 and the stored checksum.
 #[unsafe(no_mangle)]
 pub extern "C" fn etherparse_ipv4_write(fields: &Ipv4Fields) -> Ipv4Bytes
     ensures layout { AreWithinBounds fields.now →
         GivesAnswer (AreWrittenForIpv4 fields.now) ipv4_bytes_in_c result }
     ensures refused { ¬ AreWithinBounds fields.now → result ≡ ipv4_bytes_in_c [] }
 {
-    // Each number of bytes has a copy of its own, of a length that the compiler knows.
+    // Each length of options has a copy of its own, whose length the compiler knows.
     match fields.options_len {
         0 => return written_with::<0>(fields),
         4 => return written_with::<4>(fields),
@@ -242,11 +240,10 @@ pub extern "C" fn etherparse_ipv4_write(fields: &Ipv4Fields) -> Ipv4Bytes
     }
 }
 
-/// The lengths of a header with so many bytes of options, and of the payload that its total length
-/// tells of.
+/// The lengths of a header with this many bytes of options, and of its payload by this total
+/// length.
 ///
-/// The error is a length that options cannot have, or a total length below the length of the
-/// header.
+/// A length that options cannot have is an error, and so is a total length below the header's.
 #[unsafe(no_mangle)]
 pub extern "C" fn etherparse_ipv4_lengths(total_len: u16, options_len: u8) -> Ipv4LengthsAnswer
     ensures value { IsOptionsLen options_len → (header : Header) → header.total_len ≡ total_len →
@@ -288,8 +285,8 @@ pub extern "C" fn etherparse_ipv4_lengths(total_len: u16, options_len: u8) -> Ip
     }
 }
 
-/// The checksum that a header of these fields should have, as a number whose high byte a header has
-/// first. The checksum that stands in the fields does not matter.
+/// The checksum that a header with these fields should have, as a number whose high byte comes
+/// first in the header. It does not depend on the stored checksum.
 #[unsafe(no_mangle)]
 pub extern "C" fn etherparse_ipv4_header_checksum(fields: &Ipv4Fields) -> Ipv4HeaderChecksumAnswer
     ensures accepted { IsTrue result.accepted ↔ AreWithinBounds fields.now }
@@ -313,8 +310,8 @@ pub extern "C" fn etherparse_ipv4_header_checksum(fields: &Ipv4Fields) -> Ipv4He
     }
 }
 
-/// Sets the time to live, and updates the stored checksum for it, and answers `true`. Where a field
-/// is out of its bounds it answers `false` and changes nothing.
+/// Sets the time to live, updates the stored checksum for it, and returns `true`. If a field is out
+/// of its bounds, it returns `false` and changes nothing.
 #[unsafe(no_mangle)]
 pub extern "C" fn etherparse_ipv4_set_time_to_live(
     fields: &mut Ipv4Fields,
@@ -328,7 +325,7 @@ pub extern "C" fn etherparse_ipv4_set_time_to_live(
           (time_to_live * 2 ^ 8 + fields.old.protocol);
     } }
 
-    // A right checksum stays right, and a wrong one wrong.
+    // A correct checksum stays correct; an incorrect one is not repaired.
     ensures keeps_checksum { IsTrue result → (old new : Header) → StandForIpv4 fields.old old →
         StandForIpv4 fields.new new → KeepsChecksum old new }
     ensures refused { ¬ AreWithinBounds fields.old → fields.new ≡ fields.old }
@@ -342,7 +339,7 @@ pub extern "C" fn etherparse_ipv4_set_time_to_live(
     true
 }
 
-// The header that these fields stand for, where they are within their bounds.
+// The header with these fields, if they are within their bounds.
 #[inline(always)]
 fn header_of(fields: &Ipv4Fields) -> Option<Ipv4Header>
     ensures accepted { IsSome result ↔ AreWithinBounds fields.now }
@@ -355,7 +352,7 @@ fn header_of(fields: &Ipv4Fields) -> Option<Ipv4Header>
     header_with(fields, options_len)
 }
 
-// The same, with so many bytes of options.
+// The same, with this many bytes of options.
 #[inline(always)]
 fn header_with(fields: &Ipv4Fields, options_len: usize) -> Option<Ipv4Header>
     requires found { fields.now.options_len ≡ options_len }
@@ -366,7 +363,7 @@ fn header_with(fields: &Ipv4Fields, options_len: usize) -> Option<Ipv4Header>
     let dscp = IpDscp::try_new(fields.dscp).ok()?;
     let ecn = IpEcn::try_new(fields.ecn).ok()?;
     let fragment_offset = IpFragOffset::try_new(fields.fragment_offset).ok()?;
-    // Read first, so that their bounds are known where the header is made.
+    // Read first, so that their bounds are known when the header is made.
     let (time_to_live, header_checksum) = (fields.time_to_live, fields.header_checksum);
     Some(Ipv4Header {
         dscp,
@@ -385,7 +382,7 @@ fn header_with(fields: &Ipv4Fields, options_len: usize) -> Option<Ipv4Header>
     })
 }
 
-// The bytes of the header of these fields, with N bytes of options.
+// The bytes of the header with these fields, with N bytes of options.
 #[inline(always)]
 fn written_with<const N: usize>(fields: &Ipv4Fields) -> Ipv4Bytes
     requires found { fields.now.options_len ≡ N }
@@ -407,7 +404,7 @@ fn written_with<const N: usize>(fields: &Ipv4Fields) -> Ipv4Bytes
     }
 }
 
-// The answer where the fields are those of no header.
+// The answer if a field is out of its bounds.
 #[inline(always)]
 fn no_bytes() -> Ipv4Bytes
     ensures value { result ≡ ipv4_bytes_in_c [] }
@@ -443,7 +440,7 @@ fn fields_with(header: &Ipv4Header, options: [u8; 40]) -> Ipv4Fields
     }
 }
 
-// The answer where there is no header.
+// The answer if there is no header.
 #[inline(always)]
 fn refused(e: &HeaderSliceError) -> Ipv4ReadAnswer
     ensures value { (s : List ℕ) → result ≡ ipv4_reading_in_c s (Err e.now) }
@@ -455,7 +452,7 @@ fn refused(e: &HeaderSliceError) -> Ipv4ReadAnswer
     }
 }
 
-// The fields where there is no header.
+// The fields if there is no header.
 #[inline(always)]
 fn no_fields() -> Ipv4Fields
     ensures value { result ≡ ipv4_fields_of zero_ipv4_header }

@@ -9,7 +9,7 @@ use crate::answer::{Error, Rest};
 use etherparse::Ipv4HeaderSlice;
 use etherparse::err::ipv4::HeaderSliceError;
 
-/// What the getters of a view answer.
+/// What the getters of a view return.
 #[repr(C)]
 #[derive(Drop)]
 pub struct Ipv4ViewFields {
@@ -21,9 +21,9 @@ pub struct Ipv4ViewFields {
     pub total_len: u16,
     /// Equal in all fragments of one packet.
     pub identification: u16,
-    /// Where the fragment stands in the packet, in units of 8 bytes, at most 8191.
+    /// The fragment's offset in the packet, in units of 8 bytes, at most 8191.
     pub fragment_offset: u16,
-    /// The checksum that the header has, right or wrong.
+    /// The checksum that the header has, correct or not.
     pub header_checksum: u16,
     /// The length of the header in words of 4 bytes, 5 to 15.
     pub ihl: u8,
@@ -35,8 +35,7 @@ pub struct Ipv4ViewFields {
     pub dont_fragment: bool,
     /// Whether more fragments follow this one.
     pub more_fragments: bool,
-    /// Whether the payload is a part of one that was cut: more fragments follow it, or its offset
-    /// is not 0.
+    /// Whether the payload is a fragment: more fragments follow, or its offset is not 0.
     pub is_fragmenting_payload: bool,
     /// Decremented by every router; at 0 the packet is discarded.
     pub time_to_live: u8,
@@ -49,9 +48,9 @@ pub struct Ipv4ViewFields {
 #[repr(C)]
 #[derive(Drop)]
 pub struct Ipv4ViewAnswer {
-    /// What its getters answer.
+    /// What its getters return.
     pub view: Ipv4ViewFields,
-    /// Why there is none; its kind is 0 where there is one.
+    /// Why there is none; its kind is 0 if there is one.
     pub error: Error,
     /// All the bytes after the header.
     pub rest: Rest,
@@ -59,15 +58,15 @@ pub struct Ipv4ViewAnswer {
 
 /// A view of the header at the front of a slice, and where the bytes after it are.
 ///
-/// The error is, in this order, a length of fewer than 20 bytes; another version than 4; an IHL
-/// below 5; fewer bytes than the IHL says.
+/// The error is the first of these: fewer than 20 bytes; a version other than 4; an IHL below 5;
+/// fewer bytes than the IHL says.
 #[unsafe(no_mangle)]
 pub extern "C" fn etherparse_ipv4_view(slice: &[u8]) -> Ipv4ViewAnswer
     ensures views { GivesAnswer (ReadsIpv4 slice.now) (ipv4_view_in_c slice.now) result }
 {
     match Ipv4HeaderSlice::from_slice(slice) {
-        // Each arm has its `return`, which the speed rests on: as the value of the `match` the
-        // answer takes more instructions, a third more in `etherparse_ipv4_view`.
+        // Each arm has its own `return`, for speed: as the value of the `match` the answer takes
+        // more instructions, a third more in `etherparse_ipv4_view`.
         Ok(view) => {
             return Ipv4ViewAnswer {
                 error: Error::none(),
@@ -79,7 +78,7 @@ pub extern "C" fn etherparse_ipv4_view(slice: &[u8]) -> Ipv4ViewAnswer
     }
 }
 
-// What the getters of a view answer.
+// What the getters of a view return.
 #[inline(always)]
 #[tactic(auto, using(crate::proofs::Fields::fragment_test))]
 fn getters_of(view: &Ipv4HeaderSlice) -> Ipv4ViewFields
@@ -103,7 +102,7 @@ fn getters_of(view: &Ipv4HeaderSlice) -> Ipv4ViewFields
     }
 }
 
-// The answer where there is no header.
+// The answer if there is no header.
 #[inline(always)]
 fn refused(e: &HeaderSliceError) -> Ipv4ViewAnswer
     ensures value { (s : List ℕ) → result ≡ ipv4_view_in_c s (Err e.now) }

@@ -37,7 +37,7 @@ pub struct Ipv6Fields {
 pub struct Ipv6ReadAnswer {
     /// Its fields.
     pub fields: Ipv6Fields,
-    /// Why there is none; its kind is 0 where there is one.
+    /// Why there is none; its kind is 0 if there is one.
     pub error: Error,
     /// All the bytes after the header.
     pub rest: Rest,
@@ -49,11 +49,11 @@ pub struct Ipv6ReadAnswer {
 pub struct Ipv6Bytes {
     /// The bytes, in network byte order.
     pub bytes: [u8; 40],
-    /// How many there are: 40, or 0 where the flow label is too great.
+    /// How many there are: 40, or 0 if the flow label is too great.
     pub len: u8,
 }
 
-/// The fields of a header with no field given: the next header is 255, and all else is 0.
+/// The default header: the next header is 255, and all else is 0.
 #[unsafe(no_mangle)]
 pub extern "C" fn etherparse_ipv6_default() -> Ipv6Fields
     ensures value { result ≡ ipv6_fields_of default_ipv6_header }
@@ -64,14 +64,14 @@ pub extern "C" fn etherparse_ipv6_default() -> Ipv6Fields
 /// The fields of the header at the front of a slice, and where the bytes after it are: all of them,
 /// whatever `payload_length` says.
 ///
-/// The error is a length of fewer than 40 bytes; else another version than 6.
+/// Fewer than 40 bytes are an error; otherwise a version other than 6 is.
 #[unsafe(no_mangle)]
 pub extern "C" fn etherparse_ipv6_read(slice: &[u8]) -> Ipv6ReadAnswer
     ensures reads { GivesAnswer (ReadsIpv6 slice.now) (ipv6_reading_in_c slice.now) result }
 {
     match Ipv6Header::from_slice(slice) {
-        // Each arm has its `return`, which the speed rests on: as the value of the `match` the
-        // answer takes more instructions, a third more in `etherparse_ipv4_view`.
+        // Each arm has its own `return`, for speed: as the value of the `match` the answer takes
+        // more instructions, a third more in `etherparse_ipv4_view`.
         Ok((header, rest)) => {
             return Ipv6ReadAnswer {
                 error: Error::none(),
@@ -83,7 +83,7 @@ pub extern "C" fn etherparse_ipv6_read(slice: &[u8]) -> Ipv6ReadAnswer
     }
 }
 
-/// The bytes of the header of these fields.
+/// The bytes of the header with these fields.
 #[unsafe(no_mangle)]
 pub extern "C" fn etherparse_ipv6_write(fields: &Ipv6Fields) -> Ipv6Bytes
     ensures layout { fields.now.flow_label < 2 ^ 20 →
@@ -106,7 +106,7 @@ pub extern "C" fn etherparse_ipv6_write(fields: &Ipv6Fields) -> Ipv6Bytes
     }
 }
 
-// The header that these fields stand for, where the flow label is within its bound.
+// The header with these fields, if the flow label is within its bound.
 #[inline(always)]
 fn header_of(fields: &Ipv6Fields) -> Option<Ipv6Header>
     ensures accepted { IsSome result ↔ (fields.now.flow_label < 2 ^ 20) }
@@ -140,7 +140,7 @@ fn fields_of(header: &Ipv6Header) -> Ipv6Fields
     }
 }
 
-// The answer where there is no header.
+// The answer if there is no header.
 #[inline(always)]
 fn refused(e: &HeaderSliceError) -> Ipv6ReadAnswer
     ensures value { (s : List ℕ) → result ≡ ipv6_reading_in_c s (Err e.now) }

@@ -9,7 +9,7 @@ use crate::answer::{Error, Rest};
 use etherparse::Ipv6HeaderSlice;
 use etherparse::err::ipv6::HeaderSliceError;
 
-/// What the getters of a view answer.
+/// What the getters of a view return.
 #[repr(C)]
 #[derive(Drop)]
 pub struct Ipv6ViewFields {
@@ -37,9 +37,9 @@ pub struct Ipv6ViewFields {
 #[repr(C)]
 #[derive(Drop)]
 pub struct Ipv6ViewAnswer {
-    /// What its getters answer.
+    /// What its getters return.
     pub view: Ipv6ViewFields,
-    /// Why there is none; its kind is 0 where there is one.
+    /// Why there is none; its kind is 0 if there is one.
     pub error: Error,
     /// All the bytes after the header.
     pub rest: Rest,
@@ -47,14 +47,14 @@ pub struct Ipv6ViewAnswer {
 
 /// A view of the header at the front of a slice, and where the bytes after it are.
 ///
-/// The error is a length of fewer than 40 bytes; else another version than 6.
+/// Fewer than 40 bytes are an error; otherwise a version other than 6 is.
 #[unsafe(no_mangle)]
 pub extern "C" fn etherparse_ipv6_view(slice: &[u8]) -> Ipv6ViewAnswer
     ensures views { GivesAnswer (ReadsIpv6 slice.now) (ipv6_view_in_c slice.now) result }
 {
     match Ipv6HeaderSlice::from_slice(slice) {
-        // Each arm has its `return`, which the speed rests on: as the value of the `match` the
-        // answer takes more instructions, a third more in `etherparse_ipv4_view`.
+        // Each arm has its own `return`, for speed: as the value of the `match` the answer takes
+        // more instructions, a third more in `etherparse_ipv4_view`.
         Ok(view) => {
             return Ipv6ViewAnswer {
                 error: Error::none(),
@@ -66,7 +66,7 @@ pub extern "C" fn etherparse_ipv6_view(slice: &[u8]) -> Ipv6ViewAnswer
     }
 }
 
-// What the getters of a view answer.
+// What the getters of a view return.
 #[inline(always)]
 fn getters_of(view: &Ipv6HeaderSlice) -> Ipv6ViewFields
     ensures value { OfIpv6Header view.now.slice.now (λ header. result ≡ ipv6_view_of header) }
@@ -84,8 +84,8 @@ fn getters_of(view: &Ipv6HeaderSlice) -> Ipv6ViewFields
     }
 }
 
-// The same bytes. Read one by one they go into the answer by one load and one store; copied as a
-// whole, they are stored in a room of their own on the way.
+// The same bytes. Read one by one, they go into the answer by one load and one store; copied as a
+// whole, they are stored in between.
 #[inline(always)]
 fn byte_by_byte(address: [u8; 16]) -> [u8; 16]
     ensures { result ≡ address }
@@ -94,7 +94,7 @@ fn byte_by_byte(address: [u8; 16]) -> [u8; 16]
     [a, b, c, d, e, f, g, h, i, j, k, l, m, n, o, p]
 }
 
-// The answer where there is no header.
+// The answer if there is no header.
 #[inline(always)]
 fn refused(e: &HeaderSliceError) -> Ipv6ViewAnswer
     ensures value { (s : List ℕ) → result ≡ ipv6_view_in_c s (Err e.now) }

@@ -15,20 +15,18 @@ use etherparse::{IpNumber, Ipv6Header};
 #[repr(C)]
 #[derive(Drop)]
 pub struct Ipv6WalkAnswer {
-    /// The number of what follows the extension headers: the first of no header that can be
-    /// skipped.
+    /// The number of what follows the extension headers: the first that cannot be skipped.
     pub next_header: u8,
-    /// Why it did not come to an end; its kind is 0 where it did.
+    /// Why it did not come to an end; its kind is 0 if it did.
     pub error: Error,
     /// All the bytes after the extension headers.
     pub rest: Rest,
 }
 
-/// Skips the extension header of this number at the front of a slice. A number of no header that
-/// can be skipped is answered with the whole slice.
+/// Skips the extension header of this number at the front of a slice. For a number that cannot be
+/// skipped the rest is the whole slice.
 ///
-/// The error is a length of fewer bytes than the header says. Where there are fewer than 2 bytes, 2
-/// are required.
+/// Fewer bytes than the header says are an error. If there are fewer than 2 bytes, 2 are required.
 #[unsafe(no_mangle)]
 pub extern "C" fn etherparse_ipv6_skip(slice: &[u8], next_header: u8) -> Ipv6WalkAnswer
     ensures kept { ¬ IsSkippable next_header → result
@@ -45,17 +43,17 @@ pub extern "C" fn etherparse_ipv6_skip(slice: &[u8], next_header: u8) -> Ipv6Wal
         (Err (incomplete_header_error next_header slice.now 0)) }
 {
     match Ipv6Header::skip_header_extension_in_slice(slice, IpNumber(next_header)) {
-        // Each arm has its `return`, which the speed rests on: as the value of the `match` the
-        // answer takes more instructions, a third more in `etherparse_ipv4_view`.
+        // Each arm has its own `return`, for speed: as the value of the `match` the answer takes
+        // more instructions, a third more in `etherparse_ipv4_view`.
         Ok((number, rest)) => return ended(slice, number, rest),
         Err(e) => return refused(Error::of_len(&e)),
     }
 }
 
-/// Skips all extension headers at the front of a slice, of which the first has this number.
+/// Skips all extension headers at the front of a slice; the first has this number.
 ///
-/// The error is a length: that of the first header that is incomplete. Where fewer than 2 bytes are
-/// left, 2 are required.
+/// The error is that of the first incomplete header. If fewer than 2 bytes are left, 2 are
+/// required.
 #[unsafe(no_mangle)]
 pub extern "C" fn etherparse_ipv6_walk(slice: &[u8], next_header: u8) -> Ipv6WalkAnswer
     ensures walks { GivesAnswer (Walks slice.now next_header)
@@ -67,11 +65,11 @@ pub extern "C" fn etherparse_ipv6_walk(slice: &[u8], next_header: u8) -> Ipv6Wal
     }
 }
 
-/// Skips the extension headers at the front of a slice, of which the first has this number, but no
-/// more than `limit` of them.
+/// Skips the extension headers at the front of a slice, but no more than `limit` of them; the first
+/// has this number.
 ///
-/// The error is kind 4 where as many were skipped and the number after them is that of one more,
-/// however many bytes are left; else a length, as that of `etherparse_ipv6_walk`.
+/// The error is of kind 4 if that many were skipped and the number after them is that of one more,
+/// whatever bytes are left; otherwise it is that of `etherparse_ipv6_walk`.
 #[unsafe(no_mangle)]
 pub extern "C" fn etherparse_ipv6_walk_up_to(
     slice: &[u8],

@@ -1,5 +1,5 @@
-//! Laws of the texts of errors: the text by the numbers of an error is the library's own text of
-//! it. Nothing calls these functions: they are there to be proved.
+//! Laws of the texts of errors: the text for the numbers of an error is the library's own text of
+//! that error. Nothing calls these functions: they are there to be proved.
 
 ghost use Rattle.std.specs.Prelude.{ℕ, ◌≡◌, ◌<◌, List, Err, length};
 ghost use Rattle.etherparse.specs.ExtensionHeaderChain.{Walks, WalksUpTo};
@@ -29,8 +29,8 @@ ghost use Rattle.etherparse_c.specs.Error.{layer_in_c, len_error_in_c, options_e
 ghost use Rattle.etherparse_c.specs.Error.{source_in_c, value_error_in_c, value_in_c};
 ghost use Rattle.etherparse_c.specs.ErrorText.{error_text};
 
-// Of each error that has numbers. A length has them if it is too small, of a layer that has a
-// number, and from where the lengths of that layer come.
+// For each error that has numbers. A length error has them if the length is too small, its layer
+// has a number, and it has the source of lengths in that layer.
 fn text_of_numbers()
     ensures len { (e : LenError) → 0 < layer_in_c e.layer → e.len_source ≡ source_in_c e.layer →
         e.len < e.required_len → error_text (len_error_in_c e) ≡ len_error_text e }
@@ -47,7 +47,7 @@ fn text_of_numbers()
         error_text (options_error_in_c e) ≡ bad_options_len_text e }
 {}
 
-// Of each error that a call answers, whatever it was called with.
+// For each error that a call returns, whatever its arguments.
 fn text_of_answers()
     ensures ipv4 { (s : List ℕ) (e : ipv4.HeaderSliceError) → ReadsIpv4 s (Err e) →
         error_text (ipv4_error_in_c e) ≡ ipv4_header_slice_error_text e }

@@ -1,7 +1,7 @@
 //! `etherparse` for C, and for every language that calls C functions: a static library.
 //!
 //! `include/etherparse.h` declares what is here. A slice is a pointer and a length, and no call
-//! keeps a pointer, takes memory or makes a system call.
+//! keeps a pointer, allocates memory or makes a system call.
 #![tactic(auto)]
 
 pub mod answer;
@@ -26,7 +26,7 @@ use ipv6_view::{Ipv6ViewAnswer, Ipv6ViewFields};
 use ipv6_walk::Ipv6WalkAnswer;
 use std::mem::size_of;
 
-// The sizes in bytes that `include/etherparse.h` tells of.
+// The sizes in bytes that `include/etherparse.h` declares.
 const _: () = prove!(size_of::<Error>() == 40 && size_of::<Rest>() == 16);
 
 const _: () = prove!(size_of::<Ipv4Fields>() == 64 && size_of::<Ipv4ReadAnswer>() == 120);

@@ -1,4 +1,4 @@
-//! Bytes at the front of an array, which has room for the longest.
+//! Bytes at the front of an array that has room for the longest.
 
 ghost use Rattle.std.specs.Prelude.{ℕ, ◌≡◌, ◌<◌, ◌≤◌, ◌+◌, ◌-◌, ◌%◌, ◌++◌};
 ghost use Rattle.std.specs.Prelude.{length, replicate, slice_index};
@@ -15,7 +15,7 @@ pub(crate) fn filled<const N: usize>(bytes: &[u8]) -> [u8; N]
     room
 }
 
-/// The same of options, by words of 4, so that no branch tells how many there are.
+/// The same for options, in words of 4 bytes, so that no branch depends on their number.
 #[inline(always)]
 pub(crate) fn filled_by_words(options: &[u8]) -> [u8; 40]
     requires options_len { IsOptionsLen (length options.now) }
@@ -29,7 +29,7 @@ pub(crate) fn filled_by_words(options: &[u8]) -> [u8; 40]
     room
 }
 
-// The word that starts at a place, or 0 behind the last one, which is then read again.
+// The word that starts at this index; after the last word 0, and the last one is read again.
 #[inline(always)]
 fn word_at(options: &[u8], start: usize) -> [u8; 4]
     requires options_len { IsOptionsLen (length options.now) }

@@ -1,4 +1,4 @@
-//! The text of an error, in the words of the library.
+//! The text of an error, as the library prints it.
 
 ghost use Rattle.std.specs.Prelude.{ℕ, ◌≡◌, ◌+◌, ◌-◌, ◌*◌, ◌<◌, ◌≤◌, ◌^◌, ◌++◌};
 ghost use Rattle.std.specs.Prelude.{List, drop, length, take};
@@ -25,7 +25,7 @@ use crate::answer::{
 use itoa::Buffer;
 
 /// Writes the text of the error with these numbers to the front of a buffer, as much of it as there
-/// is room for, and a byte 0 behind it; answers how many bytes the whole text has, without that 0.
+/// is room for, and a byte 0 after it; returns how many bytes the whole text has, without that 0.
 ///
 /// Numbers that no error has have the empty text.
 #[unsafe(no_mangle)]
@@ -108,7 +108,7 @@ fn put_len(error: &Error, text: &mut [u8]) -> usize
     }
 }
 
-// The same in a layer of this title and name.
+// The same for a layer with this title and name.
 #[inline(never)]
 fn put_len_in(
     error: &Error,
@@ -139,7 +139,7 @@ fn put_len_in(
     len
 }
 
-// Where a layer starts, which is left out at byte 0.
+// Where a layer starts; left out if that is byte 0.
 fn fill_place(layer: &'static str, offset: usize, start: usize, text: &mut [u8]) -> usize
     requires short { length layer.now ≤ 64 }
     requires start { start < 2 ^ 32 }
@@ -161,7 +161,7 @@ fn fill_place(layer: &'static str, offset: usize, start: usize, text: &mut [u8])
     )
 }
 
-// The text of another version than the one that is read, by the layer.
+// The text of an unexpected version, by the layer.
 fn put_version(error: &Error, text: &mut [u8]) -> usize
     ensures gives { GivesText (version_text error.now) text.old text.new result }
 {
@@ -184,7 +184,7 @@ fn put_version(error: &Error, text: &mut [u8]) -> usize
     }
 }
 
-// The text of a value that is too big, by which value it is.
+// The text of a value that is too big, by the kind of value.
 fn put_value(error: &Error, text: &mut [u8]) -> usize
     ensures gives { GivesText (value_text error.now) text.old text.new result }
 {
@@ -207,7 +207,7 @@ fn put_value(error: &Error, text: &mut [u8]) -> usize
     }
 }
 
-// The same of a value of this name.
+// The same for a value with this name.
 #[inline(never)]
 fn put_value_of(error: &Error, name: &'static str, text: &mut [u8]) -> usize
     requires short { length name.now ≤ 64 }
@@ -222,7 +222,7 @@ fn put_value_of(error: &Error, name: &'static str, text: &mut [u8]) -> usize
     )
 }
 
-// Writes a template to the front of a buffer, and a byte 0 behind it.
+// Writes a template to the front of a buffer, and a byte 0 after it.
 #[inline(never)]
 fn put(template: &str, words: &[&str], numbers: &[usize], text: &mut [u8]) -> usize
     requires few { length template.now ≤ 512 }
@@ -235,8 +235,8 @@ fn put(template: &str, words: &[&str], numbers: &[usize], text: &mut [u8]) -> us
     len
 }
 
-// Writes a template behind what stands in a buffer, as far as there is room: each `$` is the next
-// of the words, and each `#` the next of the numbers. Answers how long the text is then.
+// Appends a template to the text in a buffer, as far as there is room: each `$` is the next of the
+// words, and each `#` the next of the numbers. Returns how long the text is then.
 #[inline(never)]
 fn fill(template: &str, words: &[&str], numbers: &[usize], start: usize, text: &mut [u8]) -> usize
     requires few { length template.now ≤ 512 }
@@ -264,7 +264,7 @@ fn fill(template: &str, words: &[&str], numbers: &[usize], start: usize, text: &
     len
 }
 
-// Writes what stands for one byte of a template.
+// Writes what one byte of a template becomes.
 fn fill_one(byte: u8, word: &str, number: usize, start: usize, text: &mut [u8]) -> usize
     requires short { length word.now ≤ 256 }
     requires start { start < 2 ^ 33 }
@@ -283,7 +283,7 @@ fn fill_one(byte: u8, word: &str, number: usize, start: usize, text: &mut [u8]) 
     }
 }
 
-// The word at a place, or the empty one where there is none.
+// The word at an index, or the empty one if there is none.
 fn word_at<'a>(words: &[&'a str], place: usize) -> &'a str
     requires short { length (flat_map (λ word. word.now) words.now) ≤ 256 }
     ensures value { result.now ≡ first_word (drop place words.now) }
@@ -295,7 +295,7 @@ fn word_at<'a>(words: &[&'a str], place: usize) -> &'a str
     ""
 }
 
-// The number at a place, or 0 where there is none.
+// The number at an index, or 0 if there is none.
 fn number_at(numbers: &[usize], place: usize) -> usize
     ensures value { result ≡ first_number (drop place numbers.now) }
 {
@@ -305,8 +305,8 @@ fn number_at(numbers: &[usize], place: usize) -> usize
     0
 }
 
-// Writes a piece from an offset of a buffer on, as much of it as there is room for; answers the
-// offset behind it.
+// Writes a piece at an offset of a buffer, as much of it as there is room for; returns the offset
+// after it.
 #[inline(never)]
 fn put_at(piece: &[u8], offset: usize, text: &mut [u8]) -> usize
     requires fits { offset + length piece.now < 2 ^ 64 }
@@ -314,8 +314,8 @@ fn put_at(piece: &[u8], offset: usize, text: &mut [u8]) -> usize
     ensures len { result ≡ offset + length piece.now }
 {
     let end = offset + piece.len();
-    // Byte by byte, each with its own test for room: the compiler leaves this loop as short as it
-    // is, and calls neither `memcpy` nor `memmove` for it.
+    // Byte by byte, with a test for room each time: the compiler leaves this loop as short as it is
+    // and calls neither `memcpy` nor `memmove`.
     for i in 0..piece.len() {
         if offset + i >= text.len() {
             return end;
@@ -325,7 +325,7 @@ fn put_at(piece: &[u8], offset: usize, text: &mut [u8]) -> usize
     end
 }
 
-// Writes a byte 0 behind a text of this length, or as the last byte where it fills the buffer.
+// Writes a byte 0 after a text of this length, or as the last byte if the text fills the buffer.
 fn end_at(len: usize, text: &mut [u8])
     ensures written { (whole before : List ℕ) → IsWritten whole before len text.old →
         text.new ≡ with_text whole before }

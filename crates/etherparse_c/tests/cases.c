@@ -1,5 +1,5 @@
-/* Worked values of the standards, by the calls as C has them: sums, the checksum of a header, the largest header, each refusal
- * with its numbers, walks and texts. What a call answers is a clause in src/; here it comes through the header file. */
+/* Worked values of the standards, by the calls from C: sums, the checksum of a header, the largest header, each refusal with its
+ * numbers, walks and texts. What a call returns is a clause in src/; this tests the way through the header file. */
 
 #include "etherparse.h"
 
@@ -36,8 +36,8 @@ static void expect_error(int line, struct etherparse_error error, uint32_t kind,
 
 #define EXPECT_ERROR(...) expect_error(__LINE__, __VA_ARGS__)
 
-/* The complement of the words of 1, 2, 3 and so on is 0xf3ef up to 7 and 0xc7bf up to 15, as numbers in the order of a
- * processor whose low byte comes first. */
+/* The complement of the words of the bytes 1, 2, 3 and so on is 0xf3ef up to 7 and 0xc7bf up to 15, as a number whose low byte
+ * comes first. */
 static void sums(void)
 {
     static const uint8_t counted[15] = {1, 2, 3, 4, 5, 6, 7, 8, 9, 10, 11, 12, 13, 14, 15};
@@ -175,7 +175,7 @@ static void ipv4_headers(void)
         EXPECT_BYTES(read.fields.options, options, 5);
     }
 
-    /* A view has the bytes as they are, with the reserved bit. */
+    /* A view shows the bytes as they are, with the reserved bit. */
     memset(bytes, 0, sizeof bytes);
     bytes[0] = 0x45;
     bytes[6] = 0xc0;
@@ -318,7 +318,7 @@ static void texts(void)
     EXPECT(etherparse_error_text(&error, text, sizeof text), sizeof version - 1);
     EXPECT_BYTES(text, version, sizeof version);
 
-    /* Into too little room, into none, and of a kind that is none. */
+    /* Into a buffer that is too small, into none, and for a kind that does not exist. */
     error = error_of(ETHERPARSE_UNEXPECTED_VERSION, 5, ETHERPARSE_IPV4_HEADER);
     memset(text, 7, sizeof text);
     EXPECT(etherparse_error_text(&error, text, 5), 107);

@@ -7,7 +7,7 @@ use Rattle.etherparse_c.proofs.Answered.{answered}
 use Rattle.etherparse_c.specs.declared.answer.Rest.{Rest}
 use Rattle.etherparse_c.proofs.ipv4_header.etherparse_ipv4_read.Goals as goal
 
--- the options of a header that was read stand between its first 20 bytes and the rest
+-- the options of a header that was read are between its first 20 bytes and the rest
 options_at : (s rest : List ℕ) (h : Ipv4Header) (offset : ℕ) → ReadsIpv4 s (Ok (h, rest)) → offset ≡ length s - length rest → slice_range s 20 offset ≡ h.options
 options_at s rest h offset b e =
     let len = ap length b.whole ∙ length-append b.front rest in

@@ -6,7 +6,7 @@ use Rattle.etherparse_c.specs.Ipv4Fields.{StandForIpv4}
 use Rattle.etherparse_c.specs.declared.ipv4_header.Ipv4Fields.{Ipv4Fields}
 use Rattle.etherparse_c.proofs.ipv4_header.etherparse_ipv4_set_time_to_live.Goals as goal
 
--- fields that are changed as a header is stand for it
+-- fields that are changed in the same way as a header are those of the changed header
 changed : (fields : Ipv4Fields) (t k : ℕ) (h g : Ipv4Header) → StandForIpv4 fields h → g ≡ with_time_to_live t k h
     → StandForIpv4 (record fields { time_to_live = g.time_to_live; header_checksum = g.header_checksum }) g
 changed fields t k h g s e = rw e (record { options = s.options; others = ap (λ (f : Ipv4Fields). record f { time_to_live = t; header_checksum = k }) s.others })
