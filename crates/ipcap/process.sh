@@ -1,15 +1,15 @@
 #!/bin/sh
-# Runs the built program as a process, and holds its exit code and all that it writes against what
-# is wanted: on the capture in `stdin`, on that capture cut at each of its bytes and with bytes
-# changed, on its packets behind the headers of each other link type, and where standard input or
-# output is closed, full or nobody reads it.
+# Runs the built program as a process, and compares its exit code and all its output with what is
+# expected: on the capture in `stdin`, on that capture cut at each of its bytes and with bytes
+# changed, on its packets after the headers of each other link type, and with standard input or
+# output that is closed, full or read by nobody.
 #
 #     ./process.sh            both builds that `rt ci` leaves in out/: ipcap, and ipcap.by-rattle,
 #                             which Rattle's own compiler makes after it
-#     ./process.sh ipcap      the build of this name alone, as after `rt run`, which makes no other
+#     ./process.sh ipcap      the build with this name alone, the only one that `rt run` makes
 #
-# It prints a line for each case that fails, and at last 'N passed, M failed'. The exit code is 1
-# where one failed.
+# It prints a line for each case that fails, and at the end 'N passed, M failed'. The exit code is 1
+# if one failed.
 set -u
 unset CDPATH
 cd "$(dirname "$0")" || exit 1
@@ -30,7 +30,7 @@ fail() {
     echo "FAILED: $build: $1: $2"
 }
 
-# judge NAME CODE WANTED: the run before it ended with the code that is wanted, and wrote the files
+# judge NAME CODE WANTED: the last run ended with the expected code, and wrote what is in the files
 # `wanted` and `wanted.errors`.
 judge() {
     if [ "$2" -ne "$3" ]; then
@@ -55,8 +55,8 @@ closing() {
         "$6 with a wrong checksum"
 }
 
-# closing_of RECORDS: the closing line of a front of the capture in `stdin`: two packets of IPv4,
-# one of IPv6, one of IPv4 with a wrong checksum, ARP, and a frame that is cut in its link header.
+# closing_of RECORDS: the closing line of the first records of the capture in `stdin`: two packets of
+# IPv4, one of IPv6, one of IPv4 with a wrong checksum, ARP, and a frame cut in its link header.
 closing_of() {
     closing "$1" $(($1 < 3 ? $1 : $1 > 3 ? 3 : 2)) $(($1 > 2)) $(($1 > 4 ? $1 - 4 : 0)) \
         $(($1 > 5)) $(($1 > 3))
@@ -133,9 +133,9 @@ number() {
     done
 }
 
-# record START HEADER PLACE LENGTH [ORIGINAL]: a record with the time of the record of `stdin` that
-# starts at this byte, a link header as `printf` takes it, and so many bytes of `stdin` from this
-# place. The frame had so many bytes, or no more than these.
+# record START HEADER PLACE LENGTH [ORIGINAL]: a record with the time of the record that starts at
+# byte START of `stdin`, a link header as `printf` takes it, and LENGTH bytes of `stdin` from PLACE
+# on. The frame had ORIGINAL bytes, by default no more than these.
 record() {
     printf "$2" >"$room/header"
     length=$(($(wc -c <"$room/header") + $4))
@@ -146,7 +146,7 @@ record() {
     dd if=stdin bs=1 skip="$3" count="$4" 2>/dev/null
 }
 
-# behind TYPE HEADER4 HEADER6 OTHER LINE: the four packets of `stdin` behind the link headers for
+# behind TYPE HEADER4 HEADER6 OTHER LINE: the four packets of `stdin` after the link headers for
 # IPv4 and IPv6 have the lines of `stdout`, and a frame of another protocol has its own.
 behind() {
     {
@@ -249,7 +249,7 @@ link_types() {
     behind 276 "\201\0$sent\0\12\10\0" "\201\0$sent\0\12\206\335" "\0\4$sent" 'type 0x0004'
 }
 
-# Keywords of IANA's registry of protocol numbers.
+# The keywords of IANA's registry of protocol numbers.
 keywords='1:ICMP 2:IGMP 4:IPv4 6:TCP 17:UDP 41:IPv6 46:RSVP 47:GRE 50:ESP 51:AH 58:IPv6-ICMP
     59:IPv6-NoNxt 88:EIGRP 89:OSPFIGP 94:IPIP 103:PIM 108:IPComp 112:VRRP 115:L2TP 132:SCTP
     136:UDPLite 137:MPLS-in-IP'
@@ -285,8 +285,8 @@ protocols() {
     judge 'protocols' $? 0
 }
 
-# Whatever byte is changed: the exit code is one of those that are written down, which no signal
-# gives, and unless it is 2 there is a closing line.
+# Whatever byte is changed, the exit code is a documented one, so no signal ended the program; unless
+# it is 2, there is a closing line.
 changed_captures() {
     number=0
     value=17

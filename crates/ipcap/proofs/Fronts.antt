@@ -1,4 +1,4 @@
--- What is read at the front of a slice is read there whatever follows.
+-- What is read at the front of a slice is read there, whatever follows it.
 use Rattle.std.proofs.Common.{ℕ, ◌≡◌, ◌+◌, ◌-◌, ◌≤◌, List, ◌++◌, length, take, drop, slice_range, ap, sym, ◌∙◌, arith, length-append, length-drop, length-take-le, Err, [], append-nil, subst, inl, inr, ◌⊎◌}
 use Rattle.std.proofs.lemmas.List.{drop-append-le, take-append-le}
 use Rattle.std.specs.Int.{w32}
@@ -63,7 +63,7 @@ begins_with_file_header-append s more header rest b = let enough = b.enough in r
   after = ap (λ xs. xs ++ more) b.after ∙ sym (drop-append-le 24 s more enough);
 }
 
--- no file header, whatever follows; where the bytes are too few, nothing does
+-- no file header, whatever follows; if there are too few bytes, nothing follows
 pub reads_no_file_header-append : (s more : List ℕ) (e : CaptureError) → (24 ≤ length s) ⊎ (more ≡ [])
     → ReadsFileHeader s (Err e) → ReadsFileHeader (s ++ more) (Err e)
 reads_no_file_header-append s more e (inr none) r = subst (λ (x : List ℕ). ReadsFileHeader x (Err e)) (sym (ap (λ xs. s ++ xs) none ∙ append-nil s)) r

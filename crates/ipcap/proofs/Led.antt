@@ -1,4 +1,4 @@
--- Lines that lead on, and on from there.
+-- Lines of some records, and lines of the records after them.
 use Rattle.std.proofs.Common.{ℕ, ◌≡◌, ◌<◌, ◌≤◌, ◌+◌, Bool, true, false, List, [], ◌++◌, length, drop, Option, Some, None, IfSome, Err, refl, sym, ap, ◌∙◌, subst, append_assoc, append-nil, arith, inl, inr, ◌⊎◌, ◌-◌, length-append, length-drop, drop-drop}
 use Rattle.std.specs.Io.KnownBytes.{Appends, IsAtEnd, Keeps, prepend_known}
 use Rattle.std.proofs.KnownBytes.{Appends-nil, Appends-trans}
@@ -49,7 +49,7 @@ known_then h is_quiet t u v (Some s) None q k o m n a b = absurd a
 known_then h is_quiet t u v (Some s) (Some r) None k o m n a b = absurd b
 known_then h is_quiet t u v (Some s) (Some r) (Some q) k o m n a b = told_then h is_quiet t u v s r q k o m n a b
 
--- nothing is told where nothing changes
+-- no line if nothing changes
 pub known_kept : (h : FileHeader) (is_quiet : Bool) (t : Totals) (s r : Option (List ℕ)) (o : Option (List ℕ)) → Keeps s r → TellsKnown h is_quiet t s t r turn.GoesOn o o
 known_kept h is_quiet t None r o k = tt
 known_kept h is_quiet t (Some s) None o k = absurd k
@@ -59,14 +59,14 @@ known_kept h is_quiet t (Some s) (Some r) o k = record {
   written = written_none is_quiet o;
 }
 
--- the records at the front of the window, whatever else is left
+-- the records at the front of the window, whatever follows
 pub known_front : (h : FileHeader) (is_quiet : Bool) (t u : Totals) (s : List ℕ) (passed : ℕ) (stop : Option cut.CutOff) (left o n : Option (List ℕ))
     → TellsFront h is_quiet t s passed u stop o n
     → TellsKnown h is_quiet t (prepend_known s left) u (prepend_known (drop passed s) left) turn.GoesOn o n
 known_front h is_quiet t u s passed stop None o n f = tt
 known_front h is_quiet t u s passed stop (Some more) o n f = record { lines = f.lines; leads = f.leads more; written = f.written }
 
--- a stop that is not for want of room
+-- a stop although there is room for more
 abbrev pub IsShort : Option cut.CutOff → Type 0
 IsShort None = Unit {0}
 IsShort (Some e) = e.required_len ≤ 16 + max_captured_len
@@ -89,7 +89,7 @@ known_end h is_quiet t s s' stop (Some more) (Some more') o k end same e short =
       written = written_none is_quiet o;
     }
 
--- the records so far are the front of the data, whatever follows it
+-- the records so far are at the front of the data, whatever follows it
 pub record FrontSoFar (h : FileHeader) (is_quiet : Bool) (t : Totals) (s : List ℕ) (u : Totals) (rest : List ℕ) (o n : Option (List ℕ)) : Type 0 where
   pub within : length rest ≤ length s
   pub behind : rest ≡ drop (length s - length rest) s
@@ -106,7 +106,7 @@ front_first h is_quiet t s o = record {
   written = written_none is_quiet o;
 }
 
--- a record more
+-- one more record
 pub front_more : (h : FileHeader) (is_quiet : Bool) (t u v : Totals) (s rest after line : List ℕ) (found : Recorded) (o m n : Option (List ℕ))
     → length s ≤ 16 + max_captured_len → FrontSoFar h is_quiet t s u rest o m → BeginsWithRecord h rest found after → IsToldOfRecord h u found line v
     → Appends m n (unless_quiet is_quiet line) → FrontSoFar h is_quiet t s v after o n
@@ -124,7 +124,7 @@ front_more h is_quiet t u v s rest after line found o m n room f b told w =
       written = written_then is_quiet o m n f.lines line f.written w;
     }
 
--- the front of the data is passed
+-- the front of the data is listed
 pub front_told : (h : FileHeader) (is_quiet : Bool) (t u : Totals) (s rest : List ℕ) (stop : Option cut.CutOff) (o n : Option (List ℕ))
     → FrontSoFar h is_quiet t s u rest o n → Stops h rest stop → TellsFront h is_quiet t s (length s - length rest) u stop o n
 front_told h is_quiet t u s rest stop o n f e = record {
@@ -135,7 +135,7 @@ front_told h is_quiet t u s rest stop o n f e = record {
   written = f.written;
 }
 
--- a record that is too long is told, and skipped or the last one
+-- a record that is too long has its line, and is skipped or the last one
 pub known_long : (h : FileHeader) (is_quiet : Bool) (t u : Totals) (s line : List ℕ) (left after o n : Option (List ℕ))
     → IsToldOfLongRecord h t s line u → Appends o n (unless_quiet is_quiet line)
     → Skips (prepend_known s left) (record_len h s) None after → TellsKnown h is_quiet t (prepend_known s left) u after turn.GoesOn o n
@@ -164,7 +164,7 @@ known_long_last h is_quiet t u s line there (Some more) (Some rest) o n told w k
       written = w;
     }
 
--- how long a record is that is too long
+-- the length of a record that is too long
 long_len : (h : FileHeader) (s : List ℕ) (e : cut.CutOff) → ReadsRecord h s (Err e) → 16 + max_captured_len < e.required_len
     → (16 ≤ length s) × (e.required_len ≡ record_len h s)
 long_len h s e r long = elim r [
@@ -190,7 +190,7 @@ turn_long_last h is_quiet t u s line there e left after o n r long told wrote k 
     subst (λ (x : ℕ). TellsKnown h is_quiet t (prepend_known s left) u after (turn.Ends (Some (record { required_len = x; len = there }))) o n) (sym len)
     (known_long_last h is_quiet t u s line there left after o n told wrote (subst (λ (x : ℕ). Skips (prepend_known s left) x (Some there) after) len k))
 
--- the front of the window, and what is told of the rest
+-- the front of the window, and the lines of the rest
 pub turn_then : (h : FileHeader) (is_quiet : Bool) (t u v : Totals) (s w : List ℕ) (passed : ℕ) (stop : Option cut.CutOff) (left after o m n : Option (List ℕ)) (k : Turn)
     → TellsFront h is_quiet t s passed u stop o m → w ≡ drop passed s → TellsKnown h is_quiet u (prepend_known w left) v after k m n
     → TellsKnown h is_quiet t (prepend_known s left) v after k o n
@@ -198,7 +198,7 @@ turn_then h is_quiet t u v s w passed stop left after o m n k f same rest =
     let front = subst (λ (x : List ℕ). TellsKnown h is_quiet t (prepend_known s left) u (prepend_known x left) turn.GoesOn o m) (sym same) (known_front h is_quiet t u s passed stop left o m f) in
     known_then h is_quiet t u v (prepend_known s left) (prepend_known w left) after k o m n front rest
 
--- the front of the window, and more or no more
+-- the front of the window, and whether more follows
 pub turn_on : (h : FileHeader) (is_quiet : Bool) (t u : Totals) (s w v : List ℕ) (passed : ℕ) (stop : Option cut.CutOff) (left left' o m : Option (List ℕ)) (k : Turn)
     → TellsFront h is_quiet t s passed u stop o m → w ≡ drop passed s → IsShort stop
     → Keeps (prepend_known w left) (prepend_known v left')
@@ -210,7 +210,7 @@ turn_on h is_quiet t u s w v passed stop left left' o m k f same short kept how 
       | inr over ↦ rw over.0 (known_end h is_quiet u w v stop left left' m kept over.2 over.1 (subst (λ (x : List ℕ). Stops h x stop) (sym same) f.stops) short)
     ])
 
--- what was told up to the end
+-- the lines up to the end
 pub known_all : (h : FileHeader) (is_quiet : Bool) (t u : Totals) (s r : Option (List ℕ)) (end : Option cut.CutOff) (o n : Option (List ℕ))
     → TellsKnown h is_quiet t s u r (turn.Ends end) o n → IfSome s (λ x. Told h is_quiet t x u [] (turn.Ends end) o n)
 known_all h is_quiet t u None r end o n k = tt

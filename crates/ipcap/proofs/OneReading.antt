@@ -8,7 +8,7 @@ use Rattle.etherparse.specs.declared.net.ipv4_header.Ipv4Header.{Ipv4Header}
 use Rattle.etherparse.specs.declared.net.ipv6_header.Ipv6Header.{Ipv6Header}
 use Rattle.ipcap.specs.Cut.{IsCutIpv6Packet, IsNoCutIpv4, IsNoCutIpv6}
 
--- the lengths that a reading has, and the bytes behind its header
+-- the lengths in a reading, and the bytes after its header
 abbrev total_len_in : Ipv4Reading → ℕ
 total_len_in (Ok x) = x.0.total_len
 total_len_in (Err e) = 0
@@ -35,7 +35,7 @@ pub whole_ipv6 : (packet : List ℕ) (header : Ipv6Header) (rest : List ℕ) →
 whole_ipv6 packet header rest only whole = λ other extensions upper payload k.
     let same = ap payload_length_in (only (Ok (other, extensions ++ payload)) k.begins) in omega (arith, whole, k.short, same)
 
--- the walk of the bytes behind the header
+-- the walk over the bytes after the header
 walked : (packet : List ℕ) (header : Ipv6Header) (rest : List ℕ) → ((other : Ipv6Reading) → ReadsIpv6 packet other → other ≡ Ok (header, rest))
     → (other : Ipv6Header) (extensions : List ℕ) (upper : ℕ) (payload : List ℕ) → IsCutIpv6Packet packet other extensions upper payload
     → Walks rest header.next_header (Ok (upper, payload))

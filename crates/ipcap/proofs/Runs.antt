@@ -17,13 +17,13 @@ use Rattle.ipcap.specs.declared.status.Status.{Status}
 use Rattle.ipcap.specs.declared.status.Status.TheVariants.{NoCapture}
 use Rattle.ipcap.proofs.Fronts.{begins_with_file_header-append, reads_no_file_header-append}
 
--- what was read follows what was there
+-- what was read comes after what was there
 pub filled : (a b : Option (List ℕ)) (u v got : List ℕ) → v ≡ u ++ got → Consumes a b got → Keeps (prepend_known u a) (prepend_known v b)
 filled None b u v got e c = tt
 filled (Some x) None u v got e c = absurd c
 filled (Some x) (Some y) u v got e c = ap (λ xs. xs ++ y) e ∙ append_assoc u got y ∙ ap (λ xs. u ++ xs) (sym c)
 
--- text that is handed over was written
+-- text that was passed to the writer was written
 pub handed : (a b c : Option (List ℕ)) (first items last lines : List ℕ) → first ≡ [] → last ≡ []
     → Appends (append_known a first) (append_known b items) lines → Keeps (append_known b items) (append_known c last) → Appends a c lines
 handed None b c first items last lines e f p q = tt
@@ -32,7 +32,7 @@ handed (Some x) (Some y) None first items last lines e f p q = absurd q
 handed (Some x) (Some y) (Some z) first items last lines e f p q =
     sym (append-nil z) ∙ ap (λ xs. z ++ xs) (sym f) ∙ q ∙ p ∙ ap (λ xs. (x ++ xs) ++ lines) e ∙ ap (λ xs. xs ++ lines) (append-nil x)
 
--- what is left once all that was read is passed on
+-- the 24 bytes of a file header have been read, or the input is at its end
 abbrev AtEndOr : List ℕ → Option (List ℕ) → Type 0
 AtEndOr u r = (24 ≤ length u) ⊎ IsAtEnd r
 
@@ -93,7 +93,7 @@ listed_input is_quiet (Some input) (Some more) u rest header status o n p q k be
   errors = w.errors;
 }
 
--- the lines at the end, of a quiet run
+-- the lines at the end of a quiet run
 pub ended_quiet : (h : FileHeader) (known : Option (List ℕ)) (t : Totals) (end : Option cut.CutOff) (status : Status) (a b c d p q : Option (List ℕ)) (first items last : List ℕ)
     → first ≡ [] → last ≡ []
     → IfSome known (λ s. Told h true nothing_counted s t [] (turn.Ends end) (append_known a first) (append_known b items))
@@ -108,7 +108,7 @@ ended_quiet h (Some s) t end status a b c d p q first items last none over told 
   errors = ends;
 }
 
--- of one that is not
+-- of any other run
 pub ended_aloud : (h : FileHeader) (known : Option (List ℕ)) (t : Totals) (end : Option cut.CutOff) (status : Status) (a b c p q r : Option (List ℕ)) (first items last : List ℕ)
     → first ≡ [] → last ≡ []
     → IfSome known (λ s. Told h false nothing_counted s t [] (turn.Ends end) (append_known a first) (append_known b items))

@@ -1,4 +1,4 @@
--- Bytes that are passed, as far as they are known.
+-- Bytes that are skipped, as far as they are known.
 use Rattle.std.proofs.Common.{ℕ, ◌≡◌, ◌<◌, ◌≤◌, ◌+◌, List, [], ◌++◌, length, drop, Option, Some, None, refl, sym, ap, ◌∙◌, arith, length-append, length-drop, drop-drop}
 use Rattle.std.proofs.lemmas.List.{drop-append-le}
 use Rattle.std.specs.Io.KnownBytes.{IsAtEnd, Keeps, prepend_known}
@@ -33,7 +33,7 @@ skips_end (Some s) u (Some more) k len p none end less =
     let all : length s ≡ k = omega (arith, p.0, ap length p.1, length-drop k s, over) in
     (omega arith, sym all)
 
--- so many of those that were read
+-- this many of those that were read
 pub skips_more : (a : Option (List ℕ)) (u v : List ℕ) (left : Option (List ℕ)) (j k m : ℕ) → Skips a j None (prepend_known u left) → v ≡ drop k u → k ≤ length u → m ≡ j + k
     → Skips a m None (prepend_known v left)
 skips_more a u v left j k m p e within sum = rw (sum, e) (skips_then a (prepend_known u left) (prepend_known (drop k u) left) j k p (skips_front u left k within))

@@ -1,4 +1,4 @@
--- Texts as std says them, and lines of records.
+-- Texts in std's terms, and lines of records.
 use Rattle.std.proofs.Common.{ℕ, ◌≡◌, ◌-◌, List, [], length, arith, append-nil, refl, ap, false}
 use Rattle.std.specs.Fmt.{char_count, format_spec, padded_integral}
 use Rattle.uses.specs.Capture.{Recorded}
@@ -11,7 +11,7 @@ use Rattle.ipcap.specs.Totals.{counted}
 use Rattle.ipcap.specs.declared.reading.Reading.{Reading}
 use Rattle.ipcap.specs.declared.totals.Totals.{Totals}
 
--- a number with zeros before it
+-- a number with leading zeros
 pub padded_with_zeros : (width : ℕ) (number : List ℕ) → padded_integral (format_spec 32 0 4 width 18446744073709551615) false [] number ≡ zero_padded width number
 unfolding padded_integral char_count
 padded_with_zeros width number =

@@ -31,11 +31,11 @@ use Rattle.ipcap.specs.declared.reading.Reading.{Reading}
 use Rattle.ipcap.specs.declared.reading.Reading.TheVariants.{Other, Packet, Refused}
 use Rattle.ipcap.specs.declared.totals.Totals.{Totals}
 
--- a number's digits, and before them zeros up to so many digits
+-- a number in decimal, with leading zeros up to this many digits
 abbrev pub zero_padded : ℕ → List ℕ → List ℕ
 zero_padded width number = replicate (width - length number) 48 ++ number
 
--- a fraction of a second, in the digits of the unit that the file counts
+-- a fraction of a second, with as many digits as the file's unit has
 abbrev pub fraction_text : Resolution → ℕ → List ℕ
 fraction_text Microseconds nanoseconds = zero_padded 6 (decimal (nanoseconds / 1000))
 fraction_text Nanoseconds nanoseconds = zero_padded 9 (decimal nanoseconds)
@@ -46,7 +46,7 @@ head_text number seconds nanoseconds resolution =
     decimal number ++ (codes " " ++ (decimal seconds ++ (codes "."
     ++ (fraction_text resolution nanoseconds ++ codes " "))))
 
--- an address: dotted decimals, or as RFC 5952 says
+-- an address: dotted decimals, or the text of RFC 5952
 abbrev pub address_text : Address → List ℕ
 address_text (V4 octets) = ipv4_text octets
 address_text (V6 octets) = ipv6_text (segments_of octets)
@@ -78,7 +78,7 @@ keyword_of number =
     else if number == 137 then Some (codes "MPLS-in-IP")
     else None
 
--- a protocol by its keyword, or by its number where it has none
+-- a protocol's keyword, or its number if it has none
 abbrev pub upper_text_by : Option (List ℕ) → ℕ → List ℕ
 upper_text_by None number = decimal number
 upper_text_by (Some keyword) number = keyword
@@ -92,7 +92,7 @@ detail_text (Ports source destination) = decimal source ++ (codes ">" ++ decimal
 detail_text (Message kind code) = decimal kind ++ (codes "/" ++ decimal code)
 detail_text Nothing = codes "-"
 
--- the identification of a fragment and its offset, with a plus where more fragments follow
+-- the identification and the offset of a fragment, with a plus if more fragments follow
 abbrev pub mark_text : Option Mark → List ℕ
 mark_text None = codes "-"
 mark_text (Some mark) = decimal mark.identification ++ (codes "@" ++ (decimal mark.offset
@@ -104,13 +104,13 @@ verdict_text Right = codes "right"
 verdict_text Wrong = codes "wrong"
 verdict_text Absent = codes "none"
 
--- who sent the packet to whom, of which protocol
+-- sender, receiver and protocol of the packet
 unfoldable pub parties_text : Shown → List ℕ
 parties_text shown = address_text shown.source ++ (codes " > "
     ++ (address_text shown.destination ++ (codes " " ++ (upper_text shown.upper
     ++ (codes " " ++ detail_text shown.detail)))))
 
--- how long the payload is, how many hops are left, where a fragment stands, and the verdicts on the
+-- the length of the payload, the hops left, the place of a fragment, and the verdicts on the
 -- checksums of the IPv4 header and of the payload
 unfoldable pub payload_text : Shown → List ℕ
 payload_text shown = codes " length " ++ (decimal shown.len ++ (codes " hops "
@@ -122,7 +122,7 @@ payload_text shown = codes " length " ++ (decimal shown.len ++ (codes " hops "
 abbrev pub shown_text : Shown → List ℕ
 shown_text shown = parties_text shown ++ payload_text shown
 
--- why a packet is refused: the text of the error
+-- the text of the error with which a packet is refused
 abbrev pub ip_slice_error_text : IpSliceError → List ℕ
 ip_slice_error_text error.Empty = len_error_text (too_short_error layer.IpHeader 1 0)
 ip_slice_error_text (error.UnexpectedVersion version) =
@@ -132,7 +132,7 @@ ip_slice_error_text (error.Ipv6Header e) = ipv6_header_slice_error_text e
 ip_slice_error_text (error.Packet e) = len_error_text e
 ip_slice_error_text (error.Extensions e) = len_error_text e
 
--- four digits of hex, of which those above 9 are small letters
+-- four hex digits, in lower case
 abbrev pub hex_text : ℕ → List ℕ
 hex_text number = zero_padded 4 (digits 16 false number)
 
@@ -142,7 +142,7 @@ no_packet_text (NoLinkHeader len) = decimal len ++ codes " bytes are no link hea
 no_packet_text (OtherType ether_type) = codes "type 0x" ++ hex_text ether_type
 no_packet_text (OtherFamily family) = codes "family " ++ decimal family
 
--- what is said of a frame: what is shown of its packet, or why that is refused, or why there is
+-- the text on a frame: what is shown of its packet, or why that is refused, or why there is
 -- none
 unfoldable pub reading_text : Reading → List ℕ
 reading_text (Packet shown) = shown_text shown
@@ -153,7 +153,7 @@ reading_text (Other e) = codes "other: " ++ no_packet_text e
 abbrev pub is_cut : Recorded → Bool
 is_cut found = nat_lt (length found.bytes) found.original_len
 
--- how many bytes were captured, and of how many, where not all were
+-- how many bytes were captured, and of how many, if the record was cut
 unfoldable pub cut_text : ℕ → ℕ → List ℕ
 cut_text captured_len original_len =
     if nat_lt captured_len original_len
@@ -166,7 +166,7 @@ record_line resolution number found reading =
     head_text number found.seconds found.nanoseconds resolution ++ (reading_text reading
     ++ (cut_text (length found.bytes) found.original_len ++ codes "\n"))
 
--- what is said of a record that is longer than the room
+-- the text on a record that is too long for the buffer
 unfoldable pub skipped_text : ℕ → List ℕ
 skipped_text captured_len =
     codes "skipped: " ++ (decimal captured_len ++ codes " bytes are too many\n")
@@ -176,13 +176,13 @@ abbrev pub skipped_line : Resolution → ℕ → ℕ → ℕ → ℕ → List �
 skipped_line resolution number seconds nanoseconds captured_len =
     head_text number seconds nanoseconds resolution ++ skipped_text captured_len
 
--- the line on a last record that is not whole
+-- the line on a last record that is cut off
 unfoldable pub cut_off_line : cut.CutOff → List ℕ
 cut_off_line e =
     codes "error: the last record is cut off: it needs " ++ (decimal e.required_len
     ++ (codes " bytes, and there are " ++ (decimal e.len ++ codes "\n")))
 
--- the line on how the capture ends, which is none where its last record is whole
+-- the line on the end of the capture; none if its last record is whole
 abbrev pub end_text : Option cut.CutOff → List ℕ
 end_text None = []
 end_text (Some e) = cut_off_line e
@@ -215,7 +215,7 @@ capture_error_line (capture.Version major minor) =
     codes "error: no capture: the version is " ++ (decimal major ++ (codes "."
     ++ (decimal minor ++ codes "\n")))
 
--- the line on a capture of frames that are not read
+-- the line on a capture with a link type that is not read
 unfoldable pub link_type_line : ℕ → List ℕ
 link_type_line link_type =
     codes "error: link type " ++ (decimal link_type ++ codes " is not read\n")

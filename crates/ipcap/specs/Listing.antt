@@ -1,4 +1,4 @@
--- What is listed of the records of a capture, in their order.
+-- The lines of the records of a capture, in their order.
 use Rattle.std.specs.Prelude.{ℕ, ◌≡◌, ◌+◌, ◌*◌, ◌<◌, ◌≤◌, Bool, true, false, nat_lt, List, [], ◌++◌}
 use Rattle.std.specs.Prelude.{length, drop, slice_range, Option, Some, None, Err}
 use Rattle.std.specs.Int.{w32}
@@ -15,7 +15,7 @@ use Rattle.ipcap.specs.declared.reading.Reading.{Reading}
 use Rattle.ipcap.specs.declared.totals.Outcome.{Outcome}
 use Rattle.ipcap.specs.declared.totals.Totals.{Totals}
 
--- what is counted of a record that is read
+-- what is counted for a record that is read
 abbrev pub outcome_of : Recorded → Reading → Outcome
 outcome_of found reading = record {
   is_ipv4 = is_version_4 reading;
@@ -27,7 +27,7 @@ outcome_of found reading = record {
   is_wrong = has_wrong_checksum reading;
 }
 
--- what is counted of a record that is skipped
+-- what is counted for a record that is skipped
 abbrev pub skipped_outcome : Bool → Outcome
 skipped_outcome is_cut = record {
   is_ipv4 = false;
@@ -39,11 +39,11 @@ skipped_outcome is_cut = record {
   is_wrong = false;
 }
 
--- the greatest number of bytes of a record that are read
+-- the greatest number of captured bytes in a record that is read
 abbrev pub max_captured_len : ℕ
 max_captured_len = 262144
 
--- This is the line of a record after so many were counted, and what is counted with it.
+-- The line of a record after the records counted in `before`, and the counts with it.
 pub record IsToldOfRecord (header : FileHeader) (before : Totals) (found : Recorded)
     (line : List ℕ) (after : Totals) : Type 0 where
   pub reading : Reading
@@ -51,7 +51,7 @@ pub record IsToldOfRecord (header : FileHeader) (before : Totals) (found : Recor
   pub line_of : line ≡ record_line header.format.resolution (before.records + 1) found reading
   pub counts : after ≡ counted (outcome_of found reading) before
 
--- The data begins with the 16 bytes before a record that is longer than what is read, and this is
+-- The data begins with the 16-byte header of a record that is too long to be read, and this is
 -- its line.
 pub record IsToldOfLongRecord (header : FileHeader) (before : Totals) (s : List ℕ)
     (line : List ℕ) (after : Totals) : Type 0 where
@@ -66,9 +66,9 @@ pub record IsToldOfLongRecord (header : FileHeader) (before : Totals) (s : List 
       (nat_lt (number_in header.format.order w32 (slice_range s 8 12))
       (number_in header.format.order w32 (slice_range s 12 16)))) before
 
--- The text is the lines of the records that the data is, one after the other, each of which counts
--- on: a record that is read; or one that is skipped, since it is too long. The last one can be cut
--- off by the end of the data.
+-- The text is the lines of the records that the data consists of, one after the other, and each is
+-- counted: a record that is read, or one that is skipped since it is too long. The end of the data
+-- can cut off the last one.
 pub data Lists (header : FileHeader) : Totals → List ℕ → List ℕ → Totals → Option cut.CutOff
     → Type 0 where
   ends : {totals : Totals} → Lists header totals [] [] totals None

@@ -14,19 +14,19 @@ use Rattle.ipcap.specs.declared.status.Status.{Status}
 use Rattle.ipcap.specs.declared.status.Status.TheVariants as status
 use Rattle.ipcap.specs.declared.totals.Totals.{Totals}
 
--- a status, what is written to standard output, and what to standard error
+-- a status, the text for standard output, and that for standard error
 pub record Outcome : Type 0 where
   pub status : Status
   pub output : List ℕ
   pub errors : List ℕ
 
--- how a run over records ends that are all whole, or of which the last is cut off
+-- the status if all records are whole, or if the last one is cut off
 abbrev pub status_at : Option cut.CutOff → Status
 status_at None = status.Done
 status_at (Some e) = status.CutOff
 
--- Of a listing the lines go to standard output, and then the line on its end and the closing line
--- to standard error. A quiet run writes no lines, and the closing line to standard output.
+-- The lines of the records go to standard output; the line on the end and the closing line go to
+-- standard error. A quiet run writes the closing line to standard output, and no lines of records.
 abbrev pub listed : Bool → List ℕ → Totals → Option cut.CutOff → Outcome
 listed is_quiet text totals end = record {
   status = status_at end;
@@ -38,7 +38,7 @@ listed is_quiet text totals end = record {
 abbrev pub refused : List ℕ → Outcome
 refused line = record { status = status.NoCapture; output = []; errors = line }
 
--- The outcome is that of the listing of these records.
+-- The outcome for a capture with these records.
 pub record IsListing (is_quiet : Bool) (header : FileHeader) (records : List ℕ) (outcome : Outcome)
     : Type 0 where
   pub text : List ℕ
@@ -47,7 +47,7 @@ pub record IsListing (is_quiet : Bool) (header : FileHeader) (records : List ℕ
   pub lists : Lists header nothing_counted records text totals end
   pub outcome_of : outcome ≡ listed is_quiet text totals end
 
--- The input is a capture of frames that are read: a file header, and records, which are listed.
+-- The input is a capture of a link type that is read: a file header and records.
 pub record IsListed (is_quiet : Bool) (input : List ℕ) (outcome : Outcome) : Type 0 where
   pub header : FileHeader
   pub records : List ℕ
@@ -55,7 +55,7 @@ pub record IsListed (is_quiet : Bool) (input : List ℕ) (outcome : Outcome) : T
   pub is_read : IsTrue (is_read (link_type_of header))
   pub listing : IsListing is_quiet header records outcome
 
--- The input is a capture of other frames.
+-- The input is a capture of another link type.
 pub record HasOtherFrames (input : List ℕ) (outcome : Outcome) : Type 0 where
   pub header : FileHeader
   pub records : List ℕ
@@ -74,7 +74,7 @@ abbrev pub IsOutcome : Bool → List ℕ → Outcome → Type 0
 IsOutcome is_quiet input outcome = IsListed is_quiet input outcome
     ⊎ HasOtherFrames input outcome ⊎ IsNoCapture input outcome
 
--- what both writers hold is what they held before, and after that the texts of such an outcome
+-- the texts of such an outcome are appended to what both writers had
 pub record Writes (P : Outcome → Type 0) (status : Status) (old new old_errors new_errors
     : Option (List ℕ)) : Type 0 where
   pub outcome : Outcome

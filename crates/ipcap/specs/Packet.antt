@@ -30,7 +30,7 @@ abbrev pub source_of : IpSlice → Address
 source_of (slice.Ipv4 header payload) = V4 header.source
 source_of (slice.Ipv6 header extensions upper payload) = V6 header.source
 
--- to whom
+-- who receives it
 abbrev pub destination_of : IpSlice → Address
 destination_of (slice.Ipv4 header payload) = V4 header.destination
 destination_of (slice.Ipv6 header extensions upper payload) = V6 header.destination
@@ -40,7 +40,7 @@ abbrev pub hops_of : IpSlice → ℕ
 hops_of (slice.Ipv4 header payload) = header.time_to_live
 hops_of (slice.Ipv6 header extensions upper payload) = header.hop_limit
 
--- the number of the control messages of a version: ICMP of IPv4, ICMPv6 of IPv6
+-- the protocol of a version's control messages: ICMP for IPv4, ICMPv6 for IPv6
 abbrev pub icmp_of : IpSlice → ℕ
 icmp_of (slice.Ipv4 header payload) = 1
 icmp_of (slice.Ipv6 header extensions upper payload) = 58
@@ -64,13 +64,13 @@ detail_of is_cut icmp number payload =
     then Message (slice_index payload 0) (slice_index payload 1)
     else Nothing
 
--- a fragment that is not the first begins with no header
+-- a fragment that is not the first does not begin with a header
 abbrev pub detail_behind : Bool → Option Mark → ℕ → ℕ → List ℕ → Detail
 detail_behind is_cut None icmp number payload = detail_of is_cut icmp number payload
 detail_behind is_cut (Some mark) icmp number payload =
     if mark.offset == 0 then detail_of is_cut icmp number payload else Nothing
 
--- where an IPv4 fragment stands (RFC 791 section 3.1), whose offset counts units of 8 bytes
+-- the place of an IPv4 fragment (RFC 791 section 3.1), whose offset is in units of 8 bytes
 abbrev pub ipv4_mark : Ipv4Header → Option Mark
 ipv4_mark header =
     if header.more_fragments || not (header.fragment_offset == 0)
@@ -89,7 +89,7 @@ ipv6_mark header = record {
   more = header.more_fragments;
 }
 
--- the packet is the fragment of this fragment header
+-- the packet is a fragment, and this is its place by its fragment header
 pub record IsMarkedBy (extensions : List ℕ) (first : ℕ) (mark : Mark) : Type 0 where
   pub fragment : FragmentHeader
   pub rest : List ℕ
@@ -105,14 +105,14 @@ IsWholeBehind extensions first = IsUnfragmented extensions first
     × HasFragmentBehind extensions first fragment rest × ¬ IsPart fragment)
     ⊎ ((e : LenError) × RefusesFragmentBehind extensions first e)
 
--- this is where the fragment stands, or the payload is whole
+-- this is the place of the fragment, or the payload is whole
 abbrev pub IsMark : IpSlice → Option Mark → Type 0
 IsMark (slice.Ipv4 header payload) mark = mark ≡ ipv4_mark header
 IsMark (slice.Ipv6 header extensions upper payload) mark = MatchOption mark
     (IsWholeBehind extensions.now header.next_header)
     (IsMarkedBy extensions.now header.next_header)
 
--- the verdict is that the fact holds, or that it does not
+-- the verdict says whether the fact is true
 abbrev pub Judges : Verdict → Type 0 → Type 0
 Judges Right fact = fact
 Judges Wrong fact = ¬ fact
@@ -130,8 +130,8 @@ IsHeaderVerdict packet (slice.Ipv4 header payload) verdict =
     Judges verdict (SumsToAllOnes (take (ipv4_header_len header) packet))
 IsHeaderVerdict packet (slice.Ipv6 header extensions upper payload) verdict = verdict ≡ Absent
 
--- the datagram, as long as its length field says, where that is neither below its header nor beyond
--- the payload
+-- the datagram, as long as its length field says, if that is not less than its header and not more
+-- than the payload
 abbrev pub datagram_of : List ℕ → Option (List ℕ)
 datagram_of payload =
     let len = from_be_bytes w16 (slice_range payload 4 6) in
@@ -139,7 +139,7 @@ datagram_of payload =
     then Some (take len payload)
     else None
 
--- what a checksum of UDP, TCP, ICMP and ICMPv6 is over, where it is all there
+-- the bytes that a checksum of UDP, TCP, ICMP and ICMPv6 covers, if all of them are there
 unfoldable pub segment_of : ℕ → ℕ → List ℕ → Option (List ℕ)
 segment_of icmp number payload =
     if number == 17 then datagram_of payload
@@ -160,13 +160,13 @@ IsRightIpv6 ip number segment = (length segment < 2 ^ 32) × (ones_complement_su
     (ip.source ∷ ip.destination
     ∷ (to_be_bytes w32 (length segment) ++ (0 ∷ 0 ∷ 0 ∷ number ∷ [])) ∷ segment ∷ []) ≡ 65535)
 
--- a datagram whose checksum is 0 has none
+-- a datagram whose checksum field is 0 has no checksum
 abbrev pub has_no_checksum : ℕ → List ℕ → Bool
 has_no_checksum number segment =
     number == 17 && (nat_le 8 (length segment)
     && from_be_bytes w16 (slice_range segment 6 8) == 0)
 
--- the verdict on a segment over IPv4: that of ICMP is over the message alone (RFC 792)
+-- the verdict on a segment over IPv4: ICMP's checksum covers the message alone (RFC 792)
 abbrev pub IsVerdictIpv4 : Ipv4Header → Option (List ℕ) → Verdict → Type 0
 IsVerdictIpv4 ip None verdict = verdict ≡ Absent
 IsVerdictIpv4 ip (Some segment) verdict =
@@ -174,14 +174,14 @@ IsVerdictIpv4 ip (Some segment) verdict =
     (MatchBool (ip.protocol == 1) (Judges verdict (SumsToAllOnes segment))
     (Judges verdict (IsRightIpv4 ip ip.protocol segment)))
 
--- the verdict on a segment over IPv6: a datagram has to have a checksum (RFC 8200 section 8.1)
+-- the verdict on a segment over IPv6: a datagram must have a checksum (RFC 8200 section 8.1)
 abbrev pub IsVerdictIpv6 : Ipv6Header → ℕ → Option (List ℕ) → Verdict → Type 0
 IsVerdictIpv6 ip number None verdict = verdict ≡ Absent
 IsVerdictIpv6 ip number (Some segment) verdict =
     MatchBool (has_no_checksum number segment) (verdict ≡ Wrong)
     (Judges verdict (IsRightIpv6 ip number segment))
 
--- the verdict on the checksum of a payload of IPv4, which no fragment has whole
+-- the verdict on the checksum of a payload of IPv4; there is none on a fragment
 abbrev pub IsPayloadVerdictIpv4 : Ipv4Header → Option Mark → List ℕ → Verdict → Type 0
 IsPayloadVerdictIpv4 header (Some mark) payload verdict = verdict ≡ Absent
 IsPayloadVerdictIpv4 header None payload verdict =

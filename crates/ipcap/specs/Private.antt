@@ -1,3 +1,3 @@
--- What the loop keeps on its way. The clause of `run` cites none of it: a reader may pass by.
+-- Invariants of the loop. The clause of `run` cites none of them, so a reader may skip them.
 pub mod Progress
 pub mod Window

@@ -1,4 +1,4 @@
--- What is said of a frame.
+-- What a frame is found to carry.
 use Rattle.std.specs.Prelude.{ℕ, ◌≡◌, ◌||◌, Bool, true, false, List, Result, Ok, Err}
 use Rattle.ipcap.specs.Link.{packet_of}
 use Rattle.ipcap.specs.Packet.{IsRefused, IsShownOf, is_wrong}
@@ -7,18 +7,18 @@ use Rattle.ipcap.specs.declared.packet.Address.TheVariants.{V4, V6}
 use Rattle.ipcap.specs.declared.reading.Reading.{Reading}
 use Rattle.ipcap.specs.declared.reading.Reading.TheVariants.{Other, Packet, Refused}
 
--- what is said of a packet, which the capture can have cut, is shown of it, or is why it is refused
+-- a packet, which the capture may have cut, is shown like this, or refused for this reason
 abbrev pub ReadsPacket : Bool → List ℕ → Reading → Type 0
 ReadsPacket is_cut packet (Packet shown) = IsShownOf is_cut packet shown
 ReadsPacket is_cut packet (Refused e) = IsRefused is_cut packet e
 ReadsPacket is_cut packet (Other e) = ⊥
 
--- what is said of a frame that has a packet is said of the packet; else it is why there is none
+-- the reading of a frame is that of its packet, or the reason why it has none
 abbrev pub ReadsCarried : Bool → Result (List ℕ) NoPacket → Reading → Type 0
 ReadsCarried is_cut (Ok packet) reading = ReadsPacket is_cut packet reading
 ReadsCarried is_cut (Err e) reading = reading ≡ Other e
 
--- what is said of a frame of this link type, which the capture can have cut
+-- the reading of a frame of this link type, which the capture may have cut
 abbrev pub ReadsFrame : ℕ → Bool → List ℕ → Reading → Type 0
 ReadsFrame link_type is_cut frame reading =
     ReadsCarried is_cut (packet_of link_type frame) reading
@@ -40,7 +40,7 @@ is_refused (Packet shown) = false
 is_refused (Refused e) = true
 is_refused (Other e) = false
 
--- whether it has no packet of IP
+-- whether it has no IP packet
 abbrev pub is_other : Reading → Bool
 is_other (Packet shown) = false
 is_other (Refused e) = false

@@ -1,4 +1,4 @@
--- What is counted of the records.
+-- What is counted.
 use Rattle.std.specs.Prelude.{◌+◌}
 use Rattle.std.specs.Int.{from_bool}
 use Rattle.ipcap.specs.declared.totals.Outcome.{Outcome}
@@ -17,7 +17,7 @@ nothing_counted = record {
   wrong = 0;
 }
 
--- with one record more
+-- with one more record
 abbrev pub counted : Outcome → Totals → Totals
 counted outcome totals = record {
   records = totals.records + 1;

@@ -1,8 +1,8 @@
-//! What the arguments ask for.
+//! The arguments of the process.
 
 use std::env::{Env, FillError};
 
-/// What is asked for.
+/// What the arguments ask for.
 #[derive(Clone, Copy, Debug, PartialEq, Eq)]
 pub enum Request {
     /// No argument: a line for each record.

@@ -174,7 +174,7 @@ impl fmt::Display for Fraction {
     }
 }
 
-// Writes what is said of a frame.
+// Writes what a frame is found to carry.
 #[tactic(auto, unfolding(crate::specs::Lines::reading_text))]
 fn write_reading<W: Write>(writer: &mut W, reading: &Reading) -> io::Result<()>
     ensures { OnOk result (Appends (W.contents writer.old) (W.contents writer.new)
@@ -214,7 +214,7 @@ impl fmt::Display for NoPacket {
     }
 }
 
-// A number in four digits of hex.
+// A number in four hex digits.
 #[derive(Clone, Copy, Debug)]
 struct Hex(u16);
 
@@ -236,7 +236,7 @@ fn write_shown<W: Write>(writer: &mut W, shown: &Shown) -> io::Result<()>
     write_payload(writer, shown)
 }
 
-// Writes who sent a packet to whom, of which protocol.
+// Writes sender, receiver and protocol of a packet.
 #[tactic(auto, unfolding(crate::specs::Lines::parties_text))]
 fn write_parties<W: Write>(writer: &mut W, shown: &Shown) -> io::Result<()>
     ensures { OnOk result (Appends (W.contents writer.old) (W.contents writer.new)
@@ -247,8 +247,8 @@ fn write_parties<W: Write>(writer: &mut W, shown: &Shown) -> io::Result<()>
     write!(writer, "{source} > {destination} {upper} {detail}")
 }
 
-// Writes how long the payload of a packet is, how many hops are left, where a fragment stands, and
-// the verdicts on checksums.
+// Writes the length of a packet's payload, the hops left, the place of a fragment, and the verdicts
+// on checksums.
 #[tactic(auto, unfolding(crate::specs::Lines::payload_text))]
 fn write_payload<W: Write>(writer: &mut W, shown: &Shown) -> io::Result<()>
     ensures { OnOk result (Appends (W.contents writer.old) (W.contents writer.new)
@@ -280,7 +280,7 @@ impl fmt::Display for Detail {
     }
 }
 
-// Where a fragment stands, as it is shown.
+// The place of a fragment, as it is shown.
 #[derive(Clone, Copy, Debug)]
 struct Marked(Option<Mark>);
 
@@ -342,7 +342,7 @@ impl fmt::Display for Refusal<'_> {
     }
 }
 
-// Writes how much of a packet was captured, where it is not all.
+// Writes how much of a packet was captured, if not all of it.
 #[tactic(auto, unfolding(crate::specs::Lines::cut_text))]
 fn write_cut<W: Write>(writer: &mut W, captured_len: usize, original_len: u32) -> io::Result<()>
     ensures { OnOk result (Appends (W.contents writer.old) (W.contents writer.new)
@@ -355,7 +355,7 @@ fn write_cut<W: Write>(writer: &mut W, captured_len: usize, original_len: u32) -
     }
 }
 
-/// Writes the line on a last record that is not whole.
+/// Writes the line on a last record that is cut off.
 #[tactic(auto, unfolding(crate::specs::Lines::cut_off_line))]
 pub fn write_cut_off<W: Write>(writer: &mut W, e: CutOff) -> io::Result<()>
     ensures { OnOk result (Appends (W.contents writer.old) (W.contents writer.new)
@@ -430,7 +430,7 @@ pub fn write_capture_error<W: Write>(writer: &mut W, e: CaptureError) -> io::Res
     }
 }
 
-/// Writes the line on a capture of frames that are not read.
+/// Writes the line on a capture with a link type that is not read.
 #[tactic(auto, unfolding(crate::specs::Lines::link_type_line))]
 pub fn write_link_type<W: Write>(writer: &mut W, link_type: u32) -> io::Result<()>
     ensures { OnOk result (Appends (W.contents writer.old) (W.contents writer.new)

@@ -1,4 +1,4 @@
-//! What stands before a packet in a frame: the link header.
+//! What comes before a packet in a frame: the link header.
 
 ghost use Rattle.std.specs.Prelude.{◌≡◌, ◌+◌, ◌≤◌, option_map};
 ghost use Rattle.std.specs.Result.{result_map_both};
@@ -8,7 +8,7 @@ ghost use Rattle.ipcap.specs.Link.{packet_of_loopback, past_tag, past_tags, type
 /// Why a frame carries no IP packet.
 #[derive(Clone, Copy, Debug, PartialEq, Eq)]
 pub enum NoPacket {
-    /// The frame ends within its link header: it has so many bytes.
+    /// The frame ends within its link header; the number is the frame's length in bytes.
     NoLinkHeader(usize),
     /// It carries another protocol, of this EtherType. Up to 1500 it is no EtherType: in Ethernet a
     /// length (IEEE 802.3 section 3.2.6), in a Linux cooked capture a number of Linux's own.
@@ -17,12 +17,12 @@ pub enum NoPacket {
     OtherFamily(u32),
 }
 
-/// What an EtherType tells of.
+/// An EtherType, and what follows it.
 #[derive(Clone, Copy, Debug, PartialEq, Eq)]
 pub struct Payload<'a> {
-    /// What the bytes are: a VLAN tag and what is tagged, or a packet.
+    /// What the bytes are: a VLAN tag and what it tags, or a packet.
     pub ether_type: u16,
-    /// All bytes behind the header that has the EtherType.
+    /// All bytes after the header that has the EtherType.
     pub bytes: &'a [u8],
 }
 
@@ -42,8 +42,8 @@ pub fn is_read(link_type: u32) -> bool
 ///
 /// # Errors
 ///
-/// `NoLinkHeader` where the frame ends within its link header or a VLAN tag; else `OtherType` or
-/// `OtherFamily` where it carries another protocol than IP.
+/// `NoLinkHeader` if the frame ends within its link header or a VLAN tag; otherwise `OtherType` or
+/// `OtherFamily` if it carries a protocol other than IP.
 pub fn packet_of(link_type: u32, frame: &[u8]) -> Result<&[u8], NoPacket>
     ensures { result_map_both (λ packet. packet.now) (λ e. e) result
         ≡ packet_of link_type frame.now }
@@ -57,7 +57,7 @@ pub fn packet_of(link_type: u32, frame: &[u8]) -> Result<&[u8], NoPacket>
     }
 }
 
-// The EtherType at a place in a header of so many bytes, and what follows the header.
+// The EtherType at `place` in a header of `len` bytes, and what follows the header.
 fn typed_at(len: usize, place: usize, bytes: &[u8]) -> Option<Payload>
     requires { place + 2 ≤ len }
     ensures { option_map typed result ≡ typed_at len place bytes.now }
@@ -89,7 +89,7 @@ fn past_tags(header: Option<Payload>) -> Option<Payload>
     past_tag(past_tag(header?)?)
 }
 
-// The packet that an EtherType tells of.
+// The packet after an EtherType.
 fn packet_behind<'a>(frame: &'a [u8], payload: Option<Payload<'a>>) -> Result<&'a [u8], NoPacket>
     ensures { result_map_both (λ packet. packet.now) (λ e. e) result
         ≡ packet_behind frame.now (option_map typed payload.entry) }
@@ -117,7 +117,7 @@ fn packet_of_loopback(link_type: u32, frame: &[u8]) -> Result<&[u8], NoPacket>
     }
 }
 
-// The family in four bytes: in network order, or in that in which it is the smaller number.
+// The family in four bytes: in network order, or in the order that gives the smaller number.
 fn family_of(link_type: u32, bytes: [u8; 4]) -> u32
     ensures { result ≡ family_of link_type bytes }
 {

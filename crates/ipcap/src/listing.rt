@@ -22,25 +22,25 @@ use std::io;
 use std::io::{ErrorKind, Read, Write};
 use uses::capture::{ByteOrder, CutOff, FileHeader, Record, Resolution, next_record};
 
-// The room for text that is not yet handed to the writer.
+// The room for text that is not yet passed to the writer.
 const TEXT_ROOM: usize = 65_536;
 
-// The room that each line has.
+// The room for one line.
 const LINE_ROOM: usize = 1024;
 
-/// Text that is not yet handed to the writer.
+/// Text that is not yet passed to the writer.
 pub type Text = ArrayVec<u8, TEXT_ROOM>;
 
 /// Whether there is more to list.
 #[derive(Clone, Copy, Debug, PartialEq, Eq)]
 pub enum Turn {
-    /// There can be more.
+    /// There may be more.
     GoesOn,
     /// There is no more: the last record is whole, or cut off.
     Ends(Option<CutOff>),
 }
 
-/// Hands text to the writer.
+/// Passes text to the writer.
 pub fn hand_over<W: Write>(text: &mut Text, writer: &mut W) -> io::Result<()>
     ensures kept { OnOk result (Keeps
         (append_known (W.contents writer.old) text.old.items)
@@ -52,7 +52,7 @@ pub fn hand_over<W: Write>(text: &mut Text, writer: &mut W) -> io::Result<()>
     Ok(())
 }
 
-// Hands text to the writer where there is no room for one line more.
+// Passes text to the writer if there is no room for one more line.
 fn make_room<W: Write>(text: &mut Text, writer: &mut W) -> io::Result<()>
     ensures { OnOk result (Keeps
         (append_known (W.contents writer.old) text.old.items)
@@ -72,7 +72,7 @@ fn is_cut(captured: &Record) -> bool
     captured.bytes.len() < captured.original_len as usize
 }
 
-// What is counted of a record that is read.
+// What is counted for a record that is read.
 fn outcome(captured: &Record, reading: &Reading) -> Outcome
     ensures { result ≡ outcome_of (recorded captured.now) reading.now }
 {
@@ -119,8 +119,8 @@ fn list_record<W: Write>(
     Ok(after)
 }
 
-// Lists the whole records at the front of the data: how many bytes they are, the totals after them,
-// and how the next record is cut off.
+// Lists the whole records at the front of the data. Returns how many bytes they have, the totals
+// after them, and how the next record is cut off.
 fn list_front<W: Write>(
     header: &FileHeader,
     bytes: &[u8],
@@ -175,7 +175,7 @@ fn nanoseconds(resolution: Resolution, fraction: u32) -> u64
     }
 }
 
-// Lists a record that is too long, by the 16 bytes before it.
+// Lists a record that is too long, from its header of 16 bytes.
 fn list_long<W: Write>(
     header: &FileHeader,
     bytes: &[u8],
@@ -221,7 +221,7 @@ fn list_long<W: Write>(
     Ok(after)
 }
 
-// Passes so many bytes; where the input has fewer, the answer is how many it has.
+// Skips `len` bytes; if the input has fewer, returns how many it has.
 fn skip<R: Read>(window: &mut Window, reader: &mut R, len: usize) -> io::Result<Option<usize>>
     ensures { IfOk result (λ there. Skips
         (prepend_known (unread window.old) (R.remaining reader.old)) len there
@@ -242,7 +242,7 @@ fn skip<R: Read>(window: &mut Window, reader: &mut R, len: usize) -> io::Result<
     Err(io::Error::from(ErrorKind::Other))
 }
 
-// Lists the record that the window begins with, which is too long, and passes it.
+// Lists the record at the front of the window, which is too long, and skips it.
 fn list_past<R: Read, W: Write>(
     header: &FileHeader,
     is_quiet: bool,
@@ -269,7 +269,7 @@ fn list_past<R: Read, W: Write>(
     }
 }
 
-// Reads more of the input; where there is no more, the records end as it is given.
+// Reads more of the input; if there is no more, the records end as given.
 fn read_on<R: Read>(window: &mut Window, reader: &mut R, end: Option<CutOff>) -> io::Result<Turn>
     requires { length (unread window.old) < ROOM }
     ensures kept { OnOk result (Keeps
@@ -329,7 +329,7 @@ fn list_turn<R: Read, W: Write>(
     }
 }
 
-/// Lists all records, and counts them; with the totals comes how the last one is cut off. Where
+/// Lists all records and counts them. Returns the totals, and how the last record is cut off. If
 /// `is_quiet` is true, it writes no lines.
 pub fn list<R: Read, W: Write>(
     header: &FileHeader,

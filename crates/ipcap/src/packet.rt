@@ -21,9 +21,9 @@ use uses::ip_slice::{IpSlice, IpSliceError};
 /// An address of either version.
 #[derive(Clone, Copy, Debug, PartialEq, Eq)]
 pub enum Address {
-    /// Of IPv4.
+    /// An IPv4 address.
     V4([u8; 4]),
-    /// Of IPv6.
+    /// An IPv6 address.
     V6([u8; 16]),
 }
 
@@ -38,12 +38,12 @@ pub enum Detail {
     Nothing,
 }
 
-/// Where a fragment stands.
+/// The place of a fragment.
 #[derive(Clone, Copy, Debug, PartialEq, Eq)]
 pub struct Mark {
     /// Equal in all fragments of one packet.
     pub identification: u32,
-    /// Where it stands in the payload that was cut, in bytes.
+    /// Its offset in the whole payload, in bytes.
     pub offset: u32,
     /// Whether more fragments follow it.
     pub more: bool,
@@ -56,7 +56,7 @@ pub enum Verdict {
     Right,
     /// It is wrong.
     Wrong,
-    /// There is none, or not all that it is over.
+    /// There is no checksum, or not all the bytes that it covers.
     Absent,
 }
 
@@ -78,8 +78,8 @@ pub struct Shown {
     pub source: Address,
     /// The address of the receiver.
     pub destination: Address,
-    /// The number of the payload: of IPv6 the first that is of no extension header that can be
-    /// skipped.
+    /// The protocol number of the payload: in IPv6 the first that cannot be skipped as an extension
+    /// header.
     pub upper: u8,
     /// What the payload's header says.
     pub detail: Detail,
@@ -87,7 +87,7 @@ pub struct Shown {
     pub len: usize,
     /// The time to live, or the hop limit.
     pub hops: u8,
-    /// Where the payload stands, if it is a fragment.
+    /// The place of the payload, if it is a fragment.
     pub mark: Option<Mark>,
     /// Whether the checksum of an IPv4 header is right.
     pub header_checksum: Verdict,
@@ -180,7 +180,7 @@ fn shown_of(is_cut: bool, packet: &[u8], slice: &IpSlice) -> Shown
     }
 }
 
-// Where an IPv4 fragment stands.
+// The place of an IPv4 fragment.
 fn ipv4_mark(header: &Ipv4Header) -> Option<Mark>
     ensures { result ≡ ipv4_mark header.now }
 {
@@ -196,7 +196,7 @@ fn ipv4_mark(header: &Ipv4Header) -> Option<Mark>
     }
 }
 
-// Where an IPv6 fragment stands, by the first fragment header.
+// The place of an IPv6 fragment, by the first fragment header.
 fn ipv6_mark(extensions: &[u8], first: IpNumber) -> Option<Mark>
     ensures { MatchOption result (IsWholeBehind extensions.now first)
         (IsMarkedBy extensions.now first) }
@@ -246,7 +246,7 @@ fn detail_of(is_cut: bool, icmp: u8, number: u8, payload: &[u8]) -> Detail
     Detail::Nothing
 }
 
-// What a checksum is over, where it is all there.
+// The bytes that a checksum covers, if all of them are there.
 #[tactic(auto, unfolding(crate::specs::Packet::segment_of))]
 fn segment_of(icmp: u8, number: u8, payload: &[u8]) -> Option<&[u8]>
     ensures { option_map (λ segment. segment.now) result ≡ segment_of icmp number payload.now }
@@ -276,7 +276,7 @@ fn header_verdict(packet: &[u8], header: &Ipv4Header) -> Verdict
     verdict_on(&packet[..header.header_len()])
 }
 
-// The verdict on the checksum of a payload of IPv4, which no fragment has whole.
+// The verdict on the checksum of a payload of IPv4; there is none on a fragment.
 fn payload_verdict_ipv4(header: &Ipv4Header, mark: Option<Mark>, payload: &[u8]) -> Verdict
     ensures { IsPayloadVerdictIpv4 header.now mark payload.now result }
 {
@@ -286,7 +286,7 @@ fn payload_verdict_ipv4(header: &Ipv4Header, mark: Option<Mark>, payload: &[u8])
     }
 }
 
-// The verdict on the checksum of a payload of IPv6, which no fragment has whole.
+// The verdict on the checksum of a payload of IPv6; there is none on a fragment.
 fn payload_verdict_ipv6(
     header: &Ipv6Header,
     upper: u8,

@@ -1,4 +1,4 @@
-//! What is said of a frame.
+//! What a frame is found to carry.
 
 ghost use Rattle.ipcap.specs.Reading.{ReadsFrame};
 
@@ -6,19 +6,19 @@ use crate::link::{NoPacket, packet_of};
 use crate::packet::{Address, Shown, read_packet};
 use uses::ip_slice::IpSliceError;
 
-/// What is said of a frame.
+/// What a frame is found to carry.
 #[derive(Clone, Debug, PartialEq, Eq, Drop)]
 pub enum Reading {
-    /// It carries an IP packet, of which this is shown.
+    /// An IP packet, and what is shown of it.
     Packet(Shown),
-    /// It carries an IP packet that is refused.
+    /// An IP packet that is refused.
     Refused(IpSliceError),
-    /// It carries no IP packet.
+    /// No IP packet.
     Other(NoPacket),
 }
 
-/// What is said of a frame, by a link type that is read. If the capture cut the frame, its packet
-/// can be cut in its payload.
+/// What a frame of a link type that is read is found to carry. If the capture cut the frame, its
+/// packet may be cut in its payload.
 pub fn read_frame(link_type: u32, is_cut: bool, frame: &[u8]) -> Reading
     ensures { ReadsFrame link_type is_cut frame.now result }
 {
@@ -57,7 +57,7 @@ impl Reading {
         matches!(self, Reading::Refused(_))
     }
 
-    /// Whether there is no IP packet.
+    /// Whether the frame carries no IP packet.
     pub fn is_other(&self) -> bool
         ensures { result ≡ is_other self.now }
     {

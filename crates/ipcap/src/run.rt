@@ -1,4 +1,4 @@
-//! The whole of it: a capture in, lines out.
+//! The whole run: a capture in, lines out.
 
 ghost use Rattle.std.specs.Prelude.{◌≡◌, ◌≢◌, ◌≤◌, ◌⊎◌, Err, IfErr, IfOk, IfSome, OnOk, drop};
 ghost use Rattle.std.specs.Prelude.{length};
@@ -19,9 +19,9 @@ use uses::capture::{CaptureError, CutOff, FileHeader};
 
 /// Reads a capture, and writes a line for each record and then, to `errors`, the closing line.
 ///
-/// A quiet run writes the closing line alone, to `writer`. An input that is no capture of a link
-/// type that is read, and a last record that is cut off, have a line in `errors`. A read or a write
-/// that fails ends it at once. It takes no memory.
+/// A quiet run writes the closing line alone, to `writer`. If the input is no capture, or one of a
+/// link type that is not read, or its last record is cut off, `errors` gets a line on that. The run
+/// ends as soon as a read or a write fails. It allocates no memory.
 pub fn run<R: Read, W: Write, E: Write>(
     is_quiet: bool,
     reader: &mut R,
@@ -35,7 +35,7 @@ pub fn run<R: Read, W: Write, E: Write>(
     try_run(is_quiet, reader, writer, errors).unwrap_or(Status::Failed)
 }
 
-// `run`, where a read or a write that fails is an error.
+// `run`, with an error if a read or a write fails.
 fn try_run<R: Read, W: Write, E: Write>(
     is_quiet: bool,
     reader: &mut R,
@@ -69,7 +69,7 @@ fn read_file_header(window: &Window) -> Result<FileHeader, CaptureError>
     }
 }
 
-// Lists a capture from behind its file header, where its frames are read.
+// Lists a capture after its file header, if its link type is read.
 fn list_capture<R: Read, W: Write, E: Write>(
     is_quiet: bool,
     header: &FileHeader,
@@ -137,7 +137,7 @@ fn write_end<E: Write>(errors: &mut E, end: Option<CutOff>) -> io::Result<Status
     }
 }
 
-// Reads until there is a file header, or the input is at its end.
+// Reads until there is a whole file header, or the input is at its end.
 fn fill_to_file_header<R: Read>(window: &mut Window, reader: &mut R) -> io::Result<()>
     ensures kept { OnOk result (Keeps
         (prepend_known (unread window.old) (R.remaining reader.old))

@@ -1,17 +1,17 @@
 //! What is counted.
 
-/// What is counted of a record.
+/// What is counted for a record.
 #[derive(Clone, Copy, Debug, PartialEq, Eq)]
 pub struct Outcome {
     /// It is shown as an IPv4 packet.
     pub is_ipv4: bool,
     /// It is shown as an IPv6 packet.
     pub is_ipv6: bool,
-    /// It is no frame of an IP packet.
+    /// Its frame carries no IP packet.
     pub is_other: bool,
-    /// It is refused: it holds no packet of either version.
+    /// Its packet is refused.
     pub is_refused: bool,
-    /// It is skipped: it is longer than the room for a record.
+    /// It is skipped: it is too long for the buffer.
     pub is_skipped: bool,
     /// Fewer bytes were captured than the packet had.
     pub is_cut: bool,
@@ -28,13 +28,13 @@ pub struct Totals {
     pub ipv4: u64,
     /// Those that are shown as IPv6 packets.
     pub ipv6: u64,
-    /// Those that are no frames of IP packets.
+    /// Those whose frames carry no IP packet.
     pub other: u64,
     /// Those that are refused.
     pub refused: u64,
     /// Those that are skipped.
     pub skipped: u64,
-    /// Those of which fewer bytes were captured than the packet had.
+    /// Those with fewer captured bytes than the packet had.
     pub cut: u64,
     /// Those with a wrong checksum.
     pub wrong: u64,
@@ -60,7 +60,7 @@ impl Totals {
         }
     }
 
-    /// With one record more; `None` where a count is above 2^64 - 1 then.
+    /// With one more record; `None` if a count would exceed 2^64 - 1.
     pub fn count(self, outcome: Outcome) -> Option<Totals>
         ensures { IfSome result (λ after. after ≡ counted outcome self) }
     {

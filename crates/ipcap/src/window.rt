@@ -1,4 +1,4 @@
-//! What has been read of the input, and is not yet passed.
+//! What has been read of the input and is not yet listed.
 
 ghost use Rattle.ipcap.specs.declared.window.TheConstants.{ROOM};
 ghost use Rattle.std.specs.Prelude.{◌≤◌};
@@ -6,13 +6,13 @@ ghost use Rattle.std.specs.Prelude.{◌≤◌};
 use std::io;
 use std::io::Read;
 
-/// The greatest number of bytes of a record that are read.
+/// The greatest number of captured bytes in a record that is read.
 pub const MAX_CAPTURED_LEN: usize = 262_144;
 
-/// The room for a record, with the 16 bytes before it.
+/// The room for a record and its header of 16 bytes.
 pub const ROOM: usize = 262_160;
 
-/// What has been read, and is not yet passed.
+/// What has been read and is not yet listed.
 #[derive(Drop)]
 pub struct Window {
     pub bytes: [u8; ROOM],
@@ -43,7 +43,7 @@ impl Window {
         &self.bytes[..self.len]
     }
 
-    /// Passes so many bytes.
+    /// Drops the first `len` bytes.
     pub fn pass(&mut self, len: usize)
         requires { len ≤ length (unread self.old) }
         ensures { unread self.new ≡ drop len (unread self.old) }
@@ -53,7 +53,7 @@ impl Window {
         self.len = end - len;
     }
 
-    /// Reads once, for as much as there is room for; `false` where the input is at its end.
+    /// Reads once, as much as there is room for; `false` if the input is at its end.
     pub fn fill<R: Read>(&mut self, reader: &mut R) -> io::Result<bool>
         requires { length (unread self.old) < ROOM }
         ensures kept { OnOk result (Keeps

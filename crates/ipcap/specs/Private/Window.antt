@@ -1,4 +1,4 @@
--- What has been read of the input, and is not yet passed.
+-- What has been read of the input and is not yet listed.
 use Rattle.std.specs.Prelude.{ℕ, List, take}
 use Rattle.ipcap.specs.declared.window.Window.{Window}
 
