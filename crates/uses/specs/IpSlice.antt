@@ -2,7 +2,7 @@
 -- and where the extension headers of IPv6 end (RFC 8200 sections 4 and 4.5).
 use Rattle.std.specs.Prelude.{ℕ, ◌≡◌, ◌≢◌, ◌+◌, ◌-◌, ◌<◌, ◌≤◌, ◌⊎◌, List, ◌++◌, drop, length}
 use Rattle.std.specs.Prelude.{slice_index, take}
-use Rattle.etherparse.specs.ExtensionHeaderChain.{BeginsWithChain, incomplete_header_error}
+use Rattle.etherparse.specs.ExtensionHeaderChain.{FollowsChain, incomplete_header_error}
 use Rattle.etherparse.specs.ExtensionHeaderChain.{required_len_of}
 use Rattle.etherparse.specs.ExtensionHeaders.{IsSkippable}
 use Rattle.etherparse.specs.FirstByte.{version_of}
@@ -79,10 +79,11 @@ pub record EndsInHeader (s : List ℕ) (first : ℕ) (e : LenError) : Type 0 whe
 -- the last of them gives.
 pub record IsIpv6Packet (packet : List ℕ) (header : Ipv6Header) (extensions : List ℕ) (upper : ℕ)
     (payload : List ℕ) : Type 0 where
-  pub cut : HasIpv6Body packet header (extensions ++ payload)
-  pub headers : List (List ℕ)
-  pub chain : BeginsWithChain (extensions ++ payload) header.next_header headers upper payload
-  pub ends : EndsAt (extensions ++ payload) header.next_header upper payload
+  pub body : List ℕ
+  pub cut : HasIpv6Body packet header body
+  pub parts : body ≡ extensions ++ payload
+  pub chain : FollowsChain body header.next_header upper payload
+  pub ends : EndsAt body header.next_header upper payload
 
 -- the packet is in these parts
 abbrev pub IsIpPacket : List ℕ → IpSlice → Type 0
