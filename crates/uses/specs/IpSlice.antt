@@ -14,8 +14,7 @@ use Rattle.etherparse.specs.declared.err.LenError.{LenError}
 use Rattle.etherparse.specs.declared.err.Layer.TheVariants as layer
 use Rattle.etherparse.specs.declared.net.ipv4_header.Ipv4Header.{Ipv4Header}
 use Rattle.etherparse.specs.declared.net.ipv6_header.Ipv6Header.{Ipv6Header}
-use Rattle.uses.specs.Fragment.{HasFragmentBehind, IsPart, IsUnfragmented, RefusesFragmentBehind}
-use Rattle.uses.specs.Fragment.{fragment_offset_of}
+use Rattle.uses.specs.Fragment.{HasPartBehind, IsWholeBehind, RefusesPartBehind, fragment_offset_of}
 use Rattle.uses.specs.Payload.{HasNoIpv4Payload}
 use Rattle.uses.specs.declared.fragment.FragmentHeader.{FragmentHeader}
 use Rattle.uses.specs.declared.ip_slice.IpSlice.{IpSlice}
@@ -106,17 +105,15 @@ abbrev pub IsFragmentSlice : IpSlice → Type 0
 IsFragmentSlice (slice.Ipv4 header payload) = IsFragment header
 IsFragmentSlice (slice.Ipv6 header extensions upper payload) =
     (fragment : FragmentHeader) × (rest : List ℕ)
-    × HasFragmentBehind extensions.now header.next_header fragment rest × IsPart fragment
+    × HasPartBehind extensions.now header.next_header fragment rest
 
 -- the payload of a slice is whole; or, in a slice that is not of a packet, an extension header is
 -- incomplete
 abbrev pub IsWholeSlice : IpSlice → Type 0
 IsWholeSlice (slice.Ipv4 header payload) = ¬ IsFragment header
 IsWholeSlice (slice.Ipv6 header extensions upper payload) =
-    IsUnfragmented extensions.now header.next_header
-    ⊎ ((fragment : FragmentHeader) × (rest : List ℕ)
-    × HasFragmentBehind extensions.now header.next_header fragment rest × ¬ IsPart fragment)
-    ⊎ ((e : LenError) × RefusesFragmentBehind extensions.now header.next_header e)
+    IsWholeBehind extensions.now header.next_header
+    ⊎ ((e : LenError) × RefusesPartBehind extensions.now header.next_header e)
 
 -- the packet is shorter than its total length
 pub record EndsInIpv4Payload (packet : List ℕ) (e : LenError) : Type 0 where

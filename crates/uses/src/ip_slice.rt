@@ -9,7 +9,7 @@ ghost use Rattle.etherparse.specs.FirstByte.{version_of};
 ghost use Rattle.uses.specs.IpSlice.{EndsAt, EndsAtLaterFragment, EndsInHeader, HasIpv6Body};
 ghost use Rattle.uses.specs.IpSlice.{IsIpPacket, IsLaterFragment, Passes, RefusesIp};
 
-use crate::fragment::{FragmentHeader, fragment_behind};
+use crate::fragment::{FragmentHeader, part_behind};
 use etherparse::err::{Layer, LenError, ipv4, ipv6};
 use etherparse::{IpNumber, Ipv4Header, Ipv6Header, LenSource};
 
@@ -115,9 +115,9 @@ impl<'a> IpSlice<'a> {
     /// offset is not 0, it is the middle of a payload, and does not begin with the header of an
     /// upper layer.
     ///
-    /// In IPv6, the first fragment header decides. A slice that was not made by
-    /// [`IpSlice::from_slice`] can have bytes for `extensions` that are not extension headers: its
-    /// payload is then no fragment.
+    /// In IPv6, the first fragment header that is not atomic decides (RFC 8200 section 4.5). A
+    /// slice that was not made by [`IpSlice::from_slice`] can have bytes for `extensions` that are
+    /// not extension headers: its payload is then no fragment.
     pub fn is_fragment(&self) -> bool
         ensures yes { IsTrue result → IsFragmentSlice self.now }
         ensures no { IsFalse result → IsWholeSlice self.now }
@@ -129,8 +129,8 @@ impl<'a> IpSlice<'a> {
                 extensions,
                 ..
             } => {
-                match fragment_behind(extensions, header.next_header) {
-                    Ok(Some((fragment, _))) => fragment.is_fragmenting_payload(),
+                match part_behind(extensions, header.next_header) {
+                    Ok(Some(_)) => true,
                     Ok(None) => false,
                     Err(_) => false,
                 }
