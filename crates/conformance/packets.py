@@ -134,14 +134,17 @@ def is_part(header):
     return header['more_fragments'] or header['fragment_offset'] > 0
 
 
-def find_fragment_header(body, number):
-    """the first fragment header and the bytes behind it, if any"""
+def find_fragment_header(body, number, past_atomic=False):
+    """The first fragment header and the bytes behind it, if any. RFC 8200 section 4.5: a packet with
+    an atomic one is processed as without it, so that one behind it can tell of a part."""
     place = 0
     while number in EXTENSIONS:
         if number == 44:
             if len(body) - place < 8:
                 raise too_short(8, body[place:], 'Ipv6FragHeader', 40 + place)
-            return read_fragment_header(body[place:]), body[place + 8:]
+            header = read_fragment_header(body[place:])
+            if is_part(header) or not past_atomic:
+                return header, body[place + 8:]
         required = extension_len(number, body[place:])
         if len(body) - place < required:
             raise too_short(required, body[place:], 'Ipv6ExtHeader', 40 + place)
@@ -173,9 +176,9 @@ def read_packet(packet):
         chain, upper, place = read_extensions(parts['body'], parts['next_header'])
     except Refused as error:
         raise Refused(f'extensions={error}')
-    found = find_fragment_header(parts['body'], parts['next_header'])
+    part = find_fragment_header(parts['body'], parts['next_header'], past_atomic=True)
     return dict(parts, upper=upper, payload=parts['body'][place:], place=40 + place, chain=chain,
-                extensions=parts['body'][:place], is_fragment=bool(found) and is_part(found[0]))
+                extensions=parts['body'][:place], is_fragment=bool(part))
 
 
 def read_udp(parts):
@@ -319,9 +322,9 @@ def key_of(find, names):
 
 def fragment_of(packet):
     """the fragment header of an IPv6 packet, which is not cut at its length field, and its key"""
-    def find():
+    def find(past_atomic=False):
         header = read_header6(packet)
-        found = find_fragment_header(packet[40:], header['next_header'])
+        found = find_fragment_header(packet[40:], header['next_header'], past_atomic)
         return found and dict({n: header[n] for n in ('source', 'destination')}, **found[0],
                               rest=found[1])
     try:
@@ -330,7 +333,8 @@ def fragment_of(packet):
             identification rest'''.split()) if found else 'fragment_header=none'
     except Refused as error:
         said = f'fragment_header={error}'
-    return [said, key_of(find, 'source destination identification'.split())]
+    return [said, key_of(lambda: find(past_atomic=True),
+                         'source destination identification'.split())]
 
 
 # Which packets are asked for.

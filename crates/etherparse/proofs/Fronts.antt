@@ -73,9 +73,10 @@ begins_with_front Layout n header s layout =
 
 -- a packet that is cut some bytes behind a header begins with that header still
 pub cut_behind : {H : Type 0} (Layout : H → List ℕ → Type 0) (k : ℕ) (s : List ℕ) (header : H) (rest : List ℕ) (b : BeginsWith Layout s header rest)
-    → length b.front ≡ k → (n : ℕ) → n ≤ length rest → BeginsWith Layout (take (k + n) s) header (take n rest)
-cut_behind Layout k s header rest b len n fits =
+    → length b.front ≡ k → (n len : ℕ) → k + n ≡ len → len ≤ length s → BeginsWith Layout (take len s) header (take n rest)
+cut_behind Layout k s header rest b front n len sum within =
     let parts : s ≡ (b.front ++ take n rest) ++ drop n rest =
     b.whole ∙ ap (λ x. b.front ++ x) (sym (take-append-drop n rest)) ∙ sym (append_assoc b.front (take n rest) (drop n rest)) in
-    let together : length (b.front ++ take n rest) ≡ k + n = omega (arith, length-append b.front (take n rest), length-take-le n rest fits, len) in
-    record { front = b.front; whole = ap (take (k + n)) parts ∙ take_at (b.front ++ take n rest) (drop n rest) (k + n) together; layout = b.layout }
+    let fits : n ≤ length rest = omega (arith, ap length b.whole, length-append b.front rest) in
+    let together : length (b.front ++ take n rest) ≡ len = omega (arith, length-append b.front (take n rest), length-take-le n rest fits) in
+    record { front = b.front; whole = ap (take len) parts ∙ take_at (b.front ++ take n rest) (drop n rest) len together; layout = b.layout }

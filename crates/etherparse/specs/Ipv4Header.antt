@@ -97,8 +97,8 @@ pub record IsIpv4ReadingOf (s : List ℕ) (answer : Ipv4Reading) : Type 0 where
       → OfIpv4Header bytes (λ header. (header ≡ x.0)
       ↔ (with_reserved_bit_cleared bytes ≡ with_reserved_bit_cleared front)))
   -- a packet that is cut after the header still begins with it
-  pub cut : IfOk answer (λ x. (n : ℕ) → n ≤ length x.1
-      → BeginsWith IsIpv4Layout (take (ipv4_header_len x.0 + n) s) x.0 (take n x.1))
+  pub cut : IfOk answer (λ x. (n len : ℕ) → ipv4_header_len x.0 + n ≡ len → len ≤ length s
+      → BeginsWith IsIpv4Layout (take len s) x.0 (take n x.1))
 
 abbrev pub ViewsIpv4 : List ℕ → Result (List ℕ) error.HeaderSliceError → Type 0
 ViewsIpv4 s front = Views IsIpv4Layout RefusesIpv4 s front

@@ -60,8 +60,8 @@ pub record IsIpv6ReadingOf (s : List ℕ) (answer : Ipv6Reading) : Type 0 where
       → BeginsWithChain x.1 x.0.next_header headers last rest
       → HasIpv6Chain s x.0 headers last rest)
   -- a packet that is cut after the header still begins with it
-  pub cut : IfOk answer (λ x. (n : ℕ) → n ≤ length x.1
-      → BeginsWith IsIpv6Layout (take (40 + n) s) x.0 (take n x.1))
+  pub cut : IfOk answer (λ x. (n len : ℕ) → 40 + n ≡ len → len ≤ length s
+      → BeginsWith IsIpv6Layout (take len s) x.0 (take n x.1))
 
 abbrev pub ViewsIpv6 : List ℕ → Result (List ℕ) error.HeaderSliceError → Type 0
 ViewsIpv6 s front = Views IsIpv6Layout RefusesIpv6 s front

@@ -6,6 +6,7 @@ use etherparse::err::{Layer, LenError};
 use etherparse::{IpFragOffset, IpNumber, Ipv4Header, Ipv6Header, LenSource};
 use std::process::Abort;
 use uses::capture::{ByteOrder, CaptureError, CutOff, FileHeader, Format, Resolution, next_record};
+use uses::checksum::is_udp_right;
 use uses::echo::{icmpv4_reply, icmpv6_reply};
 use uses::fragment::{FragmentHeader, Ipv4Key, Ipv6Key, ipv4_key, ipv6_key};
 use uses::ip_slice::{IpSlice, IpSliceError};
@@ -31,6 +32,13 @@ const IPV4_PACKET: [u8; 26] = [
 const IPV6_PACKET: [u8; 53] = [
     0x60, 0, 0, 0, 0, 12, 44, 64, 0x20, 0x01, 0x0d, 0xb8, 0, 0, 0, 0, 0, 0, 0, 0, 0, 0, 0, 1, 0x20,
     0x01, 0x0d, 0xb8, 0, 0, 0, 0, 0, 0, 0, 0, 0, 0, 0, 2, 17, 0, 0, 9, 1, 2, 3, 4, 5, 6, 7, 8, 9,
+];
+
+// The same fragment behind an atomic fragment header, which has identification 9.
+const ATOMIC_BEFORE_A_PART: [u8; 60] = [
+    0x60, 0, 0, 0, 0, 20, 44, 64, 0x20, 0x01, 0x0d, 0xb8, 0, 0, 0, 0, 0, 0, 0, 0, 0, 0, 0, 1, 0x20,
+    0x01, 0x0d, 0xb8, 0, 0, 0, 0, 0, 0, 0, 0, 0, 0, 0, 2, 44, 0, 0, 0, 0, 0, 0, 9, 17, 0, 0, 9, 1,
+    2, 3, 4, 5, 6, 7, 8,
 ];
 
 // A file with one record: 3 bytes of a packet of 5, captured 2 microseconds into second 1.
@@ -103,10 +111,22 @@ fn fragments_have_the_key_of_their_packet(rt: HostRuntime) {
         destination: SECOND,
         identification: 0x01020304,
     };
-    assert_eq!(rt; ipv6_key(&IPV6_PACKET), Ok(Some(key)));
+    assert_eq!(rt; ipv6_key(&IPV6_PACKET), Ok(Some(key.clone())));
     let mut packet = IPV6_PACKET;
     packet[43] = 0;
     assert_eq!(rt; ipv6_key(&packet), Ok(None));
+    // An atomic fragment header with another identification before the one that tells of a part.
+    let mut packet = ATOMIC_BEFORE_A_PART;
+    assert_eq!(rt; ipv6_key(&packet), Ok(Some(key)));
+    let sliced = IpSlice::from_slice(&packet).expect(&rt, "a packet");
+    assert!(rt; sliced.is_fragment());
+    assert_eq!(rt; is_udp_right(&packet), Ok(None));
+    // With both of them atomic the packet is whole.
+    packet[50] = 0;
+    packet[51] = 0;
+    assert_eq!(rt; ipv6_key(&packet), Ok(None));
+    let sliced = IpSlice::from_slice(&packet).expect(&rt, "a packet");
+    assert!(rt; !sliced.is_fragment());
     assert_eq!(rt; ipv4_key(&IPV4_PACKET), Ok(None));
     let mut packet = IPV4_PACKET;
     packet[6] = 0x20;

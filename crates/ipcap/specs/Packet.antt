@@ -9,7 +9,7 @@ use Rattle.etherparse.specs.WordSums.{SumsToAllOnes, ones_complement_sum}
 use Rattle.etherparse.specs.declared.err.LenError.{LenError}
 use Rattle.etherparse.specs.declared.net.ipv4_header.Ipv4Header.{Ipv4Header}
 use Rattle.etherparse.specs.declared.net.ipv6_header.Ipv6Header.{Ipv6Header}
-use Rattle.uses.specs.Fragment.{HasFragmentBehind, IsPart, IsUnfragmented, RefusesFragmentBehind}
+use Rattle.uses.specs.Fragment.{HasPartBehind, IsWholeBehind, RefusesPartBehind}
 use Rattle.uses.specs.IpSlice.{IsIpPacket, RefusesIp, payload_of, upper_of}
 use Rattle.uses.specs.declared.fragment.FragmentHeader.{FragmentHeader}
 use Rattle.uses.specs.declared.ip_slice.IpSlice.{IpSlice}
@@ -89,27 +89,24 @@ ipv6_mark header = record {
   more = header.more_fragments;
 }
 
--- the packet is a fragment, and this is its place by its fragment header
+-- the packet is a fragment, and this is its place by the first fragment header that is not atomic
 pub record IsMarkedBy (extensions : List ℕ) (first : ℕ) (mark : Mark) : Type 0 where
   pub fragment : FragmentHeader
   pub rest : List ℕ
-  pub has : HasFragmentBehind extensions first fragment rest
-  pub is_part : IsPart fragment
+  pub has : HasPartBehind extensions first fragment rest
   pub mark_of : mark ≡ ipv6_mark fragment
 
--- The packet is whole: no fragment header comes before an upper layer, or one of a whole packet. Of
--- bytes that are no chain of extension headers one can be incomplete.
-abbrev pub IsWholeBehind : List ℕ → ℕ → Type 0
-IsWholeBehind extensions first = IsUnfragmented extensions first
-    ⊎ ((fragment : FragmentHeader) × (rest : List ℕ)
-    × HasFragmentBehind extensions first fragment rest × ¬ IsPart fragment)
-    ⊎ ((e : LenError) × RefusesFragmentBehind extensions first e)
+-- The packet is whole: no fragment header comes before an upper layer, or atomic ones alone. If the
+-- bytes are no chain of extension headers, one of them can be incomplete.
+abbrev pub IsUnmarked : List ℕ → ℕ → Type 0
+IsUnmarked extensions first = IsWholeBehind extensions first
+    ⊎ ((e : LenError) × RefusesPartBehind extensions first e)
 
 -- this is the place of the fragment, or the payload is whole
 abbrev pub IsMark : IpSlice → Option Mark → Type 0
 IsMark (slice.Ipv4 header payload) mark = mark ≡ ipv4_mark header
 IsMark (slice.Ipv6 header extensions upper payload) mark = MatchOption mark
-    (IsWholeBehind extensions.now header.next_header)
+    (IsUnmarked extensions.now header.next_header)
     (IsMarkedBy extensions.now header.next_header)
 
 -- the verdict says whether the fact is true

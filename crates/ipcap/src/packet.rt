@@ -8,14 +8,14 @@ ghost use Rattle.ipcap.specs.Packet.{IsPayloadVerdictIpv4, IsPayloadVerdictIpv6}
 ghost use Rattle.etherparse.specs.WordSums.{SumsToAllOnes, ones_complement_sum};
 ghost use Rattle.uses.specs.IpSlice.{IsIpPacket, RefusesIp};
 ghost use Rattle.ipcap.specs.Packet.{IsMarkedBy, IsRefused, IsRightIpv4, IsRightIpv6, IsShownOf};
-ghost use Rattle.ipcap.specs.Packet.{IsVerdictIpv4, IsVerdictIpv6, IsWholeBehind, Judges};
+ghost use Rattle.ipcap.specs.Packet.{IsUnmarked, IsVerdictIpv4, IsVerdictIpv6, Judges};
 ghost use Rattle.ipcap.specs.Packet.{ShowsSlice, detail_behind, detail_of, ipv4_mark, segment_of};
 ghost use Rattle.ipcap.specs.Packet.{has_no_checksum};
 
 use crate::cut::cut_slice;
 use etherparse::checksum::u64_16bit_word;
 use etherparse::{IpNumber, Ipv4Header, Ipv6Header};
-use uses::fragment::fragment_behind;
+use uses::fragment::part_behind;
 use uses::ip_slice::{IpSlice, IpSliceError};
 
 /// An address of either version.
@@ -196,22 +196,17 @@ fn ipv4_mark(header: &Ipv4Header) -> Option<Mark>
     }
 }
 
-// The place of an IPv6 fragment, by the first fragment header.
+// The place of an IPv6 fragment, by the first fragment header that is not atomic.
 fn ipv6_mark(extensions: &[u8], first: IpNumber) -> Option<Mark>
-    ensures { MatchOption result (IsWholeBehind extensions.now first)
+    ensures { MatchOption result (IsUnmarked extensions.now first)
         (IsMarkedBy extensions.now first) }
 {
-    match fragment_behind(extensions, first) {
-        Ok(Some((fragment, _))) => {
-            if !fragment.is_fragmenting_payload() {
-                return None;
-            }
-            Some(Mark {
-                identification: fragment.identification,
-                offset: 8 * u32::from(fragment.fragment_offset.value()),
-                more: fragment.more_fragments,
-            })
-        }
+    match part_behind(extensions, first) {
+        Ok(Some((fragment, _))) => Some(Mark {
+            identification: fragment.identification,
+            offset: 8 * u32::from(fragment.fragment_offset.value()),
+            more: fragment.more_fragments,
+        }),
         Ok(None) => None,
         Err(_) => None,
     }

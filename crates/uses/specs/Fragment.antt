@@ -122,6 +122,44 @@ pub record EndsInOtherHeader (s : List ℕ) (first : ℕ) (e : LenError) : Type 
 abbrev pub RefusesFragmentBehind : List ℕ → ℕ → LenError → Type 0
 RefusesFragmentBehind s first e = EndsInFragmentHeader s first e ⊎ EndsInOtherHeader s first e
 
+-- the payload is a fragment: more fragments follow it, or its offset is not 0
+abbrev pub IsPart : FragmentHeader → Type 0
+IsPart header = IsTrue header.more_fragments ⊎ (header.fragment_offset ≢ 0)
+
+-- What is reached behind atomic fragment headers, which tell of no part: a number, and the rest that
+-- it describes. A packet with such a header is processed as the one without it (RFC 8200 section
+-- 4.5, RFC 6946), whatever stands behind it.
+pub data PassesAtomic (s : List ℕ) (first : ℕ) : ℕ → List ℕ → Type 0 where
+  none : PassesAtomic s first first s
+  behind_atomic : {number : ℕ} {at rest : List ℕ} {fragment : FragmentHeader}
+      → PassesAtomic s first number at → HasFragmentBehind at number fragment rest
+      → ¬ IsPart fragment → PassesAtomic s first fragment.next_header rest
+
+-- the slice is other extension headers, the first fragment header of a part, and the rest after it
+pub record HasPartBehind (s : List ℕ) (first : ℕ) (fragment : FragmentHeader) (rest : List ℕ)
+    : Type 0 where
+  pub number : ℕ
+  pub at : List ℕ
+  pub passes : PassesAtomic s first number at
+  pub has : HasFragmentBehind at number fragment rest
+  pub is_part : IsPart fragment
+
+-- a number that cannot be skipped comes in the slice with no fragment header of a part before it
+pub record IsWholeBehind (s : List ℕ) (first : ℕ) : Type 0 where
+  pub number : ℕ
+  pub at : List ℕ
+  pub passes : PassesAtomic s first number at
+  pub is_unfragmented : IsUnfragmented at number
+
+-- the slice ends before a fragment header of a part, and before a number that cannot be skipped
+pub record RefusesPartBehind (s : List ℕ) (first : ℕ) (e : LenError) : Type 0 where
+  pub number : ℕ
+  pub at : List ℕ
+  pub passes : PassesAtomic s first number at
+  pub inside : LenError
+  pub refused : RefusesFragmentBehind at number inside
+  pub moved : e ≡ len_error_moved (length s - length at) inside
+
 -- the packet is an IPv6 header, other extension headers, the first fragment header and a payload
 pub record HasFragmentHeader (packet : List ℕ) (header : Ipv6Header) (fragment : FragmentHeader)
     (payload : List ℕ) : Type 0 where
@@ -151,10 +189,6 @@ abbrev pub RefusesFragmented : List ℕ → HeaderSliceError → Type 0
 RefusesFragmented packet (Len e) = RefusesIpv6 packet (Len e) ⊎ EndsBeforeFragment packet e
 RefusesFragmented packet (Content e) = RefusesIpv6 packet (Content e)
 
--- the payload is a fragment: more fragments follow it, or its offset is not 0
-abbrev pub IsPart : FragmentHeader → Type 0
-IsPart header = IsTrue header.more_fragments ⊎ (header.fragment_offset ≢ 0)
-
 -- the packets are fragments of one packet
 pub record AreOfOneIpv6Packet (a b : Ipv6Fragment) : Type 0 where
   pub first : IsPart a.fragment
@@ -163,27 +197,41 @@ pub record AreOfOneIpv6Packet (a b : Ipv6Fragment) : Type 0 where
   pub destination : a.header.destination ≡ b.header.destination
   pub identification : a.fragment.identification ≡ b.fragment.identification
 
--- the packet is a fragment, and this is the key of all fragments of its packet
+-- The packet is a fragment, and this is the key of all fragments of its packet. Atomic fragment
+-- headers before the one that tells it do not count.
 pub record HasIpv6Key (packet : List ℕ) (key : Ipv6Key) : Type 0 where
   pub header : Ipv6Header
+  pub body : List ℕ
+  pub begins : BeginsWith IsIpv6Layout packet header body
   pub fragment : FragmentHeader
   pub payload : List ℕ
-  pub has : HasFragmentHeader packet header fragment payload
-  pub is_part : IsPart fragment
+  pub has : HasPartBehind body header.next_header fragment payload
   pub key_of : key ≡ record {
     source = header.source;
     destination = header.destination;
     identification = fragment.identification;
   }
 
--- the packet has a fragment header, and is whole all the same (RFC 6946)
-pub record IsAtomic (packet : List ℕ) : Type 0 where
+-- The packet is whole, no fragment, as far as headers that can be skipped tell: it has no fragment
+-- header, or atomic ones alone (RFC 6946).
+pub record IsWholeIpv6 (packet : List ℕ) : Type 0 where
   pub header : Ipv6Header
-  pub fragment : FragmentHeader
-  pub payload : List ℕ
-  pub has : HasFragmentHeader packet header fragment payload
-  pub is_whole : ¬ IsPart fragment
+  pub body : List ℕ
+  pub begins : BeginsWith IsIpv6Layout packet header body
+  pub is_whole : IsWholeBehind body header.next_header
 
--- the packet is whole, no fragment, as far as headers that can be skipped tell
-abbrev pub IsWholeIpv6 : List ℕ → Type 0
-IsWholeIpv6 packet = HasNoFragmentHeader packet ⊎ IsAtomic packet
+-- The packet is an IPv6 header and ends before a fragment header of a part or an upper layer. The
+-- place in the error counts from the packet's start.
+pub record EndsBeforePart (packet : List ℕ) (e : LenError) : Type 0 where
+  pub header : Ipv6Header
+  pub body : List ℕ
+  pub begins : BeginsWith IsIpv6Layout packet header body
+  pub inside : LenError
+  pub refused : RefusesPartBehind body header.next_header inside
+  pub moved : e ≡ len_error_moved 40 inside
+
+-- why it is not told whether a packet is a fragment: there is no IPv6 header, or an incomplete
+-- header after it
+abbrev pub RefusesIpv6Key : List ℕ → HeaderSliceError → Type 0
+RefusesIpv6Key packet (Len e) = RefusesIpv6 packet (Len e) ⊎ EndsBeforePart packet e
+RefusesIpv6Key packet (Content e) = RefusesIpv6 packet (Content e)

@@ -2,7 +2,7 @@
 -- and where the extension headers of IPv6 end (RFC 8200 sections 4 and 4.5).
 use Rattle.std.specs.Prelude.{ℕ, ◌≡◌, ◌≢◌, ◌+◌, ◌-◌, ◌<◌, ◌≤◌, ◌⊎◌, List, ◌++◌, drop, length}
 use Rattle.std.specs.Prelude.{slice_index, take}
-use Rattle.etherparse.specs.ExtensionHeaderChain.{BeginsWithChain, incomplete_header_error}
+use Rattle.etherparse.specs.ExtensionHeaderChain.{FollowsChain, incomplete_header_error}
 use Rattle.etherparse.specs.ExtensionHeaderChain.{required_len_of}
 use Rattle.etherparse.specs.ExtensionHeaders.{IsSkippable}
 use Rattle.etherparse.specs.FirstByte.{version_of}
@@ -14,8 +14,7 @@ use Rattle.etherparse.specs.declared.err.LenError.{LenError}
 use Rattle.etherparse.specs.declared.err.Layer.TheVariants as layer
 use Rattle.etherparse.specs.declared.net.ipv4_header.Ipv4Header.{Ipv4Header}
 use Rattle.etherparse.specs.declared.net.ipv6_header.Ipv6Header.{Ipv6Header}
-use Rattle.uses.specs.Fragment.{HasFragmentBehind, IsPart, IsUnfragmented, RefusesFragmentBehind}
-use Rattle.uses.specs.Fragment.{fragment_offset_of}
+use Rattle.uses.specs.Fragment.{HasPartBehind, IsWholeBehind, RefusesPartBehind, fragment_offset_of}
 use Rattle.uses.specs.Payload.{HasNoIpv4Payload}
 use Rattle.uses.specs.declared.fragment.FragmentHeader.{FragmentHeader}
 use Rattle.uses.specs.declared.ip_slice.IpSlice.{IpSlice}
@@ -79,10 +78,11 @@ pub record EndsInHeader (s : List ℕ) (first : ℕ) (e : LenError) : Type 0 whe
 -- the last of them gives.
 pub record IsIpv6Packet (packet : List ℕ) (header : Ipv6Header) (extensions : List ℕ) (upper : ℕ)
     (payload : List ℕ) : Type 0 where
-  pub cut : HasIpv6Body packet header (extensions ++ payload)
-  pub headers : List (List ℕ)
-  pub chain : BeginsWithChain (extensions ++ payload) header.next_header headers upper payload
-  pub ends : EndsAt (extensions ++ payload) header.next_header upper payload
+  pub body : List ℕ
+  pub cut : HasIpv6Body packet header body
+  pub parts : body ≡ extensions ++ payload
+  pub chain : FollowsChain body header.next_header upper payload
+  pub ends : EndsAt body header.next_header upper payload
 
 -- the packet is in these parts
 abbrev pub IsIpPacket : List ℕ → IpSlice → Type 0
@@ -105,17 +105,15 @@ abbrev pub IsFragmentSlice : IpSlice → Type 0
 IsFragmentSlice (slice.Ipv4 header payload) = IsFragment header
 IsFragmentSlice (slice.Ipv6 header extensions upper payload) =
     (fragment : FragmentHeader) × (rest : List ℕ)
-    × HasFragmentBehind extensions.now header.next_header fragment rest × IsPart fragment
+    × HasPartBehind extensions.now header.next_header fragment rest
 
 -- the payload of a slice is whole; or, in a slice that is not of a packet, an extension header is
 -- incomplete
 abbrev pub IsWholeSlice : IpSlice → Type 0
 IsWholeSlice (slice.Ipv4 header payload) = ¬ IsFragment header
 IsWholeSlice (slice.Ipv6 header extensions upper payload) =
-    IsUnfragmented extensions.now header.next_header
-    ⊎ ((fragment : FragmentHeader) × (rest : List ℕ)
-    × HasFragmentBehind extensions.now header.next_header fragment rest × ¬ IsPart fragment)
-    ⊎ ((e : LenError) × RefusesFragmentBehind extensions.now header.next_header e)
+    IsWholeBehind extensions.now header.next_header
+    ⊎ ((e : LenError) × RefusesPartBehind extensions.now header.next_header e)
 
 -- the packet is shorter than its total length
 pub record EndsInIpv4Payload (packet : List ℕ) (e : LenError) : Type 0 where

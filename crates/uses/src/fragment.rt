@@ -8,8 +8,9 @@ ghost use Rattle.etherparse.specs.Ipv4Header.{RefusesIpv4};
 ghost use Rattle.uses.specs.Fragment.{AreOfOneIpv4Packet, AreOfOneIpv6Packet, HasFragmentBehind};
 ghost use Rattle.uses.specs.Fragment.{HasFragmentHeader, HasIpv4Key, HasIpv6Key};
 ghost use Rattle.uses.specs.Fragment.{HasNoFragmentHeader, IsFragmentLayout, IsIncomplete};
-ghost use Rattle.uses.specs.Fragment.{IsUnfragmented, IsWholeIpv4, IsWholeIpv6, Reaches};
-ghost use Rattle.uses.specs.Fragment.{RefusesFragmentBehind, RefusesFragmented};
+ghost use Rattle.uses.specs.Fragment.{HasPartBehind, IsUnfragmented, IsWholeBehind, IsWholeIpv4};
+ghost use Rattle.uses.specs.Fragment.{IsWholeIpv6, Reaches, RefusesFragmentBehind};
+ghost use Rattle.uses.specs.Fragment.{RefusesFragmented, RefusesIpv6Key, RefusesPartBehind};
 ghost use Rattle.uses.specs.declared.fragment.Ipv4Key.{Ipv4Key as Key4};
 
 use etherparse::err::{Layer, LenError, ipv4, ipv6};
@@ -148,13 +149,13 @@ pub fn is_of_one_ipv4_packet(a: &Ipv4Header, b: &Ipv4Header) -> bool
 pub struct Ipv6Fragment<'a> {
     /// The IPv6 header, without its extension headers.
     pub header: Ipv6Header,
-    /// The first fragment header.
+    /// The first fragment header, which can be an atomic one.
     pub fragment: FragmentHeader,
     /// All the bytes after the fragment header, which are not cut at `payload_length`.
     pub payload: &'a [u8],
 }
 
-/// Whether two IPv6 packets are fragments of one packet.
+/// Whether two IPv6 packets are fragments of one packet, as these fragment headers tell.
 pub fn is_of_one_ipv6_packet(a: &Ipv6Fragment, b: &Ipv6Fragment) -> bool
     ensures { IsTrue result ↔ AreOfOneIpv6Packet a.now b.now }
 {
@@ -199,6 +200,7 @@ pub fn ipv6_fragment(packet: &[u8]) -> Result<Option<Ipv6Fragment>, ipv6::Header
 ///
 /// A `LenError` if the fragment header or an extension header before it is incomplete, with the
 /// place of that header from the front of the slice.
+#[tactic(auto, using(crate::specs::Fragment::at_front))]
 pub fn fragment_behind(
     slice: &[u8],
     first: IpNumber,
@@ -208,6 +210,8 @@ pub fn fragment_behind(
     ensures none { IfOk result (λ found. IfNone found (IsUnfragmented slice.now first)) }
     ensures refused { IfErr result (RefusesFragmentBehind slice.now first) }
     ensures within { IfErr result (λ e. e.layer_start_offset ≤ length slice.now) }
+    ensures shorter { IfOk result (λ found. IfSome found (λ x.
+        length x.1.now < length slice.now)) }
 {
     let mut rest = slice;
     let mut number = first;
@@ -228,7 +232,43 @@ pub fn fragment_behind(
     }
 }
 
+/// The first fragment header of a part among extension headers at the front of a slice, the first
+/// of which has this number, and all the bytes after it; `None` if a number that cannot be skipped
+/// comes before it. Atomic fragment headers are passed: the packet is processed as without them
+/// (RFC 8200 section 4.5).
+///
+/// # Errors
+///
+/// Those of [`fragment_behind`], for the first fragment header of a part.
+#[tactic(auto, using(crate::specs::Fragment::none, crate::specs::Fragment::behind_atomic))]
+pub fn part_behind(
+    slice: &[u8],
+    first: IpNumber,
+) -> Result<Option<(FragmentHeader, &[u8])>, LenError>
+    ensures found { IfOk result (λ found. IfSome found (λ x.
+        HasPartBehind slice.now first x.0 x.1.now)) }
+    ensures none { IfOk result (λ found. IfNone found (IsWholeBehind slice.now first)) }
+    ensures refused { IfErr result (RefusesPartBehind slice.now first) }
+    ensures within { IfErr result (λ e. e.layer_start_offset ≤ length slice.now) }
+{
+    let mut rest = slice;
+    let mut number = first;
+    'fragments: loop {
+        match fragment_behind(rest, number) {
+            Ok(Some(found)) => {
+                if found.0.is_fragmenting_payload() {
+                    return Ok(Some(found));
+                }
+                (number, rest) = (found.0.next_header, found.1);
+            }
+            Ok(None) => return Ok(None),
+            Err(e) => return Err(e.add_offset(slice.len() - rest.len())),
+        }
+    }
+}
+
 // What follows the extension header at the front of a slice, which is not a fragment header.
+#[tactic(auto, using(crate::specs::Fragment::behind))]
 fn skipped(slice: &[u8], number: IpNumber) -> Result<(IpNumber, &[u8]), LenError>
     requires skippable { IsSkippable number }
     requires other { number ≢ 44 }
@@ -245,26 +285,28 @@ fn skipped(slice: &[u8], number: IpNumber) -> Result<(IpNumber, &[u8]), LenError
 }
 
 /// The key of an IPv6 packet that is a fragment; `None` where the packet is whole: it has no
-/// fragment header, or one with neither an offset nor more fragments. The latter is not to be put
-/// together with fragments that have its addresses and identification (RFC 6946 section 4). The
-/// first fragment header tells, and one that [`ipv6_fragment`] finds.
+/// fragment header, or atomic ones alone, which have neither an offset nor more fragments. Such a
+/// packet is not to be put together with fragments that have its addresses and identification (RFC
+/// 8200 section 4.5, RFC 6946 section 4): it is processed as without that header, whatever comes
+/// after it. So the first fragment header that is not atomic decides, as [`part_behind`] finds it.
 ///
 /// # Errors
 ///
-/// Those of [`ipv6_fragment`].
+/// Those of [`Ipv6Header::from_slice`]; `Len` if an extension header before the one that decides is
+/// incomplete, or that one, with the place of that header from the packet's start.
 pub fn ipv6_key(packet: &[u8]) -> Result<Option<Ipv6Key>, ipv6::HeaderSliceError>
     ensures found { IfOk result (λ found. IfSome found (HasIpv6Key packet.now)) }
     ensures none { IfOk result (λ found. IfNone found (IsWholeIpv6 packet.now)) }
-    ensures refused { IfErr result (RefusesFragmented packet.now) }
+    ensures refused { IfErr result (RefusesIpv6Key packet.now) }
 {
-    let Some(found) = ipv6_fragment(packet)? else {
-        return Ok(None);
+    let (header, body) = Ipv6Header::from_slice(packet)?;
+    let found = match part_behind(body, header.next_header) {
+        Ok(Some(found)) => found,
+        Ok(None) => return Ok(None),
+        Err(e) => return Err(ipv6::HeaderSliceError::Len(e.add_offset(Ipv6Header::LEN))),
     };
-    if !found.fragment.is_fragmenting_payload() {
-        return Ok(None);
-    }
-    let (source, destination) = (found.header.source, found.header.destination);
-    let identification = found.fragment.identification;
+    let (source, destination) = (header.source, header.destination);
+    let identification = found.0.identification;
     Ok(Some(Ipv6Key {
         source,
         destination,

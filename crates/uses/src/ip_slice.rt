@@ -9,7 +9,7 @@ ghost use Rattle.etherparse.specs.FirstByte.{version_of};
 ghost use Rattle.uses.specs.IpSlice.{EndsAt, EndsAtLaterFragment, EndsInHeader, HasIpv6Body};
 ghost use Rattle.uses.specs.IpSlice.{IsIpPacket, IsLaterFragment, Passes, RefusesIp};
 
-use crate::fragment::{FragmentHeader, fragment_behind};
+use crate::fragment::{FragmentHeader, part_behind};
 use etherparse::err::{Layer, LenError, ipv4, ipv6};
 use etherparse::{IpNumber, Ipv4Header, Ipv6Header, LenSource};
 
@@ -115,9 +115,9 @@ impl<'a> IpSlice<'a> {
     /// offset is not 0, it is the middle of a payload, and does not begin with the header of an
     /// upper layer.
     ///
-    /// In IPv6, the first fragment header decides. A slice that was not made by
-    /// [`IpSlice::from_slice`] can have bytes for `extensions` that are not extension headers: its
-    /// payload is then no fragment.
+    /// In IPv6, the first fragment header that is not atomic decides (RFC 8200 section 4.5). A
+    /// slice that was not made by [`IpSlice::from_slice`] can have bytes for `extensions` that are
+    /// not extension headers: its payload is then no fragment.
     pub fn is_fragment(&self) -> bool
         ensures yes { IsTrue result → IsFragmentSlice self.now }
         ensures no { IsFalse result → IsWholeSlice self.now }
@@ -129,8 +129,8 @@ impl<'a> IpSlice<'a> {
                 extensions,
                 ..
             } => {
-                match fragment_behind(extensions, header.next_header) {
-                    Ok(Some((fragment, _))) => fragment.is_fragmenting_payload(),
+                match part_behind(extensions, header.next_header) {
+                    Ok(Some(_)) => true,
                     Ok(None) => false,
                     Err(_) => false,
                 }
@@ -175,18 +175,26 @@ fn ipv6_slice(packet: &[u8]) -> Result<IpSlice, IpSliceError>
     ensures found { IfOk result (IsIpPacket packet.now) }
     ensures refused { IfErr result (RefusesIp packet.now) }
 {
-    let (header, body) = match ipv6_body(packet) {
-        Ok(cut) => cut,
-        Err(e) => return Err(e),
-    };
+    match ipv6_body(packet) {
+        Ok(cut) => body_slice(cut.0, cut.1),
+        Err(e) => Err(e),
+    }
+}
+
+// The parts of a packet of version 6 with this header and this body.
+fn body_slice(header: Ipv6Header, body: &[u8]) -> Result<IpSlice, IpSliceError>
+    ensures found { (packet : List ℕ) → HasIpv6Body packet header body.now →
+        IfOk result (IsIpPacket packet) }
+    ensures refused { (packet : List ℕ) → HasIpv6Body packet header body.now →
+        IfErr result (RefusesIp packet) }
+{
     let walked = match behind_extensions(body, header.next_header) {
         Ok(walked) => walked,
         Err(e) => return Err(IpSliceError::Extensions(e.add_offset(Ipv6Header::LEN))),
     };
-    let extensions = before(body, walked.1);
     Ok(IpSlice::Ipv6 {
         header,
-        extensions,
+        extensions: before(body, walked.1),
         upper: walked.0,
         payload: walked.1,
     })
@@ -218,6 +226,7 @@ fn ipv6_body(packet: &[u8]) -> Result<(Ipv6Header, &[u8]), IpSliceError>
 
 // The number and the bytes of the payload behind extension headers, of which the first has this
 // number.
+#[tactic(auto, using(crate::specs::IpSlice::at_front))]
 fn behind_extensions(body: &[u8], first: IpNumber) -> Result<(IpNumber, &[u8]), LenError>
     ensures chain { IfOk result (λ x. FollowsChain body.now first x.0 x.1.now) }
     ensures ends { IfOk result (λ x. EndsAt body.now first x.0 x.1.now) }
@@ -253,6 +262,7 @@ fn is_later_fragment(slice: &[u8], number: IpNumber) -> bool
 }
 
 // What follows the extension header at the front of a slice.
+#[tactic(auto, using(crate::specs::IpSlice::behind))]
 fn passed(slice: &[u8], number: IpNumber) -> Result<(IpNumber, &[u8]), LenError>
     requires skippable { IsSkippable number }
     ensures chain { (s : List ℕ) → (first : ℕ) → FollowsChain s first number slice.now →
