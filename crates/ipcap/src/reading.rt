@@ -18,7 +18,7 @@ pub enum Reading {
 }
 
 /// What is said of a frame, by a link type that is read. If the capture cut the frame, its packet
-/// can be cut in its payload.
+/// can be shorter than its length field says.
 pub fn read_frame(link_type: u32, is_cut: bool, frame: &[u8]) -> Reading
     ensures { ReadsFrame link_type is_cut frame.now result }
 {
