@@ -21,8 +21,8 @@ pub record HasCutIpv6Body (packet : List ℕ) (header : Ipv6Header) (body : List
   pub short : length packet < 40 + header.payload_length
   pub begins : BeginsWith IsIpv6Layout packet header body
 
--- What there is of the body is these bytes of whole extension headers, and the front of a payload or
--- of the extension header within which the capture ends. The next header field before that gives
+-- What there is of the body is these bytes of whole extension headers, and the front of a payload
+-- or of the extension header within which the capture ends. The next header field before that gives
 -- its number (RFC 8200 sections 3 and 4).
 pub record IsCutIpv6Packet (packet : List ℕ) (header : Ipv6Header) (extensions : List ℕ) (upper : ℕ)
     (payload : List ℕ) : Type 0 where
