@@ -196,6 +196,54 @@ cut_packets() {
     judge 'packets that are cut' $? 0
 }
 
+# cut_ipv6 FIRST EXTENSIONS CAPTURED: a record of so many bytes of an IPv6 packet that had 80. The
+# number of its first extension header, and its bytes behind the header, are as `printf` takes them.
+cut_ipv6() {
+    addresses='\40\1\15\270\0\0\0\0\0\0\0\0\0\0\0\1\40\1\15\270\0\0\0\0\0\1\0\0\0\0\0\2'
+    printf "\140\0\0\0\0\50$1\100$addresses$2" >"$room/packet"
+    number 1700000001
+    number 1001
+    number "$3"
+    number 80
+    dd if="$room/packet" bs=1 count="$3" 2>/dev/null
+}
+
+# IPv6 packets that the capture cut among their extension headers: fragments that are not the first,
+# whose payload could pass for destination options; a fragment header, hop-by-hop options and
+# destination options that are not all there; and a header that is not.
+cut_extensions() {
+    {
+        dd if=stdin bs=1 count=20 2>/dev/null
+        number 101
+        cut_ipv6 '\54' '\74\0\0\31\0\0\0\7\377\377\377\377\377\377\377\377' 56
+        cut_ipv6 '\54' '\74\0\0\31\0\0\0\7\21\0\1\4\0\0\0\0\0\65\234\100' 60
+        cut_ipv6 '\0' '\54\0\1\4\0\0\0\0\21\0\0\1' 52
+        cut_ipv6 '\0' '' 40
+        cut_ipv6 '\54' '\74\0\0\1\0\0\0\11\21\0\1' 51
+        cut_ipv6 '\54' '' 39
+    } >"$room/input"
+    parties='2001:db8::1 > 2001:db8::1:0:0:2'
+    {
+        echo "1 1700000001.001001 $parties 60 - length 32" \
+            'hops 64 fragment 7@24+ checksums none none cut 56/80'
+        echo "2 1700000001.001001 $parties 60 - length 32" \
+            'hops 64 fragment 7@24+ checksums none none cut 60/80'
+        echo "3 1700000001.001001 $parties 44 - length 32" \
+            'hops 64 fragment - checksums none none cut 52/80'
+        echo "4 1700000001.001001 $parties 0 - length 40" \
+            'hops 64 fragment - checksums none none cut 40/80'
+        echo "5 1700000001.001001 $parties 60 - length 32" \
+            'hops 64 fragment 9@0+ checksums none none cut 51/80'
+        echo '6 1700000001.001001 error: IPv6 Header Error: Not enough data to decode' \
+            "'IPv6 header'. 40 byte(s) would be required, but only 39 byte(s) are available" \
+            'based on the slice length. cut 39/80'
+    } >"$room/wanted"
+    echo '6 packets: 0 IPv4, 5 IPv6, 0 other, 1 refused, 0 skipped, 6 cut,' \
+        '0 with a wrong checksum' >"$room/wanted.errors"
+    run
+    judge 'IPv6 packets that are cut among their extension headers' $? 0
+}
+
 # fronts TYPE HEADER: frames that end within this link header, at each of its bytes.
 fronts() {
     printf "$2" >"$room/front"
@@ -347,6 +395,7 @@ for build; do
     cut_captures
     link_types
     cut_packets
+    cut_extensions
     protocols
     changed_captures
     failing_ends

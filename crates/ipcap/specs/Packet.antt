@@ -45,7 +45,8 @@ abbrev pub icmp_of : IpSlice → ℕ
 icmp_of (slice.Ipv4 header payload) = 1
 icmp_of (slice.Ipv6 header extensions upper payload) = 58
 
--- how long the payload is by the length field, also where the capture cut it
+-- how long the payload is by the length field, also where the capture cut it; or what stands behind
+-- whole extension headers, where the capture ends within another one
 abbrev pub len_of : IpSlice → ℕ
 len_of (slice.Ipv4 header payload) = header.total_len - ipv4_header_len header
 len_of (slice.Ipv6 header extensions upper payload) =
@@ -96,17 +97,17 @@ pub record IsMarkedBy (extensions : List ℕ) (first : ℕ) (mark : Mark) : Type
   pub has : HasPartBehind extensions first fragment rest
   pub mark_of : mark ≡ ipv6_mark fragment
 
--- The packet is whole: no fragment header comes before an upper layer, or atomic ones alone. If the
--- bytes are no chain of extension headers, one of them can be incomplete.
-abbrev pub IsUnmarked : List ℕ → ℕ → Type 0
-IsUnmarked extensions first = IsWholeBehind extensions first
+-- The extension headers show no fragment: no fragment header comes before an upper layer, or atomic
+-- ones alone; or the bytes end before either.
+abbrev pub ShowsNoFragment : List ℕ → ℕ → Type 0
+ShowsNoFragment extensions first = IsWholeBehind extensions first
     ⊎ ((e : LenError) × RefusesPartBehind extensions first e)
 
--- this is the place of the fragment, or the payload is whole
+-- this is the place of the fragment, or none is shown
 abbrev pub IsMark : IpSlice → Option Mark → Type 0
 IsMark (slice.Ipv4 header payload) mark = mark ≡ ipv4_mark header
 IsMark (slice.Ipv6 header extensions upper payload) mark = MatchOption mark
-    (IsUnmarked extensions.now header.next_header)
+    (ShowsNoFragment extensions.now header.next_header)
     (IsMarkedBy extensions.now header.next_header)
 
 -- the verdict says whether the fact is true
@@ -197,7 +198,7 @@ IsPayloadVerdict (slice.Ipv4 header payload) mark verdict =
 IsPayloadVerdict (slice.Ipv6 header extensions upper payload) mark verdict =
     IsPayloadVerdictIpv6 header upper mark payload.now verdict
 
--- this is shown of the packet in these parts, of which the capture can have cut the payload
+-- this is shown of the packet in these parts, of which the capture can have cut the last
 pub record ShowsSlice (is_cut : Bool) (packet : List ℕ) (parts : IpSlice) (shown : Shown)
     : Type 0 where
   pub source : shown.source ≡ source_of parts
@@ -229,7 +230,7 @@ abbrev pub IsShownOf : Bool → List ℕ → Shown → Type 0
 IsShownOf is_cut packet shown =
     IsShown packet shown ⊎ (IsTrue is_cut × IsShownCut packet shown)
 
--- why a packet is refused, which the capture cut in no payload
+-- why a packet is refused, which the capture did not cut behind its header
 pub record IsRefused (is_cut : Bool) (packet : List ℕ) (e : IpSliceError) : Type 0 where
   pub refuses : RefusesIp packet e
   pub ipv4 : IsTrue is_cut → IsNoCutIpv4 packet

@@ -4,10 +4,11 @@ ghost use Rattle.std.specs.Prelude.{ℕ, ◌≡◌, List, ◌++◌, IfNone, IfSo
 ghost use Rattle.ipcap.specs.Cut.{IsCutPacket, IsNoCutIpv4, IsNoCutIpv6};
 
 use etherparse::{Ipv4Header, Ipv6Header};
-use uses::ip_slice::IpSlice;
+use uses::ip_slice::{IpSlice, behind_extensions};
 
 /// The parts of a packet that is shorter than its length field says. The payload is what there is
-/// of it. `None` where the packet is not shorter, or ends within its header or an extension header.
+/// of it. If an IPv6 packet ends within an extension header, that header is in the place of the
+/// payload. `None` if the packet is not shorter, or ends within its header.
 pub fn cut_slice(packet: &[u8]) -> Option<IpSlice>
     ensures found { IfSome result (IsCutPacket packet.now) }
     ensures none { IfNone result (IsNoCutIpv4 packet.now × IsNoCutIpv6 packet.now) }
@@ -45,16 +46,13 @@ fn cut_ipv6(packet: &[u8]) -> Option<IpSlice>
     if packet.len() >= Ipv6Header::LEN + usize::from(header.payload_length) {
         return None;
     }
-    let walked = match Ipv6Header::skip_all_header_extensions_in_slice(body, header.next_header) {
-        Ok(walked) => walked,
-        Err(_) => return None,
-    };
-    let extensions = before(body, walked.1);
+    let behind = behind_extensions(body, header.next_header);
+    let extensions = before(body, behind.rest);
     Some(IpSlice::Ipv6 {
         header,
         extensions,
-        upper: walked.0,
-        payload: walked.1,
+        upper: behind.number,
+        payload: behind.rest,
     })
 }
 

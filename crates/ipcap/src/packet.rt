@@ -8,7 +8,7 @@ ghost use Rattle.ipcap.specs.Packet.{IsPayloadVerdictIpv4, IsPayloadVerdictIpv6}
 ghost use Rattle.etherparse.specs.WordSums.{SumsToAllOnes, ones_complement_sum};
 ghost use Rattle.uses.specs.IpSlice.{IsIpPacket, RefusesIp};
 ghost use Rattle.ipcap.specs.Packet.{IsMarkedBy, IsRefused, IsRightIpv4, IsRightIpv6, IsShownOf};
-ghost use Rattle.ipcap.specs.Packet.{IsUnmarked, IsVerdictIpv4, IsVerdictIpv6, Judges};
+ghost use Rattle.ipcap.specs.Packet.{IsVerdictIpv4, IsVerdictIpv6, Judges, ShowsNoFragment};
 ghost use Rattle.ipcap.specs.Packet.{ShowsSlice, detail_behind, detail_of, ipv4_mark, segment_of};
 ghost use Rattle.ipcap.specs.Packet.{has_no_checksum};
 
@@ -79,15 +79,16 @@ pub struct Shown {
     /// The address of the receiver.
     pub destination: Address,
     /// The protocol number of the payload: in IPv6 the first that cannot be skipped as an extension
-    /// header.
+    /// header. If the capture ends within one of these, its number.
     pub upper: u8,
     /// What the payload's header says.
     pub detail: Detail,
-    /// The length of the payload, after any extension headers, in bytes.
+    /// The length in bytes of the payload, after any extension headers, by the length field. If the
+    /// capture ends within one of these, that header counts too, and all that follows it.
     pub len: usize,
     /// The time to live, or the hop limit.
     pub hops: u8,
-    /// The place of the payload, if it is a fragment.
+    /// The place of the payload, if it is a fragment and its fragment header is there.
     pub mark: Option<Mark>,
     /// Whether the checksum of an IPv4 header is right.
     pub header_checksum: Verdict,
@@ -99,7 +100,7 @@ pub struct Shown {
 ///
 /// # Errors
 ///
-/// Those of [`IpSlice::from_slice`], but none where the capture cut the payload.
+/// Those of [`IpSlice::from_slice`], but none where the capture cut the packet behind its header.
 pub fn read_packet(is_cut: bool, packet: &[u8]) -> Result<Shown, IpSliceError>
     ensures found { IfOk result (IsShownOf is_cut packet.now) }
     ensures refused { IfErr result (IsRefused is_cut packet.now) }
@@ -125,7 +126,7 @@ fn read_cut(is_cut: bool, packet: &[u8], e: IpSliceError) -> Result<Shown, IpSli
     }
 }
 
-// What is shown of a packet in these parts, of which the capture can have cut the payload.
+// What is shown of a packet in these parts, of which the capture can have cut the last.
 fn shown_of(is_cut: bool, packet: &[u8], slice: &IpSlice) -> Shown
     requires is_packet { IsIpPacket packet.now slice.now ⊎ IsCutPacket packet.now slice.now }
     ensures shows { ShowsSlice is_cut packet.now slice.now result }
@@ -198,7 +199,7 @@ fn ipv4_mark(header: &Ipv4Header) -> Option<Mark>
 
 // The place of an IPv6 fragment, by the first fragment header that is not atomic.
 fn ipv6_mark(extensions: &[u8], first: IpNumber) -> Option<Mark>
-    ensures { MatchOption result (IsUnmarked extensions.now first)
+    ensures { MatchOption result (ShowsNoFragment extensions.now first)
         (IsMarkedBy extensions.now first) }
 {
     match part_behind(extensions, first) {

@@ -18,7 +18,7 @@ pub enum Reading {
 }
 
 /// What a frame of a link type that is read is found to carry. If the capture cut the frame, its
-/// packet may be cut in its payload.
+/// packet can be shorter than its length field says.
 pub fn read_frame(link_type: u32, is_cut: bool, frame: &[u8]) -> Reading
     ensures { ReadsFrame link_type is_cut frame.now result }
 {

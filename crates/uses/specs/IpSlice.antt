@@ -8,7 +8,6 @@ use Rattle.etherparse.specs.ExtensionHeaders.{IsSkippable}
 use Rattle.etherparse.specs.FirstByte.{version_of}
 use Rattle.etherparse.specs.Ipv4Header.{IsFragment, IsIpv4Layout, RefusesIpv4}
 use Rattle.etherparse.specs.Ipv6Header.{IsIpv6Layout, RefusesIpv6}
-use Rattle.etherparse.specs.LenError.{len_error_moved}
 use Rattle.etherparse.specs.Reading.{BeginsWith, too_short_error}
 use Rattle.etherparse.specs.declared.err.LenError.{LenError}
 use Rattle.etherparse.specs.declared.err.Layer.TheVariants as layer
@@ -65,14 +64,11 @@ abbrev pub EndsAt : List ℕ → ℕ → ℕ → List ℕ → Type 0
 EndsAt s first number payload = (Passes s first number payload × ¬ IsSkippable number)
     ⊎ EndsAtLaterFragment s first number payload
 
--- the slice ends within an extension header; the error says where that starts
-pub record EndsInHeader (s : List ℕ) (first : ℕ) (e : LenError) : Type 0 where
-  pub number : ℕ
-  pub rest : List ℕ
+-- the slice ends within an extension header of this number, of which the rest is there
+pub record EndsInHeader (s : List ℕ) (first number : ℕ) (rest : List ℕ) : Type 0 where
   pub passes : Passes s first number rest
   pub skippable : IsSkippable number
   pub short : length rest < required_len_of number rest
-  pub error : e ≡ incomplete_header_error number rest (length s - length rest)
 
 -- The body of the packet is these bytes of extension headers, and this payload, of the number that
 -- the last of them gives.
@@ -137,9 +133,10 @@ pub record EndsInExtensions (packet : List ℕ) (e : LenError) : Type 0 where
   pub header : Ipv6Header
   pub body : List ℕ
   pub cut : HasIpv6Body packet header body
-  pub inside : LenError
-  pub ends : EndsInHeader body header.next_header inside
-  pub moved : e ≡ len_error_moved 40 inside
+  pub number : ℕ
+  pub rest : List ℕ
+  pub ends : EndsInHeader body header.next_header number rest
+  pub error : e ≡ incomplete_header_error number rest (length body - length rest + 40)
 
 -- Why a packet is not sliced: it has no bytes; its version is neither 4 nor 6; it has no header of
 -- its version. Or its total length is below its header, or it is shorter than its length field

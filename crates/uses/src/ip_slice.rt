@@ -1,7 +1,7 @@
 //! A layer of one's own over `etherparse`: IP packets of either version, sliced into their parts.
 
-ghost use Rattle.std.specs.Prelude.{ℕ, ◌≡◌, ◌<◌, ◌≤◌, ◌↔◌, List, ◌++◌, IfErr, IfOk, IsTrue};
-ghost use Rattle.std.specs.Prelude.{length};
+ghost use Rattle.std.specs.Prelude.{ℕ, ◌≡◌, ◌<◌, ◌↔◌, ◌-◌, List, ◌++◌, IfErr, IfNone, IfOk};
+ghost use Rattle.std.specs.Prelude.{IfSome, IsTrue, length};
 ghost use Rattle.etherparse.specs.ExtensionHeaderChain.{FollowsChain, incomplete_header_error};
 ghost use Rattle.etherparse.specs.ExtensionHeaderChain.{required_len_of};
 ghost use Rattle.etherparse.specs.ExtensionHeaders.{IsSkippable};
@@ -61,6 +61,18 @@ pub enum IpSliceError {
     /// An IPv6 packet, cut at its payload length, ends within an extension header.
     /// `layer_start_offset` is the place of that header from the packet's start.
     Extensions(LenError),
+}
+
+/// What is behind extension headers that are whole.
+#[derive(Clone, Debug, PartialEq, Eq, Drop)]
+pub struct BehindExtensions<'a> {
+    /// The number of the payload, or of the extension header that is incomplete.
+    pub number: IpNumber,
+    /// The payload, or what there is of that header.
+    pub rest: &'a [u8],
+    /// That the header is incomplete. `layer_start_offset` is its place from the front of the
+    /// slice.
+    pub incomplete: Option<LenError>,
 }
 
 impl<'a> IpSlice<'a> {
@@ -188,15 +200,15 @@ fn body_slice(header: Ipv6Header, body: &[u8]) -> Result<IpSlice, IpSliceError>
     ensures refused { (packet : List ℕ) → HasIpv6Body packet header body.now →
         IfErr result (RefusesIp packet) }
 {
-    let walked = match behind_extensions(body, header.next_header) {
-        Ok(walked) => walked,
-        Err(e) => return Err(IpSliceError::Extensions(e.add_offset(Ipv6Header::LEN))),
-    };
+    let behind = behind_extensions(body, header.next_header);
+    if let Some(e) = behind.incomplete {
+        return Err(IpSliceError::Extensions(e.add_offset(Ipv6Header::LEN)));
+    }
     Ok(IpSlice::Ipv6 {
         header,
-        extensions: before(body, walked.1),
-        upper: walked.0,
-        payload: walked.1,
+        extensions: before(body, behind.rest),
+        upper: behind.number,
+        payload: behind.rest,
     })
 }
 
@@ -224,30 +236,50 @@ fn ipv6_body(packet: &[u8]) -> Result<(Ipv6Header, &[u8]), IpSliceError>
     Ok((header, &rest[..len]))
 }
 
-// The number and the bytes of the payload behind extension headers, of which the first has this
-// number.
+/// What comes after the whole extension headers at the front of a slice, of which the first has
+/// this number: the payload, or an extension header that is incomplete (RFC 8200 sections 4 and
+/// 4.5).
+///
+/// Nothing after a fragment header whose offset is not 0 counts as a header.
 #[tactic(auto, using(crate::specs::IpSlice::at_front))]
-fn behind_extensions(body: &[u8], first: IpNumber) -> Result<(IpNumber, &[u8]), LenError>
-    ensures chain { IfOk result (λ x. FollowsChain body.now first x.0 x.1.now) }
-    ensures ends { IfOk result (λ x. EndsAt body.now first x.0 x.1.now) }
-    ensures refused { IfErr result (EndsInHeader body.now first) }
-    ensures within { IfErr result (λ e. e.layer_start_offset ≤ length body.now) }
+pub fn behind_extensions(body: &[u8], first: IpNumber) -> BehindExtensions
+    ensures chain { FollowsChain body.now first result.number result.rest.now }
+    ensures ends { IfNone result.incomplete
+        (EndsAt body.now first result.number result.rest.now) }
+    ensures short { IfSome result.incomplete (λ e.
+        EndsInHeader body.now first result.number result.rest.now) }
+    ensures error { IfSome result.incomplete (λ e. e ≡ incomplete_header_error result.number
+        result.rest.now (length body.now - length result.rest.now)) }
 {
     let mut rest = body;
     let mut number = first;
     'headers: loop {
         if !Ipv6Header::is_skippable_header_extension(number) {
-            return Ok((number, rest));
+            return BehindExtensions {
+                number,
+                rest,
+                incomplete: None,
+            };
         }
         let is_later = is_later_fragment(rest, number);
         match passed(rest, number) {
             Ok(next) => {
-                if is_later {
-                    return Ok(next);
-                }
                 (number, rest) = next;
+                if is_later {
+                    return BehindExtensions {
+                        number,
+                        rest,
+                        incomplete: None,
+                    };
+                }
             }
-            Err(e) => return Err(e.add_offset(body.len() - rest.len())),
+            Err(e) => {
+                return BehindExtensions {
+                    number,
+                    rest,
+                    incomplete: Some(e.add_offset(body.len() - rest.len())),
+                };
+            }
         }
     }
 }
