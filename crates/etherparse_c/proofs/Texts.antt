@@ -134,5 +134,5 @@ first_word_le (w ∷ ws) zero = omega (arith, length-append w.now (flat_map (λ 
 first_word_le (w ∷ ws) (suc n) = omega (arith, first_word_le ws n, length-append w.now (flat_map (λ (word : Bor (List ℕ)). word.now) ws))
 
 -- the pieces of a place
-pub nested : (a b c d e : List ℕ) → a ++ b ++ c ++ d ++ e ≡ a ++ (b ++ (c ++ (d ++ e)))
-nested a b c d e = simp append_assoc refl
+pub nested : (s a b c d e f : List ℕ) → s ++ (a ++ b ++ c ++ d ++ e) ++ f ≡ s ++ (a ++ (b ++ (c ++ (d ++ (e ++ f)))))
+nested s a b c d e f = simp append_assoc refl

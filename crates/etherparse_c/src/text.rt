@@ -1,7 +1,7 @@
 //! The text of an error, as the library prints it.
 
 ghost use Rattle.std.specs.Prelude.{ℕ, ◌≡◌, ◌+◌, ◌-◌, ◌*◌, ◌<◌, ◌≤◌, ◌^◌, ◌++◌};
-ghost use Rattle.std.specs.Prelude.{List, drop, length, take};
+ghost use Rattle.std.specs.Prelude.{List, [], codes, drop, length, slice_set, take};
 ghost use Rattle.std.specs.Fmt.{decimal};
 ghost use Rattle.std.specs.List.{flat_map};
 ghost use Rattle.etherparse.specs.Layer.{layer_text, layer_title};
@@ -37,7 +37,7 @@ pub extern "C" fn etherparse_error_text(error: &Error, text: &mut [u8]) -> usize
             if error.len < error.required_len {
                 return put_len(error, text);
             }
-            return put("", &[], &[], text);
+            return put_none(text);
         }
         UNEXPECTED_VERSION => return put_version(error, text),
         HEADER_LENGTH_SMALLER_THAN_HEADER => return put(
@@ -66,7 +66,7 @@ pub extern "C" fn etherparse_error_text(error: &Error, text: &mut [u8]) -> usize
             &[error.len],
             text,
         ),
-        _ => return put("", &[], &[], text),
+        _ => return put_none(text),
     }
 }
 
@@ -75,41 +75,25 @@ fn put_len(error: &Error, text: &mut [u8]) -> usize
     requires below { error.now.len < error.now.required_len }
     ensures gives { GivesText (len_text error.now) text.old text.new result }
 {
-    match error.layer {
-        IPV4_HEADER => return put_len_in(
-            error,
-            "IPv4 Header Error",
-            "IPv4 header",
-            "slice length",
-            text,
-        ),
-        IPV4_PACKET => return put_len_in(
-            error,
+    let (title, layer, source) = match error.layer {
+        IPV4_HEADER => ("IPv4 Header Error", "IPv4 header", "slice length"),
+        IPV4_PACKET => (
             "IPv4 Packet Error",
             "IPv4 packet",
             "length calculated from the IPv4 header 'total length' field",
-            text,
         ),
-        IPV6_HEADER => return put_len_in(
-            error,
-            "IPv6 Header Error",
-            "IPv6 header",
-            "slice length",
-            text,
-        ),
-        IPV6_EXT_HEADER => return put_len_in(
-            error,
+        IPV6_HEADER => ("IPv6 Header Error", "IPv6 header", "slice length"),
+        IPV6_EXT_HEADER => (
             "IPv6 Extension Header Error",
             "IPv6 extension header",
             "slice length",
-            text,
         ),
-        _ => return put("", &[], &[], text),
-    }
+        _ => return put_none(text),
+    };
+    put_len_in(error, title, layer, source, text)
 }
 
 // The same for a layer with this title and name.
-#[inline(never)]
 fn put_len_in(
     error: &Error,
     title: &'static str,
@@ -134,92 +118,79 @@ fn put_len_in(
         text,
     );
     let len = fill_place(layer, error.layer_start_offset, len, text);
-    let len = fill(".", &[], &[], len, text);
     end_at(len, text);
     len
 }
 
-// Where a layer starts; left out if that is byte 0.
+// Where a layer starts, left out if that is byte 0, and the full stop.
 fn fill_place(layer: &'static str, offset: usize, start: usize, text: &mut [u8]) -> usize
     requires short { length layer.now ≤ 64 }
     requires start { start < 2 ^ 32 }
     ensures written { (e : LenError) → e.layer_start_offset ≡ offset →
         layer.now ≡ layer_text e.layer → (so_far before : List ℕ) →
         IsWritten so_far before start text.old →
-        IsWritten (so_far ++ place_text e) before result text.new }
+        IsWritten (so_far ++ place_text e ++ codes ".") before result text.new }
     ensures bounded { result ≤ start + 2 ^ 17 }
 {
-    if offset == 0 {
-        return start;
-    }
-    fill(
-        " ('$' starts at overall parsed byte #)",
-        &[layer],
-        &[offset],
-        start,
-        text,
-    )
+    let template = if offset == 0 {
+        "."
+    } else {
+        " ('$' starts at overall parsed byte #)."
+    };
+    fill(template, &[layer], &[offset], start, text)
 }
 
 // The text of an unexpected version, by the layer.
 fn put_version(error: &Error, text: &mut [u8]) -> usize
     ensures gives { GivesText (version_text error.now) text.old text.new result }
 {
-    match error.layer {
-        IPV4_HEADER => return put(
-            "IPv4 Header Error: Encountered '#' as IP version number in the IPv4 header (must be \
-             '4' in an IPv4 header).",
-            &[],
-            &[usize::from(error.number)],
-            text,
-        ),
-        IPV6_HEADER => return put(
-            "IPv6 Header Error: Encountered '#' as IP version number in the IPv6 header (must be \
-             '6' in an IPv6 header).",
-            &[],
-            &[usize::from(error.number)],
-            text,
-        ),
-        _ => return put("", &[], &[], text),
-    }
+    let version = match error.layer {
+        IPV4_HEADER => 4,
+        IPV6_HEADER => 6,
+        _ => return put_none(text),
+    };
+    put(
+        "IPv# Header Error: Encountered '#' as IP version number in the IPv# header (must be '#' \
+         in an IPv# header).",
+        &[],
+        &[
+            version,
+            usize::from(error.number),
+            version,
+            version,
+            version,
+        ],
+        text,
+    )
 }
 
 // The text of a value that is too big, by the kind of value.
 fn put_value(error: &Error, text: &mut [u8]) -> usize
     ensures gives { GivesText (value_text error.now) text.old text.new result }
 {
-    match error.number {
-        IP_FRAGMENT_OFFSET => return put_value_of(error, "IP Fragment Offset", text),
-        IP_DSCP => return put_value_of(
-            error,
-            "IPv4 DSCP (Differentiated Services Code Point)",
-            text,
-        ),
-        IP_ECN => return put_value_of(error, "IPv4 ECN (Explicit Congestion Notification)", text),
-        IPV6_FLOW_LABEL => return put_value_of(error, "IPv6 Flow Label", text),
-        IPV4_PAYLOAD_LENGTH => return put_value_of(
-            error,
-            "IPv4 Header 'Payload Length' (sets 'Total Length')",
-            text,
-        ),
-        IPV6_PAYLOAD_LENGTH => return put_value_of(error, "IPv6 Header 'Payload Length'", text),
-        _ => return put("", &[], &[], text),
-    }
-}
-
-// The same for a value with this name.
-#[inline(never)]
-fn put_value_of(error: &Error, name: &'static str, text: &mut [u8]) -> usize
-    requires short { length name.now ≤ 64 }
-    ensures gives { (v : ValueType) → name.now ≡ value_type_text v →
-        GivesText (value_text_of error.now v) text.old text.new result }
-{
+    let name = match error.number {
+        IP_FRAGMENT_OFFSET => "IP Fragment Offset",
+        IP_DSCP => "IPv4 DSCP (Differentiated Services Code Point)",
+        IP_ECN => "IPv4 ECN (Explicit Congestion Notification)",
+        IPV6_FLOW_LABEL => "IPv6 Flow Label",
+        IPV4_PAYLOAD_LENGTH => "IPv4 Header 'Payload Length' (sets 'Total Length')",
+        IPV6_PAYLOAD_LENGTH => "IPv6 Header 'Payload Length'",
+        _ => return put_none(text),
+    };
     put(
         "Error '#' is too big to be a '$' (maximum allowed value is '#')",
         &[name],
         &[error.len, error.limit],
         text,
     )
+}
+
+// The empty text.
+fn put_none(text: &mut [u8]) -> usize
+    ensures gives { GivesText [] text.old text.new result }
+{
+    end_at(0, text);
+    0
 }
 
 // Writes a template to the front of a buffer, and a byte 0 after it.
@@ -314,15 +285,23 @@ fn put_at(piece: &[u8], offset: usize, text: &mut [u8]) -> usize
     ensures len { result ≡ offset + length piece.now }
 {
     let end = offset + piece.len();
-    // Byte by byte, with a test for room each time: the compiler leaves this loop as short as it is
-    // and calls neither `memcpy` nor `memmove`.
     for i in 0..piece.len() {
         if offset + i >= text.len() {
             return end;
         }
-        text[offset + i] = piece[i];
+        put_byte(piece[i], offset + i, text);
     }
     end
+}
+
+// Writes a byte into a buffer. It is a function of its own so that the compiler leaves the loop over
+// a piece as short as it is, and calls neither `memcpy` nor `memmove`.
+#[inline(never)]
+fn put_byte(byte: u8, offset: usize, text: &mut [u8])
+    requires inside { offset < length text.now }
+    ensures written { text.new ≡ slice_set text.old offset byte }
+{
+    text[offset] = byte;
 }
 
 // Writes a byte 0 after a text of this length, or as the last byte if the text fills the buffer.

@@ -1,7 +1,7 @@
 use Rattle.etherparse_c.proofs.text.etherparse_error_text.Goals as goal
 
 pub returns-in-3 : goal.returns-in-3
-returns-in-3 c = record { gives = rw (c.in-3.is, ← c.from.ensures) c.put-in-3.ensures.gives }
+returns-in-3 c = record { gives = rw (c.in-3.is, ← c.from.ensures) c.put.ensures.gives }
 
 pub returns-in-4 : goal.returns-in-4
 returns-in-4 c = record { gives = rw (c.in-4.is, ← c.from-in-4.ensures) c.put-in-4.ensures.gives }

@@ -6,6 +6,6 @@ pub loop-i-preserved : goal.loop-i-preserved
 loop-i-preserved c =
     let l = c.loop-i in (
       omega (arith, c.if-offset-i.false, l.auto.text),
-      one_byte_more c.args.text.now c.args.piece.now l.text c.args.offset l.i _ (omega (arith, c.if-offset-i.false, l.auto.text)) (omega (arith, c.loop-i-test.true)) refl
-          l.invariant.1,
+      rw c.put_byte.ensures.written (one_byte_more c.args.text.now c.args.piece.now l.text c.args.offset l.i _ (omega (arith, c.if-offset-i.false, l.auto.text)) (omega (arith, c.loop-i-test.true)) refl
+          l.invariant.1),
     )

@@ -14,9 +14,8 @@ returns c = record {
       let old = c.args.text.now in
       let e : LenError = record { required_len = error.required_len; len = error.len; len_source = source_in_c l; layer = l; layer_start_offset = error.layer_start_offset } in
       let lengths = c.fill-len.ensures.written [] old (nothing old) in
-      let placed = c.fill_place-len.ensures.written e refl layer _ old lengths in
-      let whole = c.fill-len-2.ensures.written _ old placed in
-      subst (λ x. GivesText x old c.end_at.new.text c.fill-len-2.result)
+      let whole = c.fill_place-len.ensures.written e refl layer _ old lengths in
+      subst (λ x. GivesText x old c.end_at.new.text c.fill_place-len.result)
       (in_parts (lengths_text e) (place_text e) (codes ".") _ (rw (lt-ltb _ _ c.requires.below, ← title, ← layer, ← source) refl))
       (record { len = whole.as_long; written = c.end_at.ensures.written _ old whole });
 }
