@@ -20,16 +20,26 @@ impl<'a> Arguments<'a> {
         let mut sum = Sum16BitWords::new();
         if let Some(rest) = self.rest.take() {
             for word in rest.split(' ') {
-                if word == "/" {
-                    sums.push(sum)?;
-                    sum = Sum16BitWords::new();
-                } else {
-                    sum = self.added(sum, word)?;
-                }
+                sum = self.stepped(&mut sums, sum, word)?;
             }
         }
         sums.push(sum)?;
         Ok(sums)
+    }
+
+    // The sum after a word: with a step, or a new one after `/`, which ends the sum before it.
+    fn stepped(
+        &mut self,
+        sums: &mut Vec<Sum16BitWords>,
+        sum: Sum16BitWords,
+        word: &str,
+    ) -> Result<Sum16BitWords, AllocError> {
+        if word == "/" {
+            sums.push(sum)?;
+            Ok(Sum16BitWords::new())
+        } else {
+            self.added(sum, word)
+        }
     }
 
     // The sum with the bytes of a step: how many there are or `s` for a slice, a colon, the bytes.
