@@ -122,10 +122,6 @@ pub from_bool_le : (b : Bool) → from_bool b ≤ 1
 from_bool_le true = omega arith
 from_bool_le false = omega arith
 
--- a text in three parts; the first is written in another way
-pub in_parts : (first place dot written : List ℕ) → first ≡ written → written ++ place ++ dot ≡ first ++ place ++ dot
-in_parts first place dot written e = rw e refl
-
 -- each word is no longer than all of them
 pub first_word_le : (words : List (Bor (List ℕ))) (place : ℕ) → length (first_word (drop place words)) ≤ length (flat_map (λ (word : Bor (List ℕ)). word.now) words)
 first_word_le [] zero = omega arith
@@ -133,6 +129,9 @@ first_word_le [] (suc n) = omega arith
 first_word_le (w ∷ ws) zero = omega (arith, length-append w.now (flat_map (λ (word : Bor (List ℕ)). word.now) ws))
 first_word_le (w ∷ ws) (suc n) = omega (arith, first_word_le ws n, length-append w.now (flat_map (λ (word : Bor (List ℕ)). word.now) ws))
 
--- the pieces of a place
-pub nested : (s a b c d e f : List ℕ) → s ++ (a ++ b ++ c ++ d ++ e) ++ f ≡ s ++ (a ++ (b ++ (c ++ (d ++ (e ++ f)))))
-nested s a b c d e f = simp append_assoc refl
+-- the end of a text whose layer starts at byte 0, and of one whose layer starts further on
+pub no_place : (text dot : List ℕ) → text ++ dot ≡ text ++ [] ++ dot
+no_place text dot = rw (append-nil text) refl
+
+pub nested : (text a b c d e dot : List ℕ) → text ++ (a ++ (b ++ (c ++ (d ++ (e ++ dot))))) ≡ text ++ (a ++ b ++ c ++ d ++ e) ++ dot
+nested text a b c d e dot = simp append_assoc refl

@@ -1,15 +1,13 @@
 //! The text of an error, as the library prints it.
 
 ghost use Rattle.std.specs.Prelude.{ℕ, ◌≡◌, ◌+◌, ◌-◌, ◌*◌, ◌<◌, ◌≤◌, ◌^◌, ◌++◌};
-ghost use Rattle.std.specs.Prelude.{List, [], codes, drop, length, slice_set, take};
+ghost use Rattle.std.specs.Prelude.{List, [], drop, length, slice_set, take};
 ghost use Rattle.std.specs.Fmt.{decimal};
 ghost use Rattle.std.specs.List.{flat_map};
 ghost use Rattle.etherparse.specs.Layer.{layer_text, layer_title};
-ghost use Rattle.etherparse.specs.LenError.{place_text};
 ghost use Rattle.etherparse.specs.LenSource.{len_source_text};
 ghost use Rattle.etherparse.specs.ValueType.{value_type_text};
 ghost use Rattle.etherparse.specs.declared.err.Layer.{Layer};
-ghost use Rattle.etherparse.specs.declared.err.LenError.{LenError};
 ghost use Rattle.etherparse.specs.declared.err.ValueType.{ValueType};
 ghost use Rattle.etherparse_c.specs.Error.{source_in_c};
 ghost use Rattle.etherparse_c.specs.ErrorText.{GivesText, error_text, len_text, len_text_in};
@@ -93,7 +91,8 @@ fn put_len(error: &Error, text: &mut [u8]) -> usize
     put_len_in(error, title, layer, source, text)
 }
 
-// The same for a layer with this title and name.
+// The same for a layer with this title and name. Where the layer starts is left out if that is byte
+// 0.
 fn put_len_in(
     error: &Error,
     title: &'static str,
@@ -117,27 +116,14 @@ fn put_len_in(
         0,
         text,
     );
-    let len = fill_place(layer, error.layer_start_offset, len, text);
-    end_at(len, text);
-    len
-}
-
-// Where a layer starts, left out if that is byte 0, and the full stop.
-fn fill_place(layer: &'static str, offset: usize, start: usize, text: &mut [u8]) -> usize
-    requires short { length layer.now ≤ 64 }
-    requires start { start < 2 ^ 32 }
-    ensures written { (e : LenError) → e.layer_start_offset ≡ offset →
-        layer.now ≡ layer_text e.layer → (so_far before : List ℕ) →
-        IsWritten so_far before start text.old →
-        IsWritten (so_far ++ place_text e ++ codes ".") before result text.new }
-    ensures bounded { result ≤ start + 2 ^ 17 }
-{
-    let template = if offset == 0 {
+    let place = if error.layer_start_offset == 0 {
         "."
     } else {
         " ('$' starts at overall parsed byte #)."
     };
-    fill(template, &[layer], &[offset], start, text)
+    let len = fill(place, &[layer], &[error.layer_start_offset], len, text);
+    end_at(len, text);
+    len
 }
 
 // The text of an unexpected version, by the layer.
