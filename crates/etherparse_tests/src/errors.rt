@@ -293,14 +293,9 @@ fn assert_shows<T: Clone + Debug + Display + Eq + Hash + Drop>(
     text: &str,
     debug_text: &str,
 ) -> Result<(), Fail> {
-    let printed = format!(in alloc; "{value}")?;
-    assert_eq!(rt; printed.as_str(), text);
-    let printed = format!(in alloc; "{value:>300}")?;
-    assert_eq!(rt; printed.as_str(), text);
-    let printed = format!(in alloc; "{value:05}")?;
-    assert_eq!(rt; printed.as_str(), text);
-    let printed = format!(in alloc; "{value:?}")?;
-    assert_eq!(rt; printed.as_str(), debug_text);
+    let printed = format!(in alloc; "{value} {value:>300} {value:05} {value:?}")?;
+    let expected = format!(in alloc; "{text} {text} {text} {debug_text}")?;
+    assert_eq!(rt; printed.as_str(), expected.as_str());
     let clone = value.clone()?;
     assert_eq!(rt; clone, *value, "{text}");
     assert_eq!(rt; hash_of(&clone), hash_of(value), "{text}");

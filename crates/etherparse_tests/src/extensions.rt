@@ -22,12 +22,7 @@ fn assert_answers(
     number: u8,
     rest: &[u8],
 ) {
-    if let Ok((actual, actual_rest)) = answer {
-        assert_eq!(rt; *actual, IpNumber(number));
-        assert_eq!(rt; *actual_rest, rest);
-    } else {
-        panic!(rt; "no number is answered");
-    }
+    assert_eq!(rt; *answer, Ok((IpNumber(number), rest)));
 }
 
 // That the header at an offset is refused for its length.
@@ -38,20 +33,14 @@ fn assert_refuses(
     len: usize,
     offset: usize,
 ) {
-    if let Err(refusal) = answer {
-        assert_eq!(rt;
-            *refusal,
-            LenError {
-                required_len,
-                len,
-                len_source: LenSource::Slice,
-                layer: Layer::Ipv6ExtHeader,
-                layer_start_offset: offset,
-            }
-        );
-    } else {
-        panic!(rt; "no header is refused");
-    }
+    let refusal = LenError {
+        required_len,
+        len,
+        len_source: LenSource::Slice,
+        layer: Layer::Ipv6ExtHeader,
+        layer_start_offset: offset,
+    };
+    assert_eq!(rt; *answer, Err(refusal));
 }
 
 // That both walks return a number and what follows it, and the counted one its turns.

@@ -16,8 +16,7 @@ use std::test::Fail;
 // That the reader returns the header and what follows it.
 fn assert_reads(rt: &impl Abort, slice: &[u8], header: &Ipv4Header, rest: &[u8]) {
     let (actual, actual_rest) = Ipv4Header::from_slice(slice).expect(rt, "a header in front");
-    assert_eq!(rt; actual, *header);
-    assert_eq!(rt; actual_rest, rest);
+    assert_eq!(rt; (&actual, actual_rest), (header, rest));
 }
 
 // That the view and the reader refuse the slice with the same error.
@@ -282,8 +281,8 @@ fn a_stored_checksum_is_updated_and_not_computed(rt: HostRuntime) {
         let mut header = made.expect(&rt, "a short payload");
         header.header_checksum = stored;
         header.set_time_to_live(time_to_live);
-        assert_eq!(rt; header.header_checksum, updated);
-        assert_eq!(rt; header.calc_header_checksum(), computed);
+        let checksums = [header.header_checksum, header.calc_header_checksum()];
+        assert_eq!(rt; checksums, [updated, computed]);
     }
 }
 
@@ -318,20 +317,26 @@ fn checksum_by_words(bytes: &[u8]) -> u16 {
     !u16::from_be_bytes([high, low])
 }
 
+// That the stored checksum is the one of the header's bytes.
+fn assert_is_computed(rt: &impl Abort, header: &Ipv4Header) {
+    let computed = checksum_by_words(header.to_bytes().as_slice());
+    assert_eq!(rt; header.header_checksum, computed);
+}
+
 // The numbers are those of RFC 1624 section 3, equation 3, for the words that change.
 #[test]
 fn a_changed_address_updates_the_stored_checksum(rt: HostRuntime) {
     let (source, destination) = ([192, 168, 0, 1], [192, 168, 0, 199]);
     let made = Ipv4Header::new(95, 64, IpNumber(17), source, destination);
     let mut header = made.expect(&rt, "a short payload");
-    assert_eq!(rt; checksum_by_words(header.to_bytes().as_slice()), 0xb861);
     header.header_checksum = 0xb861;
+    assert_is_computed(&rt, &header);
     header.set_source([10, 0, 0, 1]);
     assert_eq!(rt; header.header_checksum, 0x6f0a);
-    assert_eq!(rt; checksum_by_words(header.to_bytes().as_slice()), 0x6f0a);
+    assert_is_computed(&rt, &header);
     header.set_destination([10, 0, 0, 2]);
     assert_eq!(rt; header.header_checksum, 0x2678);
-    assert_eq!(rt; checksum_by_words(header.to_bytes().as_slice()), 0x2678);
+    assert_is_computed(&rt, &header);
     header.header_checksum = 0;
     header.set_source(source);
     assert_eq!(rt; header.header_checksum, 0x4957);
@@ -349,8 +354,8 @@ fn a_router_lowers_the_time_to_live_or_discards(rt: HostRuntime) {
         header.header_checksum = stored;
         assert!(rt; header.lower_time_to_live());
         assert_eq!(rt; header.time_to_live, lowered);
-        assert_eq!(rt; header.header_checksum, updated);
-        assert_eq!(rt; header.calc_header_checksum(), updated);
+        let checksums = [header.header_checksum, header.calc_header_checksum()];
+        assert_eq!(rt; checksums, [updated; 2]);
     }
     for time_to_live in [1, 0] {
         let made = Ipv4Header::new(95, time_to_live, IpNumber(17), source, destination);
@@ -378,25 +383,13 @@ fn updates_of_random_headers_are_what_is_computed_anew(rt: HostRuntime) -> Resul
         let (mut header, _) = Ipv4Header::from_slice(&front).expect(&rt, "a header");
         header.header_checksum = header.calc_header_checksum();
         header.set_time_to_live(*time_to_live);
-        assert_eq!(rt;
-            header.header_checksum,
-            checksum_by_words(header.to_bytes().as_slice())
-        );
+        assert_is_computed(&rt, &header);
         header.set_source([*a, *b, *c, *d]);
-        assert_eq!(rt;
-            header.header_checksum,
-            checksum_by_words(header.to_bytes().as_slice())
-        );
+        assert_is_computed(&rt, &header);
         header.set_destination([*e, *f, *g, *h]);
-        assert_eq!(rt;
-            header.header_checksum,
-            checksum_by_words(header.to_bytes().as_slice())
-        );
+        assert_is_computed(&rt, &header);
         header.lower_time_to_live();
-        assert_eq!(rt;
-            header.header_checksum,
-            checksum_by_words(header.to_bytes().as_slice())
-        );
+        assert_is_computed(&rt, &header);
     }
     Ok(())
 }

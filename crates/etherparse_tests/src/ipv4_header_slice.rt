@@ -6,13 +6,12 @@ use std::fmt::Debug;
 use std::test::Fail;
 
 #[test]
-fn the_view_keeps_the_reserved_bit(rt: HostRuntime) -> Result<(), Fail> {
-    let view = Ipv4HeaderSlice::from_slice(&WITH_RESERVED_BIT)?;
+fn the_view_keeps_the_reserved_bit(rt: HostRuntime) {
+    let view = Ipv4HeaderSlice::from_slice(&WITH_RESERVED_BIT).expect(&rt, "a view");
     assert!(rt; view.slice() == WITH_RESERVED_BIT.as_slice());
     let written = view.to_header().to_bytes();
     assert!(rt; written.as_slice() == WITHOUT_RESERVED_BIT.as_slice());
-    assert!(rt; view != Ipv4HeaderSlice::from_slice(&written)?);
-    Ok(())
+    assert!(rt; view != Ipv4HeaderSlice::from_slice(&written).expect(&rt, "a view"));
 }
 
 // What a view shows, for as long as the bytes live that it was read from.
@@ -33,11 +32,10 @@ fn both<T: Copy + Debug + Eq>(view: T) -> (T, T) {
 }
 
 #[test]
-fn a_view_is_copied(rt: HostRuntime) -> Result<(), Fail> {
-    let (view, copy) = both(Ipv4HeaderSlice::from_slice(&GREATEST)?);
-    assert_eq!(rt; copy, view);
-    assert_eq!(rt; copy.clone()?, view);
-    Ok(())
+fn a_view_is_copied(rt: HostRuntime) {
+    let (view, copy) = both(Ipv4HeaderSlice::from_slice(&GREATEST).expect(&rt, "a view"));
+    let clone: Result<_, _> = copy.clone();
+    assert_eq!(rt; (copy, clone), (view, Ok(view)));
 }
 
 #[test]

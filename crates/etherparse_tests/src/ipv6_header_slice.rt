@@ -20,12 +20,12 @@ fn both<T: Copy + Debug + Eq>(view: T) -> (T, T) {
 }
 
 #[test]
-fn a_view_is_copied(rt: HostRuntime) -> Result<(), Fail> {
-    let (view, copy) = both(Ipv6HeaderSlice::from_slice(&IPV6_DESCENDING)?);
-    assert_eq!(rt; copy, view);
-    assert_eq!(rt; copy.clone()?, view);
-    assert_ne!(rt; copy, Ipv6HeaderSlice::from_slice(&IPV6_ASCENDING)?);
-    Ok(())
+fn a_view_is_copied(rt: HostRuntime) {
+    let (view, copy) = both(Ipv6HeaderSlice::from_slice(&IPV6_DESCENDING).expect(&rt, "a view"));
+    let clone: Result<_, _> = copy.clone();
+    assert_eq!(rt; (copy, clone), (view, Ok(view)));
+    let other = Ipv6HeaderSlice::from_slice(&IPV6_ASCENDING).expect(&rt, "a view");
+    assert_ne!(rt; copy, other);
 }
 
 #[test]

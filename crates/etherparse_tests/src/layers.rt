@@ -48,23 +48,20 @@ const CAPTURE: [u8; 43] = [
 ];
 
 #[test]
-fn a_tcp_header_is_seen_and_judged(rt: HostRuntime) {
+fn a_tcp_header_is_seen(rt: HostRuntime) {
     let view = TcpHeaderSlice::from_slice(&SEGMENT).expect(&rt, "a header");
-    assert_eq!(rt; (view.source_port(), view.destination_port()), (1024, 80));
-    assert_eq!(rt;
-        (view.sequence_number(), view.acknowledgment_number()),
-        (1, 0)
-    );
-    assert_eq!(rt;
-        (view.data_offset(), view.flags(), view.window_size()),
-        (5, 2, 0x2000)
-    );
-    assert_eq!(rt;
-        (view.syn(), view.ack(), view.fin(), view.rst()),
-        (true, false, false, false)
-    );
-    assert_eq!(rt; (view.checksum(), view.urgent_pointer()), (0x0979, 0));
-    assert!(rt; view.options().is_empty());
+    let ports = (view.source_port(), view.destination_port());
+    let numbers = (view.sequence_number(), view.acknowledgment_number());
+    assert_eq!(rt; (ports, numbers), ((1024, 80), (1, 0)));
+    let counts = (view.data_offset(), view.window_size(), view.options().len());
+    let checked = (view.checksum(), view.urgent_pointer());
+    assert_eq!(rt; (counts, checked), ((5, 0x2000, 0), (0x0979, 0)));
+    let flags = [view.syn(), view.ack(), view.fin(), view.rst()];
+    assert_eq!(rt; (view.flags(), flags), (2, [true, false, false, false]));
+}
+
+#[test]
+fn a_tcp_checksum_is_judged_over_both_versions(rt: HostRuntime) {
     let (source, destination) = ([192, 168, 0, 1], [192, 168, 0, 199]);
     let made = Ipv4Header::new(20, 64, IpNumber::TCP, source, destination);
     let ip = made.expect(&rt, "a short payload");
@@ -96,7 +93,7 @@ fn a_tcp_header_is_refused_by_length_offset_and_length_again(rt: HostRuntime) {
 }
 
 #[test]
-fn fragments_have_the_key_of_their_packet(rt: HostRuntime) {
+fn a_fragment_header_is_read(rt: HostRuntime) {
     let (header, rest) = FragmentHeader::from_slice(&IPV6_PACKET[40..]).expect(&rt, "a header");
     let expected = FragmentHeader {
         next_header: IpNumber::UDP,
@@ -104,30 +101,20 @@ fn fragments_have_the_key_of_their_packet(rt: HostRuntime) {
         more_fragments: true,
         identification: 0x01020304,
     };
-    assert_eq!(rt; header, expected);
-    assert_eq!(rt; rest, [5, 6, 7, 8, 9].as_slice());
+    assert_eq!(rt; (header, rest), (expected, [5, 6, 7, 8, 9].as_slice()));
+}
+
+#[test]
+fn fragments_have_the_key_of_their_packet(rt: HostRuntime) {
     let key = Ipv6Key {
         source: FIRST,
         destination: SECOND,
         identification: 0x01020304,
     };
-    assert_eq!(rt; ipv6_key(&IPV6_PACKET), Ok(Some(key.clone())));
     let mut packet = IPV6_PACKET;
     packet[43] = 0;
-    assert_eq!(rt; ipv6_key(&packet), Ok(None));
-    // An atomic fragment header with another identification before the one that tells of a part.
-    let mut packet = ATOMIC_BEFORE_A_PART;
-    assert_eq!(rt; ipv6_key(&packet), Ok(Some(key)));
-    let sliced = IpSlice::from_slice(&packet).expect(&rt, "a packet");
-    assert!(rt; sliced.is_fragment());
-    assert_eq!(rt; is_udp_right(&packet), Ok(None));
-    // With both of them atomic the packet is whole.
-    packet[50] = 0;
-    packet[51] = 0;
-    assert_eq!(rt; ipv6_key(&packet), Ok(None));
-    let sliced = IpSlice::from_slice(&packet).expect(&rt, "a packet");
-    assert!(rt; !sliced.is_fragment());
-    assert_eq!(rt; ipv4_key(&IPV4_PACKET), Ok(None));
+    let keys = [ipv6_key(&IPV6_PACKET), ipv6_key(&packet)];
+    assert_eq!(rt; keys, [Ok(Some(key)), Ok(None)]);
     let mut packet = IPV4_PACKET;
     packet[6] = 0x20;
     let key = Ipv4Key {
@@ -136,7 +123,29 @@ fn fragments_have_the_key_of_their_packet(rt: HostRuntime) {
         protocol: IpNumber::UDP,
         identification: 0x1234,
     };
-    assert_eq!(rt; ipv4_key(&packet), Ok(Some(key)));
+    let keys = [ipv4_key(&IPV4_PACKET), ipv4_key(&packet)];
+    assert_eq!(rt; keys, [Ok(None), Ok(Some(key))]);
+}
+
+// An atomic fragment header with another identification comes before the one that tells of a part.
+#[test]
+fn an_atomic_fragment_header_is_passed(rt: HostRuntime) {
+    let key = Ipv6Key {
+        source: FIRST,
+        destination: SECOND,
+        identification: 0x01020304,
+    };
+    let mut packet = ATOMIC_BEFORE_A_PART;
+    assert_eq!(rt; ipv6_key(&packet), Ok(Some(key)));
+    assert_eq!(rt; is_udp_right(&packet), Ok(None));
+    let sliced = IpSlice::from_slice(&packet).expect(&rt, "a packet");
+    assert!(rt; sliced.is_fragment());
+    // With both of them atomic the packet is whole.
+    packet[50] = 0;
+    packet[51] = 0;
+    assert_eq!(rt; ipv6_key(&packet), Ok(None));
+    let sliced = IpSlice::from_slice(&packet).expect(&rt, "a packet");
+    assert!(rt; !sliced.is_fragment());
 }
 
 #[test]
@@ -144,8 +153,8 @@ fn packets_are_cut_at_their_length_field(rt: HostRuntime) {
     let sliced = IpSlice::from_slice(&IPV4_PACKET).expect(&rt, "a packet");
     match sliced {
         IpSlice::Ipv4 { header, payload } => {
-            assert_eq!(rt; header.identification, 0x1234);
-            assert_eq!(rt; payload, [1, 2, 3, 4].as_slice());
+            let seen = (header.identification, payload);
+            assert_eq!(rt; seen, (0x1234, [1, 2, 3, 4].as_slice()));
         }
         IpSlice::Ipv6 { .. } => rt.abort(),
     }
@@ -157,13 +166,24 @@ fn packets_are_cut_at_their_length_field(rt: HostRuntime) {
             upper,
             payload,
         } => {
-            assert_eq!(rt; header.hop_limit, 64);
-            assert_eq!(rt; extensions, [17, 0, 0, 9, 1, 2, 3, 4].as_slice());
-            assert_eq!(rt; upper, IpNumber::UDP);
-            assert_eq!(rt; payload, [5, 6, 7, 8].as_slice());
+            assert_eq!(rt; (header.hop_limit, upper), (64, IpNumber::UDP));
+            assert_eq!(rt;
+                (extensions, payload),
+                (
+                    [17, 0, 0, 9, 1, 2, 3, 4].as_slice(),
+                    [5, 6, 7, 8].as_slice()
+                )
+            );
         }
         IpSlice::Ipv4 { .. } => rt.abort(),
     }
+}
+
+// That a packet is a fragment with this payload, of this number.
+fn assert_is_fragment(rt: &impl Abort, packet: &[u8], upper: IpNumber, payload: &[u8]) {
+    let sliced = IpSlice::from_slice(packet).expect(rt, "a packet");
+    assert!(rt; sliced.is_fragment());
+    assert_eq!(rt; (sliced.upper(), sliced.payload()), (upper, payload));
 }
 
 #[test]
@@ -171,18 +191,14 @@ fn behind_a_later_fragment_header_stands_no_header(rt: HostRuntime) {
     // An authentication header of these bytes would have 32 of them, and destination options 56.
     let mut packet = IPV6_PACKET;
     packet[40] = 51;
-    let sliced = IpSlice::from_slice(&packet).expect(&rt, "a packet");
-    assert!(rt; sliced.is_fragment());
-    assert_eq!(rt; sliced.upper(), IpNumber::AUTHENTICATION_HEADER);
-    assert_eq!(rt; sliced.payload(), [5, 6, 7, 8].as_slice());
+    let ah = IpNumber::AUTHENTICATION_HEADER;
+    assert_is_fragment(&rt, &packet, ah, &[5, 6, 7, 8]);
     // One byte is too short to tell the length of any header.
     let mut packet = IPV6_PACKET;
     packet[40] = 60;
     packet[5] = 9;
-    let sliced = IpSlice::from_slice(&packet).expect(&rt, "a packet");
-    assert!(rt; sliced.is_fragment());
-    assert_eq!(rt; sliced.upper(), IpNumber::IPV6_DESTINATION_OPTIONS);
-    assert_eq!(rt; sliced.payload(), [5].as_slice());
+    let options = IpNumber::IPV6_DESTINATION_OPTIONS;
+    assert_is_fragment(&rt, &packet, options, &[5]);
     // The first fragment has the header.
     packet[43] = 1;
     let inside = LenError {
@@ -249,6 +265,11 @@ fn a_capture_hands_its_packets_over(rt: HostRuntime) {
         }
         _ => rt.abort(),
     }
+}
+
+#[test]
+fn a_capture_that_is_cut_or_of_another_format_is_refused(rt: HostRuntime) {
+    let (header, records) = FileHeader::from_slice(&CAPTURE).expect(&rt, "a file header");
     let cut = |required_len, len| CutOff { required_len, len };
     assert_eq!(rt; next_record(&header, &records[..15]), Err(cut(16, 15)));
     assert_eq!(rt; next_record(&header, &records[..18]), Err(cut(19, 18)));

@@ -43,22 +43,13 @@ fn incomplete(offset: usize) -> ChainError {
 // That a number and what follows it are returned.
 fn assert_walks(rt: &impl Abort, slice: &[u8], first: u8, limit: usize, number: u8, rest: &[u8]) {
     let answer = Ipv6Header::skip_header_extensions_up_to(slice, IpNumber(first), limit);
-    if let Ok((actual, actual_rest)) = answer {
-        assert_eq!(rt; actual, IpNumber(number), "for limit {limit}");
-        assert_eq!(rt; actual_rest, rest, "for limit {limit}");
-    } else {
-        panic!(rt; "no number is answered for limit {limit}");
-    }
+    assert_eq!(rt; answer, Ok((IpNumber(number), rest)), "for limit {limit}");
 }
 
 // That the walk is refused.
 fn assert_refuses(rt: &impl Abort, slice: &[u8], limit: usize, expected: ChainError) {
     let answer = Ipv6Header::skip_header_extensions_up_to(slice, IpNumber(0), limit);
-    if let Err(refusal) = answer {
-        assert_eq!(rt; refusal, expected, "for limit {limit}");
-    } else {
-        panic!(rt; "nothing is refused for limit {limit}");
-    }
+    assert_eq!(rt; answer, Err(expected), "for limit {limit}");
 }
 
 #[test]

@@ -135,18 +135,30 @@ fn a_translated_address_keeps_both_checksums_right(rt: HostRuntime) {
     ip.header_checksum = ip.calc_header_checksum();
     let checksum = translate_udp_source(&mut ip, 0x91ae, [10, 0, 0, 1]);
     assert_eq!(rt; checksum, 0x4857);
-    assert_eq!(rt; ip.header_checksum, ip.calc_header_checksum());
-    assert!(rt; header(checksum).is_right_ipv4(&ip, b"test"));
+    assert_both_are_right(&rt, &ip, checksum);
     let checksum = translate_udp_destination(&mut ip, checksum, [10, 0, 0, 2]);
+    assert_both_are_right(&rt, &ip, checksum);
+}
+
+// That the checksum of the header and this one of the datagram over it are right.
+fn assert_both_are_right(rt: &impl Abort, ip: &Ipv4Header, checksum: u16) {
     assert_eq!(rt; ip.header_checksum, ip.calc_header_checksum());
-    assert!(rt; header(checksum).is_right_ipv4(&ip, b"test"));
-    assert_eq!(rt; translate_udp_source(&mut ip, 0, [1, 2, 3, 4]), 0);
-    assert_eq!(rt; translate_tcp_source(&mut ip, 0xffff, [1, 2, 3, 5]), 0xfffe);
-    assert_eq!(rt;
+    assert!(rt; header(checksum).is_right_ipv4(ip, b"test"));
+}
+
+#[test]
+fn no_checksum_stays_none_and_one_of_tcp_may_become_zero(rt: HostRuntime) {
+    let mut ip = over_ipv4(&rt);
+    ip.header_checksum = ip.calc_header_checksum();
+    ip.set_source([10, 0, 0, 1]);
+    ip.set_destination([10, 0, 0, 2]);
+    let checksums = [
+        translate_udp_source(&mut ip, 0, [1, 2, 3, 4]),
+        translate_tcp_source(&mut ip, 0xffff, [1, 2, 3, 5]),
         translate_tcp_destination(&mut ip, 0xfffe, [10, 0, 0, 1]),
-        0
-    );
-    assert_eq!(rt; ip.source, [1, 2, 3, 5]);
-    assert_eq!(rt; ip.destination, [10, 0, 0, 1]);
+    ];
+    assert_eq!(rt; checksums, [0, 0xfffe, 0]);
+    let addresses = (ip.source, ip.destination);
+    assert_eq!(rt; addresses, ([1, 2, 3, 5], [10, 0, 0, 1]));
     assert_eq!(rt; ip.header_checksum, ip.calc_header_checksum());
 }
