@@ -10,7 +10,8 @@ calls=4096
 # The instructions of so many calls of a line and a column.
 counted() {
   valgrind --tool=callgrind --callgrind-out-file=/dev/null --collect-atstart=no --toggle-collect="$3_u64_16*" \
-    --toggle-collect="$3_u32_16*" --toggle-collect="$3_ipv*" --toggle-collect="$3_loop_*" "$bench" call "$layout" "$1" "$2" "$calls" 2>&1 > /dev/null | sed -n 's/.*Collected : *//p'
+    --toggle-collect="$3_u32_16*" --toggle-collect="$3_ipv*" --toggle-collect="$3_loop_*" \
+    --toggle-collect="$3_update_*" "$bench" call "$layout" "$1" "$2" "$calls" 2>&1 > /dev/null | sed -n 's/.*Collected : *//p'
 }
 
 printf '%-52s %16s %9s %9s %9s\n' "" bytes crate lto proved

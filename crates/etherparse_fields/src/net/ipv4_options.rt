@@ -36,7 +36,9 @@ use std::marker::Model;
 /// ```
 #[derive(Drop)]
 pub struct Ipv4Options {
-    len: u8,
+    // Two bytes, so that in a header the buffer begins on a multiple of four: the compiler then
+    // keeps each word of the options whole. With one byte it cut words and joined them in memory.
+    len: u16,
     buffer: Buffer,
 }
 
@@ -88,7 +90,7 @@ impl Ipv4Options {
         ensures value { result ≡ take len bytes.now }
     {
         Ipv4Options {
-            len: len as u8,
+            len: len as u16,
             buffer: Buffer { bytes: *bytes },
         }
     }
@@ -148,7 +150,7 @@ impl Ipv4Options {
         let mut buffer = Buffer { bytes: [0; 40] };
         buffer.front_mut(bytes.len()).copy_from_slice(bytes);
         Ipv4Options {
-            len: bytes.len() as u8,
+            len: bytes.len() as u16,
             buffer,
         }
     }
