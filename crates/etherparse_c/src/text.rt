@@ -280,8 +280,8 @@ fn put_at(piece: &[u8], offset: usize, text: &mut [u8]) -> usize
     end
 }
 
-// Writes a byte into a buffer. It is a function of its own so that the compiler leaves the loop over
-// a piece as short as it is, and calls neither `memcpy` nor `memmove`.
+// Writes a byte into a buffer. It is a function of its own so that the compiler leaves the loop
+// over a piece as short as it is, and calls neither `memcpy` nor `memmove`.
 #[inline(never)]
 fn put_byte(byte: u8, offset: usize, text: &mut [u8])
     requires inside { offset < length text.now }
