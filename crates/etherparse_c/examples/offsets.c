@@ -1,12 +1,13 @@
 /* Tests at which offset of its result a call stores which number. It reads a result as bytes and names no field of a struct, so
- * the order of the fields in etherparse.h has no influence. */
+ * the order of the fields in etherparse.h has no influence. Each field of each struct has, in some call, another number than
+ * the fields next to it. Bytes that belong to no field are not read. */
 
 #include "etherparse.h"
 
 #include <stdio.h>
 #include <string.h>
 
-/* A number in that many bytes, the low byte first. */
+/* A number in that many bytes, the low byte first. Bytes after the eighth have to be 0. */
 struct place {
     const char *name;
     size_t offset;
@@ -20,11 +21,10 @@ static int right = 0;
 static void compare(const char *call, const void *answer, const struct place *places, size_t count)
 {
     for (size_t i = 0; i < count; i++) {
-        uint8_t bytes[8];
+        const uint8_t *bytes = (const uint8_t *)answer + places[i].offset;
         uint64_t number = 0;
-        memcpy(bytes, (const uint8_t *)answer + places[i].offset, places[i].len);
         for (size_t k = places[i].len; k > 0; k--)
-            number = 256 * number + bytes[k - 1];
+            number = number >> 56 == 0 ? 256 * number + bytes[k - 1] : UINT64_MAX;
         if (number == places[i].number) {
             right++;
         } else {
@@ -37,10 +37,32 @@ static void compare(const char *call, const void *answer, const struct place *pl
 
 #define COMPARE(call, answer, places) compare(call, &(answer), places, sizeof(places) / sizeof((places)[0]))
 
-/* All fields of a header differ, and so do all numbers of its error. */
+/* The bytes of a packet at an offset of a result. */
+static void compare_bytes(const char *call, const char *name, const void *answer, size_t offset, const uint8_t *bytes, size_t len)
+{
+    for (size_t i = 0; i < len; i++) {
+        const struct place place = {name, offset + i, 1, bytes[i]};
+        compare(call, answer, &place, 1);
+    }
+}
+
+/* The example of RFC 1071 section 3: its words sum to 0xddf2. */
+static const uint8_t WORDS[8] = {0x00, 0x01, 0xf2, 0x03, 0xf4, 0xf5, 0xf6, 0xf7};
+
+/* All fields of a header differ but for its flags, and so do all numbers of its error. The first has 4 bytes of options and the
+ * flag "don't fragment", the second 40 bytes and "more fragments". */
 static const uint8_t IPV4[26] = {
     0x46, 0x29, 1, 2, 3, 4, 0x55, 6, 7, 8, 9, 10, 11, 12, 13, 14, 15, 16, 17, 18, 19, 20, 21, 22, 23, 24,
 };
+
+static const uint8_t LONG_IPV4[63] = {
+    0x4f, 0xb6, 0x82, 0x83, 0x84, 0x85, 0x26, 0x87, 0x88, 0x89, 0x8a, 0x8b, 0x8c, 0x8d, 0x8e, 0x8f, 0x90, 0x91, 0x92, 0x93,
+    0x94, 0x95, 0x96, 0x97, 0x98, 0x99, 0x9a, 0x9b, 0x9c, 0x9d, 0x9e, 0x9f, 0xa0, 0xa1, 0xa2, 0xa3, 0xa4, 0xa5, 0xa6, 0xa7,
+    0xa8, 0xa9, 0xaa, 0xab, 0xac, 0xad, 0xae, 0xaf, 0xb0, 0xb1, 0xb2, 0xb3, 0xb4, 0xb5, 0xb6, 0xb7, 0xb8, 0xb9, 0xba, 0xbb,
+    1, 2, 3,
+};
+
+static const uint8_t SMALL_IHL[20] = {0x44};
 
 static const uint8_t IPV6[43] = {
     0x61, 0x23, 0x45, 0x67, 0x89, 0xab, 0xcd, 0xef, 0x20, 0x21, 0x22, 0x23, 0x24, 0x25, 0x26, 0x27, 0x28, 0x29, 0x2a, 0x2b,
@@ -50,55 +72,172 @@ static const uint8_t IPV6[43] = {
 
 static const uint8_t CHAIN[11] = {43, 0, 0, 0, 0, 0, 0, 0, 6, 1, 0};
 
-static void compare_ipv4(void)
+static const uint8_t FRAGMENT[11] = {6, 0, 0, 0, 0, 0, 0, 0, 1, 2, 3};
+
+/* The pieces are written as bytes, too: a pointer and a length each. */
+static void compare_sums(void)
+{
+    static const struct place complement[] = {{"complement", 0, 2, 0x0d22}};
+    const uint8_t *at[2] = {WORDS, WORDS + 2};
+    const size_t len[2] = {2, 6};
+    struct etherparse_slice pieces[2];
+    for (size_t i = 0; i < 2; i++) {
+        memcpy((uint8_t *)pieces + 16 * i, &at[i], 8);
+        memcpy((uint8_t *)pieces + 16 * i + 8, &len[i], 8);
+    }
+    uint16_t wide = etherparse_u64_16bit_word_ones_complement(etherparse_u64_16bit_word_add_slices(pieces, 2));
+    uint16_t narrow = etherparse_u32_16bit_word_ones_complement(etherparse_u32_16bit_word_add_slices(pieces, 2));
+    COMPARE("u64_16bit_word_add_slices", wide, complement);
+    COMPARE("u32_16bit_word_add_slices", narrow, complement);
+}
+
+static void compare_ipv4_reads(void)
 {
     static const struct place view[] = {
         {"source", 0, 4, 0x0e0d0c0b}, {"destination", 4, 4, 0x1211100f}, {"total_len", 8, 2, 0x0102},
         {"identification", 10, 2, 0x0304}, {"fragment_offset", 12, 2, 0x1506}, {"header_checksum", 14, 2, 0x090a},
         {"ihl", 16, 1, 6}, {"dscp", 17, 1, 10}, {"ecn", 18, 1, 1}, {"dont_fragment", 19, 1, 1},
         {"more_fragments", 20, 1, 0}, {"is_fragmenting_payload", 21, 1, 1}, {"time_to_live", 22, 1, 7},
-        {"protocol", 23, 1, 8}, {"error.kind", 24, 4, 0}, {"rest.offset", 64, 8, 24}, {"rest.len", 72, 8, 2},
+        {"protocol", 23, 1, 8}, {"error", 24, 40, 0}, {"rest.offset", 64, 8, 24}, {"rest.len", 72, 8, 2},
+    };
+    static const struct place long_view[] = {
+        {"source", 0, 4, 0x8f8e8d8c}, {"destination", 4, 4, 0x93929190}, {"total_len", 8, 2, 0x8283},
+        {"identification", 10, 2, 0x8485}, {"fragment_offset", 12, 2, 0x0687}, {"header_checksum", 14, 2, 0x8a8b},
+        {"ihl", 16, 1, 15}, {"dscp", 17, 1, 45}, {"ecn", 18, 1, 2}, {"dont_fragment", 19, 1, 0},
+        {"more_fragments", 20, 1, 1}, {"is_fragmenting_payload", 21, 1, 1}, {"time_to_live", 22, 1, 0x88},
+        {"protocol", 23, 1, 0x89}, {"error", 24, 40, 0}, {"rest.offset", 64, 8, 60}, {"rest.len", 72, 8, 3},
+    };
+    static const struct place no_view[] = {
+        {"view", 0, 24, 0}, {"error.kind", 24, 4, 1}, {"error.number", 28, 2, 0}, {"error.layer", 30, 2, 1},
+        {"error.required_len", 32, 8, 60}, {"error.len", 40, 8, 59}, {"error.layer_start_offset", 48, 8, 0},
+        {"error.limit", 56, 8, 0}, {"rest", 64, 16, 0},
     };
     static const struct place read[] = {
         {"dscp", 0, 1, 10}, {"ecn", 1, 1, 1}, {"total_len", 2, 2, 0x0102}, {"identification", 4, 2, 0x0304},
         {"dont_fragment", 6, 1, 1}, {"more_fragments", 7, 1, 0}, {"fragment_offset", 8, 2, 0x1506},
         {"time_to_live", 10, 1, 7}, {"protocol", 11, 1, 8}, {"header_checksum", 12, 2, 0x090a},
         {"source", 14, 4, 0x0e0d0c0b}, {"destination", 18, 4, 0x1211100f}, {"options_len", 22, 1, 4},
-        {"options", 23, 8, 0x16151413}, {"error.kind", 64, 4, 0}, {"rest.offset", 104, 8, 24}, {"rest.len", 112, 8, 2},
+        {"options", 23, 40, 0x16151413}, {"error", 64, 40, 0}, {"rest.offset", 104, 8, 24}, {"rest.len", 112, 8, 2},
     };
-    static const struct place bytes[] = {{"bytes", 0, 4, 0x02012946}, {"bytes + 20", 20, 8, 0x16151413}, {"len", 60, 1, 24}};
-    static const struct place lengths[] = {
-        {"payload_len", 0, 2, 234}, {"max_payload_len", 2, 2, 65511}, {"header_len", 4, 1, 24}, {"ihl", 5, 1, 6},
-        {"error.kind", 8, 4, 0},
+    static const struct place long_read[] = {
+        {"dscp", 0, 1, 45}, {"ecn", 1, 1, 2}, {"total_len", 2, 2, 0x8283}, {"identification", 4, 2, 0x8485},
+        {"dont_fragment", 6, 1, 0}, {"more_fragments", 7, 1, 1}, {"fragment_offset", 8, 2, 0x0687},
+        {"time_to_live", 10, 1, 0x88}, {"protocol", 11, 1, 0x89}, {"header_checksum", 12, 2, 0x8a8b},
+        {"source", 14, 4, 0x8f8e8d8c}, {"destination", 18, 4, 0x93929190}, {"options_len", 22, 1, 40},
+        {"error", 64, 40, 0}, {"rest.offset", 104, 8, 60}, {"rest.len", 112, 8, 3},
     };
-    static const struct place no_lengths[] = {
-        {"max_payload_len", 2, 2, 65515}, {"header_len", 4, 1, 20}, {"error.kind", 8, 4, 1}, {"error.number", 12, 2, 0},
-        {"error.layer", 14, 2, 2}, {"error.required_len", 16, 8, 20}, {"error.len", 24, 8, 19},
+    static const struct place cut_read[] = {
+        {"fields", 0, 63, 0}, {"error.kind", 64, 4, 1}, {"error.number", 68, 2, 0}, {"error.layer", 70, 2, 1},
+        {"error.required_len", 72, 8, 60}, {"error.len", 80, 8, 59}, {"error.layer_start_offset", 88, 8, 0},
+        {"error.limit", 96, 8, 0}, {"rest", 104, 16, 0},
     };
-    static const struct place checksum[] = {{"checksum", 0, 2, 0xf95b}, {"accepted", 2, 1, 1}};
-    static const struct place made[] = {
-        {"total_len", 2, 2, 115}, {"dont_fragment", 6, 1, 1}, {"time_to_live", 10, 1, 64}, {"protocol", 11, 1, 17},
-        {"source", 14, 4, 0x0e0d0c0b}, {"destination", 18, 4, 0x1211100f}, {"error.kind", 64, 4, 0},
-    };
-    static const struct place not_made[] = {
-        {"error.kind", 64, 4, 5}, {"error.number", 68, 2, 5}, {"error.len", 80, 8, 65516}, {"error.limit", 96, 8, 65515},
+    static const struct place no_read[] = {
+        {"fields", 0, 63, 0}, {"error.kind", 64, 4, 3}, {"error.number", 68, 2, 4}, {"error.layer", 70, 2, 1},
+        {"error.required_len", 72, 8, 0}, {"error.len", 80, 8, 0}, {"error.layer_start_offset", 88, 8, 0},
+        {"error.limit", 96, 8, 0}, {"rest", 104, 16, 0},
     };
     struct etherparse_ipv4_view_answer seen = etherparse_ipv4_view(IPV4, sizeof IPV4);
+    struct etherparse_ipv4_view_answer long_seen = etherparse_ipv4_view(LONG_IPV4, sizeof LONG_IPV4);
+    struct etherparse_ipv4_view_answer not_seen = etherparse_ipv4_view(LONG_IPV4, 59);
     struct etherparse_ipv4_read_answer found = etherparse_ipv4_read(IPV4, sizeof IPV4);
-    struct etherparse_ipv4_bytes written = etherparse_ipv4_write(&found.fields);
-    struct etherparse_ipv4_lengths_answer some = etherparse_ipv4_lengths(258, 4);
-    struct etherparse_ipv4_lengths_answer none = etherparse_ipv4_lengths(19, 0);
-    struct etherparse_ipv4_header_checksum_answer computed = etherparse_ipv4_header_checksum(&found.fields);
+    struct etherparse_ipv4_read_answer long_found = etherparse_ipv4_read(LONG_IPV4, sizeof LONG_IPV4);
+    struct etherparse_ipv4_read_answer cut_off = etherparse_ipv4_read(LONG_IPV4, 59);
+    struct etherparse_ipv4_read_answer not_found = etherparse_ipv4_read(SMALL_IHL, sizeof SMALL_IHL);
+    COMPARE("ipv4_view", seen, view);
+    COMPARE("ipv4_view, long", long_seen, long_view);
+    COMPARE("ipv4_view, cut", not_seen, no_view);
+    COMPARE("ipv4_read", found, read);
+    COMPARE("ipv4_read, long", long_found, long_read);
+    compare_bytes("ipv4_read, long", "options", &long_found, 23, LONG_IPV4 + 20, 40);
+    COMPARE("ipv4_read, cut", cut_off, cut_read);
+    COMPARE("ipv4_read, small IHL", not_found, no_read);
+}
+
+/* The calls that take fields: those of the headers above, and some with the DSCP 64, which is too great. */
+static void compare_ipv4_fields(void)
+{
+    static const struct place written[] = {{"after the bytes", 24, 36, 0}, {"len", 60, 1, 24}};
+    static const struct place long_written[] = {{"len", 60, 1, 60}};
+    static const struct place not_written[] = {{"bytes and len", 0, 61, 0}};
+    static const struct place checksum[] = {{"checksum", 0, 2, 0xf95b}, {"accepted", 2, 1, 1}};
+    static const struct place no_checksum[] = {{"checksum", 0, 2, 0}, {"accepted", 2, 1, 0}};
+    static const struct place set[] = {
+        {"dscp", 0, 1, 10}, {"ecn", 1, 1, 1}, {"total_len", 2, 2, 0x0102}, {"identification", 4, 2, 0x0304},
+        {"dont_fragment", 6, 1, 1}, {"more_fragments", 7, 1, 0}, {"fragment_offset", 8, 2, 0x1506},
+        {"time_to_live", 10, 1, 5}, {"protocol", 11, 1, 8}, {"header_checksum", 12, 2, 0x0b0a},
+        {"source", 14, 4, 0x0e0d0c0b}, {"destination", 18, 4, 0x1211100f}, {"options_len", 22, 1, 4},
+        {"options", 23, 40, 0x16151413},
+    };
+    static const struct place accepted[] = {{"result", 0, 1, 1}};
+    struct etherparse_ipv4_read_answer found = etherparse_ipv4_read(IPV4, sizeof IPV4);
+    struct etherparse_ipv4_read_answer long_found = etherparse_ipv4_read(LONG_IPV4, sizeof LONG_IPV4);
+    struct etherparse_ipv4_fields fields, long_fields, too_great;
+    memcpy(&fields, &found, 64);
+    memcpy(&long_fields, &long_found, 64);
+    memcpy(&too_great, &found, 64);
+    memset(&too_great, 64, 1);
+    struct etherparse_ipv4_bytes bytes = etherparse_ipv4_write(&fields);
+    struct etherparse_ipv4_bytes long_bytes = etherparse_ipv4_write(&long_fields);
+    struct etherparse_ipv4_bytes no_bytes = etherparse_ipv4_write(&too_great);
+    struct etherparse_ipv4_header_checksum_answer computed = etherparse_ipv4_header_checksum(&fields);
+    struct etherparse_ipv4_header_checksum_answer not_computed = etherparse_ipv4_header_checksum(&too_great);
+    bool result = etherparse_ipv4_set_time_to_live(&fields, 5);
+    compare_bytes("ipv4_write", "bytes", &bytes, 0, IPV4, 24);
+    COMPARE("ipv4_write", bytes, written);
+    compare_bytes("ipv4_write, long", "bytes", &long_bytes, 0, LONG_IPV4, 60);
+    COMPARE("ipv4_write, long", long_bytes, long_written);
+    COMPARE("ipv4_write, too great", no_bytes, not_written);
+    COMPARE("ipv4_header_checksum", computed, checksum);
+    COMPARE("ipv4_header_checksum, too great", not_computed, no_checksum);
+    COMPARE("ipv4_set_time_to_live", result, accepted);
+    COMPARE("ipv4_set_time_to_live", fields, set);
+}
+
+static void compare_ipv4_numbers(void)
+{
+    static const struct place lengths[] = {
+        {"payload_len", 0, 2, 234}, {"max_payload_len", 2, 2, 65511}, {"header_len", 4, 1, 24}, {"ihl", 5, 1, 6},
+        {"error", 8, 40, 0},
+    };
+    static const struct place no_payload[] = {
+        {"payload_len", 0, 2, 0}, {"max_payload_len", 2, 2, 65515}, {"header_len", 4, 1, 20}, {"ihl", 5, 1, 5},
+        {"error.kind", 8, 4, 1}, {"error.number", 12, 2, 0}, {"error.layer", 14, 2, 2}, {"error.required_len", 16, 8, 20},
+        {"error.len", 24, 8, 19}, {"error.layer_start_offset", 32, 8, 0}, {"error.limit", 40, 8, 0},
+    };
+    static const struct place no_lengths[] = {
+        {"all lengths", 0, 6, 0}, {"error.kind", 8, 4, 6}, {"error.number", 12, 2, 0}, {"error.layer", 14, 2, 0},
+        {"error.required_len", 16, 8, 0}, {"error.len", 24, 8, 41}, {"error.layer_start_offset", 32, 8, 0},
+        {"error.limit", 40, 8, 0},
+    };
+    static const struct place made[] = {
+        {"dscp", 0, 1, 0}, {"ecn", 1, 1, 0}, {"total_len", 2, 2, 115}, {"identification", 4, 2, 0}, {"dont_fragment", 6, 1, 1},
+        {"more_fragments", 7, 1, 0}, {"fragment_offset", 8, 2, 0}, {"time_to_live", 10, 1, 64}, {"protocol", 11, 1, 17},
+        {"header_checksum", 12, 2, 0}, {"source", 14, 4, 0x0e0d0c0b}, {"destination", 18, 4, 0x1211100f},
+        {"options_len", 22, 1, 0}, {"options", 23, 40, 0}, {"error", 64, 40, 0},
+    };
+    static const struct place not_made[] = {
+        {"fields", 0, 63, 0}, {"error.kind", 64, 4, 5}, {"error.number", 68, 2, 5}, {"error.layer", 70, 2, 0},
+        {"error.required_len", 72, 8, 0}, {"error.len", 80, 8, 65516}, {"error.layer_start_offset", 88, 8, 0},
+        {"error.limit", 96, 8, 65515},
+    };
+    static const struct place defaults[] = {
+        {"dscp", 0, 1, 0}, {"ecn", 1, 1, 0}, {"total_len", 2, 2, 0}, {"identification", 4, 2, 0}, {"dont_fragment", 6, 1, 1},
+        {"more_fragments", 7, 1, 0}, {"fragment_offset", 8, 2, 0}, {"time_to_live", 10, 1, 0}, {"protocol", 11, 1, 255},
+        {"header_checksum", 12, 2, 0}, {"source", 14, 4, 0}, {"destination", 18, 4, 0}, {"options_len", 22, 1, 0},
+        {"options", 23, 40, 0},
+    };
+    struct etherparse_ipv4_lengths_answer all = etherparse_ipv4_lengths(258, 4);
+    struct etherparse_ipv4_lengths_answer some = etherparse_ipv4_lengths(19, 0);
+    struct etherparse_ipv4_lengths_answer none = etherparse_ipv4_lengths(258, 41);
     struct etherparse_ipv4_new_answer header = etherparse_ipv4_new(95, 64, 17, IPV4 + 12, IPV4 + 16);
     struct etherparse_ipv4_new_answer no_header = etherparse_ipv4_new(65516, 64, 17, IPV4 + 12, IPV4 + 16);
-    COMPARE("ipv4_view", seen, view);
-    COMPARE("ipv4_read", found, read);
-    COMPARE("ipv4_write", written, bytes);
-    COMPARE("ipv4_lengths", some, lengths);
-    COMPARE("ipv4_lengths", none, no_lengths);
-    COMPARE("ipv4_header_checksum", computed, checksum);
+    struct etherparse_ipv4_fields fields = etherparse_ipv4_default();
+    COMPARE("ipv4_lengths", all, lengths);
+    COMPARE("ipv4_lengths, total_len too small", some, no_payload);
+    COMPARE("ipv4_lengths, bad options_len", none, no_lengths);
     COMPARE("ipv4_new", header, made);
-    COMPARE("ipv4_new", no_header, not_made);
+    COMPARE("ipv4_new, too long", no_header, not_made);
+    COMPARE("ipv4_default", fields, defaults);
 }
 
 static void compare_ipv6(void)
@@ -107,54 +246,105 @@ static void compare_ipv6(void)
         {"source", 0, 8, 0x2726252423222120}, {"source + 8", 8, 8, 0x2f2e2d2c2b2a2928},
         {"destination", 16, 8, 0x3736353433323130}, {"destination + 8", 24, 8, 0x3f3e3d3c3b3a3938},
         {"flow_label", 32, 4, 0x34567}, {"payload_length", 36, 2, 0x89ab}, {"traffic_class", 38, 1, 0x12}, {"dscp", 39, 1, 4},
-        {"ecn", 40, 1, 2}, {"next_header", 41, 1, 0xcd}, {"hop_limit", 42, 1, 0xef}, {"error.kind", 48, 4, 0},
+        {"ecn", 40, 1, 2}, {"next_header", 41, 1, 0xcd}, {"hop_limit", 42, 1, 0xef}, {"error", 48, 40, 0},
         {"rest.offset", 88, 8, 40}, {"rest.len", 96, 8, 3},
+    };
+    static const struct place cut_view[] = {
+        {"view", 0, 43, 0}, {"error.kind", 48, 4, 1}, {"error.number", 52, 2, 0}, {"error.layer", 54, 2, 3},
+        {"error.required_len", 56, 8, 40}, {"error.len", 64, 8, 39}, {"error.layer_start_offset", 72, 8, 0},
+        {"error.limit", 80, 8, 0}, {"rest", 88, 16, 0},
+    };
+    static const struct place no_view[] = {
+        {"view", 0, 43, 0}, {"error.kind", 48, 4, 2}, {"error.number", 52, 2, 4}, {"error.layer", 54, 2, 3},
+        {"error.required_len", 56, 8, 0}, {"error.len", 64, 8, 0}, {"error.layer_start_offset", 72, 8, 0},
+        {"error.limit", 80, 8, 0}, {"rest", 88, 16, 0},
     };
     static const struct place read[] = {
         {"source", 0, 8, 0x2726252423222120}, {"source + 8", 8, 8, 0x2f2e2d2c2b2a2928},
         {"destination", 16, 8, 0x3736353433323130}, {"destination + 8", 24, 8, 0x3f3e3d3c3b3a3938},
         {"flow_label", 32, 4, 0x34567}, {"payload_length", 36, 2, 0x89ab}, {"traffic_class", 38, 1, 0x12},
-        {"next_header", 39, 1, 0xcd}, {"hop_limit", 40, 1, 0xef}, {"error.kind", 48, 4, 0}, {"rest.offset", 88, 8, 40},
+        {"next_header", 39, 1, 0xcd}, {"hop_limit", 40, 1, 0xef}, {"error", 48, 40, 0}, {"rest.offset", 88, 8, 40},
         {"rest.len", 96, 8, 3},
     };
-    static const struct place bytes[] = {{"bytes", 0, 8, 0xefcdab8967452361}, {"len", 40, 1, 40}};
-    static const struct place short_of[] = {
-        {"error.kind", 48, 4, 1}, {"error.number", 52, 2, 0}, {"error.layer", 54, 2, 3}, {"error.required_len", 56, 8, 40},
-        {"error.len", 64, 8, 39}, {"error.layer_start_offset", 72, 8, 0}, {"error.limit", 80, 8, 0},
+    static const struct place no_read[] = {
+        {"fields", 0, 41, 0}, {"error.kind", 48, 4, 1}, {"error.number", 52, 2, 0}, {"error.layer", 54, 2, 3},
+        {"error.required_len", 56, 8, 40}, {"error.len", 64, 8, 39}, {"error.layer_start_offset", 72, 8, 0},
+        {"error.limit", 80, 8, 0}, {"rest", 88, 16, 0},
     };
+    static const struct place defaults[] = {
+        {"source", 0, 16, 0}, {"destination", 16, 16, 0}, {"flow_label", 32, 4, 0}, {"payload_length", 36, 2, 0},
+        {"traffic_class", 38, 1, 0}, {"next_header", 39, 1, 255}, {"hop_limit", 40, 1, 0},
+    };
+    static const struct place written[] = {{"len", 40, 1, 40}};
+    static const struct place not_written[] = {{"bytes and len", 0, 41, 0}};
+    struct etherparse_ipv6_view_answer seen = etherparse_ipv6_view(IPV6, sizeof IPV6);
+    struct etherparse_ipv6_view_answer cut_off = etherparse_ipv6_view(IPV6, 39);
+    struct etherparse_ipv6_view_answer not_seen = etherparse_ipv6_view(LONG_IPV4, sizeof LONG_IPV4);
+    struct etherparse_ipv6_read_answer found = etherparse_ipv6_read(IPV6, sizeof IPV6);
+    struct etherparse_ipv6_read_answer not_found = etherparse_ipv6_read(IPV6, 39);
+    struct etherparse_ipv6_fields header = etherparse_ipv6_default();
+    struct etherparse_ipv6_fields fields, too_great;
+    memcpy(&fields, &found, 44);
+    memcpy(&too_great, &found, 44);
+    memset((uint8_t *)&too_great + 34, 0x10, 1);
+    struct etherparse_ipv6_bytes bytes = etherparse_ipv6_write(&fields);
+    struct etherparse_ipv6_bytes no_bytes = etherparse_ipv6_write(&too_great);
+    COMPARE("ipv6_view", seen, view);
+    COMPARE("ipv6_view, cut", cut_off, cut_view);
+    COMPARE("ipv6_view, IPv4", not_seen, no_view);
+    COMPARE("ipv6_read", found, read);
+    COMPARE("ipv6_read, cut", not_found, no_read);
+    COMPARE("ipv6_default", header, defaults);
+    compare_bytes("ipv6_write", "bytes", &bytes, 0, IPV6, 40);
+    COMPARE("ipv6_write", bytes, written);
+    COMPARE("ipv6_write, flow label too great", no_bytes, not_written);
+}
+
+static void compare_walks(void)
+{
     static const struct place skipped[] = {
-        {"next_header", 0, 1, 43}, {"error.kind", 8, 4, 0}, {"rest.offset", 48, 8, 8}, {"rest.len", 56, 8, 3},
+        {"next_header", 0, 1, 43}, {"error", 8, 40, 0}, {"rest.offset", 48, 8, 8}, {"rest.len", 56, 8, 3},
+    };
+    static const struct place walked[] = {
+        {"next_header", 0, 1, 6}, {"error", 8, 40, 0}, {"rest.offset", 48, 8, 8}, {"rest.len", 56, 8, 3},
+    };
+    static const struct place not_skipped[] = {
+        {"next_header", 0, 1, 0}, {"error.kind", 8, 4, 1}, {"error.number", 12, 2, 0}, {"error.layer", 14, 2, 4},
+        {"error.required_len", 16, 8, 8}, {"error.len", 24, 8, 7}, {"error.layer_start_offset", 32, 8, 0},
+        {"error.limit", 40, 8, 0}, {"rest", 48, 16, 0},
     };
     static const struct place incomplete[] = {
         {"next_header", 0, 1, 0}, {"error.kind", 8, 4, 1}, {"error.number", 12, 2, 0}, {"error.layer", 14, 2, 4},
         {"error.required_len", 16, 8, 16}, {"error.len", 24, 8, 3}, {"error.layer_start_offset", 32, 8, 8},
-        {"error.limit", 40, 8, 0},
+        {"error.limit", 40, 8, 0}, {"rest", 48, 16, 0},
     };
     static const struct place too_many[] = {
         {"next_header", 0, 1, 0}, {"error.kind", 8, 4, 4}, {"error.number", 12, 2, 43}, {"error.layer", 14, 2, 4},
         {"error.required_len", 16, 8, 0}, {"error.len", 24, 8, 0}, {"error.layer_start_offset", 32, 8, 8},
-        {"error.limit", 40, 8, 1},
+        {"error.limit", 40, 8, 1}, {"rest", 48, 16, 0},
     };
-    struct etherparse_ipv6_view_answer seen = etherparse_ipv6_view(IPV6, sizeof IPV6);
-    struct etherparse_ipv6_read_answer found = etherparse_ipv6_read(IPV6, sizeof IPV6);
-    struct etherparse_ipv6_read_answer cut = etherparse_ipv6_read(IPV6, 39);
-    struct etherparse_ipv6_bytes written = etherparse_ipv6_write(&found.fields);
     struct etherparse_ipv6_walk_answer one = etherparse_ipv6_skip(CHAIN, sizeof CHAIN, 0);
-    struct etherparse_ipv6_walk_answer walk = etherparse_ipv6_walk(CHAIN, sizeof CHAIN, 0);
+    struct etherparse_ipv6_walk_answer none = etherparse_ipv6_skip(CHAIN, 7, 0);
+    struct etherparse_ipv6_walk_answer all = etherparse_ipv6_walk(FRAGMENT, sizeof FRAGMENT, 44);
+    struct etherparse_ipv6_walk_answer cut = etherparse_ipv6_walk(CHAIN, sizeof CHAIN, 0);
+    struct etherparse_ipv6_walk_answer allowed = etherparse_ipv6_walk_up_to(FRAGMENT, sizeof FRAGMENT, 44, 1);
     struct etherparse_ipv6_walk_answer limited = etherparse_ipv6_walk_up_to(CHAIN, sizeof CHAIN, 0, 1);
-    COMPARE("ipv6_view", seen, view);
-    COMPARE("ipv6_read", found, read);
-    COMPARE("ipv6_read", cut, short_of);
-    COMPARE("ipv6_write", written, bytes);
     COMPARE("ipv6_skip", one, skipped);
-    COMPARE("ipv6_walk", walk, incomplete);
-    COMPARE("ipv6_walk_up_to", limited, too_many);
+    COMPARE("ipv6_skip, cut", none, not_skipped);
+    COMPARE("ipv6_walk", all, walked);
+    COMPARE("ipv6_walk, cut", cut, incomplete);
+    COMPARE("ipv6_walk_up_to", allowed, walked);
+    COMPARE("ipv6_walk_up_to, too many", limited, too_many);
 }
 
 int main(void)
 {
-    compare_ipv4();
+    compare_sums();
+    compare_ipv4_reads();
+    compare_ipv4_fields();
+    compare_ipv4_numbers();
     compare_ipv6();
+    compare_walks();
     printf("%d numbers stand where they should, %d do not.\n", right, wrong);
     return wrong != 0;
 }
