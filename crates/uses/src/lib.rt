@@ -14,6 +14,7 @@ pub mod fragment;
 pub mod ip_slice;
 pub mod ipv4_view;
 pub mod ipv6_view;
+mod laws;
 pub mod payload;
 pub mod queue;
 pub mod tcp;
