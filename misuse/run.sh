@@ -52,9 +52,21 @@ plant() {
   fi
 }
 
-# Prints why a case fails, or nothing. The check first reads the crate and the library below it, and
-# says 'only=' where both compile. It then goes on to the proofs, whose errors tell nothing here, as
-# the copy has no definitions.
+# What the check says of the crate that is laid. It first reads it and the library below it, and then
+# says 'only=' if both compile, or 'mend these first'. It then goes on to the proofs, whose errors tell
+# nothing here, as the copy has no definitions. If it says neither, the reading was left out, which a
+# machine that is short of memory can do to it. Then it is asked once more.
+check() {
+  local said=
+  for _ in 1 2; do
+    rm -rf "$room"/crates/*/out
+    said=$(cd "$crate" && timeout 120 rt check 2>&1) || true
+    if grep -qE '^only=|mend these first' <<< "$said"; then break; fi
+  done
+  printf '%s\n' "$said"
+}
+
+# Prints why a case fails, or nothing.
 why_failed() {
   local name words said errors line
   name=$(basename "$1" .txt)
@@ -62,7 +74,7 @@ why_failed() {
   [[ -n $words ]] || { echo "it names no words of the checker"; return; }
   lay
   plant "$1" || { echo "its edit stands in the library twice, or not at all"; return; }
-  said=$(cd "$crate" && timeout 120 rt check 2>&1) || true
+  said=$(check)
   if grep -q '^only=' <<< "$said"; then
     echo "the check accepts it"
     return

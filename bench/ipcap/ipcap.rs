@@ -175,7 +175,7 @@ fn read_ipv4(packet: &[u8]) -> Result<Shown, String> {
         source: Address::V4(header.source),
         destination: Address::V4(header.destination),
         upper,
-        detail: detail_behind(mark, 1, upper, payload),
+        detail: detail_behind(offset != 0, 1, upper, payload),
         len,
         hops: header.time_to_live,
         mark,
@@ -188,22 +188,20 @@ fn read_ipv6(packet: &[u8]) -> Result<Shown, String> {
     let (header, rest) = Ipv6Header::from_slice(packet).map_err(|e| e.to_string())?;
     let len = usize::from(header.payload_length);
     let behind = rest.get(..len).ok_or("the packet is cut off")?;
-    let (mut number, mut payload, mut mark) = (header.next_header, behind, None);
-    while Ipv6Header::is_skippable_header_extension(number) {
+    let (mut number, mut payload, mut mark, mut is_later) = (header.next_header, behind, None, false);
+    while !is_later && Ipv6Header::is_skippable_header_extension(number) {
         let front = payload;
         let is_fragment = number == IpNumber::IPV6_FRAGMENTATION_HEADER;
         (number, payload) =
             Ipv6Header::skip_header_extension_in_slice(front, number).map_err(|e| e.to_string())?;
-        if is_fragment && mark.is_none() {
+        if is_fragment {
             let field = u16::from_be_bytes([front[2], front[3]]);
             let (offset, more) = (u32::from(field & 0xfff8), field & 1 == 1);
-            if more || offset != 0 {
+            if mark.is_none() && (more || offset != 0) {
                 let identification = u32::from_be_bytes([front[4], front[5], front[6], front[7]]);
                 mark = Some(Mark { identification, offset, more });
             }
-            if offset != 0 {
-                break;
-            }
+            is_later = offset != 0;
         }
     }
     let upper = number.0;
@@ -222,7 +220,7 @@ fn read_ipv6(packet: &[u8]) -> Result<Shown, String> {
         source: Address::V6(header.source),
         destination: Address::V6(header.destination),
         upper,
-        detail: detail_behind(mark, 58, upper, payload),
+        detail: detail_behind(is_later, 58, upper, payload),
         len: payload.len(),
         hops: header.hop_limit,
         mark,
@@ -239,8 +237,8 @@ fn segment_of(icmp: u8, number: u8, payload: &[u8]) -> Option<&[u8]> {
     (number == 6 && payload.len() >= 20 || number == icmp && payload.len() >= 4).then_some(payload)
 }
 
-fn detail_behind(mark: Option<Mark>, icmp: u8, number: u8, payload: &[u8]) -> Detail {
-    if mark.is_some_and(|mark| mark.offset != 0) {
+fn detail_behind(is_later: bool, icmp: u8, number: u8, payload: &[u8]) -> Detail {
+    if is_later {
         return Detail::Nothing;
     }
     if number == 17 && payload.len() >= 8 || number == 6 && payload.len() >= 20 {

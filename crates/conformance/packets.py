@@ -427,10 +427,11 @@ def echo(version, data=b'', kind=None, code=0, change='right', number=0x1234, se
     return message[:2] + struct.pack('!H', made) + message[4:]
 
 
-def extension(number, following, units=0, fill=0):
-    """an extension header; units as its second byte counts them, for a fragment its second word"""
+def extension(number, following, units=0, fill=0, place=0):
+    """an extension header; units as its second byte counts them, for a fragment its second word; the
+    identification of a fragment tells its place in the chain"""
     if number == 44:
-        return struct.pack('!BBHI', following, fill, units, 0x0a0b0c0d)
+        return struct.pack('!BBHI', following, fill, units, 0x0a0b0c0d + place)
     length = (units + 2) * 4 if number == 51 else (units + 1) * 8
     # segments left of a routing header are 0, options are padding (RFC 8200 section 4.2)
     inside = bytes(length - 2) if number != 0 and number != 60 else bytes([1, length - 4]) + bytes(
@@ -442,7 +443,7 @@ def in_chain(numbers, upper, body, units=None):
     """extension headers in front of an upper layer, and the number of the first"""
     following = [*numbers[1:], upper]
     of = units or {}
-    return numbers[0], b''.join(extension(number, n, of.get(i, 2 if number == 51 else 0))
+    return numbers[0], b''.join(extension(number, n, of.get(i, 2 if number == 51 else 0), place=i)
                                 for i, (number, n) in enumerate(zip(numbers, following))) + body
 
 

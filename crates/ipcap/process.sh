@@ -1,8 +1,8 @@
 #!/bin/sh
 # Runs the built program as a process, and compares its exit code and all its output with what is
 # expected: on the capture in `stdin`, on that capture cut at each of its bytes and with bytes
-# changed, on its packets after the headers of each other link type, and with standard input or
-# output that is closed, full or read by nobody.
+# changed, on its packets in each format and after the headers of each other link type, on records
+# that are too long, and with standard input or output that is closed, full or read by nobody.
 #
 #     ./process.sh            both builds that `rt ci` leaves in out/: ipcap, and ipcap.by-rattle,
 #                             which Rattle's own compiler makes after it
@@ -244,6 +244,28 @@ cut_extensions() {
     judge 'IPv6 packets that are cut among their extension headers' $? 0
 }
 
+# A later fragment of a first fragment: what follows the second fragment header is no header.
+nested_fragment() {
+    {
+        dd if=stdin bs=1 count=20 2>/dev/null
+        number 101
+        number 1700000001
+        number 1001
+        number 68
+        number 68
+        printf '\140\0\0\0\0\34\54\100'
+        for last in 1 2; do
+            printf "\\40\\1\\15\\270\\0\\0\\0\\0\\0\\0\\0\\0\\0\\0\\0\\$last"
+        done
+        printf '\54\0\0\1\0\0\0\1\21\0\5\310\0\0\0\2\36\70\247\340\1\230\172\142\345\306\135\221'
+    } >"$room/input"
+    echo '1 1700000001.001001 2001:db8::1 > 2001:db8::2 UDP - length 12 hops 64 fragment 1@0+' \
+        'checksums none none' >"$room/wanted"
+    closing 1 0 1 0 0 0 >"$room/wanted.errors"
+    run
+    judge 'a fragment of a fragment' $? 0
+}
+
 # fronts TYPE HEADER: frames that end within this link header, at each of its bytes.
 fronts() {
     printf "$2" >"$room/front"
@@ -295,6 +317,79 @@ link_types() {
     fronts 276 "\10\0$sent"
     behind 276 "\10\0$sent" "\206\335$sent" "\10\6$sent" 'type 0x0806'
     behind 276 "\201\0$sent\0\12\10\0" "\201\0$sent\0\12\206\335" "\0\4$sent" 'type 0x0004'
+}
+
+# format MAGIC REST FRACTION: a file with this magic number, and with the rest of its header and a
+# record's header as `printf` takes them, has the first packet of `stdin` at this part of a second.
+format() {
+    {
+        printf "$1$2"
+        dd if=stdin bs=1 skip=54 count=33 2>/dev/null
+    } >"$room/input"
+    echo "1 1700000001.$3 192.0.2.1 > 198.51.100.7 UDP 53>40000 length 13 hops 64 fragment -" \
+        'checksums right right' >"$room/wanted"
+    closing 1 1 0 0 0 0 >"$room/wanted.errors"
+    run
+    judge "the magic number $1" $? 0
+}
+
+# Both byte orders and both resolutions, with upper bits of the link type set.
+formats() {
+    zeros='\0\0\0\0\0\0\0\0'
+    low="\2\0\4\0$zeros"'\0\0\4\0\145\0\0\44\1\361\123\145\351\3\0\0\41\0\0\0\41\0\0\0'
+    high="\0\2\0\4$zeros"'\0\4\0\0\44\0\0\145\145\123\361\1\0\0\3\351\0\0\0\41\0\0\0\41'
+    format '\324\303\262\241' "$low" 001001
+    format '\115\74\262\241' "$low" 000001001
+    format '\241\262\303\324' "$high" 001001
+    format '\241\262\74\115' "$high" 000001001
+}
+
+# no_capture PLACE BYTE ERROR: `stdin` with this byte, as `printf` takes it, at PLACE is refused.
+no_capture() {
+    cp stdin "$room/input"
+    printf "$2" | dd of="$room/input" bs=1 seek="$1" conv=notrunc 2>/dev/null
+    : >"$room/wanted"
+    echo "error: $3" >"$room/wanted.errors"
+    run
+    judge "$3" $? 2
+}
+
+no_captures() {
+    no_capture 0 '\325' 'no capture: the magic number is 3586372257'
+    no_capture 4 '\1' 'no capture: the version is 1.4'
+    no_capture 6 '\5' 'no capture: the version is 2.5'
+    no_capture 20 '\223' 'link type 147 is not read'
+}
+
+# A record of one byte more than is read, the first packet of `stdin`, and a record as long as the
+# first one, of which there are 9 bytes.
+long_records() {
+    {
+        dd if=stdin bs=1 count=20 2>/dev/null
+        number 101
+        dd if=stdin bs=1 skip=24 count=8 2>/dev/null
+        number 262145
+        number 262146
+        head -c 262145 /dev/zero
+        record 24 '' 54 33
+        dd if=stdin bs=1 skip=100 count=8 2>/dev/null
+        number 262145
+        number 262145
+        head -c 9 /dev/zero
+    } >"$room/input"
+    {
+        echo '1 1700000001.001001 skipped: 262145 bytes are too many'
+        echo '2 1700000001.001001 192.0.2.1 > 198.51.100.7 UDP 53>40000 length 13 hops 64' \
+            'fragment - checksums right right'
+        echo '3 1700000002.002002 skipped: 262145 bytes are too many'
+    } >"$room/wanted"
+    {
+        echo 'error: the last record is cut off: it needs 262161 bytes, and there are 25'
+        echo '3 packets: 1 IPv4, 0 IPv6, 0 other, 0 refused, 2 skipped, 1 cut,' \
+            '0 with a wrong checksum'
+    } >"$room/wanted.errors"
+    run
+    judge 'records that are too long' $? 1
 }
 
 # The keywords of IANA's registry of protocol numbers.
@@ -393,9 +488,13 @@ for build; do
     whole_capture
     arguments
     cut_captures
+    formats
+    no_captures
+    long_records
     link_types
     cut_packets
     cut_extensions
+    nested_fragment
     protocols
     changed_captures
     failing_ends

@@ -5,8 +5,7 @@ use crate::headers::too_short;
 use etherparse::err::{Layer, LenError};
 use etherparse::{IpFragOffset, IpNumber, Ipv4Header, Ipv6Header, LenSource};
 use std::process::Abort;
-use uses::capture::{ByteOrder, CaptureError, CutOff, FileHeader, Format, Resolution, next_record};
-use uses::checksum::is_udp_right;
+use uses::capture::{ByteOrder, FileHeader, Format, Resolution, next_record};
 use uses::echo::{icmpv4_reply, icmpv6_reply};
 use uses::fragment::{FragmentHeader, Ipv4Key, Ipv6Key, ipv4_key, ipv6_key};
 use uses::ip_slice::{IpSlice, IpSliceError};
@@ -32,13 +31,6 @@ const IPV4_PACKET: [u8; 26] = [
 const IPV6_PACKET: [u8; 53] = [
     0x60, 0, 0, 0, 0, 12, 44, 64, 0x20, 0x01, 0x0d, 0xb8, 0, 0, 0, 0, 0, 0, 0, 0, 0, 0, 0, 1, 0x20,
     0x01, 0x0d, 0xb8, 0, 0, 0, 0, 0, 0, 0, 0, 0, 0, 0, 2, 17, 0, 0, 9, 1, 2, 3, 4, 5, 6, 7, 8, 9,
-];
-
-// The same fragment behind an atomic fragment header, which has identification 9.
-const ATOMIC_BEFORE_A_PART: [u8; 60] = [
-    0x60, 0, 0, 0, 0, 20, 44, 64, 0x20, 0x01, 0x0d, 0xb8, 0, 0, 0, 0, 0, 0, 0, 0, 0, 0, 0, 1, 0x20,
-    0x01, 0x0d, 0xb8, 0, 0, 0, 0, 0, 0, 0, 0, 0, 0, 0, 2, 44, 0, 0, 0, 0, 0, 0, 9, 17, 0, 0, 9, 1,
-    2, 3, 4, 5, 6, 7, 8,
 ];
 
 // A file with one record: 3 bytes of a packet of 5, captured 2 microseconds into second 1.
@@ -127,27 +119,6 @@ fn fragments_have_the_key_of_their_packet(rt: HostRuntime) {
     assert_eq!(rt; keys, [Ok(None), Ok(Some(key))]);
 }
 
-// An atomic fragment header with another identification comes before the one that tells of a part.
-#[test]
-fn an_atomic_fragment_header_is_passed(rt: HostRuntime) {
-    let key = Ipv6Key {
-        source: FIRST,
-        destination: SECOND,
-        identification: 0x01020304,
-    };
-    let mut packet = ATOMIC_BEFORE_A_PART;
-    assert_eq!(rt; ipv6_key(&packet), Ok(Some(key)));
-    assert_eq!(rt; is_udp_right(&packet), Ok(None));
-    let sliced = IpSlice::from_slice(&packet).expect(&rt, "a packet");
-    assert!(rt; sliced.is_fragment());
-    // With both of them atomic the packet is whole.
-    packet[50] = 0;
-    packet[51] = 0;
-    assert_eq!(rt; ipv6_key(&packet), Ok(None));
-    let sliced = IpSlice::from_slice(&packet).expect(&rt, "a packet");
-    assert!(rt; !sliced.is_fragment());
-}
-
 #[test]
 fn packets_are_cut_at_their_length_field(rt: HostRuntime) {
     let sliced = IpSlice::from_slice(&IPV4_PACKET).expect(&rt, "a packet");
@@ -215,35 +186,6 @@ fn behind_a_later_fragment_header_stands_no_header(rt: HostRuntime) {
 }
 
 #[test]
-fn packets_are_refused_with_places_in_the_packet(rt: HostRuntime) {
-    let refused = |packet: &[u8]| IpSlice::from_slice(packet).err();
-    assert_eq!(rt; refused(&[]), Some(IpSliceError::Empty));
-    let other = IpSliceError::UnexpectedVersion { version_number: 5 };
-    assert_eq!(rt; refused(&[0x50]), Some(other));
-    let short = LenError {
-        required_len: 24,
-        len: 22,
-        len_source: LenSource::Slice,
-        layer: Layer::Ipv4Packet,
-        layer_start_offset: 0,
-    };
-    assert_eq!(rt;
-        refused(&IPV4_PACKET[..22]),
-        Some(IpSliceError::Packet(short))
-    );
-    let mut packet = IPV6_PACKET;
-    packet[5] = 4;
-    let inside = LenError {
-        required_len: 8,
-        len: 4,
-        len_source: LenSource::Slice,
-        layer: Layer::Ipv6ExtHeader,
-        layer_start_offset: 40,
-    };
-    assert_eq!(rt; refused(&packet), Some(IpSliceError::Extensions(inside)));
-}
-
-#[test]
 fn a_capture_hands_its_packets_over(rt: HostRuntime) {
     let (header, records) = FileHeader::from_slice(&CAPTURE).expect(&rt, "a file header");
     let format = Format {
@@ -265,26 +207,6 @@ fn a_capture_hands_its_packets_over(rt: HostRuntime) {
         }
         _ => rt.abort(),
     }
-}
-
-#[test]
-fn a_capture_that_is_cut_or_of_another_format_is_refused(rt: HostRuntime) {
-    let (header, records) = FileHeader::from_slice(&CAPTURE).expect(&rt, "a file header");
-    let cut = |required_len, len| CutOff { required_len, len };
-    assert_eq!(rt; next_record(&header, &records[..15]), Err(cut(16, 15)));
-    assert_eq!(rt; next_record(&header, &records[..18]), Err(cut(19, 18)));
-    let refused = |file: &[u8]| FileHeader::from_slice(file).err();
-    assert_eq!(rt;
-        refused(&CAPTURE[..23]),
-        Some(CaptureError::CutOff(cut(24, 23)))
-    );
-    let mut file = CAPTURE;
-    file[0] = 0xd5;
-    assert_eq!(rt; refused(&file), Some(CaptureError::Magic(0xd5c3b2a1)));
-    let mut file = CAPTURE;
-    file[6] = 5;
-    let other = CaptureError::Version { major: 2, minor: 5 };
-    assert_eq!(rt; refused(&file), Some(other));
 }
 
 #[test]

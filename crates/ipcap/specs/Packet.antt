@@ -10,7 +10,7 @@ use Rattle.etherparse.specs.declared.err.LenError.{LenError}
 use Rattle.etherparse.specs.declared.net.ipv4_header.Ipv4Header.{Ipv4Header}
 use Rattle.etherparse.specs.declared.net.ipv6_header.Ipv6Header.{Ipv6Header}
 use Rattle.uses.specs.Fragment.{HasPartBehind, IsWholeBehind, RefusesPartBehind}
-use Rattle.uses.specs.IpSlice.{IsIpPacket, RefusesIp, payload_of, upper_of}
+use Rattle.uses.specs.IpSlice.{EndsLater, IsIpPacket, RefusesIp, upper_of}
 use Rattle.uses.specs.declared.fragment.FragmentHeader.{FragmentHeader}
 use Rattle.uses.specs.declared.ip_slice.IpSlice.{IpSlice}
 use Rattle.uses.specs.declared.ip_slice.IpSlice.TheVariants as slice
@@ -40,11 +40,6 @@ abbrev pub hops_of : IpSlice → ℕ
 hops_of (slice.Ipv4 header payload) = header.time_to_live
 hops_of (slice.Ipv6 header extensions upper payload) = header.hop_limit
 
--- the protocol of a version's control messages: ICMP for IPv4, ICMPv6 for IPv6
-abbrev pub icmp_of : IpSlice → ℕ
-icmp_of (slice.Ipv4 header payload) = 1
-icmp_of (slice.Ipv6 header extensions upper payload) = 58
-
 -- how long the payload is by the length field, also where the capture cut it; or what stands behind
 -- whole extension headers, where the capture ends within another one
 abbrev pub len_of : IpSlice → ℕ
@@ -65,11 +60,30 @@ detail_of is_cut icmp number payload =
     then Message (slice_index payload 0) (slice_index payload 1)
     else Nothing
 
--- a fragment that is not the first does not begin with a header
-abbrev pub detail_behind : Bool → Option Mark → ℕ → ℕ → List ℕ → Detail
-detail_behind is_cut None icmp number payload = detail_of is_cut icmp number payload
-detail_behind is_cut (Some mark) icmp number payload =
-    if mark.offset == 0 then detail_of is_cut icmp number payload else Nothing
+-- the same, unless it is the payload of a fragment that is not the first: that begins with no header
+abbrev pub detail_behind : Bool → Bool → ℕ → ℕ → List ℕ → Detail
+detail_behind is_cut later icmp number payload =
+    if later then Nothing else detail_of is_cut icmp number payload
+
+-- what is shown of the header that the payload of an IPv4 packet begins with
+abbrev pub ipv4_detail : Bool → Ipv4Header → List ℕ → Detail
+ipv4_detail is_cut header payload =
+    detail_behind is_cut (not (header.fragment_offset == 0)) 1 header.protocol payload
+
+-- the same of an IPv6 packet; any of its fragment headers can be that of a later fragment
+pub record IsIpv6Detail (is_cut : Bool) (extensions : List ℕ) (first upper : ℕ)
+    (payload : List ℕ) (detail : Detail) : Type 0 where
+  pub later : Bool
+  pub number : ℕ
+  pub rest : List ℕ
+  pub ends : EndsLater later extensions first number rest
+  pub shown : detail ≡ detail_behind is_cut later 58 upper payload
+
+-- the same of a packet in these parts
+abbrev pub IsDetail : Bool → IpSlice → Detail → Type 0
+IsDetail is_cut (slice.Ipv4 header payload) detail = detail ≡ ipv4_detail is_cut header payload.now
+IsDetail is_cut (slice.Ipv6 header extensions upper payload) detail =
+    IsIpv6Detail is_cut extensions.now header.next_header upper payload.now detail
 
 -- the place of an IPv4 fragment (RFC 791 section 3.1), whose offset is in units of 8 bytes
 abbrev pub ipv4_mark : Ipv4Header → Option Mark
@@ -204,8 +218,7 @@ pub record ShowsSlice (is_cut : Bool) (packet : List ℕ) (parts : IpSlice) (sho
   pub source : shown.source ≡ source_of parts
   pub destination : shown.destination ≡ destination_of parts
   pub upper : shown.upper ≡ upper_of parts
-  pub detail : shown.detail
-      ≡ detail_behind is_cut shown.mark (icmp_of parts) (upper_of parts) (payload_of parts)
+  pub detail : IsDetail is_cut parts shown.detail
   pub len : shown.len ≡ len_of parts
   pub hops : shown.hops ≡ hops_of parts
   pub mark : IsMark parts shown.mark

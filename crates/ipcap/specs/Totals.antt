@@ -1,5 +1,5 @@
 -- What is counted.
-use Rattle.std.specs.Prelude.{◌+◌}
+use Rattle.std.specs.Prelude.{◌+◌, ◌^◌, ◌<◌}
 use Rattle.std.specs.Int.{from_bool}
 use Rattle.ipcap.specs.declared.totals.Outcome.{Outcome}
 use Rattle.ipcap.specs.declared.totals.Totals.{Totals}
@@ -29,3 +29,9 @@ counted outcome totals = record {
   cut = totals.cut + from_bool outcome.is_cut;
   wrong = totals.wrong + from_bool outcome.is_wrong;
 }
+
+-- each count is less than 2^64
+abbrev pub Fits : Totals → Type 0
+Fits totals = (totals.records < 2 ^ 64) × (totals.ipv4 < 2 ^ 64) × (totals.ipv6 < 2 ^ 64)
+    × (totals.other < 2 ^ 64) × (totals.refused < 2 ^ 64) × (totals.skipped < 2 ^ 64)
+    × (totals.cut < 2 ^ 64) × (totals.wrong < 2 ^ 64)

@@ -4,19 +4,19 @@ ghost use Rattle.std.specs.Prelude.{◌≡◌, ◌↔◌, [], ◌∷◌, IfErr, 
 ghost use Rattle.std.specs.Prelude.{◌≤◌, ◌⊎◌, length, option_map, take};
 ghost use Rattle.etherparse.specs.Ipv4Header.{ipv4_header_len};
 ghost use Rattle.ipcap.specs.Cut.{IsCutPacket};
-ghost use Rattle.ipcap.specs.Packet.{IsPayloadVerdictIpv4, IsPayloadVerdictIpv6};
+ghost use Rattle.ipcap.specs.Packet.{IsIpv6Detail, IsPayloadVerdictIpv4, IsPayloadVerdictIpv6};
 ghost use Rattle.etherparse.specs.WordSums.{SumsToAllOnes, ones_complement_sum};
 ghost use Rattle.uses.specs.IpSlice.{IsIpPacket, RefusesIp};
 ghost use Rattle.ipcap.specs.Packet.{IsMarkedBy, IsRefused, IsRightIpv4, IsRightIpv6, IsShownOf};
 ghost use Rattle.ipcap.specs.Packet.{IsVerdictIpv4, IsVerdictIpv6, Judges, ShowsNoFragment};
-ghost use Rattle.ipcap.specs.Packet.{ShowsSlice, detail_behind, detail_of, ipv4_mark, segment_of};
-ghost use Rattle.ipcap.specs.Packet.{has_no_checksum};
+ghost use Rattle.ipcap.specs.Packet.{ShowsSlice, detail_behind, detail_of, ipv4_detail, ipv4_mark};
+ghost use Rattle.ipcap.specs.Packet.{has_no_checksum, segment_of};
 
 use crate::cut::cut_slice;
 use etherparse::checksum::u64_16bit_word;
 use etherparse::{IpNumber, Ipv4Header, Ipv6Header};
 use uses::fragment::part_behind;
-use uses::ip_slice::{IpSlice, IpSliceError};
+use uses::ip_slice::{IpSlice, IpSliceError, behind_extensions};
 
 /// An address of either version.
 #[derive(Clone, Copy, Debug, PartialEq, Eq)]
@@ -145,7 +145,7 @@ fn shown_of(is_cut: bool, packet: &[u8], slice: &IpSlice) -> Shown
                 source: Address::V4(header.source),
                 destination: Address::V4(header.destination),
                 upper,
-                detail: detail_behind(is_cut, mark, 1, upper, payload),
+                detail: ipv4_detail(is_cut, header, payload),
                 len: usize::from(header.total_len).saturating_sub(header.header_len()),
                 hops: header.time_to_live,
                 mark,
@@ -170,7 +170,7 @@ fn shown_of(is_cut: bool, packet: &[u8], slice: &IpSlice) -> Shown
                 source: Address::V6(header.source),
                 destination: Address::V6(header.destination),
                 upper,
-                detail: detail_behind(is_cut, mark, 58, upper, payload),
+                detail: ipv6_detail(is_cut, extensions, header.next_header, upper, payload),
                 len: usize::from(header.payload_length).saturating_sub(extensions.len()),
                 hops: header.hop_limit,
                 mark,
@@ -213,14 +213,36 @@ fn ipv6_mark(extensions: &[u8], first: IpNumber) -> Option<Mark>
     }
 }
 
-// What is shown of the header that a payload begins with, if it is its first part.
-fn detail_behind(is_cut: bool, mark: Option<Mark>, icmp: u8, number: u8, payload: &[u8]) -> Detail
-    ensures { result ≡ detail_behind is_cut mark icmp number payload.now }
+// What is shown of the header that the payload of an IPv4 packet begins with.
+fn ipv4_detail(is_cut: bool, header: &Ipv4Header, payload: &[u8]) -> Detail
+    ensures { result ≡ ipv4_detail is_cut header.now payload.now }
 {
-    match mark {
-        Some(mark) if mark.offset != 0 => Detail::Nothing,
-        Some(_) => detail_of(is_cut, icmp, number, payload),
-        None => detail_of(is_cut, icmp, number, payload),
+    let is_later = header.fragment_offset.value() != 0;
+    detail_behind(is_cut, is_later, 1, header.protocol.0, payload)
+}
+
+// What is shown of the header that the payload of an IPv6 packet begins with.
+fn ipv6_detail(
+    is_cut: bool,
+    extensions: &[u8],
+    first: IpNumber,
+    upper: u8,
+    payload: &[u8],
+) -> Detail
+    ensures { IsIpv6Detail is_cut extensions.now first upper payload.now result }
+{
+    let is_later = behind_extensions(extensions, first).is_later;
+    detail_behind(is_cut, is_later, 58, upper, payload)
+}
+
+// What is shown of the header that a payload begins with, unless it is a later part of something.
+fn detail_behind(is_cut: bool, is_later: bool, icmp: u8, number: u8, payload: &[u8]) -> Detail
+    ensures { result ≡ detail_behind is_cut is_later icmp number payload.now }
+{
+    if is_later {
+        Detail::Nothing
+    } else {
+        detail_of(is_cut, icmp, number, payload)
     }
 }
 

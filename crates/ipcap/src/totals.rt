@@ -41,8 +41,8 @@ pub struct Totals {
 }
 
 impl Totals {
-    ghost use Rattle.std.specs.Prelude.{◌≡◌, IfSome};
-    ghost use Rattle.ipcap.specs.Totals.{counted, nothing_counted};
+    ghost use Rattle.std.specs.Prelude.{◌≡◌, IfNone, IfSome};
+    ghost use Rattle.ipcap.specs.Totals.{Fits, counted, nothing_counted};
 
     /// No record.
     pub fn none() -> Totals
@@ -62,7 +62,8 @@ impl Totals {
 
     /// With one more record; `None` if a count would exceed 2^64 - 1.
     pub fn count(self, outcome: Outcome) -> Option<Totals>
-        ensures { IfSome result (λ after. after ≡ counted outcome self) }
+        ensures some { IfSome result (λ after. after ≡ counted outcome self) }
+        ensures none { IfNone result (¬ Fits (counted outcome self)) }
     {
         Some(Totals {
             records: self.records.checked_add(1)?,

@@ -65,10 +65,9 @@ abbrev pub good_or_bad : List ℕ → List ℕ
 good_or_bad front = if ones_complement_sum (take 20 front ∷ drop 20 front ∷ []) == 65535
     then codes "good" else codes "bad"
 
--- The fields of an IPv4 header; the checksum that it should have, and whether the bytes that were
--- read, with the reserved bit, sum to all ones; the number of bytes after it.
-abbrev pub ipv4_lines : Ipv4Header → List ℕ → ℕ → List ℕ
-ipv4_lines h front rest_len =
+-- the fields of an IPv4 header before its options
+abbrev pub fixed_lines : Ipv4Header → List ℕ
+fixed_lines h =
     line (codes "version") (decimal 4) ++ (line (codes "ihl") (decimal (ipv4_ihl h))
     ++ (line (codes "dscp") (decimal h.dscp) ++ (line (codes "ecn") (decimal (ecn_value h.ecn))
     ++ (line (codes "total_len") (decimal h.total_len)
@@ -80,11 +79,16 @@ ipv4_lines h front rest_len =
     ++ (line (codes "protocol") (decimal h.protocol)
     ++ (line (codes "header_checksum") (encode_lower (to_be_bytes w16 h.header_checksum))
     ++ (line (codes "source") (dotted h.source)
-    ++ (line (codes "destination") (dotted h.destination)
-    ++ (line (codes "options") (options_text h.options)
+    ++ line (codes "destination") (dotted h.destination)))))))))))))
+
+-- The fields of an IPv4 header; the checksum that it should have, and whether the bytes that were
+-- read, with the reserved bit, sum to all ones; the number of bytes after it.
+abbrev pub ipv4_lines : Ipv4Header → List ℕ → ℕ → List ℕ
+ipv4_lines h front rest_len =
+    fixed_lines h ++ (line (codes "options") (options_text h.options)
     ++ (line (codes "computed")
     (encode_lower (to_be_bytes w16 (header_checksum_of (with_reserved_bit_cleared front))))
-    ++ (line (codes "sum") (good_or_bad front) ++ line (codes "rest") (decimal rest_len)))))))))))))))))
+    ++ (line (codes "sum") (good_or_bad front) ++ line (codes "rest") (decimal rest_len))))
 
 -- the status of a run, and all that it prints
 abbrev pub Outcome : Type 0

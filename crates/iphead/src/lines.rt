@@ -3,8 +3,8 @@ ghost use Rattle.std.specs.Io.KnownBytes.{Appends};
 ghost use Rattle.hex.specs.Hex.{encode_lower};
 ghost use Rattle.etherparse.specs.Ipv4Header.{OfIpv4Header};
 ghost use Rattle.etherparse.specs.Ipv6Header.{OfIpv6Header};
-ghost use Rattle.iphead.specs.Output.{dotted, error_line, good_or_bad, ipv4_lines, ipv6_lines};
-ghost use Rattle.iphead.specs.Output.{line, options_text, upper_layer_lines};
+ghost use Rattle.iphead.specs.Output.{dotted, error_line, fixed_lines, good_or_bad, ipv4_lines};
+ghost use Rattle.iphead.specs.Output.{ipv6_lines, line, options_text, upper_layer_lines};
 
 use etherparse::checksum::u64_16bit_word;
 use etherparse::{Ipv4Header, Ipv4HeaderSlice, Ipv6HeaderSlice};
@@ -66,6 +66,20 @@ pub fn write_ipv4<W: Write>(
         Appends (W.contents writer.old) (W.contents writer.new)
         (ipv4_lines header view.now.slice.now rest_len))) }
 {
+    write_fixed_fields(writer, view)?;
+    write_options(writer, view.options())?;
+    let computed = view.to_header().calc_header_checksum();
+    write_hex_field(writer, "computed", &computed.to_be_bytes())?;
+    write_field(writer, "sum", good_or_bad(view))?;
+    write_field(writer, "rest", rest_len)?;
+    Ok(())
+}
+
+// Writes the fields of an IPv4 header before its options.
+fn write_fixed_fields<W: Write>(writer: &mut W, view: &Ipv4HeaderSlice) -> io::Result<()>
+    ensures { OnOk result (OfIpv4Header view.now.slice.now (λ header.
+        Appends (W.contents writer.old) (W.contents writer.new) (fixed_lines header))) }
+{
     write_field(writer, "version", view.version())?;
     write_field(writer, "ihl", view.ihl())?;
     write_field(writer, "dscp", view.dcp())?;
@@ -85,11 +99,6 @@ pub fn write_ipv4<W: Write>(
     )?;
     write_field(writer, "source", Dotted(view.source()))?;
     write_field(writer, "destination", Dotted(view.destination()))?;
-    write_options(writer, view.options())?;
-    let computed = view.to_header().calc_header_checksum();
-    write_hex_field(writer, "computed", &computed.to_be_bytes())?;
-    write_field(writer, "sum", good_or_bad(view))?;
-    write_field(writer, "rest", rest_len)?;
     Ok(())
 }
 

@@ -1,7 +1,7 @@
 -- IP packets of either version, cut at the length field (RFC 791 section 3.1, RFC 8200 section 3),
 -- and where the extension headers of IPv6 end (RFC 8200 sections 4 and 4.5).
-use Rattle.std.specs.Prelude.{ℕ, ◌≡◌, ◌≢◌, ◌+◌, ◌-◌, ◌<◌, ◌≤◌, ◌⊎◌, List, ◌++◌, drop, length}
-use Rattle.std.specs.Prelude.{slice_index, take}
+use Rattle.std.specs.Prelude.{ℕ, ◌≡◌, ◌≢◌, ◌+◌, ◌-◌, ◌<◌, ◌≤◌, ◌⊎◌, Bool, List, ◌++◌, drop, false}
+use Rattle.std.specs.Prelude.{length, slice_index, take, true}
 use Rattle.etherparse.specs.ExtensionHeaderChain.{FollowsChain, incomplete_header_error}
 use Rattle.etherparse.specs.ExtensionHeaderChain.{required_len_of}
 use Rattle.etherparse.specs.ExtensionHeaders.{IsSkippable}
@@ -69,6 +69,12 @@ pub record EndsInHeader (s : List ℕ) (first number : ℕ) (rest : List ℕ) : 
   pub passes : Passes s first number rest
   pub skippable : IsSkippable number
   pub short : length rest < required_len_of number rest
+
+-- whether the extension headers end with the fragment header of a later fragment
+abbrev pub EndsLater : Bool → List ℕ → ℕ → ℕ → List ℕ → Type 0
+EndsLater true s first number rest = EndsAtLaterFragment s first number rest
+EndsLater false s first number rest = (Passes s first number rest × ¬ IsSkippable number)
+    ⊎ EndsInHeader s first number rest
 
 -- The body of the packet is these bytes of extension headers, and this payload, of the number that
 -- the last of them gives.

@@ -145,7 +145,7 @@ pub fn is_of_one_ipv4_packet(a: &Ipv4Header, b: &Ipv4Header) -> bool
 }
 
 /// An IPv6 packet with a fragment header.
-#[derive(Clone, Debug, PartialEq, Eq, Drop)]
+#[derive(Debug, Drop)]
 pub struct Ipv6Fragment<'a> {
     /// The IPv6 header, without its extension headers.
     pub header: Ipv6Header,

@@ -6,8 +6,8 @@ ghost use Rattle.etherparse.specs.ExtensionHeaderChain.{FollowsChain, incomplete
 ghost use Rattle.etherparse.specs.ExtensionHeaderChain.{required_len_of};
 ghost use Rattle.etherparse.specs.ExtensionHeaders.{IsSkippable};
 ghost use Rattle.etherparse.specs.FirstByte.{version_of};
-ghost use Rattle.uses.specs.IpSlice.{EndsAt, EndsAtLaterFragment, EndsInHeader, HasIpv6Body};
-ghost use Rattle.uses.specs.IpSlice.{IsIpPacket, IsLaterFragment, Passes, RefusesIp};
+ghost use Rattle.uses.specs.IpSlice.{EndsAt, EndsAtLaterFragment, EndsInHeader, EndsLater};
+ghost use Rattle.uses.specs.IpSlice.{HasIpv6Body, IsIpPacket, IsLaterFragment, Passes, RefusesIp};
 
 use crate::fragment::{FragmentHeader, part_behind};
 use etherparse::err::{Layer, LenError, ipv4, ipv6};
@@ -64,12 +64,15 @@ pub enum IpSliceError {
 }
 
 /// What is behind extension headers that are whole.
-#[derive(Clone, Debug, PartialEq, Eq, Drop)]
+#[derive(Debug, Drop)]
 pub struct BehindExtensions<'a> {
     /// The number of the payload, or of the extension header that is incomplete.
     pub number: IpNumber,
     /// The payload, or what there is of that header.
     pub rest: &'a [u8],
+    /// That the payload is of a fragment that is not the first, so that it does not begin with a
+    /// header.
+    pub is_later: bool,
     /// That the header is incomplete. `layer_start_offset` is its place from the front of the
     /// slice.
     pub incomplete: Option<LenError>,
@@ -248,6 +251,7 @@ pub fn behind_extensions(body: &[u8], first: IpNumber) -> BehindExtensions
         (EndsAt body.now first result.number result.rest.now) }
     ensures short { IfSome result.incomplete (λ e.
         EndsInHeader body.now first result.number result.rest.now) }
+    ensures later { EndsLater result.is_later body.now first result.number result.rest.now }
     ensures error { IfSome result.incomplete (λ e. e ≡ incomplete_header_error result.number
         result.rest.now (length body.now - length result.rest.now)) }
 {
@@ -258,6 +262,7 @@ pub fn behind_extensions(body: &[u8], first: IpNumber) -> BehindExtensions
             return BehindExtensions {
                 number,
                 rest,
+                is_later: false,
                 incomplete: None,
             };
         }
@@ -269,6 +274,7 @@ pub fn behind_extensions(body: &[u8], first: IpNumber) -> BehindExtensions
                     return BehindExtensions {
                         number,
                         rest,
+                        is_later,
                         incomplete: None,
                     };
                 }
@@ -277,6 +283,7 @@ pub fn behind_extensions(body: &[u8], first: IpNumber) -> BehindExtensions
                 return BehindExtensions {
                     number,
                     rest,
+                    is_later: false,
                     incomplete: Some(e.add_offset(body.len() - rest.len())),
                 };
             }

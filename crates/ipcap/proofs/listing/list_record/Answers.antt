@@ -8,7 +8,7 @@ pub returns-then-is_quiet : goal.returns-then-is_quiet
 returns-then-is_quiet g c = (
   _,
   told_of_record _ _ _ _ c.read_frame-reading.result (rw c.is_cut.ensures at c.read_frame-reading.ensures)
-      (c.in-Some.ensures ∙ ap (λ o. counted o c.args.before) c.outcome.ensures),
+      (c.in-Some.ensures.some ∙ ap (λ o. counted o c.args.before) c.outcome.ensures),
   rw c.if-is_quiet.true (Appends-nil _),
 )
 
@@ -16,6 +16,6 @@ pub returns : goal.returns
 returns g c = (
   _,
   told_of_record _ _ _ _ c.read_frame-reading.result (rw c.is_cut.ensures at c.read_frame-reading.ensures)
-      (c.in-Some.ensures ∙ ap (λ o. counted o c.args.before) c.outcome.ensures),
+      (c.in-Some.ensures.some ∙ ap (λ o. counted o c.args.before) c.outcome.ensures),
   rw c.if-is_quiet.false (append_known-grown _ _ _ _ _ c.in_ok-make_room.ensures c.in_ok-write_record.ensures),
 )
