@@ -60,7 +60,7 @@ detail_of is_cut icmp number payload =
     then Message (slice_index payload 0) (slice_index payload 1)
     else Nothing
 
--- the same, unless it is the payload of a fragment that is not the first: that begins with no header
+-- the same, but the payload of a later fragment begins with no header
 abbrev pub detail_behind : Bool → Bool → ℕ → ℕ → List ℕ → Detail
 detail_behind is_cut later icmp number payload =
     if later then Nothing else detail_of is_cut icmp number payload

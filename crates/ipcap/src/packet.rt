@@ -235,7 +235,7 @@ fn ipv6_detail(
     detail_behind(is_cut, is_later, 58, upper, payload)
 }
 
-// What is shown of the header that a payload begins with, unless it is a later part of something.
+// What is shown of the header that a payload begins with; that of a later fragment has none.
 fn detail_behind(is_cut: bool, is_later: bool, icmp: u8, number: u8, payload: &[u8]) -> Detail
     ensures { result ≡ detail_behind is_cut is_later icmp number payload.now }
 {

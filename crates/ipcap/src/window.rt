@@ -21,8 +21,8 @@ pub struct Window {
 }
 
 impl Window {
-    ghost use Rattle.std.specs.Prelude.{◌≡◌, ◌<◌, ◌-◌, [], IfOk, IsFalse, IsTrue, OnOk, drop, length};
-    ghost use Rattle.std.specs.Prelude.{min};
+    ghost use Rattle.std.specs.Prelude.{◌≡◌, ◌<◌, ◌-◌, [], IfOk, IsFalse, IsTrue, OnOk, drop};
+    ghost use Rattle.std.specs.Prelude.{length, min};
     ghost use Rattle.std.specs.Io.KnownBytes.{IsAtEnd, Keeps, prepend_known};
     ghost use Rattle.ipcap.specs.Private.Window.{unread};
 

@@ -36,8 +36,7 @@ error_line reason = line (codes "error:") reason
 -- the fields of an IPv6 header: numbers in decimal, addresses in hex digits
 abbrev pub ipv6_lines : Ipv6Header → List ℕ
 ipv6_lines h =
-    line (codes "version") (decimal 6)
-    ++ (line (codes "traffic_class") (decimal h.traffic_class)
+    line (codes "version") (decimal 6) ++ (line (codes "traffic_class") (decimal h.traffic_class)
     ++ (line (codes "flow_label") (decimal h.flow_label)
     ++ (line (codes "payload_length") (decimal h.payload_length)
     ++ (line (codes "next_header") (decimal h.next_header)
@@ -85,8 +84,7 @@ fixed_lines h =
 -- read, with the reserved bit, sum to all ones; the number of bytes after it.
 abbrev pub ipv4_lines : Ipv4Header → List ℕ → ℕ → List ℕ
 ipv4_lines h front rest_len =
-    fixed_lines h ++ (line (codes "options") (options_text h.options)
-    ++ (line (codes "computed")
+    fixed_lines h ++ (line (codes "options") (options_text h.options) ++ (line (codes "computed")
     (encode_lower (to_be_bytes w16 (header_checksum_of (with_reserved_bit_cleared front))))
     ++ (line (codes "sum") (good_or_bad front) ++ line (codes "rest") (decimal rest_len))))
 
