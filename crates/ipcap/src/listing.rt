@@ -40,16 +40,16 @@ pub enum Turn {
     Ends(Option<CutOff>),
 }
 
-/// Passes text to the writer.
+/// Passes text to the writer, once: if the write fails, the text is gone too.
 pub fn hand_over<W: Write>(text: &mut Text, writer: &mut W) -> io::Result<()>
     ensures kept { OnOk result (Keeps
         (append_known (W.contents writer.old) text.old.items)
         (append_known (W.contents writer.new) text.new.items)) }
-    ensures empty { OnOk result (text.new.items ≡ []) }
+    ensures empty { text.new.items ≡ [] }
 {
-    writer.write_all(text.as_slice())?;
+    let written = writer.write_all(text.as_slice());
     text.clear();
-    Ok(())
+    written
 }
 
 // Passes text to the writer if there is no room for one more line.
@@ -278,6 +278,8 @@ fn read_on<R: Read>(window: &mut Window, reader: &mut R, end: Option<CutOff>) ->
     ensures turn { IfOk result (λ turn. (turn ≡ Turn.GoesOn)
         ⊎ ((turn ≡ Turn.Ends end) × (unread window.new ≡ unread window.old)
         × IsAtEnd (R.remaining reader.new))) }
+    ensures progress { IfOk result (λ turn. turn ≡ Turn.GoesOn →
+        length (unread window.old) < length (unread window.new)) }
 {
     if window.fill(reader)? {
         Ok(Turn::GoesOn)
