@@ -54,8 +54,8 @@ plant() {
 
 # What the check says of the crate that is laid. It first reads it and the library below it, and then
 # says 'only=' if both compile, or 'mend these first'. It then goes on to the proofs, whose errors tell
-# nothing here, as the copy has no definitions. If it says neither, the reading was left out, which a
-# machine that is short of memory can do to it. Then it is asked once more.
+# nothing here, as the copy has no definitions. If it says neither, it left out the reading. Then it is
+# asked once more.
 check() {
   local said=
   for _ in 1 2; do
