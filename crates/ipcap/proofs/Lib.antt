@@ -1,4 +1,5 @@
 mod Fronts
+mod PseudoHeader
 mod Led
 mod OneReading
 mod Skipped

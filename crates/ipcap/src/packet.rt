@@ -13,7 +13,7 @@ ghost use Rattle.ipcap.specs.Packet.{ShowsSlice, detail_behind, detail_of, ipv4_
 ghost use Rattle.ipcap.specs.Packet.{has_no_checksum, segment_of};
 
 use crate::cut::cut_slice;
-use etherparse::checksum::u64_16bit_word;
+use etherparse::checksum::{Sum16BitWords, u64_16bit_word};
 use etherparse::{IpNumber, Ipv4Header, Ipv6Header};
 use uses::fragment::part_behind;
 use uses::ip_slice::{IpSlice, IpSliceError, behind_extensions};
@@ -323,8 +323,7 @@ fn payload_verdict_ipv6(
 fn verdict_on(bytes: &[u8]) -> Verdict
     ensures { Judges result (SumsToAllOnes bytes.now) }
 {
-    let sum = u64_16bit_word::add_slice(0, bytes);
-    if u64_16bit_word::ones_complement(sum) == 0 {
+    if u64_16bit_word::checksum(0, bytes) == 0 {
         Verdict::Right
     } else {
         Verdict::Wrong
@@ -385,8 +384,12 @@ fn is_right_ipv4(header: &Ipv4Header, number: u8, segment: &[u8]) -> bool
         Err(_) => return false,
     };
     let [h, l] = len.to_be_bytes();
-    let before = [0, number, h, l];
-    are_all_ones(&header.source, &header.destination, &before, segment)
+    let sum = Sum16BitWords::new()
+        .add_4bytes(header.source)
+        .add_4bytes(header.destination)
+        .add_4bytes([0, number, h, l])
+        .add_slice(segment);
+    sum.ones_complement() == 0
 }
 
 // Whether a segment sums to all ones with the pseudo-header of IPv6.
@@ -398,20 +401,10 @@ fn is_right_ipv6(header: &Ipv6Header, number: u8, segment: &[u8]) -> bool
         Err(_) => return false,
     };
     let [a, b, c, d] = len.to_be_bytes();
-    let before = [a, b, c, d, 0, 0, 0, number];
-    are_all_ones(&header.source, &header.destination, &before, segment)
-}
-
-// Whether pieces sum to all ones.
-fn are_all_ones<'a>(
-    source: &'a [u8],
-    destination: &'a [u8],
-    before: &'a [u8],
-    segment: &'a [u8],
-) -> bool
-    ensures { IsTrue result ↔ (ones_complement_sum
-        (source.now ∷ destination.now ∷ before.now ∷ segment.now ∷ []) ≡ 65535) }
-{
-    let sum = u64_16bit_word::add_slices(&[source, destination, before, segment]);
-    u64_16bit_word::ones_complement(sum) == 0
+    let sum = Sum16BitWords::new()
+        .add_16bytes(header.source)
+        .add_16bytes(header.destination)
+        .add_8bytes([a, b, c, d, 0, 0, 0, number])
+        .add_slice(segment);
+    sum.ones_complement() == 0
 }
