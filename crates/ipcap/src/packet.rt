@@ -1,22 +1,21 @@
 //! What is shown of a packet.
 
-ghost use Rattle.std.specs.Prelude.{◌≡◌, ◌↔◌, [], ◌∷◌, IfErr, IfOk, IsTrue, MatchOption};
-ghost use Rattle.std.specs.Prelude.{◌≤◌, ◌⊎◌, length, option_map, take};
+ghost use Rattle.std.specs.Prelude.{◌≡◌, ◌↔◌, ◌≤◌, ◌⊎◌, IsTrue, MatchOption, length};
+ghost use Rattle.std.specs.Prelude.{option_map, take};
 ghost use Rattle.etherparse.specs.Ipv4Header.{ipv4_header_len};
+ghost use Rattle.etherparse.specs.WordSums.{SumsToAllOnes};
+ghost use Rattle.uses.specs.IpSlice.{IsIpPacket};
 ghost use Rattle.ipcap.specs.Cut.{IsCutPacket};
-ghost use Rattle.ipcap.specs.Packet.{IsIpv6Detail, IsPayloadVerdictIpv4, IsPayloadVerdictIpv6};
-ghost use Rattle.etherparse.specs.WordSums.{SumsToAllOnes, ones_complement_sum};
-ghost use Rattle.uses.specs.IpSlice.{IsIpPacket, RefusesIp};
-ghost use Rattle.ipcap.specs.Packet.{IsMarkedBy, IsRefused, IsRightIpv4, IsRightIpv6, IsShownOf};
+ghost use Rattle.ipcap.specs.Packet.{IsIpv6Detail, IsMarkedBy, IsPayloadVerdictIpv4};
+ghost use Rattle.ipcap.specs.Packet.{IsPayloadVerdictIpv6, IsRightIpv4, IsRightIpv6};
 ghost use Rattle.ipcap.specs.Packet.{IsVerdictIpv4, IsVerdictIpv6, Judges, ShowsNoFragment};
-ghost use Rattle.ipcap.specs.Packet.{ShowsSlice, detail_behind, detail_of, ipv4_detail, ipv4_mark};
-ghost use Rattle.ipcap.specs.Packet.{has_no_checksum, segment_of};
+ghost use Rattle.ipcap.specs.Packet.{ShowsSlice, detail_behind, detail_of, has_no_checksum};
+ghost use Rattle.ipcap.specs.Packet.{ipv4_detail, ipv4_mark, segment_of};
 
-use crate::cut::cut_slice;
 use etherparse::checksum::{Sum16BitWords, u64_16bit_word};
 use etherparse::{IpNumber, Ipv4Header, Ipv6Header};
 use uses::fragment::part_behind;
-use uses::ip_slice::{IpSlice, IpSliceError, behind_extensions};
+use uses::ip_slice::{IpSlice, behind_extensions};
 
 /// An address of either version.
 #[derive(Clone, Copy, Debug, PartialEq, Eq)]
@@ -96,38 +95,9 @@ pub struct Shown {
     pub payload_checksum: Verdict,
 }
 
-/// What is shown of a packet. One that the capture cut can be shorter than its length field says.
-///
-/// # Errors
-///
-/// Those of [`IpSlice::from_slice`], but none where the capture cut the packet behind its header.
-pub fn read_packet(is_cut: bool, packet: &[u8]) -> Result<Shown, IpSliceError>
-    ensures found { IfOk result (IsShownOf is_cut packet.now) }
-    ensures refused { IfErr result (IsRefused is_cut packet.now) }
-{
-    match IpSlice::from_slice(packet) {
-        Ok(slice) => Ok(shown_of(false, packet, &slice)),
-        Err(e) => read_cut(is_cut, packet, e),
-    }
-}
-
-// What is shown of a packet that is refused as a whole one.
-fn read_cut(is_cut: bool, packet: &[u8], e: IpSliceError) -> Result<Shown, IpSliceError>
-    requires { RefusesIp packet.now e }
-    ensures found { IfOk result (IsShownOf is_cut packet.now) }
-    ensures refused { IfErr result (IsRefused is_cut packet.now) }
-{
-    if !is_cut {
-        return Err(e);
-    }
-    match cut_slice(packet) {
-        Some(slice) => Ok(shown_of(true, packet, &slice)),
-        None => Err(e),
-    }
-}
-
-// What is shown of a packet in these parts, of which the capture can have cut the last.
-fn shown_of(is_cut: bool, packet: &[u8], slice: &IpSlice) -> Shown
+/// What is shown of a packet in these parts, of which the capture can have cut the last.
+#[inline(always)] // The caller makes a larger value of it, in place.
+pub fn shown_of(is_cut: bool, packet: &[u8], slice: &IpSlice) -> Shown
     requires is_packet { IsIpPacket packet.now slice.now ⊎ IsCutPacket packet.now slice.now }
     ensures shows { ShowsSlice is_cut packet.now slice.now result }
 {

@@ -1,10 +1,12 @@
 //! What a frame is found to carry.
 
-ghost use Rattle.ipcap.specs.Reading.{ReadsFrame};
+ghost use Rattle.uses.specs.IpSlice.{RefusesIp};
+ghost use Rattle.ipcap.specs.Reading.{ReadsFrame, ReadsPacket};
 
+use crate::cut::cut_slice;
 use crate::link::{NoPacket, packet_of};
-use crate::packet::{Address, Shown, read_packet};
-use uses::ip_slice::IpSliceError;
+use crate::packet::{Address, Shown, shown_of};
+use uses::ip_slice::{IpSlice, IpSliceError};
 
 /// What a frame is found to carry.
 #[derive(Clone, Debug, PartialEq, Eq, Drop)]
@@ -23,11 +25,35 @@ pub fn read_frame(link_type: u32, is_cut: bool, frame: &[u8]) -> Reading
     ensures { ReadsFrame link_type is_cut frame.now result }
 {
     match packet_of(link_type, frame) {
+        Ok(packet) => read_packet(is_cut, packet),
         Err(e) => Reading::Other(e),
-        Ok(packet) => match read_packet(is_cut, packet) {
-            Ok(shown) => Reading::Packet(shown),
-            Err(e) => Reading::Refused(e),
-        },
+    }
+}
+
+// What is shown of a packet, or why it is refused. One that the capture cut can be shorter than its
+// length field says.
+fn read_packet(is_cut: bool, packet: &[u8]) -> Reading
+    ensures { ReadsPacket is_cut packet.now result }
+{
+    match IpSlice::from_slice(packet) {
+        Ok(slice) => Reading::Packet(shown_of(false, packet, &slice)),
+        Err(e) => read_cut(is_cut, packet, e),
+    }
+}
+
+// The same of a packet that is refused as a whole one: if the capture cut it, it is read as far as
+// it goes.
+#[inline(never)] // It is seldom called, and the code of its caller is shorter without it.
+fn read_cut(is_cut: bool, packet: &[u8], e: IpSliceError) -> Reading
+    requires { RefusesIp packet.now e }
+    ensures { ReadsPacket is_cut packet.now result }
+{
+    if !is_cut {
+        return Reading::Refused(e);
+    }
+    match cut_slice(packet) {
+        Some(slice) => Reading::Packet(shown_of(true, packet, &slice)),
+        None => Reading::Refused(e),
     }
 }
 
