@@ -3,7 +3,7 @@
 # layouts, compares their answers, times them, and prints a table. README.md says what it needs, and how to read what is printed.
 set -eu
 [ $# -ge 1 ] && [ $# -le 2 ] || {
-  echo "usage: [LINUX_SUM=csum-partial_64.c] [ROUNDS=301] [LAYOUTS='16 32 48 64'] [LEVEL=x86-64-v2] [CPU=n] run.sh UPSTREAM_FOLDER [ARRAYVEC_FOLDER]" >&2
+  echo "usage: [LINUX_SUM=csum-partial_64.c] [ROUNDS=301] [LAYOUTS='16 32 48 64'] [LEVEL=x86-64-v2] [CPU=n] [FULL_SPEED=ns] run.sh UPSTREAM_FOLDER [ARRAYVEC_FOLDER]" >&2
   exit 2
 }
 here=$(CDPATH= cd -- "$(dirname -- "$0")" && pwd)

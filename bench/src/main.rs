@@ -3,6 +3,7 @@
 mod compare;
 #[path = "../../crates/etherparse_c/include/etherparse.rs"]
 mod etherparse;
+mod full_speed;
 mod library;
 mod packets;
 mod random;
@@ -37,7 +38,7 @@ fn number_of(text: &str) -> usize {
 
 // Numbers with tabs between, for each line in whose name these words stand.
 fn time_all(libraries: &Libraries, rounds: usize, words: &str) {
-    println!("clock\t\t{:.4}", rounds::nanoseconds_of_a_cycle());
+    println!("clock\t\t{:.4}", rounds::median_of_a_cycle());
     times::each(libraries, &mut |row| {
         if !row.what.contains(words) {
             return;

@@ -1,5 +1,6 @@
 //! Rounds of batches, one of each library, in turns.
 
+use crate::full_speed::{nanoseconds_of_a_cycle, FullSpeed};
 use crate::times::{Row, COLUMNS, PROVED};
 use std::hint::black_box;
 use std::time::Instant;
@@ -17,22 +18,30 @@ pub struct Figures {
 // How long a batch takes at least.
 const BATCH_NANOSECONDS: f64 = 150_000.0;
 
-/// Times all columns in each round; from one round to the next another one is the first.
+/// Times all columns in each round; from one round to the next another one is the first. A round counts if the processor is at
+/// full speed before and after it, and has run another one.
 pub fn compare_times(rounds: usize, row: &Row) -> Figures {
     let columns: Vec<usize> = (0..COLUMNS).filter(|column| row.batches[*column].is_some()).collect();
     let calls = calls_of_a_batch(row);
     let mut times: [Vec<f64>; COLUMNS] = Default::default();
     let mut ratios: [Vec<f64>; COLUMNS] = Default::default();
-    for round in 0..rounds {
+    let mut full_speed = FullSpeed::from_environment();
+    let mut round = 0;
+    while round < rounds {
+        let is_cold = full_speed.wait();
         let mut each = [0.0; COLUMNS];
         for turn in 0..columns.len() {
             let column = columns[(round + turn) % columns.len()];
             each[column] = nanoseconds(row, column, calls) / f64::from(calls);
-            times[column].push(each[column]);
+        }
+        if is_cold || !full_speed.holds() {
+            continue;
         }
         for column in &columns {
+            times[*column].push(each[*column]);
             ratios[*column].push(each[PROVED] / each[*column]);
         }
+        round += 1;
     }
     let [first, second, third, _] = ratios;
     Figures {
@@ -41,15 +50,12 @@ pub fn compare_times(rounds: usize, row: &Row) -> Figures {
     }
 }
 
-/// How long one cycle takes: a turn of this loop waits for the one before, which takes one.
-pub fn nanoseconds_of_a_cycle() -> f64 {
-    let turns: u64 = 1_000_000;
+/// How long one cycle takes, as the median of many measurements, each on a processor at full speed.
+pub fn median_of_a_cycle() -> f64 {
+    let mut full_speed = FullSpeed::from_environment();
     let times = (0..101).map(|_| {
-        let start = Instant::now();
-        unsafe {
-            std::arch::asm!("2:", "dec {0}", "jnz 2b", inout(reg) turns => _);
-        }
-        start.elapsed().as_nanos() as f64 / turns as f64
+        full_speed.wait();
+        nanoseconds_of_a_cycle(1_000_000)
     });
     median(times.collect()).unwrap_or(0.0)
 }
