@@ -42,7 +42,7 @@ impl FullSpeed {
 
     /// Whether the processor is at full speed now.
     pub fn holds(&self) -> bool {
-        self.greatest.is_none_or(|greatest| nanoseconds_of_a_cycle(50_000) <= greatest)
+        self.greatest.map_or(true, |greatest| nanoseconds_of_a_cycle(50_000) <= greatest)
     }
 }
 

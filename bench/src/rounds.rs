@@ -19,7 +19,7 @@ pub struct Figures {
 const BATCH_NANOSECONDS: f64 = 150_000.0;
 
 /// Times all columns in each round; from one round to the next another one is the first. A round counts if the processor is at
-/// full speed before and after it, and has run another one.
+/// full speed before and after it, but for the first round on another processor, whose caches have nothing of it.
 pub fn compare_times(rounds: usize, row: &Row) -> Figures {
     let columns: Vec<usize> = (0..COLUMNS).filter(|column| row.batches[*column].is_some()).collect();
     let calls = calls_of_a_batch(row);
