@@ -57,7 +57,7 @@ macro_rules! sums {
 sums!(
     u64_16bit_word,
     u64,
-    "Sums in 64 bits, which are the faster.",
+    "Sums in 64 bits.",
     etherparse_u64_16bit_word_add_slice,
     etherparse_u64_16bit_word_add_slices,
     etherparse_u64_16bit_word_ones_complement,

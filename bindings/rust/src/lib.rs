@@ -23,8 +23,9 @@
 //!
 //! # What differs from the crate `etherparse`
 //!
-//! There is no `std::io`, no `IpDscpKnown`, and of [`IpNumber`] there are the constants that this
-//! crate has a use for. `Ipv4Header::to_bytes` answers [`Ipv4HeaderBytes`], which is a slice as an
+//! There is no `std::io`, no `IpDscpKnown`, no `Sum16BitWords`, no fixed-size add, no module
+//! `ip_number` and no named code point, and of [`IpNumber`] there are the constants that this crate
+//! has a use for. `Ipv4Header::to_bytes` answers [`Ipv4HeaderBytes`], which is a slice as an
 //! `ArrayVec` is. [`err::Layer`], [`LenSource`] and [`err::ValueType`] have what the errors of these
 //! calls name. An error shows its text by a call of the library too.
 #![no_std]

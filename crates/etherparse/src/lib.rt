@@ -1,6 +1,7 @@
 //! IP headers: views of received bytes, owned headers, and the bytes that are written.
 //!
-//! What the Rust crate `etherparse` 0.19.0 has for IP headers alone, under the same paths.
+//! The layer of IP base headers of the Rust crate `etherparse` 0.19.0, under the same paths, with
+//! checksums and the walk past IPv6 extension headers.
 //!
 //! ```
 //! use etherparse::err::ipv4::HeaderSliceError;

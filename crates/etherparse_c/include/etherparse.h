@@ -8,7 +8,7 @@
  * thread writes what a call of another reads or writes.
  *
  * Systems: x86-64 with the System V calling convention, as Linux has it. The library is built
- * for the processor level x86-64-v2 (SSE4.2 and SSSE3, in every processor since about 2009)
+ * for the processor level x86-64-v2 (SSE4.2 and SSSE3, which nearly every processor in use has)
  * unless it was built for another; on an older processor a call ends the process with an illegal
  * instruction. The file etherparse.pc names the level of the installed library.
  *
@@ -158,9 +158,9 @@ enum {
 
 /* Writes the text of an error, in English and with no newline. As snprintf does, it writes as much
  * of the text as fits into len bytes with a 0 after it, and returns how many bytes the whole text
- * has, without that 0; so len may be 0. Numbers that no error has, such as those of
- * ETHERPARSE_OK, have the empty text. The pointer to the error is not null; text may be null only
- * if len is 0. */
+ * has, without that 0; so len may be 0. A kind, a layer or a value that is not listed above,
+ * ETHERPARSE_OK, and a LEN whose len is not below its required_len have the empty text. The pointer
+ * to the error is not null; text may be null only if len is 0. */
 size_t etherparse_error_text(const struct etherparse_error *error, char *text, size_t len);
 
 /* The bytes after a header, or after extension headers: the slice from this offset on. */
@@ -362,7 +362,7 @@ struct etherparse_ipv6_walk_answer {
      * skipped */
     uint8_t next_header;
     struct etherparse_error error;
-    struct etherparse_rest rest; /* the bytes after all extension headers */
+    struct etherparse_rest rest; /* the bytes after the headers that were skipped */
 };
 
 /* The header at the front of a slice, and where the bytes after it are: all of them, whatever

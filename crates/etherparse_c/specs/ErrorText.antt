@@ -53,7 +53,8 @@ value_text e =
     else (if e.number == 5 then value_text_of e value.Ipv4PayloadLength
     else (if e.number == 6 then value_text_of e value.Ipv6PayloadLength else [])))))
 
--- the text of the error with these numbers; empty if no error has them
+-- the text of the error with these numbers; empty if no error has their kind, layer or value, or if
+-- the length is not too small
 abbrev pub error_text : Error → List ℕ
 error_text e =
     if e.kind == 1 then (if nat_lt e.len e.required_len then len_text e else [])

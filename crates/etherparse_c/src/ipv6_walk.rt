@@ -11,15 +11,16 @@ ghost use Rattle.etherparse_c.specs.Ipv6Answers.{walk_in_c};
 use crate::answer::{Error, Rest};
 use etherparse::{IpNumber, Ipv6Header};
 
-/// Where a walk past extension headers ended.
+/// Where a walk past extension headers, or one skip, ended.
 #[repr(C)]
 #[derive(Drop)]
 pub struct Ipv6WalkAnswer {
-    /// The number of what follows the extension headers: the first that cannot be skipped.
+    /// The number of what follows the headers that were skipped. That after a whole walk cannot be
+    /// skipped.
     pub next_header: u8,
     /// Why it did not come to an end; its kind is 0 if it did.
     pub error: Error,
-    /// All the bytes after the extension headers.
+    /// All the bytes after the headers that were skipped.
     pub rest: Rest,
 }
 

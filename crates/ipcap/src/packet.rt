@@ -78,7 +78,8 @@ pub struct Shown {
     /// The address of the receiver.
     pub destination: Address,
     /// The protocol number of the payload: in IPv6 the first that cannot be skipped as an extension
-    /// header. If the capture ends within one of these, its number.
+    /// header, or what the fragment header of a later fragment names. If the capture ends within an
+    /// extension header, its number.
     pub upper: u8,
     /// What the payload's header says.
     pub detail: Detail,

@@ -9,8 +9,8 @@ abbrev pub AreZeroFields : List ℕ → ℕ → ℕ → Type 0
 AreZeroFields fields start len =
     (start + len ≤ length fields) × (take len (drop start fields) ≡ replicate len 0)
 
--- The fields for which `::` stands: at least two (section 4.2.2), the longest run (section 4.2.1),
--- and of equal runs the first (section 4.2.3).
+-- The fields for which `::` stands: at least two (section 4.2.2), the longest run, and of equal
+-- runs the first (section 4.2.3).
 pub record AreShortened (fields : List ℕ) (start len : ℕ) : Type 0 where
   pub zeros : AreZeroFields fields start len
   pub several : 2 ≤ len

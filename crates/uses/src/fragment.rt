@@ -289,6 +289,7 @@ fn skipped(slice: &[u8], number: IpNumber) -> Result<(IpNumber, &[u8]), LenError
 /// packet is not to be put together with fragments that have its addresses and identification (RFC
 /// 8200 section 4.5, RFC 6946 section 4): it is processed as without that header, whatever comes
 /// after it. So the first fragment header that is not atomic decides, as [`part_behind`] finds it.
+/// The packet is not cut at its payload length.
 ///
 /// # Errors
 ///

@@ -131,8 +131,8 @@ impl<'a> IpSlice<'a> {
     /// upper layer.
     ///
     /// In IPv6, the first fragment header that is not atomic decides (RFC 8200 section 4.5). A
-    /// slice that was not made by [`IpSlice::from_slice`] can have bytes for `extensions` that are
-    /// not extension headers: its payload is then no fragment.
+    /// slice that was not made by [`IpSlice::from_slice`] can have bytes for `extensions` that end
+    /// within a header before that one: its payload is then no fragment.
     pub fn is_fragment(&self) -> bool
         ensures yes { IsTrue result → IsFragmentSlice self.now }
         ensures no { IsFalse result → IsWholeSlice self.now }

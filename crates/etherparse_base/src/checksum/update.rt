@@ -12,8 +12,9 @@ use super::u32_16bit_word::ones_complement;
 /// 3, equation 3). The words are given as their bytes in the packet; the checksum is a number that
 /// was read from its bytes with the high byte first.
 ///
-/// A correct checksum becomes the one that would be computed anew, unless all words are 0 now: it
-/// is then 0, and 0xffff if computed anew. An incorrect one is not repaired.
+/// The checksum that is computed of the old words becomes the one that would be computed anew,
+/// unless all words are 0 now: it is then 0, and 0xffff if computed anew. An incorrect one is not
+/// repaired.
 ///
 /// The Rust crate has no such call.
 ///
@@ -37,8 +38,8 @@ pub fn update_2bytes(checksum: u16, old: [u8; 2], new: [u8; 2]) -> u16
     ones_complement(sum)
 }
 
-/// [`update_2bytes`] for two words at once, such as an IPv4 address. It is correct even if all
-/// words would be 0 between two single updates.
+/// [`update_2bytes`] for two words at once, such as an IPv4 address: the same as one update after
+/// the other.
 ///
 /// The Rust crate has no such call.
 ///
@@ -57,8 +58,8 @@ pub fn update_4bytes(checksum: u16, old: [u8; 4], new: [u8; 4]) -> u16
     ones_complement(u32::from(!checksum) + (2 * 65535 - two_words(old)) + two_words(new))
 }
 
-/// [`update_2bytes`] for eight words at once, such as an IPv6 address. It is correct even if all
-/// words would be 0 between two single updates.
+/// [`update_2bytes`] for eight words at once, such as an IPv6 address: the same as one update after
+/// the other.
 ///
 /// The Rust crate has no such call.
 ///
