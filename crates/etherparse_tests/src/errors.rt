@@ -1,6 +1,7 @@
-//! What the errors, the layers and the value types print, with `{}` and `{:?}` and with a width;
-//! that they have clones, which hash as their source does; and which types are an `Error`. The
-//! texts of all variants over many numbers are in the sample that `conformance` replays.
+//! What the errors, the layers and the value types print, with `{}` and `{:?}`, and with a width, a
+//! precision and flags; that they have clones, which hash as their source does; and which types are
+//! an `Error`. The texts of all variants over many numbers are in the sample that `conformance`
+//! replays.
 
 use etherparse::LenSource;
 use etherparse::err::ip::IpDscpUnknownValueError;
@@ -293,8 +294,10 @@ fn assert_shows<T: Clone + Debug + Display + Eq + Hash + Drop>(
     text: &str,
     debug_text: &str,
 ) -> Result<(), Fail> {
-    let printed = format!(in alloc; "{value} {value:>300} {value:05} {value:?}")?;
-    let expected = format!(in alloc; "{text} {text} {text} {debug_text}")?;
+    let printed = format!(in alloc;
+        "{value} {value:>300} {value:05} {value:#} {value:+.2} {value:?}"
+    )?;
+    let expected = format!(in alloc; "{text} {text} {text} {text} {text} {debug_text}")?;
     assert_eq!(rt; printed.as_str(), expected.as_str());
     let clone = value.clone()?;
     assert_eq!(rt; clone, *value, "{text}");

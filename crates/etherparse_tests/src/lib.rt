@@ -5,6 +5,8 @@
 #![tactic(auto)]
 
 #[cfg(test)]
+mod address;
+#[cfg(test)]
 mod checksum;
 #[cfg(test)]
 mod errors;
