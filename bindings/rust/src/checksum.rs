@@ -75,8 +75,8 @@ sums!(
     etherparse_u32_16bit_word_checksum
 );
 
-/// The checksum after one of the words that it is over was changed from `old` to `new`, both as
-/// they stand in the packet.
+/// The checksum after one of the words that it covers was changed from `old` to `new`, both as they
+/// stand in the packet.
 pub fn update_2bytes(checksum: u16, old: [u8; 2], new: [u8; 2]) -> u16 {
     let (old, new) = (u16::from_be_bytes(old), u16::from_be_bytes(new));
     // SAFETY: numbers alone are passed.
