@@ -66,7 +66,7 @@ build_after_ci() {
   for below in std itoa; do words+=(--extern "$below=$kit/rlibs/$below.rlib"); done
   words+=(-L "dependency=$kit/rlibs" --extern "etherparse=$crates/etherparse/out/rlib/etherparse.rlib")
   for below in etherparse_base etherparse_fields etherparse; do words+=(-L "dependency=$crates/$below/out/rlib"); done
-  words+=(--antt-project "$kit/rattle/logic/antt-project.json" --logic-built "$kit/logic_built" --jobs 2)
+  words+=(--antt-project "$kit/rattle/logic/antt-project.json" --logic-built "$kit/logic_built" --jobs 1)
   words+=(--links etherparse_c= --crate-type staticlib --toolchain "$kit/toolchain" --backend llvm)
   "$kit/bin/rattle" build --crate-name etherparse_c src/lib.rt "${words[@]}" -o out/libetherparse_c.a
 }

@@ -168,7 +168,7 @@ impl<'a> Arguments<'a> {
         if word == "-" {
             return "";
         }
-        if word.is_empty() || word.bytes().any(|b| b.is_ascii_uppercase()) {
+        if word.is_empty() || has_upper_case(word) {
             self.refuse();
         }
         word
@@ -205,5 +205,23 @@ impl<'a> Arguments<'a> {
 // Whether a word has the form of a number: digits, the first of which is 0 only if it is the only
 // one.
 fn is_canonical(word: &str) -> bool {
-    word == "0" || !word.starts_with('0') && word.bytes().all(|b| b.is_ascii_digit())
+    word == "0" || !word.starts_with('0') && has_digits_alone(word)
+}
+
+fn has_digits_alone(word: &str) -> bool {
+    for byte in word.as_bytes() {
+        if !byte.is_ascii_digit() {
+            return false;
+        }
+    }
+    true
+}
+
+fn has_upper_case(word: &str) -> bool {
+    for byte in word.as_bytes() {
+        if byte.is_ascii_uppercase() {
+            return true;
+        }
+    }
+    false
 }

@@ -39,16 +39,7 @@ fn answer_view(arguments: &mut Arguments, answer: &mut String) -> Result<(), All
 }
 
 fn write_view(view: &Ipv6HeaderSlice, answer: &mut String) -> Result<(), AllocError> {
-    let numbers = [
-        ("version", u32::from(view.version())),
-        ("traffic_class", u32::from(view.traffic_class())),
-        ("dscp", u32::from(view.dscp().value())),
-        ("ecn", u32::from(view.ecn().value())),
-        ("flow_label", view.flow_label().value()),
-        ("payload_length", u32::from(view.payload_length())),
-        ("next_header", u32::from(view.next_header().0)),
-        ("hop_limit", u32::from(view.hop_limit())),
-    ];
+    let numbers = numbers_of(view);
     let (source, destination) = (view.source(), view.destination());
     let addresses = [
         ("source", Bytes(&source)),
@@ -66,6 +57,20 @@ fn write_view(view: &Ipv6HeaderSlice, answer: &mut String) -> Result<(), AllocEr
         Named(&addresses),
         view.header_len()
     )
+}
+
+// What the getters of a view return, by their names, addresses aside.
+fn numbers_of(view: &Ipv6HeaderSlice) -> [(&'static str, u32); 8] {
+    [
+        ("version", u32::from(view.version())),
+        ("traffic_class", u32::from(view.traffic_class())),
+        ("dscp", u32::from(view.dscp().value())),
+        ("ecn", u32::from(view.ecn().value())),
+        ("flow_label", view.flow_label().value()),
+        ("payload_length", u32::from(view.payload_length())),
+        ("next_header", u32::from(view.next_header().0)),
+        ("hop_limit", u32::from(view.hop_limit())),
+    ]
 }
 
 // The header of a view of the front of a slice.

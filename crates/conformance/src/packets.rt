@@ -163,7 +163,13 @@ fn write_tcp(slice: &IpSlice, answer: &mut String) -> Result<(), AllocError> {
 }
 
 fn write_tcp_fields(view: &TcpHeaderSlice, answer: &mut String) -> Result<(), AllocError> {
-    let numbers = [
+    let (numbers, flags) = (tcp_numbers(view), tcp_flags(view));
+    write!(answer, " ; tcp {} {}", Named(&numbers), Named(&flags))?;
+    write!(answer, " options={}", Bytes(view.options()))
+}
+
+fn tcp_numbers(view: &TcpHeaderSlice) -> [(&'static str, u32); 9] {
+    [
         ("source_port", u32::from(view.source_port())),
         ("destination_port", u32::from(view.destination_port())),
         ("sequence_number", view.sequence_number()),
@@ -173,15 +179,16 @@ fn write_tcp_fields(view: &TcpHeaderSlice, answer: &mut String) -> Result<(), Al
         ("window_size", u32::from(view.window_size())),
         ("checksum", u32::from(view.checksum())),
         ("urgent_pointer", u32::from(view.urgent_pointer())),
-    ];
-    let flags = [
+    ]
+}
+
+fn tcp_flags(view: &TcpHeaderSlice) -> [(&'static str, bool); 4] {
+    [
         ("fin", view.fin()),
         ("syn", view.syn()),
         ("rst", view.rst()),
         ("ack", view.ack()),
-    ];
-    write!(answer, " ; tcp {} {}", Named(&numbers), Named(&flags))?;
-    write!(answer, " options={}", Bytes(view.options()))
+    ]
 }
 
 fn is_tcp_right(slice: &IpSlice) -> bool {

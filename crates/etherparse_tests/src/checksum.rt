@@ -10,69 +10,83 @@ use std::alloc::{AllocError, Global};
 use std::process::Abort;
 use std::test::Fail;
 
-// 0x11, 0x12, .. 0x1f
-const ASCENDING: &[u8] = &[
+// A start, the bytes that are added to it, and the complement of the sum.
+static CASES: [(u16, &[u8], u16); 14] = [
+    (0, &[], 0xffff),
+    (0x1234, &[], 0xedcb),
+    (0, &[0xff, 0xff], 0),
+    (0, &[1, 2, 3], 0xfdfb),
+    (0, &[1, 0, 1, 0], 0xfffd),
+    (0, &[1, 2, 3, 4, 5, 6, 7], 0xf3ef),
+    (
+        0,
+        &[1, 2, 3, 4, 5, 6, 7, 8, 9, 10, 11, 12, 13, 14, 15],
+        0xc7bf,
+    ),
+    (0, &[0x12, 0x34], 0xcbed),
+    (0, &[0xf0, 0x0f], 0xf00f),
+    (0, &[0x12, 0x34, 0x56, 0x78], 0x5397),
+    (0, &[0x12, 0x34, 0x56, 0x78, 0x23, 0x22, 0x34, 0x11], 0x2040),
+    (
+        1,
+        &[
+            0x11, 0x12, 0x13, 0x14, 0x15, 0x16, 0x17, 0x18, 0x19, 0x1a, 0x1b, 0x1c, 0x1d, 0x1e,
+            0x1f, 0x10,
+        ],
+        0x473e,
+    ),
+    (
+        1,
+        &[
+            0xf1, 0x11, 0x10, 0xf0, 0xf2, 0x12, 0x11, 0xf1, 0xf3, 0x13, 0x12, 0xf2, 0xf4, 0x14,
+            0x13, 0xf3,
+        ],
+        0xebea,
+    ),
+    (0xffff, &[0xff, 0xff], 0),
+];
+
+static ASCENDING: [u8; 15] = [
     0x11, 0x12, 0x13, 0x14, 0x15, 0x16, 0x17, 0x18, 0x19, 0x1a, 0x1b, 0x1c, 0x1d, 0x1e, 0x1f,
 ];
 
+// How many of these bytes are added to a start of 1, and the complement of the sum.
+static OF_ASCENDING: [(usize, u16); 7] = [
+    (15, 0x573e),
+    (14, 0x575d),
+    (13, 0x755d),
+    (12, 0x757a),
+    (11, 0x917a),
+    (10, 0x9195),
+    (9, 0xab95),
+];
+
 #[test]
-fn a_slice_has_one_complement_in_all_sums(rt: HostRuntime) {
-    let cases: [(u16, &[u8], u16); 21] = [
-        (0, &[], 0xffff),
-        (0x1234, &[], 0xedcb),
-        (0, &[0xff, 0xff], 0),
-        (0, &[1, 2, 3], 0xfdfb),
-        (0, &[1, 0, 1, 0], 0xfffd),
-        (0, &[1, 2, 3, 4, 5, 6, 7], 0xf3ef),
-        (
-            0,
-            &[1, 2, 3, 4, 5, 6, 7, 8, 9, 10, 11, 12, 13, 14, 15],
-            0xc7bf,
-        ),
-        (0, &[0x12, 0x34], 0xcbed),
-        (0, &[0xf0, 0x0f], 0xf00f),
-        (0, &[0x12, 0x34, 0x56, 0x78], 0x5397),
-        (0, &[0x12, 0x34, 0x56, 0x78, 0x23, 0x22, 0x34, 0x11], 0x2040),
-        (
-            1,
-            &[
-                0x11, 0x12, 0x13, 0x14, 0x15, 0x16, 0x17, 0x18, 0x19, 0x1a, 0x1b, 0x1c, 0x1d, 0x1e,
-                0x1f, 0x10,
-            ],
-            0x473e,
-        ),
-        (
-            1,
-            &[
-                0xf1, 0x11, 0x10, 0xf0, 0xf2, 0x12, 0x11, 0xf1, 0xf3, 0x13, 0x12, 0xf2, 0xf4, 0x14,
-                0x13, 0xf3,
-            ],
-            0xebea,
-        ),
-        (1, ASCENDING, 0x573e),
-        (1, &ASCENDING[..14], 0x575d),
-        (1, &ASCENDING[..13], 0x755d),
-        (1, &ASCENDING[..12], 0x757a),
-        (1, &ASCENDING[..11], 0x917a),
-        (1, &ASCENDING[..10], 0x9195),
-        (1, &ASCENDING[..9], 0xab95),
-        (0xffff, &[0xff, 0xff], 0),
-    ];
-    for (start, slice, complement) in &cases {
-        let of_64 = u64_16bit_word::add_slice(u64::from(*start), slice);
-        let of_32 = u32_16bit_word::add_slice(u32::from(*start), slice);
-        let sum = Sum16BitWords::new()
-            .add_2bytes(start.to_le_bytes())
-            .add_slice(slice);
-        let complements = [
-            u64_16bit_word::ones_complement(of_64),
-            u32_16bit_word::ones_complement(of_32),
-            sum.ones_complement(),
-            u64_16bit_word::checksum(u64::from(*start), slice),
-            u32_16bit_word::checksum(u32::from(*start), slice),
-        ];
-        assert_eq!(rt; complements, [*complement; 5]);
+fn a_slice_has_one_complement_in_all_sums(rt: HostRuntime) -> Result<(), Fail> {
+    for (start, slice, complement) in &CASES {
+        assert_eq!(rt; complements_of(*start, slice), [*complement; 5]);
     }
+    for (len, complement) in &OF_ASCENDING {
+        let slice = ASCENDING.get(..*len).ok_or("too few")?;
+        assert_eq!(rt; complements_of(1, slice), [*complement; 5]);
+    }
+    Ok(())
+}
+
+// The complement of a start and a slice, by each way to sum them.
+fn complements_of(start: u16, slice: &[u8]) -> [u16; 5] {
+    let of_64 = u64_16bit_word::add_slice(u64::from(start), slice);
+    let of_32 = u32_16bit_word::add_slice(u32::from(start), slice);
+    let sum = Sum16BitWords::new()
+        .add_2bytes(start.to_le_bytes())
+        .add_slice(slice);
+    [
+        u64_16bit_word::ones_complement(of_64),
+        u32_16bit_word::ones_complement(of_32),
+        sum.ones_complement(),
+        u64_16bit_word::checksum(u64::from(start), slice),
+        u32_16bit_word::checksum(u32::from(start), slice),
+    ]
 }
 
 #[test]
@@ -225,7 +239,7 @@ fn sum_word_by_word(start: u64, slice: &[u8]) -> u16 {
 // A sum with one more word, and the carry out of it added at the low end.
 fn add_word(sum: u16, word: u16) -> u16 {
     let (sum, carry) = sum.overflowing_add(word);
-    if carry { sum + 1 } else { sum }
+    sum.wrapping_add(u16::from(carry))
 }
 
 // Asserts that a slice has the complement of that sum, from the least and the greatest starts.

@@ -21,14 +21,9 @@ fn assert_reads(rt: &impl Abort, slice: &[u8], header: &Ipv4Header, rest: &[u8])
 
 // That the view and the reader refuse the slice with the same error.
 fn assert_refuses(rt: &impl Abort, slice: &[u8], expected: &HeaderSliceError) {
-    assert_eq!(rt;
-        Ipv4HeaderSlice::from_slice(slice).expect_err(rt, "no header"),
-        *expected
-    );
-    assert_eq!(rt;
-        Ipv4Header::from_slice(slice).expect_err(rt, "no header"),
-        *expected
-    );
+    let of_view = Ipv4HeaderSlice::from_slice(slice).expect_err(rt, "no view");
+    let of_reader = Ipv4Header::from_slice(slice).expect_err(rt, "no header");
+    assert_eq!(rt; (&of_view, &of_reader), (expected, expected));
 }
 
 #[test]
@@ -150,15 +145,19 @@ fn refusal(outcome: Outcome, needed: usize, len: usize, first: u8) -> HeaderSlic
 fn assert_reads_and_writes(rt: &impl Abort, slice: &[u8], header_len: usize) {
     let view = Ipv4HeaderSlice::from_slice(slice).expect(rt, "a view in front");
     let front = view.slice();
-    assert_eq!(rt; Some(front), slice.get(..header_len));
     let header = view.to_header();
     let rest = slice.get(header_len..).expect(rt, "bytes after the header");
     assert_reads(rt, slice, &header, rest);
     let bytes = header.to_bytes();
     let written = bytes.as_slice();
-    assert_eq!(rt; written.get(..6), front.get(..6));
-    assert_eq!(rt; written.get(6).copied(), Some(0x25));
-    assert_eq!(rt; written.get(7..), front.get(7..));
+    let parts = (written.get(..6), written.get(6), written.get(7..));
+    assert_eq!(rt;
+        (Some(front), parts),
+        (
+            slice.get(..header_len),
+            (front.get(..6), Some(&0x25), front.get(7..))
+        )
+    );
 }
 
 #[test]
@@ -233,9 +232,8 @@ fn assert_hashes_like_its_clone<T: Clone + Debug + Default + Drop + Eq + Hash>(
     value: &T,
 ) -> Result<(), Fail> {
     let clone = value.clone()?;
-    assert_eq!(rt; clone, *value);
-    assert_eq!(rt; hash_of(&clone), hash_of(value));
-    assert_ne!(rt; T::default(), clone);
+    let seen = (&clone, hash_of(&clone), T::default() == clone);
+    assert_eq!(rt; seen, (value, hash_of(value), false));
     Ok(())
 }
 
@@ -352,17 +350,17 @@ fn a_router_lowers_the_time_to_live_or_discards(rt: HostRuntime) {
         let made = Ipv4Header::new(95, time_to_live, IpNumber(17), source, destination);
         let mut header = made.expect(&rt, "a short payload");
         header.header_checksum = stored;
-        assert!(rt; header.lower_time_to_live());
-        assert_eq!(rt; header.time_to_live, lowered);
+        let goes_on = header.lower_time_to_live();
         let checksums = [header.header_checksum, header.calc_header_checksum()];
-        assert_eq!(rt; checksums, [updated; 2]);
+        let seen = (goes_on, header.time_to_live, checksums);
+        assert_eq!(rt; seen, (true, lowered, [updated; 2]));
     }
     for time_to_live in [1, 0] {
         let made = Ipv4Header::new(95, time_to_live, IpNumber(17), source, destination);
         let mut header = made.expect(&rt, "a short payload");
         let before = header.clone().expect(&rt, "no memory is taken");
-        assert!(rt; !header.lower_time_to_live());
-        assert_eq!(rt; header, before);
+        let goes_on = header.lower_time_to_live();
+        assert_eq!(rt; (goes_on, &header), (false, &before));
     }
 }
 
@@ -371,27 +369,35 @@ fn a_router_lowers_the_time_to_live_or_discards(rt: HostRuntime) {
 fn updates_of_random_headers_are_what_is_computed_anew(rt: HostRuntime) -> Result<(), Fail> {
     let bytes = random_bytes(rt.alloc(), 2000 * 32)?;
     for drawn in bytes.chunks(32) {
-        let (mut front, more) = match drawn.split_first_chunk::<20>() {
-            Some((front, more)) => (*front, more),
-            None => return Err("too few")?,
-        };
-        let [time_to_live, a, b, c, d, e, f, g, h, ..] = more else {
-            return Err("too few")?;
-        };
-        front[0] = 0x45;
-        front[6] &= 0x7f;
-        let (mut header, _) = Ipv4Header::from_slice(&front).expect(&rt, "a header");
-        header.header_checksum = header.calc_header_checksum();
-        header.set_time_to_live(*time_to_live);
-        assert_is_computed(&rt, &header);
-        header.set_source([*a, *b, *c, *d]);
-        assert_is_computed(&rt, &header);
-        header.set_destination([*e, *f, *g, *h]);
-        assert_is_computed(&rt, &header);
-        header.lower_time_to_live();
-        assert_is_computed(&rt, &header);
+        let front = drawn.first_chunk::<20>().ok_or("too few")?;
+        let time_to_live = *drawn.get(20).ok_or("too few")?;
+        let source = *drawn[21..].first_chunk::<4>().ok_or("too few")?;
+        let destination = *drawn[21..].last_chunk::<4>().ok_or("too few")?;
+        assert_updates_are_computed(&rt, *front, time_to_live, source, destination);
     }
     Ok(())
+}
+
+// That a header of random bytes has the computed checksum after each update.
+fn assert_updates_are_computed(
+    rt: &impl Abort,
+    mut front: [u8; 20],
+    time_to_live: u8,
+    source: [u8; 4],
+    destination: [u8; 4],
+) {
+    front[0] = 0x45;
+    front[6] &= 0x7f;
+    let (mut header, _) = Ipv4Header::from_slice(&front).expect(rt, "a header");
+    header.header_checksum = header.calc_header_checksum();
+    header.set_time_to_live(time_to_live);
+    assert_is_computed(rt, &header);
+    header.set_source(source);
+    assert_is_computed(rt, &header);
+    header.set_destination(destination);
+    assert_is_computed(rt, &header);
+    header.lower_time_to_live();
+    assert_is_computed(rt, &header);
 }
 
 #[test]

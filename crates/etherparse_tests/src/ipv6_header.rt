@@ -10,26 +10,15 @@ use std::test::Fail;
 
 // That the reader returns the header and what follows it.
 fn assert_reads(rt: &impl Abort, slice: &[u8], header: &Ipv6Header, rest: &[u8]) {
-    if let Ok((actual, actual_rest)) = Ipv6Header::from_slice(slice) {
-        assert_eq!(rt; actual, *header);
-        assert_eq!(rt; actual_rest, rest);
-    } else {
-        panic!(rt; "no header in front");
-    }
+    let (actual, actual_rest) = Ipv6Header::from_slice(slice).expect(rt, "a header in front");
+    assert_eq!(rt; (&actual, actual_rest), (header, rest));
 }
 
 // That the view and the reader refuse the slice with the same error.
 fn assert_refuses(rt: &impl Abort, slice: &[u8], expected: &HeaderSliceError) {
-    if let Err(refusal) = Ipv6HeaderSlice::from_slice(slice) {
-        assert_eq!(rt; refusal, *expected);
-    } else {
-        panic!(rt; "a view in front");
-    }
-    if let Err(refusal) = Ipv6Header::from_slice(slice) {
-        assert_eq!(rt; refusal, *expected);
-    } else {
-        panic!(rt; "a header in front");
-    }
+    let of_view = Ipv6HeaderSlice::from_slice(slice).expect_err(rt, "no view");
+    let of_reader = Ipv6Header::from_slice(slice).expect_err(rt, "no header");
+    assert_eq!(rt; (&of_view, &of_reader), (expected, expected));
 }
 
 #[test]
@@ -40,8 +29,8 @@ fn each_field_is_read_and_written(rt: HostRuntime) -> Result<(), Fail> {
     ] {
         assert_reads(&rt, &bytes, &header, &[]);
         let written: [u8; 40] = header.to_bytes();
-        assert_eq!(rt; written, bytes);
-        assert_eq!(rt; header.clone()?, header);
+        let clone = header.clone()?;
+        assert_eq!(rt; (written, &clone), (bytes, &header));
     }
     Ok(())
 }
@@ -91,11 +80,14 @@ fn refusal(outcome: Outcome, needed: usize, len: usize, first: u8) -> HeaderSlic
 fn assert_reads_and_writes(rt: &impl Abort, slice: &[u8], header_len: usize) {
     let view = Ipv6HeaderSlice::from_slice(slice).expect(rt, "a view in front");
     let front = view.slice();
-    assert_eq!(rt; Some(front), slice.get(..header_len));
     let header = view.to_header();
     let rest = slice.get(header_len..).expect(rt, "bytes after the header");
     assert_reads(rt, slice, &header, rest);
-    assert_eq!(rt; header.to_bytes().as_slice(), front);
+    let written = header.to_bytes();
+    assert_eq!(rt;
+        (Some(front), written.as_slice()),
+        (slice.get(..header_len), front)
+    );
 }
 
 #[test]

@@ -137,13 +137,14 @@ fn packets_are_cut_at_their_length_field(rt: HostRuntime) {
             upper,
             payload,
         } => {
-            assert_eq!(rt; (header.hop_limit, upper), (64, IpNumber::UDP));
+            let parts = (extensions, payload);
+            let expected = (
+                [17, 0, 0, 9, 1, 2, 3, 4].as_slice(),
+                [5, 6, 7, 8].as_slice(),
+            );
             assert_eq!(rt;
-                (extensions, payload),
-                (
-                    [17, 0, 0, 9, 1, 2, 3, 4].as_slice(),
-                    [5, 6, 7, 8].as_slice()
-                )
+                (header.hop_limit, upper, parts),
+                (64, IpNumber::UDP, expected)
             );
         }
         IpSlice::Ipv4 { .. } => rt.abort(),
@@ -153,8 +154,8 @@ fn packets_are_cut_at_their_length_field(rt: HostRuntime) {
 // That a packet is a fragment with this payload, of this number.
 fn assert_is_fragment(rt: &impl Abort, packet: &[u8], upper: IpNumber, payload: &[u8]) {
     let sliced = IpSlice::from_slice(packet).expect(rt, "a packet");
-    assert!(rt; sliced.is_fragment());
-    assert_eq!(rt; (sliced.upper(), sliced.payload()), (upper, payload));
+    let seen = (sliced.is_fragment(), sliced.upper(), sliced.payload());
+    assert_eq!(rt; seen, (true, upper, payload));
 }
 
 #[test]
@@ -198,11 +199,9 @@ fn a_capture_hands_its_packets_over(rt: HostRuntime) {
     );
     match next_record(&header, records) {
         Ok(Some((record, rest))) => {
-            assert_eq!(rt;
-                (record.seconds, record.nanoseconds, record.original_len),
-                (1, 2000, 5)
-            );
-            assert_eq!(rt; record.bytes, b"abc".as_slice());
+            let time = (record.seconds, record.nanoseconds);
+            let seen = (time, record.original_len, record.bytes);
+            assert_eq!(rt; seen, ((1, 2000), 5, b"abc".as_slice()));
             assert_eq!(rt; next_record(&header, rest), Ok(None));
         }
         _ => rt.abort(),
@@ -211,18 +210,20 @@ fn a_capture_hands_its_packets_over(rt: HostRuntime) {
 
 #[test]
 fn echo_requests_become_replies(rt: HostRuntime) {
+    let reply = [0, 0, 0x8c, 0x68, 0x12, 0x34, 0, 1, 0x61, 0x62];
     let mut message = [8, 0, 0xff, 0xff, 0x12, 0x34, 0, 1, 0x61, 0x62];
-    assert!(rt; icmpv4_reply(&mut message));
-    assert_eq!(rt; message, [0, 0, 0x8c, 0x68, 0x12, 0x34, 0, 1, 0x61, 0x62]);
-    assert!(rt; !icmpv4_reply(&mut message));
-    assert_eq!(rt; message, [0, 0, 0x8c, 0x68, 0x12, 0x34, 0, 1, 0x61, 0x62]);
+    let is_reply = icmpv4_reply(&mut message);
+    assert_eq!(rt; (is_reply, message), (true, reply));
+    let is_reply = icmpv4_reply(&mut message);
+    assert_eq!(rt; (is_reply, message), (false, reply));
+    let reply = [129, 0, 0xaf, 0xae, 0x12, 0x34, 0, 1, 0x61, 0x62];
     let mut message = [128, 0, 0, 0, 0x12, 0x34, 0, 1, 0x61, 0x62];
-    assert!(rt; icmpv6_reply(FIRST, SECOND, &mut message));
-    assert_eq!(rt; message, [129, 0, 0xaf, 0xae, 0x12, 0x34, 0, 1, 0x61, 0x62]);
+    let is_reply = icmpv6_reply(FIRST, SECOND, &mut message);
+    assert_eq!(rt; (is_reply, message), (true, reply));
     // The words behind the checksum are all ones, and their complement is 0.
     let mut message = [8, 0, 0xf7, 0xff, 0xff, 0xff, 0, 0];
-    assert!(rt; icmpv4_reply(&mut message));
-    assert_eq!(rt; message, [0, 0, 0, 0, 0xff, 0xff, 0, 0]);
+    let is_reply = icmpv4_reply(&mut message);
+    assert_eq!(rt; (is_reply, message), (true, [0, 0, 0, 0, 0xff, 0xff, 0, 0]));
     let mut short = [8, 0, 0, 0, 0, 0, 0];
     assert!(rt; !icmpv4_reply(&mut short));
 }

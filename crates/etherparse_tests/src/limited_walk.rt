@@ -43,13 +43,13 @@ fn incomplete(offset: usize) -> ChainError {
 // That a number and what follows it are returned.
 fn assert_walks(rt: &impl Abort, slice: &[u8], first: u8, limit: usize, number: u8, rest: &[u8]) {
     let answer = Ipv6Header::skip_header_extensions_up_to(slice, IpNumber(first), limit);
-    assert_eq!(rt; answer, Ok((IpNumber(number), rest)), "for limit {limit}");
+    assert_eq!(rt; (limit, answer), (limit, Ok((IpNumber(number), rest))));
 }
 
 // That the walk is refused.
 fn assert_refuses(rt: &impl Abort, slice: &[u8], limit: usize, expected: ChainError) {
     let answer = Ipv6Header::skip_header_extensions_up_to(slice, IpNumber(0), limit);
-    assert_eq!(rt; answer, Err(expected), "for limit {limit}");
+    assert_eq!(rt; (limit, answer), (limit, Err(expected)));
 }
 
 #[test]

@@ -41,8 +41,7 @@ fn over_ipv6() -> Ipv6Header {
 fn eight_bytes_are_read_written_and_read_back(rt: HostRuntime) {
     let bytes = [4, 0, 0, 53, 0, 12, 0x91, 0xae, b't', b'e'];
     let (read, rest) = UdpHeader::from_slice(&bytes).expect(&rt, "a header in front");
-    assert_eq!(rt; read, header(0x91ae));
-    assert_eq!(rt; rest, b"te".as_slice());
+    assert_eq!(rt; (&read, rest), (&header(0x91ae), b"te".as_slice()));
     assert_eq!(rt; read.to_bytes(), [4, 0, 0, 53, 0, 12, 0x91, 0xae]);
     let e = UdpHeader::from_slice(&bytes[..7]).expect_err(&rt, "seven bytes");
     assert_eq!(rt; e, too_short(Layer::UdpHeader, 8, 7));
@@ -115,18 +114,20 @@ const OVER_IPV6: [u8; 53] = [
 
 #[test]
 fn the_datagram_of_a_packet_is_judged_as_long_as_it_says(rt: HostRuntime) {
-    assert_eq!(rt; is_udp_right(&OVER_IPV6), Ok(Some(true)));
-    // Without a checksum.
-    let mut packet = OVER_IPV6;
-    packet[46] = 0;
-    packet[47] = 0;
-    assert_eq!(rt; is_udp_right(&packet), Ok(Some(false)));
-    // Shorter than a header, and than the packet would have to be.
-    let mut packet = OVER_IPV6;
-    packet[45] = 7;
-    assert_eq!(rt; is_udp_right(&packet), Ok(None));
-    packet[45] = 14;
-    assert_eq!(rt; is_udp_right(&packet), Ok(None));
+    let mut without_checksum = OVER_IPV6;
+    without_checksum[46] = 0;
+    without_checksum[47] = 0;
+    let judged = [is_udp_right(&OVER_IPV6), is_udp_right(&without_checksum)];
+    assert_eq!(rt; judged, [Ok(Some(true)), Ok(Some(false))]);
+    let mut shorter_than_a_header = OVER_IPV6;
+    shorter_than_a_header[45] = 7;
+    let mut longer_than_the_packet = OVER_IPV6;
+    longer_than_the_packet[45] = 14;
+    let judged = [
+        is_udp_right(&shorter_than_a_header),
+        is_udp_right(&longer_than_the_packet),
+    ];
+    assert_eq!(rt; judged, [Ok(None), Ok(None)]);
 }
 
 #[test]
@@ -134,16 +135,14 @@ fn a_translated_address_keeps_both_checksums_right(rt: HostRuntime) {
     let mut ip = over_ipv4(&rt);
     ip.header_checksum = ip.calc_header_checksum();
     let checksum = translate_udp_source(&mut ip, 0x91ae, [10, 0, 0, 1]);
-    assert_eq!(rt; checksum, 0x4857);
-    assert_both_are_right(&rt, &ip, checksum);
+    assert_eq!(rt; (checksum, are_both_right(&ip, checksum)), (0x4857, true));
     let checksum = translate_udp_destination(&mut ip, checksum, [10, 0, 0, 2]);
-    assert_both_are_right(&rt, &ip, checksum);
+    assert!(rt; are_both_right(&ip, checksum));
 }
 
-// That the checksum of the header and this one of the datagram over it are right.
-fn assert_both_are_right(rt: &impl Abort, ip: &Ipv4Header, checksum: u16) {
-    assert_eq!(rt; ip.header_checksum, ip.calc_header_checksum());
-    assert!(rt; header(checksum).is_right_ipv4(ip, b"test"));
+// Whether the checksum of the header and this one of the datagram over it are right.
+fn are_both_right(ip: &Ipv4Header, checksum: u16) -> bool {
+    ip.header_checksum == ip.calc_header_checksum() && header(checksum).is_right_ipv4(ip, b"test")
 }
 
 #[test]
@@ -158,7 +157,7 @@ fn no_checksum_stays_none_and_one_of_tcp_may_become_zero(rt: HostRuntime) {
         translate_tcp_destination(&mut ip, 0xfffe, [10, 0, 0, 1]),
     ];
     assert_eq!(rt; checksums, [0, 0xfffe, 0]);
-    let addresses = (ip.source, ip.destination);
-    assert_eq!(rt; addresses, ([1, 2, 3, 5], [10, 0, 0, 1]));
-    assert_eq!(rt; ip.header_checksum, ip.calc_header_checksum());
+    let seen = (ip.source, ip.destination, ip.header_checksum);
+    let computed = ip.calc_header_checksum();
+    assert_eq!(rt; seen, ([1, 2, 3, 5], [10, 0, 0, 1], computed));
 }

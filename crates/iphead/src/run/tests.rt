@@ -170,8 +170,7 @@ fn expect(rt: &(impl Abort + AllocGlobal), input: &[u8], status: Status, text: &
     let mut reader = input;
     let mut written = Vec::new(rt.alloc());
     let ended = run(&mut reader, &mut written);
-    assert_eq!(rt; ended, status, "for {text}");
-    assert_eq!(rt; written.as_slice(), text.as_bytes(), "for {text}");
+    assert_eq!(rt; (ended, written.as_slice()), (status, text.as_bytes()));
 }
 
 // The same byte many times.

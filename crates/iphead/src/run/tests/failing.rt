@@ -105,13 +105,8 @@ fn expect_from(
 ) {
     let mut written = Vec::new(rt.alloc());
     let ended = run(&mut source, &mut written);
-    assert_eq!(rt; ended, status, "after {calls} calls, for {text}");
-    assert_eq!(rt; written.as_slice(), text.as_bytes());
-    assert_eq!(rt; source.calls, calls, "calls, for {text}");
-    assert!(rt;
-        !source.is_misused,
-        "a call after the last, or not for 512 bytes, for {text}"
-    );
+    let seen = (ended, written.as_slice(), source.calls, source.is_misused);
+    assert_eq!(rt; seen, (status, text.as_bytes(), calls, false));
 }
 
 // Makes each read of a run fail in turn: that read is the last one, and nothing is printed. There
@@ -172,8 +167,9 @@ fn a_reader_of_one_byte_a_call_changes_nothing(rt: HostRuntime) {
 fn input_without_an_end_is_too_long(rt: HostRuntime) {
     for byte in [b'0', b' '] {
         let mut written = Vec::new(rt.alloc());
-        assert_eq!(rt; run(&mut io::repeat(byte), &mut written), Status::BadInput);
-        assert_eq!(rt; written.as_slice(), TOO_LONG.as_bytes());
+        let ended = run(&mut io::repeat(byte), &mut written);
+        let seen = (ended, written.as_slice());
+        assert_eq!(rt; seen, (Status::BadInput, TOO_LONG.as_bytes()));
     }
 }
 
@@ -197,8 +193,7 @@ fn expect_each_write_ends_it(
         let is_whole = ended == status && taken == text.as_bytes();
         let before = at_most.saturating_mul(fails_at - 1);
         if text.len() <= before {
-            assert!(rt; is_whole, "with no failure, for {text}");
-            assert_eq!(rt; sink.calls, fails_at - 1, "writes, for {text}");
+            assert_eq!(rt; (is_whole, sink.calls), (true, fails_at - 1));
             return;
         }
         let is_cut = ended == Status::Failed
