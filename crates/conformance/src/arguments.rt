@@ -205,10 +205,10 @@ impl<'a> Arguments<'a> {
 // Whether a word has the form of a number: digits, the first of which is 0 only if it is the only
 // one.
 fn is_canonical(word: &str) -> bool {
-    word == "0" || !word.starts_with('0') && has_digits_alone(word)
+    word == "0" || !word.starts_with('0') && has_only_digits(word)
 }
 
-fn has_digits_alone(word: &str) -> bool {
+fn has_only_digits(word: &str) -> bool {
     for byte in word.as_bytes() {
         if !byte.is_ascii_digit() {
             return false;
