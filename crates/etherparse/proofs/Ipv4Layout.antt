@@ -5,7 +5,6 @@ use Rattle.std.specs.List.{slice_range}
 use Rattle.std.specs.Int.{from_be_bytes, from_bool, to_be_bytes, w16}
 use Rattle.std.proofs.lemmas.Bool.{eq-eqb, ne_eqb}
 use Rattle.std.proofs.lemmas.List.{drop_at, take_at}
-use Rattle.std.proofs.lemmas.List.Folds.{drop_split}
 use Rattle.std.proofs.lemmas.Nat.{from_be_bytes-to_be_bytes_2}
 use Rattle.std.proofs.lemmas.Nat.Bits.{and_pow}
 use Rattle.etherparse_base.specs.Bytes.{IsBytes}
@@ -13,7 +12,7 @@ use Rattle.etherparse_fields.specs.IpEcn.{ecn_value}
 use Rattle.etherparse_fields.specs.Ipv4Options.{IsOptionsLen}
 use Rattle.etherparse_fields.specs.declared.net.ip_ecn.IpEcn.{IpEcn}
 use Rattle.etherparse_fields.specs.declared.net.ip_ecn.IpEcn.TheVariants.{CongestionExperienced, Ect0, Ect1, NotEct}
-use Rattle.etherparse.proofs.Parts.{get_or-slice_range, length-part, listed, part_is_bytes, same_append, set_is_bytes, word_at}
+use Rattle.etherparse.proofs.Parts.{get_or-slice_range, in_parts, length-part, listed, part_is_bytes, set_is_bytes, word_at}
 use Rattle.etherparse.specs.FirstByte.{ihl_of, version_of}
 use Rattle.etherparse.specs.Ipv4Header.{IsIpv4Layout, IsIpv4LayoutWith, ipv4_ihl, with_reserved_bit_cleared}
 use Rattle.etherparse.specs.declared.net.ipv4_header.Ipv4Header.{Ipv4Header}
@@ -115,13 +114,12 @@ spelled h r p l =
     listed p 0 2 (omega arith) ∙ (let a = l.version_ihl in let b = l.dscp_ecn in cc) in
     let fifth : slice_range p 8 10 ≡ h.time_to_live ∷ h.protocol ∷ [] =
     listed p 8 2 (omega arith) ∙ (let a = l.time_to_live in let b = l.protocol in cc) in
-    drop_split p 0 2 (omega arith) ∙ same_append first
-    (drop_split p 2 4 (omega arith) ∙ same_append (word_at p 2 _ (omega arith) l.are_bytes l.total_len)
-    (drop_split p 4 6 (omega arith) ∙ same_append (word_at p 4 _ (omega arith) l.are_bytes l.identification)
-    (drop_split p 6 8 (omega arith) ∙ same_append (word_at p 6 _ (omega arith) l.are_bytes l.flags_fragment_offset)
-    (drop_split p 8 10 (omega arith) ∙ same_append fifth
-    (drop_split p 10 12 (omega arith) ∙ same_append (word_at p 10 _ (omega arith) l.are_bytes l.header_checksum)
-    (drop_split p 12 16 (omega arith) ∙ same_append l.source (drop_split p 16 20 (omega arith) ∙ same_append l.destination l.options)))))))
+    let total_len = word_at p 2 _ (omega arith) l.are_bytes l.total_len in
+    let identification = word_at p 4 _ (omega arith) l.are_bytes l.identification in
+    let flags = word_at p 6 _ (omega arith) l.are_bytes l.flags_fragment_offset in
+    let checksum = word_at p 10 _ (omega arith) l.are_bytes l.header_checksum in
+    in_parts p 0 (2 ∷ 2 ∷ 2 ∷ 2 ∷ 2 ∷ 2 ∷ 4 ∷ 4 ∷ [])
+    ∙ rw (first, total_len, identification, flags, fifth, checksum, l.source, l.destination, l.options) refl
 
 -- a header has one list of bytes for each reserved bit
 pub same_bytes : (h : Ipv4Header) (r : ℕ) (p q : List ℕ) → IsIpv4LayoutWith h r p → IsIpv4LayoutWith h r q → p ≡ q

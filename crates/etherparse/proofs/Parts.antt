@@ -6,6 +6,7 @@ use Rattle.std.specs.Prelude.{slice_set}
 use Rattle.std.proofs.lemmas.Bool.{cases_eq, cases_lt}
 use Rattle.std.proofs.lemmas.Grind.{common_steps, get_or-set_at}
 use Rattle.std.proofs.lemmas.List.{drop_at, get_or-append_right, get_or_append_left, get_or_past, length-take, take_at}
+use Rattle.std.proofs.lemmas.List.Folds.{drop_split}
 use Rattle.std.proofs.lemmas.List.FromFn.{fill_by_all}
 use Rattle.std.proofs.lemmas.Nat.{be_bytes_2, from_be_bytes-to_be_bytes_2}
 use Rattle.etherparse_base.specs.Bytes.{IsBytes, words_of}
@@ -41,6 +42,15 @@ same_back p q x y e h = sym (drop_at p x (length q) e) ∙ (ap (λ s. drop (leng
 -- all items of a list, one by one
 pub spread : (xs : List ℕ) (n : ℕ) → length xs ≡ n → xs ≡ map (λ i. get_or xs i 0) (range_with_len 0 n)
 spread xs n e = fill_by_all (λ i. get_or xs i 0) xs n 0 e (λ k below. refl)
+
+-- a list from a place on, in parts of these lengths and what follows them
+abbrev pub parts_of : List ℕ → ℕ → List ℕ → List ℕ
+parts_of xs at [] = drop at xs
+parts_of xs at (n ∷ lengths) = slice_range xs at (at + n) ++ parts_of xs (at + n) lengths
+
+pub in_parts : (xs : List ℕ) (at : ℕ) (lengths : List ℕ) → drop at xs ≡ parts_of xs at lengths
+in_parts xs at [] = refl
+in_parts xs at (n ∷ lengths) = drop_split xs at (at + n) (omega arith) ∙ ap (λ rest. slice_range xs at (at + n) ++ rest) (in_parts xs (at + n) lengths)
 
 -- two parts, each with its equation
 pub same_append : {a a' b b' : List ℕ} → a ≡ a' → b ≡ b' → a ++ b ≡ a' ++ b'
