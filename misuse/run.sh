@@ -52,18 +52,12 @@ plant() {
   fi
 }
 
-# What the check says of the crate that is laid. It first reads it and the library below it, and then
-# says 'only=' if both compile, or 'mend these first'. It then goes on to the proofs, whose errors tell
-# nothing here, as the copy has no definitions. If it says neither, it left out the reading. Then it is
-# asked once more.
+# What the check says of the crate that is laid. `rt all check` first reads all sources, and then
+# says 'only=' if they compile, or 'mend these first'. (`rt check` leaves that reading out where another
+# checkout on the machine has proofs of crates of these names.) It would then go on to the proofs,
+# whose errors tell nothing here, as the copy has no definitions.
 check() {
-  local said=
-  for _ in 1 2; do
-    rm -rf "$room"/crates/*/out
-    said=$(cd "$crate" && timeout 120 rt check 2>&1) || true
-    if grep -qE '^only=|mend these first' <<< "$said"; then break; fi
-  done
-  printf '%s\n' "$said"
+  (cd "$room" && timeout 120 rt all check 2>&1) || true
 }
 
 # Prints why a case fails, or nothing.
