@@ -12,7 +12,7 @@ use Rattle.etherparse_fields.specs.IpEcn.{ecn_value}
 use Rattle.etherparse_fields.specs.Ipv4Options.{IsOptionsLen}
 use Rattle.etherparse_fields.specs.declared.net.ip_ecn.IpEcn.{IpEcn}
 use Rattle.etherparse_fields.specs.declared.net.ip_ecn.IpEcn.TheVariants.{CongestionExperienced, Ect0, Ect1, NotEct}
-use Rattle.etherparse.proofs.Parts.{get_or-slice_range, in_parts, length-part, listed, part_is_bytes, set_is_bytes, word_at}
+use Rattle.etherparse.proofs.Parts.{get_or-slice_range, in_parts, length-part, listed, part_is_bytes, set_is_bytes, told_by_words_from}
 use Rattle.etherparse.specs.FirstByte.{ihl_of, version_of}
 use Rattle.etherparse.specs.Ipv4Header.{IsIpv4Layout, IsIpv4LayoutWith, ipv4_ihl, with_reserved_bit_cleared}
 use Rattle.etherparse.specs.declared.net.ipv4_header.Ipv4Header.{Ipv4Header}
@@ -114,12 +114,10 @@ spelled h r p l =
     listed p 0 2 (omega arith) ∙ (let a = l.version_ihl in let b = l.dscp_ecn in cc) in
     let fifth : slice_range p 8 10 ≡ h.time_to_live ∷ h.protocol ∷ [] =
     listed p 8 2 (omega arith) ∙ (let a = l.time_to_live in let b = l.protocol in cc) in
-    let total_len = word_at p 2 _ (omega arith) l.are_bytes l.total_len in
-    let identification = word_at p 4 _ (omega arith) l.are_bytes l.identification in
-    let flags = word_at p 6 _ (omega arith) l.are_bytes l.flags_fragment_offset in
-    let checksum = word_at p 10 _ (omega arith) l.are_bytes l.header_checksum in
-    in_parts p 0 (2 ∷ 2 ∷ 2 ∷ 2 ∷ 2 ∷ 2 ∷ 4 ∷ 4 ∷ [])
-    ∙ rw (first, total_len, identification, flags, fifth, checksum, l.source, l.destination, l.options) refl
+    let words : slice_range p 2 8 ≡ to_be_bytes w16 h.total_len ++ (to_be_bytes w16 h.identification ++ (to_be_bytes w16 (flags_word h r) ++ [])) =
+    told_by_words_from p 2 3 (omega arith) l.are_bytes ∙ rw (l.total_len, l.identification, l.flags_fragment_offset) refl in
+    let checksum : slice_range p 10 12 ≡ to_be_bytes w16 h.header_checksum ++ [] = told_by_words_from p 10 1 (omega arith) l.are_bytes ∙ rw l.header_checksum refl in
+    in_parts p 0 (2 ∷ 6 ∷ 2 ∷ 2 ∷ 4 ∷ 4 ∷ []) ∙ rw (first, words, fifth, checksum, l.source, l.destination, l.options) refl
 
 -- a header has one list of bytes for each reserved bit
 pub same_bytes : (h : Ipv4Header) (r : ℕ) (p q : List ℕ) → IsIpv4LayoutWith h r p → IsIpv4LayoutWith h r q → p ≡ q

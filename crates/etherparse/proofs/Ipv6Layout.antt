@@ -5,7 +5,7 @@ use Rattle.std.proofs.lemmas.List.{length-drop, take_all, take_at, drop_at}
 use Rattle.std.specs.Int.{from_be_bytes, to_be_bytes, w16, w32}
 use Rattle.std.proofs.lemmas.Nat.{be_bytes_4, from_be_bytes-to_be_bytes_2, from_be_bytes-to_be_bytes_4}
 use Rattle.etherparse_base.specs.Bytes.{IsBytes}
-use Rattle.etherparse.proofs.Parts.{get_or-slice_range, in_parts, length-part, listed, part_is_bytes, word_at}
+use Rattle.etherparse.proofs.Parts.{get_or-slice_range, in_parts, length-part, listed, part_is_bytes, told_by_words_from}
 use Rattle.etherparse.specs.Ipv6Header.{IsIpv6Layout}
 use Rattle.etherparse.specs.FirstByte.{version_of}
 use Rattle.etherparse.specs.declared.net.ipv6_header.Ipv6Header.{Ipv6Header}
@@ -57,7 +57,7 @@ spelled h p l =
     listed p 6 2 (omega arith) ∙ (let nh = l.next_header in let hl = l.hop_limit in cc) in
     let first : slice_range p 0 4 ≡ to_be_bytes w32 (6 * 2 ^ 28 + h.traffic_class * 2 ^ 20 + h.flow_label) =
     sym (be_bytes_4 (slice_range p 0 4) _ (length-part p 0 4 (omega arith)) (λ i. part_is_bytes p 0 4 i l.are_bytes) (sym l.version_traffic_class_flow_label)) in
-    let payload_length = word_at p 4 _ (omega arith) l.are_bytes l.payload_length in
+    let payload_length : slice_range p 4 6 ≡ to_be_bytes w16 h.payload_length ++ [] = told_by_words_from p 4 1 (omega arith) l.are_bytes ∙ rw l.payload_length refl in
     let destination : drop 24 p ≡ h.destination = sym (take_all 16 (drop 24 p) (omega (arith, length-drop 24 p, l.len))) ∙ l.destination in
     in_parts p 0 (4 ∷ 2 ∷ 2 ∷ 16 ∷ []) ∙ rw (first, payload_length, third, l.source, destination) refl
 
