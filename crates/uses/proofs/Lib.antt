@@ -1,2 +1,1 @@
-mod Skips
 mod UdpLayout

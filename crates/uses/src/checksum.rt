@@ -89,12 +89,12 @@ fn datagram(payload: &[u8]) -> Option<(UdpHeader, &[u8])>
 }
 
 // Whether a datagram in a packet of these parts is right.
-fn is_right_in(slice: &IpSlice, udp: &UdpHeader, data: &[u8]) -> bool
+fn is_right_in(slice: &IpSlice, udp: &UdpHeader, payload: &[u8]) -> bool
     ensures right { (header : List ℕ) → IsUdpLayout udp.now header →
-        (IsTrue result ↔ IsRightIn slice.now udp.now header data.now) }
+        (IsTrue result ↔ IsRightIn slice.now udp.now header payload.now) }
 {
     match slice {
-        IpSlice::Ipv4 { header, .. } => udp.is_right_ipv4(header, data),
-        IpSlice::Ipv6 { header, .. } => udp.is_right_ipv6(header, data),
+        IpSlice::Ipv4 { header, .. } => udp.is_right_ipv4(header, payload),
+        IpSlice::Ipv6 { header, .. } => udp.is_right_ipv6(header, payload),
     }
 }
