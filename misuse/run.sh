@@ -53,9 +53,9 @@ plant() {
 }
 
 # What the check says of the crate that is laid. `rt all check` first reads all sources, and then
-# says 'only=' if they compile, or 'mend these first'. (`rt check` leaves that reading out where another
-# checkout on the machine has proofs of crates of these names.) It would then go on to the proofs,
-# whose errors tell nothing here, as the copy has no definitions.
+# says 'only=' if they compile, or 'mend these first'. (`rt check` leaves that reading out where
+# another checkout on the machine has proofs of crates of these names.) It would then go on to the
+# proofs, whose errors tell nothing here, as the copy has no definitions.
 check() {
   (cd "$room" && timeout 120 rt all check 2>&1) || true
 }
