@@ -6,7 +6,8 @@ use Rattle.std.proofs.lemmas.Bool.{cases_eq}
 use Rattle.etherparse_base.specs.WordSums.{IsSumOf, StandsForWords, SumsToAllOnes, UpdatesChecksum, checksum_of, folded_sum, little_endian_word_sum, network_order_word_sum}
 use Rattle.etherparse_base.proofs.FoldedSums.{folded_sum-positive}
 use Rattle.etherparse_base.proofs.WordSumLaws.{little_endian_word_sum-append, network_order_word_sum-append}
-use Rattle.etherparse.proofs.Ipv4Layout.{flags_word, front_spelling, front_spells, ranges_of, spelled, spelling}
+use Rattle.etherparse.proofs.Layouts.{written}
+use Rattle.etherparse.proofs.Ipv4Layout.{fixed_fields, flags_word, front_spells, ranges_of, spelled, spelling}
 use Rattle.etherparse.specs.HeaderChecksum.{KeepsChecksum, header_checksum_of, with_part}
 use Rattle.etherparse.specs.Ipv4Header.{IsIpv4LayoutWith}
 use Rattle.etherparse.specs.declared.net.ipv4_header.Ipv4Header.{Ipv4Header}
@@ -142,7 +143,7 @@ keeps_checksum h g old new updates header_changes = record {
 
 -- the complement of the sum of the fixed fields and of the options, in network order, is the computed checksum
 pub computed_of : (h : Ipv4Header) (front options : List ℕ) (fixed sum answer : ℕ)
-    → front ≡ front_spelling (with_checksum 0 h) (from_bool h.dont_fragment * 2 ^ 14 + from_bool h.more_fragments * 2 ^ 13 + h.fragment_offset) (h.source ++ h.destination)
+    → front ≡ written (fixed_fields (with_checksum 0 h) (from_bool h.dont_fragment * 2 ^ 14 + from_bool h.more_fragments * 2 ^ 13 + h.fragment_offset)) (h.source ++ h.destination)
     → options ≡ h.options → length front ≡ 20 → StandsForWords 0 front fixed → StandsForWords fixed options sum
     → ((bytes : List ℕ) → IsSumOf sum bytes → answer ≡ checksum_of (network_order_word_sum bytes))
     → ((stored : ℕ) (p : List ℕ) → IsIpv4LayoutWith (with_checksum stored h) 0 p → answer ≡ header_checksum_of p) × (answer < 65535)

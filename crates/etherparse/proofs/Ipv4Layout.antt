@@ -12,7 +12,8 @@ use Rattle.etherparse_fields.specs.IpEcn.{ecn_value}
 use Rattle.etherparse_fields.specs.Ipv4Options.{IsOptionsLen}
 use Rattle.etherparse_fields.specs.declared.net.ip_ecn.IpEcn.{IpEcn}
 use Rattle.etherparse_fields.specs.declared.net.ip_ecn.IpEcn.TheVariants.{CongestionExperienced, Ect0, Ect1, NotEct}
-use Rattle.etherparse.proofs.Parts.{get_or-slice_range, in_parts, length-part, listed, part_is_bytes, set_is_bytes, told_by_words_from}
+use Rattle.etherparse.proofs.Layouts.{AllFit, Field, array, length-written, read_back, told, u16, u16_fits, u8, written}
+use Rattle.etherparse.proofs.Parts.{get_or-slice_range, length-part, set_is_bytes}
 use Rattle.etherparse.specs.FirstByte.{ihl_of, version_of}
 use Rattle.etherparse.specs.Ipv4Header.{IsIpv4Layout, IsIpv4LayoutWith, ipv4_ihl, with_reserved_bit_cleared}
 use Rattle.etherparse.specs.declared.net.ipv4_header.Ipv4Header.{Ipv4Header}
@@ -100,24 +101,22 @@ one_header g h p k l = same_header g h k.reserved l.reserved p k.layout l.layout
 abbrev pub flags_word : Ipv4Header → ℕ → ℕ
 flags_word h r = r * 2 ^ 15 + from_bool h.dont_fragment * 2 ^ 14 + from_bool h.more_fragments * 2 ^ 13 + h.fragment_offset
 
--- the bytes of a header, part by part
+-- the fields of a header, in their order, with a number for its flags and fragment offset
+abbrev pub fixed_fields : Ipv4Header → ℕ → List Field
+fixed_fields h flags = u8 (4 * 2 ^ 4 + ipv4_ihl h) ∷ u8 (h.dscp * 2 ^ 2 + ecn_value h.ecn) ∷ u16 h.total_len ∷ u16 h.identification ∷ u16 flags
+    ∷ u8 h.time_to_live ∷ u8 h.protocol ∷ u16 h.header_checksum ∷ []
+
+abbrev pub ipv4_fields : Ipv4Header → ℕ → List Field
+ipv4_fields h flags = fixed_fields h flags ++ (array 4 h.source ∷ array 4 h.destination ∷ [])
+
+-- the bytes of a header
 abbrev pub spelling : Ipv4Header → ℕ → List ℕ
-spelling h flags = (4 * 2 ^ 4 + ipv4_ihl h) ∷ (h.dscp * 2 ^ 2 + ecn_value h.ecn) ∷ (to_be_bytes w16 h.total_len
-    ++ (to_be_bytes w16 h.identification ++ (to_be_bytes w16 flags ++ (h.time_to_live ∷ h.protocol
-    ∷ (to_be_bytes w16 h.header_checksum ++ (h.source ++ (h.destination ++ h.options)))))))
+spelling h flags = written (ipv4_fields h flags) h.options
 
 -- a byte list in the layout is the header's spelling
 pub spelled : (h : Ipv4Header) (r : ℕ) (p : List ℕ) → IsIpv4LayoutWith h r p → p ≡ spelling h (flags_word h r)
-spelled h r p l =
-    let long : 20 ≤ length p = omega (arith, l.len) in
-    let first : slice_range p 0 2 ≡ (4 * 2 ^ 4 + ipv4_ihl h) ∷ (h.dscp * 2 ^ 2 + ecn_value h.ecn) ∷ [] =
-    listed p 0 2 (omega arith) ∙ (let a = l.version_ihl in let b = l.dscp_ecn in cc) in
-    let fifth : slice_range p 8 10 ≡ h.time_to_live ∷ h.protocol ∷ [] =
-    listed p 8 2 (omega arith) ∙ (let a = l.time_to_live in let b = l.protocol in cc) in
-    let words : slice_range p 2 8 ≡ to_be_bytes w16 h.total_len ++ (to_be_bytes w16 h.identification ++ (to_be_bytes w16 (flags_word h r) ++ [])) =
-    told_by_words_from p 2 3 (omega arith) l.are_bytes ∙ rw (l.total_len, l.identification, l.flags_fragment_offset) refl in
-    let checksum : slice_range p 10 12 ≡ to_be_bytes w16 h.header_checksum ++ [] = told_by_words_from p 10 1 (omega arith) l.are_bytes ∙ rw l.header_checksum refl in
-    in_parts p 0 (2 ∷ 6 ∷ 2 ∷ 2 ∷ 4 ∷ 4 ∷ []) ∙ rw (first, words, fifth, checksum, l.source, l.destination, l.options) refl
+spelled h r p l = told p 0 (ipv4_fields h (flags_word h r)) h.options l.are_bytes (omega (arith, l.len)) (l.version_ihl, (l.dscp_ecn, (l.total_len, (l.identification,
+    (l.flags_fragment_offset, (l.time_to_live, (l.protocol, (l.header_checksum, (l.source, (l.destination, l.options))))))))))
 
 -- a header has one list of bytes for each reserved bit
 pub same_bytes : (h : Ipv4Header) (r : ℕ) (p q : List ℕ) → IsIpv4LayoutWith h r p → IsIpv4LayoutWith h r q → p ≡ q
@@ -136,27 +135,26 @@ pub record HasFieldRanges (header : Ipv4Header) : Type 0 where
 -- the spelling of a header is in its layout
 pub spells : (h : Ipv4Header) (r : ℕ) (p : List ℕ) → HasFieldRanges h → IsOptionsLen (length h.options) → r < 2 → IsBytes p
     → p ≡ spelling h (flags_word h r) → IsIpv4LayoutWith h r p
-spells h r p f o b bytes e =
-    let behind = h.source ++ (h.destination ++ h.options) in
-    let len : length (spelling h (flags_word h r)) ≡ 20 + length h.options =
-    omega (arith, f.source, f.destination, length-append h.source (h.destination ++ h.options), length-append h.destination h.options) in
-    let rest : drop 4 behind ≡ h.destination ++ h.options = drop_at h.source (h.destination ++ h.options) 4 f.source in
+spells h r p f o b are_bytes e =
+    let flags_fit : flags_word h r < 2 ^ 16 = omega (arith, f.fragment_offset, from_bool-lt h.dont_fragment, from_bool-lt h.more_fragments) in
+    let fit : AllFit (ipv4_fields h (flags_word h r)) =
+    (tt, (tt, (f.total_len, (f.identification, (flags_fit, (tt, (tt, (f.header_checksum, (f.source, (f.destination, tt)))))))))) in
+    let (first, (second, (total_len, (identification, (flags, (time_to_live, (protocol, (header_checksum, (source, (destination, options)))))))))) =
+    read_back p 0 (ipv4_fields h (flags_word h r)) h.options fit e in
     record {
-      len = ap length e ∙ len;
-      are_bytes = bytes;
-      version_ihl = rw e refl;
-      dscp_ecn = rw e refl;
-      total_len = rw e (from_be_bytes-to_be_bytes_2 h.total_len f.total_len);
-      identification = rw e (from_be_bytes-to_be_bytes_2 h.identification f.identification);
-      flags_fragment_offset = rw e (from_be_bytes-to_be_bytes_2 (flags_word h r)
-          (omega (arith, f.fragment_offset, from_bool-lt h.dont_fragment, from_bool-lt h.more_fragments)));
-      time_to_live = rw e refl;
-      protocol = rw e refl;
-      header_checksum = rw e (from_be_bytes-to_be_bytes_2 h.header_checksum f.header_checksum);
-      source = rw e (take_at h.source (h.destination ++ h.options) 4 f.source);
-      destination = rw e (ap (λ xs. take 4 xs) rest ∙ take_at h.destination h.options 4 f.destination);
-      options = rw e (ap (λ xs. drop 8 xs) (sym (append_assoc h.source h.destination h.options))
-          ∙ drop_at (h.source ++ h.destination) h.options 8 (omega (arith, f.source, f.destination, length-append h.source h.destination)));
+      len = ap length e ∙ length-written (ipv4_fields h (flags_word h r)) h.options fit;
+      are_bytes = are_bytes;
+      version_ihl = first;
+      dscp_ecn = second;
+      total_len = total_len;
+      identification = identification;
+      flags_fragment_offset = flags;
+      time_to_live = time_to_live;
+      protocol = protocol;
+      header_checksum = header_checksum;
+      source = source;
+      destination = destination;
+      options = options;
       options_len = o;
       dscp_fits = f.dscp;
       fragment_offset_fits = f.fragment_offset;
@@ -182,24 +180,15 @@ cleared_spells h r p l =
 
 -- the ranges of a header's fields are in its layout
 pub ranges_of : (h : Ipv4Header) (r : ℕ) (p : List ℕ) → IsIpv4LayoutWith h r p → HasFieldRanges h
-ranges_of h r p l =
-    let long : 20 ≤ length p = omega (arith, l.len) in
-    let word_fits = λ (a n : ℕ) (e : from_be_bytes w16 (slice_range p a (a + 2)) ≡ n). word_lt p a n l.are_bytes e in
-    record {
-      dscp = l.dscp_fits;
-      fragment_offset = l.fragment_offset_fits;
-      total_len = word_fits 2 _ l.total_len;
-      identification = word_fits 4 _ l.identification;
-      header_checksum = word_fits 10 _ l.header_checksum;
-      source = ap length (sym l.source) ∙ length-part p 12 16 (omega arith);
-      destination = ap length (sym l.destination) ∙ length-part p 16 20 (omega arith);
-    }
-  where
-    word_lt : (xs : List ℕ) (a n : ℕ) → IsBytes xs → from_be_bytes w16 (slice_range xs a (a + 2)) ≡ n → n < 2 ^ 16
-    word_lt xs a n bytes e =
-        let b0 = part_is_bytes xs a (a + 2) 0 bytes in
-        let b1 = part_is_bytes xs a (a + 2) 1 bytes in
-        omega arith
+ranges_of h r p l = record {
+  dscp = l.dscp_fits;
+  fragment_offset = l.fragment_offset_fits;
+  total_len = u16_fits p 2 _ l.are_bytes l.total_len;
+  identification = u16_fits p 4 _ l.are_bytes l.identification;
+  header_checksum = u16_fits p 10 _ l.are_bytes l.header_checksum;
+  source = ap length (sym l.source) ∙ length-part p 12 16 (omega (arith, l.len));
+  destination = ap length (sym l.destination) ∙ length-part p 16 20 (omega (arith, l.len));
+}
 
 -- with the reserved bit cleared the bytes are in the layout of the same header
 pub cleared_layout : (h : Ipv4Header) (r : ℕ) (p : List ℕ) → IsIpv4LayoutWith h r p → IsIpv4LayoutWith h 0 (with_reserved_bit_cleared p)
@@ -289,15 +278,10 @@ header_at p version ihl len bytes =
     )
 
 -- the fixed fields of a header, with the options after them, are its spelling
-abbrev pub front_spelling : Ipv4Header → ℕ → List ℕ → List ℕ
-front_spelling h flags behind = (4 * 2 ^ 4 + ipv4_ihl h) ∷ (h.dscp * 2 ^ 2 + ecn_value h.ecn) ∷ (to_be_bytes w16 h.total_len
-    ++ (to_be_bytes w16 h.identification ++ (to_be_bytes w16 flags ++ (h.time_to_live ∷ h.protocol
-    ∷ (to_be_bytes w16 h.header_checksum ++ behind)))))
-
 pub front_spells : (h : Ipv4Header) (front options p : List ℕ) → p ≡ front ++ options → options ≡ h.options
-    → front ≡ front_spelling h (from_bool h.dont_fragment * 2 ^ 14 + from_bool h.more_fragments * 2 ^ 13 + h.fragment_offset) (h.source ++ h.destination)
+    → front ≡ written (fixed_fields h (from_bool h.dont_fragment * 2 ^ 14 + from_bool h.more_fragments * 2 ^ 13 + h.fragment_offset)) (h.source ++ h.destination)
     → p ≡ spelling h (flags_word h 0)
 front_spells h front options p e o f =
     let flags : from_bool h.dont_fragment * 2 ^ 14 + from_bool h.more_fragments * 2 ^ 13 + h.fragment_offset ≡ flags_word h 0 = omega arith in
-    e ∙ ap (λ xs. xs ++ options) (f ∙ ap (λ w. front_spelling h w (h.source ++ h.destination)) flags)
-    ∙ ap (λ xs. front_spelling h (flags_word h 0) xs) (append_assoc h.source h.destination options ∙ ap (λ xs. h.source ++ (h.destination ++ xs)) o)
+    e ∙ ap (λ xs. xs ++ options) (f ∙ ap (λ w. written (fixed_fields h w) (h.source ++ h.destination)) flags)
+    ∙ ap (λ xs. written (fixed_fields h (flags_word h 0)) xs) (append_assoc h.source h.destination options ∙ ap (λ xs. h.source ++ (h.destination ++ xs)) o)

@@ -1,11 +1,12 @@
 -- Laws of the IPv6 layout.
 use Rattle.std.proofs.Common.{ℕ, ◌≡◌, ◌+◌, ◌*◌, ◌/◌, ◌%◌, ◌^◌, ◌<◌, ◌≤◌, List, [], ◌∷◌, ◌++◌, length, get_or, take, drop, refl, sym, ap, ◌∙◌, arith, length-append, rules}
 use Rattle.std.specs.List.{slice_range}
-use Rattle.std.proofs.lemmas.List.{length-drop, take_all, take_at, drop_at}
+use Rattle.std.proofs.lemmas.List.{drop_all}
 use Rattle.std.specs.Int.{from_be_bytes, to_be_bytes, w16, w32}
 use Rattle.std.proofs.lemmas.Nat.{be_bytes_4, from_be_bytes-to_be_bytes_2, from_be_bytes-to_be_bytes_4}
 use Rattle.etherparse_base.specs.Bytes.{IsBytes}
-use Rattle.etherparse.proofs.Parts.{get_or-slice_range, in_parts, length-part, listed, part_is_bytes, told_by_words_from}
+use Rattle.etherparse.proofs.Layouts.{AllFit, AreAt, Field, array, length-written, read_back, told, u16, u32, u8, written}
+use Rattle.etherparse.proofs.Parts.{get_or-slice_range}
 use Rattle.etherparse.specs.Ipv6Header.{IsIpv6Layout}
 use Rattle.etherparse.specs.FirstByte.{version_of}
 use Rattle.etherparse.specs.declared.net.ipv6_header.Ipv6Header.{Ipv6Header}
@@ -44,22 +45,15 @@ same_header g h p k l =
     let flow_label : g.flow_label ≡ h.flow_label = sym (word_of-layout g p k).2 ∙ (word_of-layout h p l).2 in
     search (rules, traffic_class, flow_label)
 
--- the bytes of a header, part by part
-abbrev pub spelling : Ipv6Header → List ℕ
-spelling h = to_be_bytes w32 (6 * 2 ^ 28 + h.traffic_class * 2 ^ 20 + h.flow_label)
-    ++ (to_be_bytes w16 h.payload_length ++ (h.next_header ∷ h.hop_limit ∷ (h.source ++ h.destination)))
+-- the fields of a header, in their order
+abbrev pub ipv6_fields : Ipv6Header → List Field
+ipv6_fields h = u32 (6 * 2 ^ 28 + h.traffic_class * 2 ^ 20 + h.flow_label) ∷ u16 h.payload_length ∷ u8 h.next_header ∷ u8 h.hop_limit
+    ∷ array 16 h.source ∷ array 16 h.destination ∷ []
 
--- a byte list in the layout is the header's spelling
-pub spelled : (h : Ipv6Header) (p : List ℕ) → IsIpv6Layout h p → p ≡ spelling h
-spelled h p l =
-    let long : 40 ≤ length p = omega (arith, l.len) in
-    let third : slice_range p 6 8 ≡ h.next_header ∷ h.hop_limit ∷ [] =
-    listed p 6 2 (omega arith) ∙ (let nh = l.next_header in let hl = l.hop_limit in cc) in
-    let first : slice_range p 0 4 ≡ to_be_bytes w32 (6 * 2 ^ 28 + h.traffic_class * 2 ^ 20 + h.flow_label) =
-    sym (be_bytes_4 (slice_range p 0 4) _ (length-part p 0 4 (omega arith)) (λ i. part_is_bytes p 0 4 i l.are_bytes) (sym l.version_traffic_class_flow_label)) in
-    let payload_length : slice_range p 4 6 ≡ to_be_bytes w16 h.payload_length ++ [] = told_by_words_from p 4 1 (omega arith) l.are_bytes ∙ rw l.payload_length refl in
-    let destination : drop 24 p ≡ h.destination = sym (take_all 16 (drop 24 p) (omega (arith, length-drop 24 p, l.len))) ∙ l.destination in
-    in_parts p 0 (4 ∷ 2 ∷ 2 ∷ 16 ∷ []) ∙ rw (first, payload_length, third, l.source, destination) refl
+-- a byte list in the layout is those of the fields
+pub spelled : (h : Ipv6Header) (p : List ℕ) → IsIpv6Layout h p → p ≡ written (ipv6_fields h) []
+spelled h p l = told p 0 (ipv6_fields h) [] l.are_bytes (omega (arith, l.len))
+    (l.version_traffic_class_flow_label, (l.payload_length, (l.next_header, (l.hop_limit, (l.source, (l.destination, drop_all 40 p (omega (arith, l.len))))))))
 
 -- a header has one list of bytes
 pub same_bytes : (h : Ipv6Header) (p q : List ℕ) → IsIpv6Layout h p → IsIpv6Layout h q → p ≡ q
@@ -105,20 +99,22 @@ header_at p e bytes version =
       },
     )
 
--- the spelling of a header is in its layout
+-- the bytes of the fields are in the layout
 pub spells : (h : Ipv6Header) (p : List ℕ) → h.traffic_class < 2 ^ 8 → h.flow_label < 2 ^ 20 → h.payload_length < 2 ^ 16
-    → length h.source ≡ 16 → length h.destination ≡ 16 → IsBytes p → p ≡ spelling h → IsIpv6Layout h p
-spells h p t f n s d bytes e =
-    let len : length (spelling h) ≡ 40 = omega (arith, length-append h.source h.destination) in
+    → length h.source ≡ 16 → length h.destination ≡ 16 → IsBytes p → p ≡ written (ipv6_fields h) [] → IsIpv6Layout h p
+spells h p t f n s d are_bytes e =
+    let fit : AllFit (ipv6_fields h) = (omega arith, (n, (tt, (tt, (s, (d, tt)))))) in
+    let (first_word, (payload_length, (next_header, (hop_limit, (source, (destination, none)))))) =
+    read_back p 0 (ipv6_fields h) [] fit e in
     record {
-      len = ap length e ∙ len;
-      are_bytes = bytes;
-      version_traffic_class_flow_label = rw e (from_be_bytes-to_be_bytes_4 (6 * 2 ^ 28 + h.traffic_class * 2 ^ 20 + h.flow_label) (omega arith));
-      payload_length = rw e (from_be_bytes-to_be_bytes_2 h.payload_length n);
-      next_header = rw e refl;
-      hop_limit = rw e refl;
-      source = rw e (take_at h.source h.destination 16 s);
-      destination = rw e (ap (λ xs. take 16 xs) (drop_at h.source h.destination 16 s) ∙ take_all 16 h.destination (omega arith));
+      len = ap length e ∙ length-written (ipv6_fields h) [] fit;
+      are_bytes = are_bytes;
+      version_traffic_class_flow_label = first_word;
+      payload_length = payload_length;
+      next_header = next_header;
+      hop_limit = hop_limit;
+      source = source;
+      destination = destination;
       traffic_class_fits = t;
       flow_label_fits = f;
     }

@@ -7,6 +7,7 @@ pub mod Ipv4Layout
 mod Ipv4Reading
 pub mod Ipv6Layout
 mod Ipv6Reading
+pub mod Layouts
 mod LimitedWalk
 pub mod Parts
 mod SkippableNumbers

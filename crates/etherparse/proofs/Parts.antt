@@ -44,22 +44,6 @@ same_back p q x y e h = sym (drop_at p x (length q) e) ∙ (ap (λ s. drop (leng
 pub spread : (xs : List ℕ) (n : ℕ) → length xs ≡ n → xs ≡ map (λ i. get_or xs i 0) (range_with_len 0 n)
 spread xs n e = fill_by_all (λ i. get_or xs i 0) xs n 0 e (λ k below. refl)
 
--- a list from a place on, in parts of these lengths and what follows them
-abbrev pub parts_of : List ℕ → ℕ → List ℕ → List ℕ
-parts_of xs at [] = drop at xs
-parts_of xs at (n ∷ lengths) = slice_range xs at (at + n) ++ parts_of xs (at + n) lengths
-
-pub in_parts : (xs : List ℕ) (at : ℕ) (lengths : List ℕ) → drop at xs ≡ parts_of xs at lengths
-in_parts xs at [] = refl
-in_parts xs at (n ∷ lengths) = drop_split xs at (at + n) (omega arith) ∙ ap (λ rest. slice_range xs at (at + n) ++ rest) (in_parts xs (at + n) lengths)
-
--- a part in two
-part_split : (xs : List ℕ) (a b c : ℕ) → a ≤ b → b ≤ c → b ≤ length xs → slice_range xs a c ≡ slice_range xs a b ++ slice_range xs b c
-part_split xs a b c h k within =
-    let e : c - a ≡ length (slice_range xs a b) + (c - b) = omega (arith, length-part xs a b within) in
-    ap (λ n. take n (drop a xs)) e ∙ ap (λ ys. take (length (slice_range xs a b) + (c - b)) ys) (drop_split xs a b h)
-    ∙ take-append-add (slice_range xs a b) (drop b xs) (c - b)
-
 -- two parts, each with its equation
 pub same_append : {a a' b b' : List ℕ} → a ≡ a' → b ≡ b' → a ++ b ≡ a' ++ b'
 same_append e f = cc
@@ -98,27 +82,6 @@ told_by_words [] bytes even = refl
 told_by_words (a ∷ []) bytes even = absurd (omega (arith, even))
 told_by_words (a ∷ b ∷ p) bytes even =
     same_append (sym (be_bytes_2 (a ∷ b ∷ []) _ refl (pair_is_bytes a b (bytes 0) (bytes 1)) refl)) (told_by_words p (λ i. bytes (suc (suc i))) (omega (arith, even)))
-
--- so many words of a list from a place on
-abbrev pub words_from : List ℕ → ℕ → ℕ → List ℕ
-words_from p a zero = []
-words_from p a (suc n) = from_be_bytes w16 (slice_range p a (a + 2)) ∷ words_from p (a + 2) n
-
-words_of_part : (p : List ℕ) (a n : ℕ) → a + 2 * n ≤ length p → words_of (slice_range p a (a + 2 * n)) ≡ words_from p a n
-words_of_part p a zero h = let none : a + 2 * zero - a ≡ 0 = omega arith in ap (λ k. words_of (take k (drop a p))) none
-words_of_part p a (suc n) h =
-    let end : a + 2 * suc n ≡ a + 2 + 2 * n = omega arith in
-    let pair = listed p a 2 (omega arith) in
-    let more = words_of_part p (a + 2) n (omega arith) in
-    ap (λ b. words_of (slice_range p a b)) end ∙ ap words_of (part_split p a (a + 2) (a + 2 + 2 * n) (omega arith) (omega arith) (omega arith))
-    ∙ rw (pair, more) refl
-
--- and so is a part of them
-pub told_by_words_from : (p : List ℕ) (a n : ℕ) → a + 2 * n ≤ length p → IsBytes p
-    → slice_range p a (a + 2 * n) ≡ concat (map (λ w. to_be_bytes w16 w) (words_from p a n))
-told_by_words_from p a n h bytes =
-    told_by_words (slice_range p a (a + 2 * n)) (λ i. part_is_bytes p a (a + 2 * n) i bytes) (omega (arith, length-part p a (a + 2 * n) h))
-    ∙ ap (λ ns. concat (map (λ w. to_be_bytes w16 w) ns)) (words_of_part p a n h)
 
 -- words that are written read back
 pub words_written : (ns : List ℕ) → ((i : ℕ) → get_or ns i 0 < 2 ^ 16) → words_of (concat (map (λ n. to_be_bytes w16 n) ns)) ≡ ns

@@ -13,7 +13,7 @@ returns c =
     (subst (λ h. length h.source ≡ 16) c.self.view_is (omega arith))
     (subst (λ h. length h.destination ≡ 16) c.self.view_is (omega arith))
     (subst IsBytes (sym c.front_and_addresses.ensures.parts) c.front_and_addresses.ensures.are_bytes)
-    (parts ∙ rw c.front.ensures.value refl) in
+    (parts ∙ rw (c.front.ensures.value, append-nil) refl) in
     record {
       layout = layout;
       only = λ bytes other. same_bytes h bytes c.front_and_addresses.result other layout;
