@@ -1,4 +1,4 @@
-#!/bin/sh
+#!/usr/bin/env bash
 # Runs the built program as a process, and compares its exit code and all its output with what is
 # expected: on the capture in `stdin`, on that capture cut at each of its bytes and with bytes
 # changed, on its packets in each format and after the headers of each other link type, on records
@@ -20,6 +20,10 @@ trap 'rm -rf "$room"' EXIT
 passed=0
 failed=0
 files=${FILES:-1000}
+size=$(wc -c <stdin)
+# The bytes of the capture in `stdin`, each as four characters for `printf`.
+capture=$(od -An -v -to1 stdin | tr -d '\n' | tr ' ' '\\')
+mapfile -t lines <stdout
 
 pass() {
     passed=$((passed + 1))
@@ -42,6 +46,11 @@ judge() {
     else
         pass
     fi
+}
+
+# bytes START COUNT: so many bytes of `stdin`, from this one on.
+bytes() {
+    printf "${capture:4 * $1:4 * $2}"
 }
 
 # run ARGUMENT..: the program on the file `input`.
@@ -87,21 +96,24 @@ arguments() {
     judge 'two arguments' $? 2
 }
 
+# first_lines COUNT: so many lines of `stdout`.
+first_lines() {
+    [ "$1" -eq 0 ] || printf '%s\n' "${lines[@]:0:$1}"
+}
+
 # The records start at these bytes: 24, 100, 176, 266, 342 and 418, and the capture ends at 447.
 cut_captures() {
-    size=$(wc -c <stdin)
-    len=0
-    while [ "$len" -lt "$size" ]; do
-        dd if=stdin of="$room/input" bs=1 count="$len" 2>/dev/null
+    for ((len = 0; len < size; len++)); do
+        bytes 0 "$len" >"$room/input"
         code=1
         start=0
-        lines=0
+        records=0
         for place in 24 100 176 266 342 418; do
             [ "$len" -ge "$place" ] && start=$place
-            [ "$len" -ge "$place" ] && [ "$place" -gt 24 ] && lines=$((lines + 1))
+            [ "$len" -ge "$place" ] && [ "$place" -gt 24 ] && records=$((records + 1))
             [ "$len" -eq "$place" ] && code=0
         done
-        head -n "$lines" stdout >"$room/wanted"
+        first_lines "$records" >"$room/wanted"
         if [ "$len" -lt 24 ]; then
             code=2
             echo "error: no capture: $len bytes are no file header" >"$room/wanted.errors"
@@ -118,19 +130,19 @@ cut_captures() {
             fi
             [ "$code" -eq 0 ] || echo "error: the last record is cut off: it needs $needs bytes," \
                 "and there are $there" >"$room/wanted.errors"
-            closing_of "$lines" >>"$room/wanted.errors"
+            closing_of "$records" >>"$room/wanted.errors"
         fi
         run
         judge "the first $len bytes" $? "$code"
-        len=$((len + 1))
     done
 }
 
 # number LENGTH: a number in four bytes, the low byte first.
 number() {
-    for shift in 1 256 65536 16777216; do
-        printf "\\$(printf %03o $(($1 / shift % 256)))"
-    done
+    local escaped
+    printf -v escaped '\\%03o' $(($1 % 256)) $(($1 / 256 % 256)) $(($1 / 65536 % 256)) \
+        $(($1 / 16777216))
+    printf "$escaped"
 }
 
 # record START HEADER PLACE LENGTH [ORIGINAL]: a record with the time of the record that starts at
@@ -139,18 +151,18 @@ number() {
 record() {
     printf "$2" >"$room/header"
     length=$(($(wc -c <"$room/header") + $4))
-    dd if=stdin bs=1 skip="$1" count=8 2>/dev/null
+    bytes "$1" 8
     number "$length"
     number "${5:-$length}"
     cat "$room/header"
-    dd if=stdin bs=1 skip="$3" count="$4" 2>/dev/null
+    bytes "$3" "$4"
 }
 
 # behind TYPE HEADER4 HEADER6 OTHER LINE: the four packets of `stdin` after the link headers for
 # IPv4 and IPv6 have the lines of `stdout`, and a frame of another protocol has its own.
 behind() {
     {
-        dd if=stdin bs=1 count=20 2>/dev/null
+        bytes 0 20
         number "$1"
         record 24 "$2" 54 33
         record 100 "$2" 134 40
@@ -160,7 +172,7 @@ behind() {
             record 342 "$4" 372 28
         fi
     } >"$room/input"
-    head -n 4 stdout >"$room/wanted"
+    first_lines 4 >"$room/wanted"
     if [ -n "$4" ]; then
         echo "5 1700000005.005005 other: $5" >>"$room/wanted"
         closing 5 3 1 1 0 1 >"$room/wanted.errors"
@@ -174,7 +186,7 @@ behind() {
 # Packets that the capture cut: behind the ports, or type and code, or before that.
 cut_packets() {
     {
-        dd if=stdin bs=1 count=20 2>/dev/null
+        bytes 0 20
         number 101
         record 24 '' 54 24 33
         record 100 '' 134 23 40
@@ -213,7 +225,7 @@ cut_ipv6() {
 # destination options that are not all there; and a header that is not.
 cut_extensions() {
     {
-        dd if=stdin bs=1 count=20 2>/dev/null
+        bytes 0 20
         number 101
         cut_ipv6 '\54' '\74\0\0\31\0\0\0\7\377\377\377\377\377\377\377\377' 56
         cut_ipv6 '\54' '\74\0\0\31\0\0\0\7\21\0\1\4\0\0\0\0\0\65\234\100' 60
@@ -247,7 +259,7 @@ cut_extensions() {
 # A later fragment of a first fragment: what follows the second fragment header is no header.
 nested_fragment() {
     {
-        dd if=stdin bs=1 count=20 2>/dev/null
+        bytes 0 20
         number 101
         number 1700000001
         number 1001
@@ -269,12 +281,12 @@ nested_fragment() {
 # fronts TYPE HEADER: frames that end within this link header, at each of its bytes.
 fronts() {
     printf "$2" >"$room/front"
-    size=$(wc -c <"$room/front")
+    length=$(wc -c <"$room/front")
     {
-        dd if=stdin bs=1 count=20 2>/dev/null
+        bytes 0 20
         number "$1"
         len=0
-        while [ "$len" -lt "$size" ]; do
+        while [ "$len" -lt "$length" ]; do
             number 1700000001
             number 1001
             number "$len"
@@ -284,13 +296,13 @@ fronts() {
         done
     } >"$room/input"
     len=0
-    while [ "$len" -lt "$size" ]; do
+    while [ "$len" -lt "$length" ]; do
         echo "$((len + 1)) 1700000001.001001 other: $len bytes are no link header"
         len=$((len + 1))
     done >"$room/wanted"
-    closing "$size" 0 0 "$size" 0 0 >"$room/wanted.errors"
+    closing "$length" 0 0 "$length" 0 0 >"$room/wanted.errors"
     run
-    judge "link type $1, in a header of $size bytes" $? 0
+    judge "link type $1, in a header of $length bytes" $? 0
 }
 
 link_types() {
@@ -324,7 +336,7 @@ link_types() {
 format() {
     {
         printf "$1$2"
-        dd if=stdin bs=1 skip=54 count=33 2>/dev/null
+        bytes 54 33
     } >"$room/input"
     echo "1 1700000001.$3 192.0.2.1 > 198.51.100.7 UDP 53>40000 length 13 hops 64 fragment -" \
         'checksums right right' >"$room/wanted"
@@ -346,8 +358,7 @@ formats() {
 
 # no_capture PLACE BYTE ERROR: `stdin` with this byte, as `printf` takes it, at PLACE is refused.
 no_capture() {
-    cp stdin "$room/input"
-    printf "$2" | dd of="$room/input" bs=1 seek="$1" conv=notrunc 2>/dev/null
+    printf "${capture:0:4 * $1}$2${capture:4 * $1 + 4}" >"$room/input"
     : >"$room/wanted"
     echo "error: $3" >"$room/wanted.errors"
     run
@@ -365,14 +376,14 @@ no_captures() {
 # first one, of which there are 9 bytes.
 long_records() {
     {
-        dd if=stdin bs=1 count=20 2>/dev/null
+        bytes 0 20
         number 101
-        dd if=stdin bs=1 skip=24 count=8 2>/dev/null
+        bytes 24 8
         number 262145
         number 262146
         head -c 262145 /dev/zero
         record 24 '' 54 33
-        dd if=stdin bs=1 skip=100 count=8 2>/dev/null
+        bytes 100 8
         number 262145
         number 262145
         head -c 9 /dev/zero
@@ -401,7 +412,7 @@ keywords='1:ICMP 2:IGMP 4:IPv4 6:TCP 17:UDP 41:IPv6 46:RSVP 47:GRE 50:ESP 51:AH 
 # checksum 20142 less the number.
 protocols() {
     {
-        dd if=stdin bs=1 count=20 2>/dev/null
+        bytes 0 20
         number 101
         for protocol in 0: 3: $keywords 255:; do
             upper=${protocol%%:*}
@@ -431,29 +442,28 @@ protocols() {
 # Whatever byte is changed, the exit code is a documented one, so no signal ended the program; unless
 # it is 2, there is a closing line.
 changed_captures() {
-    number=0
-    value=17
-    size=$(wc -c <stdin)
-    while [ "$number" -lt "$files" ]; do
-        cp stdin "$room/input"
+    local value=17 file changed place byte code said
+    for ((file = 0; file < files; file++)); do
+        changed=$capture
         for _ in 1 2; do
             value=$(((value * 1103515245 + 12345) % 2147483648))
             place=$((value / 65536 % size))
-            printf "\\$(printf %03o $((value / 256 % 256)))" |
-                dd of="$room/input" bs=1 seek="$place" conv=notrunc 2>/dev/null
+            printf -v byte '\\%03o' $((value / 256 % 256))
+            changed=${changed:0:4 * place}$byte${changed:4 * place + 4}
         done
+        printf "$changed" >"$room/input"
         run
         code=$?
+        mapfile -t said <"$room/errors"
         if [ "$code" -gt 2 ]; then
-            fail "changed capture $number" "it ended with $code"
-        elif [ "$code" -eq 2 ] && ! grep -q '^error: ' "$room/errors"; then
-            fail "changed capture $number" 'it says no error'
-        elif [ "$code" -ne 2 ] && ! tail -n 1 "$room/errors" | grep -q ' packets: '; then
-            fail "changed capture $number" 'it has no closing line'
+            fail "changed capture $file" "it ended with $code"
+        elif [ "$code" -eq 2 ] && [[ ${said[0]-} != 'error: '* ]]; then
+            fail "changed capture $file" 'it says no error'
+        elif [ "$code" -ne 2 ] && [[ ${said[*]: -1} != *' packets: '* ]]; then
+            fail "changed capture $file" 'it has no closing line'
         else
             pass
         fi
-        number=$((number + 1))
     done
 }
 
