@@ -174,10 +174,12 @@ sums_to_all_ones-written bytes place first second checksum even within a b is co
     (all_ones_from_zero 0 (little_endian_word_sum stored) stored (ap folded_sum (omega arith)) refl).1
     (rw (little_endian_word_sum-written bytes place first second even within a b) (rw is completed))
 
--- where there are no bytes
-pub little_endian_word_sum-none : (bytes : List ℕ) → length bytes ≡ 0 → little_endian_word_sum bytes ≡ 0
-little_endian_word_sum-none [] none = refl
-little_endian_word_sum-none (byte ∷ bytes) none = absurd (omega (arith, none))
+-- behind the end there are no words
+pub word_sum_past : (count : ℕ) (bytes : List ℕ) → length bytes ≤ count → little_endian_word_sum (drop count bytes) ≡ 0
+word_sum_past zero [] past = refl
+word_sum_past (suc count) [] past = refl
+word_sum_past zero (byte ∷ bytes) past = absurd (omega (arith, past))
+word_sum_past (suc count) (byte ∷ bytes) past = word_sum_past count bytes (omega (arith, past))
 
 -- the words of bytes cut at an even place
 pub little_endian_word_sum-cut : (count : ℕ) (bytes : List ℕ) → count % 2 ≡ 0 → count ≤ length bytes
