@@ -1,15 +1,19 @@
 -- Folded sums: which numbers have the same one.
-use Rattle.std.proofs.Common.{ℕ, zero, suc, List, ◌≡◌, ◌<◌, ◌≤◌, ◌+◌, ◌-◌, ◌*◌, ◌%◌, ◌∙◌, ap, arith, refl, sym}
+use Rattle.std.proofs.Common.{ℕ, zero, suc, List, ◌≡◌, ◌<◌, ◌≤◌, ◌+◌, ◌-◌, ◌*◌, ◌%◌, ◌∙◌, ap, arith, min, refl, sym}
 use Rattle.std.proofs.lemmas.Bool.Decides.{nat_tests}
 use Rattle.etherparse_base.specs.WordSums.{StandsForWords, end_around_sum, folded_sum, little_endian_word_sum}
 
 -- numbers that differ by a multiple of 65535, unless one of them alone is 0
-pub same_fold : (a b k : ℕ) → a ≡ b + 65535 * k → (b ≡ 0 → a ≡ 0) → folded_sum a ≡ folded_sum b
-same_fold zero zero k e z = refl
-same_fold (suc a) (suc b) k e z = omega (arith, e)
-same_fold a b k e z = absurd (omega arith)
+pub same_fold : (a b : ℕ) → a % 65535 ≡ b % 65535 → (a ≡ 0 → b ≡ 0) → (b ≡ 0 → a ≡ 0) → folded_sum a ≡ folded_sum b
+same_fold zero zero e none some = refl
+same_fold (suc a) (suc b) e none some = omega (arith, e)
+same_fold a b e none some = absurd (omega arith)
 
--- the fold of a number above 0
+-- the fold of a number, and of one above 0
+pub folded_sum_value : (n : ℕ) → folded_sum n ≡ min n 1 + (n - 1) % 65535
+folded_sum_value zero = omega arith
+folded_sum_value (suc n) = omega arith
+
 pub folded_sum-positive : (n : ℕ) → 0 < n → folded_sum n ≡ 1 + (n - 1) % 65535
 folded_sum-positive zero h = absurd (omega arith)
 folded_sum-positive (suc n) h = omega arith

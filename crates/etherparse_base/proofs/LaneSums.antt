@@ -9,29 +9,20 @@ pub four_sum : (words : List ℕ) → length words ≡ 4 → sum_l words ≡ get
 four_sum (a ∷ b ∷ c ∷ d ∷ []) four = omega arith
 four_sum words four = absurd (omega (arith, four))
 
--- lanes added are the same in any order
-lanes_added-comm : (xs ys : List ℕ) → lanes_added xs ys ≡ lanes_added ys xs
-lanes_added-comm (x ∷ xs) (y ∷ ys) =
-    let first : (x + y) % 2 ^ 64 ≡ (y + x) % 2 ^ 64 = omega arith in cc (first, lanes_added-comm xs ys)
-lanes_added-comm [] [] = refl
-lanes_added-comm _ _ = refl
-
--- the first and the second exchanged
-pub lanes_added-second : (xs ys zs : List ℕ) → lanes_added xs (lanes_added ys zs) ≡ lanes_added ys (lanes_added xs zs)
-lanes_added-second (x ∷ xs) (y ∷ ys) (z ∷ zs) =
-    let first : (x + (y + z) % 2 ^ 64) % 2 ^ 64 ≡ (y + (x + z) % 2 ^ 64) % 2 ^ 64 = omega arith in
-    cc (first, lanes_added-second xs ys zs)
-lanes_added-second [] [] zs = refl
-lanes_added-second _ _ _ = refl
-
--- the first and the last exchanged
-pub lanes_added-last : (xs ys zs : List ℕ) → lanes_added xs (lanes_added ys zs) ≡ lanes_added zs (lanes_added ys xs)
-lanes_added-last xs ys zs = cc (lanes_added-comm ys zs, lanes_added-second xs zs ys, lanes_added-comm xs ys)
+-- lanes added are the same with the last of them first
+pub lanes_added-turned : (xs ys zs : List ℕ) → lanes_added xs (lanes_added ys zs) ≡ lanes_added zs (lanes_added xs ys)
+lanes_added-turned (x ∷ xs) (y ∷ ys) (z ∷ zs) =
+    let first : (x + (y + z) % 2 ^ 64) % 2 ^ 64 ≡ (z + (x + y) % 2 ^ 64) % 2 ^ 64 = omega arith in cc (first, lanes_added-turned xs ys zs)
+lanes_added-turned [] ys [] = refl
+lanes_added-turned (x ∷ xs) [] [] = refl
+lanes_added-turned _ _ _ = refl
 
 -- words added to a total, whatever stands beside it
 pub lanes_added-beside : (total beside words : List ℕ) → lanes_added (lanes_added total beside) words ≡ lanes_added (lanes_added total words) beside
-lanes_added-beside total beside words =
-    lanes_added-comm (lanes_added total beside) words ∙ lanes_added-last words total beside ∙ lanes_added-comm beside (lanes_added total words)
+lanes_added-beside (x ∷ xs) (y ∷ ys) (z ∷ zs) =
+    let first : ((x + y) % 2 ^ 64 + z) % 2 ^ 64 ≡ ((x + z) % 2 ^ 64 + y) % 2 ^ 64 = omega arith in cc (first, lanes_added-beside xs ys zs)
+lanes_added-beside (x ∷ xs) [] [] = refl
+lanes_added-beside _ _ _ = refl
 
 -- lanes in which no sum overflows add as numbers do
 pub lanes_add : (xs ys : List ℕ) → sum_l xs + sum_l ys < 2 ^ 64 → zip2 (λ a b. (a + b) % 2 ^ 64) xs ys ≡ zip2 (λ a b. a + b) xs ys

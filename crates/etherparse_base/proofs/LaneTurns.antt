@@ -3,8 +3,7 @@ use Rattle.std.proofs.Common.{ℕ, List, ◌≡◌, ◌<◌, ◌≤◌, ◌+◌,
 use Rattle.std.specs.Simd.Lanes.{sum_l, zip2}
 use Rattle.std.proofs.lemmas.List.{length-map}
 use Rattle.std.proofs.lemmas.Simd.{length-zip2, sum-zip2, zip2_splat}
-use Rattle.etherparse_base.specs.Private.WideSums.{AddsInTurns, StandsFor, halves_sum}
-use Rattle.etherparse_base.specs.WordSums.{folded_sum, little_endian_word_sum}
+use Rattle.etherparse_base.specs.Private.WideSums.{AddsInTurns, SameFold, StandsFor, halves_sum}
 use Rattle.etherparse_base.proofs.LaneSums.{lanes_add, totals_more}
 
 -- the halves of words of eight bytes
@@ -36,7 +35,7 @@ lanes_turn bytes total high words sums carries rest after i four stands_for smal
         is_total = ap (λ t. zip2 (λ a b. (a + b) % 2 ^ 64) t words) i.splits.is_total ∙ totals_more i.low high words
             ∙ ap (λ t. zip2 (λ l h. (l + 2 ^ 32 * h) % 2 ^ 64) low t) (sym plain);
       };
-      folded = ap folded_sum (omega (arith, low_sum, high_sum)) ∙ stands_for (sums + carries + (sum_l i.low + sum_l high)) ∙ i.folded;
+      stands_for = record { apart = omega arith; none = omega arith; some = omega arith };
       carries_fit = omega (arith, i.carries_fit, shorter);
       eighths = omega (arith, i.eighths, shorter);
       lanes_fit = omega (arith, low_sum, high_sum, i.lanes_fit, small, shorter);
@@ -46,19 +45,14 @@ lanes_turn bytes total high words sums carries rest after i four stands_for smal
 pub sums_turn : (bytes total high : List ℕ) (first second carries a b first' carry second' carry' : ℕ) (rest mid after : List ℕ)
     → AddsInTurns bytes total high (first + second) carries rest → StandsFor a rest mid → StandsFor b mid after
     → length mid + 32 ≡ length rest → length after + 32 ≡ length mid
-    → ((n : ℕ) → folded_sum (n + (first' + carry)) ≡ folded_sum (n + (first + a + 0)))
-    → ((n : ℕ) → folded_sum (n + (second' + carry')) ≡ folded_sum (n + (second + b + carry))) → carry' ≤ 1
+    → SameFold (first' + carry) (first + a + 0) → SameFold (second' + carry') (second + b + carry) → carry' ≤ 1
     → AddsInTurns bytes total high (first' + second') (carries + carry') after
 sums_turn bytes total high first second carries a b first' carry second' carry' rest mid after i stands_for_a stands_for_b shorter shorter' adds_a adds_b small =
-    let left = little_endian_word_sum after in
-    let n = carries + (sum_l i.low + sum_l high) in
     record {
       low = i.low;
       four = i.four;
       splits = i.splits;
-      folded = ap folded_sum (omega arith) ∙ adds_b (n + left + first') ∙ ap folded_sum (omega arith) ∙ adds_a (n + left + second + b) ∙ ap folded_sum (omega arith)
-          ∙ stands_for_b (first + second + carries + (sum_l i.low + sum_l high) + a)
-          ∙ stands_for_a (first + second + carries + (sum_l i.low + sum_l high)) ∙ i.folded;
+      stands_for = record { apart = omega arith; none = omega arith; some = omega arith };
       carries_fit = omega (arith, i.carries_fit, small, shorter, shorter');
       eighths = omega (arith, i.eighths, shorter, shorter');
       lanes_fit = omega (arith, i.lanes_fit, shorter, shorter');

@@ -4,6 +4,7 @@ use Rattle.std.proofs.Math.Nat.{zero-div}
 use Rattle.std.proofs.lemmas.Nat.{shr-shr}
 use Rattle.std.specs.Int.{from_le_bytes}
 use Rattle.etherparse_base.specs.WordSums.{end_around_sum, folded_sum, little_endian_word_sum}
+use Rattle.etherparse_base.specs.Private.WideSums.{SameFold}
 use Rattle.etherparse_base.proofs.FoldedSums.{folded_sum-end_around_sum, folded_sum-plus, same_fold}
 
 -- the number of bytes, the low byte first
@@ -11,12 +12,12 @@ abbrev pub number : List ℕ → ℕ
 number [] = 0
 number (byte ∷ bytes) = byte + 256 * number bytes
 
--- a number adds to a sum what the words of its bytes do
-adds_number : (n value : ℕ) (bytes : List ℕ) → value ≡ number bytes → folded_sum (n + value) ≡ folded_sum (n + little_endian_word_sum bytes)
-adds_number n value (low ∷ high ∷ bytes) e =
-    same_fold (n + value) (n + low + 256 * high + number bytes) (number bytes) (omega (arith, e)) (λ z. omega (arith, e, z))
-    ∙ adds_number (n + low + 256 * high) (number bytes) bytes refl ∙ ap folded_sum (omega arith)
-adds_number n value bytes e = ap folded_sum (omega (arith, e))
+-- a number has the same fold as the words of its bytes
+number_folded : (bytes : List ℕ) → SameFold (number bytes) (little_endian_word_sum bytes)
+number_folded (low ∷ high ∷ bytes) =
+    let rest = number_folded bytes in record { apart = omega arith; none = omega arith; some = omega arith }
+number_folded (low ∷ []) = record { apart = omega arith; none = omega arith; some = omega arith }
+number_folded [] = record { apart = refl; none = omega arith; some = omega arith }
 
 pub four_number : (bytes : List ℕ) → length bytes ≡ 4 → from_le_bytes w32 bytes ≡ number bytes
 four_number (a ∷ b ∷ c ∷ d ∷ []) four = omega arith
@@ -36,17 +37,20 @@ number-drop (suc count) (byte ∷ bytes) are_bytes =
     ap (λ b. whole / 2 ^ b) (omega arith) ∙ sym (shr-shr whole 8 (8 * count)) ∙ ap (λ n. n / 2 ^ (8 * count)) first ∙ number-drop count bytes (λ i. are_bytes (suc i))
 
 -- the last of eight bytes as a number: that of all eight without the bits of the others
-pub last_bytes : (n count : ℕ) (bytes : List ℕ) → length bytes ≡ 8 → ((i : ℕ) → slice_index bytes i < 256) → count < 8
-    → folded_sum (n + from_le_bytes w64 bytes / 2 ^ 8 / 2 ^ (56 - 8 * count)) ≡ folded_sum (n + little_endian_word_sum (drop (8 - count) bytes))
-last_bytes n count bytes eight are_bytes few =
+pub last_bytes : (count : ℕ) (bytes : List ℕ) → length bytes ≡ 8 → ((i : ℕ) → slice_index bytes i < 256) → count < 8
+    → SameFold (from_le_bytes w64 bytes / 2 ^ 8 / 2 ^ (56 - 8 * count)) (little_endian_word_sum (drop (8 - count) bytes))
+last_bytes count bytes eight are_bytes few =
     let whole = from_le_bytes w64 bytes in
-    adds_number n _ (drop (8 - count) bytes) (shr-shr whole 8 (56 - 8 * count) ∙ ap (λ b. whole / 2 ^ b) (omega (arith, few))
-    ∙ ap (λ v. v / 2 ^ (8 * (8 - count))) (eight_number bytes eight) ∙ number-drop (8 - count) bytes are_bytes)
+    rw (shr-shr whole 8 (56 - 8 * count) ∙ ap (λ b. whole / 2 ^ b) (omega (arith, few)) ∙ ap (λ v. v / 2 ^ (8 * (8 - count))) (eight_number bytes eight)
+    ∙ number-drop (8 - count) bytes are_bytes) (number_folded (drop (8 - count) bytes))
 
--- the same, where the number is added with the end-around carry
+-- a number that is added with the end-around carry adds what the words of its bytes do
 pub adds_around : (greatest k start value answer : ℕ) (bytes : List ℕ) → answer ≡ end_around_sum greatest start value → value ≡ number bytes → greatest ≡ 65535 * k
     → folded_sum answer ≡ folded_sum (start + little_endian_word_sum bytes)
-adds_around greatest k start value answer bytes sum is e = ap folded_sum sum ∙ folded_sum-end_around_sum greatest k start value e ∙ adds_number start value bytes is
+adds_around greatest k start value answer bytes sum is e =
+    let same = number_folded bytes in
+    ap folded_sum sum ∙ folded_sum-end_around_sum greatest k start value e
+    ∙ same_fold (start + value) (start + little_endian_word_sum bytes) (omega arith) (λ none. omega arith) (λ none. omega arith)
 
 -- eight bytes of some, as the sum of their words
 abbrev pub eight_at : List ℕ → ℕ → ℕ

@@ -1,9 +1,10 @@
 -- Laws of the sums of words: the other order of bytes, a changed byte, pieces exchanged or cut.
-use Rattle.std.proofs.Common.{ℕ, zero, suc, List, [], ◌∷◌, ◌++◌, ◌≡◌, ◌↔◌, ◌<◌, ◌≤◌, ◌+◌, ◌-◌, ◌*◌, ◌%◌, ◌∙◌, ap, arith, drop, length, refl, slice_index, slice_set, sum_by, sym, take, w16}
+use Rattle.std.proofs.Common.{ℕ, zero, suc, List, [], ◌∷◌, ◌++◌, ◌≡◌, ◌≢◌, if◌then◌else◌, ◌==◌, ◌↔◌, ◌<◌, ◌≤◌, ◌+◌, ◌-◌, ◌*◌, ◌%◌, ◌∙◌, ap, arith, drop, length, refl, slice_index, slice_set, sum_by, sym, take, w16}
+use Rattle.std.proofs.lemmas.Bool.Decides.{nat_tests}
 use Rattle.std.proofs.lemmas.List.{length-take, take-append-drop}
 use Rattle.std.proofs.lemmas.List.Sums.{sum_by-append, sum_by-cons}
 use Rattle.std.specs.Int.{swap_bytes, to_be_bytes}
-use Rattle.etherparse_base.specs.WordSums.{AddsSlice, AddsSlices, ChangesOneByte, Complements, ComplementsWithNoZero, IsSumOf, SumsToAllOnes}
+use Rattle.etherparse_base.specs.WordSums.{AddsSlice, AddsSlices, ChangesOneByte, Complements, ComplementsWithNoZero, IsSumOf, SumsToAllOnes, UpdatesChecksum, UpdatesChecksumWithNoZero}
 use Rattle.etherparse_base.specs.WordSums.{checksum_of, folded_sum, little_endian_word_sum, network_order_word_sum, ones_complement_sum, weighted_byte_sum, with_no_zero}
 use Rattle.etherparse_base.proofs.FoldedSums.{folded_sum-all_ones, folded_sum-positive, folded_sum-within, stands_for_words}
 
@@ -69,27 +70,38 @@ complements sum checksum value = record {
       (λ all. omega (arith, value, ones.0 all), λ none. ones.1 (omega (arith, value, none, folded_sum-within sum)));
 }
 
--- all ones in the place of 0: in a sum above 0, and with their two bytes exchanged
-with_no_zero-completes : (n checksum : ℕ) → 0 < n → folded_sum (n + checksum) ≡ 65535 → folded_sum (n + with_no_zero checksum) ≡ 65535
-with_no_zero-completes n zero some all = folded_sum-all_ones n zero some refl ∙ all
-with_no_zero-completes n (suc checksum) some all = all
+-- all ones in the place of 0: its value, in a sum above 0, and with its two bytes exchanged
+with_no_zero-value : (n : ℕ) → with_no_zero n ≡ n + 65535 * (1 - n)
+with_no_zero-value zero = omega arith
+with_no_zero-value (suc n) = omega arith
 
-pub with_no_zero-positive : (n : ℕ) → 0 < n → n ≡ with_no_zero n
-with_no_zero-positive zero some = absurd (omega arith)
-with_no_zero-positive (suc n) some = refl
+folded_sum-with_no_zero : (n checksum : ℕ) → 0 < n → folded_sum (n + with_no_zero checksum) ≡ folded_sum (n + checksum)
+folded_sum-with_no_zero n zero some = folded_sum-all_ones n zero some refl
+folded_sum-with_no_zero n (suc checksum) some = refl
 
 with_no_zero-swapped : (checksum : ℕ) → checksum ≤ 65535 → swap_bytes w16 (with_no_zero checksum) ≡ with_no_zero (swap_bytes w16 checksum)
-with_no_zero-swapped zero within = refl
-with_no_zero-swapped (suc checksum) within = with_no_zero-positive (swap_bytes w16 (suc checksum)) (omega arith)
+with_no_zero-swapped checksum within = omega (arith, with_no_zero-value checksum, with_no_zero-value (swap_bytes w16 checksum))
 
 pub complements_with_no_zero : (sum checksum answer : ℕ) → checksum ≡ checksum_of sum → answer ≡ with_no_zero checksum → ComplementsWithNoZero sum answer
 complements_with_no_zero sum checksum answer complement is =
     let value = is ∙ ap with_no_zero complement in record {
       value = value;
-      completes = λ n some same.
-          ap (λ c. folded_sum (n + c)) value ∙ with_no_zero-completes n (checksum_of sum) some (completed n (folded_sum sum) same);
+      completes = λ n some same. ap (λ c. folded_sum (n + c)) value
+          ∙ folded_sum-with_no_zero n (checksum_of sum) some ∙ completed n (folded_sum sum) same;
       network_order = λ bytes same. ap (swap_bytes w16) value
           ∙ with_no_zero-swapped (checksum_of sum) (omega arith) ∙ ap with_no_zero (complement_swapped sum bytes same);
+    }
+
+-- all that is known of an updated checksum that is never 0, by the plain update
+pub updates_with_no_zero : (checksum old new updated answer : ℕ) → UpdatesChecksum checksum old new updated
+    → answer ≡ (if checksum == 0 then 0 else with_no_zero updated) → UpdatesChecksumWithNoZero checksum old new answer
+updates_with_no_zero checksum old new updated answer updates is =
+    let there : checksum ≢ 0 → answer ≡ with_no_zero updated = λ some. grind (arith, nat_tests) in
+    record {
+      none = λ none. grind (arith, nat_tests);
+      there = λ some. omega (arith, there some, with_no_zero-value updated);
+      received = λ some sum within before after. ap (λ c. folded_sum (sum - old + new + c)) (there some)
+          ∙ folded_sum-with_no_zero (sum - old + new) updated after ∙ updates.received sum within before after;
     }
 
 -- a sum of all ones is a multiple of 65535
@@ -162,10 +174,12 @@ sums_to_all_ones-written bytes place first second checksum even within a b is co
     (all_ones_from_zero 0 (little_endian_word_sum stored) stored (ap folded_sum (omega arith)) refl).1
     (rw (little_endian_word_sum-written bytes place first second even within a b) (rw is completed))
 
--- where there are no bytes
-pub little_endian_word_sum-none : (bytes : List ℕ) → length bytes ≡ 0 → little_endian_word_sum bytes ≡ 0
-little_endian_word_sum-none [] none = refl
-little_endian_word_sum-none (byte ∷ bytes) none = absurd (omega (arith, none))
+-- behind the end there are no words
+pub word_sum_past : (count : ℕ) (bytes : List ℕ) → length bytes ≤ count → little_endian_word_sum (drop count bytes) ≡ 0
+word_sum_past zero [] past = refl
+word_sum_past (suc count) [] past = refl
+word_sum_past zero (byte ∷ bytes) past = absurd (omega (arith, past))
+word_sum_past (suc count) (byte ∷ bytes) past = word_sum_past count bytes (omega (arith, past))
 
 -- the words of bytes cut at an even place
 pub little_endian_word_sum-cut : (count : ℕ) (bytes : List ℕ) → count % 2 ≡ 0 → count ≤ length bytes

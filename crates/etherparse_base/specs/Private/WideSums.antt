@@ -1,13 +1,18 @@
 -- What the sum by wide words keeps on its way through a slice.
 use Rattle.std.specs.Prelude.{ℕ, ◌≡◌, ◌≤◌, ◌+◌, ◌*◌, ◌/◌, ◌%◌, ◌^◌, List, length, map}
 use Rattle.std.specs.Simd.Lanes.{sum_l, zip2}
-use Rattle.etherparse_base.specs.WordSums.{folded_sum, little_endian_word_sum}
+use Rattle.etherparse_base.specs.WordSums.{little_endian_word_sum}
 use Rattle.etherparse_base.specs.declared.checksum.wide_u64.Turns.{Turns}
 
--- in any sum, the number has the same fold as the words of the bytes before the rest
+-- Numbers that have the same fold, also within a longer sum: they differ by a multiple of 65535,
+-- and none of them alone is 0.
+abbrev pub SameFold : ℕ → ℕ → Type 0
+SameFold a b = record { apart : a % 65535 ≡ b % 65535; none : a ≡ 0 → b ≡ 0; some : b ≡ 0 → a ≡ 0 }
+
+-- the number has the same fold as the words of the bytes before the rest
 abbrev pub StandsFor : ℕ → List ℕ → List ℕ → Type 0
-StandsFor number bytes rest = (n : ℕ) → folded_sum (n + number + little_endian_word_sum rest)
-    ≡ folded_sum (n + little_endian_word_sum bytes)
+StandsFor number bytes rest =
+    SameFold (number + little_endian_word_sum rest) (little_endian_word_sum bytes)
 
 -- the sum of the low and of the high halves of words of eight bytes
 abbrev pub halves_sum : List ℕ → ℕ
@@ -24,8 +29,7 @@ pub record AddsInTurns (bytes total high : List ℕ) (sums carries : ℕ) (rest 
   pub low : List ℕ
   pub four : length high ≡ 4
   pub splits : Splits total low high
-  pub folded : folded_sum (sums + carries + (sum_l low + sum_l high) + little_endian_word_sum rest)
-      ≡ folded_sum (little_endian_word_sum bytes)
+  pub stands_for : StandsFor (sums + carries + (sum_l low + sum_l high)) bytes rest
   pub carries_fit : carries + length rest ≤ length bytes
   pub eighths : length rest % 8 ≡ length bytes % 8
   pub lanes_fit : sum_l low + sum_l high + 2 ^ 30 * length rest ≤ 2 ^ 30 * length bytes

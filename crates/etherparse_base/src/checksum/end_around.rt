@@ -3,6 +3,7 @@
 
 ghost use Rattle.std.specs.Prelude.{◌≡◌};
 ghost use Rattle.etherparse_base.specs.WordSums.{checksum_of, end_around_sum, folded_sum};
+ghost use Rattle.etherparse_base.specs.WordSums.{with_no_zero};
 
 /// The sum of two numbers of 64 bits.
 #[inline(always)]
@@ -53,4 +54,12 @@ pub(super) fn complement_u64(sum: u64) -> u16
     ensures value { result ≡ checksum_of sum }
 {
     !halve_u32(halve_u64(sum))
+}
+
+/// A checksum with 0xffff in place of 0.
+#[inline(always)]
+pub(super) fn without_zero(checksum: u16) -> u16
+    ensures value { result ≡ with_no_zero checksum }
+{
+    if checksum == 0 { 0xffff } else { checksum }
 }

@@ -10,7 +10,7 @@ ghost use Rattle.etherparse_base.specs.WordSums.{ComplementsWithNoZero, StandsFo
 ghost use Rattle.etherparse_base.specs.WordSums.{end_around_sum, folded_sum};
 ghost use Rattle.etherparse_base.specs.WordSums.{little_endian_word_sum};
 
-use super::end_around::{add_u32, halve_u32, halve_u64};
+use super::end_around::{add_u32, halve_u32, halve_u64, without_zero};
 use super::wide_u64;
 
 /// Adds two bytes as one number, the low byte first. A carry out of the 32 bits is added at the low
@@ -40,6 +40,7 @@ pub fn add_4bytes(start: u32, value: [u8; 4]) -> u32
 ///
 /// The result has the correct complement; nothing else about it is promised.
 #[inline(always)]
+#[tactic(auto, using(crate::proofs::WordSumLaws::adds_slice))]
 pub fn add_slice(start_sum: u32, slice: &[u8]) -> u32
     ensures adds { AddsSlice start_sum slice.now result }
 {
@@ -49,6 +50,7 @@ pub fn add_slice(start_sum: u32, slice: &[u8]) -> u32
 /// The sum of all pieces, from 0, each added by [`add_slice`]: an odd piece is padded by itself.
 ///
 /// The Rust crate has no such call.
+#[tactic(auto, using(std::proofs::lemmas::Grind::common_steps, crate::proofs::WordSumLaws::adds_slices))]
 pub fn add_slices(pieces: &[&[u8]]) -> u32
     ensures adds { AddsSlices (map (λ piece. piece.now) pieces.now) result }
 {
@@ -65,6 +67,7 @@ pub fn add_slices(pieces: &[&[u8]]) -> u32
 /// Its low byte comes first in a packet: `to_le_bytes` gives its two bytes in the order in which a
 /// header has them, and `swap_bytes` the number for a field such as `header_checksum`.
 #[inline]
+#[tactic(auto, using(crate::proofs::WordSumLaws::complements))]
 pub fn ones_complement(sum: u32) -> u16
     ensures complements { Complements sum result }
 {
@@ -74,17 +77,18 @@ pub fn ones_complement(sum: u32) -> u16
 /// The same with 0xffff in place of 0, as in UDP, where a checksum of 0 says that there is none
 /// (RFC 768).
 #[inline]
+#[tactic(auto, using(crate::proofs::WordSumLaws::complements_with_no_zero))]
 pub fn ones_complement_with_no_zero(sum: u32) -> u16
     ensures complements { ComplementsWithNoZero sum result }
 {
-    let checksum = ones_complement(sum);
-    if checksum == 0 { 0xffff } else { checksum }
+    without_zero(ones_complement(sum))
 }
 
 /// [`ones_complement`] of [`add_slice`], in one call: the checksum of a slice after an earlier sum.
 ///
 /// The Rust crate has no such call.
 #[inline(always)]
+#[tactic(auto, using(crate::proofs::WordSumLaws::complements))]
 pub fn checksum(start_sum: u32, slice: &[u8]) -> u16
     ensures complements { Complements (start_sum + little_endian_word_sum slice.now) result }
 {

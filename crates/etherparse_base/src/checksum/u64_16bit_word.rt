@@ -11,7 +11,7 @@ ghost use Rattle.etherparse_base.specs.WordSums.{ComplementsWithNoZero, StandsFo
 ghost use Rattle.etherparse_base.specs.WordSums.{end_around_sum, folded_sum};
 ghost use Rattle.etherparse_base.specs.WordSums.{little_endian_word_sum};
 
-use super::end_around::{add_u64, complement_u64};
+use super::end_around::{add_u64, complement_u64, without_zero};
 use super::wide_u64;
 
 /// Adds two bytes as one number, the low byte first. A carry out of the 64 bits is added at the low
@@ -52,6 +52,7 @@ pub fn add_8bytes(start: u64, value: [u8; 8]) -> u64
 ///
 /// The result has the correct complement; nothing else about it is promised.
 #[inline(always)]
+#[tactic(auto, using(crate::proofs::WordSumLaws::adds_slice))]
 pub fn add_slice(start_sum: u64, slice: &[u8]) -> u64
     ensures adds { AddsSlice start_sum slice.now result }
 {
@@ -73,6 +74,7 @@ pub fn add_slice(start_sum: u64, slice: &[u8]) -> u64
 /// let checksum = u64_16bit_word::ones_complement_with_no_zero(sum);
 /// assert!(rt; checksum.to_le_bytes() == [0x91, 0xae]);
 /// ```
+#[tactic(auto, using(std::proofs::lemmas::Grind::common_steps, crate::proofs::WordSumLaws::adds_slices))]
 pub fn add_slices(pieces: &[&[u8]]) -> u64
     ensures adds { AddsSlices (map (λ piece. piece.now) pieces.now) result }
 {
@@ -103,6 +105,7 @@ pub fn add_slices(pieces: &[&[u8]]) -> u64
 /// assert!(rt; checksum.swap_bytes() == 0xb861);
 /// ```
 #[inline]
+#[tactic(auto, using(crate::proofs::WordSumLaws::complements))]
 pub fn ones_complement(sum: u64) -> u16
     ensures complements { Complements sum result }
 {
@@ -112,11 +115,11 @@ pub fn ones_complement(sum: u64) -> u16
 /// The same with 0xffff in place of 0, as in UDP, where a checksum of 0 says that there is none
 /// (RFC 768).
 #[inline]
+#[tactic(auto, using(crate::proofs::WordSumLaws::complements_with_no_zero))]
 pub fn ones_complement_with_no_zero(sum: u64) -> u16
     ensures complements { ComplementsWithNoZero sum result }
 {
-    let checksum = ones_complement(sum);
-    if checksum == 0 { 0xffff } else { checksum }
+    without_zero(ones_complement(sum))
 }
 
 /// [`ones_complement`] of [`add_slice`], in one call: the checksum of a slice after an earlier sum.
@@ -133,6 +136,7 @@ pub fn ones_complement_with_no_zero(sum: u64) -> u16
 /// assert!(rt; u64_16bit_word::checksum(0, &header) == 0);
 /// ```
 #[inline(always)]
+#[tactic(auto, using(crate::proofs::WordSumLaws::complements))]
 pub fn checksum(start_sum: u64, slice: &[u8]) -> u16
     ensures complements { Complements (start_sum + little_endian_word_sum slice.now) result }
 {

@@ -1,11 +1,13 @@
 //! A checksum after a change in what it covers, from the change alone (RFC 1624).
 
-ghost use Rattle.std.specs.Prelude.{ℕ, ◌≡◌, ◌≤◌, ◌+◌, ◌-◌, ◌*◌};
+ghost use Rattle.std.specs.Prelude.{if◌then◌else◌, ◌==◌, ◌≡◌, ◌≤◌, ◌+◌, ◌-◌, ◌*◌};
 ghost use Rattle.std.specs.Int.{from_be_bytes, w16};
 ghost use Rattle.etherparse_base.specs.WordSums.{UpdatesChecksum, UpdatesChecksumWithNoZero};
 ghost use Rattle.etherparse_base.specs.WordSums.{folded_sum, network_order_word_sum};
 ghost use Rattle.etherparse_base.specs.WordSums.{updated_checksum, updated_checksum_of_words};
+ghost use Rattle.etherparse_base.specs.WordSums.{with_no_zero};
 
+use super::end_around::without_zero;
 use super::u32_16bit_word::ones_complement;
 
 /// The checksum after one of the words that it covers changed from `old` to `new` (RFC 1624 section
@@ -96,6 +98,7 @@ pub fn update_16bytes(checksum: u16, old: [u8; 16], new: [u8; 16]) -> u16
 /// assert_eq!(rt; update_2bytes_with_no_zero(0, old, new), 0);
 /// ```
 #[inline]
+#[tactic(auto, using(crate::proofs::WordSumLaws::updates_with_no_zero))]
 pub fn update_2bytes_with_no_zero(checksum: u16, old: [u8; 2], new: [u8; 2]) -> u16
     ensures updates { UpdatesChecksumWithNoZero checksum (from_be_bytes w16 old)
         (from_be_bytes w16 new) result }
@@ -108,6 +111,7 @@ pub fn update_2bytes_with_no_zero(checksum: u16, old: [u8; 2], new: [u8; 2]) -> 
 ///
 /// The Rust crate has no such call.
 #[inline]
+#[tactic(auto, using(crate::proofs::WordSumLaws::updates_with_no_zero))]
 pub fn update_4bytes_with_no_zero(checksum: u16, old: [u8; 4], new: [u8; 4]) -> u16
     ensures updates { UpdatesChecksumWithNoZero checksum (network_order_word_sum old)
         (network_order_word_sum new) result }
@@ -120,6 +124,7 @@ pub fn update_4bytes_with_no_zero(checksum: u16, old: [u8; 4], new: [u8; 4]) -> 
 ///
 /// The Rust crate has no such call.
 #[inline]
+#[tactic(auto, using(crate::proofs::WordSumLaws::updates_with_no_zero))]
 pub fn update_16bytes_with_no_zero(checksum: u16, old: [u8; 16], new: [u8; 16]) -> u16
     ensures updates { UpdatesChecksumWithNoZero checksum (network_order_word_sum old)
         (network_order_word_sum new) result }
@@ -130,13 +135,12 @@ pub fn update_16bytes_with_no_zero(checksum: u16, old: [u8; 16], new: [u8; 16]) 
 // The result for a checksum in which 0 says that there is none, from its plain update.
 #[inline(always)]
 fn none_or(checksum: u16, updated: u16) -> u16
-    ensures updates { (old : ℕ) → (new : ℕ) → UpdatesChecksum checksum old new updated →
-        UpdatesChecksumWithNoZero checksum old new result }
+    ensures value { result ≡ if checksum == 0 then 0 else with_no_zero updated }
 {
     if checksum == 0 {
         return 0;
     }
-    if updated == 0 { 0xffff } else { updated }
+    without_zero(updated)
 }
 
 // The sum of two words, each with the high byte first.

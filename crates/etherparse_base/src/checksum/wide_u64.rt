@@ -8,7 +8,7 @@
 ghost use Rattle.std.specs.Prelude.{List, ℕ, drop, ◌≡◌, ◌<◌, ◌≤◌, ◌+◌, ◌-◌, ◌*◌, ◌%◌, ◌^◌, length};
 ghost use Rattle.std.specs.Int.{from_bool};
 ghost use Rattle.std.specs.Simd.Lanes.{sum_l};
-ghost use Rattle.etherparse_base.specs.Private.WideSums.{AddsTurns};
+ghost use Rattle.etherparse_base.specs.Private.WideSums.{AddsTurns, SameFold, StandsFor};
 ghost use Rattle.etherparse_base.specs.WordSums.{checksum_of, folded_sum, little_endian_word_sum};
 
 use super::end_around::{add_u64, complement_u64};
@@ -69,6 +69,7 @@ pub(super) struct Summed<'a> {
 
 // Adds the words of few bytes.
 #[inline(always)]
+#[tactic(auto, using(crate::proofs::FoldedSums::folded_sum_value))]
 fn add_few(start_sum: u64, slice: &[u8]) -> u64
     ensures sum { folded_sum result ≡ folded_sum (start_sum + little_endian_word_sum slice.now) }
 {
@@ -82,8 +83,8 @@ fn add_few(start_sum: u64, slice: &[u8]) -> u64
 // Only the start is summed, and all is left.
 #[inline(always)]
 fn nothing_summed<'a>(start_sum: u64, slice: &'a [u8]) -> Summed<'a>
-    ensures adds { folded_sum (result.sum + little_endian_word_sum result.rest.now)
-        ≡ folded_sum (start_sum + little_endian_word_sum slice.now) }
+    ensures adds { SameFold (result.sum + little_endian_word_sum result.rest.now)
+        (start_sum + little_endian_word_sum slice.now) }
     ensures eighths { length result.rest.now % 8 ≡ length slice.now % 8 }
 {
     Summed {
@@ -95,6 +96,7 @@ fn nothing_summed<'a>(start_sum: u64, slice: &'a [u8]) -> Summed<'a>
 // Adds the words of many bytes: most of them in turns, unless there are so many that a lane could
 // overflow.
 #[inline(never)]
+#[tactic(auto, using(crate::proofs::FoldedSums::folded_sum_value))]
 fn add_many(start_sum: u64, slice: &[u8]) -> u64
     requires { 8 ≤ length slice.now }
     ensures sum { folded_sum result ≡ folded_sum (start_sum + little_endian_word_sum slice.now) }
@@ -124,8 +126,7 @@ pub(super) struct Turns {
 #[inline(always)]
 fn add_turns<'a>(slice: &'a [u8]) -> Summed<'a>
     requires { length slice.now ≤ 2 ^ 33 }
-    ensures adds { folded_sum (result.sum + little_endian_word_sum result.rest.now)
-        ≡ folded_sum (little_endian_word_sum slice.now) }
+    ensures stands_for { StandsFor result.sum slice.now result.rest.now }
     ensures eighths { length result.rest.now % 8 ≡ length slice.now % 8 }
 {
     let mut at = Turns {
@@ -207,8 +208,8 @@ fn add_turn(at: Turns, bytes: &[u8]) -> Turns
 #[inline(always)]
 fn add_rest<'a>(at: Summed<'a>, odd: u64) -> u64
     requires { length at.rest.now % 8 ≡ 0 }
-    ensures sum { folded_sum result
-        ≡ folded_sum (at.entry.sum + odd + little_endian_word_sum at.entry.rest.now) }
+    ensures sum { SameFold result
+        (at.entry.sum + odd + little_endian_word_sum at.entry.rest.now) }
 {
     let at = add_four_words(add_eight_words(at));
     let (a, b, c) = last_three_words(at.rest);
@@ -219,8 +220,8 @@ fn add_rest<'a>(at: Summed<'a>, odd: u64) -> u64
 // that no turn waits for the one before.
 #[inline(always)]
 fn add_eight_words<'a>(start: Summed<'a>) -> Summed<'a>
-    ensures adds { folded_sum (result.sum + little_endian_word_sum result.rest.now)
-        ≡ folded_sum (start.entry.sum + little_endian_word_sum start.entry.rest.now) }
+    ensures adds { SameFold (result.sum + little_endian_word_sum result.rest.now)
+        (start.entry.sum + little_endian_word_sum start.entry.rest.now) }
     ensures shorter { length result.rest.now < 64 }
     ensures eighths { length result.rest.now % 8 ≡ length start.entry.rest.now % 8 }
 {
@@ -241,8 +242,8 @@ fn add_eight_words<'a>(start: Summed<'a>) -> Summed<'a>
 #[inline(always)]
 fn add_four_words<'a>(at: Summed<'a>) -> Summed<'a>
     requires { length at.rest.now < 64 }
-    ensures adds { folded_sum (result.sum + little_endian_word_sum result.rest.now)
-        ≡ folded_sum (at.entry.sum + little_endian_word_sum at.entry.rest.now) }
+    ensures adds { SameFold (result.sum + little_endian_word_sum result.rest.now)
+        (at.entry.sum + little_endian_word_sum at.entry.rest.now) }
     ensures shorter { length result.rest.now < 32 }
     ensures eighths { length result.rest.now % 8 ≡ length at.entry.rest.now % 8 }
 {
@@ -261,7 +262,7 @@ fn add_four_words<'a>(at: Summed<'a>) -> Summed<'a>
 // end.
 #[inline(always)]
 fn add_four(sum: u64, words: [u64; 4]) -> u64
-    ensures folded { folded_sum result ≡ folded_sum (sum + sum_l words) }
+    ensures folded { SameFold result (sum + sum_l words) }
 {
     let (sum, carry) = add_words(sum, words, false);
     sum + u64::from(carry)
@@ -269,10 +270,11 @@ fn add_four(sum: u64, words: [u64; 4]) -> u64
 
 // The same with a carry into the first and out of the last.
 #[inline(always)]
+#[tactic(auto, using(crate::proofs::LaneSums::four_sum))]
 fn add_words(sum: u64, words: [u64; 4], carry: bool) -> (u64, bool)
     requires { sum + from_bool carry < 2 ^ 64 }
-    ensures folded { (n : ℕ) → folded_sum (n + (result.0 + from_bool result.1))
-        ≡ folded_sum (n + (sum + sum_l words + from_bool carry)) }
+    ensures folded { SameFold (result.0 + from_bool result.1)
+        (sum + sum_l words + from_bool carry) }
     ensures fits { result.0 + from_bool result.1 < 2 ^ 64 }
 {
     let (sum, carry) = add_with_carry(sum, words[0], carry);
@@ -285,8 +287,7 @@ fn add_words(sum: u64, words: [u64; 4], carry: bool) -> (u64, bool)
 #[inline(always)]
 fn add_last(sum: u64, word: u64, carry: bool) -> u64
     requires { sum + from_bool carry < 2 ^ 64 }
-    ensures folded { (n : ℕ) → folded_sum (n + result)
-        ≡ folded_sum (n + (sum + word + from_bool carry)) }
+    ensures folded { SameFold result (sum + word + from_bool carry) }
 {
     let (sum, carry) = add_with_carry(sum, word, carry);
     sum + u64::from(carry)
@@ -295,9 +296,10 @@ fn add_last(sum: u64, word: u64, carry: bool) -> u64
 // Each sum with its word: a carry goes into the first, the carry out of each goes into the next,
 // and the carry out of the last is returned.
 #[inline(always)]
+#[tactic(auto, using(crate::proofs::LaneSums::four_sum))]
 fn add_to_each(sums: [u64; 4], words: [u64; 4], carry: bool) -> ([u64; 4], bool)
-    ensures folded { (n : ℕ) → folded_sum (n + (sum_l result.0 + from_bool result.1))
-        ≡ folded_sum (n + (sum_l sums + sum_l words + from_bool carry)) }
+    ensures folded { SameFold (sum_l result.0 + from_bool result.1)
+        (sum_l sums + sum_l words + from_bool carry) }
 {
     let (a, carry) = add_with_carry(sums[0], words[0], carry);
     let (b, carry) = add_with_carry(sums[1], words[1], carry);

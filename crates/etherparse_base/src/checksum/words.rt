@@ -3,8 +3,8 @@
 ghost use Rattle.std.specs.Prelude.{ℕ, ◌≡◌, ◌<◌, ◌≤◌, ◌+◌, ◌-◌, ◌*◌, ◌%◌, ◌^◌};
 ghost use Rattle.std.specs.Prelude.{List, [], drop, length};
 ghost use Rattle.std.specs.Simd.Lanes.{sum_l};
-ghost use Rattle.etherparse_base.specs.Private.WideSums.{Splits, StandsFor, halves_sum};
-ghost use Rattle.etherparse_base.specs.WordSums.{folded_sum, little_endian_word_sum};
+ghost use Rattle.etherparse_base.specs.Private.WideSums.{SameFold, Splits, StandsFor, halves_sum};
+ghost use Rattle.etherparse_base.specs.WordSums.{little_endian_word_sum};
 
 use std::simd::prelude::*;
 
@@ -25,8 +25,7 @@ pub(super) fn split_word(bytes: &[u8]) -> (u64, &[u8])
 #[inline(always)]
 pub(super) fn split_odd_bytes(bytes: &[u8]) -> (&[u8], u64)
     requires { 8 ≤ length bytes.now }
-    ensures stands_for { (n : ℕ) → folded_sum (n + result.1 + little_endian_word_sum result.0.now)
-        ≡ folded_sum (n + little_endian_word_sum bytes.now) }
+    ensures stands_for { StandsFor result.1 bytes.now result.0.now }
     ensures eighths { length result.0.now % 8 ≡ 0 }
 {
     let count = bytes.len() % 8;
@@ -39,8 +38,7 @@ pub(super) fn split_odd_bytes(bytes: &[u8]) -> (&[u8], u64)
 fn number_of_last(bytes: &[u8], count: usize) -> u64
     requires eight { length bytes.now ≡ 8 }
     requires few { count < 8 }
-    ensures stands_for { (n : ℕ) → folded_sum (n + result)
-        ≡ folded_sum (n + little_endian_word_sum (drop (8 - count) bytes.now)) }
+    ensures folded { SameFold result (little_endian_word_sum (drop (8 - count) bytes.now)) }
 {
     let word = u64::from_le_bytes(*bytes.first_chunk::<8>().unwrap());
     (word >> 8) >> (56 - 8 * count)
@@ -48,6 +46,7 @@ fn number_of_last(bytes: &[u8], count: usize) -> u64
 
 /// The words of fewer than thirty-two bytes, with 0 for words that are not there.
 #[inline(always)]
+#[tactic(auto, using(crate::proofs::WordSumLaws::word_sum_past))]
 pub(super) fn last_three_words(bytes: &[u8]) -> (u64, u64, u64)
     requires few { length bytes.now < 32 }
     requires eighths { length bytes.now % 8 ≡ 0 }
@@ -62,6 +61,7 @@ pub(super) fn last_three_words(bytes: &[u8]) -> (u64, u64, u64)
 
 // The word at a place, or 0 if there is none.
 #[inline(always)]
+#[tactic(auto, using(crate::proofs::WordSumLaws::word_sum_past))]
 fn word_or_zero(bytes: &[u8], place: usize) -> u64
     requires few { place ≤ 16 }
     requires eighths { length bytes.now % 8 ≡ place % 8 }

@@ -8,4 +8,4 @@ pub returns : goal.returns
 returns c =
     let whole : c.from_le_bytes-word.result ≡ from_le_bytes w64 c.args.bytes.now = grind (arith, common_steps) in
     let bytes = c.args.bytes.now in
-    record { stands_for = λ n. rw whole (last_bytes n c.args.count bytes c.requires.eight (λ i. omega (arith, c.type_inv.bytes i)) c.requires.few) }
+    record { folded = rw whole (last_bytes c.args.count bytes c.requires.eight (λ i. omega (arith, c.type_inv.bytes i)) c.requires.few) }

@@ -1,4 +1,0 @@
-use Rattle.etherparse_base.proofs.checksum.update.update_16bytes_with_no_zero.Goals as goal
-
-pub returns : goal.returns
-returns c = record { updates = c.none_or.ensures.updates _ _ c.update_16bytes.ensures.updates }
