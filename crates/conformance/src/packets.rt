@@ -262,11 +262,9 @@ fn write_echo(slice: &IpSlice, alloc: Global, answer: &mut String) -> Written {
 impl Shown for Ipv4Key {
     fn show<W: fmt::Write>(&self, f: &mut fmt::Formatter<W>) -> fmt::Result {
         let (source, destination) = (Bytes(&self.source), Bytes(&self.destination));
+        write!(f, "source={source} destination={destination} ")?;
         let (protocol, identification) = (self.protocol.0, self.identification);
-        write!(
-            f,
-            "source={source} destination={destination} protocol={protocol} identification={identification}"
-        )
+        write!(f, "protocol={protocol} identification={identification}")
     }
 }
 
