@@ -6,12 +6,16 @@ mod errors;
 mod headers;
 mod sums;
 
-use crate::tables::{LAYERS, LEN_SOURCES, VALUE_TYPES};
-use etherparse::LenSource;
-use etherparse::err::{Layer, ValueType};
+use crate::shown::Written;
 use hex::{FromHex, FromHexError};
-use std::alloc::{AllocError, Global};
+use std::alloc::Global;
 use std::str::FromStr;
+
+/// What a case has as one word or several.
+pub trait Argument: Sized {
+    /// Reads its words.
+    fn read(arguments: &mut Arguments) -> Self;
+}
 
 /// The words of a case that are yet to be read, with single spaces between them.
 ///
@@ -19,11 +23,14 @@ use std::str::FromStr;
 /// value. [`Arguments::were_all_good`] says whether the case was good once all its words are read.
 #[derive(Drop)]
 pub struct Arguments<'a> {
-    alloc: Global,
+    /// The allocator for what is read.
+    pub alloc: Global,
     /// The text from the next word on; none if no word is left.
     pub rest: Option<&'a str>,
     /// Whether a word was missing or was not what was asked for.
     pub is_bad: bool,
+    /// Whether there was no memory for the bytes of a word; the case is then a bad one, too.
+    pub is_out_of_memory: bool,
 }
 
 impl<'a> Arguments<'a> {
@@ -33,12 +40,8 @@ impl<'a> Arguments<'a> {
             alloc,
             rest: Some(line),
             is_bad: false,
+            is_out_of_memory: false,
         }
-    }
-
-    /// The allocator for what is read.
-    pub fn alloc(&self) -> Global {
-        self.alloc
     }
 
     // The next word, which may be empty; none if no word is left.
@@ -71,6 +74,12 @@ impl<'a> Arguments<'a> {
         self.is_bad = true;
     }
 
+    /// Makes the case a bad one, which has no answer.
+    pub fn refused(&mut self) -> Written {
+        self.refuse();
+        Ok(())
+    }
+
     /// Whether no word is left, and each was what was asked for.
     pub fn were_all_good(&self) -> bool
         ensures { IsTrue result ↔ ¬ IsTrue self.now.is_bad × IsNone self.now.rest }
@@ -89,11 +98,9 @@ impl<'a> Arguments<'a> {
         }
     }
 
-    /// Refuses the case if the next word is not this one.
-    pub fn expect_word(&mut self, word: &str) {
-        if self.word() != word {
-            self.refuse();
-        }
+    /// What has words of its own.
+    pub fn read<T: Argument>(&mut self) -> T {
+        T::read(self)
     }
 
     /// What was made from words. If it was refused, so is the case, and the default is used.
@@ -113,10 +120,20 @@ impl<'a> Arguments<'a> {
         T::Err: Drop,
     {
         let word = self.word();
-        if !is_canonical(word) {
+        if word.starts_with('+') || word.starts_with('0') && word != "0" {
             self.refuse();
         }
         self.accepted(word.parse::<T>())
+    }
+
+    /// A field in range, by its number.
+    pub fn field<N: FromStr + Default, T: TryFrom<N> + Default>(&mut self) -> T
+    where
+        N::Err: Drop,
+        T::Error: Drop,
+    {
+        let made = T::try_from(self.number());
+        self.accepted(made)
     }
 
     /// A flag: `0` or `1`.
@@ -129,7 +146,7 @@ impl<'a> Arguments<'a> {
     }
 
     /// Any number of bytes, in lower-case hex digits; `-` for none.
-    pub fn bytes(&mut self) -> Result<Vec<u8>, AllocError> {
+    pub fn bytes(&mut self) -> Vec<u8> {
         let word = self.word();
         self.decoded(word)
     }
@@ -141,13 +158,13 @@ impl<'a> Arguments<'a> {
     }
 
     // The bytes of a word.
-    fn decoded(&mut self, word: &str) -> Result<Vec<u8>, AllocError> {
+    fn decoded(&mut self, word: &str) -> Vec<u8> {
         match hex::decode(self.alloc, self.digits(word)) {
-            Ok(bytes) => Ok(bytes),
-            Err(FromHexError::OutOfMemory) => Err(AllocError),
-            Err(_) => {
+            Ok(bytes) => bytes,
+            Err(e) => {
                 self.refuse();
-                Ok(Vec::new(self.alloc))
+                self.is_out_of_memory |= e == FromHexError::OutOfMemory;
+                Vec::new(self.alloc)
             }
         }
     }
@@ -168,25 +185,10 @@ impl<'a> Arguments<'a> {
         if word == "-" {
             return "";
         }
-        if word.is_empty() || has_upper_case(word) {
+        if word.is_empty() || word.as_bytes().iter().any(u8::is_ascii_uppercase) {
             self.refuse();
         }
         word
-    }
-
-    /// A layer by its name.
-    pub fn layer(&mut self) -> Layer {
-        self.named(&LAYERS, Layer::LinuxSllHeader)
-    }
-
-    /// A value type by its name.
-    pub fn value_type(&mut self) -> ValueType {
-        self.named(&VALUE_TYPES, ValueType::VlanId)
-    }
-
-    /// A source of a length by its name.
-    pub fn len_source(&mut self) -> LenSource {
-        self.named(&LEN_SOURCES, LenSource::Slice)
     }
 
     // What a table has under the next word; `other` if it has nothing.
@@ -200,28 +202,4 @@ impl<'a> Arguments<'a> {
         self.refuse();
         other
     }
-}
-
-// Whether a word has the form of a number: digits, the first of which is 0 only if it is the only
-// one.
-fn is_canonical(word: &str) -> bool {
-    word == "0" || !word.starts_with('0') && has_only_digits(word)
-}
-
-fn has_only_digits(word: &str) -> bool {
-    for byte in word.as_bytes() {
-        if !byte.is_ascii_digit() {
-            return false;
-        }
-    }
-    true
-}
-
-fn has_upper_case(word: &str) -> bool {
-    for byte in word.as_bytes() {
-        if byte.is_ascii_uppercase() {
-            return true;
-        }
-    }
-    false
 }

@@ -1,39 +1,31 @@
 //! The named constants, the variants in their order, and the defaults.
 
 use crate::arguments::Arguments;
-use crate::shown::{Bytes, Ipv4Fields, Ipv6Fields, Named, write_shown};
+use crate::shown::{Bytes, Named, Written, write_shown, write_text};
 use crate::tables::{
     CODE_POINTS, IP_NUMBER_NAMES, IP_NUMBERS, KNOWN_CODE_POINTS, LAYERS, VALUE_TYPES,
 };
 use etherparse::{
     IpDscp, IpEcn, IpFragOffset, IpNumber, Ipv4Header, Ipv4Options, Ipv6FlowLabel, Ipv6Header,
 };
-use std::alloc::AllocError;
 use std::fmt::Debug;
 
 /// The cases `const.NAME`, which have no arguments.
-pub fn answer_const(
-    name: &str,
-    arguments: &mut Arguments,
-    answer: &mut String,
-) -> Result<(), AllocError> {
+pub fn answer_const(name: &str, arguments: &mut Arguments, answer: &mut String) -> Written {
     match name {
         "fields" => write_fields(answer),
         "headers" => write_headers(answer),
         "dscp" => write_code_points(answer),
         "known" => write_known_code_points(answer),
-        "ipnum" => write_numbers(&IP_NUMBERS, answer),
-        "ip_number" => write_numbers(&IP_NUMBER_NAMES, answer),
+        "ipnum" => write_text(&Named(&IP_NUMBERS), answer),
+        "ip_number" => write_text(&Named(&IP_NUMBER_NAMES), answer),
         "layers" => write_names(&LAYERS, answer),
         "value_types" => write_names(&VALUE_TYPES, answer),
-        _ => {
-            arguments.refuse();
-            Ok(())
-        }
+        _ => arguments.refused(),
     }
 }
 
-fn write_fields(answer: &mut String) -> Result<(), AllocError> {
+fn write_fields(answer: &mut String) -> Written {
     let fields = [
         ("IpDscp::ZERO", u32::from(IpDscp::ZERO.value())),
         ("IpDscp::MAX_U8", u32::from(IpDscp::MAX_U8)),
@@ -50,10 +42,10 @@ fn write_fields(answer: &mut String) -> Result<(), AllocError> {
         ("IpEcn::MAX_U8", u32::from(IpEcn::MAX_U8)),
         ("Ipv4Options::MAX_LEN", u32::from(Ipv4Options::MAX_LEN)),
     ];
-    write_shown(&Named(&fields), answer)
+    write_text(&Named(&fields), answer)
 }
 
-fn write_headers(answer: &mut String) -> Result<(), AllocError> {
+fn write_headers(answer: &mut String) -> Written {
     let lengths = [
         ("Ipv4Header::MIN_LEN", Ipv4Header::MIN_LEN),
         (
@@ -65,20 +57,16 @@ fn write_headers(answer: &mut String) -> Result<(), AllocError> {
         ("Ipv6Header::LEN", Ipv6Header::LEN),
         ("Ipv6Header::SERIALIZED_SIZE", Ipv6Header::SERIALIZED_SIZE),
     ];
-    write_shown(&Named(&lengths), answer)
+    write_text(&Named(&lengths), answer)
 }
 
-fn write_code_points(answer: &mut String) -> Result<(), AllocError> {
-    write_shown(&Named(&CODE_POINTS), answer)
+fn write_code_points(answer: &mut String) -> Written {
+    write_text(&Named(&CODE_POINTS), answer)
 }
 
-fn write_numbers(table: &[(&str, u8)], answer: &mut String) -> Result<(), AllocError> {
-    write_shown(&Named(table), answer)
-}
-
-fn write_known_code_points(answer: &mut String) -> Result<(), AllocError> {
+fn write_known_code_points(answer: &mut String) -> Written {
     let mut gap = "";
-    for known in &KNOWN_CODE_POINTS {
+    for (_, known) in &KNOWN_CODE_POINTS {
         write!(answer, "{gap}{known:?}={}", u8::from(*known))?;
         gap = " ";
     }
@@ -86,7 +74,7 @@ fn write_known_code_points(answer: &mut String) -> Result<(), AllocError> {
 }
 
 // The values of a table, in its order, by the names that their `Debug` has for them.
-fn write_names<T: Debug>(table: &[(&str, T)], answer: &mut String) -> Result<(), AllocError> {
+fn write_names<T: Debug>(table: &[(&str, T)], answer: &mut String) -> Written {
     let mut gap = "";
     for (_, value) in table {
         write!(answer, "{gap}{value:?}")?;
@@ -96,23 +84,16 @@ fn write_names<T: Debug>(table: &[(&str, T)], answer: &mut String) -> Result<(),
 }
 
 /// The cases `default.NAME`, which have no arguments.
-pub fn answer_default(
-    name: &str,
-    arguments: &mut Arguments,
-    answer: &mut String,
-) -> Result<(), AllocError> {
+pub fn answer_default(name: &str, arguments: &mut Arguments, answer: &mut String) -> Written {
     match name {
         "fields" => write_default_fields(answer),
-        "v4" => write_shown(&Ipv4Fields::of_header(&Ipv4Header::default()), answer),
-        "v6" => write_shown(&Ipv6Fields(&Ipv6Header::default()), answer),
-        _ => {
-            arguments.refuse();
-            Ok(())
-        }
+        "v4" => write_shown(&Ipv4Header::default(), answer),
+        "v6" => write_shown(&Ipv6Header::default(), answer),
+        _ => arguments.refused(),
     }
 }
 
-fn write_default_fields(answer: &mut String) -> Result<(), AllocError> {
+fn write_default_fields(answer: &mut String) -> Written {
     let fields = [
         ("dscp", u32::from(IpDscp::default().value())),
         ("frag", u32::from(IpFragOffset::default().value())),

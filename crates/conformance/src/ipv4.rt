@@ -1,193 +1,201 @@
 //! IPv4 headers and their views.
 
 use crate::arguments::Arguments;
-use crate::shown::{BadOptions, Bytes, Ipv4Fields, Ipv4Refusal, Len, TooBig, write_shown};
-use etherparse::err::LenError;
-use etherparse::{Ipv4Header, Ipv4HeaderSlice};
-use std::alloc::AllocError;
+use crate::shown::{Bytes, Named, Show, Shown, Written, write_change, write_shown};
+use etherparse::{IpDscp, IpEcn, IpFragOffset, IpNumber, Ipv4Header, Ipv4HeaderSlice};
+use std::fmt;
+use std::fmt::Display;
 
 /// The cases `v4.NAME`.
-pub fn answer(
-    name: &str,
-    arguments: &mut Arguments,
-    answer: &mut String,
-) -> Result<(), AllocError> {
+pub fn answer(name: &str, arguments: &mut Arguments, answer: &mut String) -> Written {
     match name {
-        "view" => answer_view(arguments, answer),
-        "view_header" => answer_view_header(arguments, answer),
-        "view_eq" => answer_view_equality(arguments, answer),
-        "head" => answer_header(arguments, answer),
-        "read" => answer_read(arguments, answer),
-        "info" => answer_info(arguments, answer),
+        "info" => write_info(&arguments.read(), answer),
         "new" => answer_new(arguments, answer),
-        "set_payload_len" => answer_set_payload_len(arguments, answer),
-        "set_options" => answer_set_options(arguments, answer),
-        "set_ttl" => answer_set_time_to_live(arguments, answer),
-        "eq" => answer_equality(arguments, answer),
-        _ => {
-            arguments.refuse();
-            Ok(())
+        "eq" => write!(
+            answer,
+            "eq={}",
+            arguments.read::<Ipv4Header>() == arguments.read::<Ipv4Header>()
+        ),
+        "set_payload_len" => {
+            let payload_len: usize = arguments.number();
+            let mut header: Ipv4Header = arguments.read();
+            write_change(&header.set_payload_len(payload_len), &header, answer)
         }
-    }
-}
-
-// A view of the front of a slice, through every getter.
-fn answer_view(arguments: &mut Arguments, answer: &mut String) -> Result<(), AllocError> {
-    let bytes = arguments.bytes()?;
-    match Ipv4HeaderSlice::from_slice(&bytes) {
-        Ok(view) => write_view(&view, answer),
-        Err(e) => write_shown(&Ipv4Refusal(&e), answer),
-    }
-}
-
-fn write_view(view: &Ipv4HeaderSlice, answer: &mut String) -> Result<(), AllocError> {
-    write!(
-        answer,
-        "ok slice={} version={} ",
-        Bytes(view.slice()),
-        view.version()
-    )?;
-    write!(answer, "ihl={} {} ", view.ihl(), Ipv4Fields::of_view(view))?;
-    write!(answer, "fragmenting={} ", view.is_fragmenting_payload())?;
-    write_payload_len(&view.payload_len(), answer)
-}
-
-fn write_payload_len(
-    payload_len: &Result<u16, LenError>,
-    answer: &mut String,
-) -> Result<(), AllocError> {
-    match payload_len {
-        Ok(len) => write!(answer, "payload_len=ok {len}"),
-        Err(e) => write!(answer, "payload_len={}", Len(e)),
-    }
-}
-
-// The header of a view of the front of a slice.
-fn answer_view_header(arguments: &mut Arguments, answer: &mut String) -> Result<(), AllocError> {
-    let bytes = arguments.bytes()?;
-    match Ipv4HeaderSlice::from_slice(&bytes) {
-        Ok(view) => write!(answer, "ok {}", Ipv4Fields::of_header(&view.to_header())),
-        Err(e) => write_shown(&Ipv4Refusal(&e), answer),
-    }
-}
-
-// Two views that are accepted, against each other.
-fn answer_view_equality(arguments: &mut Arguments, answer: &mut String) -> Result<(), AllocError> {
-    let (first, second) = (arguments.bytes()?, arguments.bytes()?);
-    match (
-        Ipv4HeaderSlice::from_slice(&first),
-        Ipv4HeaderSlice::from_slice(&second),
-    ) {
-        (Ok(first), Ok(second)) => write!(answer, "eq={}", first == second),
-        _ => {
-            arguments.refuse();
-            Ok(())
+        "set_options" => {
+            let options = arguments.bytes();
+            let mut header: Ipv4Header = arguments.read();
+            write_change(&header.set_options(&options), &header, answer)
         }
+        "set_ttl" => {
+            let time_to_live = arguments.number();
+            let mut header: Ipv4Header = arguments.read();
+            header.set_time_to_live(time_to_live);
+            write!(answer, "ok ; {}", Show(&header))
+        }
+        _ => answer_slice(name, arguments, answer),
     }
 }
 
-// The header at the front of a slice, and its bytes again.
-fn answer_header(arguments: &mut Arguments, answer: &mut String) -> Result<(), AllocError> {
-    let bytes = arguments.bytes()?;
-    match Ipv4Header::from_slice(&bytes) {
-        Ok((header, rest)) => write_header(&header, rest, answer),
-        Err(e) => write_shown(&Ipv4Refusal(&e), answer),
+// A header or a view of the front of a slice.
+fn answer_slice(name: &str, arguments: &mut Arguments, answer: &mut String) -> Written {
+    let bytes = arguments.bytes();
+    let view = Ipv4HeaderSlice::from_slice(&bytes);
+    match name {
+        "view" => write_shown(&view, answer),
+        "view_header" => write_shown(&view.map(|view| view.to_header()), answer),
+        "view_eq" => match (view, Ipv4HeaderSlice::from_slice(&arguments.bytes())) {
+            (Ok(first), Ok(second)) => write!(answer, "eq={}", first == second),
+            _ => arguments.refused(),
+        },
+        "head" => write_shown(&Ipv4Header::from_slice(&bytes), answer),
+        "read" => write_shown(&Ipv4Header::read_from_slice(&bytes), answer),
+        _ => arguments.refused(),
     }
-}
-
-// The same by the older name.
-fn answer_read(arguments: &mut Arguments, answer: &mut String) -> Result<(), AllocError> {
-    let bytes = arguments.bytes()?;
-    match Ipv4Header::read_from_slice(&bytes) {
-        Ok((header, rest)) => write_header(&header, rest, answer),
-        Err(e) => write_shown(&Ipv4Refusal(&e), answer),
-    }
-}
-
-fn write_header(header: &Ipv4Header, rest: &[u8], answer: &mut String) -> Result<(), AllocError> {
-    write!(answer, "ok {} ", Ipv4Fields::of_header(header))?;
-    write!(
-        answer,
-        "rest={} bytes={}",
-        Bytes(rest),
-        Bytes(header.to_bytes().as_slice())
-    )
 }
 
 // What a header says about itself beyond its fields.
-fn answer_info(arguments: &mut Arguments, answer: &mut String) -> Result<(), AllocError> {
-    let header = arguments.ipv4_header()?;
-    let (ihl, header_len) = (header.ihl(), header.header_len());
-    let max_payload_len = header.max_payload_len();
-    write!(
-        answer,
-        "ihl={ihl} header_len={header_len} max_payload_len={max_payload_len} "
-    )?;
+fn write_info(header: &Ipv4Header, answer: &mut String) -> Written {
+    let numbers = [
+        ("ihl", usize::from(header.ihl())),
+        ("header_len", header.header_len()),
+        ("max_payload_len", usize::from(header.max_payload_len())),
+    ];
     let (fragmenting, checksum) = (
         header.is_fragmenting_payload(),
         header.calc_header_checksum(),
     );
-    write!(answer, "fragmenting={fragmenting} calc={checksum} ")?;
+    write!(
+        answer,
+        "{} fragmenting={fragmenting} calc={checksum} ",
+        Named(&numbers)
+    )?;
     let (options, bytes) = (Bytes(header.options()), header.to_bytes());
     write!(
         answer,
         "options={options} bytes={} ",
         Bytes(bytes.as_slice())
     )?;
-    write_payload_len(&header.payload_len(), answer)
+    write!(answer, "payload_len={}", Show(&header.payload_len()))
 }
 
 // A header for a payload.
-fn answer_new(arguments: &mut Arguments, answer: &mut String) -> Result<(), AllocError> {
+fn answer_new(arguments: &mut Arguments, answer: &mut String) -> Written {
     let payload_len = arguments.number();
     let time_to_live = arguments.number();
-    let protocol = arguments.ip_number();
+    let protocol = IpNumber(arguments.number());
     let (source, destination) = (arguments.array(), arguments.array());
-    match Ipv4Header::new(payload_len, time_to_live, protocol, source, destination) {
-        Ok(header) => write!(answer, "ok {}", Ipv4Fields::of_header(&header)),
-        Err(e) => write_shown(&TooBig(&e), answer),
+    let made = Ipv4Header::new(payload_len, time_to_live, protocol, source, destination);
+    write_shown(&made, answer)
+}
+
+/// The fields of an IPv4 header, as the header has them or as a view shows them.
+#[derive(Drop)]
+struct Ipv4Fields<'a> {
+    dscp: IpDscp,
+    ecn: IpEcn,
+    total_len: u16,
+    identification: u16,
+    dont_fragment: bool,
+    more_fragments: bool,
+    fragment_offset: IpFragOffset,
+    time_to_live: u8,
+    protocol: IpNumber,
+    header_checksum: u16,
+    source: [u8; 4],
+    destination: [u8; 4],
+    options: &'a [u8],
+}
+
+impl Display for Ipv4Fields<'_> {
+    fn fmt<W: fmt::Write>(&self, f: &mut fmt::Formatter<W>) -> fmt::Result {
+        let first = [
+            ("dscp", u16::from(self.dscp.value())),
+            ("ecn", u16::from(self.ecn.value())),
+            ("total_len", self.total_len),
+            ("identification", self.identification),
+        ];
+        let flags = [
+            ("dont_fragment", self.dont_fragment),
+            ("more_fragments", self.more_fragments),
+        ];
+        let next = [
+            ("fragment_offset", self.fragment_offset.value()),
+            ("time_to_live", u16::from(self.time_to_live)),
+            ("protocol", u16::from(self.protocol.0)),
+            ("header_checksum", self.header_checksum),
+        ];
+        let last = [
+            ("source", Bytes(&self.source)),
+            ("destination", Bytes(&self.destination)),
+            ("options", Bytes(self.options)),
+        ];
+        write!(f, "{} {} ", Named(&first), Named(&flags))?;
+        write!(f, "{} {}", Named(&next), Named(&last))
     }
 }
 
-// A header with the total length of a payload, or as it was.
-fn answer_set_payload_len(
-    arguments: &mut Arguments,
-    answer: &mut String,
-) -> Result<(), AllocError> {
-    let payload_len: usize = arguments.number();
-    let mut header = arguments.ipv4_header()?;
-    match header.set_payload_len(payload_len) {
-        Ok(()) => write!(answer, "ok")?,
-        Err(e) => write_shown(&TooBig(&e), answer)?,
+impl Shown for Ipv4Header {
+    fn show<W: fmt::Write>(&self, f: &mut fmt::Formatter<W>) -> fmt::Result {
+        let fields = Ipv4Fields {
+            dscp: self.dscp,
+            ecn: self.ecn,
+            total_len: self.total_len,
+            identification: self.identification,
+            dont_fragment: self.dont_fragment,
+            more_fragments: self.more_fragments,
+            fragment_offset: self.fragment_offset,
+            time_to_live: self.time_to_live,
+            protocol: self.protocol,
+            header_checksum: self.header_checksum,
+            source: self.source,
+            destination: self.destination,
+            options: self.options(),
+        };
+        fields.fmt(f)
     }
-    write!(answer, " ; {}", Ipv4Fields::of_header(&header))
 }
 
-// A header with other options, or as it was.
-fn answer_set_options(arguments: &mut Arguments, answer: &mut String) -> Result<(), AllocError> {
-    let options = arguments.bytes()?;
-    let mut header = arguments.ipv4_header()?;
-    match header.set_options(&options) {
-        Ok(()) => write!(answer, "ok")?,
-        Err(e) => write_shown(&BadOptions(&e), answer)?,
+/// What the getters of a view return.
+impl Shown for Ipv4HeaderSlice<'_> {
+    fn show<W: fmt::Write>(&self, f: &mut fmt::Formatter<W>) -> fmt::Result {
+        let fields = Ipv4Fields {
+            dscp: self.dcp(),
+            ecn: self.ecn(),
+            total_len: self.total_len(),
+            identification: self.identification(),
+            dont_fragment: self.dont_fragment(),
+            more_fragments: self.more_fragments(),
+            fragment_offset: self.fragments_offset(),
+            time_to_live: self.ttl(),
+            protocol: self.protocol(),
+            header_checksum: self.header_checksum(),
+            source: self.source(),
+            destination: self.destination(),
+            options: self.options(),
+        };
+        let (slice, version) = (Bytes(self.slice()), self.version());
+        write!(f, "slice={slice} version={version} ")?;
+        write!(f, "ihl={} {fields} ", self.ihl())?;
+        let (fragmenting, payload_len) = (self.is_fragmenting_payload(), self.payload_len());
+        write!(
+            f,
+            "fragmenting={fragmenting} payload_len={}",
+            Show(&payload_len)
+        )
     }
-    write!(answer, " ; {}", Ipv4Fields::of_header(&header))
 }
 
-// A header with another time to live, and its checksum updated.
-fn answer_set_time_to_live(
-    arguments: &mut Arguments,
-    answer: &mut String,
-) -> Result<(), AllocError> {
-    let time_to_live = arguments.number();
-    let mut header = arguments.ipv4_header()?;
-    header.set_time_to_live(time_to_live);
-    write!(answer, "ok ; {}", Ipv4Fields::of_header(&header))
-}
-
-// Two headers against each other.
-fn answer_equality(arguments: &mut Arguments, answer: &mut String) -> Result<(), AllocError> {
-    let first = arguments.ipv4_header()?;
-    let second = arguments.ipv4_header()?;
-    write!(answer, "eq={}", first == second)
+/// A header, what follows it, and its bytes again.
+impl Shown for (Ipv4Header, &[u8]) {
+    fn show<W: fmt::Write>(&self, f: &mut fmt::Formatter<W>) -> fmt::Result {
+        let (header, rest) = self;
+        let bytes = header.to_bytes();
+        write!(
+            f,
+            "{} rest={} bytes={}",
+            Show(header),
+            Bytes(rest),
+            Bytes(bytes.as_slice())
+        )
+    }
 }

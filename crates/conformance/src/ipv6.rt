@@ -1,175 +1,118 @@
 //! IPv6 headers and their views.
 
 use crate::arguments::Arguments;
-use crate::shown::{Bytes, Ipv6Fields, Ipv6Refusal, Named, TooBig, write_shown};
+use crate::shown::{Bytes, Named, Show, Shown, Written, write_change, write_shown};
 use etherparse::{Ipv6Header, Ipv6HeaderSlice};
-use std::alloc::AllocError;
+use std::fmt;
 
 /// The cases `v6.NAME`.
-pub fn answer(
-    name: &str,
-    arguments: &mut Arguments,
-    answer: &mut String,
-) -> Result<(), AllocError> {
+pub fn answer(name: &str, arguments: &mut Arguments, answer: &mut String) -> Written {
     match name {
-        "view" => answer_view(arguments, answer),
-        "view_header" => answer_view_header(arguments, answer),
-        "view_eq" => answer_view_equality(arguments, answer),
-        "head" => answer_header(arguments, answer),
-        "read" => answer_read(arguments, answer),
-        "info" => answer_info(arguments, answer),
-        "set_payload_length" => answer_set_payload_length(arguments, answer),
-        "set_ecn" => answer_set_ecn(arguments, answer),
-        "set_dscp" => answer_set_dscp(arguments, answer),
-        "eq" => answer_equality(arguments, answer),
-        _ => {
-            arguments.refuse();
-            Ok(())
+        "info" => write_info(&arguments.read(), answer),
+        "eq" => write!(
+            answer,
+            "eq={}",
+            arguments.read::<Ipv6Header>() == arguments.read::<Ipv6Header>()
+        ),
+        "set_payload_length" => {
+            let size: usize = arguments.number();
+            let mut header: Ipv6Header = arguments.read();
+            write_change(&header.set_payload_length(size), &header, answer)
         }
-    }
-}
-
-// A view of the front of a slice, through every getter.
-fn answer_view(arguments: &mut Arguments, answer: &mut String) -> Result<(), AllocError> {
-    let bytes = arguments.bytes()?;
-    match Ipv6HeaderSlice::from_slice(&bytes) {
-        Ok(view) => write_view(&view, answer),
-        Err(e) => write_shown(&Ipv6Refusal(&e), answer),
-    }
-}
-
-fn write_view(view: &Ipv6HeaderSlice, answer: &mut String) -> Result<(), AllocError> {
-    let numbers = numbers_of(view);
-    let (source, destination) = (view.source(), view.destination());
-    let addresses = [
-        ("source", Bytes(&source)),
-        ("destination", Bytes(&destination)),
-    ];
-    write!(
-        answer,
-        "ok slice={} {} ",
-        Bytes(view.slice()),
-        Named(&numbers)
-    )?;
-    write!(
-        answer,
-        "{} header_len={}",
-        Named(&addresses),
-        view.header_len()
-    )
-}
-
-// What the getters of a view return, by their names, addresses aside.
-fn numbers_of(view: &Ipv6HeaderSlice) -> [(&'static str, u32); 8] {
-    [
-        ("version", u32::from(view.version())),
-        ("traffic_class", u32::from(view.traffic_class())),
-        ("dscp", u32::from(view.dscp().value())),
-        ("ecn", u32::from(view.ecn().value())),
-        ("flow_label", view.flow_label().value()),
-        ("payload_length", u32::from(view.payload_length())),
-        ("next_header", u32::from(view.next_header().0)),
-        ("hop_limit", u32::from(view.hop_limit())),
-    ]
-}
-
-// The header of a view of the front of a slice.
-fn answer_view_header(arguments: &mut Arguments, answer: &mut String) -> Result<(), AllocError> {
-    let bytes = arguments.bytes()?;
-    match Ipv6HeaderSlice::from_slice(&bytes) {
-        Ok(view) => write!(answer, "ok {}", Ipv6Fields(&view.to_header())),
-        Err(e) => write_shown(&Ipv6Refusal(&e), answer),
-    }
-}
-
-// Two views that are accepted, against each other.
-fn answer_view_equality(arguments: &mut Arguments, answer: &mut String) -> Result<(), AllocError> {
-    let (first, second) = (arguments.bytes()?, arguments.bytes()?);
-    match (
-        Ipv6HeaderSlice::from_slice(&first),
-        Ipv6HeaderSlice::from_slice(&second),
-    ) {
-        (Ok(first), Ok(second)) => write!(answer, "eq={}", first == second),
-        _ => {
-            arguments.refuse();
-            Ok(())
+        "set_ecn" => {
+            let ecn = arguments.field::<u8, _>();
+            let mut header: Ipv6Header = arguments.read();
+            header.set_ecn(ecn);
+            write!(answer, "ok ; {}", Show(&header))
         }
+        "set_dscp" => {
+            let dscp = arguments.field::<u8, _>();
+            let mut header: Ipv6Header = arguments.read();
+            header.set_dscp(dscp);
+            write!(answer, "ok ; {}", Show(&header))
+        }
+        _ => answer_slice(name, arguments, answer),
     }
 }
 
-// The header at the front of a slice, and its bytes again.
-fn answer_header(arguments: &mut Arguments, answer: &mut String) -> Result<(), AllocError> {
-    let bytes = arguments.bytes()?;
-    match Ipv6Header::from_slice(&bytes) {
-        Ok((header, rest)) => write_header(&header, rest, answer),
-        Err(e) => write_shown(&Ipv6Refusal(&e), answer),
+// A header or a view of the front of a slice.
+fn answer_slice(name: &str, arguments: &mut Arguments, answer: &mut String) -> Written {
+    let bytes = arguments.bytes();
+    let view = Ipv6HeaderSlice::from_slice(&bytes);
+    match name {
+        "view" => write_shown(&view, answer),
+        "view_header" => write_shown(&view.map(|view| view.to_header()), answer),
+        "view_eq" => match (view, Ipv6HeaderSlice::from_slice(&arguments.bytes())) {
+            (Ok(first), Ok(second)) => write!(answer, "eq={}", first == second),
+            _ => arguments.refused(),
+        },
+        "head" => write_shown(&Ipv6Header::from_slice(&bytes), answer),
+        "read" => write_shown(&Ipv6Header::read_from_slice(&bytes), answer),
+        _ => arguments.refused(),
     }
-}
-
-// The same by the older name.
-fn answer_read(arguments: &mut Arguments, answer: &mut String) -> Result<(), AllocError> {
-    let bytes = arguments.bytes()?;
-    match Ipv6Header::read_from_slice(&bytes) {
-        Ok((header, rest)) => write_header(&header, rest, answer),
-        Err(e) => write_shown(&Ipv6Refusal(&e), answer),
-    }
-}
-
-fn write_header(header: &Ipv6Header, rest: &[u8], answer: &mut String) -> Result<(), AllocError> {
-    write!(answer, "ok {} ", Ipv6Fields(header))?;
-    write!(
-        answer,
-        "rest={} bytes={}",
-        Bytes(rest),
-        Bytes(&header.to_bytes())
-    )
 }
 
 // What a header says about itself beyond its fields, and its bytes.
-fn answer_info(arguments: &mut Arguments, answer: &mut String) -> Result<(), AllocError> {
-    let header = arguments.ipv6_header();
-    write!(answer, "dscp={} ecn={} ", header.dscp(), header.ecn())?;
+fn write_info(header: &Ipv6Header, answer: &mut String) -> Written {
+    let (dscp, ecn, header_len) = (header.dscp(), header.ecn(), header.header_len());
     write!(
         answer,
-        "header_len={} bytes={}",
-        header.header_len(),
+        "dscp={dscp} ecn={ecn} header_len={header_len} bytes={}",
         Bytes(&header.to_bytes())
     )
 }
 
-// A header with another payload length, or as it was.
-fn answer_set_payload_length(
-    arguments: &mut Arguments,
-    answer: &mut String,
-) -> Result<(), AllocError> {
-    let size: usize = arguments.number();
-    let mut header = arguments.ipv6_header();
-    match header.set_payload_length(size) {
-        Ok(()) => write!(answer, "ok")?,
-        Err(e) => write_shown(&TooBig(&e), answer)?,
+impl Shown for Ipv6Header {
+    fn show<W: fmt::Write>(&self, f: &mut fmt::Formatter<W>) -> fmt::Result {
+        let numbers = [
+            ("traffic_class", u32::from(self.traffic_class)),
+            ("flow_label", self.flow_label.value()),
+            ("payload_length", u32::from(self.payload_length)),
+            ("next_header", u32::from(self.next_header.0)),
+            ("hop_limit", u32::from(self.hop_limit)),
+        ];
+        let addresses = [
+            ("source", Bytes(&self.source)),
+            ("destination", Bytes(&self.destination)),
+        ];
+        write!(f, "{} {}", Named(&numbers), Named(&addresses))
     }
-    write!(answer, " ; {}", Ipv6Fields(&header))
 }
 
-// A header with another explicit congestion notification.
-fn answer_set_ecn(arguments: &mut Arguments, answer: &mut String) -> Result<(), AllocError> {
-    let ecn = arguments.ecn();
-    let mut header = arguments.ipv6_header();
-    header.set_ecn(ecn);
-    write!(answer, "ok ; {}", Ipv6Fields(&header))
+/// What the getters of a view return.
+impl Shown for Ipv6HeaderSlice<'_> {
+    fn show<W: fmt::Write>(&self, f: &mut fmt::Formatter<W>) -> fmt::Result {
+        let numbers = [
+            ("version", u32::from(self.version())),
+            ("traffic_class", u32::from(self.traffic_class())),
+            ("dscp", u32::from(self.dscp().value())),
+            ("ecn", u32::from(self.ecn().value())),
+            ("flow_label", self.flow_label().value()),
+            ("payload_length", u32::from(self.payload_length())),
+            ("next_header", u32::from(self.next_header().0)),
+            ("hop_limit", u32::from(self.hop_limit())),
+        ];
+        let (source, destination) = (self.source(), self.destination());
+        let addresses = [
+            ("source", Bytes(&source)),
+            ("destination", Bytes(&destination)),
+        ];
+        let (slice, header_len) = (Bytes(self.slice()), self.header_len());
+        write!(f, "slice={slice} {} ", Named(&numbers))?;
+        write!(f, "{} header_len={header_len}", Named(&addresses))
+    }
 }
 
-// A header with another differentiated services code point.
-fn answer_set_dscp(arguments: &mut Arguments, answer: &mut String) -> Result<(), AllocError> {
-    let dscp = arguments.dscp();
-    let mut header = arguments.ipv6_header();
-    header.set_dscp(dscp);
-    write!(answer, "ok ; {}", Ipv6Fields(&header))
-}
-
-// Two headers against each other.
-fn answer_equality(arguments: &mut Arguments, answer: &mut String) -> Result<(), AllocError> {
-    let first = arguments.ipv6_header();
-    let second = arguments.ipv6_header();
-    write!(answer, "eq={}", first == second)
+/// A header, what follows it, and its bytes again.
+impl Shown for (Ipv6Header, &[u8]) {
+    fn show<W: fmt::Write>(&self, f: &mut fmt::Formatter<W>) -> fmt::Result {
+        let (header, rest) = self;
+        write!(
+            f,
+            "{} rest={} bytes={}",
+            Show(header),
+            Bytes(rest),
+            Bytes(&header.to_bytes())
+        )
+    }
 }

@@ -4,12 +4,12 @@
 
 mod answer;
 mod arguments;
+mod comparison;
 mod constants;
 mod equality;
 mod fields;
 mod ipv4;
 mod ipv6;
-mod kinds;
 mod offsets;
 mod options;
 mod packets;

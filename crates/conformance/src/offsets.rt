@@ -4,98 +4,56 @@ ghost use Rattle.std.specs.Prelude.{◌+◌, ◌^◌, ◌<◌};
 ghost use Rattle.std.specs.Bool.{OnTrue};
 
 use crate::arguments::Arguments;
-use crate::shown::{ChainRefusal, Ipv4Refusal, Ipv6Refusal, Len, write_shown};
-use etherparse::err::{ipv4, ipv6};
-use std::alloc::AllocError;
+use crate::shown::{Written, write_shown};
+use etherparse::err::{LenError, ipv4, ipv6};
 
 /// The cases `off.NAME OFFSET ERROR`: each makes an error from its arguments and adds the offset to
 /// its place. If the sum does not fit, the case is a bad one.
-pub fn answer(
-    name: &str,
-    arguments: &mut Arguments,
-    answer: &mut String,
-) -> Result<(), AllocError> {
+pub fn answer(name: &str, arguments: &mut Arguments, answer: &mut String) -> Written {
     let offset = arguments.number();
     match name {
         "len" => {
-            let error = arguments.len_error();
+            let error: LenError = arguments.read();
             if has_room(offset, error.layer_start_offset) {
-                return write_shown(&Len(&error.add_offset(offset)), answer);
+                return write_shown(&error.add_offset(offset), answer);
             }
         }
         "v4" => {
-            if let Some(moved) = moved_ipv4(offset, arguments.ipv4_error()) {
-                return write_shown(&Ipv4Refusal(&moved), answer);
+            let error: ipv4::HeaderSliceError = arguments.read();
+            let place = match &error {
+                ipv4::HeaderSliceError::Len(e) => e.layer_start_offset,
+                ipv4::HeaderSliceError::Content(_) => 0,
+            };
+            if has_room(offset, place) {
+                return write_shown(&error.add_slice_offset(offset), answer);
             }
         }
         "v6" => {
-            if let Some(moved) = moved_ipv6(offset, arguments.ipv6_error()) {
-                return write_shown(&Ipv6Refusal(&moved), answer);
+            let error: ipv6::HeaderSliceError = arguments.read();
+            let place = match &error {
+                ipv6::HeaderSliceError::Len(e) => e.layer_start_offset,
+                ipv6::HeaderSliceError::Content(_) => 0,
+            };
+            if has_room(offset, place) {
+                return write_shown(&error.add_slice_offset(offset), answer);
             }
         }
         "chain" => {
-            if let Some(moved) = moved_chain(offset, arguments.chain_error()) {
-                return write_shown(&ChainRefusal(&moved), answer);
+            let error: ipv6::ChainError = arguments.read();
+            let place = match &error {
+                ipv6::ChainError::Len(e) => e.layer_start_offset,
+                ipv6::ChainError::TooMany {
+                    layer_start_offset,
+                    ..
+                } => *layer_start_offset,
+            };
+            if has_room(offset, place) {
+                return write_shown(&error.add_slice_offset(offset), answer);
             }
         }
         _ => {}
     }
-    arguments.refuse();
-    Ok(())
-}
-
-fn moved_ipv4(offset: usize, error: ipv4::HeaderSliceError) -> Option<ipv4::HeaderSliceError> {
-    match error {
-        ipv4::HeaderSliceError::Len(e) => {
-            if !has_room(offset, e.layer_start_offset) {
-                return None;
-            }
-            Some(ipv4::HeaderSliceError::Len(e).add_slice_offset(offset))
-        }
-        ipv4::HeaderSliceError::Content(e) => {
-            Some(ipv4::HeaderSliceError::Content(e).add_slice_offset(offset))
-        }
-    }
-}
-
-fn moved_ipv6(offset: usize, error: ipv6::HeaderSliceError) -> Option<ipv6::HeaderSliceError> {
-    match error {
-        ipv6::HeaderSliceError::Len(e) => {
-            if !has_room(offset, e.layer_start_offset) {
-                return None;
-            }
-            Some(ipv6::HeaderSliceError::Len(e).add_slice_offset(offset))
-        }
-        ipv6::HeaderSliceError::Content(e) => {
-            Some(ipv6::HeaderSliceError::Content(e).add_slice_offset(offset))
-        }
-    }
-}
-
-fn moved_chain(offset: usize, error: ipv6::ChainError) -> Option<ipv6::ChainError> {
-    match error {
-        ipv6::ChainError::Len(e) => {
-            if !has_room(offset, e.layer_start_offset) {
-                return None;
-            }
-            Some(ipv6::ChainError::Len(e).add_slice_offset(offset))
-        }
-        ipv6::ChainError::TooMany {
-            limit,
-            next_header,
-            layer_start_offset,
-        } => {
-            if !has_room(offset, layer_start_offset) {
-                return None;
-            }
-            Some(ipv6::ChainError::TooMany {
-                limit,
-                next_header,
-                layer_start_offset,
-            }
-            .add_slice_offset(offset))
-        }
-    }
+    arguments.refused()
 }
 
 // Whether the place of an error fits after the offset is added.

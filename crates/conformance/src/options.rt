@@ -1,64 +1,40 @@
 //! The options of an IPv4 header.
 
 use crate::arguments::Arguments;
-use crate::shown::{BadOptions, Bytes, Comparison, write_shown};
+use crate::shown::{Bytes, Comparison, Show, Shown, Written, write_shown, write_text};
 use etherparse::Ipv4Options;
-use std::alloc::AllocError;
+use std::fmt;
 
 /// `opt B` and the cases `opt.NAME`.
-pub fn answer(
-    name: &str,
-    arguments: &mut Arguments,
-    answer: &mut String,
-) -> Result<(), AllocError> {
+pub fn answer(name: &str, arguments: &mut Arguments, answer: &mut String) -> Written {
     match name {
-        "" => answer_made(arguments, answer),
-        "arr" => answer_array(arguments, answer),
-        "set" => answer_set(arguments, answer),
-        "cmp" => answer_comparison(arguments, answer),
-        _ => {
-            arguments.refuse();
-            Ok(())
+        "" => {
+            let bytes = arguments.bytes();
+            write_shown(&Ipv4Options::try_from(bytes.as_slice()), answer)
         }
+        "arr" => match from_array(&arguments.bytes()) {
+            Some(options) => write!(answer, "ok {}", Show(&options)),
+            None => arguments.refused(),
+        },
+        "set" => answer_set(arguments, answer),
+        "cmp" => {
+            let comparison = Comparison::of(&arguments.read::<Ipv4Options>(), &arguments.read());
+            write_text(&comparison, answer)
+        }
+        _ => arguments.refused(),
     }
-}
-
-// Options from a slice of any length.
-fn answer_made(arguments: &mut Arguments, answer: &mut String) -> Result<(), AllocError> {
-    let bytes = arguments.bytes()?;
-    match Ipv4Options::try_from(bytes.as_slice()) {
-        Ok(options) => write_options(&options, answer),
-        Err(e) => write_shown(&BadOptions(&e), answer),
-    }
-}
-
-// Options from an array, whose length is one that is accepted.
-fn answer_array(arguments: &mut Arguments, answer: &mut String) -> Result<(), AllocError> {
-    let bytes = arguments.bytes()?;
-    if let Some(options) = from_array(&bytes) {
-        return write_options(&options, answer);
-    }
-    arguments.refuse();
-    Ok(())
 }
 
 // Options with one byte written.
-fn answer_set(arguments: &mut Arguments, answer: &mut String) -> Result<(), AllocError> {
-    let mut options = arguments.options()?;
+fn answer_set(arguments: &mut Arguments, answer: &mut String) -> Written {
+    let mut options: Ipv4Options = arguments.read();
     let index: usize = arguments.number();
     let value: u8 = arguments.number();
     match options.as_mut_slice().get_mut(index) {
         Some(byte) => *byte = value,
         None => arguments.refuse(),
     }
-    write_options(&options, answer)
-}
-
-// Two options against each other.
-fn answer_comparison(arguments: &mut Arguments, answer: &mut String) -> Result<(), AllocError> {
-    let first = arguments.options()?;
-    let second = arguments.options()?;
-    write_shown(&Comparison::of(&first, &second), answer)
+    write!(answer, "ok {}", Show(&options))
 }
 
 // The options of an array as long as these bytes, for the lengths that have a conversion.
@@ -88,17 +64,11 @@ fn front<const N: usize>(bytes: &[u8]) -> [u8; N] {
     }
 }
 
-fn write_options(options: &Ipv4Options, answer: &mut String) -> Result<(), AllocError> {
-    write!(
-        answer,
-        "ok len={} len_u8={} ",
-        options.len(),
-        options.len_u8()
-    )?;
-    write!(
-        answer,
-        "empty={} slice={}",
-        options.is_empty(),
-        Bytes(options.as_slice())
-    )
+impl Shown for Ipv4Options {
+    fn show<W: fmt::Write>(&self, f: &mut fmt::Formatter<W>) -> fmt::Result {
+        let (len, len_u8) = (self.len(), self.len_u8());
+        write!(f, "len={len} len_u8={len_u8} ")?;
+        let (is_empty, slice) = (self.is_empty(), Bytes(self.as_slice()));
+        write!(f, "empty={is_empty} slice={slice}")
+    }
 }

@@ -1,11 +1,12 @@
 //! Packets of either version, taken apart by the layers of `uses`.
 
 use crate::arguments::Arguments;
-use crate::shown::{Bytes, Ipv4Fields, Ipv4Refusal, Ipv6Fields, Ipv6Refusal, Len, Named};
+use crate::shown::{Bytes, Named, Show, Shown, Written, write_shown};
 use etherparse::{IpNumber, Ipv4Header};
-use std::alloc::{AllocError, Global};
+use std::alloc::Global;
+use std::fmt;
 use uses::echo::{icmpv4_reply, icmpv6_reply};
-use uses::fragment::{FragmentHeader, ipv4_key, ipv6_fragment, ipv6_key};
+use uses::fragment::{Ipv4Key, Ipv6Fragment, Ipv6Key, ipv4_key, ipv6_fragment, ipv6_key};
 use uses::ip_slice::{IpSlice, IpSliceError};
 use uses::tcp::{TcpError, TcpHeaderSlice, is_tcp_right_ipv4, is_tcp_right_ipv6};
 use uses::translation::{
@@ -21,102 +22,108 @@ const DESTINATION: [u8; 4] = [203, 0, 113, 9];
 
 /// `packet B`: the parts of a packet; what its upper layer holds, if it is no fragment; its key, if
 /// it is one.
-pub fn answer(
-    name: &str,
-    arguments: &mut Arguments,
-    answer: &mut String,
-) -> Result<(), AllocError> {
-    let bytes = arguments.bytes()?;
-    if !name.is_empty() {
-        arguments.refuse();
-    }
-    match IpSlice::from_slice(&bytes) {
-        Ok(slice) => {
-            write_slice(&slice, answer)?;
-            if !slice.is_fragment() {
-                write_upper(&slice, arguments.alloc(), answer)?;
-            }
-        }
-        Err(e) => write_refusal(&e, answer)?,
+pub fn answer(arguments: &mut Arguments, answer: &mut String) -> Written {
+    let bytes = arguments.bytes();
+    let sliced = IpSlice::from_slice(&bytes);
+    write_shown(&sliced, answer)?;
+    if let Ok(slice) = &sliced
+        && !slice.is_fragment()
+    {
+        write_upper(slice, arguments.alloc, answer)?;
     }
     match bytes.first() {
-        Some(first) if *first >> 4 == 4 => write_ipv4_key(&bytes, answer),
-        Some(first) if *first >> 4 == 6 => write_ipv6_key(&bytes, answer),
+        Some(first) if *first >> 4 == 4 => write_found("key", &ipv4_key(&bytes), answer),
+        Some(first) if *first >> 4 == 6 => {
+            write_found("fragment_header", &ipv6_fragment(&bytes), answer)?;
+            write_found("key", &ipv6_key(&bytes), answer)
+        }
         _ => Ok(()),
     }
 }
 
-fn write_refusal(e: &IpSliceError, answer: &mut String) -> Result<(), AllocError> {
-    match e {
-        IpSliceError::Empty => write!(answer, "err empty"),
-        IpSliceError::UnexpectedVersion { version_number } => {
-            write!(answer, "err version number={version_number}")
-        }
-        IpSliceError::Ipv4Header(e) => write!(answer, "header={}", Ipv4Refusal(e)),
-        IpSliceError::Ipv6Header(e) => write!(answer, "header={}", Ipv6Refusal(e)),
-        IpSliceError::Packet(e) => write!(answer, "packet={}", Len(e)),
-        IpSliceError::Extensions(e) => write!(answer, "extensions={}", Len(e)),
+// What a packet has under a name, if it has it.
+fn write_found<T: Shown, E: Shown>(
+    name: &str,
+    found: &Result<Option<T>, E>,
+    answer: &mut String,
+) -> Written {
+    match found {
+        Ok(Some(value)) => write!(answer, " ; {name} {}", Show(value)),
+        Ok(None) => write!(answer, " ; {name}=none"),
+        Err(e) => write!(answer, " ; {name}={}", Show(e)),
     }
 }
 
-fn write_slice(slice: &IpSlice, answer: &mut String) -> Result<(), AllocError> {
-    match slice {
-        IpSlice::Ipv4 { header, .. } => write!(answer, "ok {}", Ipv4Fields::of_header(header))?,
-        IpSlice::Ipv6 {
-            header,
-            extensions,
-            ..
-        } => write!(
-            answer,
-            "ok {} extensions={}",
-            Ipv6Fields(header),
-            Bytes(extensions)
-        )?,
+impl Shown for IpSliceError {
+    fn show<W: fmt::Write>(&self, f: &mut fmt::Formatter<W>) -> fmt::Result {
+        match self {
+            IpSliceError::Empty => f.write_str("err empty"),
+            IpSliceError::UnexpectedVersion { version_number } => {
+                write!(f, "err version number={version_number}")
+            }
+            IpSliceError::Ipv4Header(e) => write!(f, "header={}", Show(e)),
+            IpSliceError::Ipv6Header(e) => write!(f, "header={}", Show(e)),
+            IpSliceError::Packet(e) => write!(f, "packet={}", Show(e)),
+            IpSliceError::Extensions(e) => write!(f, "extensions={}", Show(e)),
+        }
     }
-    let (upper, payload) = (slice.upper(), slice.payload());
-    write!(answer, " upper={} payload={}", upper.0, Bytes(payload))?;
-    write!(answer, " fragment={}", slice.is_fragment())
+}
+
+impl Shown for IpSlice<'_> {
+    fn show<W: fmt::Write>(&self, f: &mut fmt::Formatter<W>) -> fmt::Result {
+        match self {
+            IpSlice::Ipv4 { header, .. } => header.show(f)?,
+            IpSlice::Ipv6 {
+                header,
+                extensions,
+                ..
+            } => write!(f, "{} extensions={}", Show(header), Bytes(extensions))?,
+        }
+        write!(
+            f,
+            " upper={} payload={}",
+            self.upper().0,
+            Bytes(self.payload())
+        )?;
+        write!(f, " fragment={}", self.is_fragment())
+    }
 }
 
 // What the payload of a packet that is no fragment holds.
-fn write_upper(slice: &IpSlice, alloc: Global, answer: &mut String) -> Result<(), AllocError> {
-    let upper = slice.upper();
-    let echoes = match slice {
-        IpSlice::Ipv4 { .. } => IpNumber::ICMP,
-        IpSlice::Ipv6 { .. } => IpNumber::IPV6_ICMP,
-    };
-    if upper == IpNumber::UDP {
-        write_udp(slice, answer)
-    } else if upper == IpNumber::TCP {
-        write_tcp(slice, answer)
-    } else if upper == echoes {
-        write_echo(slice, alloc, answer)
-    } else {
-        Ok(())
+fn write_upper(slice: &IpSlice, alloc: Global, answer: &mut String) -> Written {
+    match (slice, slice.upper()) {
+        (_, IpNumber::UDP) => write_udp(slice, answer),
+        (_, IpNumber::TCP) => write_tcp(slice, answer),
+        (IpSlice::Ipv4 { .. }, IpNumber::ICMP) | (IpSlice::Ipv6 { .. }, IpNumber::IPV6_ICMP) => {
+            write_echo(slice, alloc, answer)
+        }
+        _ => Ok(()),
     }
 }
 
 // A UDP header, and the checksum of its datagram.
-fn write_udp(slice: &IpSlice, answer: &mut String) -> Result<(), AllocError> {
+fn write_udp(slice: &IpSlice, answer: &mut String) -> Written {
     match UdpHeader::from_slice(slice.payload()) {
         Ok((mut udp, rest)) => {
             let checksum = udp.checksum;
-            write_udp_fields(&udp, answer)?;
+            write!(answer, " ; udp {}", Show(&udp))?;
             write_udp_checksum(slice, &mut udp, rest, answer)?;
             write_translated(slice, checksum, answer)
         }
-        Err(e) => write!(answer, " ; udp={}", Len(&e)),
+        Err(e) => write!(answer, " ; udp={}", Show(&e)),
     }
 }
 
-fn write_udp_fields(udp: &UdpHeader, answer: &mut String) -> Result<(), AllocError> {
-    let numbers = [
-        ("source_port", udp.source_port),
-        ("destination_port", udp.destination_port),
-        ("length", udp.length),
-        ("checksum", udp.checksum),
-    ];
-    write!(answer, " ; udp {}", Named(&numbers))
+impl Shown for UdpHeader {
+    fn show<W: fmt::Write>(&self, f: &mut fmt::Formatter<W>) -> fmt::Result {
+        let numbers = [
+            ("source_port", self.source_port),
+            ("destination_port", self.destination_port),
+            ("length", self.length),
+            ("checksum", self.checksum),
+        ];
+        write!(f, "{}", Named(&numbers))
+    }
 }
 
 // Whether the checksum of a datagram is correct, and its header with a newly computed one, if the
@@ -126,7 +133,7 @@ fn write_udp_checksum(
     udp: &mut UdpHeader,
     rest: &[u8],
     answer: &mut String,
-) -> Result<(), AllocError> {
+) -> Written {
     let len = usize::from(udp.length);
     if len < 8 || rest.len() < len - 8 {
         return Ok(());
@@ -148,47 +155,47 @@ fn write_udp_checksum(
 }
 
 // A TCP header, and the checksum of its segment.
-fn write_tcp(slice: &IpSlice, answer: &mut String) -> Result<(), AllocError> {
+fn write_tcp(slice: &IpSlice, answer: &mut String) -> Written {
     match TcpHeaderSlice::from_slice(slice.payload()) {
         Ok(view) => {
-            write_tcp_fields(&view, answer)?;
-            write!(answer, " right={}", is_tcp_right(slice))?;
+            write!(
+                answer,
+                " ; tcp {} right={}",
+                Show(&view),
+                is_tcp_right(slice)
+            )?;
             write_translated(slice, view.checksum(), answer)
         }
-        Err(TcpError::Len(e)) => write!(answer, " ; tcp={}", Len(&e)),
+        Err(TcpError::Len(e)) => write!(answer, " ; tcp={}", Show(&e)),
         Err(TcpError::DataOffset(offset)) => {
             write!(answer, " ; tcp=err data_offset offset={offset}")
         }
     }
 }
 
-fn write_tcp_fields(view: &TcpHeaderSlice, answer: &mut String) -> Result<(), AllocError> {
-    let (numbers, flags) = (tcp_numbers(view), tcp_flags(view));
-    write!(answer, " ; tcp {} {}", Named(&numbers), Named(&flags))?;
-    write!(answer, " options={}", Bytes(view.options()))
-}
-
-fn tcp_numbers(view: &TcpHeaderSlice) -> [(&'static str, u32); 9] {
-    [
-        ("source_port", u32::from(view.source_port())),
-        ("destination_port", u32::from(view.destination_port())),
-        ("sequence_number", view.sequence_number()),
-        ("acknowledgment_number", view.acknowledgment_number()),
-        ("data_offset", u32::from(view.data_offset())),
-        ("flags", u32::from(view.flags())),
-        ("window_size", u32::from(view.window_size())),
-        ("checksum", u32::from(view.checksum())),
-        ("urgent_pointer", u32::from(view.urgent_pointer())),
-    ]
-}
-
-fn tcp_flags(view: &TcpHeaderSlice) -> [(&'static str, bool); 4] {
-    [
-        ("fin", view.fin()),
-        ("syn", view.syn()),
-        ("rst", view.rst()),
-        ("ack", view.ack()),
-    ]
+impl Shown for TcpHeaderSlice<'_> {
+    fn show<W: fmt::Write>(&self, f: &mut fmt::Formatter<W>) -> fmt::Result {
+        let numbers = [
+            ("source_port", u32::from(self.source_port())),
+            ("destination_port", u32::from(self.destination_port())),
+            ("sequence_number", self.sequence_number()),
+            ("acknowledgment_number", self.acknowledgment_number()),
+            ("data_offset", u32::from(self.data_offset())),
+            ("flags", u32::from(self.flags())),
+            ("window_size", u32::from(self.window_size())),
+            ("checksum", u32::from(self.checksum())),
+            ("urgent_pointer", u32::from(self.urgent_pointer())),
+        ];
+        let flags = [
+            ("fin", self.fin()),
+            ("syn", self.syn()),
+            ("rst", self.rst()),
+            ("ack", self.ack()),
+        ];
+        let options = Bytes(self.options());
+        write!(f, "{} ", Named(&numbers))?;
+        write!(f, "{} options={options}", Named(&flags))
+    }
 }
 
 fn is_tcp_right(slice: &IpSlice) -> bool {
@@ -203,7 +210,7 @@ fn is_tcp_right(slice: &IpSlice) -> bool {
 }
 
 // The header of an IPv4 packet and the checksum of UDP or TCP, with other addresses.
-fn write_translated(slice: &IpSlice, checksum: u16, answer: &mut String) -> Result<(), AllocError> {
+fn write_translated(slice: &IpSlice, checksum: u16, answer: &mut String) -> Written {
     let IpSlice::Ipv4 { header, .. } = slice else {
         return Ok(());
     };
@@ -236,7 +243,7 @@ fn translated(header: &mut Ipv4Header, checksum: u16) -> u16 {
 
 // The reply to an echo request, or the message as it was. The reply goes to the sender of the
 // request.
-fn write_echo(slice: &IpSlice, alloc: Global, answer: &mut String) -> Result<(), AllocError> {
+fn write_echo(slice: &IpSlice, alloc: Global, answer: &mut String) -> Written {
     let mut message = slice.payload().to_vec(alloc)?;
     let is_reply = match slice {
         IpSlice::Ipv4 { .. } => icmpv4_reply(message.as_mut_slice()),
@@ -252,59 +259,38 @@ fn write_echo(slice: &IpSlice, alloc: Global, answer: &mut String) -> Result<(),
 }
 
 // The key that the fragments of a packet of version 4 share.
-fn write_ipv4_key(packet: &[u8], answer: &mut String) -> Result<(), AllocError> {
-    match ipv4_key(packet) {
-        Ok(Some(key)) => write!(
-            answer,
-            " ; key source={} destination={} protocol={} identification={}",
-            Bytes(&key.source),
-            Bytes(&key.destination),
-            key.protocol.0,
-            key.identification
-        ),
-        Ok(None) => write!(answer, " ; key=none"),
-        Err(e) => write!(answer, " ; key={}", Ipv4Refusal(&e)),
+impl Shown for Ipv4Key {
+    fn show<W: fmt::Write>(&self, f: &mut fmt::Formatter<W>) -> fmt::Result {
+        let (source, destination) = (Bytes(&self.source), Bytes(&self.destination));
+        write!(f, "source={source} destination={destination} ")?;
+        let (protocol, identification) = (self.protocol.0, self.identification);
+        write!(f, "protocol={protocol} identification={identification}")
     }
 }
 
-// The fragment header of a packet of version 6, and the key.
-fn write_ipv6_key(packet: &[u8], answer: &mut String) -> Result<(), AllocError> {
-    match ipv6_fragment(packet) {
-        Ok(Some(found)) => write_fragment_header(&found.fragment, found.payload, answer)?,
-        Ok(None) => write!(answer, " ; fragment_header=none")?,
-        Err(e) => write!(answer, " ; fragment_header={}", Ipv6Refusal(&e))?,
-    }
-    match ipv6_key(packet) {
-        Ok(Some(key)) => write!(
-            answer,
-            " ; key source={} destination={} identification={}",
-            Bytes(&key.source),
-            Bytes(&key.destination),
-            key.identification
-        ),
-        Ok(None) => write!(answer, " ; key=none"),
-        Err(e) => write!(answer, " ; key={}", Ipv6Refusal(&e)),
+// The key that the fragments of a packet of version 6 share.
+impl Shown for Ipv6Key {
+    fn show<W: fmt::Write>(&self, f: &mut fmt::Formatter<W>) -> fmt::Result {
+        let (source, destination) = (Bytes(&self.source), Bytes(&self.destination));
+        let identification = self.identification;
+        write!(
+            f,
+            "source={source} destination={destination} identification={identification}"
+        )
     }
 }
 
-fn write_fragment_header(
-    header: &FragmentHeader,
-    rest: &[u8],
-    answer: &mut String,
-) -> Result<(), AllocError> {
-    let numbers = [
-        ("next_header", u16::from(header.next_header.0)),
-        ("fragment_offset", header.fragment_offset.value()),
-    ];
-    let (more_fragments, identification) = (header.more_fragments, header.identification);
-    write!(
-        answer,
-        " ; fragment_header {} more_fragments={more_fragments}",
-        Named(&numbers)
-    )?;
-    write!(
-        answer,
-        " identification={identification} rest={}",
-        Bytes(rest)
-    )
+// The fragment header of a packet of version 6, and what follows it.
+impl Shown for Ipv6Fragment<'_> {
+    fn show<W: fmt::Write>(&self, f: &mut fmt::Formatter<W>) -> fmt::Result {
+        let header = &self.fragment;
+        let numbers = [
+            ("next_header", u16::from(header.next_header.0)),
+            ("fragment_offset", header.fragment_offset.value()),
+        ];
+        let more_fragments = header.more_fragments;
+        write!(f, "{} more_fragments={more_fragments}", Named(&numbers))?;
+        let (identification, rest) = (header.identification, Bytes(self.payload));
+        write!(f, " identification={identification} rest={rest}")
+    }
 }

@@ -1,86 +1,59 @@
-use super::Arguments;
-use etherparse::{
-    IpDscp, IpDscpKnown, IpEcn, IpFragOffset, IpNumber, Ipv4Header, Ipv4Options, Ipv6FlowLabel,
-    Ipv6Header,
-};
-use std::alloc::AllocError;
+use super::{Argument, Arguments};
+use etherparse::{IpDscp, IpDscpKnown, IpNumber, Ipv4Header, Ipv4Options, Ipv6Header};
 
-impl<'a> Arguments<'a> {
-    /// A differentiated services code point in range.
-    pub fn dscp(&mut self) -> IpDscp {
-        let made = IpDscp::try_new(self.number());
-        self.accepted(made)
-    }
-
-    /// A known code point, by its number.
-    pub fn known_code_point(&mut self) -> IpDscpKnown {
-        match IpDscpKnown::try_from(self.dscp()) {
+/// A number that is in range for a code point and is known.
+impl Argument for IpDscpKnown {
+    fn read(arguments: &mut Arguments) -> IpDscpKnown {
+        match IpDscpKnown::try_from(arguments.field::<u8, IpDscp>()) {
             Ok(known) => known,
             Err(_) => {
-                self.refuse();
+                arguments.refuse();
                 IpDscpKnown::ClassSelector0
             }
         }
     }
+}
 
-    /// An explicit congestion notification in range.
-    pub fn ecn(&mut self) -> IpEcn {
-        let made = IpEcn::try_new(self.number());
-        self.accepted(made)
+/// Bytes of a length that is accepted.
+impl Argument for Ipv4Options {
+    fn read(arguments: &mut Arguments) -> Ipv4Options {
+        let bytes = arguments.bytes();
+        arguments.accepted(Ipv4Options::try_from(bytes.as_slice()))
     }
+}
 
-    /// A fragment offset in range.
-    pub fn fragment_offset(&mut self) -> IpFragOffset {
-        let made = IpFragOffset::try_new(self.number());
-        self.accepted(made)
+/// The fields, in their order.
+impl Argument for Ipv4Header {
+    fn read(arguments: &mut Arguments) -> Ipv4Header {
+        Ipv4Header {
+            dscp: arguments.field::<u8, _>(),
+            ecn: arguments.field::<u8, _>(),
+            total_len: arguments.number(),
+            identification: arguments.number(),
+            dont_fragment: arguments.flag(),
+            more_fragments: arguments.flag(),
+            fragment_offset: arguments.field::<u16, _>(),
+            time_to_live: arguments.number(),
+            protocol: IpNumber(arguments.number()),
+            header_checksum: arguments.number(),
+            source: arguments.array(),
+            destination: arguments.array(),
+            options: arguments.read(),
+        }
     }
+}
 
-    /// A flow label in range.
-    pub fn flow_label(&mut self) -> Ipv6FlowLabel {
-        let made = Ipv6FlowLabel::try_new(self.number());
-        self.accepted(made)
-    }
-
-    /// The number of a protocol.
-    pub fn ip_number(&mut self) -> IpNumber {
-        IpNumber(self.number())
-    }
-
-    /// Options of a length that is accepted.
-    pub fn options(&mut self) -> Result<Ipv4Options, AllocError> {
-        let bytes = self.bytes()?;
-        Ok(self.accepted(Ipv4Options::try_from(bytes.as_slice())))
-    }
-
-    /// An IPv4 header: its fields, in their order.
-    pub fn ipv4_header(&mut self) -> Result<Ipv4Header, AllocError> {
-        Ok(Ipv4Header {
-            dscp: self.dscp(),
-            ecn: self.ecn(),
-            total_len: self.number(),
-            identification: self.number(),
-            dont_fragment: self.flag(),
-            more_fragments: self.flag(),
-            fragment_offset: self.fragment_offset(),
-            time_to_live: self.number(),
-            protocol: self.ip_number(),
-            header_checksum: self.number(),
-            source: self.array(),
-            destination: self.array(),
-            options: self.options()?,
-        })
-    }
-
-    /// An IPv6 header: its fields, in their order.
-    pub fn ipv6_header(&mut self) -> Ipv6Header {
+/// The fields, in their order.
+impl Argument for Ipv6Header {
+    fn read(arguments: &mut Arguments) -> Ipv6Header {
         Ipv6Header {
-            traffic_class: self.number(),
-            flow_label: self.flow_label(),
-            payload_length: self.number(),
-            next_header: self.ip_number(),
-            hop_limit: self.number(),
-            source: self.array(),
-            destination: self.array(),
+            traffic_class: arguments.number(),
+            flow_label: arguments.field::<u32, _>(),
+            payload_length: arguments.number(),
+            next_header: IpNumber(arguments.number()),
+            hop_limit: arguments.number(),
+            source: arguments.array(),
+            destination: arguments.array(),
         }
     }
 }

@@ -1,6 +1,7 @@
 use super::Arguments;
 use etherparse::checksum::Sum16BitWords;
 use std::alloc::AllocError;
+use std::mem;
 
 impl<'a> Arguments<'a> {
     /// The bytes of each word that is left, for any number of words.
@@ -8,7 +9,7 @@ impl<'a> Arguments<'a> {
         let mut pieces = Vec::new(self.alloc);
         if let Some(rest) = self.rest.take() {
             for word in rest.split(' ') {
-                pieces.push(self.decoded(word)?)?;
+                pieces.push(self.decoded(word))?;
             }
         }
         Ok(pieces)
@@ -20,43 +21,28 @@ impl<'a> Arguments<'a> {
         let mut sum = Sum16BitWords::new();
         if let Some(rest) = self.rest.take() {
             for word in rest.split(' ') {
-                sum = self.stepped(&mut sums, sum, word)?;
+                if word == "/" {
+                    sums.push(mem::take(&mut sum))?;
+                } else {
+                    sum = self.added(sum, word);
+                }
             }
         }
         sums.push(sum)?;
         Ok(sums)
     }
 
-    // The sum after a word: with a step, or a new one after `/`, which ends the sum before it.
-    fn stepped(
-        &mut self,
-        sums: &mut Vec<Sum16BitWords>,
-        sum: Sum16BitWords,
-        word: &str,
-    ) -> Result<Sum16BitWords, AllocError> {
-        if word == "/" {
-            sums.push(sum)?;
-            Ok(Sum16BitWords::new())
-        } else {
-            self.added(sum, word)
-        }
-    }
-
     // The sum with the bytes of a step: how many there are or `s` for a slice, a colon, the bytes.
-    fn added(&mut self, mut sum: Sum16BitWords, step: &str) -> Result<Sum16BitWords, AllocError> {
-        let (kind, digits) = step.split_once(':').unwrap_or(("", step));
-        match kind {
-            "s" => {
-                let bytes = self.decoded(digits)?;
-                Ok(sum.add_slice(&bytes))
-            }
-            "2" => Ok(sum.add_2bytes(self.decoded_array(digits))),
-            "4" => Ok(sum.add_4bytes(self.decoded_array(digits))),
-            "8" => Ok(sum.add_8bytes(self.decoded_array(digits))),
-            "16" => Ok(sum.add_16bytes(self.decoded_array(digits))),
+    fn added(&mut self, mut sum: Sum16BitWords, step: &str) -> Sum16BitWords {
+        match step.split_once(':') {
+            Some(("s", digits)) => sum.add_slice(&self.decoded(digits)),
+            Some(("2", digits)) => sum.add_2bytes(self.decoded_array(digits)),
+            Some(("4", digits)) => sum.add_4bytes(self.decoded_array(digits)),
+            Some(("8", digits)) => sum.add_8bytes(self.decoded_array(digits)),
+            Some(("16", digits)) => sum.add_16bytes(self.decoded_array(digits)),
             _ => {
                 self.refuse();
-                Ok(sum)
+                sum
             }
         }
     }
