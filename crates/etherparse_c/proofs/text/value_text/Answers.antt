@@ -1,0 +1,12 @@
+use Rattle.etherparse_c.proofs.text.value_text.Goals as goal
+use Rattle.etherparse_c.proofs.text.value_text.Goals.{in-1, in-2, in-3, in-4, in-5, in-6}
+
+pub returns : goal.returns
+returns c = elim c.match-error.branch [
+  | in-1 w ↦ rw w.in-1.is (rw (w.name-is, c.format.ensures.text, c.format-2.ensures.text) at c.joined.ensures)
+  | in-2 w ↦ rw w.in-2.is (rw (w.name-is, c.format.ensures.text, c.format-2.ensures.text) at c.joined.ensures)
+  | in-3 w ↦ rw w.in-3.is (rw (w.name-is, c.format.ensures.text, c.format-2.ensures.text) at c.joined.ensures)
+  | in-4 w ↦ rw w.in-4.is (rw (w.name-is, c.format.ensures.text, c.format-2.ensures.text) at c.joined.ensures)
+  | in-5 w ↦ rw w.in-5.is (rw (w.name-is, c.format.ensures.text, c.format-2.ensures.text) at c.joined.ensures)
+  | in-6 w ↦ rw w.in-6.is (rw (w.name-is, c.format.ensures.text, c.format-2.ensures.text) at c.joined.ensures)
+]
