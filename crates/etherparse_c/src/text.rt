@@ -27,59 +27,54 @@ use itoa::Buffer;
 pub extern "C" fn etherparse_error_text(error: &Error, text: &mut [u8]) -> usize
     ensures gives { GivesText (error_text error.now) text.old text.new result }
 {
-    let whole = whole_text(error);
-    let bytes = whole.as_str().as_bytes();
-    if !text.is_empty() {
-        let end = bytes.len().min(text.len() - 1);
-        text[..end].copy_from_slice(&bytes[..end]);
-        text[end] = 0;
-    }
-    bytes.len()
-}
-
-// The whole text.
-fn whole_text(error: &Error) -> ArrayString<512>
-    ensures { result.bytes ≡ error_text error.now }
-{
     let (mut number, mut limit, mut start) = (Buffer::new(), Buffer::new(), Buffer::new());
     match error.kind {
         LEN => {
             if error.len < error.required_len {
-                return len_text(error);
+                return put_len(error, text);
             }
-            return ArrayString::new();
+            return put(&[], text);
         }
-        UNEXPECTED_VERSION => return version_text(error),
-        HEADER_LENGTH_SMALLER_THAN_HEADER => return joined(&[
-            "IPv4 Header Error: The 'internet header length' value '",
-            number.format(usize::from(error.number)),
-            "' present in the IPv4 header is smaller than the minimum size of an IPv4 header. The \
-             minimum allowed value is '5'.",
-        ]),
-        TOO_MANY => return joined(&[
-            "IPv6 Extension Header Error: More than ",
-            limit.format(error.limit),
-            " extension header(s) ('",
-            number.format(usize::from(error.number)),
-            "' starts at overall parsed byte ",
-            start.format(error.layer_start_offset),
-            ").",
-        ]),
-        VALUE_TOO_BIG => return value_text(error),
-        BAD_OPTIONS_LEN => return joined(&[
-            "Slice of length ",
-            number.format(error.len),
-            " cannot be set as IPv4 header options. The length must be a multiple of 4 and at \
-             maximum 40.",
-        ]),
-        _ => return ArrayString::new(),
+        UNEXPECTED_VERSION => return put_version(error, text),
+        HEADER_LENGTH_SMALLER_THAN_HEADER => return put(
+            &[
+                "IPv4 Header Error: The 'internet header length' value '",
+                number.format(usize::from(error.number)),
+                "' present in the IPv4 header is smaller than the minimum size of an IPv4 header. \
+                 The minimum allowed value is '5'.",
+            ],
+            text,
+        ),
+        TOO_MANY => return put(
+            &[
+                "IPv6 Extension Header Error: More than ",
+                limit.format(error.limit),
+                " extension header(s) ('",
+                number.format(usize::from(error.number)),
+                "' starts at overall parsed byte ",
+                start.format(error.layer_start_offset),
+                ").",
+            ],
+            text,
+        ),
+        VALUE_TOO_BIG => return put_value(error, text),
+        BAD_OPTIONS_LEN => return put(
+            &[
+                "Slice of length ",
+                number.format(error.len),
+                " cannot be set as IPv4 header options. The length must be a multiple of 4 and at \
+                 maximum 40.",
+            ],
+            text,
+        ),
+        _ => return put(&[], text),
     }
 }
 
 // The text of a length that is too small, by its layer.
-fn len_text(error: &Error) -> ArrayString<512>
+fn put_len(error: &Error, text: &mut [u8]) -> usize
     requires below { error.now.len < error.now.required_len }
-    ensures { result.bytes ≡ len_text error.now }
+    ensures gives { GivesText (len_text error.now) text.old text.new result }
 {
     let (title, layer, source) = match error.layer {
         IPV4_HEADER => ("IPv4 Header Error", "IPv4 header", "slice length"),
@@ -94,79 +89,85 @@ fn len_text(error: &Error) -> ArrayString<512>
             "IPv6 extension header",
             "slice length",
         ),
-        _ => return ArrayString::new(),
+        _ => return put(&[], text),
     };
-    len_text_in(error, title, layer, source)
+    put_len_in(error, title, layer, source, text)
 }
 
 // The same for a layer with this title and name. Where the layer starts is left out if that is byte
 // 0.
-fn len_text_in(
+fn put_len_in(
     error: &Error,
     title: &'static str,
     layer: &'static str,
     source: &'static str,
-) -> ArrayString<512>
+    text: &mut [u8],
+) -> usize
     requires below { error.now.len < error.now.required_len }
-    requires short { length title.now + length layer.now + length source.now ≤ 128 }
-    ensures { (l : Layer) → title.now ≡ layer_title l → layer.now ≡ layer_text l →
+    requires short_layer { length layer.now ≤ 32 }
+    requires short { length title.now + length source.now ≤ 128 }
+    ensures gives { (l : Layer) → title.now ≡ layer_title l → layer.now ≡ layer_text l →
         source.now ≡ len_source_text (source_in_c l) →
-        result.bytes ≡ len_error_text (len_error_in l error.now) }
+        GivesText (len_error_text (len_error_in l error.now)) text.old text.new result }
 {
     let (mut required_len, mut len, mut start) = (Buffer::new(), Buffer::new(), Buffer::new());
-    let mut text = joined(&[
-        title,
-        ": Not enough data to decode '",
-        layer,
-        "'. ",
-        required_len.format(error.required_len),
-        " byte(s) would be required, but only ",
-        len.format(error.len),
-        " byte(s) are available based on the ",
-        source,
-    ]);
+    let mut place = ArrayString::<128>::new();
     if error.layer_start_offset > 0 {
-        let place = joined(&[
-            " ('",
-            layer,
-            "' starts at overall parsed byte ",
-            start.format(error.layer_start_offset),
-            ")",
-        ]);
-        text.push_str(place.as_str());
+        place.push_str(" ('");
+        place.push_str(layer);
+        place.push_str("' starts at overall parsed byte ");
+        place.push_str(start.format(error.layer_start_offset));
+        place.push_str(")");
     }
-    text.push_str(".");
-    text
+    put(
+        &[
+            title,
+            ": Not enough data to decode '",
+            layer,
+            "'. ",
+            required_len.format(error.required_len),
+            " byte(s) would be required, but only ",
+            len.format(error.len),
+            " byte(s) are available based on the ",
+            source,
+            place.as_str(),
+            ".",
+        ],
+        text,
+    )
 }
 
 // The text of an unexpected version, by the layer.
-fn version_text(error: &Error) -> ArrayString<512>
-    ensures { result.bytes ≡ version_text error.now }
+fn put_version(error: &Error, text: &mut [u8]) -> usize
+    ensures gives { GivesText (version_text error.now) text.old text.new result }
 {
     let version: &'static str = match error.layer {
         IPV4_HEADER => "4",
         IPV6_HEADER => "6",
-        _ => return ArrayString::new(),
+        _ => return put(&[], text),
     };
     let mut number = Buffer::new();
-    joined(&[
-        "IPv",
-        version,
-        " Header Error: Encountered '",
-        number.format(usize::from(error.number)),
-        "' as IP version number in the IPv",
-        version,
-        " header (must be '",
-        version,
-        "' in an IPv",
-        version,
-        " header).",
-    ])
+    put(
+        &[
+            "IPv",
+            version,
+            " Header Error: Encountered '",
+            number.format(usize::from(error.number)),
+            "' as IP version number in the IPv",
+            version,
+            " header (must be '",
+            version,
+            "' in an IPv",
+            version,
+            " header).",
+        ],
+        text,
+    )
 }
 
 // The text of a value that is too big, by the kind of value.
-fn value_text(error: &Error) -> ArrayString<512>
-    ensures { result.bytes ≡ value_text error.now }
+fn put_value(error: &Error, text: &mut [u8]) -> usize
+    ensures gives { GivesText (value_text error.now) text.old text.new result }
 {
     let name: &'static str = match error.number {
         IP_FRAGMENT_OFFSET => "IP Fragment Offset",
@@ -175,28 +176,39 @@ fn value_text(error: &Error) -> ArrayString<512>
         IPV6_FLOW_LABEL => "IPv6 Flow Label",
         IPV4_PAYLOAD_LENGTH => "IPv4 Header 'Payload Length' (sets 'Total Length')",
         IPV6_PAYLOAD_LENGTH => "IPv6 Header 'Payload Length'",
-        _ => return ArrayString::new(),
+        _ => return put(&[], text),
     };
     let (mut value, mut limit) = (Buffer::new(), Buffer::new());
-    joined(&[
-        "Error '",
-        value.format(error.len),
-        "' is too big to be a '",
-        name,
-        "' (maximum allowed value is '",
-        limit.format(error.limit),
-        "')",
-    ])
+    put(
+        &[
+            "Error '",
+            value.format(error.len),
+            "' is too big to be a '",
+            name,
+            "' (maximum allowed value is '",
+            limit.format(error.limit),
+            "')",
+        ],
+        text,
+    )
 }
 
-// The pieces, one after the other.
-fn joined(pieces: &[&str]) -> ArrayString<512>
-    requires fits { length (flat_map (λ piece. piece.now) pieces.now) ≤ 512 }
-    ensures { result.bytes ≡ flat_map (λ piece. piece.now) pieces.now }
+// Writes these pieces one after the other, as far as there is room, and a byte 0 after them.
+#[inline(never)]
+fn put(pieces: &[&str], text: &mut [u8]) -> usize
+    requires short { length (flat_map (λ piece. piece.now) pieces.now) ≤ 1024 }
+    ensures gives { GivesText (flat_map (λ piece. piece.now) pieces.now) text.old text.new result }
 {
-    let mut text = ArrayString::new();
+    let room = text.len().saturating_sub(1);
+    let mut len: usize = 0;
     for piece in pieces {
-        text.push_str(piece);
+        let start = len.min(room);
+        len += piece.len();
+        let end = len.min(room);
+        text[start..end].copy_from_slice(&piece.as_bytes()[..end - start]);
     }
-    text
+    if !text.is_empty() {
+        text[len.min(room)] = 0;
+    }
+    len
 }

@@ -1,30 +1,10 @@
-use Rattle.std.proofs.Common.{ℕ, ◌≡◌, ◌==◌, ◌-◌, ◌++◌, ◌∷◌, List, [], true, false, ap, arith, drop, length, min, refl, slice_set, suc, sym, take, ◌∙◌}
-use Rattle.etherparse_c.specs.ErrorText.{with_text}
 use Rattle.etherparse_c.proofs.text.etherparse_error_text.Goals as goal
 
--- a byte 0 after the text, or as the last byte of the buffer
-ended : (text : List ℕ) (first : ℕ) (others : List ℕ) (end : ℕ) → end ≡ min (length text) (length others)
-    → slice_set (take end text ++ drop end (first ∷ others)) end 0 ≡ with_text text (first ∷ others)
-ended [] first [] end e = let none : end ≡ 0 = omega (arith, e) in rw none refl
-ended [] first (o ∷ os) end e = let none : end ≡ 0 = omega (arith, e) in rw none refl
-ended (w ∷ ws) first [] end e = let none : end ≡ 0 = omega (arith, e) in rw none refl
-ended (w ∷ ws) first (o ∷ os) end e =
-    let more : end ≡ suc (min (length ws) (length os)) = omega (arith, e) in
-    rw more (ap (λ l. w ∷ l) (ended ws o os _ refl))
+pub returns-in-3 : goal.returns-in-3
+returns-in-3 c = record { gives = rw (c.in-3.is, ← c.from.ensures) (rw c.format.ensures.text at c.put-in-3.ensures.gives) }
 
--- the same for a buffer that is not empty
-end_of : (text before : List ℕ) (end : ℕ) → (length before == 0) ≡ false → end ≡ min (length text) (length before - 1)
-    → slice_set (take end text ++ drop end before) end 0 ≡ with_text text before
-end_of text [] end some e = let wrong : true ≡ false = some in cc
-end_of text (x ∷ xs) end some e = ended text x xs end (omega (arith, e))
+pub returns-in-4 : goal.returns-in-4
+returns-in-4 c = record { gives = rw (c.in-4.is, ← c.from-in-4.ensures) (rw (c.format-in-4.ensures.text, c.format-in-4-2.ensures.text, c.format-in-4-3.ensures.text) at c.put-in-4.ensures.gives) }
 
-pub returns-then-not-is_empty : goal.returns-then-not-is_empty
-returns-then-not-is_empty c =
-    let same = c.as_bytes-bytes.ensures.value ∙ c.as_str.ensures.value ∙ c.whole_text-whole.ensures in
-    record {
-      gives = record {
-        len = ap length same;
-        written = rw (c.copy_from_slice.ensures.after, same)
-            (end_of _ _ _ (sym c.is_empty.ensures ∙ c.if-not-is_empty.true) (rw same at c.min-end.ensures));
-      };
-    }
+pub returns-in-6 : goal.returns-in-6
+returns-in-6 c = record { gives = rw c.in-6.is (rw c.format-in-6.ensures.text at c.put-in-6.ensures.gives) }
