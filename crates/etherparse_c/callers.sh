@@ -63,7 +63,7 @@ build_after_ci() {
   local kit crates below words=()
   kit=$(dirname "$(dirname "$(readlink -f "$(command -v rt)")")")
   crates=$(dirname "$here")
-  for below in std itoa; do words+=(--extern "$below=$kit/rlibs/$below.rlib"); done
+  for below in std arrayvec itoa; do words+=(--extern "$below=$kit/rlibs/$below.rlib"); done
   words+=(-L "dependency=$kit/rlibs" --extern "etherparse=$crates/etherparse/out/rlib/etherparse.rlib")
   for below in etherparse_base etherparse_fields etherparse; do words+=(-L "dependency=$crates/$below/out/rlib"); done
   words+=(--antt-project "$kit/rattle/logic/antt-project.json" --logic-built "$kit/logic_built" --jobs 1)

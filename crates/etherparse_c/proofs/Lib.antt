@@ -1,4 +1,3 @@
 mod Answered
 mod ErrorTexts
 mod Fields
-mod Texts

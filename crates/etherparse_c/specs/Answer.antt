@@ -1,5 +1,7 @@
 -- What C gets for an answer of the library.
-use Rattle.std.specs.Prelude.{ℕ, ◌≡◌, ◌-◌, List, length}
+use Rattle.std.specs.Prelude.{ℕ, ◌≡◌, ◌-◌, ◌++◌, List, length, replicate, Result, Ok, Err}
+use Rattle.etherparse_c.specs.Error.{no_error}
+use Rattle.etherparse_c.specs.declared.answer.Error.{Error}
 use Rattle.etherparse_c.specs.declared.answer.Rest.{Rest}
 
 -- The library allows an answer, and each one that it allows is what C gets.
@@ -16,3 +18,14 @@ rest_of s rest = record { offset = length s - length rest; len = length rest }
 -- no rest
 abbrev pub no_rest : Rest
 no_rest = record { offset = 0; len = 0 }
+
+-- What C gets for an answer about a slice: what was found, no error, and where the rest is; or
+-- nothing, the error and no rest.
+abbrev pub answer_in_c : {A C E : Type 0} → (A → C) → C → (E → Error) → List ℕ
+    → Result (A × List ℕ) E → C × Error × Rest
+answer_in_c found_in_c nothing error_in_c s (Ok x) = (found_in_c x.0, no_error, rest_of s x.1)
+answer_in_c found_in_c nothing error_in_c s (Err e) = (nothing, error_in_c e, no_rest)
+
+-- bytes at the front of an array with this much room, 0 after them, and their number
+abbrev pub bytes_in_c : ℕ → List ℕ → List ℕ × ℕ
+bytes_in_c room bytes = (bytes ++ replicate (room - length bytes) 0, length bytes)

@@ -7,51 +7,45 @@ use Rattle.etherparse.specs.LenError.{len_error_text}
 use Rattle.etherparse.specs.ValueTooBigError.{value_too_big_error_text}
 use Rattle.etherparse.specs.declared.err.Layer.{Layer}
 use Rattle.etherparse.specs.declared.err.Layer.TheVariants as layer
-use Rattle.etherparse.specs.declared.err.ValueType.{ValueType}
+use Rattle.etherparse.specs.declared.err.LenError.{LenError}
 use Rattle.etherparse.specs.declared.err.ValueType.TheVariants as value
 use Rattle.etherparse.specs.declared.err.ipv4.HeaderError.TheVariants as ipv4
 use Rattle.etherparse.specs.declared.err.ipv6.ChainError.TheVariants as chain
 use Rattle.etherparse.specs.declared.err.ipv6.HeaderError.TheVariants as ipv6
-use Rattle.etherparse_c.specs.Error.{source_in_c}
+use Rattle.etherparse_c.specs.Error.{layer_in_c, source_in_c, value_in_c}
 use Rattle.etherparse_c.specs.declared.answer.Error.{Error}
 
--- of a length that is too small, in this layer
-abbrev pub len_text_in : Error → Layer → List ℕ
-len_text_in e l = len_error_text (record {
+-- the text of the one with this number; empty if none has it
+abbrev pub text_of_number : {A : Type 0} → (A → ℕ) → (A → List ℕ) → ℕ → List A → List ℕ
+text_of_number number text n [] = []
+text_of_number number text n (x ∷ xs) =
+    if n == number x then text x else text_of_number number text n xs
+
+-- of a length, by the number of its layer
+abbrev pub len_error_in : Layer → Error → LenError
+len_error_in l e = record {
   required_len = e.required_len;
   len = e.len;
   len_source = source_in_c l;
   layer = l;
   layer_start_offset = e.layer_start_offset;
-})
+}
 
--- of a value that is too big, of this type
-abbrev pub value_text_of : Error → ValueType → List ℕ
-value_text_of e v = value_too_big_error_text
-    (record { actual = e.len; max_allowed = e.limit; value_type = v })
-
--- by the number of the layer
 abbrev pub len_text : Error → List ℕ
-len_text e =
-    if e.layer == 1 then len_text_in e layer.Ipv4Header
-    else (if e.layer == 2 then len_text_in e layer.Ipv4Packet
-    else (if e.layer == 3 then len_text_in e layer.Ipv6Header
-    else (if e.layer == 4 then len_text_in e layer.Ipv6ExtHeader else [])))
+len_text e = text_of_number layer_in_c (λ l. len_error_text (len_error_in l e)) e.layer
+    (layer.Ipv4Header ∷ layer.Ipv4Packet ∷ layer.Ipv6Header ∷ layer.Ipv6ExtHeader ∷ [])
 
 abbrev pub version_text : Error → List ℕ
 version_text e =
     if e.layer == 1 then ipv4_header_error_text (ipv4.UnexpectedVersion e.number)
     else (if e.layer == 3 then ipv6_header_error_text (ipv6.UnexpectedVersion e.number) else [])
 
--- by the number of the value
+-- of a value that is too big, by its number
 abbrev pub value_text : Error → List ℕ
-value_text e =
-    if e.number == 1 then value_text_of e value.IpFragmentOffset
-    else (if e.number == 2 then value_text_of e value.IpDscp
-    else (if e.number == 3 then value_text_of e value.IpEcn
-    else (if e.number == 4 then value_text_of e value.Ipv6FlowLabel
-    else (if e.number == 5 then value_text_of e value.Ipv4PayloadLength
-    else (if e.number == 6 then value_text_of e value.Ipv6PayloadLength else [])))))
+value_text e = text_of_number value_in_c (λ v. value_too_big_error_text
+    (record { actual = e.len; max_allowed = e.limit; value_type = v })) e.number
+    (value.IpFragmentOffset ∷ value.IpDscp ∷ value.IpEcn ∷ value.Ipv6FlowLabel
+    ∷ value.Ipv4PayloadLength ∷ value.Ipv6PayloadLength ∷ [])
 
 -- the text of the error with these numbers; empty if no error has their kind, layer or value, or if
 -- the length is not too small

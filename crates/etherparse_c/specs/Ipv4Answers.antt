@@ -1,26 +1,14 @@
 -- What the calls on IPv4 headers return to C.
-use Rattle.std.specs.Prelude.{ℕ, ◌≡◌, ◌==◌, ◌-◌, ◌||◌, ◌++◌, List, length, not, replicate}
-use Rattle.std.specs.Prelude.{Ok, Err, MatchResult}
+use Rattle.std.specs.Prelude.{ℕ, ◌≡◌, ◌==◌, ◌||◌, List, MatchResult, not}
 use Rattle.etherparse.specs.IpEcn.{ecn_value}
-use Rattle.etherparse.specs.Ipv4Header.{IsIpv4LayoutWith, Ipv4Reading, ipv4_header_len, ipv4_ihl}
+use Rattle.etherparse.specs.Ipv4Header.{IsIpv4LayoutWith, ipv4_header_len, ipv4_ihl}
 use Rattle.etherparse.specs.Ipv4Header.{ipv4_max_payload_len, ipv4_payload_len}
 use Rattle.etherparse.specs.declared.net.ipv4_header.Ipv4Header.{Ipv4Header}
-use Rattle.etherparse_c.specs.Answer.{no_rest, rest_of}
-use Rattle.etherparse_c.specs.Error.{ipv4_error_in_c, len_error_in_c, no_error}
-use Rattle.etherparse_c.specs.Ipv4Fields.{StandForIpv4, ipv4_fields_of, zero_ipv4_header}
-use Rattle.etherparse_c.specs.declared.ipv4_header.Ipv4Bytes.{Ipv4Bytes}
+use Rattle.etherparse_c.specs.Error.{len_error_in_c, no_error}
+use Rattle.etherparse_c.specs.Ipv4Fields.{StandForIpv4, zero_ipv4_header}
 use Rattle.etherparse_c.specs.declared.ipv4_header.Ipv4Fields.{Ipv4Fields}
 use Rattle.etherparse_c.specs.declared.ipv4_header.Ipv4LengthsAnswer.{Ipv4LengthsAnswer}
-use Rattle.etherparse_c.specs.declared.ipv4_header.Ipv4ReadAnswer.{Ipv4ReadAnswer}
 use Rattle.etherparse_c.specs.declared.ipv4_view.Ipv4ViewFields.{Ipv4ViewFields}
-use Rattle.etherparse_c.specs.declared.ipv4_view.Ipv4ViewAnswer.{Ipv4ViewAnswer}
-
--- the fields of a header that was read, and where the rest of the slice is; or the error
-abbrev pub ipv4_reading_in_c : List ℕ → Ipv4Reading → Ipv4ReadAnswer
-ipv4_reading_in_c s (Ok x) =
-    record { error = no_error; rest = rest_of s x.1; fields = ipv4_fields_of x.0 }
-ipv4_reading_in_c s (Err e) =
-    record { error = ipv4_error_in_c e; rest = no_rest; fields = ipv4_fields_of zero_ipv4_header }
 
 -- what the getters of a view of this header return
 abbrev pub ipv4_view_of : Ipv4Header → Ipv4ViewFields
@@ -45,23 +33,11 @@ ipv4_view_of header = record {
 abbrev pub no_ipv4_view : Ipv4ViewFields
 no_ipv4_view = record (ipv4_view_of zero_ipv4_header) { ihl = 0 }
 
--- the view of a header that could be read, and where the rest of the slice is; or the error
-abbrev pub ipv4_view_in_c : List ℕ → Ipv4Reading → Ipv4ViewAnswer
-ipv4_view_in_c s (Ok x) =
-    record { error = no_error; rest = rest_of s x.1; view = ipv4_view_of x.0 }
-ipv4_view_in_c s (Err e) =
-    record { error = ipv4_error_in_c e; rest = no_rest; view = no_ipv4_view }
-
 -- the bytes are those of the header with these fields, with the reserved bit 0
 pub record AreWrittenForIpv4 (fields : Ipv4Fields) (bytes : List ℕ) : Type 0 where
   pub header : Ipv4Header
   pub same : StandForIpv4 fields header
   pub layout : IsIpv4LayoutWith header 0 bytes
-
--- bytes at the front of their array, and 0 after them
-abbrev pub ipv4_bytes_in_c : List ℕ → Ipv4Bytes
-ipv4_bytes_in_c bytes =
-    record { bytes = bytes ++ replicate (60 - length bytes) 0; len = length bytes }
 
 -- the lengths of this header; for the payload, 0 and an error if the total length is too small
 pub record AreIpv4Lengths (lengths : Ipv4LengthsAnswer) (header : Ipv4Header) : Type 0 where

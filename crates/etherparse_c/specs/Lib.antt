@@ -5,4 +5,3 @@ pub mod Ipv4Answers
 pub mod Ipv4Fields
 pub mod Ipv6Answers
 pub mod Ipv6Fields
-pub mod Private

@@ -1,7 +1,6 @@
 //! Parts of several calls' results: an error as numbers, and where the rest of a slice is.
 
 ghost use Rattle.std.specs.Prelude.{ℕ, ◌≡◌, ◌≤◌, ◌+◌, List, length};
-ghost use Rattle.etherparse.specs.declared.err.ipv4.HeaderSliceError.TheVariants as ipv4_slice;
 ghost use Rattle.etherparse_c.specs.Answer.{no_rest, rest_of};
 ghost use Rattle.etherparse_c.specs.Error.{chain_error_in_c, ipv4_error_in_c, ipv6_error_in_c};
 ghost use Rattle.etherparse_c.specs.Error.{layer_in_c, len_error_in_c, no_error};
@@ -118,23 +117,17 @@ impl Error {
     {
         match e {
             ipv4::HeaderSliceError::Len(e) => Error::of_len(e),
-            ipv4::HeaderSliceError::Content(e) => Error::of_ipv4_content(e),
-        }
-    }
-
-    // The error of bytes that are no IPv4 header.
-    #[inline(always)]
-    fn of_ipv4_content(e: &ipv4::HeaderError) -> Error
-        ensures value { result ≡ ipv4_error_in_c (ipv4_slice.Content e.now) }
-    {
-        match e {
-            ipv4::HeaderError::UnexpectedVersion { version_number } => Error {
+            ipv4::HeaderSliceError::Content(
+                ipv4::HeaderError::UnexpectedVersion { version_number },
+            ) => Error {
                 kind: UNEXPECTED_VERSION,
                 number: u16::from(*version_number),
                 layer: IPV4_HEADER,
                 ..Error::none()
             },
-            ipv4::HeaderError::HeaderLengthSmallerThanHeader { ihl } => Error {
+            ipv4::HeaderSliceError::Content(
+                ipv4::HeaderError::HeaderLengthSmallerThanHeader { ihl },
+            ) => Error {
                 kind: HEADER_LENGTH_SMALLER_THAN_HEADER,
                 number: u16::from(*ihl),
                 layer: IPV4_HEADER,

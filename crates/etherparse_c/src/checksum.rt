@@ -3,8 +3,7 @@
 ghost use Rattle.std.specs.Prelude.{◌≡◌, ◌+◌, map};
 ghost use Rattle.std.specs.Int.{swap_bytes, w16};
 ghost use Rattle.etherparse.specs.WordSums.{AddsSlice, AddsSlices, Complements};
-ghost use Rattle.etherparse.specs.WordSums.{ComplementsWithNoZero, UpdatesChecksum};
-ghost use Rattle.etherparse.specs.WordSums.{little_endian_word_sum, network_order_word_sum};
+ghost use Rattle.etherparse.specs.WordSums.{ComplementsWithNoZero, little_endian_word_sum};
 ghost use Rattle.etherparse.specs.WordSums.{updated_checksum, updated_checksum_of_words};
 
 use etherparse::checksum::{
@@ -109,7 +108,6 @@ pub extern "C" fn etherparse_swap_bytes(checksum: u16) -> u16
 #[unsafe(no_mangle)]
 pub extern "C" fn etherparse_update_2bytes(checksum: u16, old: u16, new: u16) -> u16
     ensures value { result ≡ updated_checksum checksum old new }
-    ensures updates { UpdatesChecksum checksum old new result }
 {
     update_2bytes(checksum, old.to_be_bytes(), new.to_be_bytes())
 }
@@ -118,8 +116,6 @@ pub extern "C" fn etherparse_update_2bytes(checksum: u16, old: u16, new: u16) ->
 #[unsafe(no_mangle)]
 pub extern "C" fn etherparse_update_4bytes(checksum: u16, old: &[u8; 4], new: &[u8; 4]) -> u16
     ensures value { result ≡ updated_checksum_of_words 2 checksum old.now new.now }
-    ensures updates { UpdatesChecksum checksum (network_order_word_sum old.now)
-        (network_order_word_sum new.now) result }
 {
     update_4bytes(checksum, *old, *new)
 }
@@ -128,8 +124,6 @@ pub extern "C" fn etherparse_update_4bytes(checksum: u16, old: &[u8; 4], new: &[
 #[unsafe(no_mangle)]
 pub extern "C" fn etherparse_update_16bytes(checksum: u16, old: &[u8; 16], new: &[u8; 16]) -> u16
     ensures value { result ≡ updated_checksum_of_words 8 checksum old.now new.now }
-    ensures updates { UpdatesChecksum checksum (network_order_word_sum old.now)
-        (network_order_word_sum new.now) result }
 {
     update_16bytes(checksum, *old, *new)
 }

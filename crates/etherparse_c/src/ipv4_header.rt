@@ -8,16 +8,15 @@ ghost use Rattle.etherparse.specs.Ipv4Options.{IsOptionsLen};
 ghost use Rattle.etherparse.specs.WordSums.{updated_checksum};
 ghost use Rattle.etherparse.specs.declared.err.ValueType.TheVariants.{Ipv4PayloadLength};
 ghost use Rattle.etherparse.specs.declared.net.ipv4_header.Ipv4Header.{Ipv4Header as Header};
-ghost use Rattle.etherparse_c.specs.Answer.{GivesAnswer};
-ghost use Rattle.etherparse_c.specs.Error.{no_error, options_error_in_c, value_error_in_c};
+ghost use Rattle.etherparse_c.specs.Answer.{GivesAnswer, answer_in_c, bytes_in_c};
+ghost use Rattle.etherparse_c.specs.Error.{ipv4_error_in_c, no_error, options_error_in_c};
+ghost use Rattle.etherparse_c.specs.Error.{value_error_in_c};
 ghost use Rattle.etherparse_c.specs.Ipv4Answers.{AreIpv4Lengths, AreWrittenForIpv4};
-ghost use Rattle.etherparse_c.specs.Ipv4Answers.{ipv4_bytes_in_c, ipv4_reading_in_c};
 ghost use Rattle.etherparse_c.specs.Ipv4Fields.{AreWithinBounds, StandForIpv4, ipv4_fields_of};
 ghost use Rattle.etherparse_c.specs.Ipv4Fields.{zero_ipv4_header};
 
 use crate::answer::{BAD_OPTIONS_LEN, Error, IPV4_PAYLOAD_LENGTH, Rest, VALUE_TOO_BIG};
 use crate::room::{filled, filled_by_words};
-use etherparse::err::ipv4::HeaderSliceError;
 use etherparse::{IpDscp, IpEcn, IpFragOffset, IpNumber, Ipv4Header, Ipv4Options};
 
 /// The fields of an IPv4 header, as C has them.
@@ -189,7 +188,9 @@ pub extern "C" fn etherparse_ipv4_new(
 /// fewer bytes than the IHL says.
 #[unsafe(no_mangle)]
 pub extern "C" fn etherparse_ipv4_read(slice: &[u8]) -> Ipv4ReadAnswer
-    ensures reads { GivesAnswer (ReadsIpv4 slice.now) (ipv4_reading_in_c slice.now) result }
+    ensures reads { GivesAnswer (ReadsIpv4 slice.now)
+        (answer_in_c ipv4_fields_of (ipv4_fields_of zero_ipv4_header) ipv4_error_in_c slice.now)
+        (result.fields, result.error, result.rest) }
 {
     match Ipv4Header::from_slice(slice) {
         // Each arm has its own `return`, for speed: as the value of the `match` the answer takes
@@ -212,7 +213,13 @@ pub extern "C" fn etherparse_ipv4_read(slice: &[u8]) -> Ipv4ReadAnswer
                 fields: fields_with(&header, filled_by_words(options)),
             };
         }
-        Err(e) => return refused(&e),
+        Err(e) => {
+            return Ipv4ReadAnswer {
+                error: Error::of_ipv4(&e),
+                rest: Rest::none(),
+                fields: no_fields(),
+            };
+        }
     }
 }
 
@@ -220,8 +227,8 @@ pub extern "C" fn etherparse_ipv4_read(slice: &[u8]) -> Ipv4ReadAnswer
 #[unsafe(no_mangle)]
 pub extern "C" fn etherparse_ipv4_write(fields: &Ipv4Fields) -> Ipv4Bytes
     ensures layout { AreWithinBounds fields.now →
-        GivesAnswer (AreWrittenForIpv4 fields.now) ipv4_bytes_in_c result }
-    ensures refused { ¬ AreWithinBounds fields.now → result ≡ ipv4_bytes_in_c [] }
+        GivesAnswer (AreWrittenForIpv4 fields.now) (bytes_in_c 60) (result.bytes, result.len) }
+    ensures refused { ¬ AreWithinBounds fields.now → (result.bytes, result.len) ≡ bytes_in_c 60 [] }
 {
     // Each length of options has a copy of its own, whose length the compiler knows.
     match fields.options_len {
@@ -388,8 +395,8 @@ fn written_with<const N: usize>(fields: &Ipv4Fields) -> Ipv4Bytes
     requires found { fields.now.options_len ≡ N }
     requires fits { IsOptionsLen N }
     ensures layout { AreWithinBounds fields.now →
-        GivesAnswer (AreWrittenForIpv4 fields.now) ipv4_bytes_in_c result }
-    ensures refused { ¬ AreWithinBounds fields.now → result ≡ ipv4_bytes_in_c [] }
+        GivesAnswer (AreWrittenForIpv4 fields.now) (bytes_in_c 60) (result.bytes, result.len) }
+    ensures refused { ¬ AreWithinBounds fields.now → (result.bytes, result.len) ≡ bytes_in_c 60 [] }
 {
     match header_with(fields, N) {
         Some(header) => {
@@ -407,7 +414,7 @@ fn written_with<const N: usize>(fields: &Ipv4Fields) -> Ipv4Bytes
 // The answer if a field is out of its bounds.
 #[inline(always)]
 fn no_bytes() -> Ipv4Bytes
-    ensures value { result ≡ ipv4_bytes_in_c [] }
+    ensures value { (result.bytes, result.len) ≡ bytes_in_c 60 [] }
 {
     Ipv4Bytes {
         bytes: [0; 60],
@@ -437,18 +444,6 @@ fn fields_with(header: &Ipv4Header, options: [u8; 40]) -> Ipv4Fields
         destination: header.destination,
         options_len: header.options.len_u8(),
         options,
-    }
-}
-
-// The answer if there is no header.
-#[inline(always)]
-fn refused(e: &HeaderSliceError) -> Ipv4ReadAnswer
-    ensures value { (s : List ℕ) → result ≡ ipv4_reading_in_c s (Err e.now) }
-{
-    Ipv4ReadAnswer {
-        error: Error::of_ipv4(e),
-        rest: Rest::none(),
-        fields: no_fields(),
     }
 }
 

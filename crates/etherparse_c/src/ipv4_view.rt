@@ -1,13 +1,13 @@
 //! The view of an IPv4 header (RFC 791 section 3.1): its bytes stay where they are.
 
-ghost use Rattle.std.specs.Prelude.{ℕ, ◌≡◌, List, Err};
+ghost use Rattle.std.specs.Prelude.{◌≡◌};
 ghost use Rattle.etherparse.specs.Ipv4Header.{OfIpv4Header, ReadsIpv4};
-ghost use Rattle.etherparse_c.specs.Answer.{GivesAnswer};
-ghost use Rattle.etherparse_c.specs.Ipv4Answers.{ipv4_view_in_c, ipv4_view_of};
+ghost use Rattle.etherparse_c.specs.Answer.{GivesAnswer, answer_in_c};
+ghost use Rattle.etherparse_c.specs.Error.{ipv4_error_in_c};
+ghost use Rattle.etherparse_c.specs.Ipv4Answers.{ipv4_view_of, no_ipv4_view};
 
 use crate::answer::{Error, Rest};
 use etherparse::Ipv4HeaderSlice;
-use etherparse::err::ipv4::HeaderSliceError;
 
 /// What the getters of a view return.
 #[repr(C)]
@@ -62,7 +62,9 @@ pub struct Ipv4ViewAnswer {
 /// fewer bytes than the IHL says.
 #[unsafe(no_mangle)]
 pub extern "C" fn etherparse_ipv4_view(slice: &[u8]) -> Ipv4ViewAnswer
-    ensures views { GivesAnswer (ReadsIpv4 slice.now) (ipv4_view_in_c slice.now) result }
+    ensures views { GivesAnswer (ReadsIpv4 slice.now)
+        (answer_in_c ipv4_view_of no_ipv4_view ipv4_error_in_c slice.now)
+        (result.view, result.error, result.rest) }
 {
     match Ipv4HeaderSlice::from_slice(slice) {
         // Each arm has its own `return`, for speed: as the value of the `match` the answer takes
@@ -74,7 +76,28 @@ pub extern "C" fn etherparse_ipv4_view(slice: &[u8]) -> Ipv4ViewAnswer
                 view: getters_of(&view),
             };
         }
-        Err(e) => return refused(&e),
+        Err(e) => {
+            return Ipv4ViewAnswer {
+                error: Error::of_ipv4(&e),
+                rest: Rest::none(),
+                view: Ipv4ViewFields {
+                    ihl: 0,
+                    dscp: 0,
+                    ecn: 0,
+                    dont_fragment: false,
+                    more_fragments: false,
+                    is_fragmenting_payload: false,
+                    time_to_live: 0,
+                    protocol: 0,
+                    total_len: 0,
+                    identification: 0,
+                    fragment_offset: 0,
+                    header_checksum: 0,
+                    source: [0; 4],
+                    destination: [0; 4],
+                },
+            };
+        }
     }
 }
 
@@ -99,32 +122,5 @@ fn getters_of(view: &Ipv4HeaderSlice) -> Ipv4ViewFields
         header_checksum: view.header_checksum(),
         source: view.source(),
         destination: view.destination(),
-    }
-}
-
-// The answer if there is no header.
-#[inline(always)]
-fn refused(e: &HeaderSliceError) -> Ipv4ViewAnswer
-    ensures value { (s : List ℕ) → result ≡ ipv4_view_in_c s (Err e.now) }
-{
-    Ipv4ViewAnswer {
-        error: Error::of_ipv4(e),
-        rest: Rest::none(),
-        view: Ipv4ViewFields {
-            ihl: 0,
-            dscp: 0,
-            ecn: 0,
-            dont_fragment: false,
-            more_fragments: false,
-            is_fragmenting_payload: false,
-            time_to_live: 0,
-            protocol: 0,
-            total_len: 0,
-            identification: 0,
-            fragment_offset: 0,
-            header_checksum: 0,
-            source: [0; 4],
-            destination: [0; 4],
-        },
     }
 }

@@ -1,14 +1,13 @@
 //! The IPv6 header (RFC 8200 section 3).
 
-ghost use Rattle.std.specs.Prelude.{ℕ, ◌≡◌, ◌↔◌, ◌^◌, ◌<◌, List, [], Err, IfSome, IsSome};
+ghost use Rattle.std.specs.Prelude.{◌≡◌, ◌↔◌, ◌^◌, ◌<◌, [], IfSome, IsSome};
 ghost use Rattle.etherparse.specs.Ipv6Header.{ReadsIpv6, default_ipv6_header};
-ghost use Rattle.etherparse_c.specs.Answer.{GivesAnswer};
-ghost use Rattle.etherparse_c.specs.Ipv6Answers.{AreWrittenForIpv6, ipv6_bytes_in_c};
-ghost use Rattle.etherparse_c.specs.Ipv6Answers.{ipv6_reading_in_c};
-ghost use Rattle.etherparse_c.specs.Ipv6Fields.{ipv6_fields_of};
+ghost use Rattle.etherparse_c.specs.Answer.{GivesAnswer, answer_in_c, bytes_in_c};
+ghost use Rattle.etherparse_c.specs.Error.{ipv6_error_in_c};
+ghost use Rattle.etherparse_c.specs.Ipv6Answers.{AreWrittenForIpv6};
+ghost use Rattle.etherparse_c.specs.Ipv6Fields.{ipv6_fields_of, zero_ipv6_header};
 
 use crate::answer::{Error, Rest};
-use etherparse::err::ipv6::HeaderSliceError;
 use etherparse::{IpNumber, Ipv6FlowLabel, Ipv6Header};
 
 /// The fields of an IPv6 header, as C has them.
@@ -67,7 +66,9 @@ pub extern "C" fn etherparse_ipv6_default() -> Ipv6Fields
 /// Fewer than 40 bytes are an error; otherwise a version other than 6 is.
 #[unsafe(no_mangle)]
 pub extern "C" fn etherparse_ipv6_read(slice: &[u8]) -> Ipv6ReadAnswer
-    ensures reads { GivesAnswer (ReadsIpv6 slice.now) (ipv6_reading_in_c slice.now) result }
+    ensures reads { GivesAnswer (ReadsIpv6 slice.now)
+        (answer_in_c ipv6_fields_of (ipv6_fields_of zero_ipv6_header) ipv6_error_in_c slice.now)
+        (result.fields, result.error, result.rest) }
 {
     match Ipv6Header::from_slice(slice) {
         // Each arm has its own `return`, for speed: as the value of the `match` the answer takes
@@ -79,7 +80,21 @@ pub extern "C" fn etherparse_ipv6_read(slice: &[u8]) -> Ipv6ReadAnswer
                 fields: fields_of(&header),
             };
         }
-        Err(e) => return refused(&e),
+        Err(e) => {
+            return Ipv6ReadAnswer {
+                error: Error::of_ipv6(&e),
+                rest: Rest::none(),
+                fields: Ipv6Fields {
+                    flow_label: 0,
+                    payload_length: 0,
+                    traffic_class: 0,
+                    next_header: 0,
+                    hop_limit: 0,
+                    source: [0; 16],
+                    destination: [0; 16],
+                },
+            };
+        }
     }
 }
 
@@ -87,8 +102,8 @@ pub extern "C" fn etherparse_ipv6_read(slice: &[u8]) -> Ipv6ReadAnswer
 #[unsafe(no_mangle)]
 pub extern "C" fn etherparse_ipv6_write(fields: &Ipv6Fields) -> Ipv6Bytes
     ensures layout { fields.now.flow_label < 2 ^ 20 →
-        GivesAnswer (AreWrittenForIpv6 fields.now) ipv6_bytes_in_c result }
-    ensures refused { ¬ (fields.now.flow_label < 2 ^ 20) → result ≡ ipv6_bytes_in_c [] }
+        GivesAnswer (AreWrittenForIpv6 fields.now) (bytes_in_c 40) (result.bytes, result.len) }
+    ensures refused { ¬ (fields.now.flow_label < 2 ^ 20) → (result.bytes, result.len) ≡ bytes_in_c 40 [] }
 {
     match header_of(fields) {
         Some(header) => {
@@ -137,25 +152,5 @@ fn fields_of(header: &Ipv6Header) -> Ipv6Fields
         hop_limit: header.hop_limit,
         source: header.source,
         destination: header.destination,
-    }
-}
-
-// The answer if there is no header.
-#[inline(always)]
-fn refused(e: &HeaderSliceError) -> Ipv6ReadAnswer
-    ensures value { (s : List ℕ) → result ≡ ipv6_reading_in_c s (Err e.now) }
-{
-    Ipv6ReadAnswer {
-        error: Error::of_ipv6(e),
-        rest: Rest::none(),
-        fields: Ipv6Fields {
-            flow_label: 0,
-            payload_length: 0,
-            traffic_class: 0,
-            next_header: 0,
-            hop_limit: 0,
-            source: [0; 16],
-            destination: [0; 16],
-        },
     }
 }

@@ -1,13 +1,14 @@
 //! The view of an IPv6 header (RFC 8200 section 3): its bytes stay where they are.
 
-ghost use Rattle.std.specs.Prelude.{ℕ, ◌≡◌, List, Err};
+ghost use Rattle.std.specs.Prelude.{◌≡◌};
 ghost use Rattle.etherparse.specs.Ipv6Header.{OfIpv6Header, ReadsIpv6};
-ghost use Rattle.etherparse_c.specs.Answer.{GivesAnswer};
-ghost use Rattle.etherparse_c.specs.Ipv6Answers.{ipv6_view_in_c, ipv6_view_of};
+ghost use Rattle.etherparse_c.specs.Answer.{GivesAnswer, answer_in_c};
+ghost use Rattle.etherparse_c.specs.Error.{ipv6_error_in_c};
+ghost use Rattle.etherparse_c.specs.Ipv6Answers.{ipv6_view_of};
+ghost use Rattle.etherparse_c.specs.Ipv6Fields.{zero_ipv6_header};
 
 use crate::answer::{Error, Rest};
 use etherparse::Ipv6HeaderSlice;
-use etherparse::err::ipv6::HeaderSliceError;
 
 /// What the getters of a view return.
 #[repr(C)]
@@ -50,7 +51,9 @@ pub struct Ipv6ViewAnswer {
 /// Fewer than 40 bytes are an error; otherwise a version other than 6 is.
 #[unsafe(no_mangle)]
 pub extern "C" fn etherparse_ipv6_view(slice: &[u8]) -> Ipv6ViewAnswer
-    ensures views { GivesAnswer (ReadsIpv6 slice.now) (ipv6_view_in_c slice.now) result }
+    ensures views { GivesAnswer (ReadsIpv6 slice.now)
+        (answer_in_c ipv6_view_of (ipv6_view_of zero_ipv6_header) ipv6_error_in_c slice.now)
+        (result.view, result.error, result.rest) }
 {
     match Ipv6HeaderSlice::from_slice(slice) {
         // Each arm has its own `return`, for speed: as the value of the `match` the answer takes
@@ -62,7 +65,23 @@ pub extern "C" fn etherparse_ipv6_view(slice: &[u8]) -> Ipv6ViewAnswer
                 view: getters_of(&view),
             };
         }
-        Err(e) => return refused(&e),
+        Err(e) => {
+            return Ipv6ViewAnswer {
+                error: Error::of_ipv6(&e),
+                rest: Rest::none(),
+                view: Ipv6ViewFields {
+                    flow_label: 0,
+                    payload_length: 0,
+                    traffic_class: 0,
+                    dscp: 0,
+                    ecn: 0,
+                    next_header: 0,
+                    hop_limit: 0,
+                    source: [0; 16],
+                    destination: [0; 16],
+                },
+            };
+        }
     }
 }
 
@@ -92,26 +111,4 @@ fn byte_by_byte(address: [u8; 16]) -> [u8; 16]
 {
     let [a, b, c, d, e, f, g, h, i, j, k, l, m, n, o, p] = address;
     [a, b, c, d, e, f, g, h, i, j, k, l, m, n, o, p]
-}
-
-// The answer if there is no header.
-#[inline(always)]
-fn refused(e: &HeaderSliceError) -> Ipv6ViewAnswer
-    ensures value { (s : List ℕ) → result ≡ ipv6_view_in_c s (Err e.now) }
-{
-    Ipv6ViewAnswer {
-        error: Error::of_ipv6(e),
-        rest: Rest::none(),
-        view: Ipv6ViewFields {
-            flow_label: 0,
-            payload_length: 0,
-            traffic_class: 0,
-            dscp: 0,
-            ecn: 0,
-            next_header: 0,
-            hop_limit: 0,
-            source: [0; 16],
-            destination: [0; 16],
-        },
-    }
 }

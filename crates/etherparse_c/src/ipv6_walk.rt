@@ -30,16 +30,19 @@ pub struct Ipv6WalkAnswer {
 /// Fewer bytes than the header says are an error. If there are fewer than 2 bytes, 2 are required.
 #[unsafe(no_mangle)]
 pub extern "C" fn etherparse_ipv6_skip(slice: &[u8], next_header: u8) -> Ipv6WalkAnswer
-    ensures kept { ¬ IsSkippable next_header → result
+    ensures kept { ¬ IsSkippable next_header →
+        (result.next_header, result.error, result.rest)
         ≡ walk_in_c len_error_in_c slice.now (Ok (next_header, slice.now)) }
     ensures skipped { IsSkippable next_header →
-        required_len_of next_header slice.now ≤ length slice.now → result
+        required_len_of next_header slice.now ≤ length slice.now →
+        (result.next_header, result.error, result.rest)
         ≡ walk_in_c len_error_in_c slice.now (Ok (
           slice_index slice.now 0,
           drop (required_len_of next_header slice.now) slice.now,
         )) }
     ensures refused { IsSkippable next_header →
-        length slice.now < required_len_of next_header slice.now → result
+        length slice.now < required_len_of next_header slice.now →
+        (result.next_header, result.error, result.rest)
         ≡ walk_in_c len_error_in_c slice.now
         (Err (incomplete_header_error next_header slice.now 0)) }
 {
@@ -58,7 +61,7 @@ pub extern "C" fn etherparse_ipv6_skip(slice: &[u8], next_header: u8) -> Ipv6Wal
 #[unsafe(no_mangle)]
 pub extern "C" fn etherparse_ipv6_walk(slice: &[u8], next_header: u8) -> Ipv6WalkAnswer
     ensures walks { GivesAnswer (Walks slice.now next_header)
-        (walk_in_c len_error_in_c slice.now) result }
+        (walk_in_c len_error_in_c slice.now) (result.next_header, result.error, result.rest) }
 {
     match Ipv6Header::skip_all_header_extensions_in_slice(slice, IpNumber(next_header)) {
         Ok((number, rest)) => return ended(slice, number, rest),
@@ -78,7 +81,7 @@ pub extern "C" fn etherparse_ipv6_walk_up_to(
     limit: usize,
 ) -> Ipv6WalkAnswer
     ensures walks { GivesAnswer (WalksUpTo limit slice.now next_header)
-        (walk_in_c chain_error_in_c slice.now) result }
+        (walk_in_c chain_error_in_c slice.now) (result.next_header, result.error, result.rest) }
 {
     match Ipv6Header::skip_header_extensions_up_to(slice, IpNumber(next_header), limit) {
         Ok((number, rest)) => return ended(slice, number, rest),

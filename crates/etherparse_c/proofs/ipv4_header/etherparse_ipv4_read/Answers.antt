@@ -28,4 +28,4 @@ pub returns-in-Ok : goal.returns-in-Ok
 returns-in-Ok c = record { reads = answered (Ok (c.in-Ok.header, c.in-Ok.rest.now)) c.in-Ok.ensures.reads.reads c.in-Ok.ensures.reads.only (search rules) }
 
 pub returns-in-Err : goal.returns-in-Err
-returns-in-Err c = record { reads = answered (Err c.in-Err.e) c.in-Err.ensures.reads.reads c.in-Err.ensures.reads.only (c.refused.ensures.value c.args.slice.now) }
+returns-in-Err c = record { reads = answered (Err c.in-Err.e) c.in-Err.ensures.reads.reads c.in-Err.ensures.reads.only (search rules) }

@@ -12,5 +12,5 @@ returns-in-Ok c = record {
 
 pub returns-in-Err : goal.returns-in-Err
 returns-in-Err c = record {
-  views = unseen IsIpv4Layout RefusesIpv4 c.args.slice.now c.in-Err.e c.in-Err.ensures.views c.in-Err.ensures.only (c.refused.ensures.value c.args.slice.now);
+  views = unseen IsIpv4Layout RefusesIpv4 c.args.slice.now c.in-Err.e c.in-Err.ensures.views c.in-Err.ensures.only (search rules);
 }

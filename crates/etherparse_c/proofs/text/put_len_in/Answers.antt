@@ -1,22 +1,26 @@
-use Rattle.std.proofs.Common.{[], arith, codes, decimal, subst}
+use Rattle.std.proofs.Common.{ℕ, ◌≡◌, ◌<◌, ◌++◌, List, [], append_assoc, arith, codes, decimal, refl, subst}
 use Rattle.std.proofs.lemmas.Bool.{lt-ltb}
-use Rattle.etherparse_c.proofs.Texts.{nested, no_place, nothing}
+use Rattle.std.specs.Prelude.{if◌then◌else◌, nat_lt}
 use Rattle.etherparse_c.specs.ErrorText.{GivesText}
 use Rattle.etherparse_c.proofs.text.put_len_in.Goals as goal
-use Rattle.etherparse_c.proofs.text.put_len_in.Goals.{then-error-eq0, else-error-eq0}
+use Rattle.etherparse_c.proofs.text.put_len_in.Goals.{then-error-gt0, else-error-gt0}
+
+-- nine pieces, and two behind them
+behind : (a b c d e f g h i place dot : List ℕ) → a ++ (b ++ (c ++ (d ++ (e ++ (f ++ (g ++ (h ++ (i ++ (place ++ dot)))))))))
+    ≡ (a ++ (b ++ (c ++ (d ++ (e ++ (f ++ (g ++ (h ++ (i ++ []))))))))) ++ place ++ dot
+behind a b c d e f g h i place dot = simp append_assoc refl
 
 pub returns : goal.returns
 returns c = record {
   gives = λ l title layer source.
-      let error = c.args.error.now in
-      let old = c.args.text.now in
-      let whole = c.fill-len-2.ensures.written _ old (c.fill-len.ensures.written [] old (nothing old)) in
-      let given : GivesText _ old c.end_at.new.text c.fill-len-2.result = record { len = whole.as_long; written = c.end_at.ensures.written _ old whole } in
-      elim c.if-error-eq0.branch [
-        | then-error-eq0 w ↦ rw (lt-ltb _ _ c.requires.below, w.if-error-eq0.true, ← title, ← layer, ← source) (subst (λ x. GivesText x old c.end_at.new.text c.fill-len-2.result)
-            (no_place _ (codes ".")) (rw w.place-is at given))
-        | else-error-eq0 w ↦ rw (lt-ltb _ _ c.requires.below, lt-ltb 0 error.layer_start_offset (omega (arith, w.if-error-eq0.false)), ← title, ← layer, ← source)
-            (subst (λ x. GivesText x old c.end_at.new.text c.fill-len-2.result)
-            (nested _ (codes " ('") c.args.layer.now (codes "' starts at overall parsed byte ") (decimal error.layer_start_offset) (codes ")") (codes ".")) (rw w.place-is at given))
-      ];
+      let e = c.args.error.now in
+      let place : c.if-error-gt0.place.bytes ≡ (if nat_lt 0 e.layer_start_offset then codes " ('" ++ c.args.layer.now ++ codes "' starts at overall parsed byte " ++ decimal e.layer_start_offset ++ codes ")" else []) =
+      elim c.if-error-gt0.branch [
+        | then-error-gt0 w ↦ rw (lt-ltb 0 e.layer_start_offset w.if-error-gt0.true, w.place-is, w.push_str-then-error-gt0-4.ensures.bytes, w.push_str-then-error-gt0-3.ensures.bytes, w.push_str-then-error-gt0-2.ensures.bytes, w.push_str-then-error-gt0.ensures.bytes, w.push_str.ensures.bytes, c.new-place.ensures, w.format.ensures.text) refl
+        | else-error-gt0 w ↦ let none : e.layer_start_offset ≡ 0 = omega (arith, w.if-error-gt0.false) in rw (none, w.place-is, c.new-place.ensures) refl
+      ] in
+      rw (lt-ltb _ _ c.requires.below, ← title, ← layer, ← source) (subst (λ x. GivesText x c.args.text.now c.put.new.text c.put.result)
+      (behind c.args.title.now (codes ": Not enough data to decode '") c.args.layer.now (codes "'. ") (decimal e.required_len) (codes " byte(s) would be required, but only ") (decimal e.len)
+      (codes " byte(s) are available based on the ") c.args.source.now _ (codes "."))
+      (rw (c.as_str.ensures.value, place, c.format-2.ensures.text, c.format-3.ensures.text) at c.put.ensures.gives));
 }
