@@ -116,7 +116,7 @@ fn good_or_bad(view: &Ipv4HeaderSlice) -> &'static str
 }
 
 // An IPv4 address as it is printed.
-#[derive(Clone, Copy, Debug)]
+#[derive(Clone, Copy)]
 struct Dotted([u8; 4]);
 
 impl fmt::Display for Dotted {
@@ -157,10 +157,10 @@ fn write_hex_field<W: Write>(writer: &mut W, name: &str, bytes: &[u8]) -> io::Re
     ensures { OnOk result (Appends (W.contents writer.old) (W.contents writer.new)
         (line name.now (encode_lower bytes.now))) }
 {
-    let mut digits = [0; 80];
-    let len = 2 * bytes.len();
-    hex::encode_to_slice(bytes, &mut digits[..len]).unwrap();
+    let mut room = [0; 80];
+    let digits = &mut room[..2 * bytes.len()];
+    hex::encode_to_slice(bytes, digits).unwrap();
     write!(writer, "{name} ")?;
-    writer.write_all(&digits[..len])?;
+    writer.write_all(digits)?;
     writer.write_all(b"\n")
 }

@@ -7,6 +7,10 @@ use std::alloc::{AllocError, Global};
 use std::process::Abort;
 use std::test::Fail;
 
+// The input, in texts that each stand there as often as the number beside them says; how the run
+// ends; and all that it prints, in texts one after another.
+type Row<'a> = (&'a [(&'a str, usize)], Status, &'a [&'a str]);
+
 const IPV6: &str =
     "60000000 00003b40 00000000 00000000 00000000 00000001 00000000 00000000 00000000 00000002";
 
@@ -115,7 +119,7 @@ rest 0
 
 const OPTIONS: &str = "46c00018 0001a000 40060000 0a000001 0a000002 01020304 ff";
 
-const OPTIONS_LINES: &str = "version 4
+const OPTIONS_FRONT: &str = "version 4
 ihl 6
 dscp 48
 ecn 0
@@ -126,14 +130,20 @@ more_fragments true
 fragment_offset 0
 time_to_live 64
 protocol 6
-header_checksum 0000
-source 10.0.0.1
+";
+
+const OPTIONS_BACK: &str = "source 10.0.0.1
 destination 10.0.0.2
 options 01020304
 computed 4117
-sum bad
-rest 1
 ";
+
+const OPTIONS_LINES: [&str; 4] = [
+    OPTIONS_FRONT,
+    "header_checksum 0000\n",
+    OPTIONS_BACK,
+    "sum bad\nrest 1\n",
+];
 
 const LARGEST_LINES: &str = "version 4
 ihl 15
@@ -155,6 +165,39 @@ sum bad
 rest 0
 ";
 
+// The fields of an IPv6 header, with as many digits as each can have when an extension header
+// follows.
+const LONGEST_IPV6_FIELDS: &str = "version 6
+traffic_class 255
+flow_label 1048575
+payload_length 65535
+next_header 135
+hop_limit 255
+source ffffffffffffffffffffffffffffffff
+destination ffffffffffffffffffffffffffffffff
+";
+
+// What is printed for an IPv4 header with as many digits as each field can have, except the last
+// line.
+const LONGEST_IPV4_FIELDS: &str = "version 4
+ihl 15
+dscp 63
+ecn 3
+total_len 65535
+identification 65535
+dont_fragment false
+more_fragments false
+fragment_offset 8191
+time_to_live 255
+protocol 255
+header_checksum 9001
+source 255.255.255.255
+destination 255.255.255.255
+options ffffffffffffffffffffffffffffffffffffffffffffffffffffffffffffffffffffffffffffffff
+computed 9001
+sum good
+";
+
 const NO_BYTES: &str = "error: IPv4 Header Error: Not enough data to decode 'IPv4 header'. \
     20 byte(s) would be required, but only 0 byte(s) are available based on the slice length.\n";
 
@@ -165,204 +208,187 @@ const NOT_HEX: &str = "error: input is not hex\n";
 
 const TOO_LONG: &str = "error: input is too long\n";
 
-// Runs on an input, and compares the outcome with a status and a text.
-fn expect(rt: &(impl Abort + AllocGlobal), input: &[u8], status: Status, text: &str) {
-    let mut reader = input;
-    let mut written = Vec::new(rt.alloc());
-    let ended = run(&mut reader, &mut written);
-    assert_eq!(rt; (ended, written.as_slice()), (status, text.as_bytes()));
-}
-
-// The same byte many times.
-fn repeated(alloc: Global, byte: u8, len: usize) -> Result<Vec<u8>, AllocError> {
-    vec![in alloc; byte; len]
-}
-
-#[test]
-fn the_fields_of_an_ipv6_header_are_printed(rt: HostRuntime) {
-    expect(&rt, IPV6.as_bytes(), Status::Done, IPV6_LINES);
-    expect(&rt, IPV6_DIGITS.as_bytes(), Status::Done, IPV6_LINES);
-}
-
-#[test]
-fn the_fields_of_an_ipv4_header_are_printed(rt: HostRuntime) {
-    expect(&rt, IPV4.as_bytes(), Status::Done, IPV4_LINES);
-    expect(&rt, OPTIONS.as_bytes(), Status::Done, OPTIONS_LINES);
-}
-
-// The flags, the stored checksum and how the bytes sum, for one header with options. The reserved
-// bit counts in the sum, but not in what is computed.
-const CHECKSUMS: [(&str, &str, &str); 3] = [
-    ("2000", "4117", "good"),
-    ("a000", "4117", "bad"),
-    ("a000", "c116", "good"),
-];
-
-#[test]
-fn the_checksum_of_a_header_is_computed_and_judged(rt: HostRuntime) -> Result<(), Fail> {
-    for (flags, checksum, sum) in CHECKSUMS {
-        let input = format!(in rt.alloc();
-            "46c00018 0001{flags} 4006{checksum} 0a000001 0a000002 01020304 ff"
-        )?;
-        let lines = format!(in rt.alloc();
-            "version 4\nihl 6\ndscp 48\necn 0\ntotal_len 24\nidentification 1\n\
-            dont_fragment false\nmore_fragments true\nfragment_offset 0\ntime_to_live 64\n\
-            protocol 6\nheader_checksum {checksum}\nsource 10.0.0.1\ndestination 10.0.0.2\n\
-            options 01020304\ncomputed 4117\nsum {sum}\nrest 1\n"
-        )?;
-        expect(&rt, input.as_bytes(), Status::Done, lines.as_str());
+// Texts that each stand in the input as often as the number beside them says.
+fn joined(parts: &[(&str, usize)], alloc: Global) -> Result<Vec<u8>, AllocError> {
+    let mut input = Vec::new(alloc);
+    for (text, times) in parts {
+        for _ in 0..*times {
+            input.extend_from_slice(text.as_bytes())?;
+        }
     }
-    Ok(())
+    Ok(input)
 }
 
 #[test]
-fn the_largest_ipv4_header_is_printed(rt: HostRuntime) -> Result<(), Fail> {
-    let mut digits = b"4fffffffffff7f".to_vec(rt.alloc())?;
-    digits.extend_from_slice(repeated(rt.alloc(), b'f', 106)?.as_slice())?;
-    expect(&rt, digits.as_slice(), Status::Done, LARGEST_LINES);
-    Ok(())
-}
-
-#[test]
-fn an_incomplete_extension_header_is_told_after_the_fields(rt: HostRuntime) {
-    expect(
-        &rt,
-        INCOMPLETE.as_bytes(),
-        Status::Refused,
-        INCOMPLETE_LINES,
-    );
-}
-
-// The digits of a header, of a number of extension headers with nothing but 0 in them, and of what
-// comes after.
-fn with_zero_headers(
-    alloc: Global,
-    header: &str,
-    count: usize,
-    after: &str,
-) -> Result<Vec<u8>, AllocError> {
-    let mut digits = header.as_bytes().to_vec(alloc)?;
-    for _ in 0..count {
-        digits.extend_from_slice(b"0000000000000000")?;
+fn each_input_has_its_output(rt: HostRuntime) -> Result<(), Fail> {
+    let rows: [Row; 31] = [
+        (&[], Status::Refused, &[NO_BYTES]),
+        (&[("60", 1)], Status::Refused, &[ONE_BYTE_OF_IPV6]),
+        (&[(IPV6, 1)], Status::Done, &[IPV6_LINES]),
+        (&[(IPV4, 1)], Status::Done, &[IPV4_LINES]),
+        (&[(OPTIONS, 1)], Status::Done, &OPTIONS_LINES),
+        (&[(INCOMPLETE, 1)], Status::Refused, &[INCOMPLETE_LINES]),
+        (&[("6g", 1)], Status::BadInput, &[NOT_HEX]),
+        (&[("g", 4096)], Status::BadInput, &[NOT_HEX]),
+        (&[("g", 4097)], Status::BadInput, &[TOO_LONG]),
+        (&[("g", 4608)], Status::BadInput, &[TOO_LONG]),
+        (&[(" ", 65537)], Status::BadInput, &[TOO_LONG]),
+        (&[(IPV6_DIGITS, 1)], Status::Done, &[IPV6_LINES]),
+        // The flags, the stored checksum and how the bytes sum, for one header with options. The
+        // reserved bit counts in the sum, but not in what is computed.
+        (
+            &[(
+                "46c00018 00012000 40064117 0a000001 0a000002 01020304 ff",
+                1,
+            )],
+            Status::Done,
+            &[
+                OPTIONS_FRONT,
+                "header_checksum 4117\n",
+                OPTIONS_BACK,
+                "sum good\nrest 1\n",
+            ],
+        ),
+        (
+            &[(
+                "46c00018 0001a000 40064117 0a000001 0a000002 01020304 ff",
+                1,
+            )],
+            Status::Done,
+            &[
+                OPTIONS_FRONT,
+                "header_checksum 4117\n",
+                OPTIONS_BACK,
+                "sum bad\nrest 1\n",
+            ],
+        ),
+        (
+            &[(
+                "46c00018 0001a000 4006c116 0a000001 0a000002 01020304 ff",
+                1,
+            )],
+            Status::Done,
+            &[
+                OPTIONS_FRONT,
+                "header_checksum c116\n",
+                OPTIONS_BACK,
+                "sum good\nrest 1\n",
+            ],
+        ),
+        (
+            &[("4fffffffffff7f", 1), ("f", 106)],
+            Status::Done,
+            &[LARGEST_LINES],
+        ),
+        // One extension header more than the walk goes past, and as many.
+        (
+            &[(ABOVE_THE_LIMIT, 1), ("0000000000000000", 33)],
+            Status::Refused,
+            &[ABOVE_THE_LIMIT_LINES],
+        ),
+        (
+            &[
+                (AT_THE_LIMIT, 1),
+                ("0000000000000000", 31),
+                ("3b00000000000000", 1),
+            ],
+            Status::Done,
+            &[AT_THE_LIMIT_LINES],
+        ),
+        // Blanks stand anywhere.
+        (
+            &[(
+                " \t\r\n4 5\t0\r0\n0073\r\n00004000\t4011B861  C0a80001 c0A800C7 \n",
+                1,
+            )],
+            Status::Done,
+            &[IPV4_LINES],
+        ),
+        (&[(" \t\r\n", 1)], Status::Refused, &[NO_BYTES]),
+        (
+            &[(
+                "40000000 00003b40 00000000 00000000 00000000 00000001 \
+                00000000 00000000 00000000 00000002",
+                1,
+            )],
+            Status::Refused,
+            &[
+                "error: IPv4 Header Error: The 'internet header length' value '0' present \
+                in the IPv4 header is smaller than the minimum size of an IPv4 header. \
+                The minimum allowed value is '5'.\n",
+            ],
+        ),
+        (
+            &[("5400000000000000000000000000000000000000", 1)],
+            Status::Refused,
+            &[
+                "error: IPv4 Header Error: Encountered '5' as IP version number in the IPv4 header \
+                (must be '4' in an IPv4 header).\n",
+            ],
+        ),
+        (
+            &[("46000000000000000000000000000000000000000000ff", 1)],
+            Status::Refused,
+            &[
+                "error: IPv4 Header Error: Not enough data to decode 'IPv4 header'. \
+                24 byte(s) would be required, \
+                but only 23 byte(s) are available based on the slice length.\n",
+            ],
+        ),
+        (&[("6", 1)], Status::BadInput, &[NOT_HEX]),
+        (&[("600", 1)], Status::BadInput, &[NOT_HEX]),
+        (&[("60\x0b", 1)], Status::BadInput, &[NOT_HEX]),
+        // 4096 digits, and one more.
+        (
+            &[(IPV6_DIGITS, 51), ("6000000000003b40", 1)],
+            Status::Done,
+            &[GREATEST_LINES],
+        ),
+        (
+            &[(IPV6_DIGITS, 51), ("6000000000003b400", 1)],
+            Status::BadInput,
+            &[TOO_LONG],
+        ),
+        (&[(" ", 65536)], Status::Refused, &[NO_BYTES]),
+        // The longest output: a header, an extension header of 960 bytes, and the first 1048 of one
+        // of 2048.
+        (
+            &[
+                ("6fffffffffff87ff", 1),
+                ("ff", 32),
+                ("8777", 1),
+                ("00", 958),
+                ("3bff", 1),
+                ("00", 1046),
+            ],
+            Status::Refused,
+            &[
+                LONGEST_IPV6_FIELDS,
+                "error: IPv6 Extension Header Error: \
+                Not enough data to decode 'IPv6 extension header'. \
+                2048 byte(s) would be required, but only 1048 byte(s) are available \
+                based on the slice length \
+                ('IPv6 extension header' starts at overall parsed byte 1000).\n",
+            ],
+        ),
+        // The longest output of IPv4.
+        (
+            &[("4fffffffffff1fffffff9001", 1), ("ff", 48), ("00", 1988)],
+            Status::Done,
+            &[LONGEST_IPV4_FIELDS, "rest 1988\n"],
+        ),
+    ];
+    let mut lengths = Vec::new(rt.alloc());
+    for (parts, status, text) in rows {
+        let text = text.concat(rt.alloc())?;
+        let input = joined(parts, rt.alloc())?;
+        let mut reader = input.as_slice();
+        let mut written = Text::new();
+        let ended = run(&mut reader, &mut written);
+        assert_eq!(rt; (ended, written.as_slice()), (status, text.as_bytes()));
+        lengths.push(written.len())?;
     }
-    digits.extend_from_slice(after.as_bytes())?;
-    Ok(digits)
-}
-
-#[test]
-fn more_than_32_extension_headers_are_refused(rt: HostRuntime) -> Result<(), Fail> {
-    let above = with_zero_headers(rt.alloc(), ABOVE_THE_LIMIT, 33, "")?;
-    expect(
-        &rt,
-        above.as_slice(),
-        Status::Refused,
-        ABOVE_THE_LIMIT_LINES,
-    );
-    let at = with_zero_headers(rt.alloc(), AT_THE_LIMIT, 31, "3b00000000000000")?;
-    expect(&rt, at.as_slice(), Status::Done, AT_THE_LIMIT_LINES);
+    // `OUTPUT_ROOM` is to be no less.
+    assert_eq!(rt; lengths.iter().max(), Some(&426));
     Ok(())
-}
-
-#[test]
-fn blanks_stand_anywhere(rt: HostRuntime) {
-    expect(
-        &rt,
-        b" \t\r\n4 5\t0\r0\n0073\r\n00004000\t4011B861  C0a80001 c0A800C7 \n",
-        Status::Done,
-        IPV4_LINES,
-    );
-}
-
-#[test]
-fn refused_headers_print_their_reason_alone(rt: HostRuntime) {
-    expect(&rt, b"", Status::Refused, NO_BYTES);
-    expect(&rt, b" \t\r\n", Status::Refused, NO_BYTES);
-    expect(
-        &rt,
-        b"40000000 00003b40 00000000 00000000 00000000 00000001 \
-        00000000 00000000 00000000 00000002",
-        Status::Refused,
-        "error: IPv4 Header Error: The 'internet header length' value '0' present \
-        in the IPv4 header is smaller than the minimum size of an IPv4 header. \
-        The minimum allowed value is '5'.\n",
-    );
-    expect(
-        &rt,
-        b"5400000000000000000000000000000000000000",
-        Status::Refused,
-        "error: IPv4 Header Error: Encountered '5' as IP version number in the IPv4 header \
-        (must be '4' in an IPv4 header).\n",
-    );
-    expect(
-        &rt,
-        b"46000000000000000000000000000000000000000000ff",
-        Status::Refused,
-        "error: IPv4 Header Error: Not enough data to decode 'IPv4 header'. \
-        24 byte(s) would be required, \
-        but only 23 byte(s) are available based on the slice length.\n",
-    );
-    expect(&rt, b"60", Status::Refused, ONE_BYTE_OF_IPV6);
-}
-
-#[test]
-fn input_that_is_not_hex_is_turned_away(rt: HostRuntime) -> Result<(), Fail> {
-    expect(&rt, b"6", Status::BadInput, NOT_HEX);
-    expect(&rt, b"6g", Status::BadInput, NOT_HEX);
-    expect(&rt, b"600", Status::BadInput, NOT_HEX);
-    expect(&rt, b"60\x0b", Status::BadInput, NOT_HEX);
-    expect(
-        &rt,
-        repeated(rt.alloc(), b'g', 4096)?.as_slice(),
-        Status::BadInput,
-        NOT_HEX,
-    );
-    Ok(())
-}
-
-#[test]
-fn input_of_4096_digits_is_taken_and_no_more(rt: HostRuntime) -> Result<(), Fail> {
-    let mut digits = Vec::new(rt.alloc());
-    for _ in 0..52 {
-        digits.extend_from_slice(IPV6_DIGITS.as_bytes())?;
-    }
-    digits.truncate(4096);
-    expect(&rt, digits.as_slice(), Status::Done, GREATEST_LINES);
-    digits.push(b'0')?;
-    expect(&rt, digits.as_slice(), Status::BadInput, TOO_LONG);
-    expect(
-        &rt,
-        repeated(rt.alloc(), b'g', 4097)?.as_slice(),
-        Status::BadInput,
-        TOO_LONG,
-    );
-    Ok(())
-}
-
-#[test]
-fn input_of_65536_bytes_is_taken_and_no_more(rt: HostRuntime) -> Result<(), Fail> {
-    expect(
-        &rt,
-        repeated(rt.alloc(), b' ', 65536)?.as_slice(),
-        Status::Refused,
-        NO_BYTES,
-    );
-    expect(
-        &rt,
-        repeated(rt.alloc(), b' ', 65537)?.as_slice(),
-        Status::BadInput,
-        TOO_LONG,
-    );
-    Ok(())
-}
-
-#[test]
-fn the_status_is_the_exit_code(rt: HostRuntime) {
-    let codes = [
-        Status::Done,
-        Status::Refused,
-        Status::BadInput,
-        Status::Failed,
-    ]
-    .map(Status::code);
-    assert_eq!(rt; codes, [0, 1, 2, 3]);
 }

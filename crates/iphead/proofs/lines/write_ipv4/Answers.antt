@@ -4,7 +4,7 @@ use Rattle.iphead.proofs.lines.write_ipv4.Goals as goal
 pub returns : goal.returns
 returns g c = λ h layout.
     let computed = c.calc_header_checksum-computed.ensures.value _ c.to_header.ensures.cleared in
-    rw (← computed, ← c.good_or_bad.ensures.text)
-    (appended _ _ _ _ _ (c.in_ok-write_fixed_fields.ensures h layout) (appended _ _ _ _ _ (rw (c.options.ensures.value h layout) at c.in_ok-write_options.ensures)
-    (appended _ _ _ _ _ (rw c.to_be_bytes.ensures at c.in_ok-write_hex_field.ensures) (appended _ _ _ _ _ c.in_ok-write_field.ensures
-    c.in_ok-write_field-2.ensures))))
+    appended _ _ _ _ _ (c.in_ok-write_fixed_fields.ensures h layout)
+    (appended _ _ _ _ _ (rw (c.options.ensures.value h layout) at c.in_ok-write_options.ensures)
+    (appended _ _ _ _ _ (rw (c.to_be_bytes.ensures, computed) at c.in_ok-write_hex_field.ensures)
+    (appended _ _ _ _ _ (rw c.good_or_bad.ensures.text at c.in_ok-write_field.ensures) c.in_ok-write_field-2.ensures)))

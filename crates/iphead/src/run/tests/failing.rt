@@ -20,10 +20,6 @@ struct Source<'a> {
 }
 
 impl<'a> Source<'a> {
-    fn new(left: &'a [u8], at_most: usize) -> Source<'a> {
-        Source::failing(left, at_most, 0, ErrorKind::Other)
-    }
-
     fn failing(left: &'a [u8], at_most: usize, fails_at: u64, kind: ErrorKind) -> Source<'a> {
         Source {
             left,
@@ -57,23 +53,11 @@ impl Read for Source<'_> {
 // number, counted from 1: by an error, or, for `WriteZero`, by taking nothing.
 #[derive(Drop)]
 struct Sink {
-    taken: Vec<u8>,
+    taken: Text,
     at_most: usize,
     fails_at: usize,
     kind: ErrorKind,
     calls: usize,
-}
-
-impl Sink {
-    fn failing(alloc: Global, at_most: usize, fails_at: usize, kind: ErrorKind) -> Sink {
-        Sink {
-            taken: Vec::new(alloc),
-            at_most,
-            fails_at,
-            kind,
-            calls: 0,
-        }
-    }
 }
 
 impl Write for Sink {
@@ -86,7 +70,7 @@ impl Write for Sink {
             };
         }
         let len = buf.len().min(self.at_most);
-        self.taken.extend_from_slice(&buf[..len])?;
+        self.taken.write_all(&buf[..len])?;
         Ok(len)
     }
 
@@ -95,81 +79,91 @@ impl Write for Sink {
     }
 }
 
-// Runs over a reader, and compares the number of calls, the status and the text.
-fn expect_from(
-    rt: &(impl Abort + AllocGlobal),
-    mut source: Source,
-    calls: u64,
-    status: Status,
-    text: &str,
-) {
-    let mut written = Vec::new(rt.alloc());
+// Runs over a reader, and compares the status, the text and the number of calls.
+fn expect_from(rt: &impl Abort, mut source: Source, calls: u64, (status, text): (Status, &[u8])) {
+    let mut written = Text::new();
     let ended = run(&mut source, &mut written);
     let seen = (ended, written.as_slice(), source.calls, source.is_misused);
-    assert_eq!(rt; seen, (status, text.as_bytes(), calls, false));
+    assert_eq!(rt; seen, (status, text, calls, false));
 }
 
-// Makes each read of a run fail in turn: that read is the last one, and nothing is printed. There
-// is no read after the last.
-fn expect_each_read_ends_it(
-    rt: &(impl Abort + AllocGlobal),
-    input: &[u8],
-    reads: u64,
-    status: Status,
-    text: &str,
-) {
-    for kind in [
-        ErrorKind::Other,
-        ErrorKind::Interrupted,
-        ErrorKind::UnexpectedEof,
-    ] {
-        for fails_at in 1..=reads {
-            let source = Source::failing(input, usize::MAX, fails_at, kind);
-            expect_from(rt, source, fails_at, Status::Failed, "");
-        }
-        let source = Source::failing(input, usize::MAX, reads.saturating_add(1), kind);
-        expect_from(rt, source, reads, status, text);
-    }
-}
-
+// Each read of a run fails in turn, in three ways: that read is the last one, and nothing is
+// printed. There is no read after the last.
 #[test]
 fn a_read_that_fails_ends_the_run(rt: HostRuntime) -> Result<(), Fail> {
-    let letters = repeated(rt.alloc(), b'g', 4096)?;
-    let too_many = repeated(rt.alloc(), b'g', 4608)?;
-    let blanks = repeated(rt.alloc(), b' ', 65537)?;
-    // One read says that the input is at its end, unless it got too long before that.
-    for (input, reads, status, text) in [
-        (b"".as_slice(), 1, Status::Refused, NO_BYTES),
-        (IPV6.as_bytes(), 2, Status::Done, IPV6_LINES),
-        (INCOMPLETE.as_bytes(), 2, Status::Refused, INCOMPLETE_LINES),
-        (letters.as_slice(), 9, Status::BadInput, NOT_HEX),
-        (too_many.as_slice(), 9, Status::BadInput, TOO_LONG),
-        (blanks.as_slice(), 129, Status::BadInput, TOO_LONG),
+    let letters = joined(&[("g", 4096)], rt.alloc())?;
+    let too_many = joined(&[("g", 4608)], rt.alloc())?;
+    let blanks = joined(&[(" ", 65537)], rt.alloc())?;
+    let options_lines = OPTIONS_LINES.concat(rt.alloc())?;
+    // An input, at most how many bytes a call gives, and how many reads a run then makes. One of
+    // them says that the input is at its end, unless it got too long before that.
+    for (input, at_most, reads, status, text) in [
+        (b"".as_slice(), usize::MAX, 1, Status::Refused, NO_BYTES),
+        (IPV6.as_bytes(), usize::MAX, 2, Status::Done, IPV6_LINES),
+        (
+            INCOMPLETE.as_bytes(),
+            usize::MAX,
+            2,
+            Status::Refused,
+            INCOMPLETE_LINES,
+        ),
+        (letters.as_slice(), usize::MAX, 9, Status::BadInput, NOT_HEX),
+        (
+            too_many.as_slice(),
+            usize::MAX,
+            9,
+            Status::BadInput,
+            TOO_LONG,
+        ),
+        (
+            blanks.as_slice(),
+            usize::MAX,
+            129,
+            Status::BadInput,
+            TOO_LONG,
+        ),
+        (IPV6.as_bytes(), 1, 90, Status::Done, IPV6_LINES),
+        (
+            INCOMPLETE.as_bytes(),
+            1,
+            115,
+            Status::Refused,
+            INCOMPLETE_LINES,
+        ),
+        (IPV4.as_bytes(), 1, 45, Status::Done, IPV4_LINES),
+        (
+            OPTIONS.as_bytes(),
+            1,
+            57,
+            Status::Done,
+            options_lines.as_str(),
+        ),
     ] {
-        expect_each_read_ends_it(&rt, input, reads, status, text);
+        for kind in [
+            ErrorKind::Other,
+            ErrorKind::Interrupted,
+            ErrorKind::UnexpectedEof,
+        ] {
+            for fails_at in 1..=reads {
+                let source = Source::failing(input, at_most, fails_at, kind);
+                expect_from(&rt, source, fails_at, (Status::Failed, b""));
+            }
+            let source = Source::failing(input, at_most, reads.saturating_add(1), kind);
+            expect_from(&rt, source, reads, (status, text.as_bytes()));
+        }
     }
     Ok(())
 }
 
 #[test]
-fn a_reader_of_one_byte_a_call_changes_nothing(rt: HostRuntime) {
-    for (input, reads, status, text) in [
-        (IPV6, 90, Status::Done, IPV6_LINES),
-        (INCOMPLETE, 115, Status::Refused, INCOMPLETE_LINES),
-        (IPV4, 45, Status::Done, IPV4_LINES),
-        (OPTIONS, 57, Status::Done, OPTIONS_LINES),
-    ] {
-        expect_from(&rt, Source::new(input.as_bytes(), 1), reads, status, text);
-    }
-}
-
-#[test]
 fn input_without_an_end_is_too_long(rt: HostRuntime) {
     for byte in [b'0', b' '] {
-        let mut written = Vec::new(rt.alloc());
+        let mut written = Text::new();
         let ended = run(&mut io::repeat(byte), &mut written);
-        let seen = (ended, written.as_slice());
-        assert_eq!(rt; seen, (Status::BadInput, TOO_LONG.as_bytes()));
+        assert_eq!(rt;
+            (ended, written.as_slice()),
+            (Status::BadInput, TOO_LONG.as_bytes())
+        );
     }
 }
 
@@ -178,70 +172,64 @@ fn input_without_an_end_is_too_long(rt: HostRuntime) {
 // after the last. A write that was interrupted may be tried again, and then all of the text is
 // taken.
 fn expect_each_write_ends_it(
-    rt: &(impl Abort + AllocGlobal),
+    rt: &impl Abort,
     input: &[u8],
     at_most: usize,
     kind: ErrorKind,
-    status: Status,
-    text: &str,
+    whole: (Status, &[u8]),
 ) {
+    let text = whole.1;
     for fails_at in 1..1000 {
         let mut reader = input;
-        let mut sink = Sink::failing(rt.alloc(), at_most, fails_at, kind);
+        let mut sink = Sink {
+            taken: Text::new(),
+            at_most,
+            fails_at,
+            kind,
+            calls: 0,
+        };
         let ended = run(&mut reader, &mut sink);
-        let taken = sink.taken.as_slice();
-        let is_whole = ended == status && taken == text.as_bytes();
+        let seen = (ended, sink.taken.as_slice());
         let before = at_most.saturating_mul(fails_at - 1);
         if text.len() <= before {
-            assert_eq!(rt; (is_whole, sink.calls), (true, fails_at - 1));
+            assert_eq!(rt; (seen, sink.calls), (whole, fails_at - 1));
             return;
         }
-        let is_cut = ended == Status::Failed
-            && sink.calls == fails_at
-            && taken.len() == before
-            && text.as_bytes().starts_with(taken);
-        let is_tried_again = is_whole && kind == ErrorKind::Interrupted;
-        assert!(rt;
-            is_cut || is_tried_again,
-            "at write {fails_at} of at most {at_most} bytes, for {text}"
-        );
+        let is_tried_again = seen == whole && kind == ErrorKind::Interrupted;
+        if !is_tried_again {
+            let cut = (Status::Failed, &text[..before]);
+            assert_eq!(rt; (seen, sink.calls), (cut, fails_at));
+        }
     }
     panic!(rt; "no run met no failure");
 }
 
-// Makes them fail in three ways, over writers that take one byte, a few, and all that they are
-// given: for the last, the output is one write.
-fn expect_writes_that_fail(
-    rt: &(impl Abort + AllocGlobal),
-    input: &[u8],
-    status: Status,
-    text: &str,
-) {
-    for kind in [
-        ErrorKind::Other,
-        ErrorKind::Interrupted,
-        ErrorKind::WriteZero,
-    ] {
-        for at_most in [1, 7, usize::MAX] {
-            expect_each_write_ends_it(rt, input, at_most, kind, status, text);
-        }
-    }
-}
-
+// They fail in three ways, over writers that take one byte, a few, and all that they are given: for
+// the last, the output is one write.
 #[test]
 fn a_write_that_fails_ends_the_run(rt: HostRuntime) -> Result<(), Fail> {
-    let letters = repeated(rt.alloc(), b'g', 4097)?;
+    let letters = joined(&[("g", 4097)], rt.alloc())?;
+    let options_lines = OPTIONS_LINES.concat(rt.alloc())?;
     for (input, status, text) in [
         (IPV6.as_bytes(), Status::Done, IPV6_LINES),
         (IPV4.as_bytes(), Status::Done, IPV4_LINES),
-        (OPTIONS.as_bytes(), Status::Done, OPTIONS_LINES),
+        (OPTIONS.as_bytes(), Status::Done, options_lines.as_str()),
         (INCOMPLETE.as_bytes(), Status::Refused, INCOMPLETE_LINES),
         (b"".as_slice(), Status::Refused, NO_BYTES),
         (b"60".as_slice(), Status::Refused, ONE_BYTE_OF_IPV6),
         (b"6g".as_slice(), Status::BadInput, NOT_HEX),
         (letters.as_slice(), Status::BadInput, TOO_LONG),
     ] {
-        expect_writes_that_fail(&rt, input, status, text);
+        for kind in [
+            ErrorKind::Other,
+            ErrorKind::Interrupted,
+            ErrorKind::WriteZero,
+        ] {
+            for at_most in [1, 7, usize::MAX] {
+                let whole = (status, text.as_bytes());
+                expect_each_write_ends_it(&rt, input, at_most, kind, whole);
+            }
+        }
     }
     Ok(())
 }
