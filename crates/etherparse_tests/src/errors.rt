@@ -2,7 +2,7 @@
 //! and value types; their clones and hashes; and which types are an `Error`. The texts of all
 //! variants over many numbers are in the sample that `conformance` replays.
 
-use crate::shared::assert_clones;
+use crate::shared::{assert_clones, assert_hashes};
 use etherparse::LenSource;
 use etherparse::err::ip::IpDscpUnknownValueError;
 use etherparse::err::ipv4::BadOptionsLen;
@@ -27,6 +27,7 @@ fn assert_shows<E: Clone + Drop + Eq + Error + Hash>(
         let styled = format!(in alloc; "{error:>300} {error:05} {error:#} {error:+.2}")?;
         assert_eq!(rt; styled.as_str(), plain.as_str());
         assert_clones(rt, alloc, error, debug_text)?;
+        assert_hashes(rt, error)?;
     }
     Ok(())
 }
@@ -174,6 +175,6 @@ fn errors_of_headers(rt: HostRuntime) -> Result<(), Fail> {
 
 #[test]
 fn layers_and_value_types(rt: HostRuntime) -> Result<(), Fail> {
-    assert_clones(&rt, rt.alloc(), &Layer::Ipv6ExtHeader, "Ipv6ExtHeader")?;
-    assert_clones(&rt, rt.alloc(), &ValueType::VlanPcp, "VlanPcp")
+    assert_hashes(&rt, &Layer::Ipv6ExtHeader)?;
+    assert_hashes(&rt, &ValueType::VlanPcp)
 }

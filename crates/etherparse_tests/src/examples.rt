@@ -57,14 +57,18 @@ fn options(rt: HostRuntime) -> Result<(), Fail> {
 }
 
 #[test]
-fn ipv4_headers(rt: HostRuntime) -> Result<(), Fail> {
+fn an_ipv4_header_written_and_read(rt: HostRuntime) -> Result<(), Fail> {
     let (source, destination) = ([192, 168, 0, 1], [192, 168, 0, 199]);
     let mut header = Ipv4Header::new(95, 64, IpNumber::UDP, source, destination)?;
     header.header_checksum = header.calc_header_checksum();
     let bytes = header.to_bytes();
     let (read, _) = Ipv4Header::from_slice(bytes.as_slice())?;
     assert!(rt; read == header);
+    Ok(())
+}
 
+#[test]
+fn lengths_of_an_ipv4_header(rt: HostRuntime) {
     let mut header = Ipv4Header::default();
     header.options = Ipv4Options::from([148, 4, 0, 0]);
     assert!(rt; (header.ihl(), header.header_len()) == (6, 24));
@@ -75,7 +79,10 @@ fn ipv4_headers(rt: HostRuntime) -> Result<(), Fail> {
     // A total length that leaves no room for the header.
     header.total_len = 19;
     assert!(rt; header.payload_len().is_err());
+}
 
+#[test]
+fn a_payload_length_that_is_set(rt: HostRuntime) -> Result<(), Fail> {
     let mut header = Ipv4Header::default();
     header.set_payload_len(100)?;
     // Options that come later take their bytes from the payload: its length is set again.
@@ -83,7 +90,11 @@ fn ipv4_headers(rt: HostRuntime) -> Result<(), Fail> {
     assert!(rt; header.payload_len() == Ok(96));
     header.set_payload_len(100)?;
     assert!(rt; header.total_len == 124);
+    Ok(())
+}
 
+#[test]
+fn an_ipv4_payload_without_its_padding(rt: HostRuntime) -> Result<(), Fail> {
     // The total length is 24, and two bytes of padding follow the packet.
     let packet = [
         0x45, 0, 0, 24, 0, 0, 0x40, 0, 64, 17, 0, 0, 10, 0, 0, 1, 10, 0, 0, 2, 1, 2, 3, 4, 0, 0,
@@ -92,7 +103,48 @@ fn ipv4_headers(rt: HostRuntime) -> Result<(), Fail> {
     // `None` where the packet is cut short.
     let payload = rest.get(..usize::from(header.payload_len()?));
     assert!(rt; payload == Some([1, 2, 3, 4].as_slice()));
+    Ok(())
+}
 
+#[test]
+fn a_time_to_live_that_is_lowered(rt: HostRuntime) {
+    let mut header = Ipv4Header::default();
+    header.time_to_live = 2;
+    assert!(rt; header.lower_time_to_live());
+    // The next router discards the packet.
+    assert!(rt; !header.lower_time_to_live());
+}
+
+#[test]
+fn both_zeros_are_updated_to_the_computed_checksum(rt: HostRuntime) {
+    for stored in [0, 0xffff] {
+        let mut header = Ipv4Header::default();
+        header.identification = 0x7a00;
+        header.header_checksum = stored;
+        header.set_time_to_live(1);
+        assert_eq!(rt; header.header_checksum, 0xfeff);
+        assert_eq!(rt; header.calc_header_checksum(), 0xfeff);
+    }
+}
+
+#[test]
+fn addresses_that_are_changed(rt: HostRuntime) {
+    let (source, destination) = ([192, 168, 0, 1], [192, 168, 0, 199]);
+    let made = Ipv4Header::new(95, 64, IpNumber::UDP, source, destination);
+    let mut header = made.unwrap();
+    header.header_checksum = 0xb861;
+    header.set_source([10, 0, 0, 1]);
+    assert_eq!(rt; header.header_checksum, 0x6f0a);
+    header.set_destination([10, 0, 0, 2]);
+    assert_eq!(rt; header.header_checksum, 0x2678);
+    // A checksum that is not right is updated in the same way (RFC 1624, equation 3).
+    header.header_checksum = 0;
+    header.set_source(source);
+    assert_eq!(rt; header.header_checksum, 0x4957);
+}
+
+#[test]
+fn an_ipv4_view(rt: HostRuntime) -> Result<(), Fail> {
     let packet = [
         0x45, 0, 0, 24, 0, 0, 0x40, 0, 64, 17, 0, 0, 10, 0, 0, 1, 10, 0, 0, 2, 1, 2, 3, 4,
     ];
@@ -103,38 +155,7 @@ fn ipv4_headers(rt: HostRuntime) -> Result<(), Fail> {
 }
 
 #[test]
-fn checksums_of_ipv4_headers(rt: HostRuntime) -> Result<(), Fail> {
-    let mut header = Ipv4Header::default();
-    header.time_to_live = 2;
-    assert!(rt; header.lower_time_to_live());
-    // The next router discards the packet.
-    assert!(rt; !header.lower_time_to_live());
-
-    for stored in [0, 0xffff] {
-        let mut header = Ipv4Header::default();
-        header.identification = 0x7a00;
-        header.header_checksum = stored;
-        header.set_time_to_live(1);
-        assert_eq!(rt; header.header_checksum, 0xfeff);
-        assert_eq!(rt; header.calc_header_checksum(), 0xfeff);
-    }
-
-    let (source, destination) = ([192, 168, 0, 1], [192, 168, 0, 199]);
-    let mut header = Ipv4Header::new(95, 64, IpNumber(17), source, destination)?;
-    header.header_checksum = 0xb861;
-    header.set_source([10, 0, 0, 1]);
-    assert_eq!(rt; header.header_checksum, 0x6f0a);
-    header.set_destination([10, 0, 0, 2]);
-    assert_eq!(rt; header.header_checksum, 0x2678);
-    // A checksum that is not right is updated in the same way (RFC 1624, equation 3).
-    header.header_checksum = 0;
-    header.set_source(source);
-    assert_eq!(rt; header.header_checksum, 0x4957);
-    Ok(())
-}
-
-#[test]
-fn ipv6_headers(rt: HostRuntime) -> Result<(), Fail> {
+fn an_ipv6_header_written_and_read(rt: HostRuntime) -> Result<(), Fail> {
     let mut header = Ipv6Header::default();
     header.next_header = IpNumber::UDP;
     header.hop_limit = 64;
@@ -142,7 +163,11 @@ fn ipv6_headers(rt: HostRuntime) -> Result<(), Fail> {
     let bytes = header.to_bytes();
     let (read, _) = Ipv6Header::from_slice(&bytes)?;
     assert!(rt; read == header);
+    Ok(())
+}
 
+#[test]
+fn an_ipv6_payload_without_its_padding(rt: HostRuntime) -> Result<(), Fail> {
     // The payload length is 4, and two bytes of padding follow the packet.
     let mut packet = [0; 46];
     packet[0] = 0x60;
@@ -151,12 +176,19 @@ fn ipv6_headers(rt: HostRuntime) -> Result<(), Fail> {
     // `None` where the packet is cut short.
     let payload = rest.get(..usize::from(header.payload_length));
     assert!(rt; payload == Some([0; 4].as_slice()));
+    Ok(())
+}
 
+#[test]
+fn a_traffic_class_by_its_parts(rt: HostRuntime) {
     let mut header = Ipv6Header::default();
     header.set_dscp(IpDscp::EF);
     header.set_ecn(IpEcn::Ect0);
     assert!(rt; header.traffic_class == 0b1011_1010);
+}
 
+#[test]
+fn an_ipv6_view(rt: HostRuntime) -> Result<(), Fail> {
     // A payload of 4 bytes, the number of UDP, a hop limit of 64, and addresses of zeros.
     let mut packet = [0; 44];
     [packet[0], packet[5], packet[6], packet[7]] = [0x60, 4, 17, 64];
@@ -167,14 +199,18 @@ fn ipv6_headers(rt: HostRuntime) -> Result<(), Fail> {
 }
 
 #[test]
-fn walks(rt: HostRuntime) -> Result<(), Fail> {
+fn one_extension_header(rt: HostRuntime) -> Result<(), Fail> {
     // Hop-by-hop options of 8 bytes, and the start of a UDP header.
     let slice = [17, 0, 0, 0, 0, 0, 0, 0, 4, 0, 0, 53];
     let first = IpNumber::IPV6_HEADER_HOP_BY_HOP;
     let (next, rest) = Ipv6Header::skip_header_extension_in_slice(&slice, first)?;
     assert!(rt; next == IpNumber::UDP);
     assert!(rt; rest == [4, 0, 0, 53].as_slice());
+    Ok(())
+}
 
+#[test]
+fn all_extension_headers(rt: HostRuntime) -> Result<(), Fail> {
     // Hop-by-hop options, destination options, and the start of a UDP header.
     let slice = [
         60, 0, 0, 0, 0, 0, 0, 0, 17, 0, 0, 0, 0, 0, 0, 0, 4, 0, 0, 53,
@@ -183,7 +219,11 @@ fn walks(rt: HostRuntime) -> Result<(), Fail> {
     let (upper, rest) = Ipv6Header::skip_all_header_extensions_in_slice(&slice, first)?;
     assert!(rt; upper == IpNumber::UDP);
     assert!(rt; rest == [4, 0, 0, 53].as_slice());
+    Ok(())
+}
 
+#[test]
+fn extension_headers_counted_and_too_many(rt: HostRuntime) {
     // Hop-by-hop options, destination options, and the start of a UDP header.
     let slice = [
         60, 0, 0, 0, 0, 0, 0, 0, 17, 0, 0, 0, 0, 0, 0, 0, 4, 0, 0, 53,
@@ -202,7 +242,6 @@ fn walks(rt: HostRuntime) -> Result<(), Fail> {
     };
     let refused = Ipv6Header::skip_header_extensions_up_to(&slice, first, 1);
     assert!(rt; refused == Err(too_many));
-    Ok(())
 }
 
 #[test]

@@ -1,6 +1,6 @@
 //! What fields print, and that their clones hash alike, also of a known code point and of options.
 
-use crate::shared::{assert_clones, hash_of};
+use crate::shared::{assert_clones, assert_hashes, hash_of};
 use etherparse::err::ValueTooBigError;
 use etherparse::{
     IpDscp, IpDscpKnown, IpEcn, IpFragOffset, Ipv4Dscp, Ipv4Ecn, Ipv4Options, Ipv6FlowLabel,
@@ -36,6 +36,7 @@ where
         let printed = format!(in alloc; "{field:08}")?;
         assert_eq!(rt; printed.as_str(), *text);
         assert_clones(rt, alloc, field, debug_text)?;
+        assert_hashes(rt, field)?;
     }
     Ok(())
 }
@@ -43,30 +44,34 @@ where
 #[test]
 fn fields_are_printed_and_hashed(rt: HostRuntime) -> Result<(), Fail> {
     let code_points = [
-        (IpDscp::try_new(0)?, "00000000", "IpDscp(0)"),
-        (IpDscp::try_new(63)?, "00000063", "IpDscp(63)"),
+        (IpDscp::ZERO, "00000000", "IpDscp(0)"),
+        (IpDscp::MAX, "00000063", "IpDscp(63)"),
     ];
     assert_field::<Ipv4Dscp, u8>(&rt, rt.alloc(), &code_points)?;
     let notifications = [
-        (IpEcn::try_new(0)?, "00000000", "NotEct"),
-        (IpEcn::try_new(1)?, "00000001", "Ect1"),
-        (IpEcn::try_new(2)?, "00000002", "Ect0"),
-        (IpEcn::try_new(3)?, "00000003", "CongestionExperienced"),
+        (IpEcn::NotEct, "00000000", "NotEct"),
+        (IpEcn::Ect1, "00000001", "Ect1"),
+        (IpEcn::Ect0, "00000002", "Ect0"),
+        (
+            IpEcn::CongestionExperienced,
+            "00000003",
+            "CongestionExperienced",
+        ),
     ];
     assert_field::<Ipv4Ecn, u8>(&rt, rt.alloc(), &notifications)?;
     let offsets = [
-        (IpFragOffset::try_new(0)?, "00000000", "IpFragOffset(0)"),
+        (IpFragOffset::ZERO, "00000000", "IpFragOffset(0)"),
         (
-            IpFragOffset::try_new(8191)?,
+            IpFragOffset::try_new(8191).unwrap(),
             "00008191",
             "IpFragOffset(8191)",
         ),
     ];
     assert_field::<IpFragOffset, u16>(&rt, rt.alloc(), &offsets)?;
     let flow_labels = [
-        (Ipv6FlowLabel::try_new(0)?, "00000000", "Ipv6FlowLabel(0)"),
+        (Ipv6FlowLabel::ZERO, "00000000", "Ipv6FlowLabel(0)"),
         (
-            Ipv6FlowLabel::try_new(1048575)?,
+            Ipv6FlowLabel::try_new(1048575).unwrap(),
             "01048575",
             "Ipv6FlowLabel(1048575)",
         ),
@@ -75,14 +80,10 @@ fn fields_are_printed_and_hashed(rt: HostRuntime) -> Result<(), Fail> {
 }
 
 #[test]
-fn code_points_and_options_hash_as_their_clones(rt: HostRuntime) -> Result<(), Fail> {
-    let known = IpDscpKnown::VoiceAdmit;
+fn known_code_points_and_options_are_hashed(rt: HostRuntime) -> Result<(), Fail> {
+    assert_hashes(&rt, &IpDscpKnown::VoiceAdmit)?;
     // The unused bytes of options are not hashed.
-    let options = Ipv4Options::from([7; 4]);
     let in_front = Ipv4Options::from_front(&[7; 40], 4);
-    assert_eq!(rt;
-        [hash_of(&known.clone()?), hash_of(&in_front.clone()?)],
-        [hash_of(&known), hash_of(&options)]
-    );
-    Ok(())
+    assert_eq!(rt; hash_of(&in_front), hash_of(&Ipv4Options::from([7; 4])));
+    assert_hashes(&rt, &in_front)
 }

@@ -63,7 +63,7 @@ fn a_tcp_header_is_seen(rt: HostRuntime) {
 #[test]
 fn a_tcp_checksum_is_judged_over_both_versions(rt: HostRuntime) -> Result<(), Fail> {
     let (source, destination) = ([192, 168, 0, 1], [192, 168, 0, 199]);
-    let over_ipv4 = Ipv4Header::new(20, 64, IpNumber::TCP, source, destination)?;
+    let over_ipv4 = Ipv4Header::new(20, 64, IpNumber::TCP, source, destination).unwrap();
     let mut acknowledged = SEGMENT;
     acknowledged[13] = 0x12;
     let mut over_ipv6 = Ipv6Header::default();
@@ -85,7 +85,7 @@ fn a_tcp_checksum_is_judged_over_both_versions(rt: HostRuntime) -> Result<(), Fa
 fn a_fragment_has_its_header_and_the_key_of_its_packet(rt: HostRuntime) -> Result<(), Fail> {
     let header = FragmentHeader {
         next_header: IpNumber::UDP,
-        fragment_offset: IpFragOffset::try_new(1)?,
+        fragment_offset: IpFragOffset::try_new(1).unwrap(),
         more_fragments: true,
         identification: 0x01020304,
     };

@@ -2,7 +2,6 @@
 
 use crate::shared::{random_bytes, sum_word_by_word};
 use etherparse::{IpTrafficClass, Ipv4Header};
-use std::alloc::AllocError;
 use std::test::Fail;
 
 #[test]
@@ -15,7 +14,8 @@ fn a_router_lowers_the_time_to_live_or_discards(rt: HostRuntime) -> Result<(), F
         (0, 0, false, 0, 0),
     ] {
         let protocol = IpTrafficClass::from(17);
-        let mut header = Ipv4Header::new(95, time_to_live, protocol, source, destination)?;
+        let made = Ipv4Header::new(95, time_to_live, protocol, source, destination);
+        let mut header = made.unwrap();
         header.header_checksum = checksum;
         let mut expected = header.clone()?;
         expected.time_to_live = lowered;
@@ -33,36 +33,36 @@ fn a_router_lowers_the_time_to_live_or_discards(rt: HostRuntime) -> Result<(), F
 fn updates_of_random_headers_are_what_is_computed_anew(rt: HostRuntime) -> Result<(), Fail> {
     let bytes = random_bytes(rt.alloc(), 2000 * 32)?;
     for drawn in bytes.chunks(32) {
-        let mut front = *drawn.first_chunk::<20>().ok_or("too few")?;
-        let [time_to_live, a, b, c, d, .., e, f, g, h] = *drawn
-            .last_chunk::<12>()
-            .ok_or("too few")?;
-        front[0] = 0x45;
-        front[6] &= 0x7f;
-        let (mut header, _) = Ipv4Header::from_slice(&front)?;
-        header.header_checksum = header.calc_header_checksum();
-        header.set_time_to_live(time_to_live);
-        let after_time = is_computed(&header)?;
-        header.set_source([a, b, c, d]);
-        let after_source = is_computed(&header)?;
-        header.set_destination([e, f, g, h]);
-        let after_destination = is_computed(&header)?;
-        header.lower_time_to_live();
-        let are_computed = [
-            after_time,
-            after_source,
-            after_destination,
-            is_computed(&header)?,
-        ];
-        assert_eq!(rt; are_computed, [true; 4]);
+        let drawn = drawn.first_chunk::<32>().ok_or("too few")?;
+        assert_eq!(rt; updates_are_computed(*drawn), Some([true; 4]));
     }
     Ok(())
 }
 
-// Whether the stored checksum is the one of the header's bytes, with 0 in its place.
-fn is_computed(header: &Ipv4Header) -> Result<bool, AllocError> {
-    let mut without = header.clone()?;
-    without.header_checksum = 0;
-    let sum = sum_word_by_word(0, without.to_bytes().as_slice());
-    Ok(header.header_checksum == !sum.swap_bytes())
+// Whether a header of these bytes has the computed checksum after each update, to the bytes that
+// follow it.
+fn updates_are_computed(mut drawn: [u8; 32]) -> Option<[bool; 4]> {
+    drawn[0] = 0x45;
+    let (mut header, _) = Ipv4Header::from_slice(&drawn).ok()?;
+    header.header_checksum = header.calc_header_checksum();
+    header.set_time_to_live(drawn[20]);
+    let after_time = is_computed(&header);
+    header.set_source([drawn[21], drawn[22], drawn[23], drawn[24]]);
+    let after_source = is_computed(&header);
+    header.set_destination([drawn[28], drawn[29], drawn[30], drawn[31]]);
+    let after_destination = is_computed(&header);
+    header.lower_time_to_live();
+    Some([
+        after_time,
+        after_source,
+        after_destination,
+        is_computed(&header),
+    ])
+}
+
+// Whether the stored checksum is the complement of the sum of the header's other words: its own
+// complement, as the start, makes a multiple of 65535 of it.
+fn is_computed(header: &Ipv4Header) -> bool {
+    let complement = !header.header_checksum.swap_bytes();
+    sum_word_by_word(u64::from(complement), header.to_bytes().as_slice()) == complement
 }
