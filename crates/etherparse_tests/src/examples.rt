@@ -131,7 +131,7 @@ fn both_zeros_are_updated_to_the_computed_checksum(rt: HostRuntime) {
 fn addresses_that_are_changed(rt: HostRuntime) {
     let (source, destination) = ([192, 168, 0, 1], [192, 168, 0, 199]);
     let made = Ipv4Header::new(95, 64, IpNumber::UDP, source, destination);
-    let mut header = made.unwrap();
+    let mut header = made.expect(&rt, "a short payload");
     header.header_checksum = 0xb861;
     header.set_source([10, 0, 0, 1]);
     assert_eq!(rt; header.header_checksum, 0x6f0a);

@@ -63,7 +63,8 @@ fn a_tcp_header_is_seen(rt: HostRuntime) {
 #[test]
 fn a_tcp_checksum_is_judged_over_both_versions(rt: HostRuntime) -> Result<(), Fail> {
     let (source, destination) = ([192, 168, 0, 1], [192, 168, 0, 199]);
-    let over_ipv4 = Ipv4Header::new(20, 64, IpNumber::TCP, source, destination).unwrap();
+    let made = Ipv4Header::new(20, 64, IpNumber::TCP, source, destination);
+    let over_ipv4 = made.expect(&rt, "a short payload");
     let mut acknowledged = SEGMENT;
     acknowledged[13] = 0x12;
     let mut over_ipv6 = Ipv6Header::default();
@@ -167,17 +168,12 @@ fn behind_a_later_fragment_header_stands_no_header(rt: HostRuntime) {
         layer_start_offset: 48,
     };
     let payload = [5, 6, 7, 8].as_slice();
-    let expected = [
-        Ok((true, IpNumber::AUTHENTICATION_HEADER, payload)),
-        Ok((true, IpNumber::IPV6_DESTINATION_OPTIONS, &payload[..1])),
-        Err(IpSliceError::Extensions(inside)),
-    ];
-    let seen = [
-        payload_of(&authenticated),
-        payload_of(&short),
-        payload_of(&first),
-    ];
-    assert_eq!(rt; seen, expected);
+    let later = Ok((true, IpNumber::AUTHENTICATION_HEADER, payload));
+    assert_eq!(rt; payload_of(&authenticated), later);
+    let later = Ok((true, IpNumber::IPV6_DESTINATION_OPTIONS, [5].as_slice()));
+    assert_eq!(rt; payload_of(&short), later);
+    let refused = Err(IpSliceError::Extensions(inside));
+    assert_eq!(rt; payload_of(&first), refused);
 }
 
 #[test]

@@ -15,7 +15,7 @@ fn a_router_lowers_the_time_to_live_or_discards(rt: HostRuntime) -> Result<(), F
     ] {
         let protocol = IpTrafficClass::from(17);
         let made = Ipv4Header::new(95, time_to_live, protocol, source, destination);
-        let mut header = made.unwrap();
+        let mut header = made.expect(&rt, "a short payload");
         header.header_checksum = checksum;
         let mut expected = header.clone()?;
         expected.time_to_live = lowered;
