@@ -11,34 +11,18 @@ mod checksum;
 #[cfg(test)]
 mod errors;
 #[cfg(test)]
-mod examples_fields;
-#[cfg(test)]
-mod examples_headers;
-#[cfg(test)]
-mod examples_sums;
-#[cfg(test)]
-mod examples_walks;
-#[cfg(test)]
-mod extensions;
+mod examples;
 #[cfg(test)]
 mod fields;
 #[cfg(test)]
 mod headers;
 #[cfg(test)]
-mod ip_number;
-#[cfg(test)]
-mod ipv4_header;
-#[cfg(test)]
-mod ipv4_header_slice;
-#[cfg(test)]
-mod ipv4_options;
-#[cfg(test)]
-mod ipv6_header;
-#[cfg(test)]
-mod ipv6_header_slice;
-#[cfg(test)]
 mod layers;
 #[cfg(test)]
-mod limited_walk;
+mod shared;
 #[cfg(test)]
 mod udp;
+#[cfg(test)]
+mod updates;
+#[cfg(test)]
+mod views;

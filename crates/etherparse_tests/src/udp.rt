@@ -1,11 +1,10 @@
 //! UDP over both versions, and address translation, over worked packets: the checksums are summed
 //! by hand, word by word (RFC 768, RFC 8200 section 8.1).
 
-use crate::headers::too_short;
 use etherparse::err::ipv4::HeaderSliceError;
-use etherparse::err::{Layer, LenError};
+use etherparse::err::{Layer, LenError, ValueTooBigError};
 use etherparse::{IpNumber, Ipv4Header, Ipv6Header, LenSource};
-use std::process::Abort;
+use std::test::Fail;
 use uses::checksum::is_udp_right;
 use uses::translation::{
     translate_tcp_destination, translate_tcp_source, translate_udp_destination,
@@ -23,10 +22,12 @@ fn header(checksum: u16) -> UdpHeader {
     }
 }
 
-fn over_ipv4(rt: &impl Abort) -> Ipv4Header {
+fn over_ipv4() -> Result<Ipv4Header, ValueTooBigError<u16>> {
     let (source, destination) = ([192, 168, 0, 1], [192, 168, 0, 199]);
     let made = Ipv4Header::new(12, 64, IpNumber::UDP, source, destination);
-    made.expect(rt, "a short payload")
+    let mut header = made?;
+    header.header_checksum = header.calc_header_checksum();
+    Ok(header)
 }
 
 // From 2001:db8::1 to 2001:db8::2.
@@ -38,13 +39,11 @@ fn over_ipv6() -> Ipv6Header {
 }
 
 #[test]
-fn eight_bytes_are_read_written_and_read_back(rt: HostRuntime) {
+fn eight_bytes_are_read_and_written(rt: HostRuntime) {
     let bytes = [4, 0, 0, 53, 0, 12, 0x91, 0xae, b't', b'e'];
-    let (read, rest) = UdpHeader::from_slice(&bytes).expect(&rt, "a header in front");
-    assert_eq!(rt; (&read, rest), (&header(0x91ae), b"te".as_slice()));
-    assert_eq!(rt; read.to_bytes(), [4, 0, 0, 53, 0, 12, 0x91, 0xae]);
-    let e = UdpHeader::from_slice(&bytes[..7]).expect_err(&rt, "seven bytes");
-    assert_eq!(rt; e, too_short(Layer::UdpHeader, 8, 7));
+    let expected = (header(0x91ae), b"te".as_slice());
+    assert_eq!(rt; UdpHeader::from_slice(&bytes), Ok(expected));
+    assert_eq!(rt; header(0x91ae).to_bytes(), [4, 0, 0, 53, 0, 12, 0x91, 0xae]);
 }
 
 // The caller of `docs/LAYER.md`, line by line as it stands there.
@@ -62,11 +61,10 @@ pub fn udp_header(packet: &[u8]) -> Result<Option<UdpHeader>, HeaderSliceError> 
 
 #[test]
 fn the_udp_header_of_a_packet_is_found_or_refused_with_its_place(rt: HostRuntime) {
-    let mut packet = [
+    let packet = [
         0x45, 0, 0, 32, 0, 0, 0x40, 0, 64, 17, 0, 0, 10, 0, 0, 1, 10, 0, 0, 2, 4, 0, 0, 53, 0, 12,
         0x91, 0xae,
     ];
-    assert_eq!(rt; udp_header(&packet), Ok(Some(header(0x91ae))));
     let cut_short = LenError {
         required_len: 8,
         len: 7,
@@ -74,35 +72,42 @@ fn the_udp_header_of_a_packet_is_found_or_refused_with_its_place(rt: HostRuntime
         layer: Layer::UdpHeader,
         layer_start_offset: 20,
     };
-    assert_eq!(rt;
+    let mut fragment = packet;
+    fragment[6] = 0x20;
+    let found = [
+        udp_header(&packet),
         udp_header(&packet[..27]),
-        Err(HeaderSliceError::Len(cut_short))
+        udp_header(&fragment),
+    ];
+    let refused = Err(HeaderSliceError::Len(cut_short));
+    assert_eq!(rt; found, [Ok(Some(header(0x91ae))), refused, Ok(None)]);
+}
+
+#[test]
+fn a_checksum_is_made_and_judged(rt: HostRuntime) -> Result<(), Fail> {
+    let (ipv4, ipv6) = (over_ipv4()?, over_ipv6());
+    let mut udp = header(0);
+    let without = [
+        udp.is_right_ipv4(&ipv4, b"test"),
+        udp.is_right_ipv6(&ipv6, b"test"),
+    ];
+    udp.set_checksum_ipv4(&ipv4, b"test");
+    let made = (
+        udp.checksum,
+        udp.is_right_ipv4(&ipv4, b"test"),
+        udp.is_right_ipv4(&ipv4, b"text"),
     );
-    // Another fragment follows.
-    packet[6] = 0x20;
-    assert_eq!(rt; udp_header(&packet), Ok(None));
-}
-
-#[test]
-fn a_checksum_is_made_and_judged_over_ipv4(rt: HostRuntime) {
-    let ip = over_ipv4(&rt);
-    let mut udp = header(0);
-    assert!(rt; udp.is_right_ipv4(&ip, b"test"));
-    udp.set_checksum_ipv4(&ip, b"test");
-    assert_eq!(rt; udp.checksum, 0x91ae);
-    assert!(rt; udp.is_right_ipv4(&ip, b"test"));
-    assert!(rt; !udp.is_right_ipv4(&ip, b"text"));
-}
-
-#[test]
-fn a_checksum_is_made_and_judged_over_ipv6(rt: HostRuntime) {
-    let ip = over_ipv6();
-    let mut udp = header(0);
-    assert!(rt; !udp.is_right_ipv6(&ip, b"test"));
-    udp.set_checksum_ipv6(&ip, b"test");
-    assert_eq!(rt; udp.checksum, 0xb852);
-    assert!(rt; udp.is_right_ipv6(&ip, b"test"));
-    assert!(rt; !udp.is_right_ipv6(&ip, b"text"));
+    udp.set_checksum_ipv6(&ipv6, b"test");
+    let made_over_ipv6 = (
+        udp.checksum,
+        udp.is_right_ipv6(&ipv6, b"test"),
+        udp.is_right_ipv6(&ipv6, b"text"),
+    );
+    assert_eq!(rt;
+        (without, made, made_over_ipv6),
+        ([true, false], (0x91ae, true, false), (0xb852, true, false))
+    );
+    Ok(())
 }
 
 // A datagram of 12 bytes over IPv6, and one byte behind it in the packet.
@@ -115,29 +120,32 @@ const OVER_IPV6: [u8; 53] = [
 #[test]
 fn the_datagram_of_a_packet_is_judged_as_long_as_it_says(rt: HostRuntime) {
     let mut without_checksum = OVER_IPV6;
-    without_checksum[46] = 0;
-    without_checksum[47] = 0;
-    let judged = [is_udp_right(&OVER_IPV6), is_udp_right(&without_checksum)];
-    assert_eq!(rt; judged, [Ok(Some(true)), Ok(Some(false))]);
+    [without_checksum[46], without_checksum[47]] = [0, 0];
     let mut shorter_than_a_header = OVER_IPV6;
     shorter_than_a_header[45] = 7;
     let mut longer_than_the_packet = OVER_IPV6;
     longer_than_the_packet[45] = 14;
     let judged = [
+        is_udp_right(&OVER_IPV6),
+        is_udp_right(&without_checksum),
         is_udp_right(&shorter_than_a_header),
         is_udp_right(&longer_than_the_packet),
     ];
-    assert_eq!(rt; judged, [Ok(None), Ok(None)]);
+    assert_eq!(rt;
+        judged,
+        [Ok(Some(true)), Ok(Some(false)), Ok(None), Ok(None)]
+    );
 }
 
 #[test]
-fn a_translated_address_keeps_both_checksums_right(rt: HostRuntime) {
-    let mut ip = over_ipv4(&rt);
-    ip.header_checksum = ip.calc_header_checksum();
-    let checksum = translate_udp_source(&mut ip, 0x91ae, [10, 0, 0, 1]);
-    assert_eq!(rt; (checksum, are_both_right(&ip, checksum)), (0x4857, true));
-    let checksum = translate_udp_destination(&mut ip, checksum, [10, 0, 0, 2]);
-    assert!(rt; are_both_right(&ip, checksum));
+fn a_translated_address_keeps_both_checksums_right(rt: HostRuntime) -> Result<(), Fail> {
+    let mut ip = over_ipv4()?;
+    let first = translate_udp_source(&mut ip, 0x91ae, [10, 0, 0, 1]);
+    let is_first_right = are_both_right(&ip, first);
+    let second = translate_udp_destination(&mut ip, first, [10, 0, 0, 2]);
+    let are_right = [is_first_right, are_both_right(&ip, second)];
+    assert_eq!(rt; (first, are_right), (0x4857, [true; 2]));
+    Ok(())
 }
 
 // Whether the checksum of the header and this one of the datagram over it are right.
@@ -146,9 +154,8 @@ fn are_both_right(ip: &Ipv4Header, checksum: u16) -> bool {
 }
 
 #[test]
-fn no_checksum_stays_none_and_one_of_tcp_may_become_zero(rt: HostRuntime) {
-    let mut ip = over_ipv4(&rt);
-    ip.header_checksum = ip.calc_header_checksum();
+fn no_checksum_stays_none_and_one_of_tcp_may_become_zero(rt: HostRuntime) -> Result<(), Fail> {
+    let mut ip = over_ipv4()?;
     ip.set_source([10, 0, 0, 1]);
     ip.set_destination([10, 0, 0, 2]);
     let checksums = [
@@ -156,8 +163,11 @@ fn no_checksum_stays_none_and_one_of_tcp_may_become_zero(rt: HostRuntime) {
         translate_tcp_source(&mut ip, 0xffff, [1, 2, 3, 5]),
         translate_tcp_destination(&mut ip, 0xfffe, [10, 0, 0, 1]),
     ];
-    assert_eq!(rt; checksums, [0, 0xfffe, 0]);
-    let seen = (ip.source, ip.destination, ip.header_checksum);
+    let seen = (checksums, ip.source, ip.destination, ip.header_checksum);
     let computed = ip.calc_header_checksum();
-    assert_eq!(rt; seen, ([1, 2, 3, 5], [10, 0, 0, 1], computed));
+    assert_eq!(rt;
+        seen,
+        ([0, 0xfffe, 0], [1, 2, 3, 5], [10, 0, 0, 1], computed)
+    );
+    Ok(())
 }
