@@ -17,7 +17,15 @@ mod fields;
 #[cfg(test)]
 mod headers;
 #[cfg(test)]
+mod ip_number;
+#[cfg(test)]
+mod ipv4_reading;
+#[cfg(test)]
+mod ipv6_reading;
+#[cfg(test)]
 mod layers;
+#[cfg(test)]
+mod limited_walk;
 #[cfg(test)]
 mod shared;
 #[cfg(test)]

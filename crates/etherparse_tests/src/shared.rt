@@ -32,6 +32,41 @@ pub(crate) fn too_short(layer: Layer, required_len: usize, len: usize) -> LenErr
     }
 }
 
+/// What becomes of a slice that is read.
+#[derive(Clone, Copy, Debug, PartialEq, Eq)]
+pub(crate) enum Outcome {
+    TooShort,
+    OtherVersion,
+    SmallIhl,
+    ShorterThanIhl,
+    Header,
+}
+
+/// A row of a table of readings: the least and the greatest length, the least and the greatest
+/// first byte, and what becomes of a slice of such a length that begins with such a byte. The last
+/// part is the number of bytes that it needs.
+pub(crate) type Row = (usize, usize, u8, u8, Outcome, usize);
+
+/// What a table says about a slice with a given length and first byte.
+pub(crate) fn outcome_of(table: &[Row], len: usize, first: u8) -> Option<(Outcome, usize)> {
+    for (least, most, low, high, outcome, needed) in table {
+        if *least <= len && len <= *most && *low <= first && first <= *high {
+            return Some((*outcome, *needed));
+        }
+    }
+    None
+}
+
+/// Asserts how often each outcome occurred.
+pub(crate) fn assert_counts(rt: &impl Abort, outcomes: &[Outcome], counts: &[(Outcome, usize)]) {
+    for (outcome, count) in counts {
+        assert_eq!(rt;
+            outcomes.iter().filter(|it| **it == *outcome).count(),
+            *count
+        );
+    }
+}
+
 /// Bytes without a pattern, the same in each run.
 pub(crate) fn random_bytes(alloc: Global, count: usize) -> Result<Vec<u8>, AllocError> {
     let mut bytes = Vec::new(alloc);
