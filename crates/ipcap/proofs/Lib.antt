@@ -1,7 +1,5 @@
 mod Fronts
 mod PseudoHeader
 mod Led
-mod OneReading
-mod Skipped
 mod Runs
 mod Written
