@@ -46,10 +46,9 @@ begins_with_record-front header s more found rest b =
 pub long_record-append : (header : FileHeader) (before : Totals) (s more line : List ℕ) (after : Totals)
     → IsToldOfLongRecord header before s line after → IsToldOfLongRecord header before (s ++ more) line after
 long_record-append header before s more line after t =
-    let long = length-append s more in
     let enough = t.enough in
     record {
-      enough = omega (arith, long, enough);
+      enough = omega (arith, length-append s more);
       long = rw (record_len-append header s more enough) t.long;
       line_of = rw (slice_range-append s more 0 4 (omega arith) (omega arith), slice_range-append s more 4 8 (omega arith) (omega arith), slice_range-append s more 8 12 (omega arith) (omega arith)) t.line_of;
       counts = rw (slice_range-append s more 8 12 (omega arith) (omega arith), slice_range-append s more 12 16 (omega arith) (omega arith)) t.counts;

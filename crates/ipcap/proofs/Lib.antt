@@ -1,5 +1,4 @@
 mod Fronts
 mod PseudoHeader
-mod Led
 mod Runs
 mod Written

@@ -1,5 +1,5 @@
 use Rattle.std.proofs.KnownBytes.{Keeps-refl}
-use Rattle.ipcap.proofs.Led.{told_none, told_then}
+use Rattle.ipcap.proofs.Runs.{told_none, told_then}
 use Rattle.ipcap.proofs.listing.list.Goals as goal
 
 pub turns-init : goal.turns-init

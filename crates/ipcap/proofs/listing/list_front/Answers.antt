@@ -1,5 +1,5 @@
 use Rattle.std.proofs.Common.{ap, arith, length, length-append, refl}
-use Rattle.ipcap.proofs.Led.{told_none, told_one, told_then}
+use Rattle.ipcap.proofs.Runs.{told_none, told_one, told_then}
 use Rattle.ipcap.proofs.listing.list_front.Goals as goal
 
 pub records-init : goal.records-init

@@ -1,5 +1,5 @@
 use Rattle.std.proofs.Common.{arith}
-use Rattle.ipcap.proofs.Led.{told_long, told_long_last}
+use Rattle.ipcap.proofs.Runs.{told_long, told_long_last}
 use Rattle.ipcap.proofs.listing.list_past.Goals as goal
 
 pub returns-in-None : goal.returns-in-None

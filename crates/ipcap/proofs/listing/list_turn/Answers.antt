@@ -1,4 +1,4 @@
-use Rattle.ipcap.proofs.Led.{passed, told_front, told_then}
+use Rattle.ipcap.proofs.Runs.{passed, told_front, told_then}
 use Rattle.ipcap.proofs.listing.list_turn.Goals as goal
 
 pub go_on-requires : goal.go_on-requires

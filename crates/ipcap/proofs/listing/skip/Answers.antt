@@ -1,6 +1,6 @@
 use Rattle.std.proofs.Common.{ℕ, length, arith, ap, length-drop, refl}
 use Rattle.std.proofs.KnownBytes.{Consumes-kept}
-use Rattle.ipcap.proofs.Led.{skips_end, skips_more}
+use Rattle.ipcap.proofs.Runs.{skips_end, skips_more}
 use Rattle.ipcap.proofs.listing.skip.Goals as goal
 
 pub returns-then-left-eq0 : goal.returns-then-left-eq0
