@@ -1,5 +1,5 @@
 -- Checksums with a pseudo-header.
-use Rattle.std.proofs.Common.{ℕ, ◌≡◌, ◌==◌, ◌+◌, ◌↔◌, ◌∙◌, IsTrue, List, [], ◌∷◌, add_comm, ap, arith}
+use Rattle.std.proofs.Common.{ℕ, ◌≡◌, ◌==◌, ◌↔◌, ◌∙◌, IsTrue, List, [], ◌∷◌, add_comm, ap, arith}
 use Rattle.etherparse.specs.WordSums.{AddsSlice, Complements, StandsForWords, folded_sum, ones_complement_sum}
 
 -- source, destination, what follows them and a segment, added one after the other from 0: the complement is 0 where they sum to all ones

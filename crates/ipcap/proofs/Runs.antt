@@ -3,7 +3,7 @@ use Rattle.std.proofs.Common.{ℕ, ◌≡◌, ◌<◌, ◌≤◌, ◌+◌, Bool,
 use Rattle.std.proofs.Math.Seq.{drop-append_seam}
 use Rattle.std.specs.Io.KnownBytes.{Appends, Consumes, IsAtEnd, Keeps, prepend_known, append_known}
 use Rattle.std.proofs.KnownBytes.{Appends-nil, Appends-trans, Consumes-kept, Consumes-nil, Consumes-trans, Keeps-refl, prepend_known-read, Appends-kept, Consumes-whole}
-use Rattle.uses.specs.Capture.{BeginsWithRecord, IsCutOff, Recorded, record_len, BeginsWithFileHeader, ReadsFileHeader}
+use Rattle.uses.specs.Capture.{BeginsWithRecord, Recorded, record_len, BeginsWithFileHeader, ReadsFileHeader}
 use Rattle.uses.specs.declared.capture.CutOff as cut
 use Rattle.uses.specs.declared.capture.FileHeader.{FileHeader}
 use Rattle.ipcap.specs.Listing.{IsToldOfLongRecord, IsToldOfRecord, Lists, is_cut_off_long, max_captured_len, reads, skips}

@@ -1,4 +1,4 @@
-use Rattle.std.proofs.Common.{◌≡◌, ◌-◌, ◌+◌, length, take, drop, ap, sym, ◌∙◌, arith, length-drop, length-take-le, take_at}
+use Rattle.std.proofs.Common.{◌≡◌, ◌-◌, ◌+◌, take, drop, ap, sym, ◌∙◌, arith, length-drop, length-take-le, take_at}
 use Rattle.std.proofs.lemmas.List.{drop-take}
 use Rattle.ipcap.proofs.window.Window.pass.Goals as goal
 
