@@ -308,6 +308,8 @@ fn read_on<R: Read>(window: &mut Window, reader: &mut R, end: Option<CutOff>) ->
     ensures turn { IfOk result (λ turn. (turn ≡ Turn.GoesOn)
         ⊎ ((turn ≡ Turn.Ends end) × (unread window.new ≡ unread window.old)
         × IsAtEnd (R.remaining reader.new))) }
+    ensures progress { IfOk result (λ turn. turn ≡ Turn.GoesOn →
+        length (unread window.old) < length (unread window.new)) }
 {
     if window.fill(reader)? {
         Ok(Turn::GoesOn)

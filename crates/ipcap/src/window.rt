@@ -21,7 +21,7 @@ pub struct Window {
 }
 
 impl Window {
-    ghost use Rattle.std.specs.Prelude.{◌≡◌, ◌<◌, ◌-◌, [], IfOk, IsFalse, OnOk, drop};
+    ghost use Rattle.std.specs.Prelude.{◌≡◌, ◌<◌, ◌-◌, [], IfOk, IsFalse, IsTrue, OnOk, drop};
     ghost use Rattle.std.specs.Prelude.{length, min};
     ghost use Rattle.std.specs.Io.KnownBytes.{IsAtEnd, Keeps, prepend_known};
     ghost use Rattle.ipcap.specs.Private.Window.{unread};
@@ -67,6 +67,8 @@ impl Window {
         ensures kept { OnOk result (Keeps
             (prepend_known (unread self.old) (R.remaining reader.old))
             (prepend_known (unread self.new) (R.remaining reader.new))) }
+        ensures progress { IfOk result (λ more. IsTrue more →
+            length (unread self.old) < length (unread self.new)) }
         ensures at_end { IfOk result (λ more. IsFalse more → IsAtEnd (R.remaining reader.new)) }
         ensures same { IfOk result (λ more. IsFalse more → unread self.new ≡ unread self.old) }
     {
