@@ -1,5 +1,5 @@
 -- What is read at the front of a slice is read there, whatever follows it.
-use Rattle.std.proofs.Common.{ℕ, ◌≡◌, ◌+◌, ◌-◌, ◌≤◌, List, ◌++◌, length, take, drop, slice_range, ap, sym, ◌∙◌, arith, length-append, length-drop, length-take-le, Err, [], append-nil, subst, inl, inr, ◌⊎◌}
+use Rattle.std.proofs.Common.{ℕ, ◌≡◌, ◌+◌, ◌-◌, ◌≤◌, List, ◌++◌, length, take, drop, slice_range, ap, sym, ◌∙◌, arith, length-append, length-drop, length-take-le, Err, [], append-nil, subst, inl, inr, ◌⊎◌, take-append-drop, drop_at, refl}
 use Rattle.std.proofs.lemmas.List.{drop-append-le, take-append-le}
 use Rattle.std.specs.Int.{w32}
 use Rattle.uses.specs.Capture.{BeginsWithFileHeader, BeginsWithRecord, ReadsFileHeader, Recorded, number_in, record_len}
@@ -18,34 +18,37 @@ slice_range-append s more i j order within =
 pub record_len-append : (header : FileHeader) (s more : List ℕ) → 16 ≤ length s → record_len header (s ++ more) ≡ record_len header s
 record_len-append header s more enough = ap (λ part. 16 + number_in header.format.order w32 part) (slice_range-append s more 8 12 (omega arith) (omega arith))
 
-pub begins_with_record-append : (header : FileHeader) (s more : List ℕ) (found : Recorded) (rest : List ℕ)
-    → BeginsWithRecord header s found rest → BeginsWithRecord header (s ++ more) found (rest ++ more)
-begins_with_record-append header s more found rest b =
-    let long = length-append s more in
-    let same = record_len-append header s more b.enough in
-    record {
-      enough = omega (arith, long, b.enough);
-      whole = rw same (omega (arith, long, b.whole));
-      seconds = rw (slice_range-append s more 0 4 (omega arith) (omega (arith, b.enough))) b.seconds;
-      nanoseconds = rw (slice_range-append s more 4 8 (omega arith) (omega (arith, b.enough))) b.nanoseconds;
-      original_len = rw (slice_range-append s more 12 16 (omega arith) (omega (arith, b.enough))) b.original_len;
-      bytes = rw (same, slice_range-append s more 16 (record_len header s) (omega arith) b.whole) b.bytes;
-      after = rw (same, drop-append-le (record_len header s) s more b.whole) (ap (λ xs. xs ++ more) b.after);
-    }
+-- the bytes of a record, whatever comes after them
+slice_range-front : (s more : List ℕ) (n i j : ℕ) → i ≤ j → j ≤ n → n ≤ length s → slice_range (take n s ++ more) i j ≡ slice_range s i j
+slice_range-front s more n i j order within enough =
+    let len = length-take-le n s enough in
+    slice_range-append (take n s) more i j order (omega arith) ∙ sym (slice_range-append (take n s) (drop n s) i j order (omega arith))
+    ∙ ap (λ xs. slice_range xs i j) (take-append-drop n s)
 
--- a record is no longer than the data, but for the 16 bytes before it
-pub captured_len-le : (header : FileHeader) (s : List ℕ) (found : Recorded) (rest : List ℕ) → BeginsWithRecord header s found rest → 16 + length found.bytes ≤ length s
-captured_len-le header s found rest b =
-    let bytes : length found.bytes ≡ record_len header s - 16 = ap length b.bytes ∙ length-take-le (record_len header s - 16) (drop 16 s) (omega (arith, b.whole, length-drop 16 s)) in
-    omega (arith, bytes, b.whole, b.enough)
+pub begins_with_record-front : (header : FileHeader) (s more : List ℕ) (found : Recorded) (rest : List ℕ)
+    → BeginsWithRecord header s found rest → BeginsWithRecord header (take (record_len header s) s ++ more) found more
+begins_with_record-front header s more found rest b =
+    let n = record_len header s in
+    let whole : n ≤ length s = b.whole in
+    let len = length-take-le n s whole in
+    let part : (i j : ℕ) → i ≤ j → j ≤ n → slice_range (take n s ++ more) i j ≡ slice_range s i j = λ i j order within. slice_range-front s more n i j order within whole in
+    let same : record_len header (take n s ++ more) ≡ n = ap (λ xs. 16 + number_in header.format.order w32 xs) (part 8 12 (omega arith) (omega arith)) in
+    record {
+      enough = omega (arith, len, length-append (take n s) more);
+      whole = rw same (omega (arith, len, length-append (take n s) more));
+      seconds = rw (part 0 4 (omega arith) (omega arith)) b.seconds;
+      nanoseconds = rw (part 4 8 (omega arith) (omega arith)) b.nanoseconds;
+      original_len = rw (part 12 16 (omega arith) (omega arith)) b.original_len;
+      bytes = rw (same, part 16 n (omega arith) (omega arith)) b.bytes;
+      after = rw (same, drop_at (take n s) more n len) refl;
+    }
 
 pub long_record-append : (header : FileHeader) (before : Totals) (s more line : List ℕ) (after : Totals)
     → IsToldOfLongRecord header before s line after → IsToldOfLongRecord header before (s ++ more) line after
 long_record-append header before s more line after t =
-    let long = length-append s more in
     let enough = t.enough in
     record {
-      enough = omega (arith, long, enough);
+      enough = omega (arith, length-append s more);
       long = rw (record_len-append header s more enough) t.long;
       line_of = rw (slice_range-append s more 0 4 (omega arith) (omega arith), slice_range-append s more 4 8 (omega arith) (omega arith), slice_range-append s more 8 12 (omega arith) (omega arith)) t.line_of;
       counts = rw (slice_range-append s more 8 12 (omega arith) (omega arith), slice_range-append s more 12 16 (omega arith) (omega arith)) t.counts;

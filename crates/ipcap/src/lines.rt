@@ -160,6 +160,7 @@ struct Fraction {
 impl fmt::Display for Fraction {
     ghost output = { λ fraction. Some (fraction_text fraction.resolution fraction.nanoseconds) };
 
+    #[tactic(auto, using(crate::proofs::Written::padded_with_zeros))]
     fn fmt<W: fmt::Write>(&self, f: &mut fmt::Formatter<W>) -> fmt::Result {
         match self.resolution {
             Resolution::Microseconds => {
@@ -221,6 +222,7 @@ struct Hex(u16);
 impl fmt::Display for Hex {
     ghost output = { λ hex. Some (hex_text hex.0) };
 
+    #[tactic(auto, using(crate::proofs::Written::padded_with_zeros))]
     fn fmt<W: fmt::Write>(&self, f: &mut fmt::Formatter<W>) -> fmt::Result {
         let number = self.0;
         write!(f, "{number:04x}")

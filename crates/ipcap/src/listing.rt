@@ -1,15 +1,14 @@
 //! The lines of the records, in their order.
 
-ghost use Rattle.std.specs.Prelude.{ℕ, ◌≡◌, ◌≤◌, ◌<◌, ◌+◌, ◌*◌, ◌⊎◌, List, [], Err, IfOk};
-ghost use Rattle.std.specs.Prelude.{IfSome, OnOk, length, slice_range};
+ghost use Rattle.std.specs.Prelude.{ℕ, ◌≡◌, ◌≤◌, ◌<◌, ◌+◌, ◌*◌, ◌⊎◌, List, [], IfOk};
+ghost use Rattle.std.specs.Prelude.{MatchOption, OnOk, length, slice_range};
 ghost use Rattle.std.specs.Int.{w32};
 ghost use Rattle.std.specs.Io.KnownBytes.{Appends, IsAtEnd, Keeps, append_known, prepend_known};
-ghost use Rattle.uses.specs.Capture.{ReadsRecord, nanoseconds_in, number_in, record_len};
-ghost use Rattle.uses.specs.Capture.{recorded};
+ghost use Rattle.uses.specs.Capture.{nanoseconds_in, number_in, record_len, recorded};
 ghost use Rattle.ipcap.specs.Listing.{IsToldOfLongRecord, IsToldOfRecord, max_captured_len};
-ghost use Rattle.ipcap.specs.Lines.{is_cut};
+ghost use Rattle.ipcap.specs.Lines.{is_cut, record_line};
 ghost use Rattle.ipcap.specs.Listing.{outcome_of};
-ghost use Rattle.ipcap.specs.Private.Progress.{Skips, TellsFront, TellsKnown, Told, unless_quiet};
+ghost use Rattle.ipcap.specs.Private.Progress.{Skips, Stops, Told, unless_quiet};
 ghost use Rattle.ipcap.specs.Private.Window.{unread};
 ghost use Rattle.ipcap.specs.Totals.{nothing_counted};
 
@@ -105,34 +104,56 @@ fn list_record<W: Write>(
     let Some(after) = before.count(outcome(captured, &reading)) else {
         return Err(io::Error::from(ErrorKind::Other));
     };
-    if is_quiet {
-        return Ok(after);
-    }
-    make_room(text, writer)?;
-    write_record(
-        text,
-        header.format.resolution,
+    write_line(
+        is_quiet,
+        header,
         after.records,
         captured,
         &reading,
+        text,
+        writer,
     )?;
     Ok(after)
 }
 
-// Lists the whole records at the front of the data. Returns how many bytes they have, the totals
-// after them, and how the next record is cut off.
-fn list_front<W: Write>(
+// Writes the line of a record that is read, but not in a quiet run.
+fn write_line<W: Write>(
+    is_quiet: bool,
     header: &FileHeader,
-    bytes: &[u8],
+    number: u64,
+    captured: &Record,
+    reading: &Reading,
+    text: &mut Text,
+    writer: &mut W,
+) -> io::Result<()>
+    ensures { OnOk result (Appends (append_known (W.contents writer.old) text.old.items)
+        (append_known (W.contents writer.new) text.new.items) (unless_quiet is_quiet
+        (record_line header.now.format.resolution number (recorded captured.now) reading.now))) }
+{
+    if is_quiet {
+        return Ok(());
+    }
+    make_room(text, writer)?;
+    write_record(text, header.format.resolution, number, captured, reading)?;
+    Ok(())
+}
+
+// Lists the whole records at the front of the data. Returns the rest, the totals after them, and how
+// the next record is cut off.
+fn list_front<'a, W: Write>(
+    header: &FileHeader,
+    bytes: &'a [u8],
     is_quiet: bool,
     before: Totals,
     text: &mut Text,
     writer: &mut W,
-) -> io::Result<(usize, Totals, Option<CutOff>)>
+) -> io::Result<(&'a [u8], Totals, Option<CutOff>)>
     requires { length bytes.now ≤ ROOM }
-    ensures { IfOk result (λ x. TellsFront header.now is_quiet before bytes.now x.0 x.1 x.2
+    ensures told { IfOk result (λ x. Told header.now is_quiet before x.1 Turn.GoesOn
+        (Some bytes.now) (Some x.0.now)
         (append_known (W.contents writer.old) text.old.items)
         (append_known (W.contents writer.new) text.new.items)) }
+    ensures stops { IfOk result (λ x. Stops header.now x.0.now x.2) }
 {
     let mut rest = bytes;
     let mut totals = before;
@@ -142,8 +163,8 @@ fn list_front<W: Write>(
                 totals = list_record(header, &record, is_quiet, totals, text, writer)?;
                 rest = after;
             }
-            Ok(None) => return Ok((bytes.len() - rest.len(), totals, None)),
-            Err(e) => return Ok((bytes.len() - rest.len(), totals, Some(e))),
+            Ok(None) => return Ok((rest, totals, None)),
+            Err(e) => return Ok((rest, totals, Some(e))),
         }
     }
 }
@@ -221,11 +242,13 @@ fn list_long<W: Write>(
     Ok(after)
 }
 
-// Skips `len` bytes; if the input has fewer, returns how many it has.
+// Skips `len` bytes; if the input has fewer, returns how many.
 fn skip<R: Read>(window: &mut Window, reader: &mut R, len: usize) -> io::Result<Option<usize>>
-    ensures { IfOk result (λ there. Skips
-        (prepend_known (unread window.old) (R.remaining reader.old)) len there
-        (prepend_known (unread window.new) (R.remaining reader.new))) }
+    ensures { IfOk result (λ there. MatchOption there
+        (Skips len (prepend_known (unread window.old) (R.remaining reader.old))
+        (prepend_known (unread window.new) (R.remaining reader.new)))
+        (λ n. (n < len)
+        × Skips n (prepend_known (unread window.old) (R.remaining reader.old)) (Some []))) }
 {
     let mut left = len;
     'turns: for _ in 0..u64::MAX {
@@ -253,19 +276,26 @@ fn list_past<R: Read, W: Write>(
     text: &mut Text,
     writer: &mut W,
 ) -> io::Result<(Totals, Turn)>
-    requires reads { ReadsRecord header.now (unread window.old) (Err cut_off) }
+    requires enough { 16 ≤ length (unread window.old) }
+    requires required { cut_off.required_len ≡ record_len header.now (unread window.old) }
+    requires there { cut_off.len ≡ length (unread window.old) }
+    requires short { cut_off.len < cut_off.required_len }
     requires long { 16 + max_captured_len < cut_off.required_len }
-    ensures { IfOk result (λ x. TellsKnown header.now is_quiet before
-        (prepend_known (unread window.old) (R.remaining reader.old)) x.0
-        (prepend_known (unread window.new) (R.remaining reader.new)) x.1
+    ensures { IfOk result (λ x. Told header.now is_quiet before x.0 x.1
+        (prepend_known (unread window.old) (R.remaining reader.old))
+        (prepend_known (unread window.new) (R.remaining reader.new))
         (append_known (W.contents writer.old) text.old.items)
         (append_known (W.contents writer.new) text.new.items)) }
 {
-    let required_len = cut_off.required_len;
+    let (required_len, len) = (cut_off.required_len, cut_off.len);
     let after = list_long(header, window.unread(), is_quiet, before, text, writer)?;
-    match skip(window, reader, required_len)? {
+    window.clear();
+    match skip(window, reader, required_len - len)? {
         None => Ok((after, Turn::GoesOn)),
-        Some(len) => Ok((after, Turn::Ends(Some(CutOff { required_len, len })))),
+        Some(more) => {
+            let len = len + more;
+            Ok((after, Turn::Ends(Some(CutOff { required_len, len }))))
+        }
     }
 }
 
@@ -288,7 +318,41 @@ fn read_on<R: Read>(window: &mut Window, reader: &mut R, end: Option<CutOff>) ->
     }
 }
 
-// Lists the whole records that have been read, and reads more.
+// Goes on behind the whole records that have been read: lists and skips one that is too long, or
+// reads more.
+fn go_on<R: Read, W: Write>(
+    header: &FileHeader,
+    is_quiet: bool,
+    before: Totals,
+    stop: Option<CutOff>,
+    window: &mut Window,
+    reader: &mut R,
+    text: &mut Text,
+    writer: &mut W,
+) -> io::Result<(Totals, Turn)>
+    requires { Stops header.now (unread window.old) stop }
+    ensures { IfOk result (λ x. Told header.now is_quiet before x.0 x.1
+        (prepend_known (unread window.old) (R.remaining reader.old))
+        (prepend_known (unread window.new) (R.remaining reader.new))
+        (append_known (W.contents writer.old) text.old.items)
+        (append_known (W.contents writer.new) text.new.items)) }
+{
+    match stop {
+        None => {
+            let turn = read_on(window, reader, None)?;
+            Ok((before, turn))
+        }
+        Some(e) => {
+            if e.required_len > ROOM {
+                return list_past(header, is_quiet, before, e, window, reader, text, writer);
+            }
+            let turn = read_on(window, reader, Some(e))?;
+            Ok((before, turn))
+        }
+    }
+}
+
+// Lists the whole records that have been read, and goes on behind them.
 fn list_turn<R: Read, W: Write>(
     header: &FileHeader,
     is_quiet: bool,
@@ -298,37 +362,18 @@ fn list_turn<R: Read, W: Write>(
     text: &mut Text,
     writer: &mut W,
 ) -> io::Result<(Totals, Turn)>
-    ensures { IfOk result (λ x. TellsKnown header.now is_quiet before
-        (prepend_known (unread window.old) (R.remaining reader.old)) x.0
-        (prepend_known (unread window.new) (R.remaining reader.new)) x.1
+    ensures { IfOk result (λ x. Told header.now is_quiet before x.0 x.1
+        (prepend_known (unread window.old) (R.remaining reader.old))
+        (prepend_known (unread window.new) (R.remaining reader.new))
         (append_known (W.contents writer.old) text.old.items)
         (append_known (W.contents writer.new) text.new.items)) }
 {
-    let (passed, totals, stop) = list_front(
-        header,
-        window.unread(),
-        is_quiet,
-        before,
-        text,
-        writer,
-    )?;
+    let bytes = window.unread();
+    let (rest, totals, stop) = list_front(header, bytes, is_quiet, before, text, writer)?;
+    let passed = bytes.len() - rest.len();
     window.pass(passed);
-    match stop {
-        Some(e) if e.required_len > ROOM => {
-            let (after, turn) = list_past(
-                header, is_quiet, totals, e, window, reader, text, writer,
-            )?;
-            Ok((after, turn))
-        }
-        Some(e) => {
-            let turn = read_on(window, reader, Some(e))?;
-            Ok((totals, turn))
-        }
-        None => {
-            let turn = read_on(window, reader, None)?;
-            Ok((totals, turn))
-        }
-    }
+    let (after, turn) = go_on(header, is_quiet, totals, stop, window, reader, text, writer)?;
+    Ok((after, turn))
 }
 
 /// Lists all records and counts them. Returns the totals, and how the last record is cut off. If
@@ -341,11 +386,11 @@ pub fn list<R: Read, W: Write>(
     text: &mut Text,
     writer: &mut W,
 ) -> io::Result<(Totals, Option<CutOff>)>
-    ensures { IfOk result (λ x. IfSome
-        (prepend_known (unread window.old) (R.remaining reader.old)) (λ s.
-        Told header.now is_quiet nothing_counted s x.0 [] (Turn.Ends x.1)
+    ensures { IfOk result (λ x. Told header.now is_quiet nothing_counted x.0 (Turn.Ends x.1)
+        (prepend_known (unread window.old) (R.remaining reader.old))
+        (prepend_known (unread window.new) (R.remaining reader.new))
         (append_known (W.contents writer.old) text.old.items)
-        (append_known (W.contents writer.new) text.new.items))) }
+        (append_known (W.contents writer.new) text.new.items)) }
 {
     let mut totals = Totals::none();
     'turns: for _ in 0..u64::MAX {

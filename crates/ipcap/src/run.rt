@@ -1,10 +1,10 @@
 //! The whole run: a capture in, lines out.
 
-ghost use Rattle.std.specs.Prelude.{◌≡◌, ◌≢◌, ◌≤◌, ◌⊎◌, Err, IfErr, IfOk, IfSome, OnOk, drop};
+ghost use Rattle.std.specs.Prelude.{◌≡◌, ◌≢◌, ◌≤◌, ◌⊎◌, [], Err, IfErr, IfOk, IfSome, OnOk, drop};
 ghost use Rattle.std.specs.Prelude.{length};
 ghost use Rattle.std.specs.Io.KnownBytes.{Appends, IsAtEnd, Keeps, prepend_known};
 ghost use Rattle.uses.specs.Capture.{BeginsWithFileHeader, ReadsFileHeader};
-ghost use Rattle.ipcap.specs.Output.{IsListing, IsOutcome, Writes, status_at};
+ghost use Rattle.ipcap.specs.Output.{IsListing, IsOutcome, Writes, listed, status_at};
 ghost use Rattle.ipcap.specs.Lines.{end_text};
 ghost use Rattle.ipcap.specs.Private.Window.{unread};
 
@@ -12,6 +12,7 @@ use crate::lines::{write_capture_error, write_closing, write_cut_off, write_link
 use crate::link::is_read;
 use crate::listing::{Text, hand_over, list};
 use crate::status::Status;
+use crate::totals::Totals;
 use crate::window::Window;
 use std::io;
 use std::io::{ErrorKind, Read, Write};
@@ -48,13 +49,38 @@ fn try_run<R: Read, W: Write, E: Write>(
 {
     let mut window = Window::new();
     fill_to_file_header(&mut window, reader)?;
-    match read_file_header(&window) {
+    list_input(is_quiet, &mut window, reader, writer, errors)
+}
+
+// Lists an input of which the window has the file header, if it has one.
+fn list_input<R: Read, W: Write, E: Write>(
+    is_quiet: bool,
+    window: &mut Window,
+    reader: &mut R,
+    writer: &mut W,
+    errors: &mut E,
+) -> io::Result<Status>
+    requires { (24 ≤ length (unread window.old)) ⊎ IsAtEnd (R.remaining reader.old) }
+    ensures { IfOk result (λ status. IfSome
+        (prepend_known (unread window.old) (R.remaining reader.old)) (λ input.
+        Writes (IsOutcome is_quiet input) status (W.contents writer.old) (W.contents writer.new)
+        (E.contents errors.old) (E.contents errors.new))) }
+{
+    let header = match read_file_header(window) {
+        Ok(header) => header,
         Err(e) => {
             write_capture_error(errors, e)?;
-            Ok(Status::NoCapture)
+            return Ok(Status::NoCapture);
         }
-        Ok(header) => list_capture(is_quiet, &header, &mut window, reader, writer, errors),
+    };
+    let link_type = header.link_type % 65_536;
+    if !is_read(link_type) {
+        write_link_type(errors, link_type)?;
+        return Ok(Status::NoCapture);
     }
+    window.pass(24);
+    let status = list_records(is_quiet, &header, window, reader, writer, errors)?;
+    Ok(status)
 }
 
 // The header of the capture file that the window begins with.
@@ -69,34 +95,8 @@ fn read_file_header(window: &Window) -> Result<FileHeader, CaptureError>
     }
 }
 
-// Lists a capture after its file header, if its link type is read.
-fn list_capture<R: Read, W: Write, E: Write>(
-    is_quiet: bool,
-    header: &FileHeader,
-    window: &mut Window,
-    reader: &mut R,
-    writer: &mut W,
-    errors: &mut E,
-) -> io::Result<Status>
-    requires begins { BeginsWithFileHeader (unread window.old) header.now
-        (drop 24 (unread window.old)) }
-    ensures { IfOk result (λ status. IfSome
-        (prepend_known (unread window.old) (R.remaining reader.old)) (λ input.
-        Writes (IsOutcome is_quiet input) status (W.contents writer.old) (W.contents writer.new)
-        (E.contents errors.old) (E.contents errors.new))) }
-{
-    let link_type = header.link_type % 65_536;
-    if !is_read(link_type) {
-        write_link_type(errors, link_type)?;
-        return Ok(Status::NoCapture);
-    }
-    window.pass(24);
-    let status = list_all(is_quiet, header, window, reader, writer, errors)?;
-    Ok(status)
-}
-
 // Lists the records of a capture, and writes the lines at the end.
-fn list_all<R: Read, W: Write, E: Write>(
+fn list_records<R: Read, W: Write, E: Write>(
     is_quiet: bool,
     header: &FileHeader,
     window: &mut Window,
@@ -114,6 +114,24 @@ fn list_all<R: Read, W: Write, E: Write>(
     let listed = list(header, is_quiet, window, reader, &mut text, writer);
     hand_over(&mut text, writer)?;
     let (totals, end) = listed?;
+    let status = close(is_quiet, totals, end, writer, errors)?;
+    Ok(status)
+}
+
+// Writes the lines at the end.
+fn close<W: Write, E: Write>(
+    is_quiet: bool,
+    totals: Totals,
+    end: Option<CutOff>,
+    writer: &mut W,
+    errors: &mut E,
+) -> io::Result<Status>
+    ensures status { IfOk result (λ status. status ≡ status_at end) }
+    ensures output { OnOk result (Appends (W.contents writer.old) (W.contents writer.new)
+        (listed is_quiet [] totals end).output) }
+    ensures errors { OnOk result (Appends (E.contents errors.old) (E.contents errors.new)
+        (listed is_quiet [] totals end).errors) }
+{
     let status = write_end(errors, end)?;
     if is_quiet {
         write_closing(writer, totals)?;

@@ -44,6 +44,13 @@ impl Window {
         &self.bytes[..self.len]
     }
 
+    /// Drops all of it.
+    pub fn clear(&mut self)
+        ensures { unread self.new ≡ [] }
+    {
+        self.len = 0;
+    }
+
     /// Drops the first `len` bytes.
     pub fn pass(&mut self, len: usize)
         requires { len ≤ length (unread self.old) }

@@ -1,7 +1,7 @@
 -- How much of a capture has been listed.
-use Rattle.std.specs.Prelude.{ℕ, ◌≡◌, ◌≤◌, ◌<◌, Bool, List, [], ◌++◌, length, drop, Option, Some}
-use Rattle.std.specs.Prelude.{None, Err, if◌then◌else◌}
-use Rattle.std.specs.Io.KnownBytes.{Appends}
+use Rattle.std.specs.Prelude.{ℕ, ◌≡◌, Bool, List, [], ◌++◌, length, Option, Some, None, Err}
+use Rattle.std.specs.Prelude.{if◌then◌else◌}
+use Rattle.std.specs.Io.KnownBytes.{Appends, Consumes}
 use Rattle.uses.specs.Capture.{ReadsRecord}
 use Rattle.uses.specs.declared.capture.CutOff as cut
 use Rattle.uses.specs.declared.capture.FileHeader.{FileHeader}
@@ -14,50 +14,39 @@ use Rattle.ipcap.specs.declared.totals.Totals.{Totals}
 abbrev pub unless_quiet : Bool → List ℕ → List ℕ
 unless_quiet is_quiet text = if is_quiet then [] else text
 
--- These lines come before those of the rest, whatever those are.
-abbrev pub GoesOn : FileHeader → Totals → List ℕ → List ℕ → Totals → List ℕ → Type 0
-GoesOn header before s lines after rest = (text : List ℕ) (last : Totals) (end : Option cut.CutOff)
-    → Lists header after rest text last end → Lists header before s (lines ++ text) last end
+-- These bytes are records that have these lines, whatever records come after them.
+abbrev pub GoesOn : FileHeader → Totals → List ℕ → List ℕ → Totals → Type 0
+GoesOn header before bytes lines after =
+    (rest text : List ℕ) (last : Totals) (end : Option cut.CutOff)
+    → Lists header after rest text last end
+    → Lists header before (bytes ++ rest) (lines ++ text) last end
 
--- the lines come before those of the rest, or are all lines
-abbrev pub Leads : FileHeader → Totals → List ℕ → List ℕ → Totals → List ℕ → Turn → Type 0
-Leads header before s lines after rest turn.GoesOn = GoesOn header before s lines after rest
-Leads header before s lines after rest (turn.Ends end) = Lists header before s lines after end
+-- the same, or they are all that there is
+abbrev pub Leads : FileHeader → Totals → List ℕ → List ℕ → Totals → Turn → Type 0
+Leads header before bytes lines after turn.GoesOn = GoesOn header before bytes lines after
+Leads header before bytes lines after (turn.Ends end) = Lists header before bytes lines after end
+
+-- what a turn leaves of the input: nothing, if it is the last
+abbrev pub left_by : Turn → Option (List ℕ) → Option (List ℕ)
+left_by turn.GoesOn rest = rest
+left_by (turn.Ends end) rest = Some []
 
 -- the lines of the records between what was left of the input and what is left now are written
-pub record Told (header : FileHeader) (is_quiet : Bool) (before : Totals) (s : List ℕ)
-    (after : Totals) (rest : List ℕ) (turn : Turn) (old new : Option (List ℕ)) : Type 0 where
+pub record Told (header : FileHeader) (is_quiet : Bool) (before after : Totals) (turn : Turn)
+    (input rest old new : Option (List ℕ)) : Type 0 where
+  pub bytes : List ℕ
   pub lines : List ℕ
-  pub leads : Leads header before s lines after rest turn
+  pub leads : Leads header before bytes lines after turn
+  pub taken : Consumes input (left_by turn rest) bytes
   pub written : Appends old new (unless_quiet is_quiet lines)
 
--- the same if it is known what is left
-abbrev pub TellsKnown : FileHeader → Bool → Totals → Option (List ℕ) → Totals → Option (List ℕ)
-    → Turn → Option (List ℕ) → Option (List ℕ) → Type 0
-TellsKnown header is_quiet before None after rest turn old new = Unit {0}
-TellsKnown header is_quiet before (Some s) after None turn old new = ⊥
-TellsKnown header is_quiet before (Some s) after (Some rest) turn old new =
-    Told header is_quiet before s after rest turn old new
-
--- what is left after the whole records at the front of the data: nothing, or an incomplete record
+-- why no whole record is at the front of the data: it is empty, or begins with an incomplete one
 abbrev pub Stops : FileHeader → List ℕ → Option cut.CutOff → Type 0
 Stops header rest None = rest ≡ []
 Stops header rest (Some e) = ReadsRecord header rest (Err e)
 
--- The whole records at the front of the data have `passed` bytes, whatever follows the data.
-pub record TellsFront (header : FileHeader) (is_quiet : Bool) (before : Totals) (s : List ℕ)
-    (passed : ℕ) (after : Totals) (stop : Option cut.CutOff) (old new : Option (List ℕ))
-    : Type 0 where
-  pub within : passed ≤ length s
-  pub lines : List ℕ
-  pub leads : (more : List ℕ)
-      → GoesOn header before (s ++ more) lines after (drop passed s ++ more)
-  pub stops : Stops header (drop passed s) stop
-  pub written : Appends old new (unless_quiet is_quiet lines)
-
--- what is left of known bytes after `len` of them; or how many there were, if fewer than `len`
-abbrev pub Skips : Option (List ℕ) → ℕ → Option ℕ → Option (List ℕ) → Type 0
-Skips None len there after = Unit {0}
-Skips (Some s) len there None = ⊥
-Skips (Some s) len None (Some rest) = (len ≤ length s) × (rest ≡ drop len s)
-Skips (Some s) len (Some there) (Some rest) = (length s < len) × (there ≡ length s)
+-- this many bytes were taken from the input
+pub record Skips (len : ℕ) (input rest : Option (List ℕ)) : Type 0 where
+  pub bytes : List ℕ
+  pub many : length bytes ≡ len
+  pub taken : Consumes input rest bytes

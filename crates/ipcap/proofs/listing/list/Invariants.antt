@@ -1,5 +1,5 @@
 use Rattle.std.specs.Io.KnownBytes.{append_known, prepend_known}
-use Rattle.ipcap.specs.Private.Progress.{TellsKnown}
+use Rattle.ipcap.specs.Private.Progress.{Told}
 use Rattle.ipcap.specs.Totals.{nothing_counted}
 use Rattle.ipcap.specs.Private.Window.{unread}
 use Rattle.ipcap.specs.declared.listing.Turn.TheVariants.{GoesOn}
@@ -9,5 +9,5 @@ abbrev pub invariant-turns : goal.invariant-turns
 invariant-turns g l =
     let contents = g.W.Write.contents in
     let remaining = g.R.Read.remaining in
-    TellsKnown l.header l.is_quiet nothing_counted (prepend_known (unread l.fn.window) (remaining l.fn.reader)) l.totals (prepend_known (unread l.window) (remaining l.reader)) GoesOn
+    Told l.header l.is_quiet nothing_counted l.totals GoesOn (prepend_known (unread l.fn.window) (remaining l.fn.reader)) (prepend_known (unread l.window) (remaining l.reader))
     (append_known (contents l.fn.writer) l.fn.text.items) (append_known (contents l.writer) l.text.items)

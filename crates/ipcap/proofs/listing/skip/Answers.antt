@@ -1,18 +1,28 @@
-use Rattle.std.proofs.Common.{◌≤◌, length, arith, ap}
-use Rattle.ipcap.proofs.Skipped.{skips_kept, skips_more}
-use Rattle.ipcap.specs.Private.Window.{unread}
+use Rattle.std.proofs.Common.{ℕ, length, arith, ap, length-drop, refl}
+use Rattle.std.proofs.KnownBytes.{Consumes-kept}
+use Rattle.ipcap.proofs.Runs.{skips_end, skips_more}
 use Rattle.ipcap.proofs.listing.skip.Goals as goal
 
 pub returns-then-left-eq0 : goal.returns-then-left-eq0
 returns-then-left-eq0 g c =
-    let within : c.min-passed.result ≤ length (unread c.turns.window) = omega (arith, c.min-passed.ensures, ap length c.unread.ensures.value) in
-    skips_more _ _ _ _ _ _ _ c.turns.invariant.passed c.pass.ensures within (omega (arith, c.turns.invariant.within, c.min-passed.ensures, c.if-left-eq0.true))
+    let was = c.turns.invariant in
+    skips_more _ _ _ _ _ _ _ _ _ was.passed was.within c.unread.ensures.value c.min-passed.ensures c.pass.ensures (omega (arith, c.if-left-eq0.true))
+
+pub returns-then-not-branch : goal.returns-then-not-branch
+returns-then-not-branch g c =
+    let was = c.turns.invariant in
+    let skipped = skips_more _ _ _ _ _ _ _ _ _ was.passed was.within c.unread.ensures.value c.min-passed.ensures c.pass.ensures refl in
+    let end = c.in_ok-fill.ensures in (
+      omega (arith, was.within, c.if-left-eq0.false),
+      skips_end _ _ _ _ _ _ skipped end.kept (end.same c.if-not-branch.true) (end.at_end c.if-not-branch.true)
+          (omega (arith, ap length c.pass.ensures, ap length c.unread.ensures.value, length-drop {A = ℕ}, c.min-passed.ensures, c.if-left-eq0.false)),
+    )
 
 pub turns-preserved : goal.turns-preserved
 turns-preserved g c =
-    let within : c.min-passed.result ≤ length (unread c.turns.window) = omega (arith, c.min-passed.ensures, ap length c.unread.ensures.value) in
+    let was = c.turns.invariant in
+    let skipped = skips_more _ _ _ _ _ _ _ _ _ was.passed was.within c.unread.ensures.value c.min-passed.ensures c.pass.ensures refl in
     record {
-      within = omega (arith, c.turns.invariant.within);
-      passed = skips_kept _ _ _ _ (skips_more _ _ _ _ _ _ _ c.turns.invariant.passed c.pass.ensures within (omega (arith, c.turns.invariant.within, c.min-passed.ensures)))
-          c.in_ok-fill.ensures.kept;
+      within = omega (arith, was.within);
+      passed = record { bytes = skipped.bytes; many = skipped.many; taken = Consumes-kept _ _ _ _ skipped.taken c.in_ok-fill.ensures.kept };
     }

@@ -1,4 +1,4 @@
-use Rattle.std.proofs.Common.{◌-◌, ◌≤◌, None}
+use Rattle.std.proofs.Common.{◌-◌, ◌≤◌}
 use Rattle.std.specs.Io.KnownBytes.{prepend_known}
 use Rattle.ipcap.specs.Private.Progress.{Skips}
 use Rattle.ipcap.specs.Private.Window.{unread}
@@ -9,5 +9,5 @@ invariant-turns g l =
     let remaining = g.R.Read.remaining in
     record {
       within : l.left ≤ l.len;
-      passed : Skips (prepend_known (unread l.fn.window) (remaining l.fn.reader)) (l.len - l.left) None (prepend_known (unread l.window) (remaining l.reader));
+      passed : Skips (l.len - l.left) (prepend_known (unread l.fn.window) (remaining l.fn.reader)) (prepend_known (unread l.window) (remaining l.reader));
     }
