@@ -3,9 +3,9 @@ use Rattle.std.proofs.Common.{ℕ, zero, suc, List, [], ◌∷◌, ◌≡◌, �
 use Rattle.std.proofs.Math.Nat.{zero-div}
 use Rattle.std.proofs.lemmas.Nat.{shr-shr}
 use Rattle.std.specs.Int.{from_le_bytes}
-use Rattle.etherparse_base.specs.WordSums.{end_around_sum, folded_sum, little_endian_word_sum}
+use Rattle.etherparse_base.specs.WordSums.{folded_sum, little_endian_word_sum}
 use Rattle.etherparse_base.specs.Private.WideSums.{SameFold}
-use Rattle.etherparse_base.proofs.FoldedSums.{folded_sum-end_around_sum, folded_sum-plus, same_fold}
+use Rattle.etherparse_base.proofs.FoldedSums.{folded_sum-plus, same_fold}
 
 -- the number of bytes, the low byte first
 abbrev pub number : List ℕ → ℕ
@@ -44,13 +44,11 @@ last_bytes count bytes eight are_bytes few =
     rw (shr-shr whole 8 (56 - 8 * count) ∙ ap (λ b. whole / 2 ^ b) (omega (arith, few)) ∙ ap (λ v. v / 2 ^ (8 * (8 - count))) (eight_number bytes eight)
     ∙ number-drop (8 - count) bytes are_bytes) (number_folded (drop (8 - count) bytes))
 
--- a number that is added with the end-around carry adds what the words of its bytes do
-pub adds_around : (greatest k start value answer : ℕ) (bytes : List ℕ) → answer ≡ end_around_sum greatest start value → value ≡ number bytes → greatest ≡ 65535 * k
-    → folded_sum answer ≡ folded_sum (start + little_endian_word_sum bytes)
-adds_around greatest k start value answer bytes sum is e =
+-- a number that is added in folds adds what the words of its bytes do
+pub adds_number : (start value answer : ℕ) (bytes : List ℕ) → SameFold answer (start + value) → value ≡ number bytes → folded_sum answer ≡ folded_sum (start + little_endian_word_sum bytes)
+adds_number start value answer bytes adds is =
     let same = number_folded bytes in
-    ap folded_sum sum ∙ folded_sum-end_around_sum greatest k start value e
-    ∙ same_fold (start + value) (start + little_endian_word_sum bytes) (omega arith) (λ none. omega arith) (λ none. omega arith)
+    same_fold answer (start + little_endian_word_sum bytes) (omega arith) (λ none. omega arith) (λ none. omega arith)
 
 -- eight bytes of some, as the sum of their words
 abbrev pub eight_at : List ℕ → ℕ → ℕ

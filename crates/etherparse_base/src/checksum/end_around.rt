@@ -1,7 +1,8 @@
 //! Sums with the end-around carry: a carry out of the width is added at the low end (RFC 1071
 //! section 1).
 
-ghost use Rattle.std.specs.Prelude.{◌≡◌};
+ghost use Rattle.std.specs.Prelude.{◌≡◌, ◌+◌};
+ghost use Rattle.etherparse_base.specs.Private.WideSums.{SameFold};
 ghost use Rattle.etherparse_base.specs.WordSums.{checksum_of, end_around_sum, folded_sum};
 ghost use Rattle.etherparse_base.specs.WordSums.{with_no_zero};
 
@@ -9,6 +10,7 @@ ghost use Rattle.etherparse_base.specs.WordSums.{with_no_zero};
 #[inline(always)]
 pub(super) fn add_u64(a: u64, b: u64) -> u64
     ensures sum { result ≡ end_around_sum u64.MAX a b }
+    ensures folded { SameFold result (a + b) }
 {
     let (sum, carry) = a.overflowing_add(b);
     if carry { sum + 1 } else { sum }
@@ -18,6 +20,7 @@ pub(super) fn add_u64(a: u64, b: u64) -> u64
 #[inline(always)]
 pub(super) fn add_u32(a: u32, b: u32) -> u32
     ensures sum { result ≡ end_around_sum u32.MAX a b }
+    ensures folded { SameFold result (a + b) }
 {
     let (sum, carry) = a.overflowing_add(b);
     if carry { sum + 1 } else { sum }

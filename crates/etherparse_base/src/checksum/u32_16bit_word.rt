@@ -50,7 +50,7 @@ pub fn add_slice(start_sum: u32, slice: &[u8]) -> u32
 /// The sum of all pieces, from 0, each added by [`add_slice`]: an odd piece is padded by itself.
 ///
 /// The Rust crate has no such call.
-#[tactic(auto, using(std::proofs::lemmas::Grind::common_steps, crate::proofs::WordSumLaws::adds_slices))]
+#[tactic(auto, using(std::proofs::lemmas::List::take_all, crate::proofs::WordSumLaws::adds_slices))]
 pub fn add_slices(pieces: &[&[u8]]) -> u32
     ensures adds { AddsSlices (map (λ piece. piece.now) pieces.now) result }
 {

@@ -74,7 +74,7 @@ pub fn add_slice(start_sum: u64, slice: &[u8]) -> u64
 /// let checksum = u64_16bit_word::ones_complement_with_no_zero(sum);
 /// assert!(rt; checksum.to_le_bytes() == [0x91, 0xae]);
 /// ```
-#[tactic(auto, using(std::proofs::lemmas::Grind::common_steps, crate::proofs::WordSumLaws::adds_slices))]
+#[tactic(auto, using(std::proofs::lemmas::List::take_all, crate::proofs::WordSumLaws::adds_slices))]
 pub fn add_slices(pieces: &[&[u8]]) -> u64
     ensures adds { AddsSlices (map (λ piece. piece.now) pieces.now) result }
 {
