@@ -21,7 +21,7 @@ text_of_number number text n [] = []
 text_of_number number text n (x ∷ xs) =
     if n == number x then text x else text_of_number number text n xs
 
--- of a length, by the number of its layer
+-- the error of a length with these numbers, in this layer
 abbrev pub len_error_in : Layer → Error → LenError
 len_error_in l e = record {
   required_len = e.required_len;
@@ -31,6 +31,7 @@ len_error_in l e = record {
   layer_start_offset = e.layer_start_offset;
 }
 
+-- of a length that is too small, by the number of the layer
 abbrev pub len_text : Error → List ℕ
 len_text e = text_of_number layer_in_c (λ l. len_error_text (len_error_in l e)) e.layer
     (layer.Ipv4Header ∷ layer.Ipv4Packet ∷ layer.Ipv6Header ∷ layer.Ipv6ExtHeader ∷ [])
@@ -40,7 +41,7 @@ version_text e =
     if e.layer == 1 then ipv4_header_error_text (ipv4.UnexpectedVersion e.number)
     else (if e.layer == 3 then ipv6_header_error_text (ipv6.UnexpectedVersion e.number) else [])
 
--- of a value that is too big, by its number
+-- of a value that is too big, by the number of the value
 abbrev pub value_text : Error → List ℕ
 value_text e = text_of_number value_in_c (λ v. value_too_big_error_text
     (record { actual = e.len; max_allowed = e.limit; value_type = v })) e.number

@@ -103,7 +103,8 @@ pub extern "C" fn etherparse_ipv6_read(slice: &[u8]) -> Ipv6ReadAnswer
 pub extern "C" fn etherparse_ipv6_write(fields: &Ipv6Fields) -> Ipv6Bytes
     ensures layout { fields.now.flow_label < 2 ^ 20 →
         GivesAnswer (AreWrittenForIpv6 fields.now) (bytes_in_c 40) (result.bytes, result.len) }
-    ensures refused { ¬ (fields.now.flow_label < 2 ^ 20) → (result.bytes, result.len) ≡ bytes_in_c 40 [] }
+    ensures refused { ¬ (fields.now.flow_label < 2 ^ 20) →
+        (result.bytes, result.len) ≡ bytes_in_c 40 [] }
 {
     match header_of(fields) {
         Some(header) => {

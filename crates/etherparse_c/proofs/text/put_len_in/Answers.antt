@@ -1,4 +1,4 @@
-use Rattle.std.proofs.Common.{ℕ, ◌≡◌, ◌<◌, ◌++◌, List, [], append_assoc, arith, codes, decimal, refl, subst}
+use Rattle.std.proofs.Common.{ℕ, ◌≡◌, ◌++◌, List, [], append_assoc, arith, codes, decimal, refl, subst}
 use Rattle.std.proofs.lemmas.Bool.{lt-ltb}
 use Rattle.std.specs.Prelude.{if◌then◌else◌, nat_lt}
 use Rattle.etherparse_c.specs.ErrorText.{GivesText}
