@@ -12,7 +12,7 @@ use Rattle.etherparse_fields.specs.IpEcn.{ecn_value}
 use Rattle.etherparse_fields.specs.Ipv4Options.{IsOptionsLen}
 use Rattle.etherparse_fields.specs.declared.net.ip_ecn.IpEcn.{IpEcn}
 use Rattle.etherparse_fields.specs.declared.net.ip_ecn.IpEcn.TheVariants.{CongestionExperienced, Ect0, Ect1, NotEct}
-use Rattle.etherparse.proofs.Layouts.{AllFit, Field, array, length-written, read_back, told, u16, u16_fits, u8, written}
+use Rattle.etherparse.proofs.Layouts.{AllFit, AreAt, Field, array, length-written, read_back, told, u16, u16_fits, u8, written}
 use Rattle.etherparse.proofs.Parts.{get_or-slice_range, length-part, set_is_bytes}
 use Rattle.etherparse.specs.FirstByte.{ihl_of, version_of}
 use Rattle.etherparse.specs.Ipv4Header.{IsIpv4Layout, IsIpv4LayoutWith, ipv4_ihl, with_reserved_bit_cleared}
@@ -115,8 +115,10 @@ spelling h flags = written (ipv4_fields h flags) h.options
 
 -- a byte list in the layout is the header's spelling
 pub spelled : (h : Ipv4Header) (r : ℕ) (p : List ℕ) → IsIpv4LayoutWith h r p → p ≡ spelling h (flags_word h r)
-spelled h r p l = told p 0 (ipv4_fields h (flags_word h r)) h.options l.are_bytes (omega (arith, l.len)) (l.version_ihl, (l.dscp_ecn, (l.total_len, (l.identification,
-    (l.flags_fragment_offset, (l.time_to_live, (l.protocol, (l.header_checksum, (l.source, (l.destination, l.options))))))))))
+spelled h r p l =
+    let fields : AreAt p 0 (ipv4_fields h (flags_word h r)) h.options =
+    (l.version_ihl, (l.dscp_ecn, (l.total_len, (l.identification, (l.flags_fragment_offset, (l.time_to_live, (l.protocol, (l.header_checksum, (l.source, (l.destination, l.options)))))))))) in
+    told p 0 (ipv4_fields h (flags_word h r)) h.options l.are_bytes (omega (arith, l.len)) fields
 
 -- a header has one list of bytes for each reserved bit
 pub same_bytes : (h : Ipv4Header) (r : ℕ) (p q : List ℕ) → IsIpv4LayoutWith h r p → IsIpv4LayoutWith h r q → p ≡ q
