@@ -1,11 +1,9 @@
 -- Laws of the IPv4 layout.
-use Rattle.std.proofs.Common.{ℕ, zero, suc, ◌≡◌, ◌+◌, ◌-◌, ◌*◌, ◌/◌, ◌%◌, ◌^◌, ◌<◌, ◌≤◌, List, [], ◌∷◌, ◌++◌, length, get_or, take, drop, refl, sym, subst, ap, ◌∙◌, arith, rules, append_assoc, length-append, length-drop, Bool, true, false}
+use Rattle.std.proofs.Common.{ℕ, zero, suc, ◌≡◌, ◌+◌, ◌-◌, ◌*◌, ◌/◌, ◌%◌, ◌^◌, ◌<◌, ◌≤◌, List, [], ◌∷◌, ◌++◌, length, get_or, drop, refl, sym, subst, ap, ◌∙◌, arith, rules, append_assoc, length-drop, Bool, true, false}
 use Rattle.std.specs.Prelude.{◌↔◌, bit_and, not, nat_eq}
 use Rattle.std.specs.List.{slice_range}
-use Rattle.std.specs.Int.{from_be_bytes, from_bool, to_be_bytes, w16}
+use Rattle.std.specs.Int.{from_be_bytes, from_bool, w16}
 use Rattle.std.proofs.lemmas.Bool.{eq-eqb, ne_eqb}
-use Rattle.std.proofs.lemmas.List.{drop_at, take_at}
-use Rattle.std.proofs.lemmas.Nat.{from_be_bytes-to_be_bytes_2}
 use Rattle.std.proofs.lemmas.Nat.Bits.{and_pow}
 use Rattle.etherparse_base.specs.Bytes.{IsBytes}
 use Rattle.etherparse_fields.specs.IpEcn.{ecn_value}

@@ -1,14 +1,12 @@
 -- Parts of a list: fronts, ranges, and what follows them.
-use Rattle.std.proofs.Common.{ℕ, zero, suc, ◌≡◌, ◌+◌, ◌-◌, ◌*◌, ◌%◌, ◌^◌, ◌<◌, ◌≤◌, List, [], ◌∷◌, map, ◌++◌, length, get_or, get_or-set_other, take, drop, refl, sym, ap, ◌∙◌, inl, inr, lit<, arith, w16}
-use Rattle.std.specs.Int.{from_be_bytes, to_be_bytes}
+use Rattle.std.proofs.Common.{ℕ, zero, suc, ◌≡◌, ◌+◌, ◌-◌, ◌%◌, ◌^◌, ◌<◌, ◌≤◌, List, [], ◌∷◌, map, ◌++◌, length, get_or, get_or-set_other, take, drop, refl, sym, ap, ◌∙◌, inl, inr, lit<, arith, w16}
+use Rattle.std.specs.Int.{to_be_bytes}
 use Rattle.std.specs.List.{concat, slice_range, range_with_len}
 use Rattle.std.specs.Prelude.{slice_set}
 use Rattle.std.proofs.lemmas.Bool.{cases_eq, cases_lt}
 use Rattle.std.proofs.lemmas.Grind.{common_steps, get_or-set_at}
 use Rattle.std.proofs.lemmas.List.{drop_at, get_or-append_right, get_or_append_left, get_or_past, length-take, take_at}
-use Rattle.std.proofs.lemmas.List.Folds.{drop_split}
 use Rattle.std.proofs.lemmas.List.FromFn.{fill_by_all}
-use Rattle.std.proofs.Math.Seq.{take-append-add}
 use Rattle.std.proofs.lemmas.Nat.{be_bytes_2, from_be_bytes-to_be_bytes_2}
 use Rattle.etherparse_base.specs.Bytes.{IsBytes, words_of}
 
