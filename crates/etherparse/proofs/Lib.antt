@@ -8,9 +8,7 @@ mod Ipv4Reading
 pub mod Ipv6Layout
 mod Ipv6Reading
 pub mod Layouts
-mod LimitedWalk
 pub mod Parts
-mod SkippableNumbers
-mod SkippedHeaders
+mod Walks
 pub use Rattle.etherparse_base.proofs.FoldedSums
 pub use Rattle.etherparse_base.proofs.WordSumLaws
