@@ -2,7 +2,6 @@ pub mod ExtensionHeaderChain
 mod Fields
 pub mod Fronts
 pub mod HeaderChecksum
-pub mod InPlace
 pub mod Ipv4Layout
 mod Ipv4Reading
 pub mod Ipv6Layout

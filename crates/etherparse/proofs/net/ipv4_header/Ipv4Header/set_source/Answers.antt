@@ -1,12 +1,9 @@
 use Rattle.std.proofs.Common.{arith}
-use Rattle.etherparse.proofs.HeaderChecksum.{keeps_checksum, source_changes}
-use Rattle.etherparse.proofs.InPlace.{changes_in_place, source_field}
+use Rattle.etherparse.proofs.HeaderChecksum.{source_set}
 use Rattle.etherparse.proofs.net.ipv4_header.Ipv4Header.set_source.Goals as goal
 
 pub returns-clause-keeps_checksum : goal.returns-clause-keeps_checksum
-returns-clause-keeps_checksum c = keeps_checksum _ _ _ _ c.update_4bytes-self.ensures.updates
-    (source_changes c.args.self.now c.args.source c.update_4bytes-self.result)
+returns-clause-keeps_checksum c = (source_set _ _ _ (omega arith) c.are_bytes.ensures (omega arith) c.update_4bytes-self.ensures.updates).0
 
 pub returns-clause-in_place : goal.returns-clause-in_place
-returns-clause-in_place c = changes_in_place _ _ _ _
-    (source_field c.args.self.now c.args.source c.update_4bytes-self.result (omega arith) c.are_bytes.ensures (omega arith)) (returns-clause-keeps_checksum c)
+returns-clause-in_place c = (source_set _ _ _ (omega arith) c.are_bytes.ensures (omega arith) c.update_4bytes-self.ensures.updates).1
