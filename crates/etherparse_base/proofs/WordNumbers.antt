@@ -3,12 +3,12 @@ use Rattle.std.proofs.Common.{ℕ, zero, suc, List, [], ◌∷◌, ◌≡◌, �
 use Rattle.std.proofs.Math.Nat.{zero-div}
 use Rattle.std.proofs.lemmas.Nat.{shr-shr}
 use Rattle.std.specs.Int.{from_le_bytes}
-use Rattle.etherparse_base.specs.WordSums.{folded_sum, little_endian_word_sum}
+use Rattle.etherparse_base.specs.WordSums.{folded_sum, little_endian_word_sum, weighted_byte_sum}
 use Rattle.etherparse_base.specs.Private.WideSums.{SameFold}
-use Rattle.etherparse_base.proofs.FoldedSums.{folded_sum-plus, same_fold}
+use Rattle.etherparse_base.proofs.FoldedSums.{folded_sum_value}
 
 -- the number of bytes, the low byte first
-abbrev pub number : List ℕ → ℕ
+abbrev number : List ℕ → ℕ
 number [] = 0
 number (byte ∷ bytes) = byte + 256 * number bytes
 
@@ -19,13 +19,20 @@ number_folded (low ∷ high ∷ bytes) =
 number_folded (low ∷ []) = record { apart = omega arith; none = omega arith; some = omega arith }
 number_folded [] = record { apart = refl; none = omega arith; some = omega arith }
 
-pub four_number : (bytes : List ℕ) → length bytes ≡ 4 → from_le_bytes w32 bytes ≡ number bytes
-four_number (a ∷ b ∷ c ∷ d ∷ []) four = omega arith
-four_number bytes four = absurd (omega (arith, four))
+-- a number that is added in folds adds what the words of its bytes do
+pub adds_four : (start answer : ℕ) (bytes : List ℕ) → length bytes ≡ 4 → SameFold answer (start + from_le_bytes w32 bytes)
+    → folded_sum answer ≡ folded_sum (start + little_endian_word_sum bytes)
+adds_four start answer (a ∷ b ∷ c ∷ d ∷ []) four adds = grind (arith, folded_sum_value)
+adds_four start answer bytes four adds = absurd (omega (arith, four))
 
-pub eight_number : (bytes : List ℕ) → length bytes ≡ 8 → from_le_bytes w64 bytes ≡ number bytes
+eight_number : (bytes : List ℕ) → length bytes ≡ 8 → from_le_bytes w64 bytes ≡ number bytes
 eight_number (a ∷ b ∷ c ∷ d ∷ e ∷ f ∷ g ∷ h ∷ []) eight = omega arith
 eight_number bytes eight = absurd (omega (arith, eight))
+
+pub adds_eight : (start answer : ℕ) (bytes : List ℕ) → length bytes ≡ 8 → SameFold answer (start + from_le_bytes w64 bytes)
+    → folded_sum answer ≡ folded_sum (start + little_endian_word_sum bytes)
+adds_eight start answer bytes eight adds =
+    let same = number_folded bytes in let is = eight_number bytes eight in grind (arith, folded_sum_value)
 
 -- a number without its low bytes is that of the others
 number-drop : (count : ℕ) (bytes : List ℕ) → ((i : ℕ) → slice_index bytes i < 256) → number bytes / 2 ^ (8 * count) ≡ number (drop count bytes)
@@ -44,21 +51,9 @@ last_bytes count bytes eight are_bytes few =
     rw (shr-shr whole 8 (56 - 8 * count) ∙ ap (λ b. whole / 2 ^ b) (omega (arith, few)) ∙ ap (λ v. v / 2 ^ (8 * (8 - count))) (eight_number bytes eight)
     ∙ number-drop (8 - count) bytes are_bytes) (number_folded (drop (8 - count) bytes))
 
--- a number that is added in folds adds what the words of its bytes do
-pub adds_number : (start value answer : ℕ) (bytes : List ℕ) → SameFold answer (start + value) → value ≡ number bytes → folded_sum answer ≡ folded_sum (start + little_endian_word_sum bytes)
-adds_number start value answer bytes adds is =
-    let same = number_folded bytes in
-    same_fold answer (start + little_endian_word_sum bytes) (omega arith) (λ none. omega arith) (λ none. omega arith)
-
--- eight bytes of some, as the sum of their words
-abbrev pub eight_at : List ℕ → ℕ → ℕ
-eight_at bytes k = little_endian_word_sum (get_or bytes k 0 ∷ get_or bytes (1 + k) 0 ∷ get_or bytes (2 + k) 0 ∷ get_or bytes (3 + k) 0
-    ∷ get_or bytes (4 + k) 0 ∷ get_or bytes (5 + k) 0 ∷ get_or bytes (6 + k) 0 ∷ get_or bytes (7 + k) 0 ∷ [])
-
--- two halves of sixteen bytes, one after the other
-pub two_halves : (start half answer : ℕ) (bytes : List ℕ) → length bytes ≡ 16 → folded_sum half ≡ folded_sum (start + eight_at bytes 0)
-    → folded_sum answer ≡ folded_sum (half + eight_at bytes 8) → folded_sum answer ≡ folded_sum (start + little_endian_word_sum bytes)
-two_halves start half answer (a ∷ b ∷ c ∷ d ∷ e ∷ f ∷ g ∷ h ∷ i ∷ j ∷ k ∷ l ∷ m ∷ n ∷ o ∷ p ∷ []) sixteen first last =
-    last ∙ folded_sum-plus half (start + eight_at (a ∷ b ∷ c ∷ d ∷ e ∷ f ∷ g ∷ h ∷ []) 0) (eight_at (i ∷ j ∷ k ∷ l ∷ m ∷ n ∷ o ∷ p ∷ []) 0) first
-    ∙ ap folded_sum (omega arith)
-two_halves start half answer bytes sixteen first last = absurd (omega (arith, sixteen))
+-- the sum of sixteen bytes, one by one
+pub sixteen : (weight other : ℕ) (bytes : List ℕ) → length bytes ≡ 16 → weighted_byte_sum weight other bytes
+    ≡ weighted_byte_sum weight other (get_or bytes 0 0 ∷ get_or bytes 1 0 ∷ get_or bytes 2 0 ∷ get_or bytes 3 0 ∷ get_or bytes 4 0 ∷ get_or bytes 5 0 ∷ get_or bytes 6 0 ∷ get_or bytes 7 0
+    ∷ get_or bytes 8 0 ∷ get_or bytes 9 0 ∷ get_or bytes 10 0 ∷ get_or bytes 11 0 ∷ get_or bytes 12 0 ∷ get_or bytes 13 0 ∷ get_or bytes 14 0 ∷ get_or bytes 15 0 ∷ [])
+sixteen weight other (a ∷ b ∷ c ∷ d ∷ e ∷ f ∷ g ∷ h ∷ i ∷ j ∷ k ∷ l ∷ m ∷ n ∷ o ∷ p ∷ []) is = refl
+sixteen weight other bytes is = absurd (omega (arith, is))

@@ -3,7 +3,7 @@
 ghost use Rattle.std.specs.Prelude.{ℕ, ◌≡◌, ◌<◌, ◌≤◌, ◌+◌, ◌-◌, ◌*◌, ◌%◌, ◌^◌};
 ghost use Rattle.std.specs.Prelude.{List, [], drop, length};
 ghost use Rattle.std.specs.Simd.Lanes.{sum_l};
-ghost use Rattle.etherparse_base.specs.Private.WideSums.{SameFold, Splits, StandsFor, halves_sum};
+ghost use Rattle.etherparse_base.specs.Private.WideSums.{SameFold, StandsFor, halves_in, halves_sum};
 ghost use Rattle.etherparse_base.specs.WordSums.{little_endian_word_sum};
 
 use std::simd::prelude::*;
@@ -177,8 +177,7 @@ pub(super) fn split_four_words(bytes: &[u8]) -> ([u64; 4], &[u8])
 #[inline(always)]
 pub(super) fn halves_sum_of(total: u64x4, high: u64x4) -> u64
     requires { length high ≡ 4 }
-    ensures halves { (low : List ℕ) → Splits total low high → sum_l low + sum_l high < 2 ^ 64
-        → result ≡ sum_l low + sum_l high }
+    ensures halves { halves_in total high < 2 ^ 64 → result ≡ halves_in total high }
 {
     let low = total - (high << u64x4::splat(32));
     (low + high).reduce_sum()
