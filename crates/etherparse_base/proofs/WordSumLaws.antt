@@ -1,8 +1,8 @@
 -- Laws of the sums of words: the other order of bytes, a changed byte, pieces exchanged or cut.
-use Rattle.std.proofs.Common.{ℕ, zero, suc, List, [], ◌∷◌, ◌++◌, ◌≡◌, ◌≢◌, if◌then◌else◌, ◌==◌, ◌↔◌, ◌<◌, ◌≤◌, ◌+◌, ◌-◌, ◌*◌, ◌%◌, ◌∙◌, ap, arith, drop, length, refl, slice_index, slice_set, sym, take, w16}
+use Rattle.std.proofs.Common.{ℕ, zero, suc, List, [], ◌∷◌, ◌++◌, ◌≡◌, ◌≢◌, if◌then◌else◌, ◌==◌, ◌↔◌, ◌<◌, ◌≤◌, ◌+◌, ◌-◌, ◌*◌, ◌%◌, ◌∙◌, ap, arith, drop, drop-drop, length, refl, slice_index, slice_set, sym, take, w16}
 use Rattle.std.proofs.Math.ListN.{drop_of_length-le}
 use Rattle.std.proofs.lemmas.Bool.Decides.{nat_tests}
-use Rattle.std.proofs.lemmas.List.{length-take, take-append-drop}
+use Rattle.std.proofs.lemmas.List.{length-drop, length-take, take-append-drop, take_rest}
 use Rattle.std.proofs.lemmas.List.Sums.{sum_by-append, sum_by-cons}
 use Rattle.std.specs.Int.{swap_bytes, to_be_bytes}
 use Rattle.etherparse_base.specs.WordSums.{AddsSlice, AddsSlices, ChangesOneByte, Complements, ComplementsWithNoZero, IsSumOf, SumsToAllOnes, UpdatesChecksum, UpdatesChecksumWithNoZero}
@@ -150,3 +150,6 @@ adds_slices pieces answer sum = record {
       let words = little_endian_word_sum-append front back even in
       sum ∙ ap ones_complement_sum is ∙ ap folded_sum (simp (sum_by-append, sum_by-cons) (omega arith));
 }
+
+-- the words of a front and of what follows it
+pub ruleset cuts = (little_endian_word_sum-cut, word_sum_past, drop-drop, length-drop, take_rest)

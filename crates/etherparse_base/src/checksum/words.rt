@@ -23,6 +23,7 @@ pub(super) fn split_word(bytes: &[u8]) -> (u64, &[u8])
 /// The whole words of eight bytes, and the bytes after them as one number. These bytes are read as
 /// the end of the last eight bytes, so no branch depends on how many they are.
 #[inline(always)]
+#[tactic(auto, using(crate::proofs::WordSumLaws::cuts))]
 pub(super) fn split_odd_bytes(bytes: &[u8]) -> (&[u8], u64)
     requires { 8 ≤ length bytes.now }
     ensures stands_for { StandsFor result.1 bytes.now result.0.now }
@@ -72,6 +73,7 @@ fn word_or_zero(bytes: &[u8], place: usize) -> u64
 
 // The eight bytes at a place, or zeros. Only an address depends on which: there is no branch.
 #[inline(always)]
+#[tactic(auto, using(crate::proofs::WordSumLaws::cuts))]
 fn eight_or_zeros(bytes: &[u8], place: usize) -> &[u8]
     requires few { place ≤ 16 }
     requires eighths { length bytes.now % 8 ≡ place % 8 }
@@ -103,6 +105,7 @@ static ZEROS: [u8; 8] = [0; 8];
 
 // The first `count` bytes and what follows them; if there are fewer, zeros and all the bytes.
 #[inline(always)]
+#[tactic(auto, using(crate::proofs::WordSumLaws::cuts))]
 fn front_or_zeros<'a>(bytes: &'a [u8], count: usize) -> (&'a [u8], &'a [u8])
     requires even { count % 2 ≡ 0 }
     requires within { count ≤ 8 }
