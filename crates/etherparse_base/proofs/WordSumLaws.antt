@@ -5,12 +5,12 @@ use Rattle.std.proofs.lemmas.Bool.Decides.{nat_tests}
 use Rattle.std.proofs.lemmas.List.{length-drop, length-take, take-append-drop, take_rest}
 use Rattle.std.proofs.lemmas.List.Sums.{sum_by-append, sum_by-cons}
 use Rattle.std.specs.Int.{swap_bytes, to_be_bytes}
-use Rattle.etherparse_base.specs.WordSums.{AddsSlice, AddsSlices, ChangesOneByte, Complements, ComplementsWithNoZero, IsSumOf, SumsToAllOnes, UpdatesChecksum, UpdatesChecksumWithNoZero}
+use Rattle.etherparse_base.specs.WordSums.{AddsSlice, AddsSlices, Complements, ComplementsWithNoZero, IsSumOf, SumsToAllOnes, UpdatesChecksum, UpdatesChecksumWithNoZero}
 use Rattle.etherparse_base.specs.WordSums.{checksum_of, folded_sum, little_endian_word_sum, network_order_word_sum, ones_complement_sum, weighted_byte_sum, with_no_zero}
 use Rattle.etherparse_base.specs.Private.WideSums.{SameFold}
 use Rattle.etherparse_base.proofs.FoldedSums.{folded_sum-within, folded_sum_value, stands_for_words}
 
--- each of the two sums has the same fold as 256 times the other
+-- the sum in network order has the same fold as 256 times the other
 other_order : (bytes : List ℕ) → SameFold (256 * little_endian_word_sum bytes) (network_order_word_sum bytes)
 other_order [] = record { apart = refl; none = omega arith; some = omega arith }
 other_order (byte ∷ bytes) =
@@ -70,12 +70,6 @@ same_byte n (suc (suc place)) byte (x ∷ y ∷ bytes) within old new before aft
     same_byte (n + 256 * x + y) place byte bytes (omega arith) old new (omega arith) (omega arith)
 same_byte n place byte bytes within old new before after = absurd (omega arith)
 
--- bytes that sum to all ones do not with one of them changed
-one_byte_breaks : (bytes changed : List ℕ) → ((k : ℕ) → slice_index bytes k < 256) → SumsToAllOnes bytes → ChangesOneByte bytes changed → SumsToAllOnes changed → ⊥
-one_byte_breaks bytes changed are_bytes ones change again =
-    change.differs (same_byte 0 change.place change.byte bytes change.within (are_bytes change.place) change.is_byte
-    (omega (arith, folded_sum_value)) (rw (← change.changed) (omega (arith, folded_sum_value))))
-
 -- all that is known of a sum to which words were added, by its fold
 pub adds_slice : (start answer : ℕ) (bytes : List ℕ) → ((k : ℕ) → slice_index bytes k < 256)
     → folded_sum answer ≡ folded_sum (start + little_endian_word_sum bytes) → AddsSlice start bytes answer
@@ -85,7 +79,9 @@ adds_slice start answer bytes are_bytes sum =
       in_a_sum = stands_for_words start answer bytes sum;
       network_order = λ none. swap_bytes-folded_sum answer bytes (from_zero none);
       all_ones = λ none. all_ones answer bytes (from_zero none);
-      one_byte = λ ones changed change again. one_byte_breaks bytes changed are_bytes ones change again;
+      one_byte = λ ones changed change again.
+          change.differs (same_byte 0 change.place change.byte bytes change.within (are_bytes change.place) change.is_byte
+          (omega (arith, folded_sum_value)) (rw (← change.changed) (omega (arith, folded_sum_value))));
     }
 
 -- behind an even number of bytes a new word begins
@@ -144,11 +140,9 @@ adds_slices pieces answer sum = record {
   exchanged = λ before after first second is.
       sum ∙ ap ones_complement_sum is ∙ ap folded_sum (simp (sum_by-append, sum_by-cons) (omega arith));
   cut = λ before after front back is even.
-      let words = little_endian_word_sum-append front back even in
-      sum ∙ ap ones_complement_sum is ∙ ap folded_sum (simp (sum_by-append, sum_by-cons) (omega arith));
+      sum ∙ ap ones_complement_sum is ∙ ap folded_sum (simp (sum_by-append, sum_by-cons) (omega (arith, little_endian_word_sum-append front back even)));
   joined = λ before after front back is even.
-      let words = little_endian_word_sum-append front back even in
-      sum ∙ ap ones_complement_sum is ∙ ap folded_sum (simp (sum_by-append, sum_by-cons) (omega arith));
+      sum ∙ ap ones_complement_sum is ∙ ap folded_sum (simp (sum_by-append, sum_by-cons) (omega (arith, little_endian_word_sum-append front back even)));
 }
 
 -- the words of a front and of what follows it

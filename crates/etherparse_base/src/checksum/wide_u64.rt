@@ -161,7 +161,7 @@ fn add_turns<'a>(slice: &'a [u8]) -> Summed<'a>
     }
 }
 
-// Turns with another total. Theirs is kept apart instead.
+// Turns with another total, in whose place theirs is kept apart.
 #[inline(always)]
 #[tactic(auto, using(crate::proofs::LaneSums::lanes_turned))]
 fn with_total(at: Turns, total: u64x4) -> Turns

@@ -17,7 +17,7 @@ returns c =
     record {
       adds = λ slice beside rest few is i.
           let carries : (at.carries + c.from.result) % 2 ^ 64 ≡ at.carries + from_bool c.add_to_each-carry-2.result.1 = omega (arith, few) in
-          let more = lanes_more at.total beside at.high words (omega (arith, i.as_many, four)) (omega (arith, i.four, four)) (omega (arith, few)) in
+          let more = lanes_more at.total beside at.high words (omega (arith, i.as_many)) (omega (arith, i.four)) (omega (arith, few)) in
           rw (is, carries, sym after, zip2_splat (λ (a b : ℕ). a / 2 ^ b) words 4 32 four) record {
             four = omega (arith, length-lanes_added, length-map words (λ w. w / 2 ^ 32));
             as_many = omega (arith, length-lanes_added);
