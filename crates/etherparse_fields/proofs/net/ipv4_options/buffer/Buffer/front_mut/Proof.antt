@@ -59,7 +59,7 @@ abbrev first : ℕ → ℕ
 first o = o + up (align array) zero
 
 module _ {M : Type 1} {𝓤 : Ura M} (𝓛 : Logic 𝓤) (b o : ℕ) where
-  open 𝓛 use {H}
+  open 𝓛 use {A, H}
 
   abbrev Bytes : List ℕ → Fml
   Bytes xs = cells (mem u8) xs b (first o)
@@ -103,68 +103,64 @@ module _ {M : Type 1} {𝓤 : Ura M} (𝓛 : Logic 𝓤) (b o : ℕ) where
       use2 𝓛 (‵ (Tuple v)) (left_Struct 𝓛 full_share the_type.name fields (ys, tt) b o) $
       rewrite ! 0 (λ (owned : Fml). ‵ owned) (sym (as_tuple v)) refl $ done !
 
-module _ {M : Type 1} {𝓤 : Ura M} (𝓛 : Logic 𝓤) (κ : Lft) (q : Share)
-    (b o : ℕ) (γ : GName) (v : the_row.Denot) (len : ℕ) where
-  open 𝓛 use {A}
+  module _ (κ : Lft) (q : Share) (γ : GName) (v : the_row.Denot) (len : ℕ) where
+    abbrev front : List ℕ
+    front = take len v.bytes
 
-  abbrev front : List ℕ
-  front = take len v.bytes
+    abbrev back : List ℕ
+    back = after len v.bytes
 
-  abbrev back : List ℕ
-  back = after len v.bytes
+    -- the bytes after a front of n
+    abbrev After : ℕ → Fml
+    After n = cells (mem u8) back b (at (first o) (mem u8).size n)
 
-  -- the bytes after a front of n
-  abbrev After : ℕ → Fml
-  After n = cells (mem u8) back b (at (first o) (mem u8).size n)
+    abbrev Rest : SProp 𝓤
+    Rest = sep 𝓤 (sem 𝓛 (After (length front))) Husk
 
-  abbrev Rest : SProp 𝓤
-  Rest = sep 𝓤 (sem 𝓛 (After (length front))) (Husk 𝓛 b o)
+    whole : len ≤ 40 → length v.bytes ≡ 40 → (ws : List ℕ) → length ws ≡ length front
+        → ent 𝓤 (sep 𝓤 (sem 𝓛 (Bytes ws)) Rest)
+        (sem 𝓛 ((mem the_row).own_at (with_front v ws) b o))
+    whole within long ws same =
+        let count : length front ≡ len = length-take-le len v.bytes (omega arith) in
+        qed 𝓛 (‵ (Bytes ws) ∷ ‵ (After (length front)) ∷ raw Husk ∷ []) ∵
+        rewrite ! 1 (λ (n : ℕ). ‵ (After n)) (sym same) refl $
+        use2 𝓛 (‵ (Bytes (ws ++ back))) (join_app 𝓛 (mem u8) ws back b (first o)) $
+        rewrite ! 0 (λ (n : ℕ). ‵ (Bytes (ws ++ after n v.bytes))) (sym (same ∙ count)) refl $
+        by ! (bytes_in (with_front v ws) (simp (length-append, length-drop) (omega arith)))
 
-  whole : len ≤ 40 → length v.bytes ≡ 40 → (ws : List ℕ) → length ws ≡ length front
-      → ent 𝓤 (sep 𝓤 (sem 𝓛 (Bytes 𝓛 b o ws)) Rest)
-      (sem 𝓛 ((mem the_row).own_at (with_front v ws) b o))
-  whole within long ws same =
-      let count : length front ≡ len = length-take-le len v.bytes (omega arith) in
-      qed 𝓛 (‵ (Bytes 𝓛 b o ws) ∷ ‵ (After (length front)) ∷ raw (Husk 𝓛 b o) ∷ []) ∵
-      rewrite ! 1 (λ (n : ℕ). ‵ (After n)) (sym same) refl $
-      use2 𝓛 (‵ (Bytes 𝓛 b o (ws ++ back))) (join_app 𝓛 (mem u8) ws back b (first o)) $
-      rewrite ! 0 (λ (n : ℕ). ‵ (Bytes 𝓛 b o (ws ++ after n v.bytes))) (sym (same ∙ count)) refl $
-      by ! (bytes_in 𝓛 b o (with_front v ws) (simp (length-append, length-drop) (omega arith)))
+    -- the room as it is passed, and its front as it is returned under the name δ
+    abbrev room : MutBor the_row.Denot
+    room = record { ref_ptr = (b, o); ghost_name = γ; now = v }
 
-  -- the room as it is passed, and its front as it is returned under the name δ
-  abbrev room : MutBor the_row.Denot
-  room = record { ref_ptr = (b, o); ghost_name = γ; now = v }
+    abbrev slice : GName → MutBor (List ℕ)
+    slice δ = record { ref_ptr = (b, first o); ghost_name = δ; now = front }
 
-  abbrev slice : GName → MutBor (List ℕ)
-  slice δ = record { ref_ptr = (b, first o); ghost_name = δ; now = front }
+    -- the slice, of n bytes, the token, and what the room ends as
+    abbrev lent : ℕ → GName → Item 𝓤
+    lent n δ =
+        ‵ ((MutSlice (named 0) κ u8).own_val (slice δ) (slice_val (b, first o) n ∷ [])) ⊛ ‵ (flft κ q)
+        ⊛ ‵ (follows the_row (Array u8 0) γ δ (with_front v))
 
-  -- the slice, of n bytes, the token, and what the room ends as
-  abbrev lent : ℕ → GName → Item 𝓤
-  lent n δ =
-      ‵ ((MutSlice (named 0) κ u8).own_val (slice δ) (slice_val (b, first o) n ∷ [])) ⊛ ‵ (flft κ q)
-      ⊛ ‵ (follows the_row (Array u8 0) γ δ (with_front v))
-
-  lends : len ≤ 40 → (vs : List Val)
-      → ent 𝓤 (sep 𝓤 (sem 𝓛 ((MutRef (named 0) κ the_row).own_val room vs)) (A.lft κ q))
-      (mean 𝓛 (later (some (lent len))))
-  lends within vs =
-      qed 𝓛 (‵ ((MutRef (named 0) κ the_row).own_val room vs) ∷ ‵ (flft κ q) ∷ []) ∵
-      updating ! $ fsplit3 ! $ drop ! $ open_ref ! tt (mem the_row) {b = b} {o = o} $
-      use1 𝓛 (given (length v.bytes ≡ 40) (‵ (Bytes 𝓛 b o v.bytes) ⊛ raw (Husk 𝓛 b o)))
-      (bytes_out 𝓛 b o v) $
-      learn ! (λ long. split ! $
-      let count : length front ≡ len = length-take-le len v.bytes (omega arith) in
-      let fits : Room u8 (length front) = (omega arith, omega arith) in
-      let code = the_row.coded.code v in
-      rewrite ! 0 (λ (xs : List ℕ). ‵ (Bytes 𝓛 b o xs)) (sym (take-append-drop len v.bytes)) refl $
-      use1 𝓛 (‵ (Bytes 𝓛 b o front) ⊛ ‵ (After (length front)))
-      (cut_app 𝓛 (mem u8) front back b (first o)) $
-      split ! $ move ! (1 ∷ 2 ∷ []) $ join ! $ move ! (2 ∷ 3 ∷ 4 ∷ 1 ∷ 0 ∷ []) $ group ! 5 $
-      use1 𝓛 (later (some (lent (length front))))
-      (lends_Elements 𝓛 the_row u8 (with_front v) (named 0) κ q b o b (first o) γ front fits Rest
-      (whole within long) code code) $
-      await ! tt $ pick ! (λ δ. rewrite ! 0 (λ (n : ℕ). lent n δ) count refl $ now ! $
-      show ! (λ (δ' : GName). mean 𝓛 (lent len δ')) δ $ done !))
+    lends : len ≤ 40 → (vs : List Val)
+        → ent 𝓤 (sep 𝓤 (sem 𝓛 ((MutRef (named 0) κ the_row).own_val room vs)) (A.lft κ q))
+        (mean 𝓛 (later (some (lent len))))
+    lends within vs =
+        qed 𝓛 (‵ ((MutRef (named 0) κ the_row).own_val room vs) ∷ ‵ (flft κ q) ∷ []) ∵
+        updating ! $ fsplit3 ! $ drop ! $ open_ref ! tt (mem the_row) {b = b} {o = o} $
+        use1 𝓛 (given (length v.bytes ≡ 40) (‵ (Bytes v.bytes) ⊛ raw Husk)) (bytes_out v) $
+        learn ! (λ long. split ! $
+        let count : length front ≡ len = length-take-le len v.bytes (omega arith) in
+        let fits : Room u8 (length front) = (omega arith, omega arith) in
+        let code = the_row.coded.code v in
+        rewrite ! 0 (λ (xs : List ℕ). ‵ (Bytes xs)) (sym (take-append-drop len v.bytes)) refl $
+        use1 𝓛 (‵ (Bytes front) ⊛ ‵ (After (length front)))
+        (cut_app 𝓛 (mem u8) front back b (first o)) $
+        split ! $ move ! (1 ∷ 2 ∷ []) $ join ! $ move ! (2 ∷ 3 ∷ 4 ∷ 1 ∷ 0 ∷ []) $ group ! 5 $
+        use1 𝓛 (later (some (lent (length front))))
+        (lends_Elements 𝓛 the_row u8 (with_front v) (named 0) κ q b o b (first o) γ front fits Rest
+        (whole within long) code code) $
+        await ! tt $ pick ! (λ δ. rewrite ! 0 (λ (n : ℕ). lent n δ) count refl $ now ! $
+        show ! (λ (δ' : GName). mean 𝓛 (lent len δ')) δ $ done !))
 
 abbrev stayed : Stays f.ended.signature.params f.ended.kept
 stayed =
@@ -204,12 +200,12 @@ front_mut_spec 𝓤 𝓛 𝓜 𝓡 wired =
     sets ! (addr ! (through ! refl (fld ! refl (stop !)))) refl (tt, tt) $
     sets ! (agg ! (and_then ! (get ! refl) (and_then ! (get ! refl) (no_more !)))) refl
     (tt, (tt, (record { fits = fits }, tt))) $
-    let lent_at = lent 𝓛 κ q b o self.ghost_name v len len in
-    use2 𝓛 (later (some lent_at)) (lends 𝓛 κ q b o self.ghost_name v len within (mut_vals self)) $
+    let lent_at = lent 𝓛 b o κ q self.ghost_name v len len in
+    use2 𝓛 (later (some lent_at)) (lends 𝓛 b o κ q self.ghost_name v len within (mut_vals self)) $
     await ! tt $ pick ! (λ δ. split3 ! $
     -- [the slice; the token; what self ends as; the locals]
     returns ! (look_at ! 0 refl) $ free_all ! refl $ keep ! (0 ∷ 1 ∷ 2 ∷ []) $
-    let front = slice 𝓛 κ q b o self.ghost_name v len δ in
+    let front = slice 𝓛 b o κ q self.ghost_name v len δ in
     let returned = slice_val (b, first o) len in
     suffices ! _ (ends_at 𝓛 f.ended stayed c y returned front (tt, (tt, tt)) (tt, (tt, tt))) $
     nothing ! $ nothing ! $ fjoin ! $ nothing ! $ fjoin ! $ join ! $ move ! (1 ∷ []) $
