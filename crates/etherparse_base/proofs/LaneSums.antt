@@ -1,5 +1,5 @@
 -- Sums in lanes of 64 bits: the totals of words, and the sums of their low and high halves.
-use Rattle.std.proofs.Common.{ℕ, List, [], ◌∷◌, ◌≡◌, ◌<◌, ◌+◌, ◌/◌, ◌%◌, ◌^◌, ◌∙◌, arith, get_or, length, map, min, refl}
+use Rattle.std.proofs.Common.{ℕ, List, [], ◌∷◌, ◌≡◌, ◌<◌, ◌+◌, ◌-◌, ◌*◌, ◌/◌, ◌%◌, ◌^◌, ◌∙◌, arith, get_or, length, map, min, refl}
 use Rattle.std.specs.Simd.Lanes.{fold_l, sum_l, zip2}
 use Rattle.etherparse_base.specs.Private.WideSums.{halves_in, halves_sum, lanes_added}
 
@@ -32,10 +32,11 @@ lanes_more (t ∷ total) [] [] [] same four below = omega arith
 lanes_more total beside high words same four below = absurd (omega (arith, same, four))
 
 -- the sum over all lanes, where none overflows
-pub lanes_joined : (n : ℕ) (low high : List ℕ) → n + sum_l (zip2 (λ l h. l + h) low high) < 2 ^ 64
-    → fold_l (λ s x. (s + x) % 2 ^ 64) n (lanes_added low high) ≡ n + sum_l (zip2 (λ l h. l + h) low high)
-lanes_joined n (l ∷ low) (h ∷ high) below =
-    let first : (n + (l + h) % 2 ^ 64) % 2 ^ 64 ≡ n + (l + h) = omega (arith, below) in
-    rw (first, fold_l) (lanes_joined (n + (l + h)) low high (omega (arith, below)) ∙ omega arith)
+pub lanes_joined : (n : ℕ) (total high : List ℕ) → n + halves_in total high < 2 ^ 64
+    → fold_l (λ s x. (s + x) % 2 ^ 64) n (lanes_added (zip2 (λ t h. (t + (2 ^ 64 - h)) % 2 ^ 64) total (map (λ h. h * 2 ^ 32 % 2 ^ 64) high)) high) ≡ n + halves_in total high
+lanes_joined n (t ∷ total) (h ∷ high) below =
+    let low = (t + (2 ^ 64 - h * 2 ^ 32 % 2 ^ 64)) % 2 ^ 64 in
+    let first : (n + (low + h) % 2 ^ 64) % 2 ^ 64 ≡ n + (low + h) = omega (arith, below) in
+    rw (first, fold_l) (lanes_joined (n + (low + h)) total high (omega (arith, below)) ∙ omega arith)
 lanes_joined n [] high below = omega arith
-lanes_joined n low [] below = omega arith
+lanes_joined n total [] below = omega arith

@@ -22,14 +22,11 @@ halves_sum words = sum_l (map (λ w. w % 2 ^ 32) words) + sum_l (map (λ w. w / 
 abbrev pub lanes_added : List ℕ → List ℕ → List ℕ
 lanes_added xs ys = zip2 (λ x y. (x + y) % 2 ^ 64) xs ys
 
--- the sums of the low halves of words, from their totals and the sums of their high halves
-abbrev pub low_lanes : List ℕ → List ℕ → List ℕ
-low_lanes total high =
-    zip2 (λ t h. (t + (2 ^ 64 - h)) % 2 ^ 64) total (map (λ h. h * 2 ^ 32 % 2 ^ 64) high)
-
--- the sum of all these halves
+-- the sum of the low and of the high halves of words, from their totals and the sums of their high
+-- halves in each lane
 abbrev pub halves_in : List ℕ → List ℕ → ℕ
-halves_in total high = sum_l (zip2 (λ l h. l + h) (low_lanes total high) high)
+halves_in total high =
+    sum_l (zip2 (λ t h. (t + (2 ^ 64 - h * 2 ^ 32 % 2 ^ 64)) % 2 ^ 64 + h) total high)
 
 -- turns stand for the bytes before the rest, with totals that are kept apart added to theirs; no
 -- sum of halves overflows
