@@ -1,12 +1,6 @@
 -- Folded sums: which numbers have the same one.
-use Rattle.std.proofs.Common.{ℕ, zero, suc, List, ◌≡◌, ◌<◌, ◌≤◌, ◌+◌, ◌-◌, ◌%◌, arith, min, refl}
+use Rattle.std.proofs.Common.{ℕ, zero, suc, List, ◌≡◌, ◌<◌, ◌≤◌, ◌+◌, ◌-◌, ◌%◌, arith, min}
 use Rattle.etherparse_base.specs.WordSums.{StandsForWords, folded_sum, little_endian_word_sum}
-
--- numbers that differ by a multiple of 65535, unless one of them alone is 0
-pub same_fold : (a b : ℕ) → a % 65535 ≡ b % 65535 → (a ≡ 0 → b ≡ 0) → (b ≡ 0 → a ≡ 0) → folded_sum a ≡ folded_sum b
-same_fold zero zero e none some = refl
-same_fold (suc a) (suc b) e none some = omega (arith, e)
-same_fold a b e none some = absurd (omega arith)
 
 -- the fold of a number, and of one above 0
 pub folded_sum_value : (n : ℕ) → folded_sum n ≡ min n 1 + (n - 1) % 65535

@@ -1,64 +1,53 @@
 -- Bytes that are read as one number, low byte first, in a sum of words.
-use Rattle.std.proofs.Common.{ℕ, zero, suc, List, [], ◌∷◌, ◌≡◌, ◌<◌, ◌+◌, ◌-◌, ◌*◌, ◌/◌, ◌^◌, ◌∙◌, ap, arith, drop, get_or, length, refl, slice_index, sym, w32, w64}
+use Rattle.std.proofs.Common.{ℕ, zero, suc, List, [], ◌∷◌, ◌≡◌, ◌<◌, ◌+◌, ◌-◌, ◌*◌, ◌/◌, ◌^◌, arith, drop, get_or, length, refl, slice_index, sym, w32, w64}
 use Rattle.std.proofs.Math.Nat.{zero-div}
 use Rattle.std.proofs.lemmas.Nat.{shr-shr}
 use Rattle.std.specs.Int.{from_le_bytes}
-use Rattle.etherparse_base.specs.WordSums.{folded_sum, little_endian_word_sum}
+use Rattle.std.specs.Simd.Lanes.{number_l}
+use Rattle.etherparse_base.specs.WordSums.{folded_sum, little_endian_word_sum, weighted_byte_sum}
 use Rattle.etherparse_base.specs.Private.WideSums.{SameFold}
-use Rattle.etherparse_base.proofs.FoldedSums.{folded_sum-plus, same_fold}
+use Rattle.etherparse_base.proofs.FoldedSums.{folded_sum_value}
 
--- the number of bytes, the low byte first
-abbrev pub number : List ℕ → ℕ
-number [] = 0
-number (byte ∷ bytes) = byte + 256 * number bytes
+-- a number that is added in folds adds what the words of its bytes do
+pub adds_four : (start answer : ℕ) (bytes : List ℕ) → length bytes ≡ 4 → SameFold answer (start + from_le_bytes w32 bytes)
+    → folded_sum answer ≡ folded_sum (start + little_endian_word_sum bytes)
+adds_four start answer (a ∷ b ∷ c ∷ d ∷ []) four adds = grind (arith, folded_sum_value)
+adds_four start answer bytes four adds = absurd (omega (arith, four))
+
+pub adds_eight : (start answer : ℕ) (bytes : List ℕ) → length bytes ≡ 8 → SameFold answer (start + from_le_bytes w64 bytes)
+    → folded_sum answer ≡ folded_sum (start + little_endian_word_sum bytes)
+adds_eight start answer (a ∷ b ∷ c ∷ d ∷ e ∷ f ∷ g ∷ h ∷ []) eight adds = grind (arith, folded_sum_value)
+adds_eight start answer bytes eight adds = absurd (omega (arith, eight))
 
 -- a number has the same fold as the words of its bytes
-number_folded : (bytes : List ℕ) → SameFold (number bytes) (little_endian_word_sum bytes)
+number_folded : (bytes : List ℕ) → SameFold (number_l 256 bytes) (little_endian_word_sum bytes)
 number_folded (low ∷ high ∷ bytes) =
     let rest = number_folded bytes in record { apart = omega arith; none = omega arith; some = omega arith }
 number_folded (low ∷ []) = record { apart = omega arith; none = omega arith; some = omega arith }
 number_folded [] = record { apart = refl; none = omega arith; some = omega arith }
 
-pub four_number : (bytes : List ℕ) → length bytes ≡ 4 → from_le_bytes w32 bytes ≡ number bytes
-four_number (a ∷ b ∷ c ∷ d ∷ []) four = omega arith
-four_number bytes four = absurd (omega (arith, four))
-
-pub eight_number : (bytes : List ℕ) → length bytes ≡ 8 → from_le_bytes w64 bytes ≡ number bytes
-eight_number (a ∷ b ∷ c ∷ d ∷ e ∷ f ∷ g ∷ h ∷ []) eight = omega arith
-eight_number bytes eight = absurd (omega (arith, eight))
-
 -- a number without its low bytes is that of the others
-number-drop : (count : ℕ) (bytes : List ℕ) → ((i : ℕ) → slice_index bytes i < 256) → number bytes / 2 ^ (8 * count) ≡ number (drop count bytes)
-number-drop zero bytes are_bytes = omega arith
-number-drop (suc count) [] are_bytes = zero-div (2 ^ (8 * suc count))
-number-drop (suc count) (byte ∷ bytes) are_bytes =
-    let whole = number (byte ∷ bytes) in
-    let first : whole / 2 ^ 8 ≡ number bytes = omega (arith, are_bytes 0) in
-    ap (λ b. whole / 2 ^ b) (omega arith) ∙ sym (shr-shr whole 8 (8 * count)) ∙ ap (λ n. n / 2 ^ (8 * count)) first ∙ number-drop count bytes (λ i. are_bytes (suc i))
+number_l-drop : (count : ℕ) (bytes : List ℕ) → ((i : ℕ) → slice_index bytes i < 256) → number_l 256 bytes / 2 ^ (8 * count) ≡ number_l 256 (drop count bytes)
+number_l-drop zero bytes are_bytes = omega arith
+number_l-drop (suc count) [] are_bytes = zero-div (2 ^ (8 * suc count))
+number_l-drop (suc count) (byte ∷ bytes) are_bytes =
+    let bits : 8 * suc count ≡ 8 + 8 * count = omega arith in
+    let first : number_l 256 (byte ∷ bytes) / 2 ^ 8 ≡ number_l 256 bytes = omega (arith, are_bytes 0) in
+    rw (bits, sym (shr-shr (number_l 256 (byte ∷ bytes)) 8 (8 * count)), first) (number_l-drop count bytes (λ i. are_bytes (suc i)))
 
 -- the last of eight bytes as a number: that of all eight without the bits of the others
-pub last_bytes : (count : ℕ) (bytes : List ℕ) → length bytes ≡ 8 → ((i : ℕ) → slice_index bytes i < 256) → count < 8
-    → SameFold (from_le_bytes w64 bytes / 2 ^ 8 / 2 ^ (56 - 8 * count)) (little_endian_word_sum (drop (8 - count) bytes))
-last_bytes count bytes eight are_bytes few =
-    let whole = from_le_bytes w64 bytes in
-    rw (shr-shr whole 8 (56 - 8 * count) ∙ ap (λ b. whole / 2 ^ b) (omega (arith, few)) ∙ ap (λ v. v / 2 ^ (8 * (8 - count))) (eight_number bytes eight)
-    ∙ number-drop (8 - count) bytes are_bytes) (number_folded (drop (8 - count) bytes))
+pub last_bytes : (word count : ℕ) (bytes : List ℕ) → word ≡ from_le_bytes w64 bytes → length bytes ≡ 8 → ((i : ℕ) → slice_index bytes i < 256) → count < 8
+    → SameFold (word / 2 ^ 8 / 2 ^ (56 - 8 * count)) (little_endian_word_sum (drop (8 - count) bytes))
+last_bytes word count (a ∷ b ∷ c ∷ d ∷ e ∷ f ∷ g ∷ h ∷ []) is eight are_bytes few =
+    let bytes : List ℕ = a ∷ b ∷ c ∷ d ∷ e ∷ f ∷ g ∷ h ∷ [] in
+    let number : word ≡ number_l 256 bytes = omega (arith, is) in
+    let bits : 8 + (56 - 8 * count) ≡ 8 * (8 - count) = omega (arith, few) in
+    rw (shr-shr word 8 (56 - 8 * count), bits, number, number_l-drop (8 - count) bytes are_bytes) (number_folded (drop (8 - count) bytes))
+last_bytes word count bytes is eight are_bytes few = absurd (omega (arith, eight))
 
--- a number that is added in folds adds what the words of its bytes do
-pub adds_number : (start value answer : ℕ) (bytes : List ℕ) → SameFold answer (start + value) → value ≡ number bytes → folded_sum answer ≡ folded_sum (start + little_endian_word_sum bytes)
-adds_number start value answer bytes adds is =
-    let same = number_folded bytes in
-    same_fold answer (start + little_endian_word_sum bytes) (omega arith) (λ none. omega arith) (λ none. omega arith)
-
--- eight bytes of some, as the sum of their words
-abbrev pub eight_at : List ℕ → ℕ → ℕ
-eight_at bytes k = little_endian_word_sum (get_or bytes k 0 ∷ get_or bytes (1 + k) 0 ∷ get_or bytes (2 + k) 0 ∷ get_or bytes (3 + k) 0
-    ∷ get_or bytes (4 + k) 0 ∷ get_or bytes (5 + k) 0 ∷ get_or bytes (6 + k) 0 ∷ get_or bytes (7 + k) 0 ∷ [])
-
--- two halves of sixteen bytes, one after the other
-pub two_halves : (start half answer : ℕ) (bytes : List ℕ) → length bytes ≡ 16 → folded_sum half ≡ folded_sum (start + eight_at bytes 0)
-    → folded_sum answer ≡ folded_sum (half + eight_at bytes 8) → folded_sum answer ≡ folded_sum (start + little_endian_word_sum bytes)
-two_halves start half answer (a ∷ b ∷ c ∷ d ∷ e ∷ f ∷ g ∷ h ∷ i ∷ j ∷ k ∷ l ∷ m ∷ n ∷ o ∷ p ∷ []) sixteen first last =
-    last ∙ folded_sum-plus half (start + eight_at (a ∷ b ∷ c ∷ d ∷ e ∷ f ∷ g ∷ h ∷ []) 0) (eight_at (i ∷ j ∷ k ∷ l ∷ m ∷ n ∷ o ∷ p ∷ []) 0) first
-    ∙ ap folded_sum (omega arith)
-two_halves start half answer bytes sixteen first last = absurd (omega (arith, sixteen))
+-- the sum of sixteen bytes, one by one
+pub sixteen : (weight other : ℕ) (bytes : List ℕ) → length bytes ≡ 16 → weighted_byte_sum weight other bytes
+    ≡ weighted_byte_sum weight other (get_or bytes 0 0 ∷ get_or bytes 1 0 ∷ get_or bytes 2 0 ∷ get_or bytes 3 0 ∷ get_or bytes 4 0 ∷ get_or bytes 5 0 ∷ get_or bytes 6 0 ∷ get_or bytes 7 0
+    ∷ get_or bytes 8 0 ∷ get_or bytes 9 0 ∷ get_or bytes 10 0 ∷ get_or bytes 11 0 ∷ get_or bytes 12 0 ∷ get_or bytes 13 0 ∷ get_or bytes 14 0 ∷ get_or bytes 15 0 ∷ [])
+sixteen weight other (a ∷ b ∷ c ∷ d ∷ e ∷ f ∷ g ∷ h ∷ i ∷ j ∷ k ∷ l ∷ m ∷ n ∷ o ∷ p ∷ []) is = refl
+sixteen weight other bytes is = absurd (omega (arith, is))

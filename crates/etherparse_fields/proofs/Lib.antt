@@ -1,2 +1,1 @@
-mod BufferMemory
 pub mod CodePoints

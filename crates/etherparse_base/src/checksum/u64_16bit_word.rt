@@ -28,6 +28,7 @@ pub fn add_2bytes(start: u64, value: [u8; 2]) -> u64
 /// Adds four bytes as one number, the low byte first. A carry out of the 64 bits is added at the
 /// low end (RFC 1071 section 1).
 #[inline]
+#[tactic(auto, using(crate::proofs::FoldedSums::stands_for_words, crate::proofs::WordNumbers::adds_four))]
 pub fn add_4bytes(start: u64, value: [u8; 4]) -> u64
     ensures sum { result ≡ end_around_sum u64.MAX start (from_le_bytes w32 value) }
     ensures folded { folded_sum result ≡ folded_sum (start + little_endian_word_sum value) }
@@ -39,6 +40,7 @@ pub fn add_4bytes(start: u64, value: [u8; 4]) -> u64
 /// Adds eight bytes as one number, the low byte first. A carry out of the 64 bits is added at the
 /// low end (RFC 1071 section 1).
 #[inline]
+#[tactic(auto, using(crate::proofs::FoldedSums::stands_for_words, crate::proofs::WordNumbers::adds_eight))]
 pub fn add_8bytes(start: u64, value: [u8; 8]) -> u64
     ensures sum { result ≡ end_around_sum u64.MAX start (from_le_bytes w64 value) }
     ensures folded { folded_sum result ≡ folded_sum (start + little_endian_word_sum value) }

@@ -155,6 +155,7 @@ fn two_words(bytes: [u8; 4]) -> u32
 
 // The sum of eight words, each with the high byte first.
 #[inline(always)]
+#[tactic(auto, using(crate::proofs::WordNumbers::sixteen))]
 fn eight_words(bytes: [u8; 16]) -> u32
     ensures sum { result ≡ network_order_word_sum bytes }
     ensures within { result ≤ 8 * 65535 }

@@ -9,6 +9,7 @@ ghost use Rattle.std.specs.Prelude.{List, ℕ, drop, ◌≡◌, ◌<◌, ◌≤�
 ghost use Rattle.std.specs.Int.{from_bool};
 ghost use Rattle.std.specs.Simd.Lanes.{sum_l};
 ghost use Rattle.etherparse_base.specs.Private.WideSums.{AddsTurns, SameFold, StandsFor};
+ghost use Rattle.etherparse_base.specs.Private.WideSums.{lanes_added};
 ghost use Rattle.etherparse_base.specs.WordSums.{checksum_of, folded_sum, little_endian_word_sum};
 
 use super::end_around::{add_u64, complement_u64};
@@ -160,10 +161,12 @@ fn add_turns<'a>(slice: &'a [u8]) -> Summed<'a>
     }
 }
 
-// Turns with another total.
+// Turns with another total, in whose place theirs is kept apart.
 #[inline(always)]
+#[tactic(auto, using(crate::proofs::LaneSums::lanes_turned))]
 fn with_total(at: Turns, total: u64x4) -> Turns
-    ensures value { result ≡ record at { total = total } }
+    ensures adds { (slice other rest : List ℕ) → AddsTurns slice (lanes_added total other) at rest
+        → AddsTurns slice (lanes_added other at.total) result rest }
 {
     Turns { total, ..at }
 }
@@ -182,9 +185,9 @@ fn after_turn(bytes: &[u8]) -> &[u8]
 #[inline(always)]
 fn add_turn(at: Turns, bytes: &[u8]) -> Turns
     requires { TURN_LEN ≤ length bytes.now }
-    ensures adds { (slice beside : List ℕ) → length slice ≤ 2 ^ 33
-        → AddsTurns slice beside at bytes.now
-        → AddsTurns slice beside result (drop TURN_LEN bytes.now) }
+    ensures adds { (slice beside rest : List ℕ) → length slice ≤ 2 ^ 33
+        → rest ≡ drop TURN_LEN bytes.now → AddsTurns slice beside at bytes.now
+        → AddsTurns slice beside result rest }
 {
     let (words, rest) = split_four_words(bytes);
     let words = u64x4::from_array(words);

@@ -3,7 +3,7 @@
 ghost use Rattle.std.specs.Prelude.{ℕ, ◌≡◌, ◌<◌, ◌≤◌, ◌+◌, ◌-◌, ◌*◌, ◌%◌, ◌^◌};
 ghost use Rattle.std.specs.Prelude.{List, [], drop, length};
 ghost use Rattle.std.specs.Simd.Lanes.{sum_l};
-ghost use Rattle.etherparse_base.specs.Private.WideSums.{SameFold, Splits, StandsFor, halves_sum};
+ghost use Rattle.etherparse_base.specs.Private.WideSums.{SameFold, StandsFor, halves_in, halves_sum};
 ghost use Rattle.etherparse_base.specs.WordSums.{little_endian_word_sum};
 
 use std::simd::prelude::*;
@@ -23,6 +23,7 @@ pub(super) fn split_word(bytes: &[u8]) -> (u64, &[u8])
 /// The whole words of eight bytes, and the bytes after them as one number. These bytes are read as
 /// the end of the last eight bytes, so no branch depends on how many they are.
 #[inline(always)]
+#[tactic(auto, using(crate::proofs::WordSumLaws::cuts))]
 pub(super) fn split_odd_bytes(bytes: &[u8]) -> (&[u8], u64)
     requires { 8 ≤ length bytes.now }
     ensures stands_for { StandsFor result.1 bytes.now result.0.now }
@@ -72,6 +73,7 @@ fn word_or_zero(bytes: &[u8], place: usize) -> u64
 
 // The eight bytes at a place, or zeros. Only an address depends on which: there is no branch.
 #[inline(always)]
+#[tactic(auto, using(crate::proofs::WordSumLaws::cuts))]
 fn eight_or_zeros(bytes: &[u8], place: usize) -> &[u8]
     requires few { place ≤ 16 }
     requires eighths { length bytes.now % 8 ≡ place % 8 }
@@ -103,6 +105,7 @@ static ZEROS: [u8; 8] = [0; 8];
 
 // The first `count` bytes and what follows them; if there are fewer, zeros and all the bytes.
 #[inline(always)]
+#[tactic(auto, using(crate::proofs::WordSumLaws::cuts))]
 fn front_or_zeros<'a>(bytes: &'a [u8], count: usize) -> (&'a [u8], &'a [u8])
     requires even { count % 2 ≡ 0 }
     requires within { count ≤ 8 }
@@ -177,8 +180,7 @@ pub(super) fn split_four_words(bytes: &[u8]) -> ([u64; 4], &[u8])
 #[inline(always)]
 pub(super) fn halves_sum_of(total: u64x4, high: u64x4) -> u64
     requires { length high ≡ 4 }
-    ensures halves { (low : List ℕ) → Splits total low high → sum_l low + sum_l high < 2 ^ 64
-        → result ≡ sum_l low + sum_l high }
+    ensures halves { halves_in total high < 2 ^ 64 → result ≡ halves_in total high }
 {
     let low = total - (high << u64x4::splat(32));
     (low + high).reduce_sum()
