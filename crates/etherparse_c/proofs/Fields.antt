@@ -10,10 +10,8 @@ use Rattle.etherparse.specs.Ipv6Header.{IsIpv6Layout}
 use Rattle.etherparse.specs.declared.IpEcn.{IpEcn}
 use Rattle.etherparse.specs.declared.net.ipv4_header.Ipv4Header.{Ipv4Header}
 use Rattle.etherparse.specs.declared.net.ipv6_header.Ipv6Header.{Ipv6Header}
-use Rattle.etherparse_c.specs.Ipv4Answers.{AreWrittenForIpv4}
-use Rattle.etherparse_c.specs.Ipv4Fields.{StandForIpv4}
-use Rattle.etherparse_c.specs.Ipv6Answers.{AreWrittenForIpv6}
-use Rattle.etherparse_c.specs.Ipv6Fields.{ipv6_fields_of}
+use Rattle.etherparse_c.specs.Ipv4.{AreWrittenForIpv4, StandForIpv4}
+use Rattle.etherparse_c.specs.Ipv6.{AreWrittenForIpv6, ipv6_fields_of}
 use Rattle.etherparse_c.specs.declared.ipv4_header.Ipv4Fields.{Ipv4Fields}
 use Rattle.etherparse_c.specs.declared.ipv6_header.Ipv6Fields.{Ipv6Fields}
 
