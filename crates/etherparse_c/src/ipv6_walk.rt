@@ -1,6 +1,7 @@
 //! The walk past IPv6 extension headers (RFC 8200 section 4).
 
-ghost use Rattle.std.specs.Prelude.{◌≡◌, ◌<◌, ◌≤◌, Ok, Err, drop, length, slice_index};
+ghost use Rattle.std.specs.Prelude.{◌≡◌, ◌≤◌, Ok, Err, drop, length, nat_le, slice_index};
+ghost use Rattle.std.specs.Prelude.{if◌then◌else◌};
 ghost use Rattle.etherparse.specs.ExtensionHeaderChain.{Walks, WalksUpTo};
 ghost use Rattle.etherparse.specs.ExtensionHeaderChain.{incomplete_header_error, required_len_of};
 ghost use Rattle.etherparse.specs.ExtensionHeaders.{IsSkippable};
@@ -32,18 +33,12 @@ pub extern "C" fn etherparse_ipv6_skip(slice: &[u8], next_header: u8) -> Ipv6Wal
     ensures kept { ¬ IsSkippable next_header →
         (result.next_header, result.error, result.rest)
         ≡ answer_in_c (λ number. number) 0 len_error_in_c slice.now (Ok (next_header, slice.now)) }
-    ensures skipped { IsSkippable next_header →
-        required_len_of next_header slice.now ≤ length slice.now →
+    ensures skips { IsSkippable next_header → let required_len = required_len_of next_header slice.now in
         (result.next_header, result.error, result.rest)
-        ≡ answer_in_c (λ number. number) 0 len_error_in_c slice.now (Ok (
-          slice_index slice.now 0,
-          drop (required_len_of next_header slice.now) slice.now,
-        )) }
-    ensures refused { IsSkippable next_header →
-        length slice.now < required_len_of next_header slice.now →
-        (result.next_header, result.error, result.rest)
-        ≡ answer_in_c (λ number. number) 0 len_error_in_c slice.now
-        (Err (incomplete_header_error next_header slice.now 0)) }
+        ≡ answer_in_c (λ number. number) 0 len_error_in_c slice.now (
+          if nat_le required_len (length slice.now)
+          then Ok (slice_index slice.now 0, drop required_len slice.now)
+          else Err (incomplete_header_error next_header slice.now 0)) }
 {
     match Ipv6Header::skip_header_extension_in_slice(slice, IpNumber(next_header)) {
         // Each arm has its own `return`, for speed: as the value of the `match` the answer takes

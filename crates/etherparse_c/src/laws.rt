@@ -2,7 +2,7 @@
 //! Nothing calls this function: it is there to be proved.
 
 ghost use Rattle.std.specs.Prelude.{ℕ, ◌≡◌, ◌<◌, List, Err, length};
-ghost use Rattle.etherparse.specs.ExtensionHeaderChain.{Walks, WalksUpTo};
+ghost use Rattle.etherparse.specs.ExtensionHeaderChain.{WalksUpTo};
 ghost use Rattle.etherparse.specs.Ipv4Errors.{ipv4_header_slice_error_text};
 ghost use Rattle.etherparse.specs.Ipv4Header.{ReadsIpv4, ipv4_payload_len};
 ghost use Rattle.etherparse.specs.Ipv6Errors.{chain_error_text, ipv6_header_slice_error_text};
@@ -21,7 +21,7 @@ use crate::answer::Error;
 use crate::text::etherparse_error_text;
 
 // For the numbers of each error that a reader, a walk or the call for lengths returns, whatever its
-// arguments. An error of one skip is one of the walk.
+// arguments. An error of one skip is one of the walk, and that is one of the walk with a greater limit.
 fn text_of_answers(error: &Error, text: &mut [u8]) -> usize
     ensures ipv4 { (s : List ℕ) (e : ipv4.HeaderSliceError) → ReadsIpv4 s (Err e) →
         error.now ≡ ipv4_error_in_c e →
@@ -30,8 +30,6 @@ fn text_of_answers(error: &Error, text: &mut [u8]) -> usize
         error.now ≡ ipv6_error_in_c e →
         GivesText (ipv6_header_slice_error_text e) text.old text.new result }
     ensures lengths { (header : Ipv4Header) (e : LenError) → ipv4_payload_len header ≡ Err e →
-        error.now ≡ len_error_in_c e → GivesText (len_error_text e) text.old text.new result }
-    ensures walk { (s : List ℕ) (first : ℕ) (e : LenError) → Walks s first (Err e) →
         error.now ≡ len_error_in_c e → GivesText (len_error_text e) text.old text.new result }
     ensures walk_up_to { (limit : ℕ) (s : List ℕ) (first : ℕ) (e : ipv6_chain.ChainError) →
         WalksUpTo limit s first (Err e) → error.now ≡ chain_error_in_c e →

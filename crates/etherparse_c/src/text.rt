@@ -1,6 +1,6 @@
 //! The text of an error, as the library prints it.
 
-ghost use Rattle.std.specs.Prelude.{ℕ, ◌≡◌, ◌≢◌, ◌<◌, ◌≤◌, ◌+◌, ◌⊎◌, [], length};
+ghost use Rattle.std.specs.Prelude.{ℕ, ◌≡◌, ◌≢◌, ◌<◌, ◌≤◌, ◌+◌, ◌⊎◌, [], length, slice_set};
 ghost use Rattle.std.specs.List.{flat_map};
 ghost use Rattle.etherparse.specs.Ipv4Errors.{bad_options_len_text, ipv4_header_error_text};
 ghost use Rattle.etherparse.specs.Ipv6Errors.{chain_error_text, ipv6_header_error_text};
@@ -245,10 +245,30 @@ fn put(pieces: &[&str], text: &mut [u8]) -> usize
         let start = len.min(room);
         len += piece.len();
         let end = len.min(room);
-        text[start..end].copy_from_slice(&piece.as_bytes()[..end - start]);
+        copy(&piece.as_bytes()[..end - start], &mut text[start..end]);
     }
     if !text.is_empty() {
         text[len.min(room)] = 0;
     }
     len
+}
+
+// Copies bytes over as many others.
+fn copy(from: &[u8], to: &mut [u8])
+    requires as_many { length to.old ≡ length from.now }
+    ensures copied { to.new ≡ from.now }
+{
+    for i in 0..from.len() {
+        put_byte(from[i], i, to);
+    }
+}
+
+// Writes a byte. It is a function of its own so that the compiler calls neither `memcpy` nor
+// `memmove` for the loop.
+#[inline(never)]
+fn put_byte(byte: u8, place: usize, to: &mut [u8])
+    requires inside { place < length to.now }
+    ensures written { to.new ≡ slice_set to.old place byte }
+{
+    to[place] = byte;
 }

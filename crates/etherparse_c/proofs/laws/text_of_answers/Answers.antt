@@ -20,9 +20,6 @@ returns-clause-ipv6 c s (ipv6.Content (ipv6_content.UnexpectedVersion version)) 
 pub returns-clause-lengths : goal.returns-clause-lengths
 returns-clause-lengths c header e refuses is = c.etherparse_error_text.ensures.len e (of_lengths (ipv4_header_len header) header.total_len e refuses) (rw is refl)
 
-pub returns-clause-walk : goal.returns-clause-walk
-returns-clause-walk c s first e walks is = c.etherparse_error_text.ensures.len e (rw walks.ends.error (of_incomplete walks.ends.last walks.ends.rest _ walks.ends.short)) (rw is refl)
-
 pub returns-clause-walk_up_to : goal.returns-clause-walk_up_to
 returns-clause-walk_up_to c limit s first (chain.Len e) walks is =
     let ends = walks.ends.0 in
