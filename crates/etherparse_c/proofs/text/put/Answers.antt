@@ -1,6 +1,7 @@
 use Rattle.std.proofs.Common.{ℕ, ◌≡◌, ◌==◌, ◌+◌, ◌-◌, ◌<◌, ◌≤◌, ◌++◌, ◌∷◌, ◌∙◌, List, [], Bor, false, true, ap, arith, drop, get_or, length, length-append, min, slice_set, sym, take, rules}
 use Rattle.std.proofs.lemmas.Bool.{cases_eq}
-use Rattle.std.proofs.lemmas.List.{flat_map_more, get_or-set_same, places, same_lists, take_all, take_more}
+use Rattle.std.proofs.lemmas.Grind.{common_steps}
+use Rattle.std.proofs.lemmas.List.{get_or-set_same, places, same_lists, take_all}
 use Rattle.std.proofs.lemmas.List.Folds.{length-flat_map-take}
 use Rattle.std.specs.List.{flat_map}
 use borrow.Rule.Slice.PartMut.{put_mid}
@@ -21,7 +22,7 @@ end_of text (x ∷ xs) end some e = same_lists _ _ (search (rules, places)) (λ 
 -- the pieces up to the next one
 one_more : (pieces : List (Bor (List ℕ))) (i : ℕ) (d : Bor (List ℕ)) → i < length pieces
     → flat_map (λ (piece : Bor (List ℕ)). piece.now) (take (i + 1) pieces) ≡ flat_map (λ (piece : Bor (List ℕ)). piece.now) (take i pieces) ++ (get_or pieces i d).now
-one_more pieces i d below = ap (λ l. flat_map (λ (piece : Bor (List ℕ)). piece.now) l) (take_more pieces i d below) ∙ sym (flat_map_more (λ (piece : Bor (List ℕ)). piece.now) [] (take i pieces) (get_or pieces i d))
+one_more pieces i d below = grind (arith, common_steps)
 
 pub overflow_add-len : goal.overflow_add-len
 overflow_add-len c =
