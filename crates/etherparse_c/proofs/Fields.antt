@@ -1,8 +1,6 @@
 -- The fields of a struct are those of one header.
-use Rattle.std.proofs.Common.{ℕ, ◌≡◌, List, Bool, subst, rules, arith}
-use Rattle.std.proofs.lemmas.Bool.Decides.{nat_tests}
-use Rattle.std.specs.Prelude.{◌||◌, ◌==◌, ◌↔◌, IsTrue, not}
-use Rattle.etherparse.specs.Ipv4Header.{IsFragment, IsIpv4LayoutWith}
+use Rattle.std.proofs.Common.{ℕ, ◌≡◌, List, subst, rules}
+use Rattle.etherparse.specs.Ipv4Header.{IsIpv4LayoutWith}
 use Rattle.etherparse.specs.declared.net.ipv4_header.Ipv4Header.{Ipv4Header}
 use Rattle.etherparse_c.specs.Ipv4.{AreWrittenForIpv4, StandForIpv4}
 use Rattle.etherparse_c.specs.declared.ipv4_header.Ipv4Fields.{Ipv4Fields}
@@ -14,7 +12,3 @@ same_header fields g h a b = search rules
 -- the bytes written for the fields have the layout of that header
 pub written_ipv4_layout : (fields : Ipv4Fields) (h : Ipv4Header) (p : List ℕ) → StandForIpv4 fields h → AreWrittenForIpv4 fields p → IsIpv4LayoutWith h 0 p
 written_ipv4_layout fields h p same w = subst (λ x. IsIpv4LayoutWith x 0 p) (same_header fields w.header h w.same same) w.layout
-
--- the test for a fragment
-pub fragment_test : (h : Ipv4Header) (b : Bool) → (IsTrue b ↔ IsFragment h) → b ≡ (h.more_fragments || not (h.fragment_offset == 0))
-fragment_test h b is = grind (arith, nat_tests)

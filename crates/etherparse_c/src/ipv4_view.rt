@@ -104,7 +104,7 @@ pub extern "C" fn etherparse_ipv4_view(slice: &[u8]) -> Ipv4ViewAnswer
 
 // What the getters of a view return.
 #[inline(always)]
-#[tactic(auto, using(crate::proofs::Fields::fragment_test))]
+#[tactic(auto, using(std::proofs::lemmas::Bool::Decides::nat_tests))]
 fn getters_of(view: &Ipv4HeaderSlice) -> Ipv4ViewFields
     ensures value { OfIpv4Header view.now.slice.now (λ header. result ≡ ipv4_view_of header) }
 {
