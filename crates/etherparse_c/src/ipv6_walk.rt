@@ -33,10 +33,11 @@ pub extern "C" fn etherparse_ipv6_skip(slice: &[u8], next_header: u8) -> Ipv6Wal
     ensures kept { ¬ IsSkippable next_header →
         (result.next_header, result.error, result.rest)
         ≡ answer_in_c (λ number. number) 0 len_error_in_c slice.now (Ok (next_header, slice.now)) }
-    ensures skips { IsSkippable next_header → let required_len = required_len_of next_header slice.now in
+    ensures skips { IsSkippable next_header →
+        let required_len = required_len_of next_header slice.now in
         (result.next_header, result.error, result.rest)
-        ≡ answer_in_c (λ number. number) 0 len_error_in_c slice.now (
-        if nat_le required_len (length slice.now)
+        ≡ answer_in_c (λ number. number) 0 len_error_in_c slice.now
+        (if nat_le required_len (length slice.now)
         then Ok (slice_index slice.now 0, drop required_len slice.now)
         else Err (incomplete_header_error next_header slice.now 0)) }
 {

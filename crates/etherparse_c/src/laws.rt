@@ -21,7 +21,8 @@ use crate::answer::Error;
 use crate::text::etherparse_error_text;
 
 // For the numbers of each error that a reader, a walk or the call for lengths returns, whatever its
-// arguments. An error of one skip is one of the walk, and that is one of the walk with a greater limit.
+// arguments. An error of one skip is one of the walk, and each error of the walk is one of the walk
+// with a limit above the number of headers before it.
 fn text_of_answers(error: &Error, text: &mut [u8]) -> usize
     ensures ipv4 { (s : List ℕ) (e : ipv4.HeaderSliceError) → ReadsIpv4 s (Err e) →
         error.now ≡ ipv4_error_in_c e →
