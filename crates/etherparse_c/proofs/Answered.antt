@@ -1,5 +1,6 @@
 -- From an answer of the library to what C gets for it.
-use Rattle.std.proofs.Common.{ℕ, ◌≡◌, ◌+◌, List, Ok, Err, Result, sym, ap, subst, ◌∙◌, arith, length, length-append}
+use Rattle.std.proofs.Common.{ℕ, ◌≡◌, ◌+◌, List, Ok, Err, Result, sym, ap, ◌∙◌, arith, length}
+use Rattle.std.proofs.lemmas.Grind.{common_steps}
 use Rattle.etherparse.specs.Reading.{HasFront, Reads, Views}
 use Rattle.etherparse_c.specs.Answer.{GivesAnswer}
 
@@ -20,7 +21,7 @@ seen {H} {E} {C} {in_c} {result} Layout Refuses s front v only gives =
     each (Ok x) b =
         let one : Ok b.front ≡ Ok front = only (Ok b.front) (record { header = x.0; rest = x.1; whole = b.whole; layout = b.layout }) in
         let same : b.front ≡ front = cc in
-        gives x.0 x.1 (subst (λ p. Layout x.0 p) same b.layout) (omega (arith, ap length b.whole, length-append b.front x.1, ap length same))
+        gives x.0 x.1 (rw same at b.layout) (grind (arith, common_steps, ap length b.whole))
     each (Err e) r = let wrong : Err e ≡ Ok front = only (Err e) r in cc
 
 -- otherwise C gets the error

@@ -15,16 +15,13 @@ pub record GivesAnswer {A C : Type 0} (Allows : A → Type 0) (in_c : A → C) (
 abbrev pub rest_of : List ℕ → List ℕ → Rest
 rest_of s rest = record { offset = length s - length rest; len = length rest }
 
--- no rest
-abbrev pub no_rest : Rest
-no_rest = record { offset = 0; len = 0 }
-
 -- What C gets for an answer about a slice: what was found, no error, and where the rest is; or
 -- nothing, the error and no rest.
 abbrev pub answer_in_c : {A C E : Type 0} → (A → C) → C → (E → Error) → List ℕ
     → Result (A × List ℕ) E → C × Error × Rest
 answer_in_c found_in_c nothing error_in_c s (Ok x) = (found_in_c x.0, no_error, rest_of s x.1)
-answer_in_c found_in_c nothing error_in_c s (Err e) = (nothing, error_in_c e, no_rest)
+answer_in_c found_in_c nothing error_in_c s (Err e) =
+    (nothing, error_in_c e, record { offset = 0; len = 0 })
 
 -- bytes at the front of an array with this much room, 0 after them, and their number
 abbrev pub bytes_in_c : ℕ → List ℕ → List ℕ × ℕ

@@ -5,10 +5,8 @@ use Rattle.etherparse.specs.declared.LenSource.TheVariants as source
 use Rattle.etherparse.specs.declared.err.Layer.{Layer}
 use Rattle.etherparse.specs.declared.err.Layer.TheVariants as layer
 use Rattle.etherparse.specs.declared.err.LenError.{LenError}
-use Rattle.etherparse.specs.declared.err.ValueTooBigError as value_error
 use Rattle.etherparse.specs.declared.err.ValueType.{ValueType}
 use Rattle.etherparse.specs.declared.err.ValueType.TheVariants as value
-use Rattle.etherparse.specs.declared.err.ipv4.BadOptionsLen.{BadOptionsLen}
 use Rattle.etherparse.specs.declared.err.ipv4.HeaderError.TheVariants as ipv4_content
 use Rattle.etherparse.specs.declared.err.ipv4.HeaderSliceError as ipv4
 use Rattle.etherparse.specs.declared.err.ipv4.HeaderSliceError.TheVariants as ipv4_slice
@@ -71,13 +69,8 @@ ipv6_error_in_c (ipv6_slice.Content (ipv6_content.UnexpectedVersion version)) =
 -- of a walk past extension headers: a length, or one header more than the limit
 abbrev pub chain_error_in_c : ipv6_chain.ChainError → Error
 chain_error_in_c (chain.Len e) = len_error_in_c e
-chain_error_in_c (chain.TooMany limit number place) = record no_error {
-  kind = 4;
-  number = number;
-  layer = 4;
-  layer_start_offset = place;
-  limit = limit;
-}
+chain_error_in_c (chain.TooMany limit next from) =
+    record no_error { kind = 4; number = next; layer = 4; layer_start_offset = from; limit = limit }
 
 -- the values that can be too big, and 0 for all others
 abbrev pub value_in_c : ValueType → ℕ
@@ -88,16 +81,3 @@ value_in_c value.Ipv6FlowLabel = 4
 value_in_c value.Ipv4PayloadLength = 5
 value_in_c value.Ipv6PayloadLength = 6
 value_in_c _ = 0
-
--- of a value that is too big: which one, the value, and the greatest allowed one
-abbrev pub value_error_in_c : value_error.ValueTooBigError ℕ → Error
-value_error_in_c e = record no_error {
-  kind = 5;
-  number = value_in_c e.value_type;
-  len = e.actual;
-  limit = e.max_allowed;
-}
-
--- of a length that options cannot have
-abbrev pub options_error_in_c : BadOptionsLen → Error
-options_error_in_c e = record no_error { kind = 6; len = e.bad_len }

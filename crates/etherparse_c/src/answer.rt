@@ -1,7 +1,7 @@
 //! Parts of several calls' results: an error as numbers, and where the rest of a slice is.
 
 ghost use Rattle.std.specs.Prelude.{ℕ, ◌≡◌, ◌≤◌, ◌+◌, List, length};
-ghost use Rattle.etherparse_c.specs.Answer.{no_rest, rest_of};
+ghost use Rattle.etherparse_c.specs.Answer.{rest_of};
 ghost use Rattle.etherparse_c.specs.Error.{chain_error_in_c, ipv4_error_in_c, ipv6_error_in_c};
 ghost use Rattle.etherparse_c.specs.Error.{layer_in_c, len_error_in_c, no_error};
 
@@ -206,7 +206,7 @@ impl Rest {
     // No rest, of a slice that was refused.
     #[inline(always)]
     pub(crate) fn none() -> Rest
-        ensures value { result ≡ no_rest }
+        ensures value { result ≡ record { offset = 0; len = 0 } }
     {
         Rest { offset: 0, len: 0 }
     }

@@ -1,19 +1,17 @@
 //! The IPv4 header (RFC 791 section 3.1).
 
-ghost use Rattle.std.specs.Prelude.{ℕ, ◌≡◌, ◌↔◌, ◌+◌, ◌-◌, ◌*◌, ◌^◌, ◌++◌, ◌<◌, ◌≤◌, List, [], Err};
-ghost use Rattle.std.specs.Prelude.{IfSome, IsSome, IsTrue, length, replicate};
-ghost use Rattle.etherparse.specs.HeaderChecksum.{KeepsChecksum, header_checksum_of};
+ghost use Rattle.std.specs.Prelude.{ℕ, ◌≡◌, ◌+◌, ◌-◌, ◌*◌, ◌^◌, ◌++◌, ◌<◌, ◌≤◌, List, [], IsTrue};
+ghost use Rattle.std.specs.Prelude.{MatchOption, false, length, replicate};
+ghost use Rattle.etherparse.specs.HeaderChecksum.{header_checksum_of};
 ghost use Rattle.etherparse.specs.Ipv4Header.{ReadsIpv4, default_ipv4_header};
 ghost use Rattle.etherparse.specs.Ipv4Options.{IsOptionsLen};
 ghost use Rattle.etherparse.specs.WordSums.{updated_checksum};
 ghost use Rattle.etherparse.specs.declared.err.ValueType.TheVariants.{Ipv4PayloadLength};
 ghost use Rattle.etherparse.specs.declared.net.ipv4_header.Ipv4Header.{Ipv4Header as Header};
 ghost use Rattle.etherparse_c.specs.Answer.{GivesAnswer, answer_in_c, bytes_in_c};
-ghost use Rattle.etherparse_c.specs.Error.{ipv4_error_in_c, no_error, options_error_in_c};
-ghost use Rattle.etherparse_c.specs.Error.{value_error_in_c};
-ghost use Rattle.etherparse_c.specs.Ipv4Answers.{AreIpv4Lengths, AreWrittenForIpv4};
-ghost use Rattle.etherparse_c.specs.Ipv4Fields.{AreWithinBounds, StandForIpv4, ipv4_fields_of};
-ghost use Rattle.etherparse_c.specs.Ipv4Fields.{zero_ipv4_header};
+ghost use Rattle.etherparse_c.specs.Error.{ipv4_error_in_c, no_error, value_in_c};
+ghost use Rattle.etherparse_c.specs.Ipv4.{AreIpv4Lengths, AreWithinBounds, AreWrittenForIpv4};
+ghost use Rattle.etherparse_c.specs.Ipv4.{StandForIpv4, ipv4_fields_of, zero_ipv4_header};
 
 use crate::answer::{BAD_OPTIONS_LEN, Error, IPV4_PAYLOAD_LENGTH, Rest, VALUE_TOO_BIG};
 use crate::room::{filled, filled_by_words};
@@ -145,11 +143,12 @@ pub extern "C" fn etherparse_ipv4_new(
       });
     } }
     ensures refused { 65515 < payload_len → result ≡ record {
-      error = value_error_in_c (record {
-        actual = payload_len;
-        max_allowed = 65515;
-        value_type = Ipv4PayloadLength;
-      });
+      error = record no_error {
+        kind = 5;
+        number = value_in_c Ipv4PayloadLength;
+        len = payload_len;
+        limit = 65515;
+      };
       fields = ipv4_fields_of zero_ipv4_header;
     } }
 {
@@ -256,7 +255,7 @@ pub extern "C" fn etherparse_ipv4_lengths(total_len: u16, options_len: u8) -> Ip
     ensures value { IsOptionsLen options_len → (header : Header) → header.total_len ≡ total_len →
         length header.options ≡ options_len → AreIpv4Lengths result header }
     ensures refused { ¬ IsOptionsLen options_len → result ≡ record {
-      error = options_error_in_c (record { bad_len = options_len });
+      error = record no_error { kind = 6; len = options_len };
       payload_len = 0;
       max_payload_len = 0;
       header_len = 0;
@@ -296,10 +295,10 @@ pub extern "C" fn etherparse_ipv4_lengths(total_len: u16, options_len: u8) -> Ip
 /// first in the header. It does not depend on the stored checksum.
 #[unsafe(no_mangle)]
 pub extern "C" fn etherparse_ipv4_header_checksum(fields: &Ipv4Fields) -> Ipv4HeaderChecksumAnswer
-    ensures accepted { IsTrue result.accepted ↔ AreWithinBounds fields.now }
-    ensures value { IsTrue result.accepted → (bytes : List ℕ) →
-        AreWrittenForIpv4 fields.now bytes → result.checksum ≡ header_checksum_of bytes }
-    ensures refused { ¬ AreWithinBounds fields.now → result.checksum ≡ 0 }
+    ensures value { AreWithinBounds fields.now → IsTrue result.accepted × ((bytes : List ℕ) →
+        AreWrittenForIpv4 fields.now bytes → result.checksum ≡ header_checksum_of bytes) }
+    ensures refused { ¬ AreWithinBounds fields.now →
+        (result.checksum ≡ 0) × (result.accepted ≡ false) }
 {
     match header_of(fields) {
         Some(header) => {
@@ -324,18 +323,14 @@ pub extern "C" fn etherparse_ipv4_set_time_to_live(
     fields: &mut Ipv4Fields,
     time_to_live: u8,
 ) -> bool
-    ensures accepted { IsTrue result ↔ AreWithinBounds fields.old }
-    ensures set { IsTrue result → fields.new ≡ record fields.old {
+    ensures set { AreWithinBounds fields.old → IsTrue result × (fields.new ≡ record fields.old {
       time_to_live = time_to_live;
       header_checksum = updated_checksum fields.old.header_checksum
           (fields.old.time_to_live * 2 ^ 8 + fields.old.protocol)
           (time_to_live * 2 ^ 8 + fields.old.protocol);
-    } }
-
-    // A correct checksum stays correct; an incorrect one is not repaired.
-    ensures keeps_checksum { IsTrue result → (old new : Header) → StandForIpv4 fields.old old →
-        StandForIpv4 fields.new new → KeepsChecksum old new }
-    ensures refused { ¬ AreWithinBounds fields.old → fields.new ≡ fields.old }
+    }) }
+    ensures refused { ¬ AreWithinBounds fields.old →
+        (result ≡ false) × (fields.new ≡ fields.old) }
 {
     let Some(mut header) = header_of(fields) else {
         return false;
@@ -349,8 +344,8 @@ pub extern "C" fn etherparse_ipv4_set_time_to_live(
 // The header with these fields, if they are within their bounds.
 #[inline(always)]
 fn header_of(fields: &Ipv4Fields) -> Option<Ipv4Header>
-    ensures accepted { IsSome result ↔ AreWithinBounds fields.now }
-    ensures value { IfSome result (StandForIpv4 fields.now) }
+    ensures { MatchOption result (¬ AreWithinBounds fields.now)
+        (λ header. AreWithinBounds fields.now × StandForIpv4 fields.now header) }
 {
     let options_len = usize::from(fields.options_len);
     if options_len > 40 || options_len % 4 != 0 {
@@ -364,8 +359,8 @@ fn header_of(fields: &Ipv4Fields) -> Option<Ipv4Header>
 fn header_with(fields: &Ipv4Fields, options_len: usize) -> Option<Ipv4Header>
     requires found { fields.now.options_len ≡ options_len }
     requires fits { IsOptionsLen options_len }
-    ensures accepted { IsSome result ↔ AreWithinBounds fields.now }
-    ensures value { IfSome result (StandForIpv4 fields.now) }
+    ensures { MatchOption result (¬ AreWithinBounds fields.now)
+        (λ header. AreWithinBounds fields.now × StandForIpv4 fields.now header) }
 {
     let dscp = IpDscp::try_new(fields.dscp).ok()?;
     let ecn = IpEcn::try_new(fields.ecn).ok()?;

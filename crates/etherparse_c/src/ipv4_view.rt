@@ -4,7 +4,7 @@ ghost use Rattle.std.specs.Prelude.{◌≡◌};
 ghost use Rattle.etherparse.specs.Ipv4Header.{OfIpv4Header, ReadsIpv4};
 ghost use Rattle.etherparse_c.specs.Answer.{GivesAnswer, answer_in_c};
 ghost use Rattle.etherparse_c.specs.Error.{ipv4_error_in_c};
-ghost use Rattle.etherparse_c.specs.Ipv4Answers.{ipv4_view_of, no_ipv4_view};
+ghost use Rattle.etherparse_c.specs.Ipv4.{ipv4_view_of, zero_ipv4_header};
 
 use crate::answer::{Error, Rest};
 use etherparse::Ipv4HeaderSlice;
@@ -63,7 +63,8 @@ pub struct Ipv4ViewAnswer {
 #[unsafe(no_mangle)]
 pub extern "C" fn etherparse_ipv4_view(slice: &[u8]) -> Ipv4ViewAnswer
     ensures views { GivesAnswer (ReadsIpv4 slice.now)
-        (answer_in_c ipv4_view_of no_ipv4_view ipv4_error_in_c slice.now)
+        (answer_in_c ipv4_view_of (record (ipv4_view_of zero_ipv4_header) { ihl = 0 })
+        ipv4_error_in_c slice.now)
         (result.view, result.error, result.rest) }
 {
     match Ipv4HeaderSlice::from_slice(slice) {
@@ -103,7 +104,7 @@ pub extern "C" fn etherparse_ipv4_view(slice: &[u8]) -> Ipv4ViewAnswer
 
 // What the getters of a view return.
 #[inline(always)]
-#[tactic(auto, using(crate::proofs::Fields::fragment_test))]
+#[tactic(auto, using(std::proofs::lemmas::Bool::Decides::nat_tests))]
 fn getters_of(view: &Ipv4HeaderSlice) -> Ipv4ViewFields
     ensures value { OfIpv4Header view.now.slice.now (λ header. result ≡ ipv4_view_of header) }
 {

@@ -1,11 +1,10 @@
 //! The IPv6 header (RFC 8200 section 3).
 
-ghost use Rattle.std.specs.Prelude.{◌≡◌, ◌↔◌, ◌^◌, ◌<◌, [], IfSome, IsSome};
+ghost use Rattle.std.specs.Prelude.{◌≡◌, ◌^◌, ◌<◌, [], MatchOption};
 ghost use Rattle.etherparse.specs.Ipv6Header.{ReadsIpv6, default_ipv6_header};
 ghost use Rattle.etherparse_c.specs.Answer.{GivesAnswer, answer_in_c, bytes_in_c};
 ghost use Rattle.etherparse_c.specs.Error.{ipv6_error_in_c};
-ghost use Rattle.etherparse_c.specs.Ipv6Answers.{AreWrittenForIpv6};
-ghost use Rattle.etherparse_c.specs.Ipv6Fields.{ipv6_fields_of, zero_ipv6_header};
+ghost use Rattle.etherparse_c.specs.Ipv6.{AreWrittenForIpv6, ipv6_fields_of, zero_ipv6_header};
 
 use crate::answer::{Error, Rest};
 use etherparse::{IpNumber, Ipv6FlowLabel, Ipv6Header};
@@ -125,8 +124,8 @@ pub extern "C" fn etherparse_ipv6_write(fields: &Ipv6Fields) -> Ipv6Bytes
 // The header with these fields, if the flow label is within its bound.
 #[inline(always)]
 fn header_of(fields: &Ipv6Fields) -> Option<Ipv6Header>
-    ensures accepted { IsSome result ↔ (fields.now.flow_label < 2 ^ 20) }
-    ensures value { IfSome result (λ header. fields.now ≡ ipv6_fields_of header) }
+    ensures { MatchOption result (¬ (fields.now.flow_label < 2 ^ 20)) (λ header.
+        (fields.now.flow_label < 2 ^ 20) × (fields.now ≡ ipv6_fields_of header)) }
 {
     let flow_label = Ipv6FlowLabel::try_new(fields.flow_label).ok()?;
     Some(Ipv6Header {

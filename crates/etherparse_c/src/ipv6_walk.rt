@@ -1,12 +1,12 @@
 //! The walk past IPv6 extension headers (RFC 8200 section 4).
 
-ghost use Rattle.std.specs.Prelude.{◌≡◌, ◌<◌, ◌≤◌, Ok, Err, drop, length, slice_index};
+ghost use Rattle.std.specs.Prelude.{◌≡◌, ◌≤◌, Ok, Err, drop, length, nat_le, slice_index};
+ghost use Rattle.std.specs.Prelude.{if◌then◌else◌};
 ghost use Rattle.etherparse.specs.ExtensionHeaderChain.{Walks, WalksUpTo};
 ghost use Rattle.etherparse.specs.ExtensionHeaderChain.{incomplete_header_error, required_len_of};
 ghost use Rattle.etherparse.specs.ExtensionHeaders.{IsSkippable};
-ghost use Rattle.etherparse_c.specs.Answer.{GivesAnswer, no_rest, rest_of};
+ghost use Rattle.etherparse_c.specs.Answer.{GivesAnswer, answer_in_c, rest_of};
 ghost use Rattle.etherparse_c.specs.Error.{chain_error_in_c, len_error_in_c, no_error};
-ghost use Rattle.etherparse_c.specs.Ipv6Answers.{walk_in_c};
 
 use crate::answer::{Error, Rest};
 use etherparse::{IpNumber, Ipv6Header};
@@ -32,19 +32,14 @@ pub struct Ipv6WalkAnswer {
 pub extern "C" fn etherparse_ipv6_skip(slice: &[u8], next_header: u8) -> Ipv6WalkAnswer
     ensures kept { ¬ IsSkippable next_header →
         (result.next_header, result.error, result.rest)
-        ≡ walk_in_c len_error_in_c slice.now (Ok (next_header, slice.now)) }
-    ensures skipped { IsSkippable next_header →
-        required_len_of next_header slice.now ≤ length slice.now →
+        ≡ answer_in_c (λ number. number) 0 len_error_in_c slice.now (Ok (next_header, slice.now)) }
+    ensures skips { IsSkippable next_header →
+        let required_len = required_len_of next_header slice.now in
         (result.next_header, result.error, result.rest)
-        ≡ walk_in_c len_error_in_c slice.now (Ok (
-          slice_index slice.now 0,
-          drop (required_len_of next_header slice.now) slice.now,
-        )) }
-    ensures refused { IsSkippable next_header →
-        length slice.now < required_len_of next_header slice.now →
-        (result.next_header, result.error, result.rest)
-        ≡ walk_in_c len_error_in_c slice.now
-        (Err (incomplete_header_error next_header slice.now 0)) }
+        ≡ answer_in_c (λ number. number) 0 len_error_in_c slice.now
+        (if nat_le required_len (length slice.now)
+        then Ok (slice_index slice.now 0, drop required_len slice.now)
+        else Err (incomplete_header_error next_header slice.now 0)) }
 {
     match Ipv6Header::skip_header_extension_in_slice(slice, IpNumber(next_header)) {
         // Each arm has its own `return`, for speed: as the value of the `match` the answer takes
@@ -61,7 +56,8 @@ pub extern "C" fn etherparse_ipv6_skip(slice: &[u8], next_header: u8) -> Ipv6Wal
 #[unsafe(no_mangle)]
 pub extern "C" fn etherparse_ipv6_walk(slice: &[u8], next_header: u8) -> Ipv6WalkAnswer
     ensures walks { GivesAnswer (Walks slice.now next_header)
-        (walk_in_c len_error_in_c slice.now) (result.next_header, result.error, result.rest) }
+        (answer_in_c (λ number. number) 0 len_error_in_c slice.now)
+        (result.next_header, result.error, result.rest) }
 {
     match Ipv6Header::skip_all_header_extensions_in_slice(slice, IpNumber(next_header)) {
         Ok((number, rest)) => return ended(slice, number, rest),
@@ -81,7 +77,8 @@ pub extern "C" fn etherparse_ipv6_walk_up_to(
     limit: usize,
 ) -> Ipv6WalkAnswer
     ensures walks { GivesAnswer (WalksUpTo limit slice.now next_header)
-        (walk_in_c chain_error_in_c slice.now) (result.next_header, result.error, result.rest) }
+        (answer_in_c (λ number. number) 0 chain_error_in_c slice.now)
+        (result.next_header, result.error, result.rest) }
 {
     match Ipv6Header::skip_header_extensions_up_to(slice, IpNumber(next_header), limit) {
         Ok((number, rest)) => return ended(slice, number, rest),
@@ -109,7 +106,11 @@ fn ended(slice: &[u8], number: IpNumber, rest: &[u8]) -> Ipv6WalkAnswer
 // The answer of a walk that did not.
 #[inline(always)]
 fn refused(error: Error) -> Ipv6WalkAnswer
-    ensures value { result ≡ record { next_header = 0; rest = no_rest; error = error } }
+    ensures value { result ≡ record {
+      error = error;
+      rest = record { offset = 0; len = 0 };
+      next_header = 0;
+    } }
 {
     Ipv6WalkAnswer {
         next_header: 0,

@@ -1,14 +1,20 @@
 //! The text of an error, as the library prints it.
 
-ghost use Rattle.std.specs.Prelude.{◌≡◌, ◌+◌, ◌≤◌, ◌<◌, length, slice_set};
+ghost use Rattle.std.specs.Prelude.{ℕ, ◌≡◌, ◌≢◌, ◌<◌, ◌≤◌, ◌+◌, ◌⊎◌, [], length, slice_set};
 ghost use Rattle.std.specs.List.{flat_map};
+ghost use Rattle.etherparse.specs.Ipv4Errors.{bad_options_len_text, ipv4_header_error_text};
+ghost use Rattle.etherparse.specs.Ipv6Errors.{chain_error_text, ipv6_header_error_text};
 ghost use Rattle.etherparse.specs.Layer.{layer_text, layer_title};
 ghost use Rattle.etherparse.specs.LenError.{len_error_text};
 ghost use Rattle.etherparse.specs.LenSource.{len_source_text};
-ghost use Rattle.etherparse.specs.declared.err.Layer.{Layer};
-ghost use Rattle.etherparse_c.specs.Error.{source_in_c};
-ghost use Rattle.etherparse_c.specs.ErrorText.{GivesText, error_text, len_error_in, len_text};
-ghost use Rattle.etherparse_c.specs.ErrorText.{value_text, version_text};
+ghost use Rattle.etherparse.specs.ValueTooBigError.{value_too_big_error_text};
+ghost use Rattle.etherparse.specs.declared.err.LenError.{LenError};
+ghost use Rattle.etherparse.specs.declared.err.ValueType.{ValueType};
+ghost use Rattle.etherparse.specs.declared.err.ipv4.HeaderError.TheVariants as ipv4;
+ghost use Rattle.etherparse.specs.declared.err.ipv6.ChainError.TheVariants as chain;
+ghost use Rattle.etherparse.specs.declared.err.ipv6.HeaderError.TheVariants as ipv6;
+ghost use Rattle.etherparse_c.specs.Error.{len_error_in_c, value_in_c};
+ghost use Rattle.etherparse_c.specs.ErrorText.{GivesText, HasNumbers};
 
 use crate::answer::{
     BAD_OPTIONS_LEN, Error, HEADER_LENGTH_SMALLER_THAN_HEADER, IP_DSCP, IP_ECN, IP_FRAGMENT_OFFSET,
@@ -25,17 +31,66 @@ use itoa::Buffer;
 /// text.
 #[unsafe(no_mangle)]
 pub extern "C" fn etherparse_error_text(error: &Error, text: &mut [u8]) -> usize
-    ensures gives { GivesText (error_text error.now) text.old text.new result }
+    ensures len { (e : LenError) → HasNumbers e →
+        record error.now { number = 0; limit = 0 } ≡ len_error_in_c e →
+        GivesText (len_error_text e) text.old text.new result }
+    ensures ipv4_version { error.now.kind ≡ 2 → error.now.layer ≡ 1 →
+        GivesText (ipv4_header_error_text (ipv4.UnexpectedVersion error.now.number))
+        text.old text.new result }
+    ensures ipv6_version { error.now.kind ≡ 2 → error.now.layer ≡ 3 →
+        GivesText (ipv6_header_error_text (ipv6.UnexpectedVersion error.now.number))
+        text.old text.new result }
+    ensures ihl { error.now.kind ≡ 3 →
+        GivesText (ipv4_header_error_text (ipv4.HeaderLengthSmallerThanHeader error.now.number))
+        text.old text.new result }
+    ensures too_many { error.now.kind ≡ 4 → GivesText (chain_error_text
+        (chain.TooMany error.now.limit error.now.number error.now.layer_start_offset))
+        text.old text.new result }
+    ensures value { (v : ValueType) → error.now.kind ≡ 5 → error.now.number ≡ value_in_c v →
+        0 < value_in_c v → GivesText (value_too_big_error_text (record {
+          actual = error.now.len;
+          max_allowed = error.now.limit;
+          value_type = v;
+        })) text.old text.new result }
+    ensures options { error.now.kind ≡ 6 →
+        GivesText (bad_options_len_text (record { bad_len = error.now.len }))
+        text.old text.new result }
+
+    // No error has the kind, the layer or the value, or the length is not too small.
+    ensures none { (error.now.kind ≡ 1 → error.now.len < error.now.required_len →
+        (error.now.layer ≡ 0) ⊎ (4 < error.now.layer)) →
+        (error.now.kind ≡ 2 → (error.now.layer ≢ 1) × (error.now.layer ≢ 3)) →
+        error.now.kind ≢ 3 → error.now.kind ≢ 4 →
+        (error.now.kind ≡ 5 → (error.now.number ≡ 0) ⊎ (6 < error.now.number)) →
+        error.now.kind ≢ 6 → GivesText [] text.old text.new result }
 {
     let (mut number, mut limit, mut start) = (Buffer::new(), Buffer::new(), Buffer::new());
     match error.kind {
         LEN => {
-            if error.len < error.required_len {
+            if error.len < error.required_len && error.layer > 0 && error.layer <= IPV6_EXT_HEADER {
                 return put_len(error, text);
             }
             return put(&[], text);
         }
-        UNEXPECTED_VERSION => return put_version(error, text),
+        UNEXPECTED_VERSION => match error.layer {
+            IPV4_HEADER => return put(
+                &[
+                    "IPv4 Header Error: Encountered '",
+                    number.format(usize::from(error.number)),
+                    "' as IP version number in the IPv4 header (must be '4' in an IPv4 header).",
+                ],
+                text,
+            ),
+            IPV6_HEADER => return put(
+                &[
+                    "IPv6 Header Error: Encountered '",
+                    number.format(usize::from(error.number)),
+                    "' as IP version number in the IPv6 header (must be '6' in an IPv6 header).",
+                ],
+                text,
+            ),
+            _ => return put(&[], text),
+        },
         HEADER_LENGTH_SMALLER_THAN_HEADER => return put(
             &[
                 "IPv4 Header Error: The 'internet header length' value '",
@@ -57,7 +112,12 @@ pub extern "C" fn etherparse_error_text(error: &Error, text: &mut [u8]) -> usize
             ],
             text,
         ),
-        VALUE_TOO_BIG => return put_value(error, text),
+        VALUE_TOO_BIG => {
+            if error.number > 0 && error.number <= IPV6_PAYLOAD_LENGTH {
+                return put_value(error, text);
+            }
+            return put(&[], text);
+        }
         BAD_OPTIONS_LEN => return put(
             &[
                 "Slice of length ",
@@ -71,10 +131,13 @@ pub extern "C" fn etherparse_error_text(error: &Error, text: &mut [u8]) -> usize
     }
 }
 
-// The text of a length that is too small, by its layer.
+// The text of a length that is too small, in a layer that has a number.
 fn put_len(error: &Error, text: &mut [u8]) -> usize
     requires below { error.now.len < error.now.required_len }
-    ensures gives { GivesText (len_text error.now) text.old text.new result }
+    requires known { error.now.layer ≤ 4 }
+    ensures gives { (e : LenError) → HasNumbers e →
+        record error.now { number = 0; limit = 0 } ≡ len_error_in_c e →
+        GivesText (len_error_text e) text.old text.new result }
 {
     let (title, layer, source) = match error.layer {
         IPV4_HEADER => ("IPv4 Header Error", "IPv4 header", "slice length"),
@@ -84,12 +147,11 @@ fn put_len(error: &Error, text: &mut [u8]) -> usize
             "length calculated from the IPv4 header 'total length' field",
         ),
         IPV6_HEADER => ("IPv6 Header Error", "IPv6 header", "slice length"),
-        IPV6_EXT_HEADER => (
+        _ => (
             "IPv6 Extension Header Error",
             "IPv6 extension header",
             "slice length",
         ),
-        _ => return put(&[], text),
     };
     put_len_in(error, title, layer, source, text)
 }
@@ -106,9 +168,10 @@ fn put_len_in(
     requires below { error.now.len < error.now.required_len }
     requires short_layer { length layer.now ≤ 32 }
     requires short { length title.now + length source.now ≤ 128 }
-    ensures gives { (l : Layer) → title.now ≡ layer_title l → layer.now ≡ layer_text l →
-        source.now ≡ len_source_text (source_in_c l) →
-        GivesText (len_error_text (len_error_in l error.now)) text.old text.new result }
+    ensures gives { (e : LenError) → record error.now { number = 0; limit = 0 } ≡ len_error_in_c e →
+        title.now ≡ layer_title e.layer → layer.now ≡ layer_text e.layer →
+        source.now ≡ len_source_text e.len_source →
+        GivesText (len_error_text e) text.old text.new result }
 {
     let (mut required_len, mut len, mut start) = (Buffer::new(), Buffer::new(), Buffer::new());
     let mut place = ArrayString::<128>::new();
@@ -137,37 +200,15 @@ fn put_len_in(
     )
 }
 
-// The text of an unexpected version, by the layer.
-fn put_version(error: &Error, text: &mut [u8]) -> usize
-    ensures gives { GivesText (version_text error.now) text.old text.new result }
-{
-    let version: &'static str = match error.layer {
-        IPV4_HEADER => "4",
-        IPV6_HEADER => "6",
-        _ => return put(&[], text),
-    };
-    let mut number = Buffer::new();
-    put(
-        &[
-            "IPv",
-            version,
-            " Header Error: Encountered '",
-            number.format(usize::from(error.number)),
-            "' as IP version number in the IPv",
-            version,
-            " header (must be '",
-            version,
-            "' in an IPv",
-            version,
-            " header).",
-        ],
-        text,
-    )
-}
-
-// The text of a value that is too big, by the kind of value.
+// The text of a value that is too big, of a kind that has a number.
 fn put_value(error: &Error, text: &mut [u8]) -> usize
-    ensures gives { GivesText (value_text error.now) text.old text.new result }
+    requires known { error.now.number ≤ 6 }
+    ensures gives { (v : ValueType) → error.now.number ≡ value_in_c v → 0 < value_in_c v →
+        GivesText (value_too_big_error_text (record {
+          actual = error.now.len;
+          max_allowed = error.now.limit;
+          value_type = v;
+        })) text.old text.new result }
 {
     let name: &'static str = match error.number {
         IP_FRAGMENT_OFFSET => "IP Fragment Offset",
@@ -175,8 +216,7 @@ fn put_value(error: &Error, text: &mut [u8]) -> usize
         IP_ECN => "IPv4 ECN (Explicit Congestion Notification)",
         IPV6_FLOW_LABEL => "IPv6 Flow Label",
         IPV4_PAYLOAD_LENGTH => "IPv4 Header 'Payload Length' (sets 'Total Length')",
-        IPV6_PAYLOAD_LENGTH => "IPv6 Header 'Payload Length'",
-        _ => return put(&[], text),
+        _ => "IPv6 Header 'Payload Length'",
     };
     let (mut value, mut limit) = (Buffer::new(), Buffer::new());
     put(
