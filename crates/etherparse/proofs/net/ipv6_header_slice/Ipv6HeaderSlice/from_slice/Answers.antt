@@ -2,7 +2,8 @@ use Rattle.std.proofs.Common.{arith, ap, refl, ◌∙◌, ◌/◌}
 use Rattle.etherparse_base.specs.declared.err.ipv6.header_error.HeaderError.TheVariants.{UnexpectedVersion}
 use Rattle.etherparse_base.specs.declared.err.ipv6.header_slice_error.HeaderSliceError.TheVariants.{Content}
 use Rattle.etherparse.proofs.Ipv6Reading.{front_viewed, not_refused, shown, viewed_once}
-use Rattle.etherparse.proofs.Parts.{get_or-slice_range, length-part, part_is_bytes}
+use Rattle.std.proofs.lemmas.List.{get_or-take, length-take-le}
+use Rattle.etherparse.proofs.Parts.{part_is_bytes}
 use Rattle.etherparse.proofs.net.ipv6_header_slice.Ipv6HeaderSlice.from_slice.Goals as goal
 
 pub returns-then-version_number-ne6-clause-only : goal.returns-then-version_number-ne6-clause-only
@@ -14,9 +15,9 @@ returns-then-version_number-ne6-clause-shows c = λ header rest b. not_refused _
 
 pub invariant_of-result : goal.invariant_of-result
 invariant_of-result c = record {
-  len = length-part c.args.slice.now 0 40 c.if-slice-lt-LEN.false;
-  version = ap (λ n. n / 16) (get_or-slice_range c.args.slice.now 0 40 0 (omega arith)) ∙ c.if-version_number-ne6.false;
-  are_bytes = λ i. part_is_bytes c.args.slice.now 0 40 i (λ k. omega (arith, c.type_inv.slice k));
+  len = length-take-le 40 c.args.slice.now c.if-slice-lt-LEN.false;
+  version = ap (λ n. n / 16) (get_or-take 40 c.args.slice.now 0 0 (omega arith)) ∙ c.if-version_number-ne6.false;
+  are_bytes = part_is_bytes c.args.slice.now 0 40 (λ k. omega (arith, c.type_inv.slice k));
 }
 
 pub returns-clause-views : goal.returns-clause-views
