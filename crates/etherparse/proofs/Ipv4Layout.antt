@@ -1,17 +1,18 @@
 -- Laws of the IPv4 layout.
-use Rattle.std.proofs.Common.{ℕ, zero, suc, ◌≡◌, ◌+◌, ◌-◌, ◌*◌, ◌/◌, ◌%◌, ◌^◌, ◌<◌, ◌≤◌, List, [], ◌∷◌, ◌++◌, length, get_or, drop, refl, sym, subst, ap, ◌∙◌, arith, rules, append_assoc, length-drop, Bool, true, false}
+use Rattle.std.proofs.Common.{ℕ, zero, suc, ◌≡◌, ◌+◌, ◌-◌, ◌*◌, ◌/◌, ◌%◌, ◌^◌, ◌<◌, ◌≤◌, List, [], ◌∷◌, ◌++◌, length, get_or, drop, refl, sym, subst, ap, ◌∙◌, arith, rules, append_assoc, length-drop, Bool}
 use Rattle.std.specs.Prelude.{◌↔◌, bit_and, not, nat_eq}
 use Rattle.std.specs.List.{AllByRecursion, slice_range}
 use Rattle.std.specs.Int.{from_be_bytes, from_bool, w16}
-use Rattle.std.proofs.lemmas.Bool.{eq-eqb, ne_eqb}
-use Rattle.std.proofs.lemmas.List.Edits.{get_or-between, length-between}
+use Rattle.std.proofs.lemmas.Bool.Decides.{nat_tests}
+use Rattle.std.proofs.lemmas.Grind.{common_steps}
+use Rattle.std.proofs.lemmas.List.Edits.{length-between}
 use Rattle.std.proofs.lemmas.Nat.Bits.{and_pow}
 use Rattle.etherparse_base.specs.Bytes.{IsBytes}
 use Rattle.etherparse_fields.specs.IpEcn.{ecn_value}
 use Rattle.etherparse_fields.specs.Ipv4Options.{IsOptionsLen}
 use Rattle.etherparse_fields.specs.declared.net.ip_ecn.IpEcn.{IpEcn}
 use Rattle.etherparse_fields.specs.declared.net.ip_ecn.IpEcn.TheVariants.{CongestionExperienced, Ect0, Ect1, NotEct}
-use Rattle.etherparse.proofs.Layouts.{AreAt, Field, Fits, array, length-written, read_back, told, u16, u16_fits, u8, written}
+use Rattle.etherparse.proofs.Layouts.{AreAt, Field, Fits, array, from_be_bytes-lt, length-written, read_back, told, u16, u8, written}
 use Rattle.etherparse.proofs.Parts.{set_is_bytes}
 use Rattle.etherparse.specs.FirstByte.{ihl_of, version_of}
 use Rattle.etherparse.specs.Ipv4Header.{IsIpv4Layout, IsIpv4LayoutWith, ipv4_ihl, with_reserved_bit_cleared}
@@ -19,46 +20,26 @@ use Rattle.etherparse.specs.declared.net.ipv4_header.Ipv4Header.{Ipv4Header}
 
 -- a bool as a number
 from_bool-lt : (b : Bool) → from_bool b < 2
-from_bool-lt true = omega arith
-from_bool-lt false = omega arith
+from_bool-lt b = grind arith
 
 same_bool : (a b : Bool) → from_bool a ≡ from_bool b → a ≡ b
 same_bool a b e = search rules
 
 -- a code point as a number
 ecn_value-lt : (e : IpEcn) → ecn_value e < 4
-ecn_value-lt NotEct = omega arith
-ecn_value-lt Ect1 = omega arith
-ecn_value-lt Ect0 = omega arith
-ecn_value-lt CongestionExperienced = omega arith
+ecn_value-lt e = grind arith
 
 same_ecn : (a b : IpEcn) → ecn_value a ≡ ecn_value b → a ≡ b
 same_ecn a b e = search rules
-
--- the version and the IHL, which is the length of a header in words
-pub first_byte_of-layout : (h : Ipv4Header) (p : List ℕ) → IsIpv4Layout h p → (version_of p ≡ 4) × (ihl_of p ≡ ipv4_ihl h) × (length p ≡ 4 * ihl_of p)
-first_byte_of-layout h p l = omega (arith, l.layout.version_ihl, l.layout.len, l.layout.options_len)
-
--- the halves of byte 1
-halves_of-layout : (h : Ipv4Header) (r : ℕ) (p : List ℕ) → IsIpv4LayoutWith h r p → (get_or p 1 0 / 4 ≡ h.dscp) × (get_or p 1 0 % 4 ≡ ecn_value h.ecn)
-halves_of-layout h r p l = omega (arith, l.dscp_ecn, ecn_value-lt h.ecn)
 
 -- the flags and the fragment offset
 abbrev pub flags_word : Ipv4Header → ℕ → ℕ
 flags_word h r = r * 2 ^ 15 + from_bool h.dont_fragment * 2 ^ 14 + from_bool h.more_fragments * 2 ^ 13 + h.fragment_offset
 
--- they are the bits of bytes 6 and 7
-pub flags_of-layout : (h : Ipv4Header) (r : ℕ) (p : List ℕ) → IsIpv4LayoutWith h r p → (get_or p 6 0 / 64 % 2 ≡ from_bool h.dont_fragment)
-    × (get_or p 6 0 / 32 % 2 ≡ from_bool h.more_fragments) × (get_or p 6 0 % 32 * 2 ^ 8 + get_or p 7 0 ≡ h.fragment_offset)
-flags_of-layout h r p l =
-    let high = get_or-between p 6 8 0 0 (omega arith) in
-    let low = get_or-between p 6 8 1 0 (omega arith) in
-    omega (arith, l.flags_fragment_offset, high, low, l.are_bytes 7, l.fragment_offset_fits, from_bool-lt h.dont_fragment, from_bool-lt h.more_fragments)
-
--- a test of one bit
-pub tests_bit : (n k : ℕ) (b : Bool) → n / 2 ^ k % 2 ≡ from_bool b → 0 < 2 ^ k → not (nat_eq (bit_and n (2 ^ k)) 0) ≡ b
-tests_bit n k true e pos = ap (λ m. not (nat_eq m 0)) (and_pow n k ∙ ap (λ bit. bit * 2 ^ k) e) ∙ ap not (ne_eqb (1 * 2 ^ k) 0 (λ z. absurd (omega (arith, z, pos))))
-tests_bit n k false e pos = ap (λ m. not (nat_eq m 0)) (and_pow n k ∙ ap (λ bit. bit * 2 ^ k) e) ∙ ap not (eq-eqb (0 * 2 ^ k) 0 (omega arith))
+-- each flag is the test of its bit
+pub flags_tested : (h : Ipv4Header) (p : List ℕ) → IsIpv4Layout h p
+    → (not (nat_eq (bit_and (get_or p 6 0) 64) 0) ≡ h.dont_fragment) × (not (nat_eq (bit_and (get_or p 6 0) 32) 0) ≡ h.more_fragments)
+flags_tested h p l = rw (and_pow (get_or p 6 0) 6, and_pow (get_or p 6 0) 5) (grind (arith, common_steps, nat_tests, l.layout.are_bytes 7, from_bool-lt))
 
 -- headers with equal fields
 pub same_fields : (g h : Ipv4Header) → g.dscp ≡ h.dscp → g.ecn ≡ h.ecn → g.total_len ≡ h.total_len → g.identification ≡ h.identification
@@ -69,19 +50,7 @@ same_fields g h a b c d e f i j k l m n o = search rules
 
 -- bytes have one header
 same_header : (g h : Ipv4Header) (q r : ℕ) (p : List ℕ) → IsIpv4LayoutWith g q p → IsIpv4LayoutWith h r p → g ≡ h
-same_header g h q r p k l =
-    let (g_dscp, g_ecn) = halves_of-layout g q p k in
-    let (h_dscp, h_ecn) = halves_of-layout h r p l in
-    let (g_dont_fragment, g_more_fragments, g_offset) = flags_of-layout g q p k in
-    let (h_dont_fragment, h_more_fragments, h_offset) = flags_of-layout h r p l in
-    search (
-      rules,
-      sym g_dscp ∙ h_dscp,
-      same_ecn _ _ (sym g_ecn ∙ h_ecn),
-      same_bool _ _ (sym g_dont_fragment ∙ h_dont_fragment),
-      same_bool _ _ (sym g_more_fragments ∙ h_more_fragments),
-      sym g_offset ∙ h_offset,
-    )
+same_header g h q r p k l = search (rules, same_ecn, same_bool, ecn_value-lt, from_bool-lt)
 
 pub one_header : (g h : Ipv4Header) (p : List ℕ) → IsIpv4Layout g p → IsIpv4Layout h p → g ≡ h
 one_header g h p k l = same_header g h k.reserved l.reserved p k.layout l.layout
@@ -124,55 +93,36 @@ spells h r p f o b are_bytes e =
     search (rules, fields, len, f)
 
 -- the spelling of a header with the reserved bit cleared
-pub cleared_spells : (h : Ipv4Header) (r : ℕ) (p : List ℕ) → IsIpv4LayoutWith h r p → with_reserved_bit_cleared p ≡ spelling h (flags_word h 0)
-cleared_spells h r p l =
-    let df = from_bool-lt h.dont_fragment in
-    let mf = from_bool-lt h.more_fragments in
-    let high : flags_word h r / 256 % 256 % 2 ^ 7 ≡ flags_word h 0 / 256 % 256 = omega (arith, l.reserved_fits, l.fragment_offset_fits) in
-    let low : flags_word h r % 256 ≡ flags_word h 0 % 256 = omega arith in
-    rw (spelled h r p l, high, low) refl
+cleared_spells : (h : Ipv4Header) (p : List ℕ) → IsIpv4Layout h p → with_reserved_bit_cleared p ≡ spelling h (flags_word h 0)
+cleared_spells h p l =
+    let high : flags_word h l.reserved / 256 % 256 % 2 ^ 7 ≡ flags_word h 0 / 256 % 256 = omega (arith, from_bool-lt, l.layout.reserved_fits, l.layout.fragment_offset_fits) in
+    let low : flags_word h l.reserved % 256 ≡ flags_word h 0 % 256 = omega arith in
+    rw (spelled h l.reserved p l.layout, high, low) refl
 
 -- the ranges of a header's fields are in its layout
 pub ranges_of : (h : Ipv4Header) (r : ℕ) (p : List ℕ) → IsIpv4LayoutWith h r p → HasFieldRanges h
-ranges_of h r p l =
-    let source = ap length l.source in
-    let destination = ap length l.destination in
-    omega (
-      arith,
-      u16_fits p 2 _ l.are_bytes l.total_len,
-      u16_fits p 4 _ l.are_bytes l.identification,
-      u16_fits p 10 _ l.are_bytes l.header_checksum,
-      length-between {X = ℕ},
-    )
+ranges_of h r p l = omega (arith, length-between {X = ℕ}, from_be_bytes-lt, ap length l.source, ap length l.destination)
 
 -- with the reserved bit cleared the bytes are in the layout of the same header
-pub cleared_layout : (h : Ipv4Header) (r : ℕ) (p : List ℕ) → IsIpv4LayoutWith h r p → IsIpv4LayoutWith h 0 (with_reserved_bit_cleared p)
-cleared_layout h r p l =
-    let byte = l.are_bytes 6 in
-    let bytes = set_is_bytes p 6 (get_or p 6 0 % 2 ^ 7) (omega (arith, l.len)) (omega arith) l.are_bytes in
-    spells h 0 (with_reserved_bit_cleared p) (ranges_of h r p l) l.options_len (omega arith) bytes (cleared_spells h r p l)
+pub cleared_layout : (h : Ipv4Header) (p : List ℕ) → IsIpv4Layout h p → IsIpv4LayoutWith h 0 (with_reserved_bit_cleared p)
+cleared_layout h p l =
+    let bytes = set_is_bytes p 6 (get_or p 6 0 % 2 ^ 7) (omega (arith, l.layout.len)) (omega arith) l.layout.are_bytes in
+    spells h 0 (with_reserved_bit_cleared p) (ranges_of h l.reserved p l.layout) l.layout.options_len (omega arith) bytes (cleared_spells h p l)
 
 -- headers are the same exactly where their bytes are, but for the reserved bit
 pub same_header_cleared : (g h : Ipv4Header) (o p : List ℕ) → IsIpv4Layout g o → IsIpv4Layout h p
     → (g ≡ h) ↔ (with_reserved_bit_cleared o ≡ with_reserved_bit_cleared p)
 same_header_cleared g h o p k l = (
-  λ e. cleared_spells g k.reserved o k.layout ∙ ap (λ x. spelling x (flags_word x 0)) e ∙ sym (cleared_spells h l.reserved p l.layout),
-  λ e. same_header g h 0 0 (with_reserved_bit_cleared p)
-      (subst (λ x. IsIpv4LayoutWith g 0 x) e (cleared_layout g k.reserved o k.layout)) (cleared_layout h l.reserved p l.layout),
+  λ e. cleared_spells g o k ∙ ap (λ x. spelling x (flags_word x 0)) e ∙ sym (cleared_spells h p l),
+  λ e. same_header g h 0 0 (with_reserved_bit_cleared p) (subst (λ x. IsIpv4LayoutWith g 0 x) e (cleared_layout g o k)) (cleared_layout h p l),
 )
 
--- each number in range is one of a bool, or of a code point
-bool_with : (n : ℕ) → n < 2 → (b : Bool) × (from_bool b ≡ n)
-bool_with zero h = (false, refl)
-bool_with (suc zero) h = (true, refl)
-bool_with (suc (suc n)) h = absurd (omega arith)
-
+-- each number below 4 is that of a code point
 ecn_with : (n : ℕ) → n < 4 → (e : IpEcn) × (ecn_value e ≡ n)
 ecn_with zero h = (NotEct, refl)
 ecn_with (suc zero) h = (Ect1, refl)
 ecn_with (suc (suc zero)) h = (Ect0, refl)
-ecn_with (suc (suc (suc zero))) h = (CongestionExperienced, refl)
-ecn_with (suc (suc (suc (suc n)))) h = absurd (omega arith)
+ecn_with (suc (suc (suc n))) h = (CongestionExperienced, omega arith)
 
 -- what starts with version 4, has an IHL of 5 or more and the length that it says is in the layout of a header
 pub header_at : (p : List ℕ) → version_of p ≡ 4 → 5 ≤ ihl_of p → length p ≡ 4 * ihl_of p → IsBytes p
@@ -182,15 +132,13 @@ header_at p version ihl len bytes =
     let b6 = bytes 6 in
     let b7 = bytes 7 in
     let ecn = ecn_with (get_or p 1 0 % 4) (omega arith) in
-    let df = bool_with (get_or p 6 0 / 64 % 2) (omega arith) in
-    let mf = bool_with (get_or p 6 0 / 32 % 2) (omega arith) in
     let header : Ipv4Header = record {
       dscp = get_or p 1 0 / 4;
       ecn = ecn.0;
       total_len = from_be_bytes w16 (slice_range p 2 4);
       identification = from_be_bytes w16 (slice_range p 4 6);
-      dont_fragment = df.0;
-      more_fragments = mf.0;
+      dont_fragment = nat_eq (get_or p 6 0 / 64 % 2) 1;
+      more_fragments = nat_eq (get_or p 6 0 / 32 % 2) 1;
       fragment_offset = get_or p 6 0 % 32 * 2 ^ 8 + get_or p 7 0;
       time_to_live = get_or p 8 0;
       protocol = get_or p 9 0;
@@ -200,9 +148,7 @@ header_at p version ihl len bytes =
       options = drop 20 p;
     } in
     let options : length (drop 20 p) ≡ length p - 20 = length-drop 20 p in
-    let high = get_or-between p 6 8 0 0 (omega arith) in
-    let low = get_or-between p 6 8 1 0 (omega arith) in
-    let flags : from_be_bytes w16 (slice_range p 6 8) ≡ flags_word header (get_or p 6 0 / 128) = omega (arith, df.1, mf.1) in
+    let flags : from_be_bytes w16 (slice_range p 6 8) ≡ flags_word header (get_or p 6 0 / 128) = grind (arith, common_steps, nat_tests) in
     (header, record { reserved = get_or p 6 0 / 128; layout = search (rules, ecn.1, flags) })
 
 -- the fixed fields of a header, with the options after them, are its spelling

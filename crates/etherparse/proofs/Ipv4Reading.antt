@@ -1,49 +1,33 @@
 -- Some bytes have one answer of an IPv4 reader.
-use Rattle.std.proofs.Common.{ℕ, ◌≡◌, ◌-◌, ◌*◌, ◌%◌, ◌/◌, ◌≤◌, List, ◌++◌, length, take, drop, get_or, refl, sym, ap, subst, ◌∙◌, arith, length-append, Ok, Err}
-use Rattle.std.proofs.lemmas.List.{append_cancel_right, drop-append-le, get_or-take, get_or_append_left, length-drop, length-take-le, take-append-drop, take-take, take_at}
-use Rattle.std.proofs.lemmas.Slice.{between_from_start}
+use Rattle.std.proofs.Common.{ℕ, ◌≡◌, ◌-◌, ◌*◌, ◌≤◌, List, ◌++◌, length, take, drop, get_or, refl, sym, ap, subst, ◌∙◌, arith, Ok, Err}
+use Rattle.std.proofs.lemmas.Grind.{common_steps}
+use Rattle.std.proofs.lemmas.List.{append_cancel_right, drop-append-le, length-drop, length-take, get_or_past, take-append-drop, take-take, take_at}
 use Rattle.etherparse_base.specs.Bytes.{IsBytes}
-use Rattle.etherparse_base.specs.declared.err.ipv4.header_slice_error.HeaderSliceError.{HeaderSliceError}
 use Rattle.etherparse.proofs.Fronts.{TellsHeaders, begins_at, cut_behind, read_once}
-use Rattle.etherparse.proofs.Ipv4Layout.{cleared_layout, first_byte_of-layout, header_at, one_header, same_header_cleared}
-use Rattle.etherparse.proofs.Parts.{part_is_bytes}
+use Rattle.etherparse.proofs.Ipv4Layout.{cleared_layout, header_at, one_header, same_header_cleared}
 use Rattle.etherparse.specs.FirstByte.{ihl_of, version_of}
 use Rattle.etherparse.specs.Ipv4Header.{IsIpv4Layout, IsIpv4ReadingOf, Ipv4Reading, ReadsIpv4, RefusesIpv4, ViewsIpv4, ipv4_header_len}
 use Rattle.etherparse.specs.Reading.{BeginsWith}
 use Rattle.etherparse.specs.declared.net.ipv4_header.Ipv4Header.{Ipv4Header}
 
--- some bytes are refused for one reason
-refused_once : (s : List ℕ) (e f : HeaderSliceError) → RefusesIpv4 s e → RefusesIpv4 s f → e ≡ f
-refused_once s e f p q = grind arith
-
 -- what begins with a header begins with its version and its IHL, and has as many bytes as that says
 begins_with_ihl : (s : List ℕ) (h : Ipv4Header) (x : List ℕ) (b : BeginsWith IsIpv4Layout s h x)
     → (version_of s ≡ 4) × (5 ≤ ihl_of s) × (length b.front ≡ 4 * ihl_of s) × (4 * ihl_of s ≤ length s)
-begins_with_ihl s h x b =
-    let first = ap (λ p. get_or p 0 0) b.whole ∙ get_or_append_left b.front x 0 0 (omega (arith, b.layout.layout.len)) in
-    let front = first_byte_of-layout h b.front b.layout in
-    omega (arith, ap length b.whole, length-append b.front x, ap (λ n. n / 16) first, ap (λ n. n % 16) first)
-
--- so it is not refused
-not_refused : (s : List ℕ) (h : Ipv4Header) (x : List ℕ) (e : HeaderSliceError) → BeginsWith IsIpv4Layout s h x → RefusesIpv4 s e → ⊥
-not_refused s h x e b q = let ihl = begins_with_ihl s h x b in grind arith
+begins_with_ihl s h x b = grind (arith, common_steps, ap length b.whole, ap (λ p. get_or p 0 0) b.whole)
 
 -- a slice is read in one way
 pub tells_headers : TellsHeaders IsIpv4Layout RefusesIpv4
 tells_headers = record {
   one_header = one_header;
   one_length = λ s g h x y p q. omega (arith, begins_with_ihl s g x p, begins_with_ihl s h y q);
-  not_refused = not_refused;
-  one_refusal = refused_once;
+  not_refused = λ s h x e b q. let ihl = begins_with_ihl s h x b in grind arith;
+  one_refusal = λ s e f p q. grind arith;
 }
 
 -- the front of some bytes is seen where they are of version 4, and as many as their IHL says
 pub front_viewed : (s : List ℕ) (n : ℕ) → version_of s ≡ 4 → 5 ≤ ihl_of s → n ≡ 4 * ihl_of s → n ≤ length s → IsBytes s → ViewsIpv4 s (Ok (take n s))
 front_viewed s n version ihl says long bytes =
-    let first = get_or-take n s 0 0 (omega arith) in
-    let len = length-take-le n s long in
-    let header = header_at (take n s) (ap (λ x. x / 16) first ∙ version) (omega (arith, ap (λ x. x % 16) first))
-    (omega (arith, ap (λ x. x % 16) first)) (subst IsBytes (between_from_start s n) (part_is_bytes s 0 n bytes)) in
+    let header = header_at (take n s) (grind (arith, common_steps)) (grind (arith, common_steps)) (grind (arith, common_steps)) (grind (arith, common_steps, get_or_past, length-take)) in
     record { header = header.0; rest = drop n s; whole = sym (take-append-drop n s); layout = header.1 }
 
 -- what is promised of a reading follows from its answer
@@ -54,7 +38,7 @@ is_reading_of s (Ok x) b =
     record {
       reads = b;
       only = λ other o. read_once IsIpv4Layout RefusesIpv4 tells_headers s other (Ok x) o b;
-      cleared = λ front whole. let k = front_is front whole in cleared_layout x.0 k.reserved front k.layout;
+      cleared = λ front whole. cleared_layout x.0 front (front_is front whole);
       same_header = λ front whole bytes other k. same_header_cleared other x.0 bytes front k (front_is front whole);
       cut = cut_behind IsIpv4Layout (ipv4_header_len x.0) s x.0 x.1 b b.layout.layout.len;
     }
@@ -70,5 +54,4 @@ pub options_in_room : (s p t room : List ℕ) → s ≡ p ++ t → 20 ≤ length
     → take (length p - 20) room ≡ drop 20 p
 options_in_room s p t room e low high is =
     let fits : length p - 20 ≤ 40 = omega arith in
-    rw (is, e, take-take (length p - 20) 40 (take 40 (drop 20 (p ++ t))) fits, take-take (length p - 20) 40 (drop 20 (p ++ t)) fits, drop-append-le 20 p t low)
-    (take_at (drop 20 p) t (length p - 20) (length-drop 20 p))
+    rw (is, e) (simp (take-take, drop-append-le, take_at, length-drop))

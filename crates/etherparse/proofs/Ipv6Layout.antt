@@ -1,5 +1,5 @@
 -- Laws of the IPv6 layout.
-use Rattle.std.proofs.Common.{ℕ, ◌≡◌, ◌+◌, ◌*◌, ◌/◌, ◌%◌, ◌^◌, ◌<◌, List, [], ◌∷◌, length, get_or, sym, ap, ◌∙◌, arith, rules}
+use Rattle.std.proofs.Common.{ℕ, ◌≡◌, ◌+◌, ◌*◌, ◌/◌, ◌%◌, ◌^◌, ◌<◌, List, [], ◌∷◌, length, get_or, ap, ◌∙◌, arith, rules}
 use Rattle.std.specs.List.{AllByRecursion, slice_range}
 use Rattle.std.proofs.lemmas.List.{drop_all}
 use Rattle.std.proofs.lemmas.Grind.{common_steps}
@@ -16,22 +16,17 @@ pub same_fields : (g h : Ipv6Header) → g.traffic_class ≡ h.traffic_class →
     → g.source ≡ h.source → g.destination ≡ h.destination → g ≡ h
 same_fields g h t f n x m s d = search rules
 
--- the first word as a number of its bytes
-first_word : (p : List ℕ) → from_be_bytes w32 (slice_range p 0 4) ≡ get_or p 0 0 * 2 ^ 24 + get_or p 1 0 * 2 ^ 16 + get_or p 2 0 * 2 ^ 8 + get_or p 3 0
-first_word p = grind (arith, common_steps)
-
 -- the version and the fields of the first word, read from its bytes
 pub word_of-layout : (h : Ipv6Header) (p : List ℕ) → IsIpv6Layout h p → (version_of p ≡ 6) × ((get_or p 0 0 * 256 + get_or p 1 0) / 16 % 256 ≡ h.traffic_class)
     × (get_or p 1 0 % 16 * 2 ^ 16 + get_or p 2 0 * 2 ^ 8 + get_or p 3 0 ≡ h.flow_label)
-word_of-layout h p l =
-    omega (arith, first_word p, l.version_traffic_class_flow_label, l.are_bytes 1, l.are_bytes 2, l.are_bytes 3, l.traffic_class_fits, l.flow_label_fits)
+word_of-layout h p l = grind (arith, common_steps, l.are_bytes 1, l.are_bytes 2, l.are_bytes 3)
 
 -- bytes have one header
 pub same_header : (g h : Ipv6Header) (p : List ℕ) → IsIpv6Layout g p → IsIpv6Layout h p → g ≡ h
 same_header g h p k l =
-    let (_, g_traffic_class, g_flow_label) = word_of-layout g p k in
-    let (_, h_traffic_class, h_flow_label) = word_of-layout h p l in
-    search (rules, sym g_traffic_class ∙ h_traffic_class, sym g_flow_label ∙ h_flow_label)
+    let a = word_of-layout g p k in
+    let b = word_of-layout h p l in
+    search rules
 
 -- the fields of a header, in their order
 abbrev pub ipv6_fields : Ipv6Header → List Field
@@ -56,17 +51,13 @@ header_at p e bytes version =
       source = slice_range p 8 24;
       destination = slice_range p 24 40;
     } in
-    let b1 = bytes 1 in
-    let b2 = bytes 2 in
-    let b3 = bytes 3 in
-    let word : from_be_bytes w32 (slice_range p 0 4) ≡ 6 * 2 ^ 28 + header.traffic_class * 2 ^ 20 + header.flow_label = omega (arith, first_word p) in
+    let word : from_be_bytes w32 (slice_range p 0 4) ≡ 6 * 2 ^ 28 + header.traffic_class * 2 ^ 20 + header.flow_label = grind (arith, common_steps, bytes 1, bytes 2, bytes 3) in
     (header, search (rules, word))
 
 -- the bytes of the fields are in the layout
-pub spells : (h : Ipv6Header) (p : List ℕ) → h.traffic_class < 2 ^ 8 → h.flow_label < 2 ^ 20 → h.payload_length < 2 ^ 16
-    → length h.source ≡ 16 → length h.destination ≡ 16 → IsBytes p → p ≡ written (ipv6_fields h) [] → IsIpv6Layout h p
-spells h p t f n s d are_bytes e =
-    let fit : AllByRecursion Fits (ipv6_fields h) = omega arith in
+pub spells : (h : Ipv6Header) (p : List ℕ) → h.traffic_class < 2 ^ 8 → h.flow_label < 2 ^ 20 → AllByRecursion Fits (ipv6_fields h) → IsBytes p
+    → p ≡ written (ipv6_fields h) [] → IsIpv6Layout h p
+spells h p t f fit are_bytes e =
     let fields = read_back p 0 (ipv6_fields h) [] fit e in
     let len = ap length e ∙ length-written (ipv6_fields h) [] fit in
     search (rules, fields, len)
