@@ -1,7 +1,7 @@
 -- A slice that begins with a header, in any layout: that it does so once, and where it is cut.
-use Rattle.std.proofs.Common.{ℕ, ◌≡◌, ◌+◌, ◌-◌, ◌≤◌, List, ◌++◌, length, take, drop, sym, ap, subst, ◌∙◌, arith, length-append, Ok, Err, Result}
+use Rattle.std.proofs.Common.{ℕ, ◌≡◌, ◌+◌, ◌-◌, ◌≤◌, List, ◌++◌, length, take, drop, sym, ap, subst, ◌∙◌, arith, length-append, Ok, Err, Result, take-append-drop, take_at}
 use Rattle.std.proofs.Math.Seq.{take-append-add}
-use Rattle.std.proofs.lemmas.List.{append_cancel_left, take-append-drop, take_at, take_rest}
+use Rattle.std.proofs.lemmas.List.{append_cancel_left, take_rest}
 use Rattle.etherparse_base.specs.declared.err.layer.Layer.{Layer}
 use Rattle.etherparse.proofs.Parts.{same_front}
 use Rattle.etherparse.specs.Reading.{BeginsWith, HasFront, IsTooShort, Reads, Views}
@@ -31,11 +31,11 @@ module _ {H E : Type 0} (Layout : H → List ℕ → Type 0) (Refuses : List ℕ
 
   -- a slice is read in one way
   pub read_once : (a b : Result (H × List ℕ) E) → Reads Layout Refuses s a → Reads Layout Refuses s b → a ≡ b
-  read_once (Ok x) (Ok y) p q =
-      let front = one_front x.0 y.0 x.1 y.1 p q in
-      let header : x.0 ≡ y.0 = t.one_header x.0 y.0 q.front (subst (λ o. Layout x.0 o) front p.layout) q.layout in
-      let rest : x.1 ≡ y.1 = append_cancel_left q.front x.1 y.1 (ap (λ o. o ++ x.1) (sym front) ∙ sym p.whole ∙ q.whole) in
-      let pair : (x.0, x.1) ≡ (y.0, y.1) = cc in ap Ok pair
+  read_once (Ok (g, x)) (Ok (h, y)) p q =
+      let front = one_front g h x y p q in
+      let header = t.one_header g h q.front (rw front at p.layout) q.layout in
+      let rest = append_cancel_left q.front x y (rw front at (sym p.whole ∙ q.whole)) in
+      cc
   read_once (Ok x) (Err f) p q = absurd (t.not_refused s x.0 x.1 f p q)
   read_once (Err e) (Ok y) p q = absurd (t.not_refused s y.0 y.1 e q p)
   read_once (Err e) (Err f) p q = ap Err (t.one_refusal s e f p q)

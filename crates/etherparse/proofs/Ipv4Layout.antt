@@ -1,18 +1,16 @@
 -- Laws of the IPv4 layout.
-use Rattle.std.proofs.Common.{ℕ, zero, suc, ◌≡◌, ◌+◌, ◌-◌, ◌*◌, ◌/◌, ◌%◌, ◌^◌, ◌<◌, ◌≤◌, List, [], ◌∷◌, ◌++◌, length, get_or, drop, refl, sym, subst, ap, ◌∙◌, arith, rules, append_assoc, length-drop, Bool}
-use Rattle.std.specs.Prelude.{◌↔◌, bit_and, not, nat_eq}
+use Rattle.std.proofs.Common.{ℕ, ◌≡◌, ◌+◌, ◌*◌, ◌/◌, ◌%◌, ◌^◌, ◌<◌, ◌≤◌, List, [], ◌∷◌, ◌++◌, length, get_or, drop, sym, subst, ap, ◌∙◌, arith, rules, append_assoc, length-drop, length-take, Bool, ◌↔◌, bit_and, not, nat_eq}
 use Rattle.std.specs.List.{AllByRecursion, slice_range}
 use Rattle.std.specs.Int.{from_be_bytes, from_bool, w16}
 use Rattle.std.proofs.lemmas.Bool.Decides.{nat_tests}
 use Rattle.std.proofs.lemmas.Grind.{common_steps}
-use Rattle.std.proofs.lemmas.List.Edits.{length-between}
 use Rattle.std.proofs.lemmas.Nat.Bits.{and_pow}
 use Rattle.etherparse_base.specs.Bytes.{IsBytes}
 use Rattle.etherparse_fields.specs.IpEcn.{ecn_value}
 use Rattle.etherparse_fields.specs.Ipv4Options.{IsOptionsLen}
 use Rattle.etherparse_fields.specs.declared.net.ip_ecn.IpEcn.{IpEcn}
 use Rattle.etherparse_fields.specs.declared.net.ip_ecn.IpEcn.TheVariants.{CongestionExperienced, Ect0, Ect1, NotEct}
-use Rattle.etherparse.proofs.Layouts.{AreAt, Field, Fits, array, from_be_bytes-lt, length-written, read_back, told, u16, u8, written}
+use Rattle.etherparse.proofs.Layouts.{Field, Fits, array, from_be_bytes-lt, length-written, read_back, told, u16, u8, written}
 use Rattle.etherparse.proofs.Parts.{set_is_bytes}
 use Rattle.etherparse.specs.FirstByte.{ihl_of, version_of}
 use Rattle.etherparse.specs.Ipv4Header.{IsIpv4Layout, IsIpv4LayoutWith, ipv4_ihl, with_reserved_bit_cleared}
@@ -49,11 +47,8 @@ pub same_fields : (g h : Ipv4Header) → g.dscp ≡ h.dscp → g.ecn ≡ h.ecn �
 same_fields g h a b c d e f i j k l m n o = search rules
 
 -- bytes have one header
-same_header : (g h : Ipv4Header) (q r : ℕ) (p : List ℕ) → IsIpv4LayoutWith g q p → IsIpv4LayoutWith h r p → g ≡ h
-same_header g h q r p k l = search (rules, same_ecn, same_bool, ecn_value-lt, from_bool-lt)
-
-pub one_header : (g h : Ipv4Header) (p : List ℕ) → IsIpv4Layout g p → IsIpv4Layout h p → g ≡ h
-one_header g h p k l = same_header g h k.reserved l.reserved p k.layout l.layout
+pub same_header : (g h : Ipv4Header) (p : List ℕ) → IsIpv4Layout g p → IsIpv4Layout h p → g ≡ h
+same_header g h p k l = search (rules, same_ecn, same_bool, ecn_value-lt, from_bool-lt)
 
 -- the fields of a header, in their order, with a number for its flags and fragment offset
 abbrev pub fixed_fields : Ipv4Header → ℕ → List Field
@@ -69,9 +64,7 @@ spelling h flags = written (ipv4_fields h flags) h.options
 
 -- a byte list in the layout is the header's spelling
 pub spelled : (h : Ipv4Header) (r : ℕ) (p : List ℕ) → IsIpv4LayoutWith h r p → p ≡ spelling h (flags_word h r)
-spelled h r p l =
-    let fields : AreAt p 0 (ipv4_fields h (flags_word h r)) h.options = search (rules, l) in
-    told p 0 (ipv4_fields h (flags_word h r)) h.options l.are_bytes (omega (arith, l.len)) fields
+spelled h r p l = told p 0 (ipv4_fields h (flags_word h r)) h.options l.are_bytes (omega (arith, l.len)) (search (rules, l))
 
 -- what the fields that are written as numbers need to be written back, and the lengths of the addresses
 pub record HasFieldRanges (header : Ipv4Header) : Type 0 where
@@ -94,47 +87,34 @@ spells h r p f o b are_bytes e =
 
 -- the spelling of a header with the reserved bit cleared
 cleared_spells : (h : Ipv4Header) (p : List ℕ) → IsIpv4Layout h p → with_reserved_bit_cleared p ≡ spelling h (flags_word h 0)
-cleared_spells h p l =
-    let high : flags_word h l.reserved / 256 % 256 % 2 ^ 7 ≡ flags_word h 0 / 256 % 256 = omega (arith, from_bool-lt, l.layout.reserved_fits, l.layout.fragment_offset_fits) in
-    let low : flags_word h l.reserved % 256 ≡ flags_word h 0 % 256 = omega arith in
-    rw (spelled h l.reserved p l.layout, high, low) refl
+cleared_spells h p l = rw (spelled h l.reserved p l.layout) (grind (arith, from_bool-lt))
 
 -- the ranges of a header's fields are in its layout
 pub ranges_of : (h : Ipv4Header) (r : ℕ) (p : List ℕ) → IsIpv4LayoutWith h r p → HasFieldRanges h
-ranges_of h r p l = omega (arith, length-between {X = ℕ}, from_be_bytes-lt, ap length l.source, ap length l.destination)
+ranges_of h r p l = omega (arith, length-take {A = ℕ}, length-drop {A = ℕ}, from_be_bytes-lt, ap length l.source, ap length l.destination)
 
 -- with the reserved bit cleared the bytes are in the layout of the same header
 pub cleared_layout : (h : Ipv4Header) (p : List ℕ) → IsIpv4Layout h p → IsIpv4LayoutWith h 0 (with_reserved_bit_cleared p)
 cleared_layout h p l =
-    let bytes = set_is_bytes p 6 (get_or p 6 0 % 2 ^ 7) (omega (arith, l.layout.len)) (omega arith) l.layout.are_bytes in
-    spells h 0 (with_reserved_bit_cleared p) (ranges_of h l.reserved p l.layout) l.layout.options_len (omega arith) bytes (cleared_spells h p l)
+    spells h 0 (with_reserved_bit_cleared p) (ranges_of h l.reserved p l.layout) l.layout.options_len (omega arith)
+    (set_is_bytes p 6 (get_or p 6 0 % 2 ^ 7) (omega (arith, l.layout.len)) (omega arith) l.layout.are_bytes) (cleared_spells h p l)
 
 -- headers are the same exactly where their bytes are, but for the reserved bit
 pub same_header_cleared : (g h : Ipv4Header) (o p : List ℕ) → IsIpv4Layout g o → IsIpv4Layout h p
     → (g ≡ h) ↔ (with_reserved_bit_cleared o ≡ with_reserved_bit_cleared p)
 same_header_cleared g h o p k l = (
   λ e. cleared_spells g o k ∙ ap (λ x. spelling x (flags_word x 0)) e ∙ sym (cleared_spells h p l),
-  λ e. same_header g h 0 0 (with_reserved_bit_cleared p) (subst (λ x. IsIpv4LayoutWith g 0 x) e (cleared_layout g o k)) (cleared_layout h p l),
+  λ e. same_header g h (with_reserved_bit_cleared p) (record { reserved = 0; layout = subst (λ x. IsIpv4LayoutWith g 0 x) e (cleared_layout g o k) })
+      (record { reserved = 0; layout = cleared_layout h p l }),
 )
-
--- each number below 4 is that of a code point
-ecn_with : (n : ℕ) → n < 4 → (e : IpEcn) × (ecn_value e ≡ n)
-ecn_with zero h = (NotEct, refl)
-ecn_with (suc zero) h = (Ect1, refl)
-ecn_with (suc (suc zero)) h = (Ect0, refl)
-ecn_with (suc (suc (suc n))) h = (CongestionExperienced, omega arith)
 
 -- what starts with version 4, has an IHL of 5 or more and the length that it says is in the layout of a header
 pub header_at : (p : List ℕ) → version_of p ≡ 4 → 5 ≤ ihl_of p → length p ≡ 4 * ihl_of p → IsBytes p
     → (h : Ipv4Header) × IsIpv4Layout h p
 header_at p version ihl len bytes =
-    let b1 = bytes 1 in
-    let b6 = bytes 6 in
-    let b7 = bytes 7 in
-    let ecn = ecn_with (get_or p 1 0 % 4) (omega arith) in
     let header : Ipv4Header = record {
       dscp = get_or p 1 0 / 4;
-      ecn = ecn.0;
+      ecn = get_or (NotEct ∷ Ect1 ∷ Ect0 ∷ CongestionExperienced ∷ []) (get_or p 1 0 % 4) NotEct;
       total_len = from_be_bytes w16 (slice_range p 2 4);
       identification = from_be_bytes w16 (slice_range p 4 6);
       dont_fragment = nat_eq (get_or p 6 0 / 64 % 2) 1;
@@ -147,14 +127,12 @@ header_at p version ihl len bytes =
       destination = slice_range p 16 20;
       options = drop 20 p;
     } in
-    let options : length (drop 20 p) ≡ length p - 20 = length-drop 20 p in
-    let flags : from_be_bytes w16 (slice_range p 6 8) ≡ flags_word header (get_or p 6 0 / 128) = grind (arith, common_steps, nat_tests) in
-    (header, record { reserved = get_or p 6 0 / 128; layout = search (rules, ecn.1, flags) })
+    let ecn : ecn_value header.ecn ≡ get_or p 1 0 % 4 = grind arith in
+    let flags : from_be_bytes w16 (slice_range p 6 8) ≡ flags_word header (get_or p 6 0 / 128) = grind (arith, common_steps, nat_tests, bytes 6, bytes 7) in
+    (header, record { reserved = get_or p 6 0 / 128; layout = search (rules, ecn, flags, bytes 1, length-drop 20 p) })
 
 -- the fixed fields of a header, with the options after them, are its spelling
 pub front_spells : (h : Ipv4Header) (front options p : List ℕ) → p ≡ front ++ options → options ≡ h.options
     → front ≡ written (fixed_fields h (from_bool h.dont_fragment * 2 ^ 14 + from_bool h.more_fragments * 2 ^ 13 + h.fragment_offset)) (h.source ++ h.destination)
     → p ≡ spelling h (flags_word h 0)
-front_spells h front options p e o f =
-    let flags : from_bool h.dont_fragment * 2 ^ 14 + from_bool h.more_fragments * 2 ^ 13 + h.fragment_offset ≡ flags_word h 0 = omega arith in
-    rw (e, f, o, flags, append_assoc h.source h.destination h.options)
+front_spells h front options p e o f = rw (e, f, o, append_assoc h.source h.destination h.options) (grind arith)

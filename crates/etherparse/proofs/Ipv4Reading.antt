@@ -1,33 +1,27 @@
 -- Some bytes have one answer of an IPv4 reader.
-use Rattle.std.proofs.Common.{ℕ, ◌≡◌, ◌-◌, ◌*◌, ◌≤◌, List, ◌++◌, length, take, drop, get_or, refl, sym, ap, subst, ◌∙◌, arith, Ok, Err}
+use Rattle.std.proofs.Common.{ℕ, ◌≡◌, ◌-◌, ◌*◌, ◌≤◌, List, ◌++◌, length, take, drop, refl, sym, ap, subst, ◌∙◌, arith, Ok, Err, length-drop, take-append-drop, take-take, take_at}
 use Rattle.std.proofs.lemmas.Grind.{common_steps}
-use Rattle.std.proofs.lemmas.List.{append_cancel_right, drop-append-le, length-drop, length-take, get_or_past, take-append-drop, take-take, take_at}
+use Rattle.std.proofs.lemmas.List.{append_cancel_right, drop-append-le}
 use Rattle.etherparse_base.specs.Bytes.{IsBytes}
 use Rattle.etherparse.proofs.Fronts.{TellsHeaders, begins_at, cut_behind, read_once}
-use Rattle.etherparse.proofs.Ipv4Layout.{cleared_layout, header_at, one_header, same_header_cleared}
+use Rattle.etherparse.proofs.Ipv4Layout.{cleared_layout, header_at, same_header, same_header_cleared}
 use Rattle.etherparse.specs.FirstByte.{ihl_of, version_of}
 use Rattle.etherparse.specs.Ipv4Header.{IsIpv4Layout, IsIpv4ReadingOf, Ipv4Reading, ReadsIpv4, RefusesIpv4, ViewsIpv4, ipv4_header_len}
-use Rattle.etherparse.specs.Reading.{BeginsWith}
 use Rattle.etherparse.specs.declared.net.ipv4_header.Ipv4Header.{Ipv4Header}
-
--- what begins with a header begins with its version and its IHL, and has as many bytes as that says
-begins_with_ihl : (s : List ℕ) (h : Ipv4Header) (x : List ℕ) (b : BeginsWith IsIpv4Layout s h x)
-    → (version_of s ≡ 4) × (5 ≤ ihl_of s) × (length b.front ≡ 4 * ihl_of s) × (4 * ihl_of s ≤ length s)
-begins_with_ihl s h x b = grind (arith, common_steps, ap length b.whole, ap (λ p. get_or p 0 0) b.whole)
 
 -- a slice is read in one way
 pub tells_headers : TellsHeaders IsIpv4Layout RefusesIpv4
 tells_headers = record {
-  one_header = one_header;
-  one_length = λ s g h x y p q. omega (arith, begins_with_ihl s g x p, begins_with_ihl s h y q);
-  not_refused = λ s h x e b q. let ihl = begins_with_ihl s h x b in grind arith;
+  one_header = same_header;
+  one_length = λ s g h x y p q. grind (arith, common_steps, ap ihl_of p.whole, ap ihl_of q.whole);
+  not_refused = λ s h x e b q. grind (arith, common_steps, ap length b.whole, ap version_of b.whole, ap ihl_of b.whole);
   one_refusal = λ s e f p q. grind arith;
 }
 
 -- the front of some bytes is seen where they are of version 4, and as many as their IHL says
 pub front_viewed : (s : List ℕ) (n : ℕ) → version_of s ≡ 4 → 5 ≤ ihl_of s → n ≡ 4 * ihl_of s → n ≤ length s → IsBytes s → ViewsIpv4 s (Ok (take n s))
 front_viewed s n version ihl says long bytes =
-    let header = header_at (take n s) (grind (arith, common_steps)) (grind (arith, common_steps)) (grind (arith, common_steps)) (grind (arith, common_steps, get_or_past, length-take)) in
+    let header = header_at (take n s) (grind (arith, common_steps)) (grind (arith, common_steps)) (grind (arith, common_steps)) (grind (arith, common_steps)) in
     record { header = header.0; rest = drop n s; whole = sym (take-append-drop n s); layout = header.1 }
 
 -- what is promised of a reading follows from its answer

@@ -1,11 +1,10 @@
 -- Laws of the IPv6 layout.
-use Rattle.std.proofs.Common.{ℕ, ◌≡◌, ◌+◌, ◌*◌, ◌/◌, ◌%◌, ◌^◌, ◌<◌, List, [], ◌∷◌, length, get_or, ap, ◌∙◌, arith, rules}
+use Rattle.std.proofs.Common.{ℕ, ◌≡◌, ◌+◌, ◌*◌, ◌/◌, ◌%◌, ◌^◌, ◌<◌, List, [], ◌∷◌, length, get_or, ap, ◌∙◌, arith, rules, drop_of_length-le}
 use Rattle.std.specs.List.{AllByRecursion, slice_range}
-use Rattle.std.proofs.lemmas.List.{drop_all}
 use Rattle.std.proofs.lemmas.Grind.{common_steps}
 use Rattle.std.specs.Int.{from_be_bytes, w16, w32}
 use Rattle.etherparse_base.specs.Bytes.{IsBytes}
-use Rattle.etherparse.proofs.Layouts.{AreAt, Field, Fits, array, length-written, read_back, told, u16, u32, u8, written}
+use Rattle.etherparse.proofs.Layouts.{Field, Fits, array, length-written, read_back, told, u16, u32, u8, written}
 use Rattle.etherparse.specs.Ipv6Header.{IsIpv6Layout}
 use Rattle.etherparse.specs.FirstByte.{version_of}
 use Rattle.etherparse.specs.declared.net.ipv6_header.Ipv6Header.{Ipv6Header}
@@ -23,10 +22,7 @@ word_of-layout h p l = grind (arith, common_steps, l.are_bytes 1, l.are_bytes 2,
 
 -- bytes have one header
 pub same_header : (g h : Ipv6Header) (p : List ℕ) → IsIpv6Layout g p → IsIpv6Layout h p → g ≡ h
-same_header g h p k l =
-    let a = word_of-layout g p k in
-    let b = word_of-layout h p l in
-    search rules
+same_header g h p k l = search rules
 
 -- the fields of a header, in their order
 abbrev pub ipv6_fields : Ipv6Header → List Field
@@ -35,9 +31,7 @@ ipv6_fields h = u32 (6 * 2 ^ 28 + h.traffic_class * 2 ^ 20 + h.flow_label) ∷ u
 
 -- a byte list in the layout is those of the fields
 pub spelled : (h : Ipv6Header) (p : List ℕ) → IsIpv6Layout h p → p ≡ written (ipv6_fields h) []
-spelled h p l =
-    let fields : AreAt p 0 (ipv6_fields h) [] = search (rules, l, drop_all 40 p (omega (arith, l.len))) in
-    told p 0 (ipv6_fields h) [] l.are_bytes (omega (arith, l.len)) fields
+spelled h p l = told p 0 (ipv6_fields h) [] l.are_bytes (omega (arith, l.len)) (search (rules, l, drop_of_length-le p {i = 40} (omega (arith, l.len))))
 
 -- 40 bytes of version 6 are in the layout of a header
 pub header_at : (p : List ℕ) → length p ≡ 40 → IsBytes p → version_of p ≡ 6 → (h : Ipv6Header) × IsIpv6Layout h p

@@ -1,7 +1,6 @@
 -- Some bytes have one answer of an IPv6 reader.
-use Rattle.std.proofs.Common.{ℕ, ◌≡◌, List, ◌++◌, ◌-◌, ◌/◌, ◌≤◌, length, take, drop, sym, ap, ◌∙◌, arith, Ok, Err}
+use Rattle.std.proofs.Common.{ℕ, ◌≡◌, List, ◌++◌, ◌-◌, ◌≤◌, length, take, drop, sym, ap, ◌∙◌, arith, Ok, Err, length-take-le, take-append-drop}
 use Rattle.std.proofs.lemmas.Grind.{common_steps}
-use Rattle.std.proofs.lemmas.List.{get_or-take, length-take-le, take-append-drop}
 use Rattle.etherparse_base.specs.Bytes.{IsBytes}
 use Rattle.etherparse.proofs.ExtensionHeaderChain.{chain_after_header}
 use Rattle.etherparse.proofs.Fronts.{TellsHeaders, begins_at, cut_behind, read_once}
@@ -23,8 +22,7 @@ tells_headers = record {
 -- the front of some bytes is seen where they are enough and of version 6
 pub front_viewed : (s : List ℕ) → 40 ≤ length s → IsBytes s → version_of s ≡ 6 → ViewsIpv6 s (Ok (take 40 s))
 front_viewed s long bytes version =
-    let first = get_or-take 40 s 0 0 (omega arith) in
-    let header = header_at (take 40 s) (length-take-le 40 s long) (part_is_bytes s 0 40 bytes) (ap (λ n. n / 16) first ∙ version) in
+    let header = header_at (take 40 s) (length-take-le 40 s long) (part_is_bytes s 0 40 bytes) (grind (arith, common_steps)) in
     record { header = header.0; rest = drop 40 s; whole = sym (take-append-drop 40 s); layout = header.1 }
 
 -- what is promised of a reading follows from its answer

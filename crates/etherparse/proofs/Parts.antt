@@ -1,18 +1,15 @@
 -- Parts of a list: fronts, ranges, and what follows them.
-use Rattle.std.proofs.Common.{ℕ, suc, ◌≡◌, ◌%◌, ◌^◌, ◌<◌, List, [], ◌∷◌, map, ◌++◌, length, get_or, refl, sym, arith, w16}
+use Rattle.std.proofs.Common.{ℕ, zero, suc, ◌≡◌, ◌%◌, ◌^◌, ◌<◌, List, [], ◌∷◌, map, ◌++◌, length, get_or, refl, sym, arith, w16, slice_set, drop_at, take_at}
 use Rattle.std.specs.Int.{to_be_bytes}
 use Rattle.std.specs.List.{concat, slice_range, range_with_len}
-use Rattle.std.specs.Prelude.{slice_set}
 use Rattle.std.proofs.lemmas.Grind.{common_steps}
-use Rattle.std.proofs.lemmas.List.{drop_at, get_or_past, length-take, take_at}
-use Rattle.std.proofs.lemmas.List.Edits.{get_or-between}
 use Rattle.std.proofs.lemmas.List.FromFn.{fill_by_all}
 use Rattle.std.proofs.lemmas.Nat.{be_bytes_2, from_be_bytes-to_be_bytes_2}
 use Rattle.etherparse_base.specs.Bytes.{IsBytes, words_of}
 
 -- a part of bytes has bytes
 pub part_is_bytes : (xs : List ℕ) (a b : ℕ) → IsBytes xs → IsBytes (slice_range xs a b)
-part_is_bytes xs a b bytes i = grind (arith, common_steps, get_or-between, get_or_past, length-take)
+part_is_bytes xs a b bytes i = grind (arith, common_steps)
 
 -- two fronts of one length are one
 pub same_front : (p q x y : List ℕ) → length p ≡ length q → p ++ x ≡ q ++ y → p ≡ q
@@ -30,10 +27,6 @@ spread xs n e = fill_by_all (λ i. get_or xs i 0) xs n 0 e (λ k below. refl)
 pub same_append : {a a' b b' : List ℕ} → a ≡ a' → b ≡ b' → a ++ b ≡ a' ++ b'
 same_append e f = cc
 
--- bytes and bytes after them are bytes
-pub append_is_bytes : (xs ys : List ℕ) → IsBytes xs → IsBytes ys → IsBytes (xs ++ ys)
-append_is_bytes xs ys h k i = grind (arith, common_steps)
-
 -- bytes with one of them replaced by a byte
 pub set_is_bytes : (p : List ℕ) (i b : ℕ) → i < length p → b < 256 → IsBytes p → IsBytes (slice_set p i b)
 set_is_bytes p i b within is_byte bytes k = grind (arith, common_steps)
@@ -43,7 +36,9 @@ word_is_bytes n i = grind arith
 
 pub words_are_bytes : (ns : List ℕ) → IsBytes (concat (map (λ n. to_be_bytes w16 n) ns))
 words_are_bytes [] i = omega arith
-words_are_bytes (n ∷ ns) i = append_is_bytes (to_be_bytes w16 n) (concat (map (λ n. to_be_bytes w16 n) ns)) (word_is_bytes n) (words_are_bytes ns) i
+words_are_bytes (n ∷ ns) zero = word_is_bytes n 0
+words_are_bytes (n ∷ ns) (suc zero) = word_is_bytes n 1
+words_are_bytes (n ∷ ns) (suc (suc i)) = words_are_bytes ns i
 
 -- bytes are told by their words
 pub told_by_words : (p : List ℕ) → IsBytes p → length p % 2 ≡ 0 → p ≡ concat (map (λ n. to_be_bytes w16 n) (words_of p))

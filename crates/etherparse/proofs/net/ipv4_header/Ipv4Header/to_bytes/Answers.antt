@@ -1,5 +1,4 @@
-use Rattle.std.proofs.Common.{[], ap, arith, length, refl, subst, sym, ◌∙◌}
-use Rattle.std.proofs.lemmas.List.{append-nil}
+use Rattle.std.proofs.Common.{[], ap, arith, length, refl, subst, sym, ◌∙◌, append-nil}
 use Rattle.etherparse_base.specs.Bytes.{IsBytes}
 use Rattle.etherparse.proofs.HeaderChecksum.{right_checksum}
 use Rattle.etherparse.proofs.Ipv4Layout.{front_spells, spelled, spells}

@@ -1,5 +1,4 @@
-use Rattle.std.proofs.Common.{ℕ, List, [], ap, arith, length, refl, rules, subst, sym, ◌≡◌, ◌++◌, ◌∙◌}
-use Rattle.std.proofs.lemmas.List.{append-nil}
+use Rattle.std.proofs.Common.{ℕ, List, [], ap, arith, length, refl, rules, subst, sym, ◌≡◌, ◌++◌, ◌∙◌, append-nil}
 use Rattle.etherparse_base.specs.Bytes.{IsBytes}
 use Rattle.etherparse.proofs.Ipv6Layout.{ipv6_fields, spelled, spells}
 use Rattle.etherparse.proofs.Layouts.{written}
