@@ -1,5 +1,5 @@
 -- A slice that begins with a header, in any layout: that it does so once, and where it is cut.
-use Rattle.std.proofs.Common.{ℕ, ◌≡◌, ◌+◌, ◌-◌, ◌≤◌, List, ◌++◌, length, take, drop, sym, ap, subst, ◌∙◌, arith, length-append, Ok, Err, Result, take-append-drop, take_at}
+use Rattle.std.proofs.Common.{ℕ, ◌≡◌, ◌+◌, ◌-◌, ◌≤◌, List, ◌++◌, length, take, drop, sym, ap, ◌∙◌, arith, length-append, Ok, Err, Result, take-append-drop, take_at}
 use Rattle.std.proofs.Math.Seq.{take-append-add}
 use Rattle.std.proofs.lemmas.List.{append_cancel_left, take_rest}
 use Rattle.etherparse_base.specs.declared.err.layer.Layer.{Layer}
@@ -52,7 +52,7 @@ module _ {H E : Type 0} (Layout : H → List ℕ → Type 0) (Refuses : List ℕ
 
   -- the front that is seen is in the layout of each header at the front
   pub shown : (front rest : List ℕ) (h : H) → HasFront Layout s front → BeginsWith Layout s h rest → Layout h front
-  shown front rest h v b = subst (λ p. Layout h p) (one_front h v.header rest v.rest b (begins front v)) b.layout
+  shown front rest h v b = rw (one_front h v.header rest v.rest b (begins front v)) at b.layout
 
 -- what the first bytes are in the layout of is at the front, and the bytes after it by their place
 pub begins_with_front : {H : Type 0} (Layout : H → List ℕ → Type 0) (n : ℕ) (header : H) (s : List ℕ) → Layout header (take n s)
@@ -63,7 +63,7 @@ begins_with_front Layout n header s layout =
 -- so is a header that is known to be there
 pub begins_at : {H : Type 0} (Layout : H → List ℕ → Type 0) (n : ℕ) (s p t : List ℕ) (h : H) → s ≡ p ++ t → Layout h p → length p ≡ n
     → BeginsWith Layout s h (take (length s - n) (drop n s))
-begins_at Layout n s p t h e l len = begins_with_front Layout n h s (subst (λ o. Layout h o) (sym (ap (take n) e ∙ take_at p t n len)) l)
+begins_at Layout n s p t h e l len = begins_with_front Layout n h s (rw (e, take_at p t n len) l)
 
 -- a packet that is cut some bytes behind a header begins with that header still
 pub cut_behind : {H : Type 0} (Layout : H → List ℕ → Type 0) (k : ℕ) (s : List ℕ) (header : H) (rest : List ℕ) (b : BeginsWith Layout s header rest)

@@ -1,5 +1,5 @@
 -- Some bytes have one answer of an IPv4 reader.
-use Rattle.std.proofs.Common.{ℕ, ◌≡◌, ◌-◌, ◌*◌, ◌≤◌, List, ◌++◌, length, take, drop, refl, sym, ap, subst, ◌∙◌, arith, Ok, Err, length-drop, take-append-drop, take-take, take_at}
+use Rattle.std.proofs.Common.{ℕ, ◌≡◌, ◌-◌, ◌*◌, ◌≤◌, List, ◌++◌, length, take, drop, refl, sym, ap, ◌∙◌, arith, Ok, Err, length-drop, take-append-drop, take-take, take_at}
 use Rattle.std.proofs.lemmas.Grind.{common_steps}
 use Rattle.std.proofs.lemmas.List.{append_cancel_right, drop-append-le}
 use Rattle.etherparse_base.specs.Bytes.{IsBytes}
@@ -27,8 +27,7 @@ front_viewed s n version ihl says long bytes =
 -- what is promised of a reading follows from its answer
 pub is_reading_of : (s : List ℕ) (a : Ipv4Reading) → ReadsIpv4 s a → IsIpv4ReadingOf s a
 is_reading_of s (Ok x) b =
-    let front_is = λ (front : List ℕ) (whole : s ≡ front ++ x.1).
-    subst (λ p. IsIpv4Layout x.0 p) (append_cancel_right b.front front x.1 (sym b.whole ∙ whole)) b.layout in
+    let front_is = λ (front : List ℕ) (whole : s ≡ front ++ x.1). rw (append_cancel_right b.front front x.1 (sym b.whole ∙ whole)) at b.layout in
     record {
       reads = b;
       only = λ other o. read_once IsIpv4Layout RefusesIpv4 tells_headers s other (Ok x) o b;
