@@ -1,13 +1,13 @@
 -- A header as a list of fields: its bytes tell the fields, and the fields its bytes.
-use Rattle.std.proofs.Common.{ℕ, ◌≡◌, ◌+◌, ◌-◌, ◌^◌, ◌<◌, ◌≤◌, List, [], ◌∷◌, ◌++◌, get_or, length, length-append, take, drop, drop-drop, refl, sym, ap, ◌∙◌, arith}
+use Rattle.std.proofs.Common.{ℕ, ◌≡◌, ◌+◌, ◌-◌, ◌^◌, ◌<◌, ◌≤◌, List, [], ◌∷◌, ◌++◌, length, length-append, drop, drop-drop, sym, ap, ◌∙◌, arith, slice_index, drop_at, take_at}
 use Rattle.std.specs.Int.{from_be_bytes, to_be_bytes, w16, w32}
-use Rattle.std.specs.List.{slice_range}
-use Rattle.std.specs.Prelude.{slice_index}
-use Rattle.std.proofs.lemmas.List.{drop_at, take_at}
+use Rattle.std.specs.List.{AllByRecursion, slice_range}
+use Rattle.std.proofs.lemmas.Grind.{common_steps}
+use Rattle.std.proofs.lemmas.List.Edits.{between_none, get_or-between}
 use Rattle.std.proofs.lemmas.List.Folds.{drop_split}
 use Rattle.std.proofs.lemmas.Nat.{be_bytes_2, be_bytes_4, from_be_bytes-to_be_bytes_2, from_be_bytes-to_be_bytes_4}
 use Rattle.etherparse_base.specs.Bytes.{IsBytes}
-use Rattle.etherparse.proofs.Parts.{get_or-slice_range, length-part, listed, part_is_bytes, same_append}
+use Rattle.etherparse.proofs.Parts.{part_is_bytes, same_append}
 
 -- a field of whole bytes: a number of one, two or four bytes, the high one first, or an array of so many bytes
 pub data Field : Type 0 where
@@ -51,11 +51,9 @@ written (f ∷ fields) rest = bytes_of f ++ written fields rest
 
 -- bytes are told by their fields
 told_at : (p : List ℕ) (at : ℕ) (f : Field) → IsBytes p → at + width f ≤ length p → IsAt p at f → slice_range p at (at + width f) ≡ bytes_of f
-told_at p at (u8 n) are_bytes h e = let here : at + 0 ≡ at = omega arith in listed p at 1 h ∙ rw (here, e) refl
-told_at p at (u16 n) are_bytes h e =
-    sym (be_bytes_2 (slice_range p at (at + 2)) n (omega (arith, length-part p at (at + 2) h)) (λ i. part_is_bytes p at (at + 2) i are_bytes) (sym e))
-told_at p at (u32 n) are_bytes h e =
-    sym (be_bytes_4 (slice_range p at (at + 4)) n (omega (arith, length-part p at (at + 4) h)) (λ i. part_is_bytes p at (at + 4) i are_bytes) (sym e))
+told_at p at (u8 n) are_bytes h e = grind (arith, common_steps, between_none)
+told_at p at (u16 n) are_bytes h e = sym (be_bytes_2 _ n (grind (arith, common_steps)) (part_is_bytes p at (at + 2) are_bytes) (sym e))
+told_at p at (u32 n) are_bytes h e = sym (be_bytes_4 _ n (grind (arith, common_steps)) (part_is_bytes p at (at + 4) are_bytes) (sym e))
 told_at p at (array k xs) are_bytes h e = e
 
 pub told : (p : List ℕ) (at : ℕ) (fields : List Field) (rest : List ℕ) → IsBytes p → at + width_of_all fields ≤ length p → AreAt p at fields rest
@@ -71,44 +69,30 @@ Fits (u16 n) = n < 2 ^ 16
 Fits (u32 n) = n < 2 ^ 32
 Fits (array k xs) = length xs ≡ k
 
-abbrev pub AllFit : List Field → Type 0
-AllFit [] = Unit {0}
-AllFit (f ∷ fields) = Fits f × AllFit fields
-
 -- what is read from two bytes fits
-pub u16_fits : (p : List ℕ) (at n : ℕ) → IsBytes p → IsAt p at (u16 n) → Fits (u16 n)
-u16_fits p at n are_bytes e =
-    let high = part_is_bytes p at (at + 2) 0 are_bytes in
-    let low = part_is_bytes p at (at + 2) 1 are_bytes in
-    omega arith
+pub from_be_bytes-lt : (p : List ℕ) (at end : ℕ) → IsBytes p → from_be_bytes w16 (slice_range p at end) < 2 ^ 16
+from_be_bytes-lt p at end are_bytes = let bytes = part_is_bytes p at end are_bytes in omega (arith, bytes 0, bytes 1)
 
 -- fields that are written are read back
 length-bytes_of : (f : Field) → Fits f → length (bytes_of f) ≡ width f
-length-bytes_of (u8 n) fits = refl
-length-bytes_of (u16 n) fits = refl
-length-bytes_of (u32 n) fits = refl
-length-bytes_of (array k xs) fits = fits
+length-bytes_of f fits = grind arith
 
-pub length-written : (fields : List Field) (rest : List ℕ) → AllFit fields → length (written fields rest) ≡ width_of_all fields + length rest
+pub length-written : (fields : List Field) (rest : List ℕ) → AllByRecursion Fits fields → length (written fields rest) ≡ width_of_all fields + length rest
 length-written [] rest fit = omega arith
 length-written (f ∷ fields) rest fit =
     omega (arith, length-append (bytes_of f) (written fields rest), length-bytes_of f fit.0, length-written fields rest fit.1)
 
 written_at : (p : List ℕ) (at : ℕ) (f : Field) → Fits f → slice_range p at (at + width f) ≡ bytes_of f → IsAt p at f
-written_at p at (u8 n) fits e =
-    let here : at ≡ at + 0 = omega arith in
-    ap (λ i. get_or p i 0) here ∙ sym (get_or-slice_range p at (at + 1) 0 (omega arith)) ∙ ap (λ xs. get_or xs 0 0) e
+written_at p at (u8 n) fits e = grind (arith, common_steps, get_or-between)
 written_at p at (u16 n) fits e = ap (from_be_bytes w16) e ∙ from_be_bytes-to_be_bytes_2 n fits
 written_at p at (u32 n) fits e = ap (from_be_bytes w32) e ∙ from_be_bytes-to_be_bytes_4 n fits
 written_at p at (array k xs) fits e = e
 
-pub read_back : (p : List ℕ) (at : ℕ) (fields : List Field) (rest : List ℕ) → AllFit fields → drop at p ≡ written fields rest → AreAt p at fields rest
+pub read_back : (p : List ℕ) (at : ℕ) (fields : List Field) (rest : List ℕ) → AllByRecursion Fits fields → drop at p ≡ written fields rest → AreAt p at fields rest
 read_back p at [] rest fit e = e
 read_back p at (f ∷ fields) rest fit e =
     let len = length-bytes_of f fit.0 in
     let taken : at + width f - at ≡ width f = omega arith in
-    let part : slice_range p at (at + width f) ≡ bytes_of f =
-    ap (λ k. take k (drop at p)) taken ∙ ap (take (width f)) e ∙ take_at (bytes_of f) (written fields rest) (width f) len in
-    let behind : drop (at + width f) p ≡ written fields rest =
-    sym (drop-drop (width f) at p) ∙ ap (drop (width f)) e ∙ drop_at (bytes_of f) (written fields rest) (width f) len in
+    let part : slice_range p at (at + width f) ≡ bytes_of f = rw (taken, e) (take_at (bytes_of f) (written fields rest) (width f) len) in
+    let behind : drop (at + width f) p ≡ written fields rest = sym (drop-drop (width f) at p) ∙ rw e (drop_at (bytes_of f) (written fields rest) (width f) len) in
     (written_at p at f fit.0 part, read_back p (at + width f) fields rest fit.1 behind)

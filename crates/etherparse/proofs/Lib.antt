@@ -1,5 +1,4 @@
 pub mod ExtensionHeaderChain
-mod Fields
 pub mod Fronts
 pub mod HeaderChecksum
 pub mod Ipv4Layout

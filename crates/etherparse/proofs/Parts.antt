@@ -1,42 +1,23 @@
 -- Parts of a list: fronts, ranges, and what follows them.
-use Rattle.std.proofs.Common.{ℕ, zero, suc, ◌≡◌, ◌+◌, ◌-◌, ◌%◌, ◌^◌, ◌<◌, ◌≤◌, List, [], ◌∷◌, map, ◌++◌, length, get_or, get_or-set_other, take, drop, refl, sym, ap, ◌∙◌, inl, inr, lit<, arith, w16}
+use Rattle.std.proofs.Common.{ℕ, zero, suc, ◌≡◌, ◌%◌, ◌^◌, ◌<◌, List, [], ◌∷◌, map, ◌++◌, length, get_or, refl, sym, arith, w16, slice_set, drop_at, take_at}
 use Rattle.std.specs.Int.{to_be_bytes}
 use Rattle.std.specs.List.{concat, slice_range, range_with_len}
-use Rattle.std.specs.Prelude.{slice_set}
-use Rattle.std.proofs.lemmas.Bool.{cases_eq, cases_lt}
-use Rattle.std.proofs.lemmas.Grind.{common_steps, get_or-set_at}
-use Rattle.std.proofs.lemmas.List.{drop_at, get_or-append_right, get_or_append_left, get_or_past, length-take, take_at}
+use Rattle.std.proofs.lemmas.Grind.{common_steps}
 use Rattle.std.proofs.lemmas.List.FromFn.{fill_by_all}
 use Rattle.std.proofs.lemmas.Nat.{be_bytes_2, from_be_bytes-to_be_bytes_2}
 use Rattle.etherparse_base.specs.Bytes.{IsBytes, words_of}
 
--- an item of a part
-pub get_or-slice_range : (xs : List ℕ) (a b i : ℕ) → a + i < b → get_or (slice_range xs a b) i 0 ≡ get_or xs (a + i) 0
-get_or-slice_range xs a b i h = grind (arith, common_steps)
-
--- how long a part is
-pub length-part : (xs : List ℕ) (a b : ℕ) → b ≤ length xs → length (slice_range xs a b) ≡ b - a
-length-part xs a b h = grind (arith, common_steps)
-
 -- a part of bytes has bytes
-pub part_is_bytes : (xs : List ℕ) (a b i : ℕ) → IsBytes xs → get_or (slice_range xs a b) i 0 < 256
-part_is_bytes xs a b i h = elim (cases_lt (a + i) b) [
-  | inl below ↦ rw (get_or-slice_range xs a b i below) (h (a + i))
-  | inr past ↦ rw (get_or_past (slice_range xs a b) i 0 (omega (arith, length-take (b - a) (drop a xs)))) (lit< tt)
-]
-
--- the items of a part, one by one
-pub listed : (xs : List ℕ) (a n : ℕ) → a + n ≤ length xs → slice_range xs a (a + n) ≡ map (λ i. get_or xs (a + i) 0) (range_with_len 0 n)
-listed xs a n h = fill_by_all (λ i. get_or xs (a + i) 0) (slice_range xs a (a + n)) n 0 (grind (arith, common_steps))
-    (λ k below. get_or-slice_range xs a (a + n) k (omega arith))
+pub part_is_bytes : (xs : List ℕ) (a b : ℕ) → IsBytes xs → IsBytes (slice_range xs a b)
+part_is_bytes xs a b bytes i = grind (arith, common_steps)
 
 -- two fronts of one length are one
 pub same_front : (p q x y : List ℕ) → length p ≡ length q → p ++ x ≡ q ++ y → p ≡ q
-same_front p q x y e h = sym (take_at p x (length q) e) ∙ (ap (λ s. take (length q) s) h ∙ take_at q y (length q) refl)
+same_front p q x y e h = let front = take_at p x (length q) e in let same = take_at q y (length q) refl in cc
 
 -- and so is what follows them
 pub same_back : (p q x y : List ℕ) → length p ≡ length q → p ++ x ≡ q ++ y → x ≡ y
-same_back p q x y e h = sym (drop_at p x (length q) e) ∙ (ap (λ s. drop (length q) s) h ∙ drop_at q y (length q) refl)
+same_back p q x y e h = let rest = drop_at p x (length q) e in let same = drop_at q y (length q) refl in cc
 
 -- all items of a list, one by one
 pub spread : (xs : List ℕ) (n : ℕ) → length xs ≡ n → xs ≡ map (λ i. get_or xs i 0) (range_with_len 0 n)
@@ -46,40 +27,25 @@ spread xs n e = fill_by_all (λ i. get_or xs i 0) xs n 0 e (λ k below. refl)
 pub same_append : {a a' b b' : List ℕ} → a ≡ a' → b ≡ b' → a ++ b ≡ a' ++ b'
 same_append e f = cc
 
--- bytes and bytes after them are bytes
-pub append_is_bytes : (xs ys : List ℕ) → IsBytes xs → IsBytes ys → IsBytes (xs ++ ys)
-append_is_bytes xs ys h k i = elim (cases_lt i (length xs)) [
-  | inl below ↦ rw (get_or_append_left xs ys 0 i below) (h i)
-  | inr past ↦ rw (get_or-append_right xs ys (length xs) i 0 refl past) (k (i - length xs))
-]
-
 -- bytes with one of them replaced by a byte
 pub set_is_bytes : (p : List ℕ) (i b : ℕ) → i < length p → b < 256 → IsBytes p → IsBytes (slice_set p i b)
-set_is_bytes p i b within is_byte bytes k = elim (cases_eq k i) [
-  | inl here ↦ rw (get_or-set_at p i k b 0 here within) is_byte
-  | inr other ↦ rw (get_or-set_other p i k b 0 other) (bytes k)
-]
+set_is_bytes p i b within is_byte bytes k = grind (arith, common_steps)
 
 pub word_is_bytes : (n : ℕ) → IsBytes (to_be_bytes w16 n)
-word_is_bytes n zero = omega arith
-word_is_bytes n (suc zero) = omega arith
-word_is_bytes n (suc (suc i)) = omega arith
+word_is_bytes n i = grind arith
 
 pub words_are_bytes : (ns : List ℕ) → IsBytes (concat (map (λ n. to_be_bytes w16 n) ns))
 words_are_bytes [] i = omega arith
-words_are_bytes (n ∷ ns) i = append_is_bytes (to_be_bytes w16 n) (concat (map (λ n. to_be_bytes w16 n) ns)) (word_is_bytes n) (words_are_bytes ns) i
-
-pair_is_bytes : (a b : ℕ) → a < 256 → b < 256 → IsBytes (a ∷ b ∷ [])
-pair_is_bytes a b h k zero = h
-pair_is_bytes a b h k (suc zero) = k
-pair_is_bytes a b h k (suc (suc i)) = omega arith
+words_are_bytes (n ∷ ns) zero = word_is_bytes n 0
+words_are_bytes (n ∷ ns) (suc zero) = word_is_bytes n 1
+words_are_bytes (n ∷ ns) (suc (suc i)) = words_are_bytes ns i
 
 -- bytes are told by their words
 pub told_by_words : (p : List ℕ) → IsBytes p → length p % 2 ≡ 0 → p ≡ concat (map (λ n. to_be_bytes w16 n) (words_of p))
 told_by_words [] bytes even = refl
 told_by_words (a ∷ []) bytes even = absurd (omega (arith, even))
 told_by_words (a ∷ b ∷ p) bytes even =
-    same_append (sym (be_bytes_2 (a ∷ b ∷ []) _ refl (pair_is_bytes a b (bytes 0) (bytes 1)) refl)) (told_by_words p (λ i. bytes (suc (suc i))) (omega (arith, even)))
+    same_append (sym (be_bytes_2 (a ∷ b ∷ []) _ refl (part_is_bytes (a ∷ b ∷ p) 0 2 bytes) refl)) (told_by_words p (λ i. bytes (suc (suc i))) (omega (arith, even)))
 
 -- words that are written read back
 pub words_written : (ns : List ℕ) → ((i : ℕ) → get_or ns i 0 < 2 ^ 16) → words_of (concat (map (λ n. to_be_bytes w16 n) ns)) ≡ ns

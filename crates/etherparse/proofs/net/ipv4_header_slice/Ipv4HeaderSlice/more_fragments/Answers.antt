@@ -1,8 +1,5 @@
-use Rattle.std.proofs.Common.{arith}
-use Rattle.etherparse.proofs.Ipv4Layout.{flags_of-layout, tests_bit}
+use Rattle.etherparse.proofs.Ipv4Layout.{flags_tested}
 use Rattle.etherparse.proofs.net.ipv4_header_slice.Ipv4HeaderSlice.more_fragments.Goals as goal
 
 pub returns : goal.returns
-returns c = record {
-  value = λ header k. tests_bit _ 5 header.more_fragments (flags_of-layout header k.reserved _ k.layout).1 (omega arith);
-}
+returns c = record { value = λ header k. (flags_tested header _ k).1 }

@@ -1,30 +1,29 @@
-use Rattle.std.proofs.Common.{arith, ap, refl, ◌∙◌, ◌/◌}
+use Rattle.std.proofs.Common.{arith, refl}
 use Rattle.etherparse_base.specs.declared.err.ipv6.header_error.HeaderError.TheVariants.{UnexpectedVersion}
 use Rattle.etherparse_base.specs.declared.err.ipv6.header_slice_error.HeaderSliceError.TheVariants.{Content}
-use Rattle.etherparse.proofs.Ipv6Reading.{front_viewed, not_refused, shown, viewed_once}
-use Rattle.etherparse.proofs.Parts.{get_or-slice_range, length-part, part_is_bytes}
+use Rattle.etherparse.proofs.Fronts.{shown, viewed_once}
+use Rattle.etherparse.proofs.Ipv6Reading.{front_viewed, tells_headers}
+use Rattle.etherparse.proofs.Parts.{part_is_bytes}
+use Rattle.etherparse.specs.Ipv6Header.{IsIpv6Layout, RefusesIpv6}
 use Rattle.etherparse.proofs.net.ipv6_header_slice.Ipv6HeaderSlice.from_slice.Goals as goal
 
-pub returns-then-version_number-ne6-clause-only : goal.returns-then-version_number-ne6-clause-only
-returns-then-version_number-ne6-clause-only c = λ other o. viewed_once _ other _ o (record { enough = c.if-slice-lt-LEN.false; other = c.if-version_number-ne6.true; found = refl })
+pub returns-then-version_number-ne6 : goal.returns-then-version_number-ne6
+returns-then-version_number-ne6 c =
+    let refused : RefusesIpv6 c.args.slice.now (Content (UnexpectedVersion _)) = record { enough = c.if-slice-lt-LEN.false; other = c.if-version_number-ne6.true; found = refl } in
+    record {
+      views = refused;
+      only = λ other o. viewed_once IsIpv6Layout RefusesIpv6 tells_headers _ other _ o refused;
+      shows = λ header rest b. tells_headers.not_refused _ header rest (Content (UnexpectedVersion _)) b refused;
+    }
 
-pub returns-then-version_number-ne6-clause-shows : goal.returns-then-version_number-ne6-clause-shows
-returns-then-version_number-ne6-clause-shows c = λ header rest b. not_refused _ header rest (Content (UnexpectedVersion _)) b
-    (record { enough = c.if-slice-lt-LEN.false; other = c.if-version_number-ne6.true; found = refl })
+pub invariant_of-result-clause-are_bytes : goal.invariant_of-result-clause-are_bytes
+invariant_of-result-clause-are_bytes c = part_is_bytes c.args.slice.now 0 40 (λ i. omega (arith, c.type_inv.slice i))
 
-pub invariant_of-result : goal.invariant_of-result
-invariant_of-result c = record {
-  len = length-part c.args.slice.now 0 40 c.if-slice-lt-LEN.false;
-  version = ap (λ n. n / 16) (get_or-slice_range c.args.slice.now 0 40 0 (omega arith)) ∙ c.if-version_number-ne6.false;
-  are_bytes = λ i. part_is_bytes c.args.slice.now 0 40 i (λ k. omega (arith, c.type_inv.slice k));
-}
-
-pub returns-clause-views : goal.returns-clause-views
-returns-clause-views c = front_viewed _ c.if-slice-lt-LEN.false (λ i. omega (arith, c.type_inv.slice i)) c.if-version_number-ne6.false
-
-pub returns-clause-only : goal.returns-clause-only
-returns-clause-only c = λ other o. viewed_once _ other _ o (front_viewed _ c.if-slice-lt-LEN.false (λ i. omega (arith, c.type_inv.slice i)) c.if-version_number-ne6.false)
-
-pub returns-clause-shows : goal.returns-clause-shows
-returns-clause-shows c = λ header rest b.
-    shown _ _ rest header (front_viewed _ c.if-slice-lt-LEN.false (λ i. omega (arith, c.type_inv.slice i)) c.if-version_number-ne6.false) b
+pub returns : goal.returns
+returns c =
+    let views = front_viewed _ c.if-slice-lt-LEN.false (λ i. omega (arith, c.type_inv.slice i)) c.if-version_number-ne6.false in
+    record {
+      views = views;
+      only = λ other o. viewed_once IsIpv6Layout RefusesIpv6 tells_headers _ other _ o views;
+      shows = λ header rest b. shown IsIpv6Layout RefusesIpv6 tells_headers _ _ rest header views b;
+    }
