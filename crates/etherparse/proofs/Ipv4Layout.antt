@@ -39,13 +39,6 @@ pub flags_tested : (h : Ipv4Header) (p : List ℕ) → IsIpv4Layout h p
     → (not (nat_eq (bit_and (get_or p 6 0) 64) 0) ≡ h.dont_fragment) × (not (nat_eq (bit_and (get_or p 6 0) 32) 0) ≡ h.more_fragments)
 flags_tested h p l = rw (and_pow (get_or p 6 0) 6, and_pow (get_or p 6 0) 5) (grind (arith, common_steps, nat_tests, l.layout.are_bytes 7, from_bool-lt))
 
--- headers with equal fields
-pub same_fields : (g h : Ipv4Header) → g.dscp ≡ h.dscp → g.ecn ≡ h.ecn → g.total_len ≡ h.total_len → g.identification ≡ h.identification
-    → g.dont_fragment ≡ h.dont_fragment → g.more_fragments ≡ h.more_fragments → g.fragment_offset ≡ h.fragment_offset
-    → g.time_to_live ≡ h.time_to_live → g.protocol ≡ h.protocol → g.header_checksum ≡ h.header_checksum
-    → g.source ≡ h.source → g.destination ≡ h.destination → g.options ≡ h.options → g ≡ h
-same_fields g h a b c d e f i j k l m n o = search rules
-
 -- bytes have one header
 pub same_header : (g h : Ipv4Header) (p : List ℕ) → IsIpv4Layout g p → IsIpv4Layout h p → g ≡ h
 same_header g h p k l = search (rules, same_ecn, same_bool, ecn_value-lt, from_bool-lt)

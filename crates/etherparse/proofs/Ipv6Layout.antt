@@ -9,12 +9,6 @@ use Rattle.etherparse.specs.Ipv6Header.{IsIpv6Layout}
 use Rattle.etherparse.specs.FirstByte.{version_of}
 use Rattle.etherparse.specs.declared.net.ipv6_header.Ipv6Header.{Ipv6Header}
 
--- headers with equal fields
-pub same_fields : (g h : Ipv6Header) → g.traffic_class ≡ h.traffic_class → g.flow_label ≡ h.flow_label
-    → g.payload_length ≡ h.payload_length → g.next_header ≡ h.next_header → g.hop_limit ≡ h.hop_limit
-    → g.source ≡ h.source → g.destination ≡ h.destination → g ≡ h
-same_fields g h t f n x m s d = search rules
-
 -- the version and the fields of the first word, read from its bytes
 pub word_of-layout : (h : Ipv6Header) (p : List ℕ) → IsIpv6Layout h p → (version_of p ≡ 6) × ((get_or p 0 0 * 256 + get_or p 1 0) / 16 % 256 ≡ h.traffic_class)
     × (get_or p 1 0 % 16 * 2 ^ 16 + get_or p 2 0 * 2 ^ 8 + get_or p 3 0 ≡ h.flow_label)

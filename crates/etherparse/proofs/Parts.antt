@@ -1,5 +1,5 @@
 -- Parts of a list: fronts, ranges, and what follows them.
-use Rattle.std.proofs.Common.{ℕ, zero, suc, ◌≡◌, ◌%◌, ◌^◌, ◌<◌, List, [], ◌∷◌, map, ◌++◌, length, get_or, refl, sym, arith, w16, slice_set, drop_at, take_at}
+use Rattle.std.proofs.Common.{ℕ, zero, suc, ◌≡◌, ◌%◌, ◌^◌, ◌<◌, List, [], ◌∷◌, map, ◌++◌, length, get_or, refl, sym, arith, w16, slice_set, take_at}
 use Rattle.std.specs.Int.{to_be_bytes}
 use Rattle.std.specs.List.{concat, slice_range, range_with_len}
 use Rattle.std.proofs.lemmas.Grind.{common_steps}
@@ -14,10 +14,6 @@ part_is_bytes xs a b bytes i = grind (arith, common_steps)
 -- two fronts of one length are one
 pub same_front : (p q x y : List ℕ) → length p ≡ length q → p ++ x ≡ q ++ y → p ≡ q
 same_front p q x y e h = let front = take_at p x (length q) e in let same = take_at q y (length q) refl in cc
-
--- and so is what follows them
-pub same_back : (p q x y : List ℕ) → length p ≡ length q → p ++ x ≡ q ++ y → x ≡ y
-same_back p q x y e h = let rest = drop_at p x (length q) e in let same = drop_at q y (length q) refl in cc
 
 -- all items of a list, one by one
 pub spread : (xs : List ℕ) (n : ℕ) → length xs ≡ n → xs ≡ map (λ i. get_or xs i 0) (range_with_len 0 n)
