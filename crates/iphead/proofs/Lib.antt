@@ -1,4 +1,3 @@
-mod Appended
 mod Decoded
 mod ReadSoFar
 mod Walked
