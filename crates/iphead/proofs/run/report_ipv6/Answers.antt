@@ -1,10 +1,8 @@
-use Rattle.std.proofs.Common.{◌++◌, Err, Ok, ap, refl}
+use Rattle.std.proofs.Common.{Err, Ok, arith, refl}
 use Rattle.std.proofs.KnownBytes.{Appends-trans}
 use Rattle.std.proofs.lemmas.Result.{IfOk-weaker}
 use Rattle.etherparse.proofs.Fronts.{begins_at}
 use Rattle.etherparse.specs.Ipv6Header.{IsIpv6Layout}
-use Rattle.iphead.specs.Output.{ipv6_lines}
-use Rattle.iphead.proofs.Walked.{reported}
 use Rattle.iphead.proofs.run.report_ipv6.Goals as goal
 
 -- the lines of the header, and then those of the walk after it
@@ -12,9 +10,12 @@ pub returns-in_ok-write_ipv6-in-Ok : goal.returns-in_ok-write_ipv6-in-Ok
 returns-in_ok-write_ipv6-in-Ok g c =
     let v = c.in-Ok.ensures.views in
     let begins = begins_at IsIpv6Layout 40 _ _ _ v.header v.whole v.layout v.layout.len in
-    let walked = rw (c.next_header.ensures.value v.header v.layout) at c.report_walk.ensures in
-    IfOk-weaker c.report_walk.result _ _ (λ status w. reported (Ok (v.header, _, w.outcome.reading)) (status, ipv6_lines v.header ++ w.text) (begins, w.outcome.reads)
-    (ap (λ p. (p.0, ipv6_lines v.header ++ p.1)) w.outcome.outcome_of_it) (Appends-trans _ _ _ _ _ (c.in_ok-write_ipv6-in-Ok.ensures v.header v.layout) w.appended)) walked
+    IfOk-weaker c.report_walk.result _ _ (λ status w. record {
+      text = _;
+      outcome = record { reading = Ok (v.header, _, w.outcome.reading); reads = (begins, w.outcome.reads); outcome_of_it = grind (arith, w.outcome.outcome_of_it) };
+      appended = Appends-trans _ _ _ _ _ (c.in_ok-write_ipv6-in-Ok.ensures v.header v.layout) w.appended;
+    }) (rw (c.next_header.ensures.value v.header v.layout) at c.report_walk.ensures)
 
 pub returns-in_ok-write_error-in-Err : goal.returns-in_ok-write_error-in-Err
-returns-in_ok-write_error-in-Err g c = reported (Err c.in-Err.e) _ c.in-Err.ensures.views refl c.in_ok-write_error-in-Err.ensures
+returns-in_ok-write_error-in-Err g c =
+    record { text = _; outcome = record { reading = Err c.in-Err.e; reads = c.in-Err.ensures.views; outcome_of_it = refl }; appended = c.in_ok-write_error-in-Err.ensures }

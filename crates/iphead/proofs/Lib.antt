@@ -1,3 +1,0 @@
-mod Decoded
-mod ReadSoFar
-mod Walked
