@@ -1,10 +1,10 @@
 -- What the turns of the loop tell of the input, and what a run over it writes.
-use Rattle.std.proofs.Common.{ℕ, ◌≡◌, ◌<◌, ◌≤◌, ◌+◌, Bool, true, false, List, [], ◌++◌, length, take, drop, Option, Some, None, Err, refl, ap, ◌∙◌, append_assoc, append-nil, arith, inl, inr, ◌⊎◌, ◌-◌, length-append, length-drop, length-take, length-take-le, min, take-append-drop, IfSome}
+use Rattle.std.proofs.Common.{ℕ, ◌≡◌, ◌<◌, ◌≤◌, ◌+◌, Bool, true, false, List, [], ◌++◌, length, take, drop, Option, Some, None, Err, refl, ap, ◌∙◌, append_assoc, append-nil, arith, inl, inr, ◌⊎◌, ◌-◌, length-append, length-take, length-take-le, min, take-append-drop, IfSome}
 use Rattle.std.proofs.Math.Seq.{drop-append_seam}
-use Rattle.std.proofs.lemmas.List.{drop-drop}
+use Rattle.std.proofs.lemmas.List.{nil_from_length}
 use Rattle.std.proofs.lemmas.Option.{IfSome_then}
 use Rattle.std.specs.Io.KnownBytes.{Appends, Consumes, IsAtEnd, Keeps, prepend_known, append_known}
-use Rattle.std.proofs.KnownBytes.{Consumes-whole}
+use Rattle.std.proofs.KnownBytes.{Appends-nil, Consumes-whole}
 use Rattle.uses.specs.Capture.{BeginsWithRecord, Recorded, record_len, BeginsWithFileHeader, ReadsFileHeader}
 use Rattle.uses.specs.declared.capture.CutOff as cut
 use Rattle.uses.specs.declared.capture.FileHeader.{FileHeader}
@@ -17,7 +17,7 @@ use Rattle.ipcap.proofs.Fronts.{begins_with_record-append, long_record-append, r
 use Rattle.uses.specs.declared.capture.CaptureError.{CaptureError}
 use Rattle.ipcap.specs.Lines.{capture_error_line, link_type_line}
 use Rattle.ipcap.specs.Link.{is_read, link_type_of}
-use Rattle.ipcap.specs.Output.{IsListed, IsListing, IsOutcome, Outcome, Writes, listed, refused, status_at}
+use Rattle.ipcap.specs.Output.{HasOtherFrames, IsListed, IsListing, IsNoCapture, IsOutcome, Writes, listed, refused, status_at}
 use Rattle.ipcap.specs.Totals.{nothing_counted}
 use Rattle.ipcap.specs.declared.status.Status.{Status}
 use Rattle.ipcap.specs.declared.status.Status.TheVariants.{NoCapture}
@@ -41,10 +41,6 @@ told_one h is_quiet t u s rest line found None o m room b told wrote = λ last e
 told_one h is_quiet t u s rest line found (Some more) o m room b told wrote = λ last end n r.
     let fits : length found.bytes ≤ max_captured_len = omega (arith, ap length b.bytes, length-take (record_len h s - 16) (drop 16 s), b.whole) in
     line_then h is_quiet t u last _ _ line end o m n (λ text. reads (begins_with_record-append h s more found rest b) fits told) wrote r
-
--- the data after one more record
-pub passed : (s rest after : List ℕ) (n : ℕ) → rest ≡ drop (length s - length rest) s → n ≤ length rest → after ≡ drop n rest → after ≡ drop (length s - length after) s
-passed s rest after n e within more = grind (arith, drop-drop, length-drop)
 
 -- what holds of all bytes, from what holds of those that are left of them
 before : (a b : Option (List ℕ)) (bytes : List ℕ) (P Q : List ℕ → Type 0) → Consumes a b bytes → ((rest : List ℕ) → Q rest → P (bytes ++ rest)) → IfSome b Q → IfSome a P
@@ -94,20 +90,18 @@ skips_more u v r a b c len left k m p enough same least e many kept =
     let parts = take-append-drop k u in
     record { bytes = p.bytes ++ take k u; many = grind (arith, length-append, length-take-le); taken = grind (arith, append_assoc) }
 
-pub skips_end : (a : Option (List ℕ)) (u v : List ℕ) (left left' : Option (List ℕ)) (k : ℕ) → Skips k a (prepend_known u left)
-    → Keeps (prepend_known u left) (prepend_known v left') → v ≡ u → IsAtEnd left' → length u ≡ 0 → Skips k a (Some [])
-skips_end a u v left left' k p kept same end none =
-    record { bytes = p.bytes ++ u; many = grind (arith, length-append); taken = grind (arith, append_assoc, append-nil) }
-
-writes_refusal : (P : Outcome → Type 0) (line : List ℕ) (o p q : Option (List ℕ)) → P (refused line) → Appends p q line → Writes P NoCapture o o p q
-writes_refusal P line o p q is_outcome w = record { outcome = refused line; is_outcome = is_outcome; ended = refl; output = grind (arith, append-nil); errors = w }
+-- nothing is left if nothing is unread at the end of the input
+pub nothing_left : (u v : List ℕ) (left left' : Option (List ℕ)) → Keeps (prepend_known u left) (prepend_known v left') → v ≡ u → IsAtEnd left' → length u ≡ 0
+    → Keeps (prepend_known u left) (Some [])
+nothing_left u v left left' kept same end none = grind (arith, nil_from_length)
 
 pub no_capture : (is_quiet : Bool) (r : Option (List ℕ)) (u : List ℕ) (e : CaptureError) (o p q : Option (List ℕ))
     → (24 ≤ length u) ⊎ IsAtEnd r → ReadsFileHeader u (Err e) → Appends p q (capture_error_line e)
     → IfSome (prepend_known u r) (λ input. Writes (IsOutcome is_quiet input) NoCapture o o p q)
 no_capture is_quiet None u e o p q enough none w = tt
 no_capture is_quiet (Some more) u e o p q enough none w =
-    writes_refusal _ _ o p q (inr (inr (record { error = e; reads = reads_no_file_header-append u more e enough none; outcome_of = refl }))) w
+    let refusal : IsNoCapture (u ++ more) (refused (capture_error_line e)) = record { error = e; reads = reads_no_file_header-append u more e enough none; outcome_of = refl } in
+    record { outcome = _; is_outcome = inr (inr refusal); ended = refl; output = Appends-nil o; errors = w }
 
 pub other_frames : (is_quiet : Bool) (r : Option (List ℕ)) (u rest : List ℕ) (header : FileHeader) (o p q : Option (List ℕ))
     → BeginsWithFileHeader u header rest → is_read (link_type_of header) ≡ false → Appends p q (link_type_line (link_type_of header))
@@ -115,7 +109,8 @@ pub other_frames : (is_quiet : Bool) (r : Option (List ℕ)) (u rest : List ℕ)
 other_frames is_quiet None u rest header o p q begins other w = tt
 other_frames is_quiet (Some more) u rest header o p q begins other w =
     let began = begins_with_file_header-append u more header rest begins in
-    writes_refusal _ _ o p q (inr (inl (record { header = header; records = rest ++ more; begins = began; other = other; outcome_of = refl }))) w
+    let refusal : HasOtherFrames (u ++ more) (refused (link_type_line (link_type_of header))) = record { header = header; records = rest ++ more; begins = began; other = other; outcome_of = refl } in
+    record { outcome = _; is_outcome = inr (inl refusal); ended = refl; output = Appends-nil o; errors = w }
 
 pub listed_input : (is_quiet : Bool) (r : Option (List ℕ)) (u rest : List ℕ) (header : FileHeader) (status : Status) (o n p q : Option (List ℕ))
     → BeginsWithFileHeader u header rest → is_read (link_type_of header) ≡ true
