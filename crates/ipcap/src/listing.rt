@@ -1,7 +1,7 @@
 //! The lines of the records, in their order.
 
-ghost use Rattle.std.specs.Prelude.{ℕ, ◌≡◌, ◌≤◌, ◌<◌, ◌+◌, ◌*◌, ◌⊎◌, List, [], IfOk};
-ghost use Rattle.std.specs.Prelude.{MatchOption, OnOk, length, slice_range};
+ghost use Rattle.std.specs.Prelude.{ℕ, ◌≡◌, ◌≤◌, ◌<◌, ◌+◌, ◌-◌, ◌*◌, ◌⊎◌, List, [], IfOk};
+ghost use Rattle.std.specs.Prelude.{MatchOption, OnOk, Option, drop, length, slice_range};
 ghost use Rattle.std.specs.Int.{w32};
 ghost use Rattle.std.specs.Io.KnownBytes.{Appends, IsAtEnd, Keeps, append_known, prepend_known};
 ghost use Rattle.uses.specs.Capture.{nanoseconds_in, number_in, record_len, recorded};
@@ -149,10 +149,13 @@ fn list_front<'a, W: Write>(
     writer: &mut W,
 ) -> io::Result<(&'a [u8], Totals, Option<CutOff>)>
     requires { length bytes.now ≤ ROOM }
-    ensures told { IfOk result (λ x. Told header.now is_quiet before x.1 Turn.GoesOn
-        (Some bytes.now) (Some x.0.now)
+    ensures told { IfOk result (λ x. (left : Option (List ℕ)) →
+        Told header.now is_quiet before x.1 Turn.GoesOn
+        (prepend_known bytes.now left) (prepend_known x.0.now left)
         (append_known (W.contents writer.old) text.old.items)
         (append_known (W.contents writer.new) text.new.items)) }
+    ensures rest { IfOk result (λ x.
+        x.0.now ≡ drop (length bytes.now - length x.0.now) bytes.now) }
     ensures stops { IfOk result (λ x. Stops header.now x.0.now x.2) }
 {
     let mut rest = bytes;

@@ -1,5 +1,5 @@
 -- The UDP layout: bytes have one header, and a header has one list of bytes.
-use Rattle.std.proofs.Common.{◌≡◌, List, ℕ, map, length, ap, ◌∙◌, arith, rules, w16}
+use Rattle.std.proofs.Common.{◌≡◌, List, ℕ, map, ap, ◌∙◌, arith, rules, w16}
 use Rattle.std.specs.Int.{to_be_bytes}
 use Rattle.std.specs.List.{concat}
 use Rattle.etherparse.proofs.Parts.{told_by_words}

@@ -1,6 +1,6 @@
 -- What a host asks of the UDP datagram in a packet of either version (RFC 768, RFC 8200 section
 -- 8.1).
-use Rattle.std.specs.Prelude.{ℕ, ◌≡◌, ◌≢◌, ◌+◌, ◌-◌, ◌<◌, ◌≤◌, ◌⊎◌, ◌↔◌, Bool, IsTrue, List}
+use Rattle.std.specs.Prelude.{ℕ, ◌≡◌, ◌≢◌, ◌-◌, ◌<◌, ◌≤◌, ◌⊎◌, ◌↔◌, Bool, IsTrue, List}
 use Rattle.std.specs.Prelude.{length, take}
 use Rattle.etherparse.specs.Reading.{BeginsWith}
 use Rattle.uses.specs.IpSlice.{IsFragmentSlice, IsIpPacket, IsWholeSlice, payload_of, upper_of}

@@ -1,5 +1,5 @@
 -- How much of a capture has been listed.
-use Rattle.std.specs.Prelude.{ℕ, ◌≡◌, Bool, List, [], ◌++◌, length, Option, Some, None, Err}
+use Rattle.std.specs.Prelude.{ℕ, ◌≡◌, Bool, List, [], length, Option, Some, None, Err, IfSome}
 use Rattle.std.specs.Prelude.{if◌then◌else◌}
 use Rattle.std.specs.Io.KnownBytes.{Appends, Consumes}
 use Rattle.uses.specs.Capture.{ReadsRecord}
@@ -14,31 +14,23 @@ use Rattle.ipcap.specs.declared.totals.Totals.{Totals}
 abbrev pub unless_quiet : Bool → List ℕ → List ℕ
 unless_quiet is_quiet text = if is_quiet then [] else text
 
--- These bytes are records that have these lines, whatever records come after them.
-abbrev pub GoesOn : FileHeader → Totals → List ℕ → List ℕ → Totals → Type 0
-GoesOn header before bytes lines after =
-    (rest text : List ℕ) (last : Totals) (end : Option cut.CutOff)
-    → Lists header after rest text last end
-    → Lists header before (bytes ++ rest) (lines ++ text) last end
+-- these are records that have lines, and the lines are written
+pub record IsTold (header : FileHeader) (is_quiet : Bool) (before last : Totals)
+    (end : Option cut.CutOff) (old new : Option (List ℕ)) (records : List ℕ) : Type 0 where
+  pub text : List ℕ
+  pub lists : Lists header before records text last end
+  pub written : Appends old new (unless_quiet is_quiet text)
 
--- the same, or they are all that there is
-abbrev pub Leads : FileHeader → Totals → List ℕ → List ℕ → Totals → Turn → Type 0
-Leads header before bytes lines after turn.GoesOn = GoesOn header before bytes lines after
-Leads header before bytes lines after (turn.Ends end) = Lists header before bytes lines after end
-
--- what a turn leaves of the input: nothing, if it is the last
-abbrev pub left_by : Turn → Option (List ℕ) → Option (List ℕ)
-left_by turn.GoesOn rest = rest
-left_by (turn.Ends end) rest = Some []
-
--- the lines of the records between what was left of the input and what is left now are written
-pub record Told (header : FileHeader) (is_quiet : Bool) (before after : Totals) (turn : Turn)
-    (input rest old new : Option (List ℕ)) : Type 0 where
-  pub bytes : List ℕ
-  pub lines : List ℕ
-  pub leads : Leads header before bytes lines after turn
-  pub taken : Consumes input (left_by turn rest) bytes
-  pub written : Appends old new (unless_quiet is_quiet lines)
+-- what a turn makes of the input: all of it is told, if all that is left of it is told afterwards;
+-- or all of it is told, and that is the end
+abbrev pub Told : FileHeader → Bool → Totals → Totals → Turn → Option (List ℕ) → Option (List ℕ)
+    → Option (List ℕ) → Option (List ℕ) → Type 0
+Told header is_quiet before after turn.GoesOn input rest old new =
+    (last : Totals) (end : Option cut.CutOff) (final : Option (List ℕ))
+    → IfSome rest (IsTold header is_quiet after last end new final)
+    → IfSome input (IsTold header is_quiet before last end old final)
+Told header is_quiet before after (turn.Ends end) input rest old new =
+    IfSome input (IsTold header is_quiet before after end old new)
 
 -- why no whole record is at the front of the data: it is empty, or begins with an incomplete one
 abbrev pub Stops : FileHeader → List ℕ → Option cut.CutOff → Type 0

@@ -1,10 +1,10 @@
-use Rattle.iphead.proofs.Appended.{appended}
+use Rattle.std.proofs.KnownBytes.{Appends-trans}
 use Rattle.iphead.proofs.lines.write_ipv4.Goals as goal
 
 pub returns : goal.returns
 returns g c = λ h layout.
     let computed = c.calc_header_checksum-computed.ensures.value _ c.to_header.ensures.cleared in
-    appended _ _ _ _ _ (c.in_ok-write_fixed_fields.ensures h layout)
-    (appended _ _ _ _ _ (rw (c.options.ensures.value h layout) at c.in_ok-write_options.ensures)
-    (appended _ _ _ _ _ (rw (c.to_be_bytes.ensures, computed) at c.in_ok-write_hex_field.ensures)
-    (appended _ _ _ _ _ (rw c.good_or_bad.ensures.text at c.in_ok-write_field.ensures) c.in_ok-write_field-2.ensures)))
+    Appends-trans _ _ _ _ _ (c.in_ok-write_fixed_fields.ensures h layout)
+    (Appends-trans _ _ _ _ _ (rw (c.options.ensures.value h layout) at c.in_ok-write_options.ensures)
+    (Appends-trans _ _ _ _ _ (rw (c.to_be_bytes.ensures, computed) at c.in_ok-write_hex_field.ensures)
+    (Appends-trans _ _ _ _ _ (rw c.good_or_bad.ensures.text at c.in_ok-write_field.ensures) c.in_ok-write_field-2.ensures)))

@@ -1,14 +1,21 @@
-use Rattle.std.proofs.Common.{Err, refl}
+use Rattle.std.proofs.Common.{Err, Ok, arith, refl}
+use Rattle.std.proofs.KnownBytes.{Appends-trans}
+use Rattle.std.proofs.lemmas.Result.{IfOk-weaker}
 use Rattle.etherparse.proofs.Fronts.{begins_at}
 use Rattle.etherparse.specs.Ipv6Header.{IsIpv6Layout}
-use Rattle.iphead.proofs.Walked.{fields_then_walk, reported}
 use Rattle.iphead.proofs.run.report_ipv6.Goals as goal
 
+-- the lines of the header, and then those of the walk after it
 pub returns-in_ok-write_ipv6-in-Ok : goal.returns-in_ok-write_ipv6-in-Ok
 returns-in_ok-write_ipv6-in-Ok g c =
     let v = c.in-Ok.ensures.views in
-    fields_then_walk _ _ v.header c.report_walk.result _ _ _ (begins_at IsIpv6Layout 40 _ _ _ v.header v.whole v.layout v.layout.len)
-    (c.in_ok-write_ipv6-in-Ok.ensures v.header v.layout) (rw (c.next_header.ensures.value v.header v.layout) at c.report_walk.ensures)
+    let begins = begins_at IsIpv6Layout 40 _ _ _ v.header v.whole v.layout v.layout.len in
+    IfOk-weaker c.report_walk.result _ _ (λ status w. record {
+      text = _;
+      outcome = record { reading = Ok (v.header, _, w.outcome.reading); reads = (begins, w.outcome.reads); outcome_of_it = grind (arith, w.outcome.outcome_of_it) };
+      appended = Appends-trans _ _ _ _ _ (c.in_ok-write_ipv6-in-Ok.ensures v.header v.layout) w.appended;
+    }) (rw (c.next_header.ensures.value v.header v.layout) at c.report_walk.ensures)
 
 pub returns-in_ok-write_error-in-Err : goal.returns-in_ok-write_error-in-Err
-returns-in_ok-write_error-in-Err g c = reported (Err c.in-Err.e) _ c.in-Err.ensures.views refl c.in_ok-write_error-in-Err.ensures
+returns-in_ok-write_error-in-Err g c =
+    record { text = _; outcome = record { reading = Err c.in-Err.e; reads = c.in-Err.ensures.views; outcome_of_it = refl }; appended = c.in_ok-write_error-in-Err.ensures }

@@ -10,7 +10,6 @@ returns-clause-right c = λ header l.
     let zeroed = c.to_bytes-header.result in
     let checksum = c.ones_complement_with_no_zero in
     let before : ℕ = sum_by little_endian_word_sum (c.args.source.now ∷ c.args.destination.now ∷ c.args.before.now ∷ zeroed ∷ c.args.payload.now ∷ []) in
-    let summed : folded_sum c.add_slices-sum.result ≡ folded_sum before = c.add_slices-sum.ensures.adds.sum in
     let stored : little_endian_word_sum header ≡ little_endian_word_sum zeroed + checksum.result =
     rw (spelled _ _ c.to_bytes-header.ensures.layout, spelled _ header l, c.swap_bytes-self.ensures) (omega (arith, little_endian_word_sum-swapped checksum.result (omega arith))) in
-    ap folded_sum (omega (arith, stored)) ∙ checksum.ensures.complements.completes before (omega (arith, c.requires)) (sym summed)
+    ap folded_sum (omega (arith, stored)) ∙ checksum.ensures.complements.completes before (omega (arith, c.requires)) (sym c.add_slices-sum.ensures.adds.sum)

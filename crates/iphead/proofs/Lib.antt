@@ -1,4 +1,0 @@
-mod Appended
-mod Decoded
-mod ReadSoFar
-mod Walked
