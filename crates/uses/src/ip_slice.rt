@@ -316,10 +316,7 @@ fn passed(slice: &[u8], number: IpNumber) -> Result<(IpNumber, &[u8]), LenError>
     ensures shorter { IfOk result (λ x. length x.1.now < length slice.now) }
     ensures at_front { IfErr result (λ e. e.layer_start_offset ≡ 0) }
 {
-    match Ipv6Header::skip_header_extension_in_slice(slice, number) {
-        Ok(next) => Ok(next),
-        Err(e) => Err(e),
-    }
+    Ipv6Header::skip_header_extension_in_slice(slice, number)
 }
 
 // What stands in a slice before its rest.
