@@ -22,6 +22,7 @@ use Rattle.ipcap.specs.Totals.{nothing_counted}
 use Rattle.ipcap.specs.declared.status.Status.{Status}
 use Rattle.ipcap.specs.declared.status.Status.TheVariants.{NoCapture}
 
+-- what is told by a turn, and then by others, is told by all of them
 pub told_then : (h : FileHeader) (is_quiet : Bool) (t u v : Totals) (s r q : Option (List ℕ)) (k : Turn) (o m n : Option (List ℕ))
     → Told h is_quiet t u turn.GoesOn s r o m → Told h is_quiet u v k r q m n → Told h is_quiet t v k s q o n
 told_then h is_quiet t u v s r q turn.GoesOn o m n a b = λ last end final l. a last end final (b last end final l)
@@ -73,6 +74,7 @@ told_long h is_quiet t u s line n left b o m told wrote len k = λ last end fina
     before (prepend_known s left) b (s ++ k.bytes) _ _ (grind (arith, append_assoc))
     (λ more. line_then h is_quiet t u last _ more line end o m final (λ text. skipped h t u last (s ++ k.bytes) more line text end long whole) wrote) r
 
+-- such a record whose bytes the input does not have to their end
 pub told_long_last : (h : FileHeader) (is_quiet : Bool) (t u : Totals) (s line : List ℕ) (n len : ℕ) (left o m : Option (List ℕ))
     → IsToldOfLongRecord h t s line u → Appends o m (unless_quiet is_quiet line) → len ≡ record_len h s → length s + n < len → Skips n (prepend_known [] left) (Some [])
     → IfSome (prepend_known s left) (IsTold h is_quiet t u (Some (record { required_len = len; len = length s + n })) o m)
@@ -95,6 +97,7 @@ pub nothing_left : (u v : List ℕ) (left left' : Option (List ℕ)) → Keeps (
     → Keeps (prepend_known u left) (Some [])
 nothing_left u v left left' kept same end none = grind (arith, nil_from_length)
 
+-- an input that begins with no file header, however it goes on
 pub no_capture : (is_quiet : Bool) (r : Option (List ℕ)) (u : List ℕ) (e : CaptureError) (o p q : Option (List ℕ))
     → (24 ≤ length u) ⊎ IsAtEnd r → ReadsFileHeader u (Err e) → Appends p q (capture_error_line e)
     → IfSome (prepend_known u r) (λ input. Writes (IsOutcome is_quiet input) NoCapture o o p q)
@@ -103,6 +106,7 @@ no_capture is_quiet (Some more) u e o p q enough none w =
     let refusal : IsNoCapture (u ++ more) (refused (capture_error_line e)) = record { error = e; reads = reads_no_file_header-append u more e enough none; outcome_of = refl } in
     record { outcome = _; is_outcome = inr (inr refusal); ended = refl; output = Appends-nil o; errors = w }
 
+-- a capture whose frames are of a link type that is not read
 pub other_frames : (is_quiet : Bool) (r : Option (List ℕ)) (u rest : List ℕ) (header : FileHeader) (o p q : Option (List ℕ))
     → BeginsWithFileHeader u header rest → is_read (link_type_of header) ≡ false → Appends p q (link_type_line (link_type_of header))
     → IfSome (prepend_known u r) (λ input. Writes (IsOutcome is_quiet input) NoCapture o o p q)
@@ -112,6 +116,7 @@ other_frames is_quiet (Some more) u rest header o p q begins other w =
     let refusal : HasOtherFrames (u ++ more) (refused (link_type_line (link_type_of header))) = record { header = header; records = rest ++ more; begins = began; other = other; outcome_of = refl } in
     record { outcome = _; is_outcome = inr (inl refusal); ended = refl; output = Appends-nil o; errors = w }
 
+-- a capture whose records are listed
 pub listed_input : (is_quiet : Bool) (r : Option (List ℕ)) (u rest : List ℕ) (header : FileHeader) (status : Status) (o n p q : Option (List ℕ))
     → BeginsWithFileHeader u header rest → is_read (link_type_of header) ≡ true
     → IfSome (prepend_known rest r) (λ records. Writes (IsListing is_quiet header records) status o n p q)
@@ -122,9 +127,11 @@ listed_input is_quiet (Some more) u rest header status o n p q begins shown w =
     let is_listed : IsListed is_quiet (u ++ more) w.outcome = record { header = header; records = rest ++ more; begins = began; is_read = shown; listing = w.is_outcome } in
     record { outcome = w.outcome; is_outcome = inl is_listed; ended = w.ended; output = w.output; errors = w.errors }
 
+-- nothing is appended
 pub append_known-nil : (a : Option (List ℕ)) → append_known a [] ≡ a
 append_known-nil a = grind (arith, append-nil)
 
+-- records that are told to their end are listed
 pub listed_records : (is_quiet : Bool) (h : FileHeader) (t : Totals) (end : Option cut.CutOff) (status : Status) (s a b c d p q : Option (List ℕ))
     → IfSome s (IsTold h is_quiet nothing_counted t end a b) → Keeps b c
     → status ≡ status_at end → Appends c d (listed is_quiet [] t end).output → Appends p q (listed is_quiet [] t end).errors
