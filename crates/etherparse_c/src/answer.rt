@@ -3,13 +3,11 @@
 ghost use Rattle.std.specs.Prelude.{ℕ, ◌≡◌, ◌≤◌, ◌+◌, List, length};
 ghost use Rattle.etherparse_c.specs.Answer.{rest_of};
 ghost use Rattle.etherparse_c.specs.Error.{chain_error_in_c, ipv4_error_in_c, ipv6_error_in_c};
-ghost use Rattle.etherparse_c.specs.Error.{layer_in_c, len_error_in_c, no_error};
+ghost use Rattle.etherparse_c.specs.Error.{layer_in_c, len_error_in_c};
 
 use etherparse::err::{Layer, LenError, ipv4, ipv6};
 
-// The kinds of errors.
-pub(crate) const NO_ERROR: u32 = 0;
-
+// The kinds of errors; 0 is none.
 pub(crate) const LEN: u32 = 1;
 
 pub(crate) const UNEXPECTED_VERSION: u32 = 2;
@@ -46,7 +44,7 @@ pub(crate) const IPV6_PAYLOAD_LENGTH: u16 = 6;
 
 /// Why a call refused, as numbers; each number that its kind does not have is 0.
 #[repr(C)]
-#[derive(Drop)]
+#[derive(Default, Drop)]
 pub struct Error {
     /// Which error it is: 0 none, 1 a length, 2 another version, 3 an IHL below 5, 4 too many
     /// extension headers, 5 a value that is too big, 6 a length that options cannot have.
@@ -68,9 +66,9 @@ pub struct Error {
     pub limit: usize,
 }
 
-/// Where the rest of a slice is.
+/// Where the rest of a slice is; of one that is refused, both numbers are 0.
 #[repr(C)]
-#[derive(Drop)]
+#[derive(Default, Drop)]
 pub struct Rest {
     /// How many bytes of the slice come before it.
     pub offset: usize,
@@ -79,22 +77,6 @@ pub struct Rest {
 }
 
 impl Error {
-    // No error.
-    #[inline(always)]
-    pub(crate) fn none() -> Error
-        ensures value { result ≡ no_error }
-    {
-        Error {
-            kind: NO_ERROR,
-            number: 0,
-            layer: 0,
-            required_len: 0,
-            len: 0,
-            layer_start_offset: 0,
-            limit: 0,
-        }
-    }
-
     // The error of a length that is too small.
     #[inline(always)]
     pub(crate) fn of_len(e: &LenError) -> Error
@@ -106,7 +88,7 @@ impl Error {
             required_len: e.required_len,
             len: e.len,
             layer_start_offset: e.layer_start_offset,
-            ..Error::none()
+            ..Error::default()
         }
     }
 
@@ -123,7 +105,7 @@ impl Error {
                 kind: UNEXPECTED_VERSION,
                 number: u16::from(*version_number),
                 layer: IPV4_HEADER,
-                ..Error::none()
+                ..Error::default()
             },
             ipv4::HeaderSliceError::Content(
                 ipv4::HeaderError::HeaderLengthSmallerThanHeader { ihl },
@@ -131,7 +113,7 @@ impl Error {
                 kind: HEADER_LENGTH_SMALLER_THAN_HEADER,
                 number: u16::from(*ihl),
                 layer: IPV4_HEADER,
-                ..Error::none()
+                ..Error::default()
             },
         }
     }
@@ -149,7 +131,7 @@ impl Error {
                 kind: UNEXPECTED_VERSION,
                 number: u16::from(*version_number),
                 layer: IPV6_HEADER,
-                ..Error::none()
+                ..Error::default()
             },
         }
     }
@@ -171,7 +153,7 @@ impl Error {
                 layer: IPV6_EXT_HEADER,
                 layer_start_offset: *layer_start_offset,
                 limit: *limit,
-                ..Error::none()
+                ..Error::default()
             },
         }
     }
@@ -201,14 +183,6 @@ impl Rest {
             offset: front.len(),
             len: slice.len() - front.len(),
         }
-    }
-
-    // No rest, of a slice that was refused.
-    #[inline(always)]
-    pub(crate) fn none() -> Rest
-        ensures value { result ≡ record { offset = 0; len = 0 } }
-    {
-        Rest { offset: 0, len: 0 }
     }
 }
 

@@ -161,7 +161,7 @@ pub extern "C" fn etherparse_ipv4_new(
     ) {
         Ok(header) => {
             return Ipv4NewAnswer {
-                error: Error::none(),
+                error: Error::default(),
                 fields: fields_with(&header, [0; 40]),
             };
         }
@@ -172,7 +172,7 @@ pub extern "C" fn etherparse_ipv4_new(
                     number: IPV4_PAYLOAD_LENGTH,
                     len: usize::from(e.actual),
                     limit: usize::from(e.max_allowed),
-                    ..Error::none()
+                    ..Error::default()
                 },
                 fields: no_fields(),
             };
@@ -201,13 +201,13 @@ pub extern "C" fn etherparse_ipv4_read(slice: &[u8]) -> Ipv4ReadAnswer
             // Most headers have no options; then nothing is copied.
             if options.is_empty() {
                 return Ipv4ReadAnswer {
-                    error: Error::none(),
+                    error: Error::default(),
                     rest,
                     fields: fields_with(&header, [0; 40]),
                 };
             }
             return Ipv4ReadAnswer {
-                error: Error::none(),
+                error: Error::default(),
                 rest,
                 fields: fields_with(&header, filled_by_words(options)),
             };
@@ -215,7 +215,7 @@ pub extern "C" fn etherparse_ipv4_read(slice: &[u8]) -> Ipv4ReadAnswer
         Err(e) => {
             return Ipv4ReadAnswer {
                 error: Error::of_ipv4(&e),
-                rest: Rest::none(),
+                rest: Rest::default(),
                 fields: no_fields(),
             };
         }
@@ -267,7 +267,7 @@ pub extern "C" fn etherparse_ipv4_lengths(total_len: u16, options_len: u8) -> Ip
             error: Error {
                 kind: BAD_OPTIONS_LEN,
                 len: usize::from(options_len),
-                ..Error::none()
+                ..Error::default()
             },
             payload_len: 0,
             max_payload_len: 0,
@@ -279,7 +279,7 @@ pub extern "C" fn etherparse_ipv4_lengths(total_len: u16, options_len: u8) -> Ip
     header.total_len = total_len;
     header.options = Ipv4Options::from_front(&[0; 40], usize::from(options_len));
     let (payload_len, error) = match header.payload_len() {
-        Ok(len) => (len, Error::none()),
+        Ok(len) => (len, Error::default()),
         Err(e) => (0, Error::of_len(&e)),
     };
     Ipv4LengthsAnswer {

@@ -72,7 +72,7 @@ pub extern "C" fn etherparse_ipv4_view(slice: &[u8]) -> Ipv4ViewAnswer
         // more instructions, a third more in `etherparse_ipv4_view`.
         Ok(view) => {
             return Ipv4ViewAnswer {
-                error: Error::none(),
+                error: Error::default(),
                 rest: Rest::after(slice, view.slice),
                 view: getters_of(&view),
             };
@@ -80,7 +80,7 @@ pub extern "C" fn etherparse_ipv4_view(slice: &[u8]) -> Ipv4ViewAnswer
         Err(e) => {
             return Ipv4ViewAnswer {
                 error: Error::of_ipv4(&e),
-                rest: Rest::none(),
+                rest: Rest::default(),
                 view: Ipv4ViewFields {
                     ihl: 0,
                     dscp: 0,

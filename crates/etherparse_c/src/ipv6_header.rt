@@ -74,7 +74,7 @@ pub extern "C" fn etherparse_ipv6_read(slice: &[u8]) -> Ipv6ReadAnswer
         // more instructions, a third more in `etherparse_ipv4_view`.
         Ok((header, rest)) => {
             return Ipv6ReadAnswer {
-                error: Error::none(),
+                error: Error::default(),
                 rest: Rest::of(slice, rest),
                 fields: fields_of(&header),
             };
@@ -82,7 +82,7 @@ pub extern "C" fn etherparse_ipv6_read(slice: &[u8]) -> Ipv6ReadAnswer
         Err(e) => {
             return Ipv6ReadAnswer {
                 error: Error::of_ipv6(&e),
-                rest: Rest::none(),
+                rest: Rest::default(),
                 fields: Ipv6Fields {
                     flow_label: 0,
                     payload_length: 0,

@@ -59,7 +59,7 @@ pub extern "C" fn etherparse_ipv6_view(slice: &[u8]) -> Ipv6ViewAnswer
         // more instructions, a third more in `etherparse_ipv4_view`.
         Ok(view) => {
             return Ipv6ViewAnswer {
-                error: Error::none(),
+                error: Error::default(),
                 rest: Rest::after(slice, view.slice),
                 view: getters_of(&view),
             };
@@ -67,7 +67,7 @@ pub extern "C" fn etherparse_ipv6_view(slice: &[u8]) -> Ipv6ViewAnswer
         Err(e) => {
             return Ipv6ViewAnswer {
                 error: Error::of_ipv6(&e),
-                rest: Rest::none(),
+                rest: Rest::default(),
                 view: Ipv6ViewFields {
                     flow_label: 0,
                     payload_length: 0,

@@ -99,7 +99,7 @@ fn ended(slice: &[u8], number: IpNumber, rest: &[u8]) -> Ipv6WalkAnswer
     Ipv6WalkAnswer {
         next_header: number.0,
         rest: Rest::of(slice, rest),
-        error: Error::none(),
+        error: Error::default(),
     }
 }
 
@@ -114,7 +114,7 @@ fn refused(error: Error) -> Ipv6WalkAnswer
 {
     Ipv6WalkAnswer {
         next_header: 0,
-        rest: Rest::none(),
+        rest: Rest::default(),
         error,
     }
 }

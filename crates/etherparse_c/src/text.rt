@@ -1,6 +1,7 @@
 //! The text of an error, as the library prints it.
 
-ghost use Rattle.std.specs.Prelude.{ℕ, ◌≡◌, ◌≢◌, ◌<◌, ◌≤◌, ◌+◌, ◌⊎◌, [], length, slice_set};
+ghost use Rattle.std.specs.Prelude.{ℕ, ◌≡◌, ◌≢◌, ◌<◌, ◌≤◌, ◌+◌, ◌++◌, ◌⊎◌, [], length};
+ghost use Rattle.std.specs.Fmt.{decimal};
 ghost use Rattle.std.specs.List.{flat_map};
 ghost use Rattle.etherparse.specs.Ipv4Errors.{bad_options_len_text, ipv4_header_error_text};
 ghost use Rattle.etherparse.specs.Ipv6Errors.{chain_error_text, ipv6_header_error_text};
@@ -64,67 +65,41 @@ pub extern "C" fn etherparse_error_text(error: &Error, text: &mut [u8]) -> usize
         (error.now.kind ≡ 5 → (error.now.number ≡ 0) ⊎ (6 < error.now.number)) →
         error.now.kind ≢ 6 → GivesText [] text.old text.new result }
 {
-    let (mut number, mut limit, mut start) = (Buffer::new(), Buffer::new(), Buffer::new());
     match error.kind {
-        LEN => {
-            if error.len < error.required_len && error.layer > 0 && error.layer <= IPV6_EXT_HEADER {
-                return put_len(error, text);
-            }
-            return put(&[], text);
+        LEN
+            if error.len < error.required_len
+                && error.layer > 0
+                && error.layer <= IPV6_EXT_HEADER => {
+            return put_len(error, text);
         }
-        UNEXPECTED_VERSION => match error.layer {
-            IPV4_HEADER => return put(
-                &[
-                    "IPv4 Header Error: Encountered '",
-                    number.format(usize::from(error.number)),
-                    "' as IP version number in the IPv4 header (must be '4' in an IPv4 header).",
-                ],
-                text,
-            ),
-            IPV6_HEADER => return put(
-                &[
-                    "IPv6 Header Error: Encountered '",
-                    number.format(usize::from(error.number)),
-                    "' as IP version number in the IPv6 header (must be '6' in an IPv6 header).",
-                ],
-                text,
-            ),
-            _ => return put(&[], text),
-        },
-        HEADER_LENGTH_SMALLER_THAN_HEADER => return put(
-            &[
-                "IPv4 Header Error: The 'internet header length' value '",
-                number.format(usize::from(error.number)),
-                "' present in the IPv4 header is smaller than the minimum size of an IPv4 header. \
-                 The minimum allowed value is '5'.",
-            ],
+        UNEXPECTED_VERSION if error.layer == IPV4_HEADER => return put_number(
+            "IPv4 Header Error: Encountered '",
+            usize::from(error.number),
+            "' as IP version number in the IPv4 header (must be '4' in an IPv4 header).",
             text,
         ),
-        TOO_MANY => return put(
-            &[
-                "IPv6 Extension Header Error: More than ",
-                limit.format(error.limit),
-                " extension header(s) ('",
-                number.format(usize::from(error.number)),
-                "' starts at overall parsed byte ",
-                start.format(error.layer_start_offset),
-                ").",
-            ],
+        UNEXPECTED_VERSION if error.layer == IPV6_HEADER => return put_number(
+            "IPv6 Header Error: Encountered '",
+            usize::from(error.number),
+            "' as IP version number in the IPv6 header (must be '6' in an IPv6 header).",
             text,
         ),
-        VALUE_TOO_BIG => {
-            if error.number > 0 && error.number <= IPV6_PAYLOAD_LENGTH {
-                return put_value(error, text);
-            }
-            return put(&[], text);
+        HEADER_LENGTH_SMALLER_THAN_HEADER => return put_number(
+            "IPv4 Header Error: The 'internet header length' value '",
+            usize::from(error.number),
+            "' present in the IPv4 header is smaller than the minimum size of an IPv4 header. The \
+             minimum allowed value is '5'.",
+            text,
+        ),
+        TOO_MANY => return put_too_many(error, text),
+        VALUE_TOO_BIG if error.number > 0 && error.number <= IPV6_PAYLOAD_LENGTH => {
+            return put_value(error, text);
         }
-        BAD_OPTIONS_LEN => return put(
-            &[
-                "Slice of length ",
-                number.format(error.len),
-                " cannot be set as IPv4 header options. The length must be a multiple of 4 and at \
-                 maximum 40.",
-            ],
+        BAD_OPTIONS_LEN => return put_number(
+            "Slice of length ",
+            error.len,
+            " cannot be set as IPv4 header options. The length must be a multiple of 4 and at \
+             maximum 40.",
             text,
         ),
         _ => return put(&[], text),
@@ -179,7 +154,7 @@ fn put_len_in(
         place.push_str(" ('");
         place.push_str(layer);
         place.push_str("' starts at overall parsed byte ");
-        place.push_str(start.format(error.layer_start_offset));
+        place.push_str(digits(error.layer_start_offset, &mut start));
         place.push_str(")");
     }
     put(
@@ -188,9 +163,9 @@ fn put_len_in(
             ": Not enough data to decode '",
             layer,
             "'. ",
-            required_len.format(error.required_len),
+            digits(error.required_len, &mut required_len),
             " byte(s) would be required, but only ",
-            len.format(error.len),
+            digits(error.len, &mut len),
             " byte(s) are available based on the ",
             source,
             place.as_str(),
@@ -222,15 +197,55 @@ fn put_value(error: &Error, text: &mut [u8]) -> usize
     put(
         &[
             "Error '",
-            value.format(error.len),
+            digits(error.len, &mut value),
             "' is too big to be a '",
             name,
             "' (maximum allowed value is '",
-            limit.format(error.limit),
+            digits(error.limit, &mut limit),
             "')",
         ],
         text,
     )
+}
+
+// The text of more headers than the limit.
+fn put_too_many(error: &Error, text: &mut [u8]) -> usize
+    ensures gives { GivesText (chain_error_text
+        (chain.TooMany error.now.limit error.now.number error.now.layer_start_offset))
+        text.old text.new result }
+{
+    let (mut limit, mut number, mut start) = (Buffer::new(), Buffer::new(), Buffer::new());
+    put(
+        &[
+            "IPv6 Extension Header Error: More than ",
+            digits(error.limit, &mut limit),
+            " extension header(s) ('",
+            digits(usize::from(error.number), &mut number),
+            "' starts at overall parsed byte ",
+            digits(error.layer_start_offset, &mut start),
+            ").",
+        ],
+        text,
+    )
+}
+
+// Writes a number between two texts.
+fn put_number(before: &'static str, number: usize, after: &'static str, text: &mut [u8]) -> usize
+    requires short { length before.now + length after.now ≤ 512 }
+    ensures gives { GivesText (before.now ++ decimal number ++ after.now)
+        text.old text.new result }
+{
+    put(&[before, digits(number, &mut Buffer::new()), after], text)
+}
+
+// A number's decimal digits. The function is called and never inlined, so that the code that makes
+// digits stands once in the library.
+#[inline(never)]
+fn digits(number: usize, buffer: &mut Buffer) -> &str
+    ensures text { result.now ≡ decimal number }
+    ensures short { length result.now ≤ 40 }
+{
+    buffer.format(number)
 }
 
 // Writes these pieces one after the other, as far as there is room, and a byte 0 after them.
@@ -245,30 +260,10 @@ fn put(pieces: &[&str], text: &mut [u8]) -> usize
         let start = len.min(room);
         len += piece.len();
         let end = len.min(room);
-        copy(&piece.as_bytes()[..end - start], &mut text[start..end]);
+        text[start..end].copy_from_slice(&piece.as_bytes()[..end - start]);
     }
     if !text.is_empty() {
         text[len.min(room)] = 0;
     }
     len
-}
-
-// Copies bytes over as many others.
-fn copy(from: &[u8], to: &mut [u8])
-    requires as_many { length to.old ≡ length from.now }
-    ensures copied { to.new ≡ from.now }
-{
-    for i in 0..from.len() {
-        put_byte(from[i], i, to);
-    }
-}
-
-// Writes a byte. It is a function of its own so that the compiler calls neither `memcpy` nor
-// `memmove` for the loop.
-#[inline(never)]
-fn put_byte(byte: u8, place: usize, to: &mut [u8])
-    requires inside { place < length to.now }
-    ensures written { to.new ≡ slice_set to.old place byte }
-{
-    to[place] = byte;
 }

@@ -57,7 +57,6 @@ impl<'a> Ipv4HeaderSlice<'a> {
     /// In this order: `Len` if the slice has fewer than 20 bytes; `Content` if the version is not
     /// 4, or the IHL is below 5; `Len` if the slice has fewer bytes than the IHL says.
     #[inline(always)]
-    #[tactic(auto, using(crate::proofs::Ipv4Reading::front_viewed))]
     pub fn from_slice(slice: &'a [u8]) -> Result<Ipv4HeaderSlice<'a>, HeaderSliceError>
         ensures views { ViewsIpv4 slice.now
             (result_map_both (λ view. view.slice.now) (λ e. e) result) }

@@ -12,7 +12,7 @@ same_value v w some e = search rules
 pub returns : goal.returns
 returns c = record {
   gives = λ v number some.
-      let text = rw (c.format.ensures.text, c.format-2.ensures.text) at c.put.ensures.gives in
+      let text = rw (c.digits.ensures.text, c.digits-2.ensures.text) at c.put.ensures.gives in
       elim c.match-error.branch [
         | in-1 w ↦ rw (same_value v value.IpFragmentOffset some (omega arith)) (rw w.name-is at text)
         | in-2 w ↦ rw (same_value v value.IpDscp some (omega arith)) (rw w.name-is at text)
