@@ -63,7 +63,8 @@ impl Layer {
     pub fn error_title(&self) -> &'static str
         ensures title { result.now ≡ layer_title self.now }
     {
-        match self {
+        // One exit for all arms: with an exit for each, the proof takes three times as long.
+        let title: &'static str = match self {
             Layer::LinuxSllHeader => "Linux Cooked Capture v1 Error",
             Layer::Ethernet2Header => "Ethernet 2 Header Error",
             Layer::EtherPayload => "Payload with Ether Type Error",
@@ -89,7 +90,8 @@ impl Layer {
             Layer::Icmpv4TimestampReply => "ICMP Timestamp Reply Error",
             Layer::Icmpv6 => "ICMPv6 Packet Error",
             Layer::Arp => "Address Resolution Protocol Packet Error",
-        }
+        };
+        title
     }
 }
 
