@@ -1,12 +1,42 @@
-use Rattle.std.proofs.Common.{ℕ, ◌≡◌, List, Ok, arith}
+use Rattle.std.proofs.Common.{ℕ, ◌≡◌, ◌∙◌, List, arith, inl, inr, refl, sym}
 use Rattle.std.proofs.lemmas.Grind.{common_steps}
-use Rattle.uses.specs.Capture.{BeginsWithFileHeader, FileReading, ReadsFileHeader}
-use Rattle.uses.specs.declared.capture.FileHeader.{FileHeader}
+use Rattle.std.proofs.lemmas.List.{take_rest}
+use Rattle.uses.specs.Capture.{BeginsWithFileHeader, FileReading, HasOtherMagic, HasOtherVersion, ReadsFileHeader, magic_of}
 use Rattle.uses.proofs.capture.FileHeader.from_slice.Goals as goal
 
--- what else the reading of a file that begins with a header could be
-only : (file : List ℕ) (h : FileHeader) (rest : List ℕ) → BeginsWithFileHeader file h rest → (other : FileReading) → ReadsFileHeader file other → other ≡ Ok (h, rest)
-only file h rest b other o = grind arith
+-- a file is read in one way
+once : (file : List ℕ) (a b : FileReading) → ReadsFileHeader file a → ReadsFileHeader file b → b ≡ a
+once file a b p q = grind arith
 
-pub returns-clause-only : goal.returns-clause-only
-returns-clause-only c = only _ _ _ (grind (arith, common_steps))
+pub returns-in-None : goal.returns-in-None
+returns-in-None c =
+    let magic : c.from_be_bytes-magic.result ≡ magic_of c.args.file.now = grind (arith, common_steps) in
+    let reads : HasOtherMagic c.args.file.now _ = record { enough = c.if-file-lt24.false; none = sym (rw magic at c.in-None.ensures.value); magic = magic } in
+    record { reads = reads; only = λ other o. once _ _ other reads o }
+
+pub returns-then-major-ne2 : goal.returns-then-major-ne2
+returns-then-major-ne2 c =
+    let magic : c.from_be_bytes-magic.result ≡ magic_of c.args.file.now = grind (arith, common_steps) in
+    let reads : HasOtherVersion c.args.file.now _ _ = record {
+      enough = c.if-file-lt24.false;
+      format = c.in-Some.format;
+      magic = sym (rw magic at c.in-Some.ensures.value);
+      major = c.u16_of-major.ensures.value;
+      minor = c.u16_of-minor.ensures.value;
+      other = elim c.then-major-ne2.either [ inl a ↦ inl a | inr b ↦ inr b.1 ];
+    } in
+    record { reads = reads; only = λ other o. once _ _ other reads o }
+
+pub returns : goal.returns
+returns c =
+    let magic : c.from_be_bytes-magic.result ≡ magic_of c.args.file.now = grind (arith, common_steps) in
+    let reads : BeginsWithFileHeader c.args.file.now _ _ = record {
+      enough = c.if-file-lt24.false;
+      magic = sym (rw magic at c.in-Some.ensures.value);
+      major = sym c.u16_of-major.ensures.value ∙ c.if-major-ne2.false;
+      minor = sym c.u16_of-minor.ensures.value ∙ c.if-minor-ne4.false;
+      snap_len = c.u32_of.ensures.value;
+      link_type = c.u32_of-2.ensures.value;
+      after = take_rest c.args.file.now 24;
+    } in
+    record { reads = reads; only = λ other o. once _ _ other reads o }
