@@ -1,38 +1,18 @@
-use Rattle.std.proofs.Common.{ap, refl, sym}
-use Rattle.std.proofs.lemmas.Result.{err_from_is_err_and}
+use Rattle.std.proofs.Common.{ℕ, ◌≤◌, List, ap, arith, length, length-append, length-set}
+use Rattle.etherparse.specs.Ipv4Header.{IsIpv4Layout}
+use Rattle.etherparse.specs.Reading.{BeginsWith}
+use Rattle.etherparse.specs.declared.net.ipv4_header.Ipv4Header.{Ipv4Header}
 use Rattle.uses.proofs.forward.ipv4_forward_in_place.Goals as goal
 
-pub returns-in_err-header : goal.returns-in_err-header
-returns-in_err-header c =
-    let p = err_from_is_err_and c.from_residual.result c.from_residual.ensures.1 in
-    rw (p.1, p.2) (record { next = tt; last = tt; kept = tt; refused = c.in_err-header.ensures.reads.reads; unchanged = refl })
+-- a packet is as long as the shortest header
+long : {packet rest : List ℕ} {h : Ipv4Header} → BeginsWith IsIpv4Layout packet h rest → 20 ≤ length packet
+long {rest = rest} b = omega (arith, ap length b.whole, length-append b.front rest, b.layout.layout.len)
 
-pub returns-then-time_to_live-le1 : goal.returns-then-time_to_live-le1
-returns-then-time_to_live-le1 c = record {
-  next = tt;
-  last = record { header = _; rest = _; begins = c.in_ok-header.ensures.reads.reads; last = c.if-time_to_live-le1.true };
-  kept = refl;
-  refused = tt;
-  unchanged = tt;
-}
+pub bounds-packet-8 : goal.bounds-packet-8
+bounds-packet-8 c = omega (arith, long c.in_ok-header.ensures.reads.reads)
 
-pub returns : goal.returns
-returns c =
-    let begins = c.in_ok-header.ensures.reads.reads in
-    let set = c.set_time_to_live.ensures.set in
-    record {
-      next = record {
-        header = _;
-        rest = _;
-        begins = begins;
-        may_go_on = c.if-time_to_live-le1.false;
-        next = c.set_time_to_live.new.self;
-        set = set;
-        changed = rw c.to_be_bytes.ensures refl;
-        written = rw (sym (ap (λ h. h.time_to_live) set)) at (c.set_time_to_live.ensures.in_place _ _ begins);
-      };
-      last = tt;
-      kept = tt;
-      refused = tt;
-      unchanged = tt;
-    }
+pub bounds-packet-10 : goal.bounds-packet-10
+bounds-packet-10 c = omega (arith, long c.in_ok-header.ensures.reads.reads, length-set {A = ℕ})
+
+pub bounds-packet-11 : goal.bounds-packet-11
+bounds-packet-11 c = omega (arith, long c.in_ok-header.ensures.reads.reads, length-set {A = ℕ})

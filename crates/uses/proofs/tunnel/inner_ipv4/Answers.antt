@@ -58,3 +58,4 @@ returns-in-Err c = record {
     moved = rw c.header_len.ensures.value at c.add_slice_offset.ensures.moved;
   });
 }
+
