@@ -11,7 +11,12 @@ pub returns-in_err-header : goal.returns-in_err-header
 returns-in_err-header c =
     let reads = c.in_err-header.ensures.reads in
     let p = err_from_is_err_and c.from_residual.result c.from_residual.ensures.1 in
-    rw (p.1, p.2) (record { found = tt; none = tt; refused = reads.reads; of_fragment = λ key k. cc (reads.only (Ok (k.header, k.rest)) k.begins) })
+    rw (p.1, p.2) (record {
+      found = tt;
+      none = tt;
+      refused = reads.reads;
+      of_fragment = λ key k. cc (reads.only (Ok (k.header, k.rest)) k.begins);
+    })
 
 pub returns-then-not-is_fragmenting_payload : goal.returns-then-not-is_fragmenting_payload
 returns-then-not-is_fragmenting_payload c =

@@ -1,18 +1,12 @@
-use Rattle.std.proofs.Common.{ℕ, ◌≡◌, ◌∙◌, List, arith, inl, inr, refl, sym}
+use Rattle.std.proofs.Common.{ℕ, ◌≡◌, ◌∙◌, List, arith, inl, inr, sym}
 use Rattle.std.proofs.lemmas.Grind.{common_steps}
 use Rattle.std.proofs.lemmas.List.{take_rest}
-use Rattle.uses.specs.Capture.{BeginsWithFileHeader, FileReading, HasOtherMagic, HasOtherVersion, ReadsFileHeader, magic_of}
+use Rattle.uses.specs.Capture.{BeginsWithFileHeader, FileReading, HasOtherVersion, ReadsFileHeader, magic_of}
 use Rattle.uses.proofs.capture.FileHeader.from_slice.Goals as goal
 
 -- a file is read in one way
 once : (file : List ℕ) (a b : FileReading) → ReadsFileHeader file a → ReadsFileHeader file b → b ≡ a
 once file a b p q = grind arith
-
-pub returns-in-None : goal.returns-in-None
-returns-in-None c =
-    let magic : c.from_be_bytes-magic.result ≡ magic_of c.args.file.now = grind (arith, common_steps) in
-    let reads : HasOtherMagic c.args.file.now _ = record { enough = c.if-file-lt24.false; none = sym (rw magic at c.in-None.ensures.value); magic = magic } in
-    record { reads = reads; only = λ other o. once _ _ other reads o }
 
 pub returns-then-major-ne2 : goal.returns-then-major-ne2
 returns-then-major-ne2 c =
