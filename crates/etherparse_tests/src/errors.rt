@@ -15,6 +15,15 @@ use std::hash::Hash;
 use std::process::Abort;
 use std::test::Fail;
 
+// What an error prints four times, plain and in four styles.
+fn plain_text<E: Error>(alloc: Global, error: &E) -> Result<String, Fail> {
+    Ok(format!(in alloc; "{error} {error} {error} {error}")?)
+}
+
+fn styled_text<E: Error>(alloc: Global, error: &E) -> Result<String, Fail> {
+    Ok(format!(in alloc; "{error:>300} {error:05} {error:#} {error:+.2}")?)
+}
+
 // Asserts that each kind of `{}` prints the same for an error, what `{:?}` prints, and that a clone
 // is equal and hashes alike. The bounds are the traits that each error has.
 fn assert_shows<E: Clone + Drop + Eq + Error + Hash>(
@@ -23,8 +32,7 @@ fn assert_shows<E: Clone + Drop + Eq + Error + Hash>(
     errors: &[(E, &str)],
 ) -> Result<(), Fail> {
     for (error, debug_text) in errors {
-        let plain = format!(in alloc; "{error} {error} {error} {error}")?;
-        let styled = format!(in alloc; "{error:>300} {error:05} {error:#} {error:+.2}")?;
+        let (plain, styled) = (plain_text(alloc, error)?, styled_text(alloc, error)?);
         assert_eq!(rt; styled.as_str(), plain.as_str());
         assert_clones(rt, alloc, error, debug_text)?;
         assert_hashes(rt, error)?;

@@ -3,6 +3,7 @@
 
 use etherparse::err::{Layer, LenError};
 use etherparse::{IpFragOffset, IpNumber, Ipv4Header, Ipv6Header, LenSource};
+use std::process::Abort;
 use std::test::Fail;
 use uses::capture::{ByteOrder, FileHeader, Format, Record, Resolution, next_record};
 use uses::echo::{icmpv4_reply, icmpv6_reply};
@@ -61,7 +62,7 @@ fn a_tcp_header_is_seen(rt: HostRuntime) {
 }
 
 #[test]
-fn a_tcp_checksum_is_judged_over_both_versions(rt: HostRuntime) -> Result<(), Fail> {
+fn a_tcp_checksum_is_judged_over_both_versions(rt: HostRuntime) {
     let (source, destination) = ([192, 168, 0, 1], [192, 168, 0, 199]);
     let made = Ipv4Header::new(20, 64, IpNumber::TCP, source, destination);
     let over_ipv4 = made.expect(&rt, "a short payload");
@@ -79,11 +80,10 @@ fn a_tcp_checksum_is_judged_over_both_versions(rt: HostRuntime) -> Result<(), Fa
         is_tcp_right_ipv6(&over_ipv6, &SEGMENT),
     ];
     assert_eq!(rt; judged, [true, false, true, false]);
-    Ok(())
 }
 
 #[test]
-fn a_fragment_has_its_header_and_the_key_of_its_packet(rt: HostRuntime) -> Result<(), Fail> {
+fn a_fragment_has_its_header_and_the_key_of_its_packet(rt: HostRuntime) {
     let header = FragmentHeader {
         next_header: IpNumber::UDP,
         fragment_offset: IpFragOffset::try_new(1).unwrap(),
@@ -118,7 +118,6 @@ fn a_fragment_has_its_header_and_the_key_of_its_packet(rt: HostRuntime) -> Resul
         [ipv4_key(&fragment), ipv4_key(&IPV4_PACKET)],
         [Ok(Some(ipv4)), Ok(None)]
     );
-    Ok(())
 }
 
 #[test]
@@ -144,9 +143,15 @@ fn packets_are_cut_at_their_length_field(rt: HostRuntime) -> Result<(), Fail> {
 }
 
 // Whether a packet is a fragment, and the number and the bytes of its payload.
-fn payload_of(packet: &[u8]) -> Result<(bool, IpNumber, &[u8]), IpSliceError> {
+type PayloadOf<'a> = Result<(bool, IpNumber, &'a [u8]), IpSliceError>;
+
+fn payload_of(packet: &[u8]) -> PayloadOf {
     let sliced = IpSlice::from_slice(packet)?;
     Ok((sliced.is_fragment(), sliced.upper(), sliced.payload()))
+}
+
+fn assert_has_payload(rt: &impl Abort, packet: &[u8], expected: PayloadOf) {
+    assert_eq!(rt; payload_of(packet), expected);
 }
 
 #[test]
@@ -169,11 +174,10 @@ fn behind_a_later_fragment_header_stands_no_header(rt: HostRuntime) {
     };
     let payload = [5, 6, 7, 8].as_slice();
     let later = Ok((true, IpNumber::AUTHENTICATION_HEADER, payload));
-    assert_eq!(rt; payload_of(&authenticated), later);
+    assert_has_payload(&rt, &authenticated, later);
     let later = Ok((true, IpNumber::IPV6_DESTINATION_OPTIONS, [5].as_slice()));
-    assert_eq!(rt; payload_of(&short), later);
-    let refused = Err(IpSliceError::Extensions(inside));
-    assert_eq!(rt; payload_of(&first), refused);
+    assert_has_payload(&rt, &short, later);
+    assert_has_payload(&rt, &first, Err(IpSliceError::Extensions(inside)));
 }
 
 #[test]
@@ -201,16 +205,22 @@ fn a_capture_hands_its_packets_over(rt: HostRuntime) {
 
 #[test]
 fn echo_requests_become_replies(rt: HostRuntime) {
-    let reply = [0, 0, 0x8c, 0x68, 0x12, 0x34, 0, 1, 0x61, 0x62];
-    let mut message = [8, 0, 0xff, 0xff, 0x12, 0x34, 0, 1, 0x61, 0x62];
-    let is_reply = icmpv4_reply(&mut message);
-    assert_eq!(rt; (is_reply, message), (true, reply));
-    let reply = [129, 0, 0xaf, 0xae, 0x12, 0x34, 0, 1, 0x61, 0x62];
-    let mut message = [128, 0, 0, 0, 0x12, 0x34, 0, 1, 0x61, 0x62];
-    let is_reply = icmpv6_reply(FIRST, SECOND, &mut message);
-    assert_eq!(rt; (is_reply, message), (true, reply));
+    let mut over_ipv4 = [8, 0, 0xff, 0xff, 0x12, 0x34, 0, 1, 0x61, 0x62];
+    let mut over_ipv6 = [128, 0, 0, 0, 0x12, 0x34, 0, 1, 0x61, 0x62];
     // The words behind the checksum are all ones, and their complement is 0.
-    let mut message = [8, 0, 0xf7, 0xff, 0xff, 0xff, 0, 0];
-    let is_reply = icmpv4_reply(&mut message);
-    assert_eq!(rt; (is_reply, message), (true, [0, 0, 0, 0, 0xff, 0xff, 0, 0]));
+    let mut all_ones = [8, 0, 0xf7, 0xff, 0xff, 0xff, 0, 0];
+    let are_replies = [
+        icmpv4_reply(&mut over_ipv4),
+        icmpv6_reply(FIRST, SECOND, &mut over_ipv6),
+        icmpv4_reply(&mut all_ones),
+    ];
+    assert_eq!(rt;
+        (are_replies, over_ipv4, over_ipv6, all_ones),
+        (
+            [true; 3],
+            [0, 0, 0x8c, 0x68, 0x12, 0x34, 0, 1, 0x61, 0x62],
+            [129, 0, 0xaf, 0xae, 0x12, 0x34, 0, 1, 0x61, 0x62],
+            [0, 0, 0, 0, 0xff, 0xff, 0, 0]
+        )
+    );
 }

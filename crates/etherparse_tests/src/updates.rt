@@ -1,29 +1,31 @@
 //! Updated checksums of IPv4 headers beside checksums that are summed anew, word by word.
 
 use crate::shared::{random_bytes, sum_word_by_word};
+use etherparse::err::ValueTooBigError;
 use etherparse::{IpTrafficClass, Ipv4Header};
 use std::test::Fail;
 
+// A header with this time to live and this checksum.
+fn header(time_to_live: u8, checksum: u16) -> Result<Ipv4Header, ValueTooBigError<u16>> {
+    let (source, destination) = ([192, 168, 0, 1], [192, 168, 0, 199]);
+    let protocol = IpTrafficClass::from(17);
+    let made = Ipv4Header::new(95, time_to_live, protocol, source, destination);
+    let mut header = made?;
+    header.header_checksum = checksum;
+    Ok(header)
+}
+
 #[test]
 fn a_router_lowers_the_time_to_live_or_discards(rt: HostRuntime) -> Result<(), Fail> {
-    let (source, destination) = ([192, 168, 0, 1], [192, 168, 0, 199]);
     for (time_to_live, checksum, goes_on, lowered, updated) in [
         (64, 0xb861, true, 63, 0xb961),
         (2, 0xf661, true, 1, 0xf761),
         (1, 0xf761, false, 1, 0xf761),
         (0, 0, false, 0, 0),
     ] {
-        let protocol = IpTrafficClass::from(17);
-        let made = Ipv4Header::new(95, time_to_live, protocol, source, destination);
-        let mut header = made.expect(&rt, "a short payload");
-        header.header_checksum = checksum;
-        let mut expected = header.clone()?;
-        expected.time_to_live = lowered;
-        expected.header_checksum = updated;
-        assert_eq!(rt;
-            (header.lower_time_to_live(), &header),
-            (goes_on, &expected)
-        );
+        let mut lowers = header(time_to_live, checksum)?;
+        let expected = (goes_on, header(lowered, updated)?);
+        assert_eq!(rt; (lowers.lower_time_to_live(), lowers), expected);
     }
     Ok(())
 }

@@ -3,7 +3,7 @@
 use std::env::{Env, FillError};
 
 /// What the arguments ask for.
-#[derive(Clone, Copy, Debug, PartialEq, Eq)]
+#[derive(Clone, Copy)]
 pub enum Request {
     /// No argument: a line for each record.
     Lines,

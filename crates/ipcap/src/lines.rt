@@ -36,7 +36,7 @@ impl fmt::Display for Address {
 }
 
 // A protocol as it is shown.
-#[derive(Clone, Copy, Debug)]
+#[derive(Clone, Copy)]
 struct Upper(u8);
 
 impl fmt::Display for Upper {
@@ -151,7 +151,7 @@ fn write_head<W: Write>(
 }
 
 // A fraction of a second.
-#[derive(Clone, Copy, Debug)]
+#[derive(Clone, Copy)]
 struct Fraction {
     resolution: Resolution,
     nanoseconds: u64,
@@ -216,7 +216,7 @@ impl fmt::Display for NoPacket {
 }
 
 // A number in four hex digits.
-#[derive(Clone, Copy, Debug)]
+#[derive(Clone, Copy)]
 struct Hex(u16);
 
 impl fmt::Display for Hex {
@@ -283,7 +283,7 @@ impl fmt::Display for Detail {
 }
 
 // The place of a fragment, as it is shown.
-#[derive(Clone, Copy, Debug)]
+#[derive(Clone, Copy)]
 struct Marked(Option<Mark>);
 
 impl fmt::Display for Marked {
@@ -314,7 +314,7 @@ impl fmt::Display for Verdict {
 }
 
 // Why a packet is refused.
-#[derive(Clone, Copy, Debug)]
+#[derive(Clone, Copy)]
 struct Refusal<'a>(&'a IpSliceError);
 
 impl fmt::Display for Refusal<'_> {

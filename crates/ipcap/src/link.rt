@@ -6,7 +6,7 @@ ghost use Rattle.ipcap.specs.Link.{family_of, is_read, packet_behind, packet_of}
 ghost use Rattle.ipcap.specs.Link.{packet_of_loopback, past_tag, past_tags, typed, typed_at};
 
 /// Why a frame carries no IP packet.
-#[derive(Clone, Copy, Debug, PartialEq, Eq)]
+#[derive(Clone, Copy)]
 pub enum NoPacket {
     /// The frame ends within its link header; the number is the frame's length in bytes.
     NoLinkHeader(usize),
@@ -18,7 +18,7 @@ pub enum NoPacket {
 }
 
 /// An EtherType, and what follows it.
-#[derive(Clone, Copy, Debug, PartialEq, Eq)]
+#[derive(Clone, Copy)]
 pub struct Payload<'a> {
     /// What the bytes are: a VLAN tag and what it tags, or a packet.
     pub ether_type: u16,

@@ -31,7 +31,7 @@ const LINE_ROOM: usize = 1024;
 pub type Text = ArrayVec<u8, TEXT_ROOM>;
 
 /// Whether there is more to list.
-#[derive(Clone, Copy, Debug, PartialEq, Eq)]
+#[derive(Clone, Copy)]
 pub enum Turn {
     /// There may be more.
     GoesOn,

@@ -18,7 +18,7 @@ use uses::fragment::part_behind;
 use uses::ip_slice::{IpSlice, behind_extensions};
 
 /// An address of either version.
-#[derive(Clone, Copy, Debug, PartialEq, Eq)]
+#[derive(Clone, Copy)]
 pub enum Address {
     /// An IPv4 address.
     V4([u8; 4]),
@@ -27,7 +27,7 @@ pub enum Address {
 }
 
 /// What is shown of the header that a payload begins with.
-#[derive(Clone, Copy, Debug, PartialEq, Eq)]
+#[derive(Clone, Copy)]
 pub enum Detail {
     /// The ports of UDP and TCP: source and destination.
     Ports(u16, u16),
@@ -38,7 +38,7 @@ pub enum Detail {
 }
 
 /// The place of a fragment.
-#[derive(Clone, Copy, Debug, PartialEq, Eq)]
+#[derive(Clone, Copy)]
 pub struct Mark {
     /// Equal in all fragments of one packet.
     pub identification: u32,
@@ -49,7 +49,7 @@ pub struct Mark {
 }
 
 /// Whether a checksum is right.
-#[derive(Clone, Copy, Debug, PartialEq, Eq)]
+#[derive(Clone, Copy)]
 pub enum Verdict {
     /// It is right.
     Right,
@@ -71,7 +71,7 @@ impl Verdict {
 }
 
 /// What is shown of a packet.
-#[derive(Clone, Copy, Debug, PartialEq, Eq)]
+#[derive(Clone, Copy)]
 pub struct Shown {
     /// The address of the sender.
     pub source: Address,

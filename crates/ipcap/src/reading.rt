@@ -9,7 +9,7 @@ use crate::packet::{Address, Shown, shown_of};
 use uses::ip_slice::{IpSlice, IpSliceError};
 
 /// What a frame is found to carry.
-#[derive(Clone, Debug, PartialEq, Eq, Drop)]
+#[derive(Drop)]
 pub enum Reading {
     /// An IP packet, and what is shown of it.
     Packet(Shown),

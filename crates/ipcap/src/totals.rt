@@ -1,7 +1,7 @@
 //! What is counted.
 
 /// What is counted for a record.
-#[derive(Clone, Copy, Debug, PartialEq, Eq)]
+#[derive(Clone, Copy)]
 pub struct Outcome {
     /// It is shown as an IPv4 packet.
     pub is_ipv4: bool,
@@ -20,7 +20,7 @@ pub struct Outcome {
 }
 
 /// How many records there were, and of which kinds.
-#[derive(Clone, Copy, Debug, PartialEq, Eq)]
+#[derive(Clone, Copy)]
 pub struct Totals {
     /// All of them.
     pub records: u64,
