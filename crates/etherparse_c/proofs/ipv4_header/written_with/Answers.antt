@@ -10,3 +10,6 @@ returns-in-Some-clause-layout g c = λ within.
     answered c.to_bytes-written.result.items (record { header = c.in-Some.header; same = stands; layout = written.layout })
     (λ bytes other. written.only bytes (written_ipv4_layout c.args.fields.now c.in-Some.header bytes stands other))
     (search rules)
+
+pub returns-in-Some-clause-refused : goal.returns-in-Some-clause-refused
+returns-in-Some-clause-refused g c = λ out. absurd (out c.in-Some.ensures.0)

@@ -1,7 +1,11 @@
-use Rattle.std.proofs.Common.{rules}
+use Rattle.std.proofs.Common.{ap, arith, length, length-append, rules}
 use Rattle.etherparse.specs.Ipv4Header.{IsIpv4Layout, RefusesIpv4}
 use Rattle.etherparse_c.proofs.Answered.{seen, unseen}
 use Rattle.etherparse_c.proofs.ipv4_view.etherparse_ipv4_view.Goals as goal
+
+pub after-requires : goal.after-requires
+after-requires c =
+    let v = c.in-Ok.ensures.views in omega (arith, ap length v.whole, length-append c.in-Ok.view.slice.now v.rest)
 
 pub returns-in-Ok : goal.returns-in-Ok
 returns-in-Ok c = record {
