@@ -18,7 +18,7 @@ returns-in-Err c =
     let s = c.args.slice.now in
     let in_c = answer_in_c (λ (number : ℕ). number) 0 len_error_in_c s in
     let given = ap (λ (a : Ipv6WalkAnswer). (a.next_header, a.error, a.rest)) c.refused.ensures.value
-        ∙ λ i. (0, c.of_len.ensures.value i, record { offset = 0; len = 0 }) in
+    ∙ λ i. (0, c.of_len.ensures.value i, record { offset = 0; len = 0 }) in
     let skip = c.in-Err.ensures in record {
       kept = λ not. given ∙ ap in_c (skip.kept not);
       skips = λ is. given ∙ ap in_c (one_of (required_len_of c.args.next_header s) (length s) (skip.skipped is) (skip.refused is));

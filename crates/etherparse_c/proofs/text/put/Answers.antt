@@ -16,10 +16,10 @@ front_of : (text piece : List ℕ) (start n : ℕ) → start ≤ length text →
     → take (start + n) (text ++ piece) ≡ take start text ++ take n piece
 front_of text piece start n le stop =
     rw (take-add start n (text ++ piece), take-append-le start text piece le, drop-append-le start text piece le) (
-      elim (cases_lt start (length text)) [
-        | inl part ↦ rw (stop part) refl
-        | inr whole ↦ rw (drop_of_length-le text whole) refl
-      ]
+    elim (cases_lt start (length text)) [
+      | inl part ↦ rw (stop part) refl
+      | inr whole ↦ rw (drop_of_length-le text whole) refl
+    ]
     )
 
 -- a piece behind what is written of a text, as far as there is room

@@ -11,8 +11,11 @@ returns-then-rest-len c =
     let len = c.from-len.ensures ∙ ap (λ h. h.payload_length) c.header.view_is in
     record {
       cut = tt;
-      found = λ header rest begins. (λ e. absurd (false≢true e), IfOk-at_ok (λ x. x.0.payload_length ≤ length x.1 → false ≡ true)
-          (sym (c.in-Ok.ensures.reads.only (Ok (header, rest)) begins)) (λ fits. absurd (omega (arith, len))));
+      found = λ header rest begins. (
+        λ e. absurd (false≢true e),
+        IfOk-at_ok (λ x. x.0.payload_length ≤ length x.1 → false ≡ true)
+            (sym (c.in-Ok.ensures.reads.only (Ok (header, rest)) begins)) (λ fits. absurd (omega (arith, len))),
+      );
     }
 
 pub returns : goal.returns
@@ -21,6 +24,9 @@ returns c =
     let len = c.from-len.ensures ∙ ap (λ h. h.payload_length) c.header.view_is in
     record {
       cut = rw len (c.in-Ok.ensures.reads.cut _ _ refl (omega (arith, len, ap length b.whole, length-append {A = ℕ}, b.layout.len)));
-      found = λ header rest begins. (IfOk-at_ok (λ x. true ≡ true → x.0.payload_length ≤ length x.1)
-          (sym (c.in-Ok.ensures.reads.only (Ok (header, rest)) begins)) (λ _. rw len at c.if-rest-len.false), λ _. refl);
+      found = λ header rest begins. (
+        IfOk-at_ok (λ x. true ≡ true → x.0.payload_length ≤ length x.1)
+            (sym (c.in-Ok.ensures.reads.only (Ok (header, rest)) begins)) (λ _. rw len at c.if-rest-len.false),
+        λ _. refl,
+      );
     }
