@@ -12,28 +12,31 @@ fn decodes_to(digits: &[u8], bytes: Option<&[u8]>) -> bool {
     }
 }
 
+// Digits, and the bytes that they decode to, unless they are refused.
+static ROWS: [(&[u8], Option<&[u8]>); 15] = [
+    (b"", Some(b"")),
+    (
+        b"0123456789abcdef",
+        Some(b"\x01\x23\x45\x67\x89\xab\xcd\xef"),
+    ),
+    (b"ABCDEF", Some(b"\xab\xcd\xef")),
+    (b"aBCdeF", Some(b"\xab\xcd\xef")),
+    (b"6", None),
+    (b"600", None),
+    (b"6g", None),
+    (b"g6", None),
+    (b"6 ", None),
+    (b"\x006", None),
+    (b"`0", None),
+    (b"/0", None),
+    (b":0", None),
+    (b"@0", None),
+    (b"G0", None),
+];
+
 #[test]
 fn digits_of_either_case_decode_and_others_are_refused(rt: HostRuntime) {
-    for (digits, bytes) in [
-        (b"".as_slice(), Some(b"".as_slice())),
-        (
-            b"0123456789abcdef",
-            Some(b"\x01\x23\x45\x67\x89\xab\xcd\xef"),
-        ),
-        (b"ABCDEF", Some(b"\xab\xcd\xef")),
-        (b"aBCdeF", Some(b"\xab\xcd\xef")),
-        (b"6", None),
-        (b"600", None),
-        (b"6g", None),
-        (b"g6", None),
-        (b"6 ", None),
-        (b"\x006", None),
-        (b"`0", None),
-        (b"/0", None),
-        (b":0", None),
-        (b"@0", None),
-        (b"G0", None),
-    ] {
-        assert!(rt; decodes_to(digits, bytes), "at {digits:?}");
+    for (digits, bytes) in &ROWS {
+        assert!(rt; decodes_to(digits, *bytes), "at {digits:?}");
     }
 }

@@ -7,9 +7,9 @@ use std::alloc::{AllocError, Global};
 use std::process::Abort;
 use std::test::Fail;
 
-// The input, in texts that each stand there as often as the number beside them says; how the run
-// ends; and all that it prints, in texts one after another.
-type Row<'a> = (&'a [(&'a str, usize)], Status, &'a [&'a str]);
+// The input, in texts that each stand there as often as the number beside them says; and all that
+// is printed, in texts one after another.
+type Row<'a> = (&'a [(&'a str, usize)], &'a [&'a str]);
 
 const IPV6: &str =
     "60000000 00003b40 00000000 00000000 00000000 00000001 00000000 00000000 00000000 00000002";
@@ -219,176 +219,198 @@ fn joined(parts: &[(&str, usize)], alloc: Global) -> Result<Vec<u8>, AllocError>
     Ok(input)
 }
 
-#[test]
-fn each_input_has_its_output(rt: HostRuntime) -> Result<(), Fail> {
-    let rows: [Row; 31] = [
-        (&[], Status::Refused, &[NO_BYTES]),
-        (&[("60", 1)], Status::Refused, &[ONE_BYTE_OF_IPV6]),
-        (&[(IPV6, 1)], Status::Done, &[IPV6_LINES]),
-        (&[(IPV4, 1)], Status::Done, &[IPV4_LINES]),
-        (&[(OPTIONS, 1)], Status::Done, &OPTIONS_LINES),
-        (&[(INCOMPLETE, 1)], Status::Refused, &[INCOMPLETE_LINES]),
-        (&[("6g", 1)], Status::BadInput, &[NOT_HEX]),
-        (&[("g", 4096)], Status::BadInput, &[NOT_HEX]),
-        (&[("g", 4097)], Status::BadInput, &[TOO_LONG]),
-        (&[("g", 4608)], Status::BadInput, &[TOO_LONG]),
-        (&[(" ", 65537)], Status::BadInput, &[TOO_LONG]),
-        (&[(IPV6_DIGITS, 1)], Status::Done, &[IPV6_LINES]),
-        // The flags, the stored checksum and how the bytes sum, for one header with options. The
-        // reserved bit counts in the sum, but not in what is computed.
-        (
-            &[(
-                "46c00018 00012000 40064117 0a000001 0a000002 01020304 ff",
-                1,
-            )],
-            Status::Done,
-            &[
-                OPTIONS_FRONT,
-                "header_checksum 4117\n",
-                OPTIONS_BACK,
-                "sum good\nrest 1\n",
-            ],
-        ),
-        (
-            &[(
-                "46c00018 0001a000 40064117 0a000001 0a000002 01020304 ff",
-                1,
-            )],
-            Status::Done,
-            &[
-                OPTIONS_FRONT,
-                "header_checksum 4117\n",
-                OPTIONS_BACK,
-                "sum bad\nrest 1\n",
-            ],
-        ),
-        (
-            &[(
-                "46c00018 0001a000 4006c116 0a000001 0a000002 01020304 ff",
-                1,
-            )],
-            Status::Done,
-            &[
-                OPTIONS_FRONT,
-                "header_checksum c116\n",
-                OPTIONS_BACK,
-                "sum good\nrest 1\n",
-            ],
-        ),
-        (
-            &[("4fffffffffff7f", 1), ("f", 106)],
-            Status::Done,
-            &[LARGEST_LINES],
-        ),
-        // One extension header more than the walk goes past, and as many.
-        (
-            &[(ABOVE_THE_LIMIT, 1), ("0000000000000000", 33)],
-            Status::Refused,
-            &[ABOVE_THE_LIMIT_LINES],
-        ),
-        (
-            &[
-                (AT_THE_LIMIT, 1),
-                ("0000000000000000", 31),
-                ("3b00000000000000", 1),
-            ],
-            Status::Done,
-            &[AT_THE_LIMIT_LINES],
-        ),
-        // Blanks stand anywhere.
-        (
-            &[(
-                " \t\r\n4 5\t0\r0\n0073\r\n00004000\t4011B861  C0a80001 c0A800C7 \n",
-                1,
-            )],
-            Status::Done,
-            &[IPV4_LINES],
-        ),
-        (&[(" \t\r\n", 1)], Status::Refused, &[NO_BYTES]),
-        (
-            &[(
-                "40000000 00003b40 00000000 00000000 00000000 00000001 \
-                00000000 00000000 00000000 00000002",
-                1,
-            )],
-            Status::Refused,
-            &[
-                "error: IPv4 Header Error: The 'internet header length' value '0' present \
-                in the IPv4 header is smaller than the minimum size of an IPv4 header. \
-                The minimum allowed value is '5'.\n",
-            ],
-        ),
-        (
-            &[("5400000000000000000000000000000000000000", 1)],
-            Status::Refused,
-            &[
-                "error: IPv4 Header Error: Encountered '5' as IP version number in the IPv4 header \
-                (must be '4' in an IPv4 header).\n",
-            ],
-        ),
-        (
-            &[("46000000000000000000000000000000000000000000ff", 1)],
-            Status::Refused,
-            &[
-                "error: IPv4 Header Error: Not enough data to decode 'IPv4 header'. \
-                24 byte(s) would be required, \
-                but only 23 byte(s) are available based on the slice length.\n",
-            ],
-        ),
-        (&[("6", 1)], Status::BadInput, &[NOT_HEX]),
-        (&[("600", 1)], Status::BadInput, &[NOT_HEX]),
-        (&[("60\x0b", 1)], Status::BadInput, &[NOT_HEX]),
-        // 4096 digits, and one more.
-        (
-            &[(IPV6_DIGITS, 51), ("6000000000003b40", 1)],
-            Status::Done,
-            &[GREATEST_LINES],
-        ),
-        (
-            &[(IPV6_DIGITS, 51), ("6000000000003b400", 1)],
-            Status::BadInput,
-            &[TOO_LONG],
-        ),
-        (&[(" ", 65536)], Status::Refused, &[NO_BYTES]),
-        // The longest output: a header, an extension header of 960 bytes, and the first 1048 of one
-        // of 2048.
-        (
-            &[
-                ("6fffffffffff87ff", 1),
-                ("ff", 32),
-                ("8777", 1),
-                ("00", 958),
-                ("3bff", 1),
-                ("00", 1046),
-            ],
-            Status::Refused,
-            &[
-                LONGEST_IPV6_FIELDS,
-                "error: IPv6 Extension Header Error: \
-                Not enough data to decode 'IPv6 extension header'. \
-                2048 byte(s) would be required, but only 1048 byte(s) are available \
-                based on the slice length \
-                ('IPv6 extension header' starts at overall parsed byte 1000).\n",
-            ],
-        ),
-        // The longest output of IPv4.
-        (
-            &[("4fffffffffff1fffffff9001", 1), ("ff", 48), ("00", 1988)],
-            Status::Done,
-            &[LONGEST_IPV4_FIELDS, "rest 1988\n"],
-        ),
-    ];
-    let mut lengths = Vec::new(rt.alloc());
-    for (parts, status, text) in rows {
-        let text = text.concat(rt.alloc())?;
-        let input = joined(parts, rt.alloc())?;
-        let mut reader = input.as_slice();
-        let mut written = Text::new();
-        let ended = run(&mut reader, &mut written);
-        assert_eq!(rt; (ended, written.as_slice()), (status, text.as_bytes()));
-        lengths.push(written.len())?;
+// Headers, of which all fields are printed.
+static DONE: [Row; 12] = [
+    (&[(IPV6, 1)], &[IPV6_LINES]),
+    (&[(IPV4, 1)], &[IPV4_LINES]),
+    (&[(OPTIONS, 1)], &OPTIONS_LINES),
+    (&[(IPV6_DIGITS, 1)], &[IPV6_LINES]),
+    // The flags, the stored checksum and how the bytes sum, for one header with options. The
+    // reserved bit counts in the sum, but not in what is computed.
+    (
+        &[(
+            "46c00018 00012000 40064117 0a000001 0a000002 01020304 ff",
+            1,
+        )],
+        &[
+            OPTIONS_FRONT,
+            "header_checksum 4117\n",
+            OPTIONS_BACK,
+            "sum good\nrest 1\n",
+        ],
+    ),
+    (
+        &[(
+            "46c00018 0001a000 40064117 0a000001 0a000002 01020304 ff",
+            1,
+        )],
+        &[
+            OPTIONS_FRONT,
+            "header_checksum 4117\n",
+            OPTIONS_BACK,
+            "sum bad\nrest 1\n",
+        ],
+    ),
+    (
+        &[(
+            "46c00018 0001a000 4006c116 0a000001 0a000002 01020304 ff",
+            1,
+        )],
+        &[
+            OPTIONS_FRONT,
+            "header_checksum c116\n",
+            OPTIONS_BACK,
+            "sum good\nrest 1\n",
+        ],
+    ),
+    (&[("4fffffffffff7f", 1), ("f", 106)], &[LARGEST_LINES]),
+    // As many extension headers as the walk goes past.
+    (
+        &[
+            (AT_THE_LIMIT, 1),
+            ("0000000000000000", 31),
+            ("3b00000000000000", 1),
+        ],
+        &[AT_THE_LIMIT_LINES],
+    ),
+    // Blanks stand anywhere.
+    (
+        &[(
+            " \t\r\n4 5\t0\r0\n0073\r\n00004000\t4011B861  C0a80001 c0A800C7 \n",
+            1,
+        )],
+        &[IPV4_LINES],
+    ),
+    // 4096 digits.
+    (
+        &[(IPV6_DIGITS, 51), ("6000000000003b40", 1)],
+        &[GREATEST_LINES],
+    ),
+    // The longest output of IPv4.
+    (
+        &[("4fffffffffff1fffffff9001", 1), ("ff", 48), ("00", 1988)],
+        &[LONGEST_IPV4_FIELDS, "rest 1988\n"],
+    ),
+];
+
+// Bytes that are refused, and the reason that is printed.
+static REFUSED: [Row; 10] = [
+    (&[], &[NO_BYTES]),
+    (&[("60", 1)], &[ONE_BYTE_OF_IPV6]),
+    (&[(INCOMPLETE, 1)], &[INCOMPLETE_LINES]),
+    // One extension header more than the walk goes past.
+    (
+        &[(ABOVE_THE_LIMIT, 1), ("0000000000000000", 33)],
+        &[ABOVE_THE_LIMIT_LINES],
+    ),
+    (&[(" \t\r\n", 1)], &[NO_BYTES]),
+    (
+        &[(
+            "40000000 00003b40 00000000 00000000 00000000 00000001 \
+            00000000 00000000 00000000 00000002",
+            1,
+        )],
+        &[
+            "error: IPv4 Header Error: The 'internet header length' value '0' present \
+            in the IPv4 header is smaller than the minimum size of an IPv4 header. \
+            The minimum allowed value is '5'.\n",
+        ],
+    ),
+    (
+        &[("5400000000000000000000000000000000000000", 1)],
+        &[
+            "error: IPv4 Header Error: Encountered '5' as IP version number in the IPv4 header \
+            (must be '4' in an IPv4 header).\n",
+        ],
+    ),
+    (
+        &[("46000000000000000000000000000000000000000000ff", 1)],
+        &[
+            "error: IPv4 Header Error: Not enough data to decode 'IPv4 header'. \
+            24 byte(s) would be required, \
+            but only 23 byte(s) are available based on the slice length.\n",
+        ],
+    ),
+    (&[(" ", 65536)], &[NO_BYTES]),
+    // The longest output: a header, an extension header of 960 bytes, and the first 1048 of one
+    // of 2048.
+    (
+        &[
+            ("6fffffffffff87ff", 1),
+            ("ff", 32),
+            ("8777", 1),
+            ("00", 958),
+            ("3bff", 1),
+            ("00", 1046),
+        ],
+        &[
+            LONGEST_IPV6_FIELDS,
+            "error: IPv6 Extension Header Error: \
+            Not enough data to decode 'IPv6 extension header'. \
+            2048 byte(s) would be required, but only 1048 byte(s) are available \
+            based on the slice length \
+            ('IPv6 extension header' starts at overall parsed byte 1000).\n",
+        ],
+    ),
+];
+
+// Inputs that are no bytes.
+static BAD_INPUT: [Row; 9] = [
+    (&[("6g", 1)], &[NOT_HEX]),
+    (&[("g", 4096)], &[NOT_HEX]),
+    (&[("g", 4097)], &[TOO_LONG]),
+    (&[("g", 4608)], &[TOO_LONG]),
+    (&[(" ", 65537)], &[TOO_LONG]),
+    (&[("6", 1)], &[NOT_HEX]),
+    (&[("600", 1)], &[NOT_HEX]),
+    (&[("60\x0b", 1)], &[NOT_HEX]),
+    (&[(IPV6_DIGITS, 51), ("6000000000003b400", 1)], &[TOO_LONG]),
+];
+
+// Runs on the input of a row, compares how that ends and what it prints, and returns the length of
+// what is printed.
+fn expect_output(
+    rt: &(impl Abort + AllocGlobal),
+    status: Status,
+    (parts, text): &Row,
+) -> Result<usize, AllocError> {
+    let text = text.concat(rt.alloc())?;
+    let input = joined(parts, rt.alloc())?;
+    let mut reader = input.as_slice();
+    let mut written = Text::new();
+    let ended = run(&mut reader, &mut written);
+    assert_eq!(rt; (ended, written.as_slice()), (status, text.as_bytes()));
+    Ok(written.len())
+}
+
+// The length of the longest output of these rows, each of which is compared.
+fn longest_output(
+    rt: &(impl Abort + AllocGlobal),
+    status: Status,
+    rows: &[Row],
+) -> Result<usize, AllocError> {
+    let mut longest = 0;
+    for row in rows {
+        longest = longest.max(expect_output(rt, status, row)?);
     }
-    // `OUTPUT_ROOM` is to be no less.
-    assert_eq!(rt; lengths.iter().max(), Some(&426));
+    Ok(longest)
+}
+
+#[test]
+fn headers_are_printed(rt: HostRuntime) -> Result<(), Fail> {
+    assert_eq!(rt; longest_output(&rt, Status::Done, &DONE)?, 354);
+    Ok(())
+}
+
+// The longest output of all is among these: `OUTPUT_ROOM` must not be less.
+#[test]
+fn bytes_that_are_refused_are_printed_with_the_reason(rt: HostRuntime) -> Result<(), Fail> {
+    assert_eq!(rt; longest_output(&rt, Status::Refused, &REFUSED)?, 426);
+    Ok(())
+}
+
+#[test]
+fn input_that_is_bad_is_told(rt: HostRuntime) -> Result<(), Fail> {
+    assert_eq!(rt; longest_output(&rt, Status::BadInput, &BAD_INPUT)?, 25);
     Ok(())
 }

@@ -1,7 +1,11 @@
-use Rattle.std.proofs.Common.{◌≡◌, Err, Ok, arith, length-append, refl, take}
+use Rattle.std.proofs.Common.{◌≡◌, Err, Ok, ap, arith, length, length-append, refl, take}
 use Rattle.std.proofs.lemmas.List.{take_at}
 use Rattle.etherparse.specs.Ipv4Header.{ipv4_header_len}
 use Rattle.iphead.proofs.run.report_ipv4.Goals as goal
+
+pub overflow_sub-rest_len : goal.overflow_sub-rest_len
+overflow_sub-rest_len g c =
+    rw c.slice.ensures.value (omega (arith, simp length-append at (ap length c.in-Ok.ensures.views.whole)))
 
 pub returns-in_ok-write_ipv4-in-Ok : goal.returns-in_ok-write_ipv4-in-Ok
 returns-in_ok-write_ipv4-in-Ok g c =

@@ -1,4 +1,4 @@
-use Rattle.std.proofs.Common.{Err, Ok, arith, refl}
+use Rattle.std.proofs.Common.{Err, Ok, ap, arith, length, length-append, refl}
 use Rattle.std.proofs.KnownBytes.{Appends-trans}
 use Rattle.std.proofs.lemmas.Result.{IfOk-weaker}
 use Rattle.etherparse.proofs.Fronts.{begins_at}
@@ -19,3 +19,10 @@ returns-in_ok-write_ipv6-in-Ok g c =
 pub returns-in_ok-write_error-in-Err : goal.returns-in_ok-write_error-in-Err
 returns-in_ok-write_error-in-Err g c =
     record { text = _; outcome = record { reading = Err c.in-Err.e; reads = c.in-Err.ensures.views; outcome_of_it = refl }; appended = c.in_ok-write_error-in-Err.ensures }
+
+pub slice_bounds-report_walk-count : goal.slice_bounds-report_walk-count
+slice_bounds-report_walk-count g c =
+    let v = c.in-Ok.ensures.views in omega (arith, v.layout.len, simp length-append at (ap length v.whole))
+
+pub slice_bounds-report_walk-start : goal.slice_bounds-report_walk-start
+slice_bounds-report_walk-start g c = slice_bounds-report_walk-count g c

@@ -87,69 +87,78 @@ fn expect_from(rt: &impl Abort, mut source: Source, calls: u64, (status, text): 
     assert_eq!(rt; seen, (status, text, calls, false));
 }
 
-// Each read of a run fails in turn, in three ways: that read is the last one, and nothing is
-// printed. There is no read after the last.
+// An input and its output, how a run ends, at most how many bytes a call gives, and how many reads
+// the run then makes. One of them says that the input is at its end, unless it got too long before
+// that.
+static READS: [(Row, Status, usize, u64); 10] = [
+    ((&[], &[NO_BYTES]), Status::Refused, usize::MAX, 1),
+    ((&[(IPV6, 1)], &[IPV6_LINES]), Status::Done, usize::MAX, 2),
+    (
+        (&[(INCOMPLETE, 1)], &[INCOMPLETE_LINES]),
+        Status::Refused,
+        usize::MAX,
+        2,
+    ),
+    (
+        (&[("g", 4096)], &[NOT_HEX]),
+        Status::BadInput,
+        usize::MAX,
+        9,
+    ),
+    (
+        (&[("g", 4608)], &[TOO_LONG]),
+        Status::BadInput,
+        usize::MAX,
+        9,
+    ),
+    (
+        (&[(" ", 65537)], &[TOO_LONG]),
+        Status::BadInput,
+        usize::MAX,
+        129,
+    ),
+    ((&[(IPV6, 1)], &[IPV6_LINES]), Status::Done, 1, 90),
+    (
+        (&[(INCOMPLETE, 1)], &[INCOMPLETE_LINES]),
+        Status::Refused,
+        1,
+        115,
+    ),
+    ((&[(IPV4, 1)], &[IPV4_LINES]), Status::Done, 1, 45),
+    ((&[(OPTIONS, 1)], &OPTIONS_LINES), Status::Done, 1, 57),
+];
+
+// Makes each read of a run fail in turn: that read is the last one, and nothing is printed. There
+// is no read after the last.
+fn expect_each_read_ends_it(
+    rt: &impl Abort,
+    input: &[u8],
+    at_most: usize,
+    reads: u64,
+    kind: ErrorKind,
+    whole: (Status, &[u8]),
+) {
+    for fails_at in 1..=reads {
+        let source = Source::failing(input, at_most, fails_at, kind);
+        expect_from(rt, source, fails_at, (Status::Failed, b""));
+    }
+    let source = Source::failing(input, at_most, reads.saturating_add(1), kind);
+    expect_from(rt, source, reads, whole);
+}
+
+// The reads fail in three ways.
 #[test]
 fn a_read_that_fails_ends_the_run(rt: HostRuntime) -> Result<(), Fail> {
-    let letters = joined(&[("g", 4096)], rt.alloc())?;
-    let too_many = joined(&[("g", 4608)], rt.alloc())?;
-    let blanks = joined(&[(" ", 65537)], rt.alloc())?;
-    let options_lines = OPTIONS_LINES.concat(rt.alloc())?;
-    // An input, at most how many bytes a call gives, and how many reads a run then makes. One of
-    // them says that the input is at its end, unless it got too long before that.
-    for (input, at_most, reads, status, text) in [
-        (b"".as_slice(), usize::MAX, 1, Status::Refused, NO_BYTES),
-        (IPV6.as_bytes(), usize::MAX, 2, Status::Done, IPV6_LINES),
-        (
-            INCOMPLETE.as_bytes(),
-            usize::MAX,
-            2,
-            Status::Refused,
-            INCOMPLETE_LINES,
-        ),
-        (letters.as_slice(), usize::MAX, 9, Status::BadInput, NOT_HEX),
-        (
-            too_many.as_slice(),
-            usize::MAX,
-            9,
-            Status::BadInput,
-            TOO_LONG,
-        ),
-        (
-            blanks.as_slice(),
-            usize::MAX,
-            129,
-            Status::BadInput,
-            TOO_LONG,
-        ),
-        (IPV6.as_bytes(), 1, 90, Status::Done, IPV6_LINES),
-        (
-            INCOMPLETE.as_bytes(),
-            1,
-            115,
-            Status::Refused,
-            INCOMPLETE_LINES,
-        ),
-        (IPV4.as_bytes(), 1, 45, Status::Done, IPV4_LINES),
-        (
-            OPTIONS.as_bytes(),
-            1,
-            57,
-            Status::Done,
-            options_lines.as_str(),
-        ),
-    ] {
+    for ((parts, text), status, at_most, reads) in &READS {
+        let input = joined(parts, rt.alloc())?;
+        let text = text.concat(rt.alloc())?;
         for kind in [
             ErrorKind::Other,
             ErrorKind::Interrupted,
             ErrorKind::UnexpectedEof,
         ] {
-            for fails_at in 1..=reads {
-                let source = Source::failing(input, at_most, fails_at, kind);
-                expect_from(&rt, source, fails_at, (Status::Failed, b""));
-            }
-            let source = Source::failing(input, at_most, reads.saturating_add(1), kind);
-            expect_from(&rt, source, reads, (status, text.as_bytes()));
+            let whole = (*status, text.as_bytes());
+            expect_each_read_ends_it(&rt, input.as_slice(), *at_most, *reads, kind, whole);
         }
     }
     Ok(())
@@ -204,30 +213,32 @@ fn expect_each_write_ends_it(
     panic!(rt; "no run met no failure");
 }
 
+static WRITES: [(Row, Status); 8] = [
+    ((&[(IPV6, 1)], &[IPV6_LINES]), Status::Done),
+    ((&[(IPV4, 1)], &[IPV4_LINES]), Status::Done),
+    ((&[(OPTIONS, 1)], &OPTIONS_LINES), Status::Done),
+    ((&[(INCOMPLETE, 1)], &[INCOMPLETE_LINES]), Status::Refused),
+    ((&[], &[NO_BYTES]), Status::Refused),
+    ((&[("60", 1)], &[ONE_BYTE_OF_IPV6]), Status::Refused),
+    ((&[("6g", 1)], &[NOT_HEX]), Status::BadInput),
+    ((&[("g", 4097)], &[TOO_LONG]), Status::BadInput),
+];
+
 // They fail in three ways, over writers that take one byte, a few, and all that they are given: for
 // the last, the output is one write.
 #[test]
 fn a_write_that_fails_ends_the_run(rt: HostRuntime) -> Result<(), Fail> {
-    let letters = joined(&[("g", 4097)], rt.alloc())?;
-    let options_lines = OPTIONS_LINES.concat(rt.alloc())?;
-    for (input, status, text) in [
-        (IPV6.as_bytes(), Status::Done, IPV6_LINES),
-        (IPV4.as_bytes(), Status::Done, IPV4_LINES),
-        (OPTIONS.as_bytes(), Status::Done, options_lines.as_str()),
-        (INCOMPLETE.as_bytes(), Status::Refused, INCOMPLETE_LINES),
-        (b"".as_slice(), Status::Refused, NO_BYTES),
-        (b"60".as_slice(), Status::Refused, ONE_BYTE_OF_IPV6),
-        (b"6g".as_slice(), Status::BadInput, NOT_HEX),
-        (letters.as_slice(), Status::BadInput, TOO_LONG),
-    ] {
+    for ((parts, text), status) in &WRITES {
+        let input = joined(parts, rt.alloc())?;
+        let text = text.concat(rt.alloc())?;
         for kind in [
             ErrorKind::Other,
             ErrorKind::Interrupted,
             ErrorKind::WriteZero,
         ] {
             for at_most in [1, 7, usize::MAX] {
-                let whole = (status, text.as_bytes());
-                expect_each_write_ends_it(&rt, input, at_most, kind, whole);
+                let whole = (*status, text.as_bytes());
+                expect_each_write_ends_it(&rt, input.as_slice(), at_most, kind, whole);
             }
         }
     }
