@@ -4,6 +4,7 @@ use crate::arguments::Arguments;
 use crate::shown::{Comparison, Written, write_text};
 use etherparse::err::{Layer, ValueType};
 use etherparse::{IpDscp, IpDscpKnown, IpEcn, IpFragOffset, IpNumber, Ipv6FlowLabel};
+use std::str::FromStr;
 
 /// The cases `KIND.cmp A B`, and `field.cmp FIELD A B`.
 pub fn answer(kind: &str, arguments: &mut Arguments, answer: &mut String) -> Written {
@@ -20,19 +21,10 @@ pub fn answer(kind: &str, arguments: &mut Arguments, answer: &mut String) -> Wri
 // Two values of the field that the first argument names.
 fn compared_fields(arguments: &mut Arguments) -> Comparison {
     match arguments.word() {
-        "dscp" => Comparison::of(
-            &arguments.field::<u8, IpDscp>(),
-            &arguments.field::<u8, _>(),
-        ),
-        "frag" => Comparison::of(
-            &arguments.field::<u16, IpFragOffset>(),
-            &arguments.field::<u16, _>(),
-        ),
-        "flow" => Comparison::of(
-            &arguments.field::<u32, Ipv6FlowLabel>(),
-            &arguments.field::<u32, _>(),
-        ),
-        "ecn" => Comparison::of(&arguments.field::<u8, IpEcn>(), &arguments.field::<u8, _>()),
+        "dscp" => compared::<u8, IpDscp>(arguments),
+        "frag" => compared::<u16, IpFragOffset>(arguments),
+        "flow" => compared::<u32, Ipv6FlowLabel>(arguments),
+        "ecn" => compared::<u8, IpEcn>(arguments),
         kind => {
             if kind != "ipnum" {
                 arguments.refuse();
@@ -40,4 +32,16 @@ fn compared_fields(arguments: &mut Arguments) -> Comparison {
             Comparison::of(&IpNumber(arguments.number()), &IpNumber(arguments.number()))
         }
     }
+}
+
+// Two values of a field in range, by their numbers.
+fn compared<N, T>(arguments: &mut Arguments) -> Comparison
+where
+    N: FromStr + Default,
+    N::Err: Drop,
+    T: TryFrom<N> + Default + Ord + Drop,
+    T::Error: Drop,
+{
+    let (first, second): (T, T) = (arguments.field::<N, T>(), arguments.field::<N, T>());
+    Comparison::of(&first, &second)
 }

@@ -1,7 +1,7 @@
 //! The named constants, the variants in their order, and the defaults.
 
 use crate::arguments::Arguments;
-use crate::shown::{Bytes, Named, Written, write_shown, write_text};
+use crate::shown::{Bytes, Named, Written, write_named, write_shown};
 use crate::tables::{
     CODE_POINTS, IP_NUMBER_NAMES, IP_NUMBERS, KNOWN_CODE_POINTS, LAYERS, VALUE_TYPES,
 };
@@ -15,10 +15,10 @@ pub fn answer_const(name: &str, arguments: &mut Arguments, answer: &mut String) 
     match name {
         "fields" => write_fields(answer),
         "headers" => write_headers(answer),
-        "dscp" => write_code_points(answer),
+        "dscp" => write_named(&CODE_POINTS, answer),
         "known" => write_known_code_points(answer),
-        "ipnum" => write_text(&Named(&IP_NUMBERS), answer),
-        "ip_number" => write_text(&Named(&IP_NUMBER_NAMES), answer),
+        "ipnum" => write_named(&IP_NUMBERS, answer),
+        "ip_number" => write_named(&IP_NUMBER_NAMES, answer),
         "layers" => write_names(&LAYERS, answer),
         "value_types" => write_names(&VALUE_TYPES, answer),
         _ => arguments.refused(),
@@ -42,7 +42,7 @@ fn write_fields(answer: &mut String) -> Written {
         ("IpEcn::MAX_U8", u32::from(IpEcn::MAX_U8)),
         ("Ipv4Options::MAX_LEN", u32::from(Ipv4Options::MAX_LEN)),
     ];
-    write_text(&Named(&fields), answer)
+    write_named(&fields, answer)
 }
 
 fn write_headers(answer: &mut String) -> Written {
@@ -57,11 +57,7 @@ fn write_headers(answer: &mut String) -> Written {
         ("Ipv6Header::LEN", Ipv6Header::LEN),
         ("Ipv6Header::SERIALIZED_SIZE", Ipv6Header::SERIALIZED_SIZE),
     ];
-    write_text(&Named(&lengths), answer)
-}
-
-fn write_code_points(answer: &mut String) -> Written {
-    write_text(&Named(&CODE_POINTS), answer)
+    write_named(&lengths, answer)
 }
 
 fn write_known_code_points(answer: &mut String) -> Written {

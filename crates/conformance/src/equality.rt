@@ -1,7 +1,7 @@
 //! Whether two errors are equal.
 
 use crate::arguments::{Argument, Arguments};
-use crate::shown::Written;
+use crate::shown::{Written, write_equality};
 use etherparse::err::{LenError, SliceWriteSpaceError, ValueTooBigError, ipv4, ipv6};
 
 /// The cases `eq.NAME`, each with the two errors on both sides of a `/`.
@@ -21,7 +21,7 @@ pub fn answer(name: &str, arguments: &mut Arguments, answer: &mut String) -> Wri
         },
         _ => return arguments.refused(),
     };
-    write!(answer, "eq={is_equal}")
+    write_equality(is_equal, answer)
 }
 
 fn are_equal<T: Argument + PartialEq + Drop>(arguments: &mut Arguments) -> bool {

@@ -99,9 +99,11 @@ impl Shown for IpDscpUnknownValueError {
 impl Shown for IpNumber {
     fn show<W: fmt::Write>(&self, f: &mut fmt::Formatter<W>) -> fmt::Result {
         let (value, into) = (self.0, u8::from(*self));
-        write!(f, "value={value} into={into} ")?;
         let is_extension = self.is_ipv6_ext_header_value();
         let is_skippable = Ipv6Header::is_skippable_header_extension(*self);
-        write!(f, "ext={is_extension} skippable={is_skippable}")
+        write!(
+            f,
+            "value={value} into={into} ext={is_extension} skippable={is_skippable}"
+        )
     }
 }

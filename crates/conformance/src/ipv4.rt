@@ -1,7 +1,9 @@
 //! IPv4 headers and their views.
 
 use crate::arguments::Arguments;
-use crate::shown::{Bytes, Named, Show, Shown, Written, write_change, write_shown};
+use crate::shown::{
+    Bytes, Named, Show, Shown, Written, write_change, write_equality, write_set, write_shown,
+};
 use etherparse::{IpDscp, IpEcn, IpFragOffset, IpNumber, Ipv4Header, Ipv4HeaderSlice};
 use std::fmt;
 use std::fmt::Display;
@@ -11,10 +13,9 @@ pub fn answer(name: &str, arguments: &mut Arguments, answer: &mut String) -> Wri
     match name {
         "info" => write_info(&arguments.read(), answer),
         "new" => answer_new(arguments, answer),
-        "eq" => write!(
+        "eq" => write_equality(
+            arguments.read::<Ipv4Header>() == arguments.read::<Ipv4Header>(),
             answer,
-            "eq={}",
-            arguments.read::<Ipv4Header>() == arguments.read::<Ipv4Header>()
         ),
         "set_payload_len" => {
             let payload_len: usize = arguments.number();
@@ -30,7 +31,7 @@ pub fn answer(name: &str, arguments: &mut Arguments, answer: &mut String) -> Wri
             let time_to_live = arguments.number();
             let mut header: Ipv4Header = arguments.read();
             header.set_time_to_live(time_to_live);
-            write!(answer, "ok ; {}", Show(&header))
+            write_set(&header, answer)
         }
         _ => answer_slice(name, arguments, answer),
     }
@@ -39,12 +40,17 @@ pub fn answer(name: &str, arguments: &mut Arguments, answer: &mut String) -> Wri
 // A header or a view of the front of a slice.
 fn answer_slice(name: &str, arguments: &mut Arguments, answer: &mut String) -> Written {
     let bytes = arguments.bytes();
-    let view = Ipv4HeaderSlice::from_slice(&bytes);
     match name {
-        "view" => write_shown(&view, answer),
-        "view_header" => write_shown(&view.map(|view| view.to_header()), answer),
-        "view_eq" => match (view, Ipv4HeaderSlice::from_slice(&arguments.bytes())) {
-            (Ok(first), Ok(second)) => write!(answer, "eq={}", first == second),
+        "view" => write_shown(&Ipv4HeaderSlice::from_slice(&bytes), answer),
+        "view_header" => {
+            let view = Ipv4HeaderSlice::from_slice(&bytes);
+            write_shown(&view.map(|view| view.to_header()), answer)
+        }
+        "view_eq" => match (
+            Ipv4HeaderSlice::from_slice(&bytes),
+            Ipv4HeaderSlice::from_slice(&arguments.bytes()),
+        ) {
+            (Ok(first), Ok(second)) => write_equality(first == second, answer),
             _ => arguments.refused(),
         },
         "head" => write_shown(&Ipv4Header::from_slice(&bytes), answer),
@@ -64,18 +70,14 @@ fn write_info(header: &Ipv4Header, answer: &mut String) -> Written {
         header.is_fragmenting_payload(),
         header.calc_header_checksum(),
     );
-    write!(
-        answer,
-        "{} fragmenting={fragmenting} calc={checksum} ",
-        Named(&numbers)
-    )?;
     let (options, bytes) = (Bytes(header.options()), header.to_bytes());
     write!(
         answer,
-        "options={options} bytes={} ",
-        Bytes(bytes.as_slice())
-    )?;
-    write!(answer, "payload_len={}", Show(&header.payload_len()))
+        "{} fragmenting={fragmenting} calc={checksum} options={options} bytes={} payload_len={}",
+        Named(&numbers),
+        Bytes(bytes.as_slice()),
+        Show(&header.payload_len())
+    )
 }
 
 // A header for a payload.
@@ -129,8 +131,14 @@ impl Display for Ipv4Fields<'_> {
             ("destination", Bytes(&self.destination)),
             ("options", Bytes(self.options)),
         ];
-        write!(f, "{} {} ", Named(&first), Named(&flags))?;
-        write!(f, "{} {}", Named(&next), Named(&last))
+        write!(
+            f,
+            "{} {} {} {}",
+            Named(&first),
+            Named(&flags),
+            Named(&next),
+            Named(&last)
+        )
     }
 }
 
@@ -173,14 +181,14 @@ impl Shown for Ipv4HeaderSlice<'_> {
             destination: self.destination(),
             options: self.options(),
         };
-        let (slice, version) = (Bytes(self.slice()), self.version());
-        write!(f, "slice={slice} version={version} ")?;
-        write!(f, "ihl={} {fields} ", self.ihl())?;
-        let (fragmenting, payload_len) = (self.is_fragmenting_payload(), self.payload_len());
         write!(
             f,
-            "fragmenting={fragmenting} payload_len={}",
-            Show(&payload_len)
+            "slice={} version={} ihl={} {fields} fragmenting={} payload_len={}",
+            Bytes(self.slice()),
+            self.version(),
+            self.ihl(),
+            self.is_fragmenting_payload(),
+            Show(&self.payload_len())
         )
     }
 }

@@ -1,7 +1,9 @@
 //! IPv6 headers and their views.
 
 use crate::arguments::Arguments;
-use crate::shown::{Bytes, Named, Show, Shown, Written, write_change, write_shown};
+use crate::shown::{
+    Bytes, Named, Show, Shown, Written, write_change, write_equality, write_set, write_shown,
+};
 use etherparse::{Ipv6Header, Ipv6HeaderSlice};
 use std::fmt;
 
@@ -9,10 +11,9 @@ use std::fmt;
 pub fn answer(name: &str, arguments: &mut Arguments, answer: &mut String) -> Written {
     match name {
         "info" => write_info(&arguments.read(), answer),
-        "eq" => write!(
+        "eq" => write_equality(
+            arguments.read::<Ipv6Header>() == arguments.read::<Ipv6Header>(),
             answer,
-            "eq={}",
-            arguments.read::<Ipv6Header>() == arguments.read::<Ipv6Header>()
         ),
         "set_payload_length" => {
             let size: usize = arguments.number();
@@ -23,13 +24,13 @@ pub fn answer(name: &str, arguments: &mut Arguments, answer: &mut String) -> Wri
             let ecn = arguments.field::<u8, _>();
             let mut header: Ipv6Header = arguments.read();
             header.set_ecn(ecn);
-            write!(answer, "ok ; {}", Show(&header))
+            write_set(&header, answer)
         }
         "set_dscp" => {
             let dscp = arguments.field::<u8, _>();
             let mut header: Ipv6Header = arguments.read();
             header.set_dscp(dscp);
-            write!(answer, "ok ; {}", Show(&header))
+            write_set(&header, answer)
         }
         _ => answer_slice(name, arguments, answer),
     }
@@ -38,12 +39,17 @@ pub fn answer(name: &str, arguments: &mut Arguments, answer: &mut String) -> Wri
 // A header or a view of the front of a slice.
 fn answer_slice(name: &str, arguments: &mut Arguments, answer: &mut String) -> Written {
     let bytes = arguments.bytes();
-    let view = Ipv6HeaderSlice::from_slice(&bytes);
     match name {
-        "view" => write_shown(&view, answer),
-        "view_header" => write_shown(&view.map(|view| view.to_header()), answer),
-        "view_eq" => match (view, Ipv6HeaderSlice::from_slice(&arguments.bytes())) {
-            (Ok(first), Ok(second)) => write!(answer, "eq={}", first == second),
+        "view" => write_shown(&Ipv6HeaderSlice::from_slice(&bytes), answer),
+        "view_header" => {
+            let view = Ipv6HeaderSlice::from_slice(&bytes);
+            write_shown(&view.map(|view| view.to_header()), answer)
+        }
+        "view_eq" => match (
+            Ipv6HeaderSlice::from_slice(&bytes),
+            Ipv6HeaderSlice::from_slice(&arguments.bytes()),
+        ) {
+            (Ok(first), Ok(second)) => write_equality(first == second, answer),
             _ => arguments.refused(),
         },
         "head" => write_shown(&Ipv6Header::from_slice(&bytes), answer),
@@ -98,8 +104,12 @@ impl Shown for Ipv6HeaderSlice<'_> {
             ("destination", Bytes(&destination)),
         ];
         let (slice, header_len) = (Bytes(self.slice()), self.header_len());
-        write!(f, "slice={slice} {} ", Named(&numbers))?;
-        write!(f, "{} header_len={header_len}", Named(&addresses))
+        write!(
+            f,
+            "slice={slice} {} {} header_len={header_len}",
+            Named(&numbers),
+            Named(&addresses)
+        )
     }
 }
 

@@ -67,8 +67,10 @@ fn front<const N: usize>(bytes: &[u8]) -> [u8; N] {
 impl Shown for Ipv4Options {
     fn show<W: fmt::Write>(&self, f: &mut fmt::Formatter<W>) -> fmt::Result {
         let (len, len_u8) = (self.len(), self.len_u8());
-        write!(f, "len={len} len_u8={len_u8} ")?;
         let (is_empty, slice) = (self.is_empty(), Bytes(self.as_slice()));
-        write!(f, "empty={is_empty} slice={slice}")
+        write!(
+            f,
+            "len={len} len_u8={len_u8} empty={is_empty} slice={slice}"
+        )
     }
 }

@@ -48,10 +48,15 @@ fn write_found<T: Shown, E: Shown>(
     answer: &mut String,
 ) -> Written {
     match found {
-        Ok(Some(value)) => write!(answer, " ; {name} {}", Show(value)),
+        Ok(Some(value)) => write_part(name, " ", value, answer),
         Ok(None) => write!(answer, " ; {name}=none"),
-        Err(e) => write!(answer, " ; {name}={}", Show(e)),
+        Err(e) => write_part(name, "=", e, answer),
     }
+}
+
+// A part of a packet, or what is wrong with it, behind its name.
+fn write_part<T: Shown>(name: &str, gap: &str, part: &T, answer: &mut String) -> Written {
+    write!(answer, " ; {name}{gap}{}", Show(part))
 }
 
 impl Shown for IpSliceError {
@@ -61,31 +66,37 @@ impl Shown for IpSliceError {
             IpSliceError::UnexpectedVersion { version_number } => {
                 write!(f, "err version number={version_number}")
             }
-            IpSliceError::Ipv4Header(e) => write!(f, "header={}", Show(e)),
-            IpSliceError::Ipv6Header(e) => write!(f, "header={}", Show(e)),
-            IpSliceError::Packet(e) => write!(f, "packet={}", Show(e)),
-            IpSliceError::Extensions(e) => write!(f, "extensions={}", Show(e)),
+            IpSliceError::Ipv4Header(e) => show_part(f, "header", e),
+            IpSliceError::Ipv6Header(e) => show_part(f, "header", e),
+            IpSliceError::Packet(e) => show_part(f, "packet", e),
+            IpSliceError::Extensions(e) => show_part(f, "extensions", e),
         }
     }
 }
 
+// What is wrong with a part of a packet.
+fn show_part<E: Shown, W: fmt::Write>(
+    f: &mut fmt::Formatter<W>,
+    part: &str,
+    error: &E,
+) -> fmt::Result {
+    write!(f, "{part}={}", Show(error))
+}
+
 impl Shown for IpSlice<'_> {
     fn show<W: fmt::Write>(&self, f: &mut fmt::Formatter<W>) -> fmt::Result {
-        match self {
-            IpSlice::Ipv4 { header, .. } => header.show(f)?,
+        let headers = match self {
+            IpSlice::Ipv4 { header, .. } => header.show(f),
             IpSlice::Ipv6 {
                 header,
                 extensions,
                 ..
-            } => write!(f, "{} extensions={}", Show(header), Bytes(extensions))?,
-        }
-        write!(
-            f,
-            " upper={} payload={}",
-            self.upper().0,
-            Bytes(self.payload())
-        )?;
-        write!(f, " fragment={}", self.is_fragment())
+            } => write!(f, "{} extensions={}", Show(header), Bytes(extensions)),
+        };
+        headers?;
+        let (upper, payload) = (self.upper().0, Bytes(self.payload()));
+        let is_fragment = self.is_fragment();
+        write!(f, " upper={upper} payload={payload} fragment={is_fragment}")
     }
 }
 
@@ -106,11 +117,11 @@ fn write_udp(slice: &IpSlice, answer: &mut String) -> Written {
     match UdpHeader::from_slice(slice.payload()) {
         Ok((mut udp, rest)) => {
             let checksum = udp.checksum;
-            write!(answer, " ; udp {}", Show(&udp))?;
+            write_part("udp", " ", &udp, answer)?;
             write_udp_checksum(slice, &mut udp, rest, answer)?;
             write_translated(slice, checksum, answer)
         }
-        Err(e) => write!(answer, " ; udp={}", Show(&e)),
+        Err(e) => write_part("udp", "=", &e, answer),
     }
 }
 
@@ -166,7 +177,7 @@ fn write_tcp(slice: &IpSlice, answer: &mut String) -> Written {
             )?;
             write_translated(slice, view.checksum(), answer)
         }
-        Err(TcpError::Len(e)) => write!(answer, " ; tcp={}", Show(&e)),
+        Err(TcpError::Len(e)) => write_part("tcp", "=", &e, answer),
         Err(TcpError::DataOffset(offset)) => {
             write!(answer, " ; tcp=err data_offset offset={offset}")
         }
@@ -193,8 +204,7 @@ impl Shown for TcpHeaderSlice<'_> {
             ("ack", self.ack()),
         ];
         let options = Bytes(self.options());
-        write!(f, "{} ", Named(&numbers))?;
-        write!(f, "{} options={options}", Named(&flags))
+        write!(f, "{} {} options={options}", Named(&numbers), Named(&flags))
     }
 }
 
@@ -261,10 +271,14 @@ fn write_echo(slice: &IpSlice, alloc: Global, answer: &mut String) -> Written {
 // The key that the fragments of a packet of version 4 share.
 impl Shown for Ipv4Key {
     fn show<W: fmt::Write>(&self, f: &mut fmt::Formatter<W>) -> fmt::Result {
-        let (source, destination) = (Bytes(&self.source), Bytes(&self.destination));
-        write!(f, "source={source} destination={destination} ")?;
-        let (protocol, identification) = (self.protocol.0, self.identification);
-        write!(f, "protocol={protocol} identification={identification}")
+        write!(
+            f,
+            "source={} destination={} protocol={} identification={}",
+            Bytes(&self.source),
+            Bytes(&self.destination),
+            self.protocol.0,
+            self.identification
+        )
     }
 }
 
@@ -288,9 +302,12 @@ impl Shown for Ipv6Fragment<'_> {
             ("next_header", u16::from(header.next_header.0)),
             ("fragment_offset", header.fragment_offset.value()),
         ];
-        let more_fragments = header.more_fragments;
-        write!(f, "{} more_fragments={more_fragments}", Named(&numbers))?;
-        let (identification, rest) = (header.identification, Bytes(self.payload));
-        write!(f, " identification={identification} rest={rest}")
+        let (more_fragments, identification) = (header.more_fragments, header.identification);
+        write!(
+            f,
+            "{} more_fragments={more_fragments} identification={identification} rest={}",
+            Named(&numbers),
+            Bytes(self.payload)
+        )
     }
 }

@@ -23,6 +23,21 @@ pub fn write_shown<T: Shown>(value: &T, answer: &mut String) -> Written {
     write!(answer, "{}", Show(value))
 }
 
+/// Writes values by their names, and nothing else.
+pub fn write_named<T: Display>(values: &[(&str, T)], answer: &mut String) -> Written {
+    write!(answer, "{}", Named(values))
+}
+
+/// Writes whether two values are equal.
+pub fn write_equality(is_equal: bool, answer: &mut String) -> Written {
+    write!(answer, "eq={is_equal}")
+}
+
+/// Writes the header after a setter that takes every value.
+pub fn write_set<H: Shown>(header: &H, answer: &mut String) -> Written {
+    write!(answer, "ok ; {}", Show(header))
+}
+
 /// Writes what a setter returned, and the header afterwards.
 pub fn write_change<E: Shown, H: Shown>(
     change: &Result<(), E>,
@@ -30,7 +45,7 @@ pub fn write_change<E: Shown, H: Shown>(
     answer: &mut String,
 ) -> Written {
     match change {
-        Ok(()) => write!(answer, "ok ; {}", Show(header)),
+        Ok(()) => write_set(header, answer),
         Err(e) => write!(answer, "{} ; {}", Show(e), Show(header)),
     }
 }

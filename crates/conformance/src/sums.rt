@@ -1,7 +1,7 @@
 //! Sums of words of sixteen bits, in both widths.
 
 use crate::arguments::Arguments;
-use crate::shown::Written;
+use crate::shown::{Written, write_equality, write_named};
 use etherparse::checksum::{u32_16bit_word, u64_16bit_word, update_2bytes};
 use std::alloc::{AllocError, Global};
 
@@ -19,7 +19,7 @@ pub fn answer_u32(name: &str, arguments: &mut Arguments, answer: &mut String) ->
         _ => return arguments.refused(),
     };
     if name.starts_with("add") {
-        return write!(answer, "sum={sum}");
+        return write_named(&[("sum", sum)], answer);
     }
     let complement = u32_16bit_word::ones_complement(sum);
     write_fold(
@@ -44,7 +44,7 @@ pub fn answer_u64(name: &str, arguments: &mut Arguments, answer: &mut String) ->
         _ => return arguments.refused(),
     };
     if name.starts_with("add") {
-        return write!(answer, "sum={sum}");
+        return write_named(&[("sum", sum)], answer);
     }
     let complement = u64_16bit_word::ones_complement(sum);
     write_fold(
@@ -65,7 +65,7 @@ pub fn answer_steps(name: &str, arguments: &mut Arguments, answer: &mut String) 
                 answer,
             )
         }
-        ("eq", [first, second]) => write!(answer, "eq={}", first == second),
+        ("eq", [first, second]) => write_equality(first == second, answer),
         _ => arguments.refused(),
     }
 }

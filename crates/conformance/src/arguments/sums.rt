@@ -34,12 +34,13 @@ impl<'a> Arguments<'a> {
 
     // The sum with the bytes of a step: how many there are or `s` for a slice, a colon, the bytes.
     fn added(&mut self, mut sum: Sum16BitWords, step: &str) -> Sum16BitWords {
-        match step.split_once(':') {
-            Some(("s", digits)) => sum.add_slice(&self.decoded(digits)),
-            Some(("2", digits)) => sum.add_2bytes(self.decoded_array(digits)),
-            Some(("4", digits)) => sum.add_4bytes(self.decoded_array(digits)),
-            Some(("8", digits)) => sum.add_8bytes(self.decoded_array(digits)),
-            Some(("16", digits)) => sum.add_16bytes(self.decoded_array(digits)),
+        let (count, digits) = step.split_once(':').unwrap_or(("", ""));
+        match count {
+            "s" => sum.add_slice(&self.decoded(digits)),
+            "2" => sum.add_2bytes(self.decoded_array(digits)),
+            "4" => sum.add_4bytes(self.decoded_array(digits)),
+            "8" => sum.add_8bytes(self.decoded_array(digits)),
+            "16" => sum.add_16bytes(self.decoded_array(digits)),
             _ => {
                 self.refuse();
                 sum
