@@ -34,10 +34,10 @@ leave_out() {
 
 has() { command -v "$1" > /dev/null; }
 
-# Whether the library needs nothing of the C library but `memcpy`.
-wants_little() {
-  nm --undefined-only "$library" | awk 'NF == 2 { print $2 }' | sort -u > "$out/undefined.txt"
-  ! grep -vx -e memcpy "$out/undefined.txt"
+# Whether the library needs nothing of the C library, nor of any other.
+wants_nothing() {
+  nm --undefined-only "$library" > "$out/undefined.txt"
+  ! grep -w U "$out/undefined.txt"
 }
 
 # Builds the example by a command, and compares what it prints.
@@ -63,7 +63,7 @@ build_after_ci() {
   local kit crates below words=()
   kit=$(dirname "$(dirname "$(readlink -f "$(command -v rt)")")")
   crates=$(dirname "$here")
-  for below in std arrayvec itoa; do words+=(--extern "$below=$kit/rlibs/$below.rlib"); done
+  for below in std itoa; do words+=(--extern "$below=$kit/rlibs/$below.rlib"); done
   words+=(-L "dependency=$kit/rlibs" --extern "etherparse=$crates/etherparse/out/rlib/etherparse.rlib")
   for below in etherparse_base etherparse_fields etherparse; do words+=(-L "dependency=$crates/$below/out/rlib"); done
   words+=(--antt-project "$kit/rattle/logic/antt-project.json" --logic-built "$kit/logic_built" --jobs 1)
@@ -77,7 +77,7 @@ build=(rt lib)
 library=$here/out/libetherparse_c.a
 
 if has nm; then
-  try "the library wants no more of the C library than memcpy" wants_little
+  try "the library wants nothing of the C library" wants_nothing
 else
   leave_out "what the library wants: nm is not there"
 fi

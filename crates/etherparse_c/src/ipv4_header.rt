@@ -242,7 +242,10 @@ pub extern "C" fn etherparse_ipv4_write(fields: &Ipv4Fields) -> Ipv4Bytes
         32 => return written_with::<32>(fields),
         36 => return written_with::<36>(fields),
         40 => return written_with::<40>(fields),
-        _ => return no_bytes(),
+        _ => return Ipv4Bytes {
+            bytes: [0; 60],
+            len: 0,
+        },
     }
 }
 
@@ -402,18 +405,10 @@ fn written_with<const N: usize>(fields: &Ipv4Fields) -> Ipv4Bytes
                 len: bytes.len() as u8,
             };
         }
-        None => return no_bytes(),
-    }
-}
-
-// The answer if a field is out of its bounds.
-#[inline(always)]
-fn no_bytes() -> Ipv4Bytes
-    ensures value { (result.bytes, result.len) ≡ bytes_in_c 60 [] }
-{
-    Ipv4Bytes {
-        bytes: [0; 60],
-        len: 0,
+        None => return Ipv4Bytes {
+            bytes: [0; 60],
+            len: 0,
+        },
     }
 }
 

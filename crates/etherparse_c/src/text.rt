@@ -22,7 +22,6 @@ use crate::answer::{
     IPV4_HEADER, IPV4_PACKET, IPV4_PAYLOAD_LENGTH, IPV6_EXT_HEADER, IPV6_FLOW_LABEL, IPV6_HEADER,
     IPV6_PAYLOAD_LENGTH, LEN, TOO_MANY, UNEXPECTED_VERSION, VALUE_TOO_BIG,
 };
-use arrayvec::ArrayString;
 use itoa::Buffer;
 
 /// Writes the text of the error with these numbers to the front of a buffer, as much of it as there
@@ -149,13 +148,22 @@ fn put_len_in(
         GivesText (len_error_text e) text.old text.new result }
 {
     let (mut required_len, mut len, mut start) = (Buffer::new(), Buffer::new(), Buffer::new());
-    let mut place = ArrayString::<128>::new();
-    if error.layer_start_offset > 0 {
-        place.push_str(" ('");
-        place.push_str(layer);
-        place.push_str("' starts at overall parsed byte ");
-        place.push_str(digits(error.layer_start_offset, &mut start));
-        place.push_str(")");
+    if error.layer_start_offset == 0 {
+        return put(
+            &[
+                title,
+                ": Not enough data to decode '",
+                layer,
+                "'. ",
+                digits(error.required_len, &mut required_len),
+                " byte(s) would be required, but only ",
+                digits(error.len, &mut len),
+                " byte(s) are available based on the ",
+                source,
+                ".",
+            ],
+            text,
+        );
     }
     put(
         &[
@@ -168,8 +176,11 @@ fn put_len_in(
             digits(error.len, &mut len),
             " byte(s) are available based on the ",
             source,
-            place.as_str(),
-            ".",
+            " ('",
+            layer,
+            "' starts at overall parsed byte ",
+            digits(error.layer_start_offset, &mut start),
+            ").",
         ],
         text,
     )
@@ -260,10 +271,20 @@ fn put(pieces: &[&str], text: &mut [u8]) -> usize
         let start = len.min(room);
         len += piece.len();
         let end = len.min(room);
-        text[start..end].copy_from_slice(&piece.as_bytes()[..end - start]);
+        copy(&piece.as_bytes()[..end - start], &mut text[start..end]);
     }
     if !text.is_empty() {
         text[len.min(room)] = 0;
     }
     len
+}
+
+// Copies bytes over as many others. `copy_from_slice` would call `memmove` of the C library.
+fn copy(from: &[u8], to: &mut [u8])
+    requires as_many { length to.old ≡ length from.now }
+    ensures copied { to.new ≡ from.now }
+{
+    for i in 0..from.len() {
+        to[i] = from[i];
+    }
 }

@@ -64,7 +64,7 @@ loop-piece-preserved c =
     rw (next, ← end) (
       omega (arith, l.invariant.0, length-append {A = ℕ}),
       put_behind _ _ c.args.text.now l.text _ c.saturating_sub-room.result l.len c.min-start.result c.min-end.result l.invariant.0 start end (omega (arith, c.saturating_sub-room.ensures))
-          (c.copy_from_slice.ensures.after ∙ ap (λ b. take (c.min-end.result - c.min-start.result) b) c.as_bytes.ensures.value) (rw (← start) at l.invariant.1),
+          (c.copy.ensures.copied ∙ ap (λ b. take (c.min-end.result - c.min-start.result) b) c.as_bytes.ensures.value) (rw (← start) at l.invariant.1),
     )
 
 pub returns-then-not-is_empty : goal.returns-then-not-is_empty
