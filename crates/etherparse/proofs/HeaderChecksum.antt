@@ -8,10 +8,12 @@ use Rattle.etherparse_base.specs.WordSums.{IsSumOf, StandsForWords, SumsToAllOne
 use Rattle.etherparse_base.proofs.FoldedSums.{folded_sum-positive}
 use Rattle.etherparse_base.proofs.WordSumLaws.{little_endian_word_sum-append}
 use Rattle.etherparse.proofs.Layouts.{written}
-use Rattle.etherparse.proofs.Ipv4Layout.{HasFieldRanges, fixed_fields, flags_word, front_spells, ranges_of, spelled, spelling, spells}
+use Rattle.etherparse_fields.specs.IpEcn.{ecn_value}
+use Rattle.etherparse_fields.specs.declared.net.ip_ecn.IpEcn.{IpEcn}
+use Rattle.etherparse.proofs.Ipv4Layout.{HasFieldRanges, ecn_value-lt, fixed_fields, flags_word, front_spells, ranges_of, spelled, spelling, spells}
 use Rattle.etherparse.proofs.Parts.{set_is_bytes, spread, word_is_bytes}
 use Rattle.etherparse.specs.HeaderChecksum.{ChangesInPlace, KeepsChecksum, header_checksum_of, with_field_and_checksum, with_part}
-use Rattle.etherparse.specs.Ipv4Header.{IsIpv4LayoutWith}
+use Rattle.etherparse.specs.Ipv4Header.{IsIpv4LayoutWith, ipv4_first_word}
 use Rattle.etherparse.specs.declared.net.ipv4_header.Ipv4Header.{Ipv4Header}
 
 -- a header with another checksum
@@ -107,7 +109,29 @@ field_set h g offset field old new within are_bytes same_options ranges changes 
           },
     )
 
--- a header with another time to live, source or destination, and another checksum
+-- a header with another code point, notification, time to live, source or destination, and another checksum
+abbrev pub with_dscp : ℕ → ℕ → Ipv4Header → Ipv4Header
+with_dscp dscp checksum h = record h { dscp = dscp; header_checksum = checksum }
+
+pub dscp_set : (h : Ipv4Header) (d c : ℕ) → d < 2 ^ 6 → c < 2 ^ 16
+    → UpdatesChecksum h.header_checksum (ipv4_first_word h) (ipv4_first_word (with_dscp d c h)) c
+    → KeepsChecksum h (with_dscp d c h) × ChangesInPlace h (with_dscp d c h) 1 ((d * 2 ^ 2 + ecn_value h.ecn) ∷ [])
+unfolding words
+dscp_set h d c d_fits c_fits updates =
+    field_set h (with_dscp d c h) 1 ((d * 2 ^ 2 + ecn_value h.ecn) ∷ []) _ _ (omega arith) (λ i. grind (arith, ecn_value-lt)) refl (λ f. search (rules, f, d_fits, c_fits))
+    (λ f r. (omega arith, omega arith, refl)) updates
+
+abbrev pub with_ecn : IpEcn → ℕ → Ipv4Header → Ipv4Header
+with_ecn ecn checksum h = record h { ecn = ecn; header_checksum = checksum }
+
+pub ecn_set : (h : Ipv4Header) (ecn : IpEcn) (c : ℕ) → h.dscp < 2 ^ 6 → c < 2 ^ 16
+    → UpdatesChecksum h.header_checksum (ipv4_first_word h) (ipv4_first_word (with_ecn ecn c h)) c
+    → KeepsChecksum h (with_ecn ecn c h) × ChangesInPlace h (with_ecn ecn c h) 1 ((h.dscp * 2 ^ 2 + ecn_value ecn) ∷ [])
+unfolding words
+ecn_set h ecn c d_fits c_fits updates =
+    field_set h (with_ecn ecn c h) 1 ((h.dscp * 2 ^ 2 + ecn_value ecn) ∷ []) _ _ (omega arith) (λ i. grind (arith, ecn_value-lt)) refl (λ f. search (rules, f, c_fits))
+    (λ f r. (omega arith, omega arith, refl)) updates
+
 abbrev pub with_time_to_live : ℕ → ℕ → Ipv4Header → Ipv4Header
 with_time_to_live time_to_live checksum h = record h { time_to_live = time_to_live; header_checksum = checksum }
 

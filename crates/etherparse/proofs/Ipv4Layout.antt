@@ -24,7 +24,7 @@ same_bool : (a b : Bool) → from_bool a ≡ from_bool b → a ≡ b
 same_bool a b e = search rules
 
 -- a code point as a number
-ecn_value-lt : (e : IpEcn) → ecn_value e < 4
+pub ecn_value-lt : (e : IpEcn) → ecn_value e < 4
 ecn_value-lt e = grind arith
 
 same_ecn : (a b : IpEcn) → ecn_value a ≡ ecn_value b → a ≡ b

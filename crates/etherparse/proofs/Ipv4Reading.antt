@@ -1,5 +1,6 @@
 -- Some bytes have one answer of an IPv4 reader.
 use Rattle.std.proofs.Common.{ℕ, ◌≡◌, ◌-◌, ◌*◌, ◌≤◌, List, ◌++◌, length, take, drop, refl, sym, ap, ◌∙◌, arith, Ok, Err, length-drop, take-append-drop, take-take, take_at}
+use Rattle.std.specs.Result.{result_unwrap_or}
 use Rattle.std.proofs.lemmas.Grind.{common_steps}
 use Rattle.std.proofs.lemmas.List.{append_cancel_right, drop-append-le}
 use Rattle.etherparse_base.specs.Bytes.{IsBytes}
@@ -7,6 +8,7 @@ use Rattle.etherparse.proofs.Fronts.{TellsHeaders, begins_at, cut_behind, read_o
 use Rattle.etherparse.proofs.Ipv4Layout.{cleared_layout, header_at, same_header, same_header_cleared}
 use Rattle.etherparse.specs.FirstByte.{ihl_of, version_of}
 use Rattle.etherparse.specs.Ipv4Header.{IsIpv4Layout, IsIpv4ReadingOf, Ipv4Reading, ReadsIpv4, RefusesIpv4, ViewsIpv4, ipv4_header_len}
+use Rattle.etherparse.specs.Reading.{BeginsWith}
 use Rattle.etherparse.specs.declared.net.ipv4_header.Ipv4Header.{Ipv4Header}
 
 -- a slice is read in one way
@@ -36,6 +38,11 @@ is_reading_of s (Ok x) b =
       cut = cut_behind IsIpv4Layout (ipv4_header_len x.0) s x.0 x.1 b b.layout.layout.len;
     }
 is_reading_of s (Err e) r = record { reads = r; only = λ other o. read_once IsIpv4Layout RefusesIpv4 tells_headers s other (Err e) o r; cleared = tt; same_header = tt; cut = tt }
+
+-- whatever header a slice begins with is the one that is read, and what follows it too
+pub read_as : {s r t : List ℕ} {h g : Ipv4Header} → IsIpv4ReadingOf s (Ok (h, r)) → BeginsWith IsIpv4Layout s g t → (g ≡ h) × (t ≡ r)
+read_as {r = r} {t = t} {h = h} {g = g} reading begins =
+    let same = ap (λ a. result_unwrap_or a (h, r)) (reading.only (Ok (g, t)) begins) in (ap (λ x. x.0) same, ap (λ x. x.1) same)
 
 -- what is seen in front is read
 pub front_read : (s p t : List ℕ) (h : Ipv4Header) → s ≡ p ++ t → IsIpv4Layout h p

@@ -1,5 +1,6 @@
 -- Some bytes have one answer of an IPv6 reader.
 use Rattle.std.proofs.Common.{ℕ, ◌≡◌, List, ◌++◌, ◌-◌, ◌≤◌, length, take, drop, sym, ap, ◌∙◌, arith, Ok, Err, length-take-le, take-append-drop}
+use Rattle.std.specs.Result.{result_unwrap_or}
 use Rattle.std.proofs.lemmas.Grind.{common_steps}
 use Rattle.etherparse_base.specs.Bytes.{IsBytes}
 use Rattle.etherparse.proofs.ExtensionHeaderChain.{chain_after_header}
@@ -8,6 +9,7 @@ use Rattle.etherparse.proofs.Parts.{part_is_bytes}
 use Rattle.etherparse.proofs.Ipv6Layout.{header_at, same_header, word_of-layout}
 use Rattle.etherparse.specs.Ipv6Header.{Ipv6Reading, IsIpv6Layout, IsIpv6ReadingOf, ReadsIpv6, RefusesIpv6, ViewsIpv6}
 use Rattle.etherparse.specs.FirstByte.{version_of}
+use Rattle.etherparse.specs.Reading.{BeginsWith}
 use Rattle.etherparse.specs.declared.net.ipv6_header.Ipv6Header.{Ipv6Header}
 
 -- a slice is read in one way
@@ -34,6 +36,11 @@ is_reading_of s (Ok x) b = record {
   cut = cut_behind IsIpv6Layout 40 s x.0 x.1 b b.layout.len;
 }
 is_reading_of s (Err e) r = record { reads = r; only = λ other o. read_once IsIpv6Layout RefusesIpv6 tells_headers s other (Err e) o r; chain = tt; cut = tt }
+
+-- whatever header a slice begins with is the one that is read, and what follows it too
+pub read_as : {s r t : List ℕ} {h g : Ipv6Header} → IsIpv6ReadingOf s (Ok (h, r)) → BeginsWith IsIpv6Layout s g t → (g ≡ h) × (t ≡ r)
+read_as {r = r} {t = t} {h = h} {g = g} reading begins =
+    let same = ap (λ a. result_unwrap_or a (h, r)) (reading.only (Ok (g, t)) begins) in (ap (λ x. x.0) same, ap (λ x. x.1) same)
 
 -- what is seen in front is read
 pub front_read : (s p r : List ℕ) (h : Ipv6Header) → s ≡ p ++ r → IsIpv6Layout h p → IsIpv6ReadingOf s (Ok (h, take (length s - 40) (drop 40 s)))

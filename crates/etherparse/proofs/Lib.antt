@@ -2,9 +2,9 @@ pub mod ExtensionHeaderChain
 pub mod Fronts
 pub mod HeaderChecksum
 pub mod Ipv4Layout
-mod Ipv4Reading
+pub mod Ipv4Reading
 pub mod Ipv6Layout
-mod Ipv6Reading
+pub mod Ipv6Reading
 pub mod Layouts
 pub mod Parts
 mod Walks

@@ -156,6 +156,8 @@ pub record IsLimitedWalk (limit : ℕ) (s : List ℕ) (n : ℕ) (a : LimitedWalk
   pub walks : WalksUpTo limit s n a
   pub only : (other : LimitedWalkAnswer) → WalksUpTo limit s n other → other ≡ a
   pub as_without_limit : length s / 8 + 1 ≤ limit → (answer : WalkAnswer) → Walks s n answer → a ≡ with_error_in_len answer
+  pub not_too_many : length s / 8 + 1 ≤ limit → IfErr a (λ e. (error : LenError) × (e ≡ chain_error.Len error))
+  pub larger : (larger : ℕ) → limit ≤ larger → (answer : WalkAnswer) → a ≡ with_error_in_len answer → WalksUpTo larger s n a
   pub follows : (t : List ℕ) (first : ℕ) (headers : List (List ℕ)) → BeginsWithChain t first headers n s
       → WalksUpTo (length headers + limit) t first (result_map_both (λ x. x) (chain_error_moved (length headers) (length t - length s)) a)
 
@@ -166,12 +168,27 @@ below_limit limit s n ps (Ok x) few e answer w = ap with_error_in_len (ends_once
 below_limit limit s n ps (Err (chain_error.Len e)) few k answer w = ap with_error_in_len (ends_once s n w.headers ps answer (Err e) w.ends k.0).1
 below_limit limit s n ps (Err (chain_error.TooMany l x y)) few k answer w = absurd (omega (arith, k.full))
 
+few_headers : (limit : ℕ) (s : List ℕ) (n : ℕ) (ps : List (List ℕ)) (a : LimitedWalkAnswer) → length ps < limit → EndsUpTo limit s n ps a
+    → IfErr a (λ e. (error : LenError) × (e ≡ chain_error.Len error))
+few_headers limit s n ps (Ok x) few e = tt
+few_headers limit s n ps (Err (chain_error.Len e)) few k = (e, refl)
+few_headers limit s n ps (Err (chain_error.TooMany l x y)) few k = absurd (omega (arith, k.full))
+
+-- an answer of the walk without a limit is that of each larger limit
+at_larger_limit : (limit larger : ℕ) (s : List ℕ) (n : ℕ) (ps : List (List ℕ)) (answer : WalkAnswer) → limit ≤ larger
+    → EndsUpTo limit s n ps (with_error_in_len answer) → EndsUpTo larger s n ps (with_error_in_len answer)
+at_larger_limit limit larger s n ps (Ok x) more e = (e.0, omega (arith, e.1))
+at_larger_limit limit larger s n ps (Err e) more k = (k.0, omega (arith, k.1))
+
 pub limited_walk : {s : List ℕ} {n offset m skipped : ℕ} (limit : ℕ) (a : LimitedWalkAnswer) (u : SkippedUpTo s n offset m skipped) → EndsUpTo limit s n u.headers a
     → IsLimitedWalk limit s n a
 limited_walk {s = s} {n = n} limit a u ends = record {
   walks = record { headers = u.headers; ends = ends };
   only = λ other o. (ends_up_to_once limit s n u.headers o.headers a other ends o.ends).1;
   as_without_limit = λ enough answer w. below_limit limit s n u.headers a (omega (arith, u.counted, u.eighth, u.within)) ends answer w;
+  not_too_many = λ enough. few_headers limit s n u.headers a (omega (arith, u.counted, u.eighth, u.within)) ends;
+  larger = λ larger more answer is.
+      record { headers = u.headers; ends = rw is (at_larger_limit limit larger s n u.headers answer more (rw is at ends)) };
   follows = λ t first headers b.
       record { headers = headers ++ u.headers; ends = ends_up_to_behind limit t first n headers u.headers s a b ends };
 }

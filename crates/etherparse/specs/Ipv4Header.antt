@@ -28,6 +28,11 @@ ipv4_header_len header = 20 + length header.options
 abbrev pub ipv4_ihl : Ipv4Header → ℕ
 ipv4_ihl header = 5 + length header.options / 4
 
+-- the first word of a header: the version, the IHL, the DSCP and the ECN
+abbrev pub ipv4_first_word : Ipv4Header → ℕ
+ipv4_first_word header =
+    (4 * 2 ^ 4 + ipv4_ihl header) * 2 ^ 8 + header.dscp * 2 ^ 2 + ecn_value header.ecn
+
 -- The bytes of a header, in network byte order. The first of the flags is reserved and is not a
 -- field of the header: it is given separately.
 pub record IsIpv4LayoutWith (header : Ipv4Header) (reserved : ℕ) (bytes : List ℕ) : Type 0 where

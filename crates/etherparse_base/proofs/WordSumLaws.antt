@@ -1,12 +1,15 @@
 -- Laws of the sums of words: the other order of bytes, a changed byte, pieces exchanged or cut.
-use Rattle.std.proofs.Common.{ℕ, zero, suc, List, [], ◌∷◌, ◌++◌, ◌≡◌, ◌≢◌, if◌then◌else◌, ◌==◌, ◌↔◌, ◌<◌, ◌≤◌, ◌+◌, ◌-◌, ◌*◌, ◌%◌, ◌∙◌, ap, arith, drop, drop-drop, length, refl, slice_index, slice_set, sym, take, w16}
+use Rattle.std.proofs.Common.{ℕ, zero, suc, List, [], ◌∷◌, ◌++◌, ◌≡◌, ◌≢◌, if◌then◌else◌, ◌==◌, ◌↔◌, ◌<◌, ◌≤◌, ◌+◌, ◌-◌, ◌*◌, ◌%◌, ◌∙◌, ap, arith, drop, drop-drop, length, refl, slice_index, slice_set, sum_by, sym, take, w16}
 use Rattle.std.proofs.Math.ListN.{drop_of_length-le}
+use Rattle.std.proofs.Math.Nat.{add-mul-mod_self_right, mod-add-mod}
 use Rattle.std.proofs.lemmas.Bool.Decides.{nat_tests}
-use Rattle.std.proofs.lemmas.List.{length-drop, length-take, take-append-drop, take_rest}
+use Rattle.std.proofs.lemmas.List.{append-nil, length-drop, length-take, take-append-drop, take_rest}
 use Rattle.std.proofs.lemmas.List.Sums.{sum_by-append, sum_by-cons}
 use Rattle.std.specs.Int.{swap_bytes, to_be_bytes}
-use Rattle.etherparse_base.specs.WordSums.{AddsSlice, AddsSlices, Complements, ComplementsWithNoZero, IsSumOf, SumsToAllOnes, UpdatesChecksum, UpdatesChecksumWithNoZero}
-use Rattle.etherparse_base.specs.WordSums.{checksum_of, folded_sum, little_endian_word_sum, network_order_word_sum, ones_complement_sum, weighted_byte_sum, with_no_zero}
+use Rattle.std.specs.List.{concat}
+use Rattle.etherparse_base.specs.Bytes.{IsBytes, words_of}
+use Rattle.etherparse_base.specs.WordSums.{AddsSlice, AddsSlices, CutsNoWord, Complements, ComplementsWithNoZero, IsSumOf, SumsToAllOnes, UpdatesChecksum, UpdatesChecksumWithNoZero}
+use Rattle.etherparse_base.specs.WordSums.{checksum_of, folded_sum, little_endian_word_sum, network_order_word_sum, ones_complement_sum, updated_in_turn, weighted_byte_sum, with_no_zero}
 use Rattle.etherparse_base.specs.Private.WideSums.{SameFold}
 use Rattle.etherparse_base.proofs.FoldedSums.{folded_sum-within, folded_sum_value, stands_for_words}
 
@@ -45,21 +48,55 @@ with_no_zero-value (suc n) = omega arith
 pub complements_with_no_zero : (sum checksum answer : ℕ) → checksum ≡ checksum_of sum → answer ≡ with_no_zero checksum → ComplementsWithNoZero sum answer
 complements_with_no_zero sum checksum answer complement is = record {
   value = is ∙ ap with_no_zero complement;
-  completes = λ n some same. omega (arith, with_no_zero-value, folded_sum_value);
+  completes = λ n same. omega (arith, with_no_zero-value, folded_sum_value);
   network_order = λ bytes same. omega (arith, with_no_zero-value, folded_sum-within sum, swap_bytes-folded_sum sum bytes same);
 }
 
--- all that is known of an updated checksum that is never 0, by the plain update
-pub updates_with_no_zero : (checksum old new updated answer : ℕ) → UpdatesChecksum checksum old new updated
+-- so it is the remainder's complement
+with_no_zero-checksum_of : (sum : ℕ) → with_no_zero (checksum_of sum) ≡ 65535 - sum % 65535
+with_no_zero-checksum_of sum = omega (arith, with_no_zero-value (checksum_of sum), folded_sum_value sum)
+
+-- of the words after a change the remainder is that of the sum after it
+same_remainder : (words old new sum : ℕ) → old ≤ sum → old ≤ words * 65535
+    → (sum % 65535 + (words * 65535 - old) + new) % 65535 ≡ (sum - old + new) % 65535
+same_remainder words old new sum within fits =
+    let change : ℕ = words * 65535 - old + new in
+    let remainder = λ (m n : ℕ) (e : m ≡ n). ap (λ k. k % 65535) e in
+    remainder _ (sum % 65535 + change) (omega arith) ∙ mod-add-mod sum 65535 change
+    ∙ remainder _ (sum - old + new + words * 65535) (omega arith) ∙ add-mul-mod_self_right (sum - old + new) words 65535
+
+-- all that is known of an updated checksum that is never 0, by the plain update of so many words
+pub updates_with_no_zero : (words checksum old new updated answer : ℕ) → checksum ≤ 65535 → old ≤ words * 65535
+    → updated ≡ checksum_of ((65535 - checksum) + (words * 65535 - old) + new) → UpdatesChecksum checksum old new updated
     → answer ≡ (if checksum == 0 then 0 else with_no_zero updated) → UpdatesChecksumWithNoZero checksum old new answer
-updates_with_no_zero checksum old new updated answer updates is =
+updates_with_no_zero words checksum old new updated answer fits old_fits value updates is =
     let there : checksum ≢ 0 → answer ≡ with_no_zero updated = λ some. grind (arith, nat_tests) in
     record {
-      none = λ none. grind (arith, nat_tests);
-      there = λ some. omega (arith, there some, with_no_zero-value updated);
+      anew = λ sum within computed.
+          let old_one : 65535 - checksum ≡ sum % 65535 = omega (arith, computed ∙ with_no_zero-checksum_of sum) in
+          there (omega (arith, computed ∙ with_no_zero-checksum_of sum)) ∙ rw (value, with_no_zero-checksum_of, with_no_zero-checksum_of, old_one)
+          (ap (λ n. 65535 - n) (same_remainder words old new sum within old_fits));
       received = λ some sum within before after.
           omega (arith, there some, with_no_zero-value updated, updates.received sum within before after, folded_sum_value);
     }
+
+-- a fold counts in a sum as the number does
+folded_sum-folded : (m n : ℕ) → folded_sum (folded_sum m + n) ≡ folded_sum (m + n)
+folded_sum-folded m n = omega (arith, folded_sum_value m, folded_sum_value (folded_sum m + n), folded_sum_value (m + n))
+
+-- words that change one after the other change as all at once
+pub in_turn : (words checksum : ℕ) (old new : List ℕ) → checksum ≤ 65535 → IsBytes old → length old ≡ 2 * words → length new ≡ 2 * words
+    → (network_order_word_sum old ≤ words * 65535) × (updated_in_turn checksum (words_of old) (words_of new)
+    ≡ checksum_of ((65535 - checksum) + (words * 65535 - network_order_word_sum old) + network_order_word_sum new))
+in_turn zero checksum [] [] fits bytes old new = (omega arith, omega (arith, folded_sum_value))
+in_turn (suc words) checksum (a ∷ b ∷ old) (c ∷ d ∷ new) fits bytes m n =
+    let first : ℕ = (65535 - checksum) + (65535 - (a * 256 + b)) + (c * 256 + d) in
+    let change : ℕ = words * 65535 - network_order_word_sum old + network_order_word_sum new in
+    let rest = in_turn words (checksum_of first) old new (omega arith) (λ i. bytes (suc (suc i))) (omega (arith, m)) (omega (arith, n)) in
+    let all : first + change ≡ (65535 - checksum) + (suc words * 65535 - network_order_word_sum (a ∷ b ∷ old)) + network_order_word_sum (c ∷ d ∷ new) = omega (arith, bytes 0, bytes 1, rest.0) in
+    let one : (65535 - checksum_of first) + (words * 65535 - network_order_word_sum old) + network_order_word_sum new ≡ folded_sum first + change = omega (arith, folded_sum-within first) in
+    (omega (arith, bytes 0, bytes 1, rest.0), rest.1 ∙ ap (λ k. 65535 - k) (ap folded_sum one ∙ folded_sum-folded first change ∙ ap folded_sum all))
+in_turn words checksum old new fits bytes m n = absurd (omega (arith, m, n))
 
 -- of two sums that differ by one byte only one is a multiple of 65535
 same_byte : (n place byte : ℕ) (bytes : List ℕ) → place < length bytes → slice_index bytes place < 256 → byte < 256 → (n + network_order_word_sum bytes) % 65535 ≡ 0
@@ -70,6 +107,11 @@ same_byte n (suc (suc place)) byte (x ∷ y ∷ bytes) within old new before aft
     same_byte (n + 256 * x + y) place byte bytes (omega arith) old new (omega arith) (omega arith)
 same_byte n place byte bytes within old new before after = absurd (omega arith)
 
+-- a zero after the last byte adds nothing
+pub weighted_byte_sum-padded : (weight other : ℕ) (bytes : List ℕ) → weighted_byte_sum weight other (bytes ++ 0 ∷ []) ≡ weighted_byte_sum weight other bytes
+weighted_byte_sum-padded weight other [] = omega arith
+weighted_byte_sum-padded weight other (byte ∷ bytes) = omega (arith, weighted_byte_sum-padded other weight bytes)
+
 -- all that is known of a sum to which words were added, by its fold
 pub adds_slice : (start answer : ℕ) (bytes : List ℕ) → ((k : ℕ) → slice_index bytes k < 256)
     → folded_sum answer ≡ folded_sum (start + little_endian_word_sum bytes) → AddsSlice start bytes answer
@@ -77,6 +119,7 @@ adds_slice start answer bytes are_bytes sum =
     let from_zero : start ≡ 0 → IsSumOf answer bytes = λ none. sum ∙ ap folded_sum (omega arith) in record {
       sum = sum;
       in_a_sum = stands_for_words start answer bytes sum;
+      padded = stands_for_words start answer (bytes ++ 0 ∷ []) (sum ∙ ap (λ n. folded_sum (start + n)) (sym (weighted_byte_sum-padded 1 256 bytes)));
       network_order = λ none. swap_bytes-folded_sum answer bytes (from_zero none);
       all_ones = λ none. all_ones answer bytes (from_zero none);
       one_byte = λ ones changed change again.
@@ -133,9 +176,17 @@ little_endian_word_sum-cut count bytes even within =
     sym (little_endian_word_sum-append (take count bytes) (drop count bytes) (rw (length-take count bytes) (omega arith)))
     ∙ ap little_endian_word_sum (take-append-drop count bytes)
 
+-- the words of pieces that cut no word are those of all their bytes
+little_endian_word_sum-concat : (pieces : List (List ℕ)) → CutsNoWord pieces → sum_by little_endian_word_sum pieces ≡ little_endian_word_sum (concat pieces)
+little_endian_word_sum-concat [] even = refl
+little_endian_word_sum-concat (piece ∷ []) even = simp append-nil (omega arith)
+little_endian_word_sum-concat (piece ∷ next ∷ pieces) even =
+    let rest = little_endian_word_sum-concat (next ∷ pieces) even.1 in
+    sum_by-cons little_endian_word_sum piece (next ∷ pieces) ∙ ap (λ n. little_endian_word_sum piece + n) rest ∙ sym (little_endian_word_sum-append piece (concat (next ∷ pieces)) even.0)
+
 -- all that is known of the sum of pieces, by its fold
 pub adds_slices : (pieces : List (List ℕ)) (answer : ℕ) → folded_sum answer ≡ ones_complement_sum pieces → AddsSlices pieces answer
-adds_slices pieces answer sum = record {
+adds_slices pieces answer sum = let whole : CutsNoWord pieces → IsSumOf answer (concat pieces) = λ even. sum ∙ ap folded_sum (little_endian_word_sum-concat pieces even) in record {
   sum = sum;
   exchanged = λ before after first second is.
       sum ∙ ap ones_complement_sum is ∙ ap folded_sum (simp (sum_by-append, sum_by-cons) (omega arith));
@@ -143,6 +194,8 @@ adds_slices pieces answer sum = record {
       sum ∙ ap ones_complement_sum is ∙ ap folded_sum (simp (sum_by-append, sum_by-cons) (omega (arith, little_endian_word_sum-append front back even)));
   joined = λ before after front back is even.
       sum ∙ ap ones_complement_sum is ∙ ap folded_sum (simp (sum_by-append, sum_by-cons) (omega (arith, little_endian_word_sum-append front back even)));
+  whole = whole;
+  all_ones = λ even. all_ones answer (concat pieces) (whole even);
 }
 
 -- the words of a front and of what follows it

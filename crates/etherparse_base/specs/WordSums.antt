@@ -3,6 +3,7 @@ use Rattle.std.specs.Prelude.{ℕ, zero, suc, ◌≡◌, ◌≢◌, ◌<◌, ◌
 use Rattle.std.specs.Prelude.{List, [], ◌∷◌, ◌++◌, if◌then◌else◌, length, nat_lt, slice_index}
 use Rattle.std.specs.Prelude.{slice_set, sum_by}
 use Rattle.std.specs.Int.{swap_bytes, w16}
+use Rattle.std.specs.List.{concat}
 
 -- the sum of two numbers up to the greatest, with the end-around carry: a carry out is added at the
 -- low end (RFC 1071 section 1)
@@ -64,19 +65,23 @@ abbrev pub updated_checksum_of_words : ℕ → ℕ → List ℕ → List ℕ →
 updated_checksum_of_words words checksum old new = checksum_of ((65535 - checksum)
     + (words * 65535 - network_order_word_sum old) + network_order_word_sum new)
 
+-- the checksum after several words changed, one update after the other
+abbrev pub updated_in_turn : ℕ → List ℕ → List ℕ → ℕ
+updated_in_turn checksum (x ∷ xs) (y ∷ ys) = updated_in_turn (updated_checksum checksum x y) xs ys
+updated_in_turn checksum xs ys = checksum
+
 -- What is known of a checksum that was updated because words with the old sum became words with the
--- new. The checksum of a sum becomes that of the sum after the change. What a receiver sums, the
--- checksum with the words, keeps its fold.
+-- new: that of a sum becomes that of the new sum. What a receiver sums with it keeps its fold.
 pub record UpdatesChecksum (checksum old new answer : ℕ) : Type 0 where
   pub anew : (sum : ℕ) → old ≤ sum → checksum ≡ checksum_of sum → 0 < sum - old + new
       → answer ≡ checksum_of (sum - old + new)
   pub received : (sum : ℕ) → old ≤ sum → 0 < sum → 0 < sum - old + new
       → folded_sum (sum - old + new + answer) ≡ folded_sum (sum + checksum)
 
--- the same for a checksum that is never 0: 0 says that there is none, and stays 0
+-- the same for a checksum in which 0 says that there is none; here anew has no exception
 pub record UpdatesChecksumWithNoZero (checksum old new answer : ℕ) : Type 0 where
-  pub none : checksum ≡ 0 → answer ≡ 0
-  pub there : checksum ≢ 0 → answer ≢ 0
+  pub anew : (sum : ℕ) → old ≤ sum → checksum ≡ with_no_zero (checksum_of sum)
+      → answer ≡ with_no_zero (checksum_of (sum - old + new))
   pub received : checksum ≢ 0 → (sum : ℕ) → old ≤ sum → 0 < sum → 0 < sum - old + new
       → folded_sum (sum - old + new + answer) ≡ folded_sum (sum + checksum)
 
@@ -89,19 +94,25 @@ pub record ChangesOneByte (before after : List ℕ) : Type 0 where
   pub differs : byte ≢ slice_index before place
   pub changed : after ≡ slice_set before place byte
 
--- What is known of a sum to which the words of some bytes were added. Bytes that sum to all ones no
--- longer do so with one of them changed.
+-- What is known of a sum to which the words of some bytes were added. A zero byte after them leaves
+-- it the same. Bytes that sum to all ones no longer do so with one of them changed.
 pub record AddsSlice (start : ℕ) (bytes : List ℕ) (answer : ℕ) : Type 0 where
   pub sum : folded_sum answer ≡ folded_sum (start + little_endian_word_sum bytes)
   pub in_a_sum : StandsForWords start bytes answer
+  pub padded : StandsForWords start (bytes ++ 0 ∷ []) answer
   pub network_order : start ≡ 0
       → swap_bytes w16 (folded_sum answer) ≡ folded_sum (network_order_word_sum bytes)
   pub all_ones : start ≡ 0 → (SumsToAllOnes bytes ↔ (folded_sum answer ≡ 65535))
   pub one_byte : SumsToAllOnes bytes
       → (changed : List ℕ) → ChangesOneByte bytes changed → ¬ SumsToAllOnes changed
 
+-- each piece but the last has an even number of bytes, so that no word is cut
+abbrev pub CutsNoWord : List (List ℕ) → Type 0
+CutsNoWord (piece ∷ next ∷ after) = (length piece % 2 ≡ 0) × CutsNoWord (next ∷ after)
+CutsNoWord pieces = Unit {0}
+
 -- What is known of the sum of pieces. It stays the same if two neighbours are exchanged, if a piece
--- is cut after an even number of bytes, and if two pieces are joined there.
+-- is cut after an even number of bytes, and if two pieces, or all of them, are joined there.
 pub record AddsSlices (pieces : List (List ℕ)) (answer : ℕ) : Type 0 where
   pub sum : folded_sum answer ≡ ones_complement_sum pieces
   pub exchanged : (before after : List (List ℕ)) (first second : List ℕ)
@@ -113,6 +124,8 @@ pub record AddsSlices (pieces : List (List ℕ)) (answer : ℕ) : Type 0 where
   pub joined : (before after : List (List ℕ)) (front back : List ℕ)
       → pieces ≡ before ++ front ∷ back ∷ after → length front % 2 ≡ 0
       → folded_sum answer ≡ ones_complement_sum (before ++ (front ++ back) ∷ after)
+  pub whole : CutsNoWord pieces → IsSumOf answer (concat pieces)
+  pub all_ones : CutsNoWord pieces → (SumsToAllOnes (concat pieces) ↔ (folded_sum answer ≡ 65535))
 
 -- What is known of the checksum of a sum. Each sum with this fold is all ones with the checksum
 -- among its words. For bytes whose sum it is, the checksum with its two bytes exchanged is that of
@@ -124,10 +137,9 @@ pub record Complements (sum checksum : ℕ) : Type 0 where
       → swap_bytes w16 checksum ≡ checksum_of (network_order_word_sum bytes)
   pub all_ones : (bytes : List ℕ) → IsSumOf sum bytes → (SumsToAllOnes bytes ↔ (checksum ≡ 0))
 
--- the same for the checksum that is never 0; it completes no sum of 0
+-- the same for the checksum that is never 0
 pub record ComplementsWithNoZero (sum checksum : ℕ) : Type 0 where
   pub value : checksum ≡ with_no_zero (checksum_of sum)
-  pub completes : (n : ℕ) → 0 < n → folded_sum n ≡ folded_sum sum
-      → folded_sum (n + checksum) ≡ 65535
+  pub completes : (n : ℕ) → folded_sum n ≡ folded_sum sum → folded_sum (n + checksum) ≡ 65535
   pub network_order : (bytes : List ℕ) → IsSumOf sum bytes
       → swap_bytes w16 checksum ≡ with_no_zero (checksum_of (network_order_word_sum bytes))

@@ -128,6 +128,28 @@ fn both_zeros_are_updated_to_the_computed_checksum(rt: HostRuntime) {
 }
 
 #[test]
+fn a_checksum_that_is_stored(rt: HostRuntime) -> Result<(), Fail> {
+    let (source, destination) = ([192, 168, 0, 1], [192, 168, 0, 199]);
+    let mut header = Ipv4Header::new(95, 64, IpNumber::UDP, source, destination)?;
+    header.set_checksum();
+    assert!(rt; header.header_checksum == 0xb861);
+    Ok(())
+}
+
+#[test]
+fn marks_that_are_changed(rt: HostRuntime) {
+    let (source, destination) = ([192, 168, 0, 1], [192, 168, 0, 199]);
+    let made = Ipv4Header::new(95, 64, IpNumber::UDP, source, destination);
+    let mut header = made.expect(&rt, "a short payload");
+    header.header_checksum = 0xb861;
+    header.set_dscp(IpDscp::EF);
+    assert_eq!(rt; header.header_checksum, 0xb7a9);
+    // A router marks that the packet met congestion (RFC 3168 section 5).
+    header.set_ecn(IpEcn::CongestionExperienced);
+    assert_eq!(rt; header.header_checksum, 0xb7a6);
+}
+
+#[test]
 fn addresses_that_are_changed(rt: HostRuntime) {
     let (source, destination) = ([192, 168, 0, 1], [192, 168, 0, 199]);
     let made = Ipv4Header::new(95, 64, IpNumber::UDP, source, destination);

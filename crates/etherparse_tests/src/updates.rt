@@ -2,7 +2,7 @@
 
 use crate::shared::{random_bytes, sum_word_by_word};
 use etherparse::err::ValueTooBigError;
-use etherparse::{IpTrafficClass, Ipv4Header};
+use etherparse::{IpDscp, IpEcn, IpTrafficClass, Ipv4Header};
 use std::test::Fail;
 
 // A header with this time to live and this checksum.
@@ -36,17 +36,21 @@ fn updates_of_random_headers_are_what_is_computed_anew(rt: HostRuntime) -> Resul
     let bytes = random_bytes(rt.alloc(), 2000 * 32)?;
     for drawn in bytes.chunks(32) {
         let drawn = drawn.first_chunk::<32>().ok_or("too few")?;
-        assert_eq!(rt; updates_are_computed(*drawn), Some([true; 4]));
+        assert_eq!(rt; updates_are_computed(*drawn), Some([true; 6]));
     }
     Ok(())
 }
 
 // Whether a header of these bytes has the computed checksum after each update, to the bytes that
 // follow it.
-fn updates_are_computed(mut drawn: [u8; 32]) -> Option<[bool; 4]> {
+fn updates_are_computed(mut drawn: [u8; 32]) -> Option<[bool; 6]> {
     drawn[0] = 0x45;
     let (mut header, _) = Ipv4Header::from_slice(&drawn).ok()?;
-    header.header_checksum = header.calc_header_checksum();
+    header.set_checksum();
+    header.set_dscp(IpDscp::try_new(drawn[25] >> 2).ok()?);
+    let after_dscp = is_computed(&header);
+    header.set_ecn(IpEcn::try_new(drawn[25] & 3).ok()?);
+    let after_ecn = is_computed(&header);
     header.set_time_to_live(drawn[20]);
     let after_time = is_computed(&header);
     header.set_source([drawn[21], drawn[22], drawn[23], drawn[24]]);
@@ -55,6 +59,8 @@ fn updates_are_computed(mut drawn: [u8; 32]) -> Option<[bool; 4]> {
     let after_destination = is_computed(&header);
     header.lower_time_to_live();
     Some([
+        after_dscp,
+        after_ecn,
         after_time,
         after_source,
         after_destination,

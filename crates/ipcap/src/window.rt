@@ -12,6 +12,8 @@ pub const MAX_CAPTURED_LEN: usize = 262_144;
 /// The room for a record and its header of 16 bytes.
 pub const ROOM: usize = 262_160;
 
+const _: () = prove!(ROOM == 262_160);
+
 /// What has been read and is not yet listed.
 #[derive(Drop)]
 pub struct Window {

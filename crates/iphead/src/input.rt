@@ -15,6 +15,8 @@ const MAX_LEN: usize = 65536;
 /// The greatest number of digits that are accepted: those of 2048 bytes.
 pub const MAX_DIGITS: usize = 4096;
 
+const _: () = prove!(MAX_LEN == 65536 && MAX_DIGITS == 4096);
+
 // How many bytes are read at a time.
 const PIECE_LEN: usize = 512;
 

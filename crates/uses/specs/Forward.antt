@@ -2,7 +2,8 @@
 use Rattle.std.specs.Prelude.{ℕ, ◌≡◌, ◌+◌, ◌-◌, ◌*◌, ◌^◌, ◌<◌, ◌≤◌, ◌↔◌, List, [], ◌∷◌, Ok, ◌++◌}
 use Rattle.etherparse.specs.HeaderChecksum.{BecomesPacketOf, with_field_and_checksum}
 use Rattle.etherparse.specs.Ipv4Header.{IsIpv4Layout, IsIpv4LayoutWith, ReadsIpv4}
-use Rattle.etherparse.specs.Ipv4Header.{with_reserved_bit_cleared}
+use Rattle.etherparse.specs.IpEcn.{ecn_value}
+use Rattle.etherparse.specs.Ipv4Header.{ipv4_first_word, with_reserved_bit_cleared}
 use Rattle.etherparse.specs.Ipv6Header.{IsIpv6Layout, ReadsIpv6}
 use Rattle.etherparse.specs.Reading.{BeginsWith}
 use Rattle.etherparse.specs.WordSums.{SumsToAllOnes, updated_checksum}
@@ -77,3 +78,24 @@ pub record IsForwardedInPlace (packet sent : List ℕ) : Type 0 where
       ≡ with_field_and_checksum 8 (next.time_to_live ∷ []) next.header_checksum packet
   pub written : BecomesPacketOf packet
       (with_field_and_checksum 8 (next.time_to_live ∷ []) next.header_checksum packet) next rest
+
+-- the header with another code point, its checksum updated for that alone
+abbrev pub with_dscp : ℕ → Ipv4Header → Ipv4Header
+with_dscp dscp header = record header {
+  dscp = dscp;
+  header_checksum = updated_checksum header.header_checksum (ipv4_first_word header)
+      (ipv4_first_word (record header { dscp = dscp }));
+}
+
+-- The packet has another code point, with only bytes 1, 10 and 11 changed. The header's bytes sum to
+-- all ones exactly when they did before.
+pub record IsMarkedInPlace (dscp : ℕ) (packet marked : List ℕ) : Type 0 where
+  pub header : Ipv4Header
+  pub rest : List ℕ
+  pub begins : BeginsWith IsIpv4Layout packet header rest
+  pub next : Ipv4Header
+  pub set : next ≡ with_dscp dscp header
+  pub changed : marked ≡ with_field_and_checksum 1 ((dscp * 2 ^ 2 + ecn_value header.ecn) ∷ [])
+      next.header_checksum packet
+  pub written : BecomesPacketOf packet (with_field_and_checksum 1
+      ((dscp * 2 ^ 2 + ecn_value header.ecn) ∷ []) next.header_checksum packet) next rest

@@ -1,6 +1,7 @@
 -- What a capture reader asks of a packet.
-use Rattle.std.specs.Prelude.{ℕ, ◌≡◌, ◌+◌, ◌<◌, ◌⊎◌, List, length, Ok, Err, min, take}
-use Rattle.etherparse.specs.Ipv4Header.{IsIpv4Layout, RefusesIpv4, ipv4_payload_len}
+use Rattle.std.specs.Prelude.{ℕ, ◌≡◌, ◌+◌, ◌<◌, ◌⊎◌, List, length, Err, min, take}
+use Rattle.etherparse.specs.Ipv4Header.{IsIpv4Layout, RefusesIpv4, ipv4_header_len}
+use Rattle.etherparse.specs.Ipv4Header.{ipv4_payload_len}
 use Rattle.etherparse.specs.Ipv6Header.{IsIpv6Layout}
 use Rattle.etherparse.specs.Reading.{BeginsWith}
 use Rattle.etherparse.specs.declared.err.LenError.{LenError}
@@ -15,7 +16,7 @@ pub record HasIpv4Payload (packet payload : List ℕ) : Type 0 where
   pub rest : List ℕ
   pub begins : BeginsWith IsIpv4Layout packet header rest
   pub len : ℕ
-  pub says : ipv4_payload_len header ≡ Ok len
+  pub says : ipv4_header_len header + len ≡ header.total_len
   pub cut : payload ≡ take (min len (length rest)) rest
 
 -- the total length of an IPv4 header is below its length

@@ -52,6 +52,16 @@ pub fn is_same_ipv6_header(sent: &Ipv6Header, received: &Ipv6Header) -> bool
     sent == received
 }
 
+/// Whether two packets begin with one header, such as those of two copies of a capture: the same
+/// bytes are always read as the same header.
+pub fn have_same_ipv4_header(first: &[u8], other: &[u8]) -> Result<bool, ipv4::HeaderSliceError>
+    ensures same { first.now ≡ other.now → IfOk result IsTrue }
+{
+    let (header, _) = Ipv4Header::from_slice(first)?;
+    let (again, _) = Ipv4Header::from_slice(other)?;
+    Ok(is_same_ipv4_header(&header, &again))
+}
+
 /// Whether the IPv4 headers of two packets have the same bytes.
 pub fn is_same_ipv4_view(first: &Ipv4HeaderSlice, other: &Ipv4HeaderSlice) -> bool
     ensures same { IsTrue result ↔ (first.now.slice.now ≡ other.now.slice.now) }

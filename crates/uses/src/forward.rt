@@ -1,15 +1,16 @@
 //! A forwarder: headers that are read, changed and written.
 
 ghost use Rattle.std.specs.Prelude.{ℕ, ◌≡◌, ◌+◌, ◌*◌, ◌/◌, ◌^◌, List, ◌++◌, length};
-ghost use Rattle.std.specs.Prelude.{IfErr, IfNone, IfOk, IfSome, OnErr};
+ghost use Rattle.std.specs.Prelude.{IfErr, IfNone, IfOk, IfSome, OnErr, OnOk};
 ghost use Rattle.std.specs.Bool.{OnFalse, OnTrue};
+ghost use Rattle.etherparse.specs.IpEcn.{ecn_value};
 ghost use Rattle.etherparse.specs.Ipv4Header.{IsIpv4Layout, RefusesIpv4};
 ghost use Rattle.etherparse.specs.Ipv4Header.{with_reserved_bit_cleared};
 ghost use Rattle.etherparse.specs.Ipv6Header.{IsIpv6Layout, RefusesIpv6};
 ghost use Rattle.etherparse.specs.Reading.{BeginsWith};
 ghost use Rattle.etherparse.specs.declared.net.ipv4_header.Ipv4Header.{Ipv4Header as Header4};
 ghost use Rattle.etherparse.specs.declared.net.ipv6_header.Ipv6Header.{Ipv6Header as Header6};
-ghost use Rattle.uses.specs.Forward.{IsForwardedInPlace, IsForwardedIpv4};
+ghost use Rattle.uses.specs.Forward.{IsForwardedInPlace, IsForwardedIpv4, IsMarkedInPlace};
 ghost use Rattle.uses.specs.Forward.{IsLastIpv4Hop, IsLastIpv6Hop, IsNextIpv4Hop, IsNextIpv6Hop};
 
 use arrayvec::ArrayVec;
@@ -75,6 +76,30 @@ pub fn ipv4_forward_in_place(packet: &mut [u8]) -> Result<bool, ipv4::HeaderSlic
     packet[10] = high;
     packet[11] = low;
     Ok(true)
+}
+
+/// Gives an IPv4 packet another code point in place, in bytes 1, 10 and 11 alone, as a router does
+/// at the edge of a network (RFC 2474 section 6). The reserved bit stays, so the checksum is correct
+/// exactly when it was before.
+pub fn ipv4_mark_in_place(packet: &mut [u8], dscp: IpDscp) -> Result<(), ipv4::HeaderSliceError>
+    ensures marked { OnOk result (IsMarkedInPlace dscp packet.old packet.new) }
+    ensures refused { IfErr result (RefusesIpv4 packet.old) }
+    ensures unchanged { OnErr result (packet.new ≡ packet.old) }
+{
+    let (mut header, _) = Ipv4Header::from_slice(packet)?;
+    header.set_dscp(dscp);
+    let [high, low] = header.header_checksum.to_be_bytes();
+    packet[1] = differentiated_services_byte(&header);
+    packet[10] = high;
+    packet[11] = low;
+    Ok(())
+}
+
+// The second byte of a header: its code point and its congestion notification.
+fn differentiated_services_byte(header: &Ipv4Header) -> u8
+    ensures value { result ≡ header.now.dscp * 2 ^ 2 + ecn_value header.now.ecn }
+{
+    (header.dscp.value() << 2) + header.ecn.value()
 }
 
 /// The header of an IPv6 packet with one hop less to go, or `None` if it may go no further.

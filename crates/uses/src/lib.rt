@@ -17,6 +17,7 @@ pub mod ipv6_view;
 mod laws;
 pub mod payload;
 pub mod queue;
+pub mod send;
 pub mod tcp;
 pub mod translation;
 pub mod tunnel;

@@ -1,13 +1,13 @@
 //! Address translation: another source or destination address, and how it changes the checksums
 //! (RFC 3022).
 
-ghost use Rattle.std.specs.Prelude.{◌≡◌};
+ghost use Rattle.std.specs.Prelude.{◌≡◌, IsTrue};
 ghost use Rattle.etherparse.specs.HeaderChecksum.{KeepsChecksum};
 ghost use Rattle.etherparse.specs.WordSums.{UpdatesChecksum, UpdatesChecksumWithNoZero};
 ghost use Rattle.etherparse.specs.WordSums.{network_order_word_sum, updated_checksum_of_words};
 
 use etherparse::Ipv4Header;
-use etherparse::checksum::{update_4bytes, update_4bytes_with_no_zero};
+use etherparse::checksum::{update_2bytes, update_4bytes, update_4bytes_with_no_zero};
 
 /// Gives a header another source address, and returns the UDP checksum for it; 0, which says that
 /// there is none, stays 0.
@@ -86,4 +86,15 @@ pub fn translate_tcp_destination(
     let old = header.destination;
     header.set_destination(destination);
     update_4bytes(tcp_checksum, old, destination)
+}
+
+/// Whether the update for an address is that for its two words, one after the other: it always is,
+/// so a translator may take an address by its words.
+pub fn is_updated_by_words(checksum: u16, old: [u8; 4], new: [u8; 4]) -> bool
+    ensures always { IsTrue result }
+{
+    let [a, b, c, d] = old;
+    let [e, f, g, h] = new;
+    let first = update_2bytes(checksum, [a, b], [e, f]);
+    update_4bytes(checksum, old, new) == update_2bytes(first, [c, d], [g, h])
 }

@@ -1,12 +1,12 @@
 //! A filter on IPv6 packets: the upper layer, past any extension headers.
 
 ghost use Rattle.std.specs.Prelude.{◌≤◌, IfErr, IfOk, length};
-ghost use Rattle.etherparse.specs.ExtensionHeaderChain.{FollowsChain, IsWalkOf};
+ghost use Rattle.etherparse.specs.ExtensionHeaderChain.{FollowsChain, IsWalkOf, Walks};
 ghost use Rattle.etherparse.specs.Reading.{found_and_rest};
 ghost use Rattle.uses.specs.UpperLayer.{HasUpperLayer, RefusesUpperLayer};
 
 use etherparse::err::LenError;
-use etherparse::err::ipv6::HeaderSliceError;
+use etherparse::err::ipv6::{ChainError, HeaderSliceError};
 use etherparse::{IpNumber, Ipv6Header};
 
 /// The number of the upper-layer protocol of an IPv6 packet, and its bytes. In a fragment that is
@@ -20,6 +20,25 @@ pub fn upper_layer(packet: &[u8]) -> Result<(IpNumber, &[u8]), HeaderSliceError>
     match Ipv6Header::skip_all_header_extensions_in_slice(rest, header.next_header) {
         Ok(upper) => Ok(upper),
         Err(e) => Err(HeaderSliceError::Len(e.add_offset(Ipv6Header::LEN))),
+    }
+}
+
+// The greatest payload of a packet on Ethernet, and so of its extension headers, in bytes.
+const MTU: usize = 1500;
+
+/// The upper layer of the payload of a packet on Ethernet. A limit of one more than an eighth of the
+/// bytes that there can be is never reached, so no answer has to be made for it.
+pub fn upper_layer_on_ethernet(
+    payload: &[u8],
+    next_header: IpNumber,
+) -> Result<(IpNumber, &[u8]), LenError>
+    requires { length payload.now ≤ 1500 }
+    ensures walk { Walks payload.now next_header (found_and_rest result) }
+{
+    match Ipv6Header::skip_header_extensions_up_to(payload, next_header, MTU / 8 + 1) {
+        Ok(upper) => Ok(upper),
+        Err(ChainError::Len(e)) => Err(e),
+        Err(ChainError::TooMany { .. }) => unreachable!(),
     }
 }
 

@@ -80,6 +80,8 @@ const _: () = prove!(Ipv4Header::MIN_LEN == 20 && Ipv4Header::MIN_LEN_U16 == 20)
 
 const _: () = prove!(Ipv4Header::MAX_LEN == 60 && Ipv4Header::SERIALIZED_SIZE == 20);
 
+const _: () = prove!(Ipv4Header::MAX_PAYLOAD_LEN == 65515);
+
 impl Ipv4Header {
     ghost use Rattle.std.specs.Prelude.{ℕ, ◌≡◌, ◌+◌, ◌*◌, ◌^◌, ◌<◌, ◌≤◌, ◌↔◌, ◌⊎◌};
     ghost use Rattle.std.specs.Prelude.{List, [], ◌∷◌, ◌++◌, length};
@@ -90,9 +92,9 @@ impl Ipv4Header {
     ghost use Rattle.etherparse_fields.specs.Ipv4Options.{IsOptionsLen};
     ghost use Rattle.etherparse.specs.HeaderChecksum.{header_checksum_of};
     ghost use Rattle.etherparse.specs.Ipv4Header.{IsFragment, IsIpv4LayoutWith, IsIpv4ReadingOf};
-    ghost use Rattle.etherparse.specs.Ipv4Header.{ReadsIpv4, ViewsIpv4};
-    ghost use Rattle.etherparse.specs.Ipv4Header.{default_ipv4_header, ipv4_header_len, ipv4_ihl};
-    ghost use Rattle.etherparse.specs.Ipv4Header.{ipv4_max_payload_len, ipv4_payload_len};
+    ghost use Rattle.etherparse.specs.Ipv4Header.{ViewsIpv4, default_ipv4_header};
+    ghost use Rattle.etherparse.specs.Ipv4Header.{ipv4_header_len, ipv4_ihl, ipv4_max_payload_len};
+    ghost use Rattle.etherparse.specs.Ipv4Header.{ipv4_payload_len};
     ghost use Rattle.etherparse.specs.Reading.{found_and_rest};
 
     /// The length of a header with no options, in bytes.
@@ -131,10 +133,10 @@ impl Ipv4Header {
         source: [u8; 4],
         destination: [u8; 4],
     ) -> Result<Ipv4Header, ValueTooBigError<u16>>
-        ensures accepted { IsOk result ↔ (payload_len ≤ Self.MAX_PAYLOAD_LEN) }
+        ensures accepted { IsOk result ↔ (payload_len ≤ 65515) }
         ensures refused { IfErr result (λ e. e ≡ record {
           actual = payload_len;
-          max_allowed = Self.MAX_PAYLOAD_LEN;
+          max_allowed = 65515;
           value_type = ValueType.Ipv4PayloadLength;
         }) }
         ensures made { IfOk result (λ header. header ≡ record default_ipv4_header {
@@ -223,7 +225,7 @@ impl Ipv4Header {
     pub fn max_payload_len(&self) -> u16
         ensures value { result ≡ ipv4_max_payload_len self.now }
         ensures at_least { 65475 ≤ result }
-        ensures within { result ≤ Self.MAX_PAYLOAD_LEN }
+        ensures within { result ≤ 65515 }
     {
         Ipv4Header::MAX_PAYLOAD_LEN - u16::from(self.options.len_u8())
     }
@@ -366,10 +368,10 @@ impl Ipv4Header {
         ensures layout { IsIpv4LayoutWith self.now 0 result.items }
         ensures only { (bytes : List ℕ) → IsIpv4LayoutWith self.now 0 bytes → bytes ≡ result.items }
         ensures read_again { (rest : List ℕ) →
-            ReadsIpv4 (result.items ++ rest) (Ok (self.now, rest)) }
+            IsIpv4ReadingOf (result.items ++ rest) (Ok (self.now, rest)) }
         ensures viewed_again { (rest : List ℕ) →
             ViewsIpv4 (result.items ++ rest) (Ok result.items) }
-        ensures read_alone { ReadsIpv4 result.items (Ok (self.now, [])) }
+        ensures read_alone { IsIpv4ReadingOf result.items (Ok (self.now, [])) }
         ensures viewed_alone { ViewsIpv4 result.items (Ok result.items) }
 
         // A receiver finds the checksum correct if it is the computed one, in either form of zero.

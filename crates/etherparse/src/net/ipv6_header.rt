@@ -239,9 +239,10 @@ impl Ipv6Header {
     pub fn to_bytes(&self) -> [u8; 40]
         ensures layout { IsIpv6Layout self.now result }
         ensures only { (bytes : List ℕ) → IsIpv6Layout self.now bytes → bytes ≡ result }
-        ensures read_again { (rest : List ℕ) → ReadsIpv6 (result ++ rest) (Ok (self.now, rest)) }
+        ensures read_again { (rest : List ℕ) →
+            IsIpv6ReadingOf (result ++ rest) (Ok (self.now, rest)) }
         ensures viewed_again { (rest : List ℕ) → ViewsIpv6 (result ++ rest) (Ok result) }
-        ensures read_alone { ReadsIpv6 result (Ok (self.now, [])) }
+        ensures read_alone { IsIpv6ReadingOf result (Ok (self.now, [])) }
         ensures viewed_alone { ViewsIpv6 result (Ok result) }
     {
         front_and_addresses(&self.front(), &self.source, &self.destination)

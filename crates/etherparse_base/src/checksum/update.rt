@@ -2,10 +2,11 @@
 
 ghost use Rattle.std.specs.Prelude.{if◌then◌else◌, ◌==◌, ◌≡◌, ◌≤◌, ◌+◌, ◌-◌, ◌*◌};
 ghost use Rattle.std.specs.Int.{from_be_bytes, w16};
+ghost use Rattle.etherparse_base.specs.Bytes.{IsBytes, words_of};
 ghost use Rattle.etherparse_base.specs.WordSums.{UpdatesChecksum, UpdatesChecksumWithNoZero};
-ghost use Rattle.etherparse_base.specs.WordSums.{folded_sum, network_order_word_sum};
+ghost use Rattle.etherparse_base.specs.WordSums.{checksum_of, network_order_word_sum};
 ghost use Rattle.etherparse_base.specs.WordSums.{updated_checksum, updated_checksum_of_words};
-ghost use Rattle.etherparse_base.specs.WordSums.{with_no_zero};
+ghost use Rattle.etherparse_base.specs.WordSums.{updated_in_turn, with_no_zero};
 
 use super::end_around::without_zero;
 use super::u32_16bit_word::ones_complement;
@@ -34,10 +35,7 @@ pub fn update_2bytes(checksum: u16, old: [u8; 2], new: [u8; 2]) -> u16
     ensures updates { UpdatesChecksum checksum (from_be_bytes w16 old) (from_be_bytes w16 new)
         result }
 {
-    let sum = u32::from(!checksum)
-        + u32::from(!u16::from_be_bytes(old))
-        + u32::from(u16::from_be_bytes(new));
-    ones_complement(sum)
+    updated(checksum, 1, one_word(old), one_word(new))
 }
 
 /// [`update_2bytes`] for two words at once, such as an IPv4 address: the same as one update after
@@ -54,10 +52,12 @@ pub fn update_2bytes(checksum: u16, old: [u8; 2], new: [u8; 2]) -> u16
 #[inline]
 pub fn update_4bytes(checksum: u16, old: [u8; 4], new: [u8; 4]) -> u16
     ensures value { result ≡ updated_checksum_of_words 2 checksum old new }
+    ensures in_turn { result ≡ updated_in_turn checksum (words_of old) (words_of new) }
     ensures updates { UpdatesChecksum checksum (network_order_word_sum old)
         (network_order_word_sum new) result }
 {
-    ones_complement(u32::from(!checksum) + (2 * 65535 - two_words(old)) + two_words(new))
+    are_bytes(&old);
+    updated(checksum, 2, two_words(old), two_words(new))
 }
 
 /// [`update_2bytes`] for eight words at once, such as an IPv6 address: the same as one update after
@@ -78,10 +78,12 @@ pub fn update_4bytes(checksum: u16, old: [u8; 4], new: [u8; 4]) -> u16
 #[inline]
 pub fn update_16bytes(checksum: u16, old: [u8; 16], new: [u8; 16]) -> u16
     ensures value { result ≡ updated_checksum_of_words 8 checksum old new }
+    ensures in_turn { result ≡ updated_in_turn checksum (words_of old) (words_of new) }
     ensures updates { UpdatesChecksum checksum (network_order_word_sum old)
         (network_order_word_sum new) result }
 {
-    ones_complement(u32::from(!checksum) + (8 * 65535 - eight_words(old)) + eight_words(new))
+    are_bytes(&old);
+    updated(checksum, 8, eight_words(old), eight_words(new))
 }
 
 /// [`update_2bytes`] of a checksum in which 0 says that there is none, as in UDP over IPv4 (RFC
@@ -98,12 +100,13 @@ pub fn update_16bytes(checksum: u16, old: [u8; 16], new: [u8; 16]) -> u16
 /// assert_eq!(rt; update_2bytes_with_no_zero(0, old, new), 0);
 /// ```
 #[inline]
-#[tactic(auto, using(crate::proofs::WordSumLaws::updates_with_no_zero))]
 pub fn update_2bytes_with_no_zero(checksum: u16, old: [u8; 2], new: [u8; 2]) -> u16
+    ensures value { result ≡ if checksum == 0 then 0 else with_no_zero
+        (updated_checksum checksum (from_be_bytes w16 old) (from_be_bytes w16 new)) }
     ensures updates { UpdatesChecksumWithNoZero checksum (from_be_bytes w16 old)
         (from_be_bytes w16 new) result }
 {
-    none_or(checksum, update_2bytes(checksum, old, new))
+    updated_or_none(checksum, 1, one_word(old), one_word(new))
 }
 
 /// [`update_4bytes`] of a checksum in which 0 says that there is none, as in UDP over IPv4 (RFC
@@ -111,12 +114,13 @@ pub fn update_2bytes_with_no_zero(checksum: u16, old: [u8; 2], new: [u8; 2]) -> 
 ///
 /// The Rust crate has no such call.
 #[inline]
-#[tactic(auto, using(crate::proofs::WordSumLaws::updates_with_no_zero))]
 pub fn update_4bytes_with_no_zero(checksum: u16, old: [u8; 4], new: [u8; 4]) -> u16
+    ensures value { result ≡ if checksum == 0 then 0 else with_no_zero
+        (updated_checksum_of_words 2 checksum old new) }
     ensures updates { UpdatesChecksumWithNoZero checksum (network_order_word_sum old)
         (network_order_word_sum new) result }
 {
-    none_or(checksum, update_4bytes(checksum, old, new))
+    updated_or_none(checksum, 2, two_words(old), two_words(new))
 }
 
 /// [`update_16bytes`] of a checksum in which 0 says that there is none: 0 stays 0, and any other
@@ -124,23 +128,51 @@ pub fn update_4bytes_with_no_zero(checksum: u16, old: [u8; 4], new: [u8; 4]) -> 
 ///
 /// The Rust crate has no such call.
 #[inline]
-#[tactic(auto, using(crate::proofs::WordSumLaws::updates_with_no_zero))]
 pub fn update_16bytes_with_no_zero(checksum: u16, old: [u8; 16], new: [u8; 16]) -> u16
+    ensures value { result ≡ if checksum == 0 then 0 else with_no_zero
+        (updated_checksum_of_words 8 checksum old new) }
     ensures updates { UpdatesChecksumWithNoZero checksum (network_order_word_sum old)
         (network_order_word_sum new) result }
 {
-    none_or(checksum, update_16bytes(checksum, old, new))
+    updated_or_none(checksum, 8, eight_words(old), eight_words(new))
 }
 
-// The result for a checksum in which 0 says that there is none, from its plain update.
+// The checksum after a change of so many words, from their sums.
 #[inline(always)]
-fn none_or(checksum: u16, updated: u16) -> u16
-    ensures value { result ≡ if checksum == 0 then 0 else with_no_zero updated }
+fn updated(checksum: u16, words: u32, old: u32, new: u32) -> u16
+    requires few { words ≤ 8 }
+    requires old { old ≤ words * 65535 }
+    requires new { new ≤ words * 65535 }
+    ensures value { result ≡ checksum_of ((65535 - checksum) + (words * 65535 - old) + new) }
+    ensures updates { UpdatesChecksum checksum old new result }
 {
+    ones_complement(u32::from(!checksum) + (words * 65535 - old) + new)
+}
+
+// The same of a checksum in which 0 says that there is none.
+#[inline(always)]
+fn updated_or_none(checksum: u16, words: u32, old: u32, new: u32) -> u16
+    requires few { words ≤ 8 }
+    requires old { old ≤ words * 65535 }
+    requires new { new ≤ words * 65535 }
+    ensures value { result ≡ if checksum == 0 then 0 else with_no_zero
+        (checksum_of ((65535 - checksum) + (words * 65535 - old) + new)) }
+    ensures updates { UpdatesChecksumWithNoZero checksum old new result }
+{
+    let change = updated(checksum, words, old, new);
     if checksum == 0 {
         return 0;
     }
-    without_zero(updated)
+    without_zero(change)
+}
+
+// A word with the high byte first.
+#[inline(always)]
+fn one_word(bytes: [u8; 2]) -> u32
+    ensures sum { result ≡ from_be_bytes w16 bytes }
+    ensures within { result ≤ 65535 }
+{
+    u32::from(u16::from_be_bytes(bytes))
 }
 
 // The sum of two words, each with the high byte first.
@@ -166,3 +198,10 @@ fn eight_words(bytes: [u8; 16]) -> u32
         + two_words([i, j, k, l])
         + two_words([m, n, o, p])
 }
+
+// To a proof, the items of a slice are bytes; the items of an array that is passed here are bytes
+// from here on.
+#[inline(always)]
+fn are_bytes(bytes: &[u8])
+    ensures { IsBytes bytes.now }
+{}

@@ -21,6 +21,8 @@ use std::simd::prelude::*;
 // The number of bytes that a turn sums.
 const TURN_LEN: usize = 96;
 
+const _: () = prove!(TURN_LEN == 96);
+
 // From this many bytes on, turns are faster.
 const TURNS_FROM: usize = 1280;
 

@@ -3,15 +3,19 @@
 use super::Ipv4Header;
 use super::fixed_and_options::{add_options, are_bytes, sum_of_fixed};
 use crate::checksum::{update_2bytes, update_4bytes};
+use crate::{IpDscp, IpEcn};
 
 impl Ipv4Header {
     ghost use Rattle.std.specs.Prelude.{ℕ, ◌≡◌, ◌+◌, ◌-◌, ◌*◌, ◌^◌, ◌<◌, ◌≤◌, ◌↔◌};
     ghost use Rattle.std.specs.Prelude.{List, [], ◌∷◌, IsTrue};
     ghost use Rattle.std.specs.Bool.{OnFalse, OnTrue};
-    ghost use Rattle.etherparse_base.specs.WordSums.{updated_checksum, updated_checksum_of_words};
+    ghost use Rattle.std.specs.Int.{from_be_bytes, w16};
+    ghost use Rattle.etherparse_base.specs.WordSums.{SumsToAllOnes, updated_checksum};
+    ghost use Rattle.etherparse_base.specs.WordSums.{updated_checksum_of_words};
+    ghost use Rattle.etherparse_fields.specs.IpEcn.{ecn_value};
     ghost use Rattle.etherparse.specs.HeaderChecksum.{ChangesInPlace, KeepsChecksum};
     ghost use Rattle.etherparse.specs.HeaderChecksum.{header_checksum_of};
-    ghost use Rattle.etherparse.specs.Ipv4Header.{IsIpv4LayoutWith};
+    ghost use Rattle.etherparse.specs.Ipv4Header.{IsIpv4LayoutWith, ipv4_first_word, ipv4_ihl};
 
     /// The checksum that the header should have: the complement of the ones-complement sum of its
     /// words in network byte order, with 0 for the checksum, whatever `header_checksum` is (RFC 791
@@ -31,6 +35,105 @@ impl Ipv4Header {
         add_options(fixed, self.options.as_slice())
             .ones_complement()
             .swap_bytes()
+    }
+
+    /// Stores the checksum that the header should have, [`Ipv4Header::calc_header_checksum`]. The
+    /// bytes that [`Ipv4Header::to_bytes`] then writes sum to all ones, by which a receiver finds
+    /// the checksum correct. Call it last: a field that is assigned later leaves it as it was.
+    ///
+    /// The Rust crate has no such call.
+    ///
+    /// # Example
+    ///
+    /// ```
+    /// let (source, destination) = ([192, 168, 0, 1], [192, 168, 0, 199]);
+    /// let mut header = Ipv4Header::new(95, 64, IpNumber::UDP, source, destination)?;
+    /// header.set_checksum();
+    /// assert!(rt; header.header_checksum == 0xb861);
+    /// ```
+    #[inline]
+    pub fn set_checksum(&mut self)
+        ensures set { self.new ≡ record self.old { header_checksum = self.new.header_checksum } }
+        ensures computed { (bytes : List ℕ) → IsIpv4LayoutWith self.new 0 bytes →
+            self.new.header_checksum ≡ header_checksum_of bytes }
+        ensures all_ones { (bytes : List ℕ) → IsIpv4LayoutWith self.new 0 bytes →
+            SumsToAllOnes bytes }
+    {
+        self.header_checksum = self.calc_header_checksum();
+    }
+
+    /// Sets the differentiated services code point, and updates the stored checksum for the first
+    /// word, with [`update_2bytes`] (RFC 1624 section 3, equation 3). A correct checksum stays
+    /// correct; an incorrect one is not repaired.
+    ///
+    /// The Rust crate has no such call.
+    ///
+    /// # Example
+    ///
+    /// ```
+    /// header.header_checksum = 0xb861;
+    /// header.set_dscp(IpDscp::EF);
+    /// assert_eq!(rt; header.header_checksum, 0xb7a9);
+    /// ```
+    #[inline]
+    pub fn set_dscp(&mut self, dscp: IpDscp)
+        ensures set { self.new ≡ record self.old {
+          dscp = dscp;
+          header_checksum = updated_checksum self.old.header_checksum
+              (ipv4_first_word self.old) (ipv4_first_word (record self.old { dscp = dscp }));
+        } }
+        ensures keeps_checksum { KeepsChecksum self.old self.new }
+
+        // In a packet, that changes bytes 1, 10 and 11 and no others.
+        ensures in_place { ChangesInPlace self.old self.new 1
+            ((dscp * 2 ^ 2 + ecn_value self.old.ecn) ∷ []) }
+    {
+        let before = self.first_word();
+        self.dscp = dscp;
+        self.header_checksum = update_2bytes(self.header_checksum, before, self.first_word());
+    }
+
+    /// Sets the explicit congestion notification, and updates the stored checksum for the first
+    /// word, with [`update_2bytes`] (RFC 1624 section 3, equation 3). A correct checksum stays
+    /// correct; an incorrect one is not repaired.
+    ///
+    /// The Rust crate has no such call.
+    ///
+    /// # Example
+    ///
+    /// ```
+    /// // A router marks that the packet met congestion (RFC 3168 section 5).
+    /// header.set_ecn(IpEcn::CongestionExperienced);
+    /// assert_eq!(rt; header.header_checksum, 0xb7a6);
+    /// ```
+    #[inline]
+    pub fn set_ecn(&mut self, ecn: IpEcn)
+        ensures set { self.new ≡ record self.old {
+          ecn = ecn;
+          header_checksum = updated_checksum self.old.header_checksum
+              (ipv4_first_word self.old) (ipv4_first_word (record self.old { ecn = ecn }));
+        } }
+        ensures keeps_checksum { KeepsChecksum self.old self.new }
+
+        // In a packet, that changes bytes 1, 10 and 11 and no others.
+        ensures in_place { ChangesInPlace self.old self.new 1
+            ((self.old.dscp * 2 ^ 2 + ecn_value ecn) ∷ []) }
+    {
+        let before = self.first_word();
+        self.ecn = ecn;
+        self.header_checksum = update_2bytes(self.header_checksum, before, self.first_word());
+    }
+
+    // The version, the IHL, the code point and the notification.
+    #[inline(always)]
+    pub(super) fn first_word(&self) -> [u8; 2]
+        ensures value { result ≡ (4 * 2 ^ 4 + ipv4_ihl self.now)
+            ∷ (self.now.dscp * 2 ^ 2 + ecn_value self.now.ecn) ∷ [] }
+        ensures number { from_be_bytes w16 result ≡ ipv4_first_word self.now }
+        ensures dscp { self.now.dscp < 2 ^ 6 }
+    {
+        let dscp = self.dscp.value();
+        [(4 << 4) + self.ihl(), (dscp << 2) + self.ecn.value()]
     }
 
     /// Sets the time to live, and updates the stored checksum for the word of the time to live and

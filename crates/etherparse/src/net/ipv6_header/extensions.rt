@@ -29,6 +29,8 @@ const UNITS: [u8; 256] = [
 
 const NOT_SKIPPABLE: u8 = 1;
 
+const _: () = prove!(NOT_SKIPPABLE == 1);
+
 impl Ipv6Header {
     ghost use Rattle.std.specs.Prelude.{ℕ, ◌≡◌, ◌+◌, ◌/◌, ◌<◌, ◌≤◌, ◌↔◌, ◌-◌, List, Ok, Err};
     ghost use Rattle.std.specs.Prelude.{IfErr, IfOk, IsFalse, IsOk, IsTrue, drop, length};

@@ -10,6 +10,7 @@ impl Ipv6Header {
     ghost use Rattle.std.specs.Prelude.{ℕ, ◌≡◌, ◌+◌, ◌-◌, ◌/◌, ◌≤◌, List, IfErr, IfOk, length};
     ghost use Rattle.std.specs.Result.{result_map_both};
     ghost use Rattle.etherparse_base.specs.Ipv6Errors.{chain_error_moved, chain_error_place};
+    ghost use Rattle.etherparse_base.specs.declared.err.len_error.LenError.{LenError as LengthError};
     ghost use Rattle.etherparse.specs.ExtensionHeaderChain.{BeginsWithChain, LimitedWalkAnswer};
     ghost use Rattle.etherparse.specs.ExtensionHeaderChain.{WalkAnswer, Walks, WalksUpTo};
     ghost use Rattle.etherparse.specs.Reading.{found_and_rest};
@@ -22,7 +23,8 @@ impl Ipv6Header {
     /// follows is the middle of a payload, not the header of an upper layer.
     ///
     /// A header has at least 8 bytes. So with a limit of `slice.len() / 8 + 1` or more the result
-    /// is that of [`Ipv6Header::skip_all_header_extensions_in_slice`].
+    /// is that of [`Ipv6Header::skip_all_header_extensions_in_slice`], and never `TooMany`. A larger
+    /// limit changes no result but `TooMany`.
     ///
     /// # Errors
     ///
@@ -56,6 +58,13 @@ impl Ipv6Header {
             Walks slice.now next_header answer →
             found_and_rest result ≡
             result_map_both (λ x. x) (λ e. Len e) answer }
+        ensures not_too_many { length slice.now / 8 + 1 ≤ limit →
+            IfErr result (λ e. (error : LengthError) × (e ≡ Len error)) }
+
+        // An answer other than `TooMany` is that of each larger limit too.
+        ensures larger { (larger : ℕ) → limit ≤ larger → (answer : WalkAnswer) →
+            found_and_rest result ≡ result_map_both (λ x. x) (λ e. Len e) answer →
+            WalksUpTo larger slice.now next_header (found_and_rest result) }
         ensures shorter { IfOk result (λ x. length x.1.now ≤ length slice.now) }
         ensures within { IfErr result (λ e. chain_error_place e ≤ length slice.now) }
 

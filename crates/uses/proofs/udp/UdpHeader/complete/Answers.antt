@@ -12,4 +12,4 @@ returns-clause-right c = λ header l.
     let before : ℕ = sum_by little_endian_word_sum (c.args.source.now ∷ c.args.destination.now ∷ c.args.before.now ∷ zeroed ∷ c.args.payload.now ∷ []) in
     let stored : little_endian_word_sum header ≡ little_endian_word_sum zeroed + checksum.result =
     rw (spelled _ _ c.to_bytes-header.ensures.layout, spelled _ header l, c.swap_bytes-self.ensures) (omega (arith, little_endian_word_sum-swapped checksum.result (omega arith))) in
-    ap folded_sum (omega (arith, stored)) ∙ checksum.ensures.complements.completes before (omega (arith, c.requires)) (sym c.add_slices-sum.ensures.adds.sum)
+    ap folded_sum (omega (arith, stored)) ∙ checksum.ensures.complements.completes before (sym c.add_slices-sum.ensures.adds.sum)

@@ -1,7 +1,8 @@
-use Rattle.std.proofs.Common.{[], ap, arith, length, refl, subst, sym, ◌∙◌, append-nil}
+use Rattle.std.proofs.Common.{Ok, [], ◌++◌, ap, arith, length, refl, subst, sym, ◌∙◌, append-nil}
 use Rattle.etherparse_base.specs.Bytes.{IsBytes}
 use Rattle.etherparse.proofs.HeaderChecksum.{right_checksum}
 use Rattle.etherparse.proofs.Ipv4Layout.{front_spells, spelled, spells}
+use Rattle.etherparse.proofs.Ipv4Reading.{is_reading_of}
 use Rattle.etherparse.specs.Ipv4Header.{IsIpv4Layout}
 use Rattle.etherparse.proofs.net.ipv4_header.Ipv4Header.to_bytes.Goals as goal
 
@@ -17,9 +18,9 @@ returns c =
     record {
       layout = layout;
       only = λ bytes other. spelled h 0 bytes other ∙ sym e;
-      read_again = λ rest. record { front = p; whole = refl; layout = either };
+      read_again = λ rest. is_reading_of (p ++ rest) (Ok (h, rest)) (record { front = p; whole = refl; layout = either });
       viewed_again = λ rest. record { header = h; rest = rest; whole = refl; layout = either };
-      read_alone = record { front = p; whole = sym (append-nil p); layout = either };
+      read_alone = is_reading_of p (Ok (h, [])) (record { front = p; whole = sym (append-nil p); layout = either });
       viewed_alone = record { header = h; rest = []; whole = sym (append-nil p); layout = either };
       sums_to_all_ones = right_checksum h 0 p layout;
     }
