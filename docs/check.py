@@ -4,12 +4,19 @@
     docs/check.py       from anywhere; after `rt ci` or `rt run` it also runs commands of `iphead`
 
 - Code in Rattle stands in a source file, contracts aside, or else proves in a crate of its own;
-  other code stands in a file of its language, and C compiles.
+  a line in antt stands in a proof or a definition; other code stands in a file of its language or
+  compiles.
 - An example in a doc comment stands in a test of `etherparse_tests` or in a caller of `uses`.
 - A file that a page names is there, and each command names files that are there; a command that
   pipes into `rt run` or `rt try` in crates/iphead is run by the built program, and prints what the
   page shows.
-- A clause that a page names is a clause: of the function, where the page says of which.
+- A clause that a page quotes below a function is one of that function.
+- In a table of contracts, `f`, `g`: `a`, its part `p`, by `D` says that every public function f of
+  the crate and every g has the clause a, that a definition in this clause has the part p, and that
+  the clause rests on the definition D. A type or a trait may stand for f: then one of its functions
+  or ghost members is a. In a table of calls or definitions, each name in the other columns is a
+  clause or a part of what the first column names, or a definition in these.
+- A name in a table of a crate's page, of PROVED or of ARCHITECTURE is that of something here.
 - Nothing names a file beside the repository, or a machine's folder.
 - A section with a figure in seconds, minutes or bytes of memory has a command that measures it."""
 import pathlib
@@ -18,6 +25,7 @@ import shutil
 import subprocess
 import sys
 import tempfile
+from typing import NamedTuple
 
 ROOT = pathlib.Path(__file__).resolve().parent.parent
 TRACKED = subprocess.run(['git', 'ls-files', '--cached', '--others', '--exclude-standard'],
@@ -32,6 +40,7 @@ PATH = re.compile(r'[\w.{},/-]+\.(?:md|rt|antt|sh|py|edit|txt|c|h|rs|toml)$')
 FIGURE = re.compile(r'(?<![\w.])\d+(?:\.\d+)? (?:ns|nanoseconds?|seconds?|minutes?|GB|MB)\b')
 RUN = re.compile(r'\| rt (run|try)\b')
 COMMAND = re.compile(r'\brt \w+|\.ci/run|[\w./-]+\.(?:sh|py)\b|\btime\b')
+NAME = re.compile(r'`([A-Za-z]\w*(?:(?:::|\.)\w+)*)`')
 passed, failed = 0, []
 
 
@@ -53,30 +62,80 @@ def without_contracts(text):
     text = '\n'.join(lines)
     text = re.sub(r'use [^;]*;', '', text)
     while found := re.search(r'\b(ensures|requires)\*?( \w+)? \{', text):
-        at, depth = found.end(), 1
-        while depth:
-            depth += {'{': 1, '}': -1}.get(text[at], 0)
-            at += 1
-        text = text[:found.start()] + text[at:]
+        text = text[:found.start()] + text[closed(text, found.end()):]
     return ''.join(text.split())
 
 
-def clauses():
-    """the clauses of each function by its name, and all that can be named beside them"""
-    of_function, others = {}, set()
-    for text in SOURCES.values():
-        function = ''
-        for line in text.split('\n'):
-            if found := re.search(r'\bfn (\w+)', line):
-                function = found.group(1)
-                of_function.setdefault(function, set())
-            if found := re.match(r'\s*(?:ensures|requires)\*? (\w+) \{', line):
-                of_function.setdefault(function, set()).add(found.group(1))
-            if found := re.match(r'\s*(?:pub )?ghost (\w+)(?:\s*=|:)', line):
-                others.add(found.group(1))
-    for text in SPECS.values():
-        others.update(re.findall(r'^\s*pub ([\w-]+)(?: .*)? :', text, re.M))
-    return of_function, others
+def closed(text, at):
+    """the place after the brace that closes the one before a place"""
+    depth = 1
+    while depth:
+        depth += {'{': 1, '}': -1}.get(text[at], 0)
+        at += 1
+    return at
+
+
+class Contract(NamedTuple):
+    """the contract of a function, or the ghost members of a struct or an impl"""
+    crate: str
+    names: set  # that a page can give it; a private function `f` has the name `fn f`
+    clauses: dict  # the text of each by its name
+
+
+ITEM = re.compile(
+    r'^impl(?:<.*?>)? (?:(?:\w+::)*(?P<trait>\w+)(?:<.*?>)? for )?(?:\w+::)*(?P<impl>\w+)'
+    r'|^(?:pub )?struct (?P<struct>\w+)|^(?P<end>\})'
+    r'|^ *(?P<pub>pub |)(?:pub\(\w+\) )?(?:const |extern "C" )?fn (?P<function>\w+)'
+    r'|^ *(?:ensures|requires)\*? (?P<clause>\w+) \{'
+    r'|^ *(?:pub )?ghost (?P<ghost>\w+)(?: =|:) \{', re.M)
+
+
+def contracts(file, text):
+    """the contracts of a source; laws count as public"""
+    crate, module, found = file.relative_to(ROOT).parts[1], file.stem, []
+    trait, owner = None, None
+    for item in ITEM.finditer(text):
+        if item['end']:
+            trait, owner = None, None
+        elif item['impl'] or item['struct']:
+            trait, owner = item['trait'], item['impl'] or item['struct']
+            found.append(Contract(crate, {trait, owner}, {}))
+        elif name := item['function']:
+            is_public = item['pub'] or trait or module == 'laws'
+            names = {name, f'{owner or module}::{name}', trait, owner}
+            found.append(Contract(crate, names if is_public else {f'fn {name}'}, {}))
+        else:
+            end = closed(text, item.end())
+            found[-1].clauses[item['clause'] or item['ghost']] = text[item.end():end]
+    return found
+
+
+def definitions():
+    """the parts of each definition in `specs`, and the words in it"""
+    found = {}
+    for file, text in SPECS.items():
+        for block in re.split(r'\n(?=(?:\w+ )?pub )', text) if 'specs' in file.parts else ():
+            if head := re.match(r'(?:\w+ )?pub (?:record |data )?([\w-]+)', block):
+                parts, words = found.setdefault(head.group(1), (set(), set()))
+                parts.update(re.findall(r'^  (?:pub )?(\w+) :', block, re.M))
+                words.update(re.findall(r'[\w-]+', block))
+    return found
+
+
+DECLARED = re.compile(r'\b(?:fn|struct|enum|trait|impl|type|static|const|mod|pub|ghost|record|data'
+                      r'|ensures\*?|requires\*?) (?=([\w-]+))')
+VARIANT = re.compile(r'^    ([A-Z]\w+)(?:,|\(| \{)', re.M)
+IMPORT = re.compile(r'\buse ([\w:.◌]+(?:\{[^}]*\})?)')
+
+
+def known_names():
+    """the names of all that a source, a definition or a proof declares or imports, and of files"""
+    known = {name for path in NAMES for name in re.split(r'[/.]', path)}
+    for text in (SOURCES | SPECS).values():
+        code = re.sub(r'^ *(//|--).*', '', text, flags=re.M)
+        known.update(re.findall(DECLARED, code), re.findall(VARIANT, code))
+        known.update(re.findall(r'\w+', ' '.join(re.findall(IMPORT, code))))
+    return known
 
 
 SQUEEZED = {file: without_contracts(text) for file, text in SOURCES.items()}
@@ -84,8 +143,10 @@ FOREIGN = [''.join(file.read_text().split()) for file in FILES
            if file.suffix in ('.c', '.h', '.rs', '.toml')]
 LINES_OF_PROOFS = {' '.join(line.split()).replace('Rattle.uses.', 'Rattle.my_crate.')
                    for text in SPECS.values() for line in text.split('\n')}
-CLAUSES, OTHERS = clauses()
-ALL_CLAUSES = set().union(*CLAUSES.values())
+CONTRACTS = [one for file, text in SOURCES.items() for one in contracts(file, text)]
+ALL_CLAUSES = set().union(*(one.clauses for one in CONTRACTS))
+DEFINITIONS = definitions()
+KNOWN = known_names()
 
 
 def proves(block):
@@ -173,14 +234,14 @@ def check_code(page, text):
 
 def check_signatures(page, block):
     """each clause that is quoted below a function is one of that function"""
-    function = ''
     for line in block.split('\n'):
-        if found := re.search(r'\bfn (?:[\w<>:]+::)?(\w+)', line):
-            function = found.group(1)
-            judge(page, function, function in CLAUSES, 'is no function')
+        if found := re.search(r'\bfn ((?:\w+::)*\w+)', line):
+            function = '::'.join(found.group(1).split('::')[-2:])
+            of_function = called(function) or called(f'fn {function}')
+            judge(page, function, of_function, 'is no function')
         if found := re.match(r'\s*(?:ensures|requires)\*? (\w+)\b', line):
-            has = found.group(1) in CLAUSES.get(function, ())
-            judge(page, found.group(1), has, f'is no clause of {function}')
+            is_one = any(found.group(1) in one.clauses for one in of_function)
+            judge(page, found.group(1), is_one, f'is no clause of {function}')
 
 
 def check_comments(file, text):
@@ -218,26 +279,113 @@ def check_files(page, text):
             judge(page, name, is_there(page, name), 'is not there')
 
 
+def called(name, crate=''):
+    """the contracts of what a page calls so: those of a crate, if it has any of that name"""
+    found = [one for one in CONTRACTS if name in one.names]
+    return [one for one in found if one.crate == crate] or found
+
+
+def ensures(name, clause, crate):
+    """whether each function of a name has a clause, or something of a type or a trait"""
+    found = [clause in one.clauses for one in called(name, crate)]
+    return any(found) if re.fullmatch(r'[A-Z]\w*', name) else found and all(found)
+
+
+def words_of(names, clauses, crate):
+    """the words in some clauses of what a page calls so"""
+    return {word for name in names for one in called(name, crate) for clause in clauses
+            for word in re.findall(r'[\w-]+', one.clauses.get(clause, ''))}
+
+
+def reached(words):
+    """the definitions among some words, and those that these cite in turn"""
+    found = set()
+    while words := (DEFINITIONS.keys() & words) - found:
+        found |= words
+        words = set().union(*(DEFINITIONS[name][1] for name in words))
+    return found
+
+
+def parts_of(names):
+    """the parts of some definitions"""
+    return set().union(*(DEFINITIONS[name][0] for name in names))
+
+
+def names_in(text):
+    """the names in backquotes, but for files and for capitals, which stand for a part of a line"""
+    return [name for name in NAME.findall(text) if not PATH.match(name) and not name.isupper()]
+
+
 def check_clauses(page, text):
-    for name in re.findall(r'`ensures (\w+)`', text):
-        judge(page, name, name in ALL_CLAUSES, 'is no clause')
-    head = ''
+    in_crate = page.relative_to(ROOT).parts[1] if 'crates' in page.parts else ''
+    head, above = '', ([], set())
     for line in text.split('\n'):
+        cells = line.strip('| ').split(' | ')
         if not line.startswith('|'):
-            head = ''
+            head, crate = '', in_crate
         elif not head:
             head = line
-        elif re.search(r'Contract|Clause|A caller knows', head):
-            for name in re.findall(r'`([a-z]\w*)`', line):
-                known = name in ALL_CLAUSES | OTHERS or name in CLAUSES or is_word(name)
-                judge(page, name, known, 'is no clause, function or definition')
+        elif section := re.match(r'\| \*\*`(\w+)`\*\*', line):
+            crate = section.group(1)
+        elif re.search(r'A caller knows|Definition|What its parts say', head):
+            above = check_row(page, head, cells, crate, above)
+        elif in_crate or page.name in ('PROVED.md', 'ARCHITECTURE.md'):
+            for name in names_in(line):
+                is_known = set(re.split(r'::|\.', name)) <= KNOWN
+                judge(page, name, is_known, 'is the name of nothing')
+            if 'Contract' in head:
+                check_contract(page, cells[-1], crate)
+    for name in re.findall(r'`ensures (\w+)`', text):
+        judge(page, name, name in ALL_CLAUSES, 'is no clause')
 
 
-WORDS = set(re.findall(r'\w+', ' '.join(SOURCES.values())))
+def check_contract(page, cell, crate):
+    """each sentence of a cell, such as `f`, `g`: `a`, its part `p`, by `D`"""
+    for sentence in cell.split(';'):
+        if told := re.fullmatch(r'((?:`[^`]*`|[^`:])*): (.*)', sentence):
+            names = names_in(told.group(1))
+            judge(page, sentence, names, 'does not say of what')
+            check_claims(page, names, told.group(2), crate)
+        else:
+            for name in names_in(sentence):
+                is_clause = name in ALL_CLAUSES and not called(name)
+                judge(page, name, not is_clause, 'is a clause, and no function is before it')
 
 
-def is_word(name):
-    return name in WORDS
+def check_claims(page, names, claims, crate):
+    """what a page says that some functions ensure"""
+    groups = re.fullmatch(r'(.*?)(?:\bparts? (.*?))?(?:\bby (.*))?', claims).groups('')
+    clauses, parts, cited = map(names_in, groups)
+    for name in names:
+        for clause in clauses:
+            judge(page, clause, ensures(name, clause, crate), f'is no clause of {name}')
+    words = words_of(names, clauses, crate)
+    for part in parts:
+        is_part = part in parts_of(DEFINITIONS.keys() & words)
+        judge(page, part, is_part, f'is no part of {clauses}')
+    for name in cited:
+        judge(page, name, name in reached(words), f'is nothing in {clauses}')
+
+
+def check_row(page, head, cells, crate, above):
+    """what a page says of the calls or definitions in the first column, or if there are none, of
+    those in the row above; returns them and the words beside them"""
+    codes = re.findall(r'`([^`]+)`', cells[0])
+    words = set(re.findall(r'\w+', ' '.join(codes)))
+    if 'A caller knows' in head:
+        names = re.findall(r'\b((?:\w+::)*[a-z]\w*)\(', ' '.join(codes))
+    else:
+        names = [code.split()[0] for code in codes]
+    for name in names:
+        is_known = called(name, crate) or name in DEFINITIONS
+        judge(page, name, is_known, 'is no function and no definition')
+    names, words = (names, words) if names else (above[0], words | above[1])
+    clauses = {clause for name in names for one in called(name, crate) for clause in one.clauses}
+    found = reached(words_of(names, clauses, crate) | set(names))
+    for name in names_in(' '.join(cells[1:])):
+        is_one = set(name.split('.')) <= clauses | found | parts_of(found) | words
+        judge(page, name, is_one, f'is nothing of {names}')
+    return names, words
 
 
 def check_commands(page, text):

@@ -61,6 +61,29 @@ fn a_slice_has_one_complement_in_all_sums(rt: HostRuntime) {
 }
 
 #[test]
+fn one_add_to_a_new_sum_has_the_complement_of_its_words(rt: HostRuntime) {
+    let eight = [0x12, 0x34, 0x56, 0x78, 0x23, 0x22, 0x34, 0x11];
+    let sixteen = [
+        0x11, 0x12, 0x13, 0x14, 0x15, 0x16, 0x17, 0x18, 0x19, 0x1a, 0x1b, 0x1c, 0x1d, 0x1e, 0x1f,
+        0x10,
+    ];
+    let sums = [
+        (Sum16BitWords::new(), 0xffff),
+        (Sum16BitWords::new().add_slice(&[0x12, 0x34]), 0xcbed),
+        (Sum16BitWords::new().add_2bytes([0xf0, 0x0f]), 0xf00f),
+        (
+            Sum16BitWords::new().add_4bytes([0x12, 0x34, 0x56, 0x78]),
+            0x5397,
+        ),
+        (Sum16BitWords::new().add_8bytes(eight), 0x2040),
+        (Sum16BitWords::new().add_16bytes(sixteen), 0x473f),
+    ];
+    for (sum, complement) in &sums {
+        assert_eq!(rt; sum.ones_complement(), *complement);
+    }
+}
+
+#[test]
 fn the_front_of_a_slice_has_one_complement_in_all_sums(rt: HostRuntime) -> Result<(), Fail> {
     for (len, complement) in &OF_ASCENDING {
         let slice = ASCENDING.get(..*len).ok_or("too few")?;

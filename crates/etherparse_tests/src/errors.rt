@@ -2,7 +2,7 @@
 //! and value types; their clones and hashes; and which types are an `Error`. The texts of all
 //! variants over many numbers are in the sample that `conformance` replays.
 
-use crate::shared::{assert_clones, assert_hashes};
+use crate::shared::assert_derives;
 use etherparse::LenSource;
 use etherparse::err::ip::IpDscpUnknownValueError;
 use etherparse::err::ipv4::BadOptionsLen;
@@ -31,13 +31,11 @@ fn assert_shows<E: Clone + Drop + Eq + Error + Hash>(
     alloc: Global,
     errors: &[(E, &str)],
 ) -> Result<(), Fail> {
-    for (error, debug_text) in errors {
+    for (error, _) in errors {
         let (plain, styled) = (plain_text(alloc, error)?, styled_text(alloc, error)?);
         assert_eq!(rt; styled.as_str(), plain.as_str());
-        assert_clones(rt, alloc, error, debug_text)?;
-        assert_hashes(rt, error)?;
     }
-    Ok(())
+    assert_derives(rt, alloc, errors)
 }
 
 // The error of a layer in a slice.
@@ -183,6 +181,16 @@ fn errors_of_headers(rt: HostRuntime) -> Result<(), Fail> {
 
 #[test]
 fn layers_and_value_types(rt: HostRuntime) -> Result<(), Fail> {
-    assert_hashes(&rt, &Layer::Ipv6ExtHeader)?;
-    assert_hashes(&rt, &ValueType::VlanPcp)
+    let layers = [
+        (Layer::LinuxSllHeader, "LinuxSllHeader"),
+        (Layer::Ipv6ExtHeader, "Ipv6ExtHeader"),
+        (Layer::Arp, "Arp"),
+    ];
+    assert_derives(&rt, rt.alloc(), &layers)?;
+    let value_types = [
+        (ValueType::VlanId, "VlanId"),
+        (ValueType::VlanPcp, "VlanPcp"),
+        (ValueType::LinuxSllType, "LinuxSllType"),
+    ];
+    assert_derives(&rt, rt.alloc(), &value_types)
 }

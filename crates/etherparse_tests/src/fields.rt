@@ -1,6 +1,6 @@
-//! What fields print, and that their clones hash alike, also of a known code point and of options.
+//! What fields and known code points print, and that their clones hash alike, also of options.
 
-use crate::shared::{assert_clones, assert_hashes, hash_of};
+use crate::shared::{assert_clones, assert_derives, assert_hashes, hash_of};
 use etherparse::err::ValueTooBigError;
 use etherparse::{
     IpDscp, IpDscpKnown, IpEcn, IpFragOffset, Ipv4Dscp, Ipv4Ecn, Ipv4Options, Ipv6FlowLabel,
@@ -80,8 +80,17 @@ fn fields_are_printed_and_hashed(rt: HostRuntime) -> Result<(), Fail> {
 }
 
 #[test]
-fn known_code_points_and_options_are_hashed(rt: HostRuntime) -> Result<(), Fail> {
-    assert_hashes(&rt, &IpDscpKnown::VoiceAdmit)?;
+fn known_code_points_are_printed_and_hashed(rt: HostRuntime) -> Result<(), Fail> {
+    let code_points = [
+        (IpDscpKnown::ClassSelector0, "ClassSelector0"),
+        (IpDscpKnown::VoiceAdmit, "VoiceAdmit"),
+        (IpDscpKnown::LowerEffort, "LowerEffort"),
+    ];
+    assert_derives(&rt, rt.alloc(), &code_points)
+}
+
+#[test]
+fn options_are_hashed(rt: HostRuntime) -> Result<(), Fail> {
     // The unused bytes of options are not hashed.
     let in_front = Ipv4Options::from_front(&[7; 40], 4);
     assert_eq!(rt; hash_of(&in_front), hash_of(&Ipv4Options::from([7; 4])));

@@ -125,6 +125,19 @@ pub(crate) fn assert_clones<T: Clone + Debug + Drop + Eq>(
     Ok(())
 }
 
+/// Asserts what `{:?}` prints for values, and that their clones are equal and hash alike.
+pub(crate) fn assert_derives<T: Clone + Debug + Drop + Eq + Hash>(
+    rt: &impl Abort,
+    alloc: Global,
+    values: &[(T, &str)],
+) -> Result<(), Fail> {
+    for (value, text) in values {
+        assert_clones(rt, alloc, value, text)?;
+        assert_hashes(rt, value)?;
+    }
+    Ok(())
+}
+
 /// Asserts that a clone hashes as its source does.
 pub(crate) fn assert_hashes<T: Clone + Drop + Hash>(
     rt: &impl Abort,
