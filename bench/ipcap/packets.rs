@@ -1,6 +1,9 @@
-//! `packets COUNT`: a capture of so many packets on standard output, always the same: link type 101, both versions, UDP, TCP and
-//! ICMP of all lengths, extension headers, fragments, and one packet in fifty with a changed byte.
+//! `packets COUNT RANDOM FLOWS`: writes two captures of so many packets, always the same: link type 101, both versions, UDP, TCP
+//! and ICMP of all lengths, extension headers, fragments, and one packet in fifty with a changed byte. The packets of the file
+//! FLOWS have the addresses and ports of 200 flows for each version, those of RANDOM new ones in each packet. In all else but the
+//! checksums the two captures are the same.
 
+use std::fs::File;
 use std::io::{self, BufWriter, Write};
 
 struct Random(u64);
@@ -18,6 +21,19 @@ impl Random {
     }
 }
 
+/// The addresses and ports of one of so many flows.
+fn ends(random: &mut Random, flows: u64, address_len: usize) -> (Vec<u8>, [u8; 4]) {
+    let flow = 1 + random.below(flows);
+    let mut random = Random(flow.wrapping_mul(0x9e37_79b9_7f4a_7c15));
+    let mut addresses: Vec<u8> = (0..2 * address_len).map(|_| random.next() as u8).collect();
+    if address_len == 16 {
+        for address in addresses.chunks_mut(16) {
+            address[..4].copy_from_slice(&[0x20, 0x01, 0x0d, 0xb8]);
+        }
+    }
+    (addresses, [0; 4].map(|_| random.next() as u8))
+}
+
 fn complement(pieces: &[&[u8]]) -> [u8; 2] {
     let mut sum = 0u64;
     for piece in pieces {
@@ -32,7 +48,7 @@ fn complement(pieces: &[&[u8]]) -> [u8; 2] {
 }
 
 /// The payload of a packet, its checksum over the addresses, and its protocol number.
-fn segment(random: &mut Random, addresses: &[u8]) -> (Vec<u8>, u8) {
+fn segment(random: &mut Random, addresses: &[u8], ports: [u8; 4]) -> (Vec<u8>, u8) {
     let is_ipv4 = addresses.len() == 8;
     let data = match random.below(4) {
         0 => random.below(64),
@@ -46,6 +62,9 @@ fn segment(random: &mut Random, addresses: &[u8]) -> (Vec<u8>, u8) {
     };
     let mut bytes: Vec<u8> = (0..header_len + data).map(|_| random.next() as u8).collect();
     let len = bytes.len() as u16;
+    if number == 6 || number == 17 {
+        bytes[..4].copy_from_slice(&ports);
+    }
     match number {
         6 => bytes[12] = 0x50,
         17 => bytes[4..6].copy_from_slice(&len.to_be_bytes()),
@@ -60,9 +79,9 @@ fn segment(random: &mut Random, addresses: &[u8]) -> (Vec<u8>, u8) {
     (bytes, number)
 }
 
-fn ipv4(random: &mut Random) -> Vec<u8> {
-    let addresses: Vec<u8> = (0..8).map(|_| random.next() as u8).collect();
-    let (payload, number) = segment(random, &addresses);
+fn ipv4(random: &mut Random, flows: u64) -> Vec<u8> {
+    let (addresses, ports) = ends(random, flows, 4);
+    let (payload, number) = segment(random, &addresses, ports);
     let options = if random.below(20) == 0 { 4 * random.below(11) as usize } else { 0 };
     let [h, l] = ((20 + options + payload.len()) as u16).to_be_bytes();
     let fragment = if random.below(50) == 0 { 0x2000 | random.below(100) as u16 } else { 0x4000 };
@@ -77,9 +96,9 @@ fn ipv4(random: &mut Random) -> Vec<u8> {
     header
 }
 
-fn ipv6(random: &mut Random) -> Vec<u8> {
-    let addresses: Vec<u8> = (0..32).map(|at| *[0x20, 0x01, 0x0d, 0xb8].get(at % 16).unwrap_or(&(random.next() as u8))).collect();
-    let (payload, number) = segment(random, &addresses);
+fn ipv6(random: &mut Random, flows: u64) -> Vec<u8> {
+    let (addresses, ports) = ends(random, flows, 16);
+    let (payload, number) = segment(random, &addresses, ports);
     let mut chain = Vec::new();
     let mut first = number;
     match random.below(20) {
@@ -102,13 +121,12 @@ fn ipv6(random: &mut Random) -> Vec<u8> {
     header
 }
 
-fn main() -> io::Result<()> {
-    let count: u64 = std::env::args().nth(1).and_then(|word| word.parse().ok()).unwrap_or(1_000_000);
+fn write_capture(file: &str, count: u64, flows: u64) -> io::Result<()> {
     let mut random = Random(0x1234_5678_9abc_def1);
-    let mut output = BufWriter::new(io::stdout().lock());
+    let mut output = BufWriter::new(File::create(file)?);
     output.write_all(&[0xd4, 0xc3, 0xb2, 0xa1, 2, 0, 4, 0, 0, 0, 0, 0, 0, 0, 0, 0, 0, 0, 4, 0, 101, 0, 0, 0])?;
     for number in 0..count {
-        let mut packet = if random.below(3) == 0 { ipv6(&mut random) } else { ipv4(&mut random) };
+        let mut packet = if random.below(3) == 0 { ipv6(&mut random, flows) } else { ipv4(&mut random, flows) };
         if random.below(50) == 0 {
             let at = random.below(packet.len() as u64) as usize;
             packet[at] ^= 1 << random.below(8);
@@ -121,4 +139,13 @@ fn main() -> io::Result<()> {
         output.write_all(&packet)?;
     }
     output.flush()
+}
+
+fn main() -> io::Result<()> {
+    let words: Vec<String> = std::env::args().collect();
+    let [_, count, random, flows] = words.as_slice() else { return Err(io::Error::other("usage: packets COUNT RANDOM FLOWS")) };
+    let count = count.parse().map_err(io::Error::other)?;
+    // So many that hardly any comes twice.
+    write_capture(random, count, 1 << 53)?;
+    write_capture(flows, count, 200)
 }
