@@ -24,7 +24,7 @@ impl UdpHeader {
     ghost use Rattle.std.specs.Int.{to_be_bytes, w16};
     ghost use Rattle.std.specs.List.{concat};
     ghost use Rattle.etherparse.specs.Reading.{found_and_rest};
-    ghost use Rattle.etherparse.specs.WordSums.{little_endian_word_sum, ones_complement_sum};
+    ghost use Rattle.etherparse.specs.WordSums.{ones_complement_sum};
     ghost use Rattle.uses.specs.Udp.{IsUdpLayout, IsUdpRightIpv4, IsUdpRightIpv6, ReadsUdp};
     ghost use Rattle.uses.specs.Udp.{UdpReading, udp_pieces_v4, udp_pieces_v6, udp_words};
 
@@ -127,7 +127,6 @@ impl UdpHeader {
         before: &'a [u8],
         payload: &'a [u8],
     )
-        requires some { 0 < little_endian_word_sum before.now }
         ensures others { self.new ≡ record self.old { checksum = self.new.checksum } }
         ensures there { self.new.checksum ≢ 0 }
         ensures right { (header : List ℕ) → IsUdpLayout self.new header → ones_complement_sum
