@@ -1,8 +1,10 @@
 #!/usr/bin/env bash
 # Runs the built program as a process, and compares its exit code and all its output with what is
 # expected: on the capture in `stdin`, on that capture cut at each of its bytes and with bytes
-# changed, on its packets in each format and after the headers of each other link type, on records
-# that are too long, and with standard input or output that is closed, full or read by nobody.
+# changed, on its packets in each format and after the headers of each other link type, on its
+# records 11000 times over, on the longest records that are read and on longer ones, with arguments
+# that are refused, with standard input or output that is closed, full or read by nobody, and with
+# reads that fail after some records.
 #
 #     ./process.sh            both builds that `rt ci` leaves in out/: ipcap, and ipcap.by-rattle,
 #                             which Rattle's own compiler makes after it
@@ -58,6 +60,13 @@ run() {
     "$program" "$@" <"$room/input" >"$room/output" 2>"$room/errors"
 }
 
+# in_pieces LENGTH: the same, but each read gets so many bytes and no more, since `direct` keeps the
+# writes to a pipe apart. Each read must have room for them: what does not fit is lost.
+in_pieces() {
+    dd if="$room/input" bs="$1" oflag=direct 2>/dev/null |
+        "$program" >"$room/output" 2>"$room/errors"
+}
+
 # closing RECORDS IPV4 IPV6 OTHER CUT WRONG: the closing line of a capture.
 closing() {
     echo "$1 packets: $2 IPv4, $3 IPv6, $4 other, 0 refused, 0 skipped, $5 cut," \
@@ -77,7 +86,7 @@ whole_capture() {
     closing_of 6 >"$room/wanted.errors"
     run
     judge 'the capture' $? 0
-    dd if=stdin bs=1 2>/dev/null | "$program" >"$room/output" 2>"$room/errors"
+    in_pieces 1
     judge 'the capture, a byte at a time' $? 0
     cp "$room/wanted.errors" "$room/wanted"
     : >"$room/wanted.errors"
@@ -85,15 +94,50 @@ whole_capture() {
     judge 'the capture, quiet' $? 0
 }
 
+# The records of `stdin` 11000 times over, and their lines: more records than 16 bits count, and
+# more lines than the program keeps before it writes them. The long lists take memory, with which
+# this shell would start each program more slowly: so they are a shell's of their own.
+build_many() (
+    {
+        bytes 0 24
+        printf "${capture:4 * 24}%.0s" {1..11000}
+    } >"$room/many"
+    printf -v six '%%d %s\n' "${lines[@]#* }"
+    printf "$six" {1..66000} >"$room/many.wanted"
+)
+
+# Also in pieces so small that there are more of them than 16 bits count.
+many_records() {
+    cp "$room/many" "$room/input"
+    cp "$room/many.wanted" "$room/wanted"
+    closing 66000 33000 11000 22000 11000 11000 >"$room/wanted.errors"
+    run
+    judge 'many records' $? 0
+    in_pieces 64
+    judge 'many records, in pieces of 64 bytes' $? 0
+    cp "$room/wanted.errors" "$room/wanted"
+    : >"$room/wanted.errors"
+    run --quiet
+    judge 'many records, quiet' $? 0
+}
+
+# The name of a capture is refused too, where standard input is that capture, another or empty.
 arguments() {
     : >"$room/wanted"
     echo 'usage: ipcap [--quiet] < CAPTURE' >"$room/wanted.errors"
-    for argument in --version -q '' --quiet= no/such/file; do
-        run "$argument"
-        judge "the argument '$argument'" $? 2
+    for len in "$size" 176 0; do
+        bytes 0 "$len" >"$room/input"
+        for argument in --version -q '' --quiet= no/such/file stdin "$PWD/stdin" "$room/input"; do
+            run "$argument"
+            judge "the argument '$argument', with $len bytes of input" $? 2
+        done
+        for argument in --quiet -r stdin; do
+            run "$argument" stdin
+            judge "the arguments '$argument' and 'stdin', with $len bytes of input" $? 2
+            run "$argument" --quiet
+            judge "the arguments '$argument' and '--quiet', with $len bytes of input" $? 2
+        done
     done
-    run --quiet --quiet
-    judge 'two arguments' $? 2
 }
 
 # first_lines COUNT: so many lines of `stdout`.
@@ -401,6 +445,44 @@ long_records() {
     } >"$room/wanted.errors"
     run
     judge 'records that are too long' $? 1
+    in_pieces 128
+    judge 'records that are too long, in pieces of 128 bytes' $? 1
+}
+
+# long_record LENGTH: a record of so many bytes: the first packet of `stdin`, and zeros.
+long_record() {
+    bytes 24 8
+    number "$1"
+    number "$1"
+    bytes 54 33
+    head -c $(($1 - 33)) /dev/zero
+}
+
+# Records of the greatest length that is read, of a byte less and of a byte more. The first read from
+# a file has the first of these but for its end, and a later one the third whole.
+longest_records() {
+    {
+        bytes 0 20
+        number 101
+        long_record 262144
+        long_record 262143
+        long_record 262144
+        long_record 262145
+        record 100 '' 134 40
+    } >"$room/input"
+    {
+        echo "1${lines[0]#1}"
+        echo "2${lines[0]#1}"
+        echo "3${lines[0]#1}"
+        echo '4 1700000001.001001 skipped: 262145 bytes are too many'
+        echo "5${lines[1]#2}"
+    } >"$room/wanted"
+    echo '5 packets: 4 IPv4, 0 IPv6, 0 other, 0 refused, 1 skipped, 0 cut,' \
+        '0 with a wrong checksum' >"$room/wanted.errors"
+    run
+    judge 'the longest records' $? 0
+    cat "$room/input" | "$program" >"$room/output" 2>"$room/errors"
+    judge 'the longest records, from a pipe' $? 0
 }
 
 # The keywords of IANA's registry of protocol numbers.
@@ -488,7 +570,35 @@ failing_ends() {
     rm "$room/pipe"
 }
 
+# failing_read LENGTH RECORDS ARGUMENT..: the first LENGTH bytes of `stdin`, with so many whole
+# records, come from a pipe that is still open for writing. The next read fails: it does not wait for
+# more, since `dd` leaves the pipe `nonblock`.
+failing_read() {
+    mkfifo "$room/pipe"
+    exec 3<>"$room/pipe"
+    dd count=0 iflag=nonblock <&3 2>/dev/null || { echo 'dd has no iflag=nonblock' && exit 1; }
+    bytes 0 "$1" >&3
+    "$program" "${@:3}" <&3 >"$room/output" 2>"$room/errors"
+    code=$?
+    exec 3<&-
+    rm "$room/pipe"
+    first_lines "$2" >"$room/wanted"
+    judge "a read that fails after $1 bytes" "$code" 3
+}
+
+# The lines of the records before a read that fails are written all the same.
+failing_reads() {
+    echo 'error: a read or a write failed' >"$room/wanted.errors"
+    failing_read 0 0
+    failing_read 20 0
+    failing_read 24 0
+    failing_read 400 4
+    failing_read 447 6
+    failing_read 447 0 --quiet
+}
+
 [ $# -gt 0 ] || set -- ipcap ipcap.by-rattle
+build_many
 for build; do
     program=out/$build
     if ! [ -x "$program" ]; then
@@ -496,11 +606,13 @@ for build; do
         continue
     fi
     whole_capture
+    many_records
     arguments
     cut_captures
     formats
     no_captures
     long_records
+    longest_records
     link_types
     cut_packets
     cut_extensions
@@ -508,6 +620,7 @@ for build; do
     protocols
     changed_captures
     failing_ends
+    failing_reads
 done
 echo "$passed passed, $failed failed"
 [ "$failed" -eq 0 ]
