@@ -1,4 +1,4 @@
-use Rattle.std.proofs.Common.{◌≡◌, ◌++◌, ◌∙◌, arith, ap, length}
+use Rattle.std.proofs.Common.{◌≡◌, ◌++◌, ◌∙◌, arith, length}
 use Rattle.std.proofs.lemmas.Grind.{common_steps}
 use Rattle.etherparse.proofs.Ipv4Reading.{read_as}
 use Rattle.uses.proofs.send.ipv4_front_for.Goals as goal

@@ -1,4 +1,4 @@
-use Rattle.std.proofs.Common.{ℕ, Ok, List, [], ap, arith, length, refl, rules, subst, sym, ◌≡◌, ◌++◌, ◌∙◌, append-nil}
+use Rattle.std.proofs.Common.{ℕ, Ok, List, [], ap, arith, length, refl, subst, sym, ◌≡◌, ◌++◌, ◌∙◌, append-nil}
 use Rattle.etherparse_base.specs.Bytes.{IsBytes}
 use Rattle.etherparse.proofs.Ipv6Layout.{ipv6_fields, spelled, spells}
 use Rattle.etherparse.proofs.Ipv6Reading.{is_reading_of}
