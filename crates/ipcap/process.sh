@@ -95,8 +95,8 @@ whole_capture() {
 }
 
 # The records of `stdin` 11000 times over, and their lines: more records than 16 bits count, and
-# more lines than the program keeps before it writes them. The long lists take memory, with which
-# this shell would start each program more slowly: so they are a shell's of their own.
+# more lines than the program keeps before it writes them. In a subshell, since the memory of these
+# long lists would make each later fork slower.
 build_many() (
     {
         bytes 0 24
@@ -458,8 +458,8 @@ long_record() {
     head -c $(($1 - 33)) /dev/zero
 }
 
-# Records of the greatest length that is read, of a byte less and of a byte more. The first read from
-# a file has the first of these but for its end, and a later one the third whole.
+# Records of the greatest length that is read, of a byte less and of a byte more. From a file, the
+# first read gets the first of these but for its end, and a later read gets the third whole.
 longest_records() {
     {
         bytes 0 20
