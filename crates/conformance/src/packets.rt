@@ -5,15 +5,15 @@ use crate::shown::{Bytes, Named, Show, Shown, Written, write_shown};
 use etherparse::{IpNumber, Ipv4Header};
 use std::alloc::Global;
 use std::fmt;
-use uses::echo::{icmpv4_reply, icmpv6_reply};
-use uses::fragment::{Ipv4Key, Ipv6Fragment, Ipv6Key, ipv4_key, ipv6_fragment, ipv6_key};
-use uses::ip_slice::{IpSlice, IpSliceError};
-use uses::tcp::{TcpError, TcpHeaderSlice, is_tcp_right_ipv4, is_tcp_right_ipv6};
-use uses::translation::{
+use packet_rewriting::echo::{icmpv4_reply, icmpv6_reply};
+use packet_parts::fragment::{Ipv4Key, Ipv6Fragment, Ipv6Key, ipv4_key, ipv6_fragment, ipv6_key};
+use packet_parts::ip_slice::{IpSlice, IpSliceError};
+use packet_parts::tcp::{TcpError, TcpHeaderSlice, is_tcp_right_ipv4, is_tcp_right_ipv6};
+use packet_rewriting::translation::{
     translate_tcp_destination, translate_tcp_source, translate_udp_destination,
     translate_udp_source,
 };
-use uses::udp::UdpHeader;
+use packet_parts::udp::UdpHeader;
 
 // The addresses that translation gives to packets: 198.51.100.7 and 203.0.113.9 (RFC 5737).
 const SOURCE: [u8; 4] = [198, 51, 100, 7];

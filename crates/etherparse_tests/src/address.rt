@@ -4,7 +4,7 @@
 use std::alloc::Global;
 use std::process::Abort;
 use std::test::Fail;
-use uses::address::Ipv6Text;
+use packet_parts::address::Ipv6Text;
 
 static CASES: [([u16; 8], &str); 9] = [
     ([0; 8], "::"),

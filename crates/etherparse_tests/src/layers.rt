@@ -5,11 +5,11 @@ use etherparse::err::{Layer, LenError};
 use etherparse::{IpFragOffset, IpNumber, Ipv4Header, Ipv6Header, LenSource};
 use std::process::Abort;
 use std::test::Fail;
-use uses::capture::{ByteOrder, FileHeader, Format, Record, Resolution, next_record};
-use uses::echo::{icmpv4_reply, icmpv6_reply};
-use uses::fragment::{FragmentHeader, Ipv4Key, Ipv6Key, ipv4_key, ipv6_key};
-use uses::ip_slice::{IpSlice, IpSliceError};
-use uses::tcp::{TcpHeaderSlice, is_tcp_right_ipv4, is_tcp_right_ipv6};
+use packet_capture::capture::{ByteOrder, FileHeader, Format, Record, Resolution, next_record};
+use packet_rewriting::echo::{icmpv4_reply, icmpv6_reply};
+use packet_parts::fragment::{FragmentHeader, Ipv4Key, Ipv6Key, ipv4_key, ipv6_key};
+use packet_parts::ip_slice::{IpSlice, IpSliceError};
+use packet_parts::tcp::{TcpHeaderSlice, is_tcp_right_ipv4, is_tcp_right_ipv6};
 
 // 2001:db8::1 and 2001:db8::2.
 const FIRST: [u8; 16] = [0x20, 0x01, 0x0d, 0xb8, 0, 0, 0, 0, 0, 0, 0, 0, 0, 0, 0, 1];

@@ -6,11 +6,11 @@ use etherparse::err::{Layer, LenError, ValueTooBigError};
 use etherparse::{IpNumber, Ipv4Header, Ipv6Header, LenSource};
 use std::test::Fail;
 use uses::checksum::is_udp_right;
-use uses::translation::{
+use packet_rewriting::translation::{
     translate_tcp_destination, translate_tcp_source, translate_udp_destination,
     translate_udp_source,
 };
-use uses::udp::UdpHeader;
+use packet_parts::udp::UdpHeader;
 
 // The header of a datagram of 12 bytes, with this checksum.
 fn header(checksum: u16) -> UdpHeader {

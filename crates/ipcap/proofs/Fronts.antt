@@ -1,9 +1,9 @@
 -- What is read at the front of a slice is read there, whatever follows it.
 use Rattle.std.proofs.Common.{ℕ, ◌≡◌, ◌≤◌, ◌⊎◌, List, [], ◌++◌, length, slice_range, arith, length-append, length-drop, append-nil, Err}
 use Rattle.std.proofs.lemmas.List.{drop-append-le, take-append-le}
-use Rattle.uses.specs.Capture.{BeginsWithFileHeader, BeginsWithRecord, ReadsFileHeader, Recorded, record_len}
-use Rattle.uses.specs.declared.capture.CaptureError.{CaptureError}
-use Rattle.uses.specs.declared.capture.FileHeader.{FileHeader}
+use Rattle.packet_capture.specs.Capture.{BeginsWithFileHeader, BeginsWithRecord, ReadsFileHeader, Recorded, record_len}
+use Rattle.packet_capture.specs.declared.capture.CaptureError.{CaptureError}
+use Rattle.packet_capture.specs.declared.capture.FileHeader.{FileHeader}
 use Rattle.ipcap.specs.Listing.{IsToldOfLongRecord}
 use Rattle.ipcap.specs.declared.totals.Totals.{Totals}
 

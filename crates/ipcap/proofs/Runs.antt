@@ -5,16 +5,16 @@ use Rattle.std.proofs.lemmas.List.{nil_from_length}
 use Rattle.std.proofs.lemmas.Option.{IfSome_then}
 use Rattle.std.specs.Io.KnownBytes.{Appends, Consumes, IsAtEnd, Keeps, prepend_known, append_known}
 use Rattle.std.proofs.KnownBytes.{Appends-nil, Consumes-whole}
-use Rattle.uses.specs.Capture.{BeginsWithRecord, Recorded, record_len, BeginsWithFileHeader, ReadsFileHeader}
-use Rattle.uses.specs.declared.capture.CutOff as cut
-use Rattle.uses.specs.declared.capture.FileHeader.{FileHeader}
+use Rattle.packet_capture.specs.Capture.{BeginsWithRecord, Recorded, record_len, BeginsWithFileHeader, ReadsFileHeader}
+use Rattle.packet_capture.specs.declared.capture.CutOff as cut
+use Rattle.packet_capture.specs.declared.capture.FileHeader.{FileHeader}
 use Rattle.ipcap.specs.Listing.{IsToldOfLongRecord, IsToldOfRecord, Lists, is_cut_off_long, max_captured_len, reads, skips}
 use Rattle.ipcap.specs.Private.Progress.{IsTold, Skips, Told, unless_quiet}
 use Rattle.ipcap.specs.declared.listing.Turn.{Turn}
 use Rattle.ipcap.specs.declared.listing.Turn.TheVariants as turn
 use Rattle.ipcap.specs.declared.totals.Totals.{Totals}
 use Rattle.ipcap.proofs.Fronts.{begins_with_record-append, long_record-append, record_len-append, begins_with_file_header-append, reads_no_file_header-append}
-use Rattle.uses.specs.declared.capture.CaptureError.{CaptureError}
+use Rattle.packet_capture.specs.declared.capture.CaptureError.{CaptureError}
 use Rattle.ipcap.specs.Lines.{capture_error_line, link_type_line}
 use Rattle.ipcap.specs.Link.{is_read, link_type_of}
 use Rattle.ipcap.specs.Output.{HasOtherFrames, IsListed, IsListing, IsNoCapture, IsOutcome, Writes, listed, refused, status_at}

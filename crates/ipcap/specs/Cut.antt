@@ -6,9 +6,9 @@ use Rattle.etherparse.specs.Ipv6Header.{IsIpv6Layout}
 use Rattle.etherparse.specs.Reading.{BeginsWith}
 use Rattle.etherparse.specs.declared.net.ipv4_header.Ipv4Header.{Ipv4Header}
 use Rattle.etherparse.specs.declared.net.ipv6_header.Ipv6Header.{Ipv6Header}
-use Rattle.uses.specs.IpSlice.{EndsAt, EndsInHeader}
-use Rattle.uses.specs.declared.ip_slice.IpSlice.{IpSlice}
-use Rattle.uses.specs.declared.ip_slice.IpSlice.TheVariants as slice
+use Rattle.packet_parts.specs.IpSlice.{EndsAt, EndsInHeader}
+use Rattle.packet_parts.specs.declared.ip_slice.IpSlice.{IpSlice}
+use Rattle.packet_parts.specs.declared.ip_slice.IpSlice.TheVariants as slice
 
 -- the packet is this header and the front of a payload, and shorter than its total length
 pub record IsCutIpv4Packet (packet : List ℕ) (header : Ipv4Header) (payload : List ℕ)

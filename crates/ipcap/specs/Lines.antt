@@ -9,14 +9,14 @@ use Rattle.etherparse.specs.Ipv6Errors.{ipv6_header_slice_error_text}
 use Rattle.etherparse.specs.LenError.{len_error_text}
 use Rattle.etherparse.specs.Reading.{too_short_error}
 use Rattle.etherparse.specs.declared.err.Layer.TheVariants as layer
-use Rattle.uses.specs.Capture.{Recorded}
-use Rattle.uses.specs.declared.capture.CaptureError.{CaptureError}
-use Rattle.uses.specs.declared.capture.CaptureError.TheVariants as capture
-use Rattle.uses.specs.declared.capture.CutOff as cut
-use Rattle.uses.specs.declared.capture.Resolution.{Resolution}
-use Rattle.uses.specs.declared.capture.Resolution.TheVariants.{Microseconds, Nanoseconds}
-use Rattle.uses.specs.declared.ip_slice.IpSliceError.{IpSliceError}
-use Rattle.uses.specs.declared.ip_slice.IpSliceError.TheVariants as error
+use Rattle.packet_capture.specs.Capture.{Recorded}
+use Rattle.packet_capture.specs.declared.capture.CaptureError.{CaptureError}
+use Rattle.packet_capture.specs.declared.capture.CaptureError.TheVariants as capture
+use Rattle.packet_capture.specs.declared.capture.CutOff as cut
+use Rattle.packet_capture.specs.declared.capture.Resolution.{Resolution}
+use Rattle.packet_capture.specs.declared.capture.Resolution.TheVariants.{Microseconds, Nanoseconds}
+use Rattle.packet_parts.specs.declared.ip_slice.IpSliceError.{IpSliceError}
+use Rattle.packet_parts.specs.declared.ip_slice.IpSliceError.TheVariants as error
 use Rattle.ipcap.specs.declared.link.NoPacket.{NoPacket}
 use Rattle.ipcap.specs.declared.link.NoPacket.TheVariants.{NoLinkHeader, OtherFamily, OtherType}
 use Rattle.ipcap.specs.declared.packet.Address.{Address}

@@ -4,7 +4,7 @@ use Rattle.std.specs.Prelude.{ℕ, ◌+◌, ◌%◌, ◌^◌, ◌==◌, ◌||◌
 use Rattle.std.specs.Prelude.{Option, Some, None, option_and_then, Result, Ok, Err, min, nat_le}
 use Rattle.std.specs.Prelude.{if◌then◌else◌}
 use Rattle.std.specs.Int.{from_be_bytes, from_le_bytes, w16, w32}
-use Rattle.uses.specs.declared.capture.FileHeader.{FileHeader}
+use Rattle.packet_capture.specs.declared.capture.FileHeader.{FileHeader}
 use Rattle.ipcap.specs.declared.link.NoPacket.{NoPacket}
 use Rattle.ipcap.specs.declared.link.NoPacket.TheVariants.{NoLinkHeader, OtherFamily, OtherType}
 use Rattle.ipcap.specs.declared.link.Payload.{Payload}

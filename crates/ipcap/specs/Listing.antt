@@ -2,10 +2,10 @@
 use Rattle.std.specs.Prelude.{ℕ, ◌≡◌, ◌+◌, ◌*◌, ◌<◌, ◌≤◌, Bool, true, false, nat_lt, List, [], ◌++◌}
 use Rattle.std.specs.Prelude.{length, drop, slice_range, Option, Some, None, Err}
 use Rattle.std.specs.Int.{w32}
-use Rattle.uses.specs.Capture.{BeginsWithRecord, Recorded, ReadsRecord, nanoseconds_in, number_in}
-use Rattle.uses.specs.Capture.{record_len}
-use Rattle.uses.specs.declared.capture.CutOff as cut
-use Rattle.uses.specs.declared.capture.FileHeader.{FileHeader}
+use Rattle.packet_capture.specs.Capture.{BeginsWithRecord, Recorded, ReadsRecord, nanoseconds_in, number_in}
+use Rattle.packet_capture.specs.Capture.{record_len}
+use Rattle.packet_capture.specs.declared.capture.CutOff as cut
+use Rattle.packet_capture.specs.declared.capture.FileHeader.{FileHeader}
 use Rattle.ipcap.specs.Lines.{is_cut, record_line, skipped_line}
 use Rattle.ipcap.specs.Link.{link_type_of}
 use Rattle.ipcap.specs.Reading.{ReadsFrame, has_wrong_checksum, is_other, is_refused}

@@ -2,10 +2,10 @@
 use Rattle.std.specs.Prelude.{ℕ, ◌≡◌, ◌⊎◌, Bool, false, IsTrue, List, [], ◌++◌, Option, Some, None}
 use Rattle.std.specs.Prelude.{Err, if◌then◌else◌}
 use Rattle.std.specs.Io.KnownBytes.{Appends}
-use Rattle.uses.specs.Capture.{BeginsWithFileHeader, ReadsFileHeader}
-use Rattle.uses.specs.declared.capture.CaptureError.{CaptureError}
-use Rattle.uses.specs.declared.capture.CutOff as cut
-use Rattle.uses.specs.declared.capture.FileHeader.{FileHeader}
+use Rattle.packet_capture.specs.Capture.{BeginsWithFileHeader, ReadsFileHeader}
+use Rattle.packet_capture.specs.declared.capture.CaptureError.{CaptureError}
+use Rattle.packet_capture.specs.declared.capture.CutOff as cut
+use Rattle.packet_capture.specs.declared.capture.FileHeader.{FileHeader}
 use Rattle.ipcap.specs.Lines.{capture_error_line, closing_line, end_text, link_type_line}
 use Rattle.ipcap.specs.Link.{is_read, link_type_of}
 use Rattle.ipcap.specs.Listing.{Lists}

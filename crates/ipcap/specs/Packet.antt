@@ -9,12 +9,12 @@ use Rattle.etherparse.specs.WordSums.{SumsToAllOnes, ones_complement_sum}
 use Rattle.etherparse.specs.declared.err.LenError.{LenError}
 use Rattle.etherparse.specs.declared.net.ipv4_header.Ipv4Header.{Ipv4Header}
 use Rattle.etherparse.specs.declared.net.ipv6_header.Ipv6Header.{Ipv6Header}
-use Rattle.uses.specs.Fragment.{HasPartBehind, IsWholeBehind, RefusesPartBehind}
-use Rattle.uses.specs.IpSlice.{EndsLater, IsIpPacket, RefusesIp, upper_of}
-use Rattle.uses.specs.declared.fragment.FragmentHeader.{FragmentHeader}
-use Rattle.uses.specs.declared.ip_slice.IpSlice.{IpSlice}
-use Rattle.uses.specs.declared.ip_slice.IpSlice.TheVariants as slice
-use Rattle.uses.specs.declared.ip_slice.IpSliceError.{IpSliceError}
+use Rattle.packet_parts.specs.Fragment.{HasPartBehind, IsWholeBehind, RefusesPartBehind}
+use Rattle.packet_parts.specs.IpSlice.{EndsLater, IsIpPacket, RefusesIp, upper_of}
+use Rattle.packet_parts.specs.declared.fragment.FragmentHeader.{FragmentHeader}
+use Rattle.packet_parts.specs.declared.ip_slice.IpSlice.{IpSlice}
+use Rattle.packet_parts.specs.declared.ip_slice.IpSlice.TheVariants as slice
+use Rattle.packet_parts.specs.declared.ip_slice.IpSliceError.{IpSliceError}
 use Rattle.ipcap.specs.Cut.{IsCutPacket, IsNoCutIpv4, IsNoCutIpv6}
 use Rattle.ipcap.specs.declared.packet.Address.{Address}
 use Rattle.ipcap.specs.declared.packet.Address.TheVariants.{V4, V6}

@@ -4,7 +4,7 @@ ghost use Rattle.std.specs.Prelude.{ℕ, ◌≡◌, List, ◌++◌, IfNone, IfSo
 ghost use Rattle.ipcap.specs.Cut.{IsCutPacket, IsNoCutIpv4, IsNoCutIpv6};
 
 use etherparse::{Ipv4Header, Ipv6Header};
-use uses::ip_slice::{IpSlice, behind_extensions};
+use packet_parts::ip_slice::{IpSlice, behind_extensions};
 
 /// The parts of a packet that is shorter than its length field says. The payload is what there is
 /// of it. If an IPv6 packet ends within an extension header, that header is in the place of the

@@ -2,7 +2,7 @@
 
 ghost use Rattle.std.specs.Prelude.{◌≡◌, Some, OnOk, MatchOption, length};
 ghost use Rattle.std.specs.Io.KnownBytes.{Appends};
-ghost use Rattle.uses.specs.Capture.{recorded};
+ghost use Rattle.packet_capture.specs.Capture.{recorded};
 ghost use Rattle.ipcap.specs.Lines.{detail_text, mark_text, parties_text, payload_text};
 ghost use Rattle.ipcap.specs.Lines.{damage_text, kinds_text, verdict_text};
 ghost use Rattle.ipcap.specs.Lines.{address_text, capture_error_line, closing_line, cut_off_line};
@@ -20,9 +20,9 @@ use etherparse::err::{Layer, LenError};
 use std::io::Write;
 use std::net::Ipv4Addr;
 use std::{fmt, io};
-use uses::address::Ipv6Text;
-use uses::capture::{CaptureError, CutOff, Record, Resolution};
-use uses::ip_slice::IpSliceError;
+use packet_parts::address::Ipv6Text;
+use packet_capture::capture::{CaptureError, CutOff, Record, Resolution};
+use packet_parts::ip_slice::IpSliceError;
 
 impl fmt::Display for Address {
     ghost output = { λ address. Some (address_text address) };

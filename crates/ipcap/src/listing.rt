@@ -4,7 +4,7 @@ ghost use Rattle.std.specs.Prelude.{ℕ, ◌≡◌, ◌≤◌, ◌<◌, ◌+◌,
 ghost use Rattle.std.specs.Prelude.{MatchOption, OnOk, Option, drop, length, slice_range};
 ghost use Rattle.std.specs.Int.{w32};
 ghost use Rattle.std.specs.Io.KnownBytes.{Appends, IsAtEnd, Keeps, append_known, prepend_known};
-ghost use Rattle.uses.specs.Capture.{nanoseconds_in, number_in, record_len, recorded};
+ghost use Rattle.packet_capture.specs.Capture.{nanoseconds_in, number_in, record_len, recorded};
 ghost use Rattle.ipcap.specs.Listing.{IsToldOfLongRecord, IsToldOfRecord, max_captured_len};
 ghost use Rattle.ipcap.specs.Lines.{is_cut, record_line};
 ghost use Rattle.ipcap.specs.Listing.{outcome_of};
@@ -19,7 +19,7 @@ use crate::window::{ROOM, Window};
 use arrayvec::ArrayVec;
 use std::io;
 use std::io::{ErrorKind, Read, Write};
-use uses::capture::{ByteOrder, CutOff, FileHeader, Record, Resolution, next_record};
+use packet_capture::capture::{ByteOrder, CutOff, FileHeader, Record, Resolution, next_record};
 
 // The room for text that is not yet passed to the writer.
 const TEXT_ROOM: usize = 65_536;

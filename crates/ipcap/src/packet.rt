@@ -4,7 +4,7 @@ ghost use Rattle.std.specs.Prelude.{◌≡◌, ◌↔◌, ◌≤◌, ◌⊎◌, 
 ghost use Rattle.std.specs.Prelude.{option_map, take};
 ghost use Rattle.etherparse.specs.Ipv4Header.{ipv4_header_len};
 ghost use Rattle.etherparse.specs.WordSums.{SumsToAllOnes};
-ghost use Rattle.uses.specs.IpSlice.{IsIpPacket};
+ghost use Rattle.packet_parts.specs.IpSlice.{IsIpPacket};
 ghost use Rattle.ipcap.specs.Cut.{IsCutPacket};
 ghost use Rattle.ipcap.specs.Packet.{IsIpv6Detail, IsMarkedBy, IsPayloadVerdictIpv4};
 ghost use Rattle.ipcap.specs.Packet.{IsPayloadVerdictIpv6, IsRightIpv4, IsRightIpv6};
@@ -14,8 +14,8 @@ ghost use Rattle.ipcap.specs.Packet.{ipv4_detail, ipv4_mark, segment_of};
 
 use etherparse::checksum::{Sum16BitWords, u64_16bit_word};
 use etherparse::{IpNumber, Ipv4Header, Ipv6Header};
-use uses::fragment::part_behind;
-use uses::ip_slice::{IpSlice, behind_extensions};
+use packet_parts::fragment::part_behind;
+use packet_parts::ip_slice::{IpSlice, behind_extensions};
 
 /// An address of either version.
 #[derive(Clone, Copy)]

@@ -1,12 +1,12 @@
 //! What a frame is found to carry.
 
-ghost use Rattle.uses.specs.IpSlice.{RefusesIp};
+ghost use Rattle.packet_parts.specs.IpSlice.{RefusesIp};
 ghost use Rattle.ipcap.specs.Reading.{ReadsFrame, ReadsPacket};
 
 use crate::cut::cut_slice;
 use crate::link::{NoPacket, packet_of};
 use crate::packet::{Address, Shown, shown_of};
-use uses::ip_slice::{IpSlice, IpSliceError};
+use packet_parts::ip_slice::{IpSlice, IpSliceError};
 
 /// What a frame is found to carry.
 #[derive(Drop)]

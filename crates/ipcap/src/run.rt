@@ -3,7 +3,7 @@
 ghost use Rattle.std.specs.Prelude.{◌≡◌, ◌≢◌, ◌≤◌, ◌⊎◌, [], Err, IfErr, IfOk, IfSome, OnOk, drop};
 ghost use Rattle.std.specs.Prelude.{length};
 ghost use Rattle.std.specs.Io.KnownBytes.{Appends, IsAtEnd, Keeps, prepend_known};
-ghost use Rattle.uses.specs.Capture.{BeginsWithFileHeader, ReadsFileHeader};
+ghost use Rattle.packet_capture.specs.Capture.{BeginsWithFileHeader, ReadsFileHeader};
 ghost use Rattle.ipcap.specs.Output.{IsListing, IsOutcome, Writes, listed, status_at};
 ghost use Rattle.ipcap.specs.Lines.{end_text};
 ghost use Rattle.ipcap.specs.Private.Window.{unread};
@@ -16,7 +16,7 @@ use crate::totals::Totals;
 use crate::window::Window;
 use std::io;
 use std::io::{ErrorKind, Read, Write};
-use uses::capture::{CaptureError, CutOff, FileHeader};
+use packet_capture::capture::{CaptureError, CutOff, FileHeader};
 
 /// Reads a capture, and writes a line for each record and then, to `errors`, the closing line.
 ///

@@ -3,11 +3,11 @@
 use Rattle.std.specs.Prelude.{ℕ, ◌≡◌, ◌≢◌, ◌-◌, ◌<◌, ◌≤◌, ◌⊎◌, ◌↔◌, Bool, IsTrue, List}
 use Rattle.std.specs.Prelude.{length, take}
 use Rattle.etherparse.specs.Reading.{BeginsWith}
-use Rattle.uses.specs.IpSlice.{IsFragmentSlice, IsIpPacket, IsWholeSlice, payload_of, upper_of}
-use Rattle.uses.specs.Udp.{IsUdpLayout, IsUdpRightIpv4, IsUdpRightIpv6}
-use Rattle.uses.specs.declared.ip_slice.IpSlice.{IpSlice}
-use Rattle.uses.specs.declared.ip_slice.IpSlice.TheVariants as slice
-use Rattle.uses.specs.declared.udp.UdpHeader.{UdpHeader}
+use Rattle.packet_parts.specs.IpSlice.{IsFragmentSlice, IsIpPacket, IsWholeSlice, payload_of, upper_of}
+use Rattle.packet_parts.specs.Udp.{IsUdpLayout, IsUdpRightIpv4, IsUdpRightIpv6}
+use Rattle.packet_parts.specs.declared.ip_slice.IpSlice.{IpSlice}
+use Rattle.packet_parts.specs.declared.ip_slice.IpSlice.TheVariants as slice
+use Rattle.packet_parts.specs.declared.udp.UdpHeader.{UdpHeader}
 
 -- The bytes are a datagram: a header, and a payload as far as the length in it says, which counts
 -- both. What stands behind that is none of it.

@@ -5,11 +5,11 @@ ghost use Rattle.std.specs.Prelude.{IfSome, IsTrue};
 ghost use Rattle.etherparse.specs.WordSums.{SumsToAllOnes, ones_complement_sum, with_no_zero};
 ghost use Rattle.uses.specs.Datagram.{HasDatagram, HasNoDatagram, IsDatagram, IsNoDatagram};
 ghost use Rattle.uses.specs.Datagram.{IsRightIn};
-ghost use Rattle.uses.specs.IpSlice.{RefusesIp};
-ghost use Rattle.uses.specs.Udp.{IsUdpLayout};
+ghost use Rattle.packet_parts.specs.IpSlice.{RefusesIp};
+ghost use Rattle.packet_parts.specs.Udp.{IsUdpLayout};
 
-use crate::ip_slice::{IpSlice, IpSliceError};
-use crate::udp::UdpHeader;
+use packet_parts::ip_slice::{IpSlice, IpSliceError};
+use packet_parts::udp::UdpHeader;
 use etherparse::checksum::u64_16bit_word;
 use etherparse::{IpNumber, Ipv4HeaderSlice};
 

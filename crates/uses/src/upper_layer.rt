@@ -10,7 +10,7 @@ use etherparse::err::ipv6::{ChainError, HeaderSliceError};
 use etherparse::{IpNumber, Ipv6Header};
 
 /// The number of the upper-layer protocol of an IPv6 packet, and its bytes. In a fragment that is
-/// not the first they are the middle of a payload: [`crate::ip_slice::IpSlice`] stops before them.
+/// not the first they are the middle of a payload: [`packet_parts::ip_slice::IpSlice`] stops before them.
 /// The packet is not cut at its payload length. An error tells places from the packet's start.
 pub fn upper_layer(packet: &[u8]) -> Result<(IpNumber, &[u8]), HeaderSliceError>
     ensures found { IfOk result (λ x. HasUpperLayer packet.now x.0 x.1.now) }

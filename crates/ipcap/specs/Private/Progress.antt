@@ -2,9 +2,9 @@
 use Rattle.std.specs.Prelude.{ℕ, ◌≡◌, Bool, List, [], length, Option, Some, None, Err, IfSome}
 use Rattle.std.specs.Prelude.{if◌then◌else◌}
 use Rattle.std.specs.Io.KnownBytes.{Appends, Consumes}
-use Rattle.uses.specs.Capture.{ReadsRecord}
-use Rattle.uses.specs.declared.capture.CutOff as cut
-use Rattle.uses.specs.declared.capture.FileHeader.{FileHeader}
+use Rattle.packet_capture.specs.Capture.{ReadsRecord}
+use Rattle.packet_capture.specs.declared.capture.CutOff as cut
+use Rattle.packet_capture.specs.declared.capture.FileHeader.{FileHeader}
 use Rattle.ipcap.specs.Listing.{Lists}
 use Rattle.ipcap.specs.declared.listing.Turn.{Turn}
 use Rattle.ipcap.specs.declared.listing.Turn.TheVariants as turn

@@ -1,0 +1,224 @@
+//! A reader of captures: the records of a file in the classic format of libpcap
+//! (draft-ietf-opsawg-pcap sections 4 and 5).
+
+ghost use Rattle.std.specs.Prelude.{◌≡◌, ◌+◌, ◌*◌, ◌≤◌, IfOk, IfSome, length};
+ghost use Rattle.std.specs.Int.{w16, w32};
+ghost use Rattle.etherparse.specs.Reading.{found_and_rest};
+ghost use Rattle.packet_capture.specs.Capture.{FileReading, ReadsFileHeader, ReadsRecord, RecordReading};
+ghost use Rattle.packet_capture.specs.Capture.{nanoseconds_in, number_in, record_and_rest, told_by};
+
+/// The byte order of all numbers in a file: that of the machine that wrote it.
+#[derive(Clone, Copy, Debug, PartialEq, Eq)]
+pub enum ByteOrder {
+    /// The high byte first.
+    BigEndian,
+    /// The low byte first.
+    LittleEndian,
+}
+
+/// The unit of the fractions of a second in a file.
+#[derive(Clone, Copy, Debug, PartialEq, Eq)]
+pub enum Resolution {
+    /// Magic number a1b2c3d4.
+    Microseconds,
+    /// Magic number a1b23c4d.
+    Nanoseconds,
+}
+
+/// How a file stores its numbers and times: bytes 0 to 3, the magic number.
+#[derive(Clone, Copy, Debug, PartialEq, Eq)]
+pub struct Format {
+    /// The byte order in which the magic number is written.
+    pub order: ByteOrder,
+    /// The unit that the magic number stands for.
+    pub resolution: Resolution,
+}
+
+/// The header of a capture file, of 24 bytes. Bytes 8 to 15 are not read.
+#[derive(Clone, Copy, Debug, PartialEq, Eq)]
+pub struct FileHeader {
+    /// How numbers and times are stored: bytes 0 to 3.
+    pub format: Format,
+    /// The snap length, the most bytes of a packet that were to be kept: bytes 16 to 19. Records
+    /// are not checked against it.
+    pub snap_len: u32,
+    /// The link type, 1 for Ethernet and 101 for packets that begin with their IP header: all of
+    /// bytes 20 to 23, whose upper bits can describe a frame check sequence.
+    pub link_type: u32,
+}
+
+/// There are fewer bytes than a file header or a record needs.
+#[derive(Clone, Copy, Debug, PartialEq, Eq)]
+pub struct CutOff {
+    /// How many bytes are needed: 24 for a file header; for a record 16 or, once there are that
+    /// many, its whole length.
+    pub required_len: usize,
+    /// How many bytes there are.
+    pub len: usize,
+}
+
+/// Why a slice does not begin with the header of a capture file.
+#[derive(Clone, Copy, Debug, PartialEq, Eq)]
+pub enum CaptureError {
+    /// The slice has fewer than 24 bytes.
+    CutOff(CutOff),
+    /// The first four bytes, with the high byte first, which are not a known magic number.
+    Magic(u32),
+    /// The version, which is not 2.4: major in bytes 4 and 5, minor in bytes 6 and 7.
+    Version { major: u16, minor: u16 },
+}
+
+/// A captured packet: a head of 16 bytes, and the bytes that were kept.
+#[derive(Clone, Copy, Debug, PartialEq, Eq)]
+pub struct Record<'a> {
+    /// Seconds since the start of 1970, UTC: bytes 0 to 3.
+    pub seconds: u32,
+    /// Nanoseconds of that second, even if the file counts microseconds: bytes 4 to 7. They are not
+    /// checked to be less than a second.
+    pub nanoseconds: u64,
+    /// The length of the packet in bytes, fewer of which may have been kept: bytes 12 to 15.
+    pub original_len: u32,
+    /// The bytes of the packet that were kept, as many as bytes 8 to 11 say. They live as long as
+    /// the slice that was read.
+    pub bytes: &'a [u8],
+}
+
+impl FileHeader {
+    /// The header at the front of a file, and all the bytes after it: its records.
+    ///
+    /// # Errors
+    ///
+    /// `CutOff` if the slice has fewer than 24 bytes; otherwise `Magic` if the first four bytes are
+    /// not a known magic number; otherwise `Version` if the version is not 2.4.
+    pub fn from_slice(file: &[u8]) -> Result<(FileHeader, &[u8]), CaptureError>
+        ensures reads { ReadsFileHeader file.now (found_and_rest result) }
+        ensures only { (other : FileReading) → ReadsFileHeader file.now other →
+            other ≡ found_and_rest result }
+    {
+        if file.len() < 24 {
+            return Err(CaptureError::CutOff(CutOff {
+                required_len: 24,
+                len: file.len(),
+            }));
+        }
+        let magic = u32::from_be_bytes([file[0], file[1], file[2], file[3]]);
+        let format = match format_of(magic) {
+            Some(format) => format,
+            None => return Err(CaptureError::Magic(magic)),
+        };
+        let order = format.order;
+        let major = order.u16_of(&file[4..6]);
+        let minor = order.u16_of(&file[6..8]);
+        if major != 2 || minor != 4 {
+            return Err(CaptureError::Version { major, minor });
+        }
+        let header = FileHeader {
+            format,
+            snap_len: order.u32_of(&file[16..20]),
+            link_type: order.u32_of(&file[20..24]),
+        };
+        Ok((header, &file[24..]))
+    }
+}
+
+/// The record at the front of a slice that follows the file header or another record, and all the
+/// bytes after it; `None` if the slice is empty. The bytes after it are fewer by at least 16, so a
+/// loop over the records ends.
+///
+/// The captured length is not compared with the snap length or with the original length.
+///
+/// # Errors
+///
+/// A `CutOff` if the slice has some bytes, but fewer than 16, or fewer than 16 plus the captured
+/// length.
+pub fn next_record<'a>(
+    header: &FileHeader,
+    slice: &'a [u8],
+) -> Result<Option<(Record<'a>, &'a [u8])>, CutOff>
+    ensures reads { ReadsRecord header.now slice.now (record_and_rest result) }
+    ensures only { (other : RecordReading) → ReadsRecord header.now slice.now other →
+        other ≡ record_and_rest result }
+    ensures shorter { IfOk result (λ next. IfSome next (λ x.
+        16 + length x.1.now ≤ length slice.now)) }
+{
+    if slice.is_empty() {
+        return Ok(None);
+    }
+    if slice.len() < 16 {
+        return Err(CutOff {
+            required_len: 16,
+            len: slice.len(),
+        });
+    }
+    let order = header.format.order;
+    let end = 16 + order.u32_of(&slice[8..12]) as usize;
+    if slice.len() < end {
+        return Err(CutOff {
+            required_len: end,
+            len: slice.len(),
+        });
+    }
+    let record = Record {
+        seconds: order.u32_of(&slice[..4]),
+        nanoseconds: header
+            .format
+            .resolution
+            .nanoseconds(order.u32_of(&slice[4..8])),
+        original_len: order.u32_of(&slice[12..16]),
+        bytes: &slice[16..end],
+    };
+    Ok(Some((record, &slice[end..])))
+}
+
+// What a magic number says, read with the high byte first.
+#[tactic(auto, unfolding(crate::specs::Capture::told_by))]
+fn format_of(magic: u32) -> Option<Format>
+    ensures value { result ≡ told_by magic }
+{
+    let (order, resolution) = match magic {
+        0xa1b2_c3d4 => (ByteOrder::BigEndian, Resolution::Microseconds),
+        0xa1b2_3c4d => (ByteOrder::BigEndian, Resolution::Nanoseconds),
+        0xd4c3_b2a1 => (ByteOrder::LittleEndian, Resolution::Microseconds),
+        0x4d3c_b2a1 => (ByteOrder::LittleEndian, Resolution::Nanoseconds),
+        _ => return None,
+    };
+    Some(Format { order, resolution })
+}
+
+impl ByteOrder {
+    // Two bytes as a number.
+    fn u16_of(self, bytes: &[u8]) -> u16
+        requires { length bytes.now ≡ 2 }
+        ensures value { result ≡ number_in self w16 bytes.now }
+    {
+        let bytes = [bytes[0], bytes[1]];
+        match self {
+            ByteOrder::BigEndian => u16::from_be_bytes(bytes),
+            ByteOrder::LittleEndian => u16::from_le_bytes(bytes),
+        }
+    }
+
+    // Four bytes as a number.
+    fn u32_of(self, bytes: &[u8]) -> u32
+        requires { length bytes.now ≡ 4 }
+        ensures value { result ≡ number_in self w32 bytes.now }
+    {
+        let bytes = [bytes[0], bytes[1], bytes[2], bytes[3]];
+        match self {
+            ByteOrder::BigEndian => u32::from_be_bytes(bytes),
+            ByteOrder::LittleEndian => u32::from_le_bytes(bytes),
+        }
+    }
+}
+
+impl Resolution {
+    // A fraction of a second in nanoseconds.
+    fn nanoseconds(self, fraction: u32) -> u64
+        ensures value { result ≡ fraction * nanoseconds_in self }
+    {
+        match self {
+            Resolution::Microseconds => u64::from(fraction) * 1000,
+            Resolution::Nanoseconds => u64::from(fraction),
+        }
+    }
+}

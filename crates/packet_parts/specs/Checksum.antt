@@ -1,0 +1,116 @@
+-- What a receiver finds of the checksum of UDP, TCP, ICMP or ICMPv6.
+use Rattle.std.specs.Prelude.{ℕ, ◌≡◌, ◌≢◌, ◌==◌, ◌<◌, ◌≤◌, ◌^◌, ◌⊎◌, List, [], ◌∷◌, ◌++◌, Option}
+use Rattle.std.specs.Prelude.{None, Some, if◌then◌else◌, length, slice_range, take}
+use Rattle.std.specs.Int.{from_be_bytes, to_be_bytes, w16, w32}
+use Rattle.etherparse.specs.Ipv4Header.{IsFragment}
+use Rattle.etherparse.specs.WordSums.{ones_complement_sum}
+use Rattle.etherparse.specs.declared.net.ipv4_header.Ipv4Header.{Ipv4Header}
+use Rattle.etherparse.specs.declared.net.ipv6_header.Ipv6Header.{Ipv6Header}
+use Rattle.packet_parts.specs.declared.checksum.Absence.{Absence}
+use Rattle.packet_parts.specs.declared.checksum.Absence.TheVariants as absence
+use Rattle.packet_parts.specs.declared.checksum.Verdict.{Verdict}
+use Rattle.packet_parts.specs.declared.checksum.Verdict.TheVariants.{Right, Wrong, Absent}
+use Rattle.packet_parts.specs.declared.fragment.FragmentHeader.{FragmentHeader}
+use Rattle.packet_parts.specs.declared.ip_slice.IpSlice.{IpSlice}
+use Rattle.packet_parts.specs.declared.ip_slice.IpSlice.TheVariants as slice
+
+-- The pseudo-header of IPv4 (RFC 768, RFC 9293 section 3.1): both addresses, a zero byte, the number
+-- of the protocol, and the length of its header and data in 16 bits.
+abbrev pub ipv4_pseudo_header : List ℕ → List ℕ → ℕ → ℕ → List ℕ
+ipv4_pseudo_header source destination protocol len =
+    source ++ (destination ++ (0 ∷ protocol ∷ to_be_bytes w16 len))
+
+-- that of IPv6 (RFC 8200 section 8.1): both addresses, the length in 32 bits, three zero bytes and
+-- the number
+abbrev pub ipv6_pseudo_header : List ℕ → List ℕ → ℕ → ℕ → List ℕ
+ipv6_pseudo_header source destination number len =
+    source ++ (destination ++ (to_be_bytes w32 len ++ (0 ∷ 0 ∷ 0 ∷ number ∷ [])))
+
+-- the length field of a UDP header, bytes 4 and 5: it counts header and data
+abbrev pub udp_length : List ℕ → ℕ
+udp_length bytes = from_be_bytes w16 (slice_range bytes 4 6)
+
+-- the checksum field of a UDP header, bytes 6 and 7
+abbrev pub udp_checksum : List ℕ → ℕ
+udp_checksum bytes = from_be_bytes w16 (slice_range bytes 6 8)
+
+-- the bytes are a UDP datagram and what comes after it: it ends where its length field says
+abbrev pub BeginsWithDatagram : List ℕ → List ℕ → Type 0
+BeginsWithDatagram bytes datagram = (8 ≤ udp_length bytes) × (udp_length bytes ≤ length bytes)
+    × (datagram ≡ take (udp_length bytes) bytes)
+
+-- The bytes of a payload that its checksum covers, besides a pseudo-header: of UDP (17) the
+-- datagram; of TCP (6) a segment of at least 20 bytes; of ICMP (1) or, in IPv6, ICMPv6 (58), a
+-- message of at least 4.
+abbrev pub Covers : ℕ → ℕ → List ℕ → List ℕ → Type 0
+Covers icmp number payload covered = ((number ≡ 17) × BeginsWithDatagram payload covered)
+    ⊎ ((number ≡ 6) × (20 ≤ length payload) × (covered ≡ payload))
+    ⊎ ((number ≡ icmp) × (4 ≤ length payload) × (covered ≡ payload))
+
+-- a datagram with 0 for its checksum: it has none (RFC 768)
+abbrev pub IsWithoutChecksum : ℕ → List ℕ → Type 0
+IsWithoutChecksum number covered = (number ≡ 17) × (udp_checksum covered ≡ 0)
+
+-- it sums to all ones with the pseudo-header of IPv4, whose 16 bits can tell its length; ICMP has no
+-- pseudo-header (RFC 792)
+abbrev pub IsRightIpv4 : Ipv4Header → List ℕ → Type 0
+IsRightIpv4 ip covered =
+    if ip.protocol == 1 then ones_complement_sum (covered ∷ []) ≡ 65535
+    else (length covered < 2 ^ 16) × (ones_complement_sum (ipv4_pseudo_header ip.source
+    ip.destination ip.protocol (length covered) ∷ covered ∷ []) ≡ 65535)
+
+-- the same with that of IPv6, whose length has 32 bits, also of ICMPv6 (RFC 4443 section 2.3); a
+-- datagram has to have a checksum (RFC 8200 section 8.1)
+pub record IsRightIpv6 (ip : Ipv6Header) (number : ℕ) (covered : List ℕ) : Type 0 where
+  pub there : ¬ IsWithoutChecksum number covered
+  pub fits : length covered < 2 ^ 32
+  pub sum : ones_complement_sum (ipv6_pseudo_header ip.source ip.destination number
+      (length covered) ∷ covered ∷ []) ≡ 65535
+
+-- the payload is of a protocol without a checksum that is known here, or is not all that its
+-- checksum covers
+abbrev pub IsAbsent : ℕ → ℕ → List ℕ → Absence → Type 0
+IsAbsent icmp number payload absence.OtherProtocol =
+    (number ≢ 17) × (number ≢ 6) × (number ≢ icmp)
+IsAbsent icmp number payload absence.Incomplete = ((number ≡ 17) ⊎ (number ≡ 6) ⊎ (number ≡ icmp))
+    × ((covered : List ℕ) → ¬ Covers icmp number payload covered)
+IsAbsent icmp number payload absence.Fragment = ⊥
+IsAbsent icmp number payload absence.NotComputed = ⊥
+
+-- what is judged in an IPv4 packet: a payload that is no fragment, and its checksum, which it has
+pub record JudgesIpv4 (ip : Ipv4Header) (payload covered : List ℕ) : Type 0 where
+  pub whole : ¬ IsFragment ip
+  pub covers : Covers 1 ip.protocol payload covered
+  pub there : ¬ IsWithoutChecksum ip.protocol covered
+
+-- the verdict on the payload of an IPv4 packet
+abbrev pub IsVerdictIpv4 : Ipv4Header → List ℕ → Verdict → Type 0
+IsVerdictIpv4 ip payload Right =
+    (covered : List ℕ) × JudgesIpv4 ip payload covered × IsRightIpv4 ip covered
+IsVerdictIpv4 ip payload Wrong =
+    (covered : List ℕ) × JudgesIpv4 ip payload covered × ¬ IsRightIpv4 ip covered
+IsVerdictIpv4 ip payload (Absent absence.Fragment) = IsFragment ip
+IsVerdictIpv4 ip payload (Absent absence.NotComputed) = ¬ IsFragment ip
+    × ((covered : List ℕ) × Covers 1 ip.protocol payload covered
+    × IsWithoutChecksum ip.protocol covered)
+IsVerdictIpv4 ip payload (Absent absence.OtherProtocol) =
+    ¬ IsFragment ip × IsAbsent 1 ip.protocol payload absence.OtherProtocol
+IsVerdictIpv4 ip payload (Absent absence.Incomplete) =
+    ¬ IsFragment ip × IsAbsent 1 ip.protocol payload absence.Incomplete
+
+-- the verdict on the payload of an IPv6 packet that is no fragment
+abbrev pub IsVerdictIpv6 : Ipv6Header → ℕ → List ℕ → Verdict → Type 0
+IsVerdictIpv6 ip number payload Right =
+    (covered : List ℕ) × Covers 58 number payload covered × IsRightIpv6 ip number covered
+IsVerdictIpv6 ip number payload Wrong =
+    (covered : List ℕ) × Covers 58 number payload covered × ¬ IsRightIpv6 ip number covered
+IsVerdictIpv6 ip number payload (Absent reason) = IsAbsent 58 number payload reason
+
+-- the verdict on the payload of a packet in these parts; in IPv6 the fragment header that decides
+-- says whether it is a fragment
+abbrev pub IsVerdict : IpSlice → Verdict → Type 0
+IsVerdict (slice.Ipv4 ip payload) verdict = IsVerdictIpv4 ip payload.now verdict
+IsVerdict (slice.Ipv6 ip extensions None is_later number payload) verdict =
+    IsVerdictIpv6 ip number payload.now verdict
+IsVerdict (slice.Ipv6 ip extensions (Some fragment) is_later number payload) verdict =
+    verdict ≡ Absent absence.Fragment

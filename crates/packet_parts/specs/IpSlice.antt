@@ -1,0 +1,175 @@
+-- The parts of an IP packet of either version (RFC 791 section 3.1, RFC 8200 section 3), as far as
+-- its length field says and its bytes are there.
+use Rattle.std.specs.Prelude.{ℕ, ◌≡◌, ◌≢◌, ◌+◌, ◌*◌, ◌<◌, ◌≤◌, ◌==◌, ◌||◌, ◌⊎◌, Bool, false, not}
+use Rattle.std.specs.Prelude.{IsTrue, List, ◌++◌, length, take, Err, MatchOption, Option, Some}
+use Rattle.std.specs.Prelude.{None, if◌then◌else◌, option_map}
+use Rattle.etherparse.specs.ExtensionHeaders.{IsSkippable}
+use Rattle.etherparse.specs.FirstByte.{version_of}
+use Rattle.etherparse.specs.Ipv4Header.{IsIpv4Layout, RefusesIpv4, ipv4_payload_len}
+use Rattle.etherparse.specs.Ipv6Header.{IsIpv6Layout, RefusesIpv6}
+use Rattle.etherparse.specs.LenError.{len_error_moved}
+use Rattle.etherparse.specs.Reading.{BeginsWith, too_short_error}
+use Rattle.etherparse.specs.declared.err.LenError.{LenError}
+use Rattle.etherparse.specs.declared.err.Layer.TheVariants as layer
+use Rattle.etherparse.specs.declared.net.ipv4_header.Ipv4Header.{Ipv4Header}
+use Rattle.etherparse.specs.declared.net.ipv6_header.Ipv6Header.{Ipv6Header}
+use Rattle.packet_parts.specs.Extensions.{EndsAs}
+use Rattle.packet_parts.specs.declared.fragment.Fragment.{Fragment}
+use Rattle.packet_parts.specs.declared.fragment.FragmentHeader.{FragmentHeader}
+use Rattle.packet_parts.specs.declared.ip_slice.IpSlice.{IpSlice}
+use Rattle.packet_parts.specs.declared.ip_slice.IpSlice.TheVariants as slice
+use Rattle.packet_parts.specs.declared.ip_slice.IpSliceError.{IpSliceError}
+use Rattle.packet_parts.specs.declared.ip_slice.IpSliceError.TheVariants as error
+use Rattle.packet_parts.specs.declared.ip_slice.LaxIpSlice.{LaxIpSlice}
+
+-- What there is of an IPv4 packet: the bytes as far as its total length says. A total length of 0
+-- says nothing: a host writes it that leaves it to its network card to cut a long packet
+-- (segmentation offload), and all bytes are the packet's.
+abbrev pub ipv4_bytes : Ipv4Header → List ℕ → List ℕ
+ipv4_bytes header s = if header.total_len == 0 then s else take header.total_len s
+
+-- what there is of an IPv6 packet: the bytes as far as its payload length says
+abbrev pub ipv6_bytes : Ipv6Header → List ℕ → List ℕ
+ipv6_bytes header s = take (40 + header.payload_length) s
+
+-- What there is of the packet is this header, these bytes of whole extension headers, and a payload
+-- of the number that the last of them gives. If it ends within an extension header, what there is of
+-- that is in the place of the payload.
+pub record HasIpv6Parts (packet : List ℕ) (header : Ipv6Header) (extensions : List ℕ)
+    (fragment : Option FragmentHeader) (is_later : Bool) (upper : ℕ) (payload : List ℕ)
+    : Type 0 where
+  pub body : List ℕ
+  pub begins : BeginsWith IsIpv6Layout (ipv6_bytes header packet) header body
+  pub parts : body ≡ extensions ++ payload
+  pub incomplete : Option LenError
+  pub ends : EndsAs is_later incomplete body header.next_header fragment upper payload
+
+-- what there is of the packet is these parts
+abbrev pub HasIpParts : List ℕ → IpSlice → Type 0
+HasIpParts packet (slice.Ipv4 header payload) =
+    BeginsWith IsIpv4Layout (ipv4_bytes header packet) header payload.now
+HasIpParts packet (slice.Ipv6 header extensions fragment is_later upper payload) =
+    HasIpv6Parts packet header extensions.now fragment is_later upper payload.now
+
+-- the packet has all the bytes that its length field says, and ends within no extension header
+abbrev pub IsWhole : List ℕ → IpSlice → Type 0
+IsWhole packet (slice.Ipv4 header payload) =
+    (header.total_len ≢ 0) × (header.total_len ≤ length packet)
+IsWhole packet (slice.Ipv6 header extensions fragment is_later upper payload) =
+    (40 + header.payload_length ≤ length packet) × (IsTrue is_later ⊎ ¬ IsSkippable upper)
+
+-- the packet is in these parts
+abbrev pub IsIpPacket : List ℕ → IpSlice → Type 0
+IsIpPacket packet slice = HasIpParts packet slice × IsWhole packet slice
+
+-- the total length is below the length of the header
+pub record StatesTooLittle (packet : List ℕ) (e : LenError) : Type 0 where
+  pub header : Ipv4Header
+  pub rest : List ℕ
+  pub begins : BeginsWith IsIpv4Layout packet header rest
+  pub says : ipv4_payload_len header ≡ Err e
+
+-- the packet is shorter than its total length
+pub record EndsInIpv4Payload (packet : List ℕ) (e : LenError) : Type 0 where
+  pub header : Ipv4Header
+  pub rest : List ℕ
+  pub begins : BeginsWith IsIpv4Layout packet header rest
+  pub short : length packet < header.total_len
+  pub error : e ≡ too_short_error layer.Ipv4Packet header.total_len (length packet)
+
+-- the packet is shorter than its header and its payload length together
+pub record EndsInIpv6Payload (packet : List ℕ) (e : LenError) : Type 0 where
+  pub header : Ipv6Header
+  pub rest : List ℕ
+  pub begins : BeginsWith IsIpv6Layout packet header rest
+  pub short : length packet < 40 + header.payload_length
+  pub error : e ≡ too_short_error layer.Ipv6Packet (40 + header.payload_length) (length packet)
+
+-- the packet has all its bytes, and ends within an extension header; the place in the error counts
+-- from the packet's start
+pub record EndsInExtensions (packet : List ℕ) (e : LenError) : Type 0 where
+  pub header : Ipv6Header
+  pub body : List ℕ
+  pub enough : 40 + header.payload_length ≤ length packet
+  pub begins : BeginsWith IsIpv6Layout (ipv6_bytes header packet) header body
+  pub fragment : Option FragmentHeader
+  pub number : ℕ
+  pub rest : List ℕ
+  pub inside : LenError
+  pub ends : EndsAs false (Some inside) body header.next_header fragment number rest
+  pub moved : e ≡ len_error_moved 40 inside
+
+-- Why a packet is not sliced: it has no bytes; its version is neither 4 nor 6; it has no header of
+-- its version. Or its total length is below its header, or it is shorter than its length field
+-- says; or it ends within an extension header.
+abbrev pub RefusesIp : List ℕ → IpSliceError → Type 0
+RefusesIp packet error.Empty = length packet ≡ 0
+RefusesIp packet (error.UnexpectedVersion version) =
+    (0 < length packet) × (version ≡ version_of packet) × (version ≢ 4) × (version ≢ 6)
+RefusesIp packet (error.Ipv4Header e) =
+    (0 < length packet) × (version_of packet ≡ 4) × RefusesIpv4 packet e
+RefusesIp packet (error.Ipv6Header e) =
+    (0 < length packet) × (version_of packet ≡ 6) × RefusesIpv6 packet e
+RefusesIp packet (error.Packet e) =
+    StatesTooLittle packet e ⊎ EndsInIpv4Payload packet e ⊎ EndsInIpv6Payload packet e
+RefusesIp packet (error.Extensions e) = EndsInExtensions packet e
+
+-- the total length is below the length of the header, and not 0
+pub record StatesLessThanHeader (packet : List ℕ) (e : LenError) : Type 0 where
+  pub states : StatesTooLittle packet e
+  pub some : states.header.total_len ≢ 0
+
+-- why there are no parts at all: for each of these reasons but a missing end, and a total length of
+-- 0
+abbrev pub HasNoIpParts : List ℕ → IpSliceError → Type 0
+HasNoIpParts packet (error.Packet e) = StatesLessThanHeader packet e
+HasNoIpParts packet (error.Extensions e) = ⊥
+HasNoIpParts packet error.Empty = RefusesIp packet error.Empty
+HasNoIpParts packet (error.UnexpectedVersion version) =
+    RefusesIp packet (error.UnexpectedVersion version)
+HasNoIpParts packet (error.Ipv4Header e) = RefusesIp packet (error.Ipv4Header e)
+HasNoIpParts packet (error.Ipv6Header e) = RefusesIp packet (error.Ipv6Header e)
+
+-- these are the parts, and it stops for the reason why the packet is not sliced, or it is whole
+pub record HasLaxIpParts (packet : List ℕ) (lax : LaxIpSlice) : Type 0 where
+  pub parts : HasIpParts packet lax.slice
+  pub stop : MatchOption lax.stop (IsWhole packet lax.slice) (RefusesIp packet)
+
+-- the number of the payload of a slice
+abbrev pub upper_of : IpSlice → ℕ
+upper_of (slice.Ipv4 header payload) = header.protocol
+upper_of (slice.Ipv6 header extensions fragment is_later upper payload) = upper
+
+-- the payload of a slice
+abbrev pub payload_of : IpSlice → List ℕ
+payload_of (slice.Ipv4 header payload) = payload.now
+payload_of (slice.Ipv6 header extensions fragment is_later upper payload) = payload.now
+
+-- the place of a fragment, whose offset is in units of 8 bytes (RFC 791 section 3.1)
+abbrev pub ipv4_fragment_of : Ipv4Header → Option Fragment
+ipv4_fragment_of header =
+    if header.more_fragments || not (header.fragment_offset == 0)
+    then Some (record {
+      identification = header.identification;
+      offset = 8 * header.fragment_offset;
+      more_fragments = header.more_fragments;
+    })
+    else None
+
+-- the same by a fragment header of IPv6 (RFC 8200 section 4.5)
+abbrev pub placed : FragmentHeader → Fragment
+placed header = record {
+  identification = header.identification;
+  offset = 8 * header.fragment_offset;
+  more_fragments = header.more_fragments;
+}
+
+-- the place of the payload of a slice, if it is a fragment
+abbrev pub fragment_of : IpSlice → Option Fragment
+fragment_of (slice.Ipv4 header payload) = ipv4_fragment_of header
+fragment_of (slice.Ipv6 header extensions fragment is_later upper payload) = option_map placed fragment
+
+-- the payload of a slice is that of a fragment that is not the first: it begins with no header
+abbrev pub IsLater : IpSlice → Type 0
+IsLater (slice.Ipv4 header payload) = header.fragment_offset ≢ 0
+IsLater (slice.Ipv6 header extensions fragment is_later upper payload) = IsTrue is_later

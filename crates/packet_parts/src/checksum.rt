@@ -1,0 +1,199 @@
+//! The checksums of UDP, TCP, ICMP and ICMPv6: the pseudo-headers that they cover, and what a
+//! receiver finds of them.
+
+ghost use Rattle.std.specs.Prelude.{ℕ, ◌≡◌, ◌≢◌, ◌↔◌, ◌≤◌, List, IfErr, IfNone, IfOk, IfSome};
+ghost use Rattle.std.specs.Prelude.{IsTrue, length};
+ghost use Rattle.etherparse.specs.WordSums.{StandsForWords};
+ghost use Rattle.packet_parts.specs.Checksum.{BeginsWithDatagram, Covers, IsAbsent};
+ghost use Rattle.packet_parts.specs.Checksum.{IsRightIpv4, IsRightIpv6};
+ghost use Rattle.packet_parts.specs.Checksum.{IsVerdictIpv4, IsVerdictIpv6, IsWithoutChecksum};
+ghost use Rattle.packet_parts.specs.Checksum.{ipv4_pseudo_header, ipv6_pseudo_header};
+
+use crate::tcp::TcpHeaderSlice;
+use crate::udp::UdpHeader;
+use etherparse::checksum::Sum16BitWords;
+use etherparse::{IpNumber, Ipv4Header, Ipv6Header};
+
+/// What a receiver finds of the checksum of a payload.
+///
+/// The packets that a host sends look wrong in a capture on that host if its network card computes
+/// their checksums (checksum offload).
+#[derive(Clone, Copy, Debug, PartialEq, Eq)]
+pub enum Verdict {
+    /// It is right.
+    Right,
+    /// It is wrong.
+    Wrong,
+    /// There is none to judge.
+    Absent(Absence),
+}
+
+/// Why there is no checksum to judge.
+#[derive(Clone, Copy, Debug, PartialEq, Eq)]
+pub enum Absence {
+    /// The payload is a fragment: its checksum covers other fragments too.
+    Fragment,
+    /// The protocol is none of UDP, TCP, ICMP (over IPv4) and ICMPv6 (over IPv6).
+    OtherProtocol,
+    /// Not all the bytes that it covers are there: fewer than 8 of UDP, 20 of TCP or 4 of ICMP, or
+    /// than the length field of UDP says; or that field is below 8.
+    Incomplete,
+    /// The sender has computed none: the field of UDP over IPv4 is 0 (RFC 768).
+    NotComputed,
+}
+
+/// The sum of the pseudo-header of IPv4, from both addresses, the protocol's number and the length
+/// in bytes of its header and data (RFC 768, RFC 9293 section 3.1).
+pub fn ipv4_pseudo_header(
+    source: [u8; 4],
+    destination: [u8; 4],
+    protocol: IpNumber,
+    len: u16,
+) -> Sum16BitWords
+    ensures sum { StandsForWords 0 (ipv4_pseudo_header source destination protocol len) result }
+{
+    let [h, l] = len.to_be_bytes();
+    Sum16BitWords::new()
+        .add_4bytes(source)
+        .add_4bytes(destination)
+        .add_4bytes([0, protocol.0, h, l])
+}
+
+/// The sum of the pseudo-header of IPv6, from both addresses, the number of the upper layer and the
+/// length in bytes of its header and data (RFC 8200 section 8.1).
+pub fn ipv6_pseudo_header(
+    source: [u8; 16],
+    destination: [u8; 16],
+    number: IpNumber,
+    len: u32,
+) -> Sum16BitWords
+    ensures sum { StandsForWords 0 (ipv6_pseudo_header source destination number len) result }
+{
+    let [a, b, c, d] = len.to_be_bytes();
+    Sum16BitWords::new()
+        .add_16bytes(source)
+        .add_16bytes(destination)
+        .add_8bytes([a, b, c, d, 0, 0, 0, number.0])
+}
+
+/// The verdict on the checksum of an IPv4 packet's payload. The payload has to end where the total
+/// length says, since each of its bytes counts, but those after a UDP datagram.
+pub fn ipv4_verdict(header: &Ipv4Header, payload: &[u8]) -> Verdict
+    ensures judges { IsVerdictIpv4 header.now payload.now result }
+{
+    if header.is_fragmenting_payload() {
+        return Verdict::Absent(Absence::Fragment);
+    }
+    let number = header.protocol;
+    let covered = match covered(IpNumber::ICMP, number, payload) {
+        Ok(covered) => covered,
+        Err(reason) => return Verdict::Absent(reason),
+    };
+    if is_without_checksum(number, covered) {
+        return Verdict::Absent(Absence::NotComputed);
+    }
+    if is_right_ipv4(header, covered) {
+        Verdict::Right
+    } else {
+        Verdict::Wrong
+    }
+}
+
+/// The verdict on the checksum of the payload of an IPv6 packet that is no fragment, with the number
+/// of the payload. The payload has to end where the payload length says. The destination is that of
+/// the header, which a routing header can have changed (RFC 8200 section 8.1).
+pub fn ipv6_verdict(header: &Ipv6Header, number: IpNumber, payload: &[u8]) -> Verdict
+    ensures judges { IsVerdictIpv6 header.now number payload.now result }
+{
+    match covered(IpNumber::IPV6_ICMP, number, payload) {
+        Ok(covered) => {
+            if is_right_ipv6(header, number, covered) {
+                Verdict::Right
+            } else {
+                Verdict::Wrong
+            }
+        }
+        Err(reason) => Verdict::Absent(reason),
+    }
+}
+
+// The bytes of a payload that its checksum covers, or why there are none.
+fn covered(icmp: IpNumber, number: IpNumber, payload: &[u8]) -> Result<&[u8], Absence>
+    requires other { (icmp ≢ 17) × (icmp ≢ 6) }
+    ensures found { IfOk result (λ covered. Covers icmp number payload.now covered.now) }
+    ensures absent { IfErr result (IsAbsent icmp number payload.now) }
+{
+    if number == IpNumber::UDP {
+        return datagram(payload).ok_or(Absence::Incomplete);
+    }
+    let least = if number == IpNumber::TCP {
+        TcpHeaderSlice::MIN_LEN
+    } else if number == icmp {
+        ICMP_LEN
+    } else {
+        return Err(Absence::OtherProtocol);
+    };
+    if payload.len() < least {
+        return Err(Absence::Incomplete);
+    }
+    Ok(payload)
+}
+
+// The length of type, code and checksum of ICMP and ICMPv6, in bytes.
+const ICMP_LEN: usize = 4;
+
+const _: () = prove!(ICMP_LEN == 4);
+
+// The datagram that bytes begin with, as long as its length field says.
+fn datagram(bytes: &[u8]) -> Option<&[u8]>
+    ensures found { IfSome result (λ datagram. BeginsWithDatagram bytes.now datagram.now) }
+    ensures none { IfNone result ((datagram : List ℕ) → ¬ BeginsWithDatagram bytes.now datagram) }
+{
+    if bytes.len() < UdpHeader::LEN {
+        return None;
+    }
+    let len = usize::from(u16::from_be_bytes([bytes[4], bytes[5]]));
+    if len < UdpHeader::LEN || bytes.len() < len {
+        return None;
+    }
+    Some(&bytes[..len])
+}
+
+// Whether this is a datagram without a checksum.
+fn is_without_checksum(number: IpNumber, covered: &[u8]) -> bool
+    requires enough { number ≡ 17 → 8 ≤ length covered.now }
+    ensures value { IsTrue result ↔ IsWithoutChecksum number covered.now }
+{
+    number == IpNumber::UDP && u16::from_be_bytes([covered[6], covered[7]]) == 0
+}
+
+// Whether the bytes sum to all ones, with the pseudo-header of IPv4 but for ICMP.
+fn is_right_ipv4(header: &Ipv4Header, covered: &[u8]) -> bool
+    ensures value { IsTrue result ↔ IsRightIpv4 header.now covered.now }
+{
+    if header.protocol == IpNumber::ICMP {
+        return Sum16BitWords::new().add_slice(covered).ones_complement() == 0;
+    }
+    let len = match u16::try_from(covered.len()) {
+        Ok(len) => len,
+        Err(_) => return false,
+    };
+    let sum = ipv4_pseudo_header(header.source, header.destination, header.protocol, len);
+    sum.add_slice(covered).ones_complement() == 0
+}
+
+// Whether the bytes sum to all ones with the pseudo-header of IPv6, and have a checksum.
+fn is_right_ipv6(header: &Ipv6Header, number: IpNumber, covered: &[u8]) -> bool
+    requires enough { number ≡ 17 → 8 ≤ length covered.now }
+    ensures value { IsTrue result ↔ IsRightIpv6 header.now number covered.now }
+{
+    let len = match u32::try_from(covered.len()) {
+        Ok(len) => len,
+        Err(_) => return false,
+    };
+    if is_without_checksum(number, covered) {
+        return false;
+    }
+    let sum = ipv6_pseudo_header(header.source, header.destination, number, len);
+    sum.add_slice(covered).ones_complement() == 0
+}

@@ -1,0 +1,305 @@
+//! IP packets of either version, sliced into their parts.
+
+ghost use Rattle.std.specs.Prelude.{ℕ, ◌≡◌, ◌<◌, List, ◌++◌, IfErr, IfOk, length};
+ghost use Rattle.etherparse.specs.FirstByte.{version_of};
+ghost use Rattle.etherparse.specs.Reading.{too_short_error};
+ghost use Rattle.packet_parts.specs.IpSlice.{HasLaxIpParts, HasNoIpParts, ipv4_fragment_of};
+ghost use Rattle.packet_parts.specs.IpSlice.{placed};
+
+use crate::checksum::{Absence, Verdict, ipv4_verdict, ipv6_verdict};
+use crate::extensions::after_extensions;
+use crate::fragment::{Fragment, FragmentHeader};
+use etherparse::err::{Layer, LenError, ipv4, ipv6};
+use etherparse::{IpNumber, Ipv4Header, Ipv6Header, LenSource};
+
+/// The parts of an IP packet, cut at its length field: what comes after the packet is in none of
+/// them.
+#[derive(Clone, Debug, PartialEq, Eq, Drop)]
+pub enum IpSlice<'a> {
+    /// An IPv4 packet (RFC 791 section 3.1), cut at `total_len`.
+    Ipv4 {
+        /// The header. Its `protocol` is the number of the payload.
+        header: Ipv4Header,
+        /// What follows the header, an authentication header (51) included.
+        payload: &'a [u8],
+    },
+    /// An IPv6 packet (RFC 8200 section 3), cut at `payload_length`.
+    Ipv6 {
+        /// The header, without its extension headers.
+        header: Ipv6Header,
+        /// The bytes of the extension headers, which can be none. A fragment header is among them.
+        /// If its offset is not 0 it is the last: what follows it is the fragment itself, and no
+        /// header (RFC 8200 section 4.5).
+        extensions: &'a [u8],
+        /// The fragment header that decides whether the payload is a fragment: the first that is
+        /// not atomic.
+        fragment: Option<FragmentHeader>,
+        /// That the payload is of a fragment that is not the first.
+        is_later: bool,
+        /// The number of the payload: the first that is of no extension header that can be skipped,
+        /// or any that a fragment header with an offset other than 0 names.
+        upper: IpNumber,
+        /// What follows the extension headers.
+        payload: &'a [u8],
+    },
+}
+
+/// Why a packet is not sliced.
+#[derive(Clone, Debug, PartialEq, Eq, Drop)]
+pub enum IpSliceError {
+    /// There are no bytes.
+    Empty,
+    /// The version is neither 4 nor 6.
+    UnexpectedVersion {
+        /// The upper half of the first byte.
+        version_number: u8,
+    },
+    /// The version is 4, and there is no IPv4 header.
+    Ipv4Header(ipv4::HeaderSliceError),
+    /// The version is 6, and there is no IPv6 header.
+    Ipv6Header(ipv6::HeaderSliceError),
+    /// The total length is below that of the header: `len` is then the total length, `required_len`
+    /// the header length. Or the packet has fewer bytes than its length field says: `len` is then
+    /// how many it has, `required_len` how many it should have, with the header.
+    Packet(LenError),
+    /// An IPv6 packet, cut at its payload length, ends within an extension header.
+    /// `layer_start_offset` is the place of that header from the packet's start.
+    Extensions(LenError),
+}
+
+/// The parts of an IP packet as far as they are there.
+#[derive(Clone, Debug, PartialEq, Eq, Drop)]
+pub struct LaxIpSlice<'a> {
+    /// The parts, the last of which can be incomplete. If a packet ends within an extension header,
+    /// that is in the place of the payload, with its number.
+    pub slice: IpSlice<'a>,
+    /// Why [`IpSlice::from_slice`] refuses the packet: `Packet` or `Extensions`; `None` if it does
+    /// not. With `Packet` for a total length of 0, as a host writes it that leaves it to its network
+    /// card to cut a long packet (segmentation offload), the payload is all that follows the header.
+    pub stop: Option<IpSliceError>,
+}
+
+impl<'a> IpSlice<'a> {
+    ghost use Rattle.std.specs.Prelude.{◌≡◌, ◌↔◌, IfErr, IfOk, IsTrue};
+    ghost use Rattle.packet_parts.specs.Checksum.{IsVerdict};
+    ghost use Rattle.packet_parts.specs.IpSlice.{IsIpPacket, IsLater, RefusesIp, fragment_of};
+    ghost use Rattle.packet_parts.specs.IpSlice.{payload_of, upper_of};
+
+    /// The parts of the packet at the front of a slice.
+    ///
+    /// A payload length of 0 is taken as it stands: a jumbogram (RFC 2675 section 3) is refused,
+    /// since its options are not within it.
+    ///
+    /// # Errors
+    ///
+    /// In this order: `Empty`, `UnexpectedVersion`, `Ipv4Header` or `Ipv6Header`, `Packet`,
+    /// `Extensions`.
+    pub fn from_slice(packet: &'a [u8]) -> Result<IpSlice<'a>, IpSliceError>
+        ensures found { IfOk result (IsIpPacket packet.now) }
+        ensures refused { IfErr result (RefusesIp packet.now) }
+    {
+        match LaxIpSlice::from_slice(packet) {
+            Ok(lax) => match lax.stop {
+                None => Ok(lax.slice),
+                Some(e) => Err(e),
+            },
+            Err(e) => Err(e),
+        }
+    }
+
+    /// The number of the payload, of either version.
+    pub fn upper(&self) -> IpNumber
+        ensures value { result ≡ upper_of self.now }
+    {
+        match self {
+            IpSlice::Ipv4 { header, .. } => header.protocol,
+            IpSlice::Ipv6 { upper, .. } => *upper,
+        }
+    }
+
+    /// The payload, of either version.
+    pub fn payload(&self) -> &'a [u8]
+        ensures value { result.now ≡ payload_of self.now }
+    {
+        match self {
+            IpSlice::Ipv4 { payload, .. } => payload,
+            IpSlice::Ipv6 { payload, .. } => payload,
+        }
+    }
+
+    /// The place of the payload, if it is a fragment: more fragments follow it, or its offset is not
+    /// 0. In IPv6 the first fragment header that is not atomic tells it (RFC 8200 section 4.5).
+    pub fn fragment(&self) -> Option<Fragment>
+        ensures value { result ≡ fragment_of self.now }
+    {
+        match self {
+            IpSlice::Ipv4 { header, .. } => ipv4_fragment(header),
+            IpSlice::Ipv6 { fragment, .. } => match fragment {
+                Some(header) => Some(placed(header)),
+                None => None,
+            },
+        }
+    }
+
+    /// Whether the payload is that of a fragment that is not the first: the middle of a payload,
+    /// which does not begin with the header of an upper layer.
+    pub fn is_later_fragment(&self) -> bool
+        ensures value { IsTrue result ↔ IsLater self.now }
+    {
+        match self {
+            IpSlice::Ipv4 { header, .. } => header.fragment_offset.value() != 0,
+            IpSlice::Ipv6 { is_later, .. } => *is_later,
+        }
+    }
+
+    /// The verdict on the checksum of the payload, by [`ipv4_verdict`] and [`ipv6_verdict`].
+    pub fn verdict(&self) -> Verdict
+        ensures judges { IsVerdict self.now result }
+    {
+        match self {
+            IpSlice::Ipv4 { header, payload } => ipv4_verdict(header, payload),
+            IpSlice::Ipv6 {
+                fragment: Some(_),
+                ..
+            } => Verdict::Absent(Absence::Fragment),
+            IpSlice::Ipv6 {
+                header,
+                upper,
+                payload,
+                ..
+            } => ipv6_verdict(header, *upper, payload),
+        }
+    }
+}
+
+impl<'a> LaxIpSlice<'a> {
+    ghost use Rattle.std.specs.Prelude.{IfErr, IfOk};
+    ghost use Rattle.packet_parts.specs.IpSlice.{HasLaxIpParts, HasNoIpParts};
+
+    /// The parts of the packet at the front of a slice, as far as they are there.
+    ///
+    /// # Errors
+    ///
+    /// Those of [`IpSlice::from_slice`] without parts: `Empty`, `UnexpectedVersion`, `Ipv4Header` or
+    /// `Ipv6Header`, and `Packet` if the total length is below that of the header, but not 0.
+    pub fn from_slice(packet: &'a [u8]) -> Result<LaxIpSlice<'a>, IpSliceError>
+        ensures found { IfOk result (HasLaxIpParts packet.now) }
+        ensures refused { IfErr result (HasNoIpParts packet.now) }
+    {
+        if packet.is_empty() {
+            return Err(IpSliceError::Empty);
+        }
+        match packet[0] >> 4 {
+            4 => ipv4_slice(packet),
+            6 => ipv6_slice(packet),
+            version_number => Err(IpSliceError::UnexpectedVersion { version_number }),
+        }
+    }
+}
+
+// The parts of a packet of version 4.
+fn ipv4_slice(packet: &[u8]) -> Result<LaxIpSlice, IpSliceError>
+    requires some { 0 < length packet.now }
+    requires version { version_of packet.now ≡ 4 }
+    ensures found { IfOk result (HasLaxIpParts packet.now) }
+    ensures refused { IfErr result (HasNoIpParts packet.now) }
+{
+    let (header, rest) = match Ipv4Header::from_slice(packet) {
+        Ok(read) => read,
+        Err(e) => return Err(IpSliceError::Ipv4Header(e)),
+    };
+    let total_len = usize::from(header.total_len);
+    let (payload, stop) = match header.payload_len() {
+        Ok(len) if packet.len() >= total_len => (&rest[..usize::from(len)], None),
+        Ok(_) => (
+            rest,
+            Some(IpSliceError::Packet(truncated(total_len, packet.len(), Layer::Ipv4Packet))),
+        ),
+        Err(e) if total_len == 0 => (rest, Some(IpSliceError::Packet(e))),
+        Err(e) => return Err(IpSliceError::Packet(e)),
+    };
+    Ok(LaxIpSlice {
+        slice: IpSlice::Ipv4 { header, payload },
+        stop,
+    })
+}
+
+// The parts of a packet of version 6.
+fn ipv6_slice(packet: &[u8]) -> Result<LaxIpSlice, IpSliceError>
+    requires some { 0 < length packet.now }
+    requires version { version_of packet.now ≡ 6 }
+    ensures found { IfOk result (HasLaxIpParts packet.now) }
+    ensures refused { IfErr result (HasNoIpParts packet.now) }
+{
+    let (header, rest) = match Ipv6Header::from_slice(packet) {
+        Ok(read) => read,
+        Err(e) => return Err(IpSliceError::Ipv6Header(e)),
+    };
+    let len = usize::from(header.payload_length);
+    let body = &rest[..len.min(rest.len())];
+    let after = after_extensions(body, header.next_header);
+    let stop = if rest.len() < len {
+        let len = Ipv6Header::LEN + len;
+        Some(IpSliceError::Packet(truncated(len, packet.len(), Layer::Ipv6Packet)))
+    } else {
+        match after.incomplete {
+            Some(e) => Some(IpSliceError::Extensions(e.add_offset(Ipv6Header::LEN))),
+            None => None,
+        }
+    };
+    let slice = IpSlice::Ipv6 {
+        header,
+        extensions: before(body, after.rest),
+        fragment: after.fragment,
+        is_later: after.is_later,
+        upper: after.number,
+        payload: after.rest,
+    };
+    Ok(LaxIpSlice { slice, stop })
+}
+
+// The place of an IPv4 fragment.
+fn ipv4_fragment(header: &Ipv4Header) -> Option<Fragment>
+    ensures value { result ≡ ipv4_fragment_of header.now }
+{
+    if !header.is_fragmenting_payload() {
+        return None;
+    }
+    Some(Fragment {
+        identification: u32::from(header.identification),
+        offset: 8 * u32::from(header.fragment_offset.value()),
+        more_fragments: header.more_fragments,
+    })
+}
+
+// The place of an IPv6 fragment, by its fragment header.
+fn placed(header: &FragmentHeader) -> Fragment
+    ensures value { result ≡ placed header.now }
+{
+    Fragment {
+        identification: header.identification,
+        offset: 8 * u32::from(header.fragment_offset.value()),
+        more_fragments: header.more_fragments,
+    }
+}
+
+// The error of a packet that is shorter than its length field says.
+fn truncated(required_len: usize, len: usize, layer: Layer) -> LenError
+    ensures value { result ≡ too_short_error layer required_len len }
+{
+    LenError {
+        required_len,
+        len,
+        len_source: LenSource::Slice,
+        layer,
+        layer_start_offset: 0,
+    }
+}
+
+// What stands in a slice before its rest.
+fn before<'a>(slice: &'a [u8], rest: &[u8]) -> &'a [u8]
+    requires rest { (front : List ℕ) × (slice.now ≡ front ++ rest.now) }
+    ensures parts { slice.now ≡ result.now ++ rest.now }
+{
+    &slice[..slice.len() - rest.len()]
+}

@@ -1,0 +1,14 @@
+//! An IP packet in its parts: header, extension headers and fragment header, payload, the UDP and
+//! TCP headers, and what a receiver finds of the checksums. Each call views the packet and takes no
+//! memory.
+#![tactic(auto)]
+
+pub mod address;
+pub mod checksum;
+pub mod extensions;
+pub mod fragment;
+pub mod fragment_key;
+pub mod ip_slice;
+mod laws;
+pub mod tcp;
+pub mod udp;

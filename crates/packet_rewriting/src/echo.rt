@@ -1,0 +1,67 @@
+//! A host that answers echo requests: ICMP (RFC 792) and ICMPv6 (RFC 4443 sections 4.1 and 4.2).
+
+ghost use Rattle.std.specs.Prelude.{◌≡◌, ◌↔◌, ◌<◌, ◌^◌, [], ◌∷◌, IsTrue, length};
+ghost use Rattle.std.specs.Bool.{OnFalse, OnTrue};
+ghost use Rattle.etherparse.specs.WordSums.{SumsToAllOnes, ones_complement_sum};
+ghost use Rattle.packet_rewriting.specs.Echo.{IsEchoReply, IsEchoRequest, echo_reply, icmpv6_pieces};
+
+use etherparse::checksum::u64_16bit_word;
+
+/// Turns an ICMP echo request in place into its reply: type 0 in place of 8, and a checksum that is
+/// computed anew, so that it is correct whatever that of the request was. All else stays the same.
+///
+/// `false`, with the message unchanged, if it is not an echo request: it has fewer than 8 bytes,
+/// another type, or a code other than 0. The slice has to end where the packet's length field says,
+/// since each of its bytes counts in the checksum.
+pub fn icmpv4_reply(message: &mut [u8]) -> bool
+    ensures asked { IsTrue result ↔ IsEchoRequest 8 message.old }
+    ensures made { OnTrue result
+        (IsEchoReply 0 message.old (echo_reply 0 0 message.old ∷ []) message.new) }
+    ensures right { OnTrue result (SumsToAllOnes message.new) }
+    ensures refused { OnFalse result (message.new ≡ message.old) }
+{
+    if message.len() < 8 || message[0] != 8 || message[1] != 0 {
+        return false;
+    }
+    // Type and code are 0, so that the words after the checksum are all that counts.
+    let [h, l] = u64_16bit_word::checksum(0, &message[4..]).to_le_bytes();
+    message[..4].copy_from_slice(&[0, 0, h, l]);
+    true
+}
+
+/// Turns an ICMPv6 echo request in place into its reply: type 129 in place of 128, and a checksum
+/// that is computed anew, over the addresses of the reply too (RFC 4443 section 2.3). All else
+/// stays the same.
+///
+/// `false`, with the message unchanged, if it is not an echo request: it has fewer than 8 bytes, or
+/// 2^32 or more, another type, or a code other than 0. The addresses are those of the reply: if the
+/// request was sent to a multicast address, the reply's source is another address.
+pub fn icmpv6_reply(source: [u8; 16], destination: [u8; 16], message: &mut [u8]) -> bool
+    ensures asked { IsTrue result
+        ↔ (IsEchoRequest 128 message.old × (length message.old < 2 ^ 32)) }
+    ensures made { OnTrue result (IsEchoReply 129 message.old
+        (icmpv6_pieces source destination (echo_reply 129 0 message.old)) message.new) }
+    ensures right { OnTrue result
+        (ones_complement_sum (icmpv6_pieces source destination message.new) ≡ 65535) }
+    ensures refused { OnFalse result (message.new ≡ message.old) }
+{
+    let len = match u32::try_from(message.len()) {
+        Ok(len) => len,
+        Err(_) => return false,
+    };
+    if len < 8 || message[0] != 128 || message[1] != 0 {
+        return false;
+    }
+    let [a, b, c, d] = len.to_be_bytes();
+    let front = [129, 0, 0, 0];
+    let sum = u64_16bit_word::add_slices(&[
+        &source,
+        &destination,
+        &[a, b, c, d, 0, 0, 0, 58],
+        &front,
+        &message[4..],
+    ]);
+    let [h, l] = u64_16bit_word::ones_complement(sum).to_le_bytes();
+    message[..4].copy_from_slice(&[129, 0, h, l]);
+    true
+}
