@@ -1,1 +1,4 @@
+mod FragmentHeaders
+mod IpPackets
+mod PseudoHeader
 mod UdpLayout

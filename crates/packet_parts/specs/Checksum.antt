@@ -1,5 +1,5 @@
 -- What a receiver finds of the checksum of UDP, TCP, ICMP or ICMPv6.
-use Rattle.std.specs.Prelude.{ℕ, ◌≡◌, ◌≢◌, ◌==◌, ◌<◌, ◌≤◌, ◌^◌, ◌⊎◌, List, [], ◌∷◌, ◌++◌, Option}
+use Rattle.std.specs.Prelude.{ℕ, ◌≡◌, ◌≢◌, ◌==◌, ◌<◌, ◌≤◌, ◌^◌, ◌⊎◌, List, [], ◌∷◌, ◌++◌}
 use Rattle.std.specs.Prelude.{None, Some, if◌then◌else◌, length, slice_range, take}
 use Rattle.std.specs.Int.{from_be_bytes, to_be_bytes, w16, w32}
 use Rattle.etherparse.specs.Ipv4Header.{IsFragment}
@@ -10,7 +10,6 @@ use Rattle.packet_parts.specs.declared.checksum.Absence.{Absence}
 use Rattle.packet_parts.specs.declared.checksum.Absence.TheVariants as absence
 use Rattle.packet_parts.specs.declared.checksum.Verdict.{Verdict}
 use Rattle.packet_parts.specs.declared.checksum.Verdict.TheVariants.{Right, Wrong, Absent}
-use Rattle.packet_parts.specs.declared.fragment.FragmentHeader.{FragmentHeader}
 use Rattle.packet_parts.specs.declared.ip_slice.IpSlice.{IpSlice}
 use Rattle.packet_parts.specs.declared.ip_slice.IpSlice.TheVariants as slice
 
@@ -51,16 +50,18 @@ Covers icmp number payload covered = ((number ≡ 17) × BeginsWithDatagram payl
 abbrev pub IsWithoutChecksum : ℕ → List ℕ → Type 0
 IsWithoutChecksum number covered = (number ≡ 17) × (udp_checksum covered ≡ 0)
 
--- it sums to all ones with the pseudo-header of IPv4, whose 16 bits can tell its length; ICMP has no
--- pseudo-header (RFC 792)
-abbrev pub IsRightIpv4 : Ipv4Header → List ℕ → Type 0
-IsRightIpv4 ip covered =
-    if ip.protocol == 1 then ones_complement_sum (covered ∷ []) ≡ 65535
-    else (length covered < 2 ^ 16) × (ones_complement_sum (ipv4_pseudo_header ip.source
-    ip.destination ip.protocol (length covered) ∷ covered ∷ []) ≡ 65535)
+-- what sums to all ones over IPv4: with the pseudo-header, but for ICMP, which has none (RFC 792)
+abbrev pub ipv4_pieces : Ipv4Header → List ℕ → List (List ℕ)
+ipv4_pieces ip covered = if ip.protocol == 1 then covered ∷ []
+    else ipv4_pseudo_header ip.source ip.destination ip.protocol (length covered) ∷ covered ∷ []
 
--- the same with that of IPv6, whose length has 32 bits, also of ICMPv6 (RFC 4443 section 2.3); a
--- datagram has to have a checksum (RFC 8200 section 8.1)
+-- a receiver finds the checksum right over IPv4; the 16 bits of a pseudo-header can tell the length
+pub record IsRightIpv4 (ip : Ipv4Header) (covered : List ℕ) : Type 0 where
+  pub fits : ip.protocol ≢ 1 → length covered < 2 ^ 16
+  pub sum : ones_complement_sum (ipv4_pieces ip covered) ≡ 65535
+
+-- the same over IPv6, where the length has 32 bits, also of ICMPv6 (RFC 4443 section 2.3), and where
+-- a datagram has to have a checksum (RFC 8200 section 8.1)
 pub record IsRightIpv6 (ip : Ipv6Header) (number : ℕ) (covered : List ℕ) : Type 0 where
   pub there : ¬ IsWithoutChecksum number covered
   pub fits : length covered < 2 ^ 32

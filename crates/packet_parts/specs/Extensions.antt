@@ -2,6 +2,7 @@
 -- fragment header decides.
 use Rattle.std.specs.Prelude.{ℕ, ◌≡◌, ◌≢◌, ◌-◌, ◌<◌, ◌≤◌, Bool, false, true, List, Option, Some}
 use Rattle.std.specs.Prelude.{None, drop, if◌then◌else◌, length, slice_index}
+use Rattle.std.specs.Option.{option_or}
 use Rattle.etherparse.specs.ExtensionHeaderChain.{incomplete_header_error, required_len_of}
 use Rattle.etherparse.specs.ExtensionHeaders.{IsSkippable}
 use Rattle.etherparse.specs.Reading.{BeginsWith}
@@ -9,15 +10,14 @@ use Rattle.etherparse.specs.declared.err.LenError.{LenError}
 use Rattle.packet_parts.specs.Fragment.{IsFragmentLayout, is_part}
 use Rattle.packet_parts.specs.declared.fragment.FragmentHeader.{FragmentHeader}
 
--- The fragment header that decides is the first that is not atomic: a packet with an atomic one is
--- processed as without it (RFC 8200 section 4.5, RFC 6946). This is the one after another was seen.
-abbrev pub decided_with : Option FragmentHeader → FragmentHeader → Option FragmentHeader
-decided_with (Some fragment) next = Some fragment
-decided_with None next = if is_part next then Some next else None
+-- A fragment header decides unless it is atomic: a packet with an atomic one is processed as without
+-- it (RFC 8200 section 4.5, RFC 6946).
+abbrev pub deciding : FragmentHeader → Option FragmentHeader
+deciding header = if is_part header then Some header else None
 
 -- What is reached after extension headers at the front of a slice, of which the first has this
--- number: the fragment header that decides, if one of these does; a number; and the rest that it
--- tells of. Each header that is passed is whole. After a fragment header whose offset is not 0 comes
+-- number: the fragment header that decides, the first of these that does; a number; and the rest
+-- that it tells of. Each header that is passed is whole. After a fragment header whose offset is not 0 comes
 -- the middle of a payload: nothing after it is a header.
 pub data Passes (s : List ℕ) (first : ℕ) : Option FragmentHeader → ℕ → List ℕ → Type 0 where
   at_front : Passes s first None first s
@@ -28,7 +28,7 @@ pub data Passes (s : List ℕ) (first : ℕ) : Option FragmentHeader → ℕ →
   after_fragment : {decided : Option FragmentHeader} {at rest : List ℕ} {next : FragmentHeader}
       → Passes s first decided 44 at → BeginsWith IsFragmentLayout at next rest
       → next.fragment_offset ≡ 0
-      → Passes s first (decided_with decided next) next.next_header rest
+      → Passes s first (option_or decided (deciding next)) next.next_header rest
 
 -- The last header is the fragment header of a fragment that is not the first. Extension headers and
 -- the header of the upper layer, which can follow that of the first fragment, are in the first alone
@@ -41,7 +41,7 @@ pub record EndsAtLaterFragment (s : List ℕ) (first : ℕ) (decided : Option Fr
   pub passes : Passes s first before 44 at
   pub begins : BeginsWith IsFragmentLayout at last payload
   pub later : last.fragment_offset ≢ 0
-  pub decides : decided ≡ decided_with before last
+  pub decides : decided ≡ option_or before (deciding last)
   pub named : number ≡ last.next_header
 
 -- the slice ends within an extension header of this number, of which the rest is there

@@ -1,19 +1,12 @@
 -- The fragment header of IPv6, and what the fragments of one packet have in common (RFC 791 section
 -- 3.2, RFC 8200 section 4.5).
-use Rattle.std.specs.Prelude.{ℕ, ◌≡◌, ◌==◌, ◌/◌, ◌%◌, ◌^◌, ◌||◌, Bool, List, Option, Some, None}
+use Rattle.std.specs.Prelude.{ℕ, ◌≡◌, ◌==◌, ◌/◌, ◌%◌, ◌^◌, ◌||◌, Bool, List}
 use Rattle.std.specs.Prelude.{length, not, slice_index, slice_range}
 use Rattle.std.specs.Int.{from_be_bytes, w16, w32}
 use Rattle.etherparse.specs.Bytes.{IsBytes}
-use Rattle.etherparse.specs.Ipv4Header.{IsFragment, IsIpv4Layout}
-use Rattle.etherparse.specs.Ipv6Header.{IsIpv6Layout, RefusesIpv6}
-use Rattle.etherparse.specs.LenError.{len_error_moved}
-use Rattle.etherparse.specs.Reading.{BeginsWith, IsTooShort}
+use Rattle.etherparse.specs.Reading.{IsTooShort}
 use Rattle.etherparse.specs.declared.err.LenError.{LenError}
 use Rattle.etherparse.specs.declared.err.Layer.TheVariants as layer
-use Rattle.etherparse.specs.declared.err.ipv6.HeaderSliceError.{HeaderSliceError}
-use Rattle.etherparse.specs.declared.err.ipv6.HeaderSliceError.TheVariants.{Len, Content}
-use Rattle.etherparse.specs.declared.net.ipv4_header.Ipv4Header.{Ipv4Header}
-use Rattle.etherparse.specs.declared.net.ipv6_header.Ipv6Header.{Ipv6Header}
 use Rattle.packet_parts.specs.declared.fragment.FragmentHeader.{FragmentHeader}
 
 -- the fragment offset of a fragment header: the upper 13 bits of bytes 2 and 3

@@ -1,13 +1,12 @@
 //! The checksums of UDP, TCP, ICMP and ICMPv6: the pseudo-headers that they cover, and what a
 //! receiver finds of them.
 
-ghost use Rattle.std.specs.Prelude.{ℕ, ◌≡◌, ◌≢◌, ◌↔◌, ◌≤◌, List, IfErr, IfNone, IfOk, IfSome};
-ghost use Rattle.std.specs.Prelude.{IsTrue, length};
+ghost use Rattle.std.specs.Prelude.{◌≡◌, ◌≢◌, ◌↔◌, ◌<◌, ◌≤◌, IfErr, IfOk, IsTrue, length};
 ghost use Rattle.etherparse.specs.WordSums.{StandsForWords};
-ghost use Rattle.packet_parts.specs.Checksum.{BeginsWithDatagram, Covers, IsAbsent};
-ghost use Rattle.packet_parts.specs.Checksum.{IsRightIpv4, IsRightIpv6};
+ghost use Rattle.packet_parts.specs.Checksum.{Covers, IsAbsent, IsRightIpv4, IsRightIpv6};
 ghost use Rattle.packet_parts.specs.Checksum.{IsVerdictIpv4, IsVerdictIpv6, IsWithoutChecksum};
 ghost use Rattle.packet_parts.specs.Checksum.{ipv4_pseudo_header, ipv6_pseudo_header};
+ghost use Rattle.packet_parts.specs.Checksum.{udp_length};
 
 use crate::tcp::TcpHeaderSlice;
 use crate::udp::UdpHeader;
@@ -123,20 +122,19 @@ fn covered(icmp: IpNumber, number: IpNumber, payload: &[u8]) -> Result<&[u8], Ab
     ensures found { IfOk result (λ covered. Covers icmp number payload.now covered.now) }
     ensures absent { IfErr result (IsAbsent icmp number payload.now) }
 {
-    if number == IpNumber::UDP {
-        return datagram(payload).ok_or(Absence::Incomplete);
-    }
-    let least = if number == IpNumber::TCP {
-        TcpHeaderSlice::MIN_LEN
+    let (least, len) = if number == IpNumber::UDP {
+        (UdpHeader::LEN, datagram_len(payload))
+    } else if number == IpNumber::TCP {
+        (TcpHeaderSlice::MIN_LEN, payload.len())
     } else if number == icmp {
-        ICMP_LEN
+        (ICMP_LEN, payload.len())
     } else {
         return Err(Absence::OtherProtocol);
     };
-    if payload.len() < least {
+    if len < least || payload.len() < len {
         return Err(Absence::Incomplete);
     }
-    Ok(payload)
+    Ok(&payload[..len])
 }
 
 // The length of type, code and checksum of ICMP and ICMPv6, in bytes.
@@ -144,19 +142,15 @@ const ICMP_LEN: usize = 4;
 
 const _: () = prove!(ICMP_LEN == 4);
 
-// The datagram that bytes begin with, as long as its length field says.
-fn datagram(bytes: &[u8]) -> Option<&[u8]>
-    ensures found { IfSome result (λ datagram. BeginsWithDatagram bytes.now datagram.now) }
-    ensures none { IfNone result ((datagram : List ℕ) → ¬ BeginsWithDatagram bytes.now datagram) }
+// The length field of a UDP header; 0 if the bytes end before it.
+fn datagram_len(bytes: &[u8]) -> usize
+    ensures value { 8 ≤ length bytes.now → result ≡ udp_length bytes.now }
+    ensures none { length bytes.now < 8 → result ≡ 0 }
 {
     if bytes.len() < UdpHeader::LEN {
-        return None;
+        return 0;
     }
-    let len = usize::from(u16::from_be_bytes([bytes[4], bytes[5]]));
-    if len < UdpHeader::LEN || bytes.len() < len {
-        return None;
-    }
-    Some(&bytes[..len])
+    usize::from(u16::from_be_bytes([bytes[4], bytes[5]]))
 }
 
 // Whether this is a datagram without a checksum.

@@ -1,12 +1,14 @@
 //! The extension headers of IPv6 in one pass (RFC 8200 sections 4 and 4.5).
 
-ghost use Rattle.std.specs.Prelude.{ℕ, ◌≡◌, ◌<◌, ◌-◌, List, IfErr, IfOk, IsFalse, IsTrue, Option};
-ghost use Rattle.std.specs.Prelude.{length};
+ghost use Rattle.std.specs.Prelude.{ℕ, ◌≡◌, ◌<◌, ◌≤◌, List, IfErr, IfOk, IfSome, IsFalse, IsTrue};
+ghost use Rattle.std.specs.Prelude.{Option, length};
 ghost use Rattle.etherparse.specs.ExtensionHeaderChain.{FollowsChain, incomplete_header_error};
 ghost use Rattle.etherparse.specs.ExtensionHeaderChain.{required_len_of};
 ghost use Rattle.etherparse.specs.ExtensionHeaders.{IsSkippable};
 ghost use Rattle.packet_parts.specs.Extensions.{EndsAs, EndsAtLaterFragment, Passes};
-ghost use Rattle.packet_parts.specs.Extensions.{decided_with};
+ghost use Rattle.packet_parts.specs.Extensions.{deciding};
+ghost use Rattle.packet_parts.specs.declared.fragment.FragmentHeader.{FragmentHeader as Header};
+ghost use Rattle.std.specs.Option.{option_or};
 
 use crate::fragment::FragmentHeader;
 use etherparse::err::LenError;
@@ -38,6 +40,7 @@ pub struct AfterExtensions<'a> {
 pub fn after_extensions(body: &[u8], first: IpNumber) -> AfterExtensions
     ensures chain { FollowsChain body.now first result.number result.rest.now }
     ensures ends { EndsAs result.is_later result.incomplete body.now first result.fragment result.number result.rest.now }
+    ensures within { IfSome result.incomplete (λ e. e.layer_start_offset ≤ length body.now) }
 {
     let mut rest = body;
     let mut number = first;
@@ -52,11 +55,11 @@ pub fn after_extensions(body: &[u8], first: IpNumber) -> AfterExtensions
                 incomplete: None,
             };
         }
-        match passed(rest, number, fragment) {
+        match passed(rest, number) {
             Ok(next) => {
                 number = next.number;
                 rest = next.rest;
-                fragment = next.fragment;
+                fragment = fragment.or(next.fragment);
                 if next.is_later {
                     return AfterExtensions {
                         number,
@@ -83,30 +86,27 @@ pub fn after_extensions(body: &[u8], first: IpNumber) -> AfterExtensions
 
 // What comes after one more extension header.
 #[derive(Drop)]
-struct Passed<'a> {
+struct Step<'a> {
     number: IpNumber,
     rest: &'a [u8],
+    // The header, if it is a fragment header that is not atomic.
     fragment: Option<FragmentHeader>,
     // That the header is the fragment header of a fragment that is not the first.
     is_later: bool,
 }
 
-// What comes after the extension header at the front of a slice, with the fragment header that
-// decides before and after it.
+// What comes after the extension header at the front of a slice.
 #[tactic(auto, using(crate::specs::Extensions::after_other, crate::specs::Extensions::after_fragment))]
-fn passed<'a>(
-    slice: &'a [u8],
-    number: IpNumber,
-    decided: Option<FragmentHeader>,
-) -> Result<Passed<'a>, LenError>
+fn passed(slice: &[u8], number: IpNumber) -> Result<Step, LenError>
     requires skippable { IsSkippable number }
     ensures chain { (s : List ℕ) → (first : ℕ) → FollowsChain s first number slice.now →
         IfOk result (λ x. FollowsChain s first x.number x.rest.now) }
-    ensures goes_on { (s : List ℕ) → (first : ℕ) → Passes s first decided number slice.now →
-        IfOk result (λ x. IsFalse x.is_later → Passes s first x.fragment x.number x.rest.now) }
-    ensures ends { (s : List ℕ) → (first : ℕ) → Passes s first decided number slice.now →
-        IfOk result (λ x. IsTrue x.is_later →
-        EndsAtLaterFragment s first x.fragment x.number x.rest.now) }
+    ensures goes_on { (s : List ℕ) → (first : ℕ) → (decided : Option Header) →
+        Passes s first decided number slice.now → IfOk result (λ x. IsFalse x.is_later →
+        Passes s first (option_or decided x.fragment) x.number x.rest.now) }
+    ensures ends { (s : List ℕ) → (first : ℕ) → (decided : Option Header) →
+        Passes s first decided number slice.now → IfOk result (λ x. IsTrue x.is_later →
+        EndsAtLaterFragment s first (option_or decided x.fragment) x.number x.rest.now) }
     ensures short { IfErr result (λ e. length slice.now < required_len_of number slice.now) }
     ensures error { IfErr result (λ e. e ≡ incomplete_header_error number slice.now 0) }
     ensures shorter { IfOk result (λ x. length x.rest.now < length slice.now) }
@@ -116,30 +116,33 @@ fn passed<'a>(
         Err(e) => return Err(e),
     };
     if number != IpNumber::IPV6_FRAGMENTATION_HEADER {
-        return Ok(Passed {
+        return Ok(Step {
             number: next,
             rest,
-            fragment: decided,
+            fragment: None,
             is_later: false,
         });
     }
-    match FragmentHeader::from_slice(slice) {
-        Ok((header, _)) => Ok(Passed {
-            number: next,
-            rest,
-            fragment: decided_with(decided, header),
-            is_later: header.fragment_offset.value() != 0,
-        }),
+    let header = match FragmentHeader::from_slice(slice) {
+        Ok((header, _)) => header,
         Err(_) => unreachable!(), // The header is whole.
-    }
+    };
+    let is_later = header.fragment_offset.value() != 0;
+    Ok(Step {
+        number: next,
+        rest,
+        fragment: deciding(header),
+        is_later,
+    })
 }
 
-// The fragment header that decides, after one more.
-fn decided_with(decided: Option<FragmentHeader>, next: FragmentHeader) -> Option<FragmentHeader>
-    ensures value { result ≡ decided_with decided next }
+// A fragment header, if it decides.
+fn deciding(header: FragmentHeader) -> Option<FragmentHeader>
+    ensures value { result ≡ deciding header }
 {
-    match decided {
-        None if next.is_fragmenting_payload() => Some(next),
-        decided => decided,
+    if header.is_fragmenting_payload() {
+        Some(header)
+    } else {
+        None
     }
 }

@@ -49,7 +49,7 @@ impl FragmentHeader {
                 layer_start_offset: 0,
             });
         }
-        let (front, rest) = slice.split_at(FragmentHeader::LEN);
+        let (front, rest) = (&slice[..FragmentHeader::LEN], &slice[FragmentHeader::LEN..]);
         Ok((header_of(front), rest))
     }
 

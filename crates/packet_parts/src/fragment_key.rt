@@ -73,13 +73,16 @@ pub fn ipv6_key(packet: &[u8]) -> Result<Option<Ipv6Key>, ipv6::HeaderSliceError
 {
     let (header, body) = Ipv6Header::from_slice(packet)?;
     let after = after_extensions(body, header.next_header);
-    match (after.fragment, after.incomplete) {
-        (Some(fragment), _) => Ok(Some(Ipv6Key {
-            source: header.source,
-            destination: header.destination,
+    if let Some(fragment) = after.fragment {
+        let (source, destination) = (header.source, header.destination);
+        return Ok(Some(Ipv6Key {
+            source,
+            destination,
             identification: fragment.identification,
-        })),
-        (None, Some(e)) => Err(ipv6::HeaderSliceError::Len(e.add_offset(Ipv6Header::LEN))),
-        (None, None) => Ok(None),
+        }));
+    }
+    match after.incomplete {
+        Some(e) => Err(ipv6::HeaderSliceError::Len(e.add_offset(Ipv6Header::LEN))),
+        None => Ok(None),
     }
 }

@@ -1,10 +1,14 @@
 //! IP packets of either version, sliced into their parts.
 
-ghost use Rattle.std.specs.Prelude.{ℕ, ◌≡◌, ◌<◌, List, ◌++◌, IfErr, IfOk, length};
+ghost use Rattle.std.specs.Prelude.{ℕ, ◌≡◌, ◌+◌, ◌<◌, ◌≤◌, ◌^◌, List, ◌++◌, IfErr, IfOk, IfSome};
+ghost use Rattle.std.specs.Prelude.{MatchOption, length, option_map};
 ghost use Rattle.etherparse.specs.FirstByte.{version_of};
-ghost use Rattle.etherparse.specs.Reading.{too_short_error};
-ghost use Rattle.packet_parts.specs.IpSlice.{HasLaxIpParts, HasNoIpParts, ipv4_fragment_of};
-ghost use Rattle.packet_parts.specs.IpSlice.{placed};
+ghost use Rattle.etherparse.specs.LenError.{len_error_moved};
+ghost use Rattle.etherparse.specs.Ipv6Header.{IsIpv6Layout};
+ghost use Rattle.etherparse.specs.Reading.{BeginsWith, too_short_error};
+ghost use Rattle.packet_parts.specs.IpSlice.{HasIpParts, HasLaxIpParts, HasNoIpParts, IsWhole};
+ghost use Rattle.packet_parts.specs.IpSlice.{RefusesIp, ipv4_fragment_of, ipv6_bytes, placed};
+ghost use Rattle.packet_parts.specs.declared.ip_slice.IpSliceError.TheVariants as Stop;
 
 use crate::checksum::{Absence, Verdict, ipv4_verdict, ipv6_verdict};
 use crate::extensions::after_extensions;
@@ -159,15 +163,15 @@ impl<'a> IpSlice<'a> {
         match self {
             IpSlice::Ipv4 { header, payload } => ipv4_verdict(header, payload),
             IpSlice::Ipv6 {
-                fragment: Some(_),
-                ..
-            } => Verdict::Absent(Absence::Fragment),
-            IpSlice::Ipv6 {
                 header,
+                fragment,
                 upper,
                 payload,
                 ..
-            } => ipv6_verdict(header, *upper, payload),
+            } => match fragment {
+                Some(_) => Verdict::Absent(Absence::Fragment),
+                None => ipv6_verdict(header, *upper, payload),
+            },
         }
     }
 }
@@ -209,19 +213,37 @@ fn ipv4_slice(packet: &[u8]) -> Result<LaxIpSlice, IpSliceError>
         Err(e) => return Err(IpSliceError::Ipv4Header(e)),
     };
     let total_len = usize::from(header.total_len);
-    let (payload, stop) = match header.payload_len() {
-        Ok(len) if packet.len() >= total_len => (&rest[..usize::from(len)], None),
-        Ok(_) => (
-            rest,
-            Some(IpSliceError::Packet(truncated(total_len, packet.len(), Layer::Ipv4Packet))),
-        ),
-        Err(e) if total_len == 0 => (rest, Some(IpSliceError::Packet(e))),
-        Err(e) => return Err(IpSliceError::Packet(e)),
-    };
-    Ok(LaxIpSlice {
-        slice: IpSlice::Ipv4 { header, payload },
-        stop,
-    })
+    match header.payload_len() {
+        Ok(_) if packet.len() < total_len => {
+            let e = too_short(total_len, packet.len(), Layer::Ipv4Packet);
+            Ok(LaxIpSlice {
+                slice: IpSlice::Ipv4 {
+                    header,
+                    payload: rest,
+                },
+                stop: Some(IpSliceError::Packet(e)),
+            })
+        }
+        Ok(len) => {
+            let payload = &rest[..usize::from(len)];
+            Ok(LaxIpSlice {
+                slice: IpSlice::Ipv4 { header, payload },
+                stop: None,
+            })
+        }
+        Err(e) => {
+            if total_len != 0 {
+                return Err(IpSliceError::Packet(e));
+            }
+            Ok(LaxIpSlice {
+                slice: IpSlice::Ipv4 {
+                    header,
+                    payload: rest,
+                },
+                stop: Some(IpSliceError::Packet(e)),
+            })
+        }
+    }
 }
 
 // The parts of a packet of version 6.
@@ -236,17 +258,26 @@ fn ipv6_slice(packet: &[u8]) -> Result<LaxIpSlice, IpSliceError>
         Err(e) => return Err(IpSliceError::Ipv6Header(e)),
     };
     let len = usize::from(header.payload_length);
-    let body = &rest[..len.min(rest.len())];
+    if rest.len() < len {
+        let e = too_short(Ipv6Header::LEN + len, packet.len(), Layer::Ipv6Packet);
+        let slice = ipv6_parts(header, rest).slice;
+        let stop = Some(IpSliceError::Packet(e));
+        return Ok(LaxIpSlice { slice, stop });
+    }
+    Ok(ipv6_parts(header, &rest[..len]))
+}
+
+// The parts of a packet of version 6 with this header and this body.
+fn ipv6_parts(header: Ipv6Header, body: &[u8]) -> LaxIpSlice
+    ensures parts { (packet : List ℕ) →
+        BeginsWith IsIpv6Layout (ipv6_bytes header packet) header body.now →
+        HasIpParts packet result.slice }
+    ensures stop { (packet : List ℕ) → 40 + header.payload_length ≤ length packet →
+        BeginsWith IsIpv6Layout (ipv6_bytes header packet) header body.now →
+        MatchOption result.stop (IsWhole packet result.slice) (RefusesIp packet) }
+{
     let after = after_extensions(body, header.next_header);
-    let stop = if rest.len() < len {
-        let len = Ipv6Header::LEN + len;
-        Some(IpSliceError::Packet(truncated(len, packet.len(), Layer::Ipv6Packet)))
-    } else {
-        match after.incomplete {
-            Some(e) => Some(IpSliceError::Extensions(e.add_offset(Ipv6Header::LEN))),
-            None => None,
-        }
-    };
+    let stop = moved(after.incomplete);
     let slice = IpSlice::Ipv6 {
         header,
         extensions: before(body, after.rest),
@@ -255,7 +286,7 @@ fn ipv6_slice(packet: &[u8]) -> Result<LaxIpSlice, IpSliceError>
         upper: after.number,
         payload: after.rest,
     };
-    Ok(LaxIpSlice { slice, stop })
+    LaxIpSlice { slice, stop }
 }
 
 // The place of an IPv4 fragment.
@@ -283,8 +314,19 @@ fn placed(header: &FragmentHeader) -> Fragment
     }
 }
 
+// The error of an extension header that is incomplete, with its place from the packet's start.
+fn moved(incomplete: Option<LenError>) -> Option<IpSliceError>
+    requires fits { IfSome incomplete (λ e. e.layer_start_offset + 40 < 2 ^ 64) }
+    ensures value { result ≡ option_map (λ e. Stop.Extensions (len_error_moved 40 e)) incomplete }
+{
+    match incomplete {
+        Some(e) => Some(IpSliceError::Extensions(e.add_offset(Ipv6Header::LEN))),
+        None => None,
+    }
+}
+
 // The error of a packet that is shorter than its length field says.
-fn truncated(required_len: usize, len: usize, layer: Layer) -> LenError
+fn too_short(required_len: usize, len: usize, layer: Layer) -> LenError
     ensures value { result ≡ too_short_error layer required_len len }
 {
     LenError {

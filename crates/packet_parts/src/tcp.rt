@@ -28,7 +28,8 @@ pub struct TcpHeaderSlice<'a> {
 }
 
 impl<'a> TcpHeaderSlice<'a> {
-    ghost use Rattle.std.specs.Prelude.{ℕ, List, Result, drop, slice_index, slice_range};
+    ghost use Rattle.std.specs.Prelude.{ℕ, ◌≡◌, ◌*◌, ◌↔◌, List, IsTrue, Result, drop, length};
+    ghost use Rattle.std.specs.Prelude.{slice_index, slice_range};
     ghost use Rattle.std.specs.Int.{from_be_bytes, w16, w32};
     ghost use Rattle.std.specs.Result.{result_map_both};
     ghost use Rattle.packet_parts.specs.Tcp.{ViewsTcp, flag_at};

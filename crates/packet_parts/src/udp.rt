@@ -51,7 +51,7 @@ impl UdpHeader {
                 layer_start_offset: 0,
             });
         }
-        let (front, rest) = slice.split_at(UdpHeader::LEN);
+        let (front, rest) = (&slice[..UdpHeader::LEN], &slice[UdpHeader::LEN..]);
         Ok((header_of(front), rest))
     }
 
@@ -99,7 +99,7 @@ impl UdpHeader {
     }
 
     // Sets the checksum, from the sum of the pseudo-header.
-    fn complete(&mut self, pseudo_header: Sum16BitWords, payload: &[u8])
+    fn complete(&mut self, mut pseudo_header: Sum16BitWords, payload: &[u8])
         ensures others { self.new ≡ record self.old { checksum = self.new.checksum } }
         ensures there { self.new.checksum ≢ 0 }
         ensures right { (before header : List ℕ) → StandsForWords 0 before pseudo_header →
