@@ -1,6 +1,6 @@
 -- What a receiver finds of the checksum of UDP, TCP, ICMP or ICMPv6.
 use Rattle.std.specs.Prelude.{ℕ, ◌≡◌, ◌≢◌, ◌==◌, ◌<◌, ◌≤◌, ◌^◌, ◌⊎◌, List, [], ◌∷◌, ◌++◌}
-use Rattle.std.specs.Prelude.{None, Some, if◌then◌else◌, length, slice_range, take}
+use Rattle.std.specs.Prelude.{None, Some, codes, if◌then◌else◌, length, slice_range, take}
 use Rattle.std.specs.Int.{from_be_bytes, to_be_bytes, w16, w32}
 use Rattle.etherparse.specs.Ipv4Header.{IsFragment}
 use Rattle.etherparse.specs.WordSums.{ones_complement_sum}
@@ -115,3 +115,9 @@ IsVerdict (slice.Ipv6 ip extensions None is_later number payload) verdict =
     IsVerdictIpv6 ip number payload.now verdict
 IsVerdict (slice.Ipv6 ip extensions (Some fragment) is_later number payload) verdict =
     verdict ≡ Absent absence.Fragment
+
+-- how a verdict is displayed
+abbrev pub verdict_text : Verdict → List ℕ
+verdict_text Right = codes "right"
+verdict_text Wrong = codes "wrong"
+verdict_text (Absent reason) = codes "none"

@@ -2,12 +2,17 @@
 -- its length field says and its bytes are there.
 use Rattle.std.specs.Prelude.{ℕ, ◌≡◌, ◌≢◌, ◌+◌, ◌*◌, ◌<◌, ◌≤◌, ◌==◌, ◌||◌, ◌⊎◌, Bool, false, not}
 use Rattle.std.specs.Prelude.{IsTrue, List, ◌++◌, length, take, Err, MatchOption, Option, Some}
-use Rattle.std.specs.Prelude.{None, if◌then◌else◌, option_map}
+use Rattle.std.specs.Prelude.{None, codes, decimal, if◌then◌else◌, option_map}
+use Rattle.std.specs.Net.Addr.{ipv4_octets, ipv6_segments, segments_of}
+use Rattle.std.specs.declared.net.ip_addr.IpAddr.{IpAddr}
+use Rattle.std.specs.declared.net.ip_addr.IpAddr.TheVariants.{V4, V6}
 use Rattle.etherparse.specs.ExtensionHeaders.{IsSkippable}
 use Rattle.etherparse.specs.FirstByte.{version_of}
+use Rattle.etherparse.specs.Ipv4Errors.{ipv4_header_slice_error_text}
 use Rattle.etherparse.specs.Ipv4Header.{IsIpv4Layout, RefusesIpv4, ipv4_payload_len}
+use Rattle.etherparse.specs.Ipv6Errors.{ipv6_header_slice_error_text}
 use Rattle.etherparse.specs.Ipv6Header.{IsIpv6Layout, RefusesIpv6}
-use Rattle.etherparse.specs.LenError.{len_error_moved}
+use Rattle.etherparse.specs.LenError.{len_error_moved, len_error_text}
 use Rattle.etherparse.specs.Reading.{BeginsWith, too_short_error}
 use Rattle.etherparse.specs.declared.err.LenError.{LenError}
 use Rattle.etherparse.specs.declared.err.Layer.TheVariants as layer
@@ -134,6 +139,31 @@ HasNoIpParts packet (error.Ipv6Header e) = RefusesIp packet (error.Ipv6Header e)
 pub record HasLaxIpParts (packet : List ℕ) (lax : LaxIpSlice) : Type 0 where
   pub parts : HasIpParts packet lax.slice
   pub stop : MatchOption lax.stop (IsWhole packet lax.slice) (RefusesIp packet)
+
+-- the text of the error with which a packet is refused
+abbrev pub ip_slice_error_text : IpSliceError → List ℕ
+ip_slice_error_text error.Empty = len_error_text (too_short_error layer.IpHeader 1 0)
+ip_slice_error_text (error.UnexpectedVersion version) =
+    codes "IP Header Error: Version " ++ (decimal version ++ codes " is neither 4 nor 6.")
+ip_slice_error_text (error.Ipv4Header e) = ipv4_header_slice_error_text e
+ip_slice_error_text (error.Ipv6Header e) = ipv6_header_slice_error_text e
+ip_slice_error_text (error.Packet e) = len_error_text e
+ip_slice_error_text (error.Extensions e) = len_error_text e
+
+-- an address of 4 octets, or one of 16
+abbrev pub IsAddress : IpAddr → List ℕ → Type 0
+IsAddress (V4 address) octets = ipv4_octets address ≡ octets
+IsAddress (V6 address) octets = ipv6_segments address ≡ segments_of octets
+
+-- who sent the packet
+abbrev pub source_of : IpSlice → List ℕ
+source_of (slice.Ipv4 header payload) = header.source
+source_of (slice.Ipv6 header extensions fragment is_later upper payload) = header.source
+
+-- who receives it
+abbrev pub destination_of : IpSlice → List ℕ
+destination_of (slice.Ipv4 header payload) = header.destination
+destination_of (slice.Ipv6 header extensions fragment is_later upper payload) = header.destination
 
 -- the number of the payload of a slice
 abbrev pub upper_of : IpSlice → ℕ

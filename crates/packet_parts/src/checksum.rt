@@ -1,19 +1,21 @@
 //! The checksums of UDP, TCP, ICMP and ICMPv6: the pseudo-headers that they cover, and what a
 //! receiver finds of them.
 
-ghost use Rattle.std.specs.Prelude.{◌≡◌, ◌≢◌, ◌↔◌, ◌<◌, ◌≤◌, IfErr, IfOk, IsTrue, length};
+ghost use Rattle.std.specs.Prelude.{◌≡◌, ◌≢◌, ◌↔◌, ◌<◌, ◌≤◌, IfErr, IfOk, IsTrue, Some, length};
 ghost use Rattle.etherparse.specs.WordSums.{StandsForWords};
 ghost use Rattle.packet_parts.specs.Checksum.{Covers, IsAbsent, IsRightIpv4, IsRightIpv6};
 ghost use Rattle.packet_parts.specs.Checksum.{IsVerdictIpv4, IsVerdictIpv6, IsWithoutChecksum};
 ghost use Rattle.packet_parts.specs.Checksum.{ipv4_pseudo_header, ipv6_pseudo_header};
-ghost use Rattle.packet_parts.specs.Checksum.{udp_length};
+ghost use Rattle.packet_parts.specs.Checksum.{udp_length, verdict_text};
 
 use crate::tcp::TcpHeaderSlice;
 use crate::udp::UdpHeader;
 use etherparse::checksum::Sum16BitWords;
 use etherparse::{IpNumber, Ipv4Header, Ipv6Header};
+use std::fmt;
 
-/// What a receiver finds of the checksum of a payload.
+/// What a receiver finds of the checksum of a payload. It is displayed as `right`, `wrong` or
+/// `none`.
 ///
 /// The packets that a host sends look wrong in a capture on that host if its network card computes
 /// their checksums (checksum offload).
@@ -25,6 +27,18 @@ pub enum Verdict {
     Wrong,
     /// There is none to judge.
     Absent(Absence),
+}
+
+impl fmt::Display for Verdict {
+    ghost output = { λ verdict. Some (verdict_text verdict) };
+
+    fn fmt<W: fmt::Write>(&self, f: &mut fmt::Formatter<W>) -> fmt::Result {
+        match self {
+            Verdict::Right => f.write_str("right"),
+            Verdict::Wrong => f.write_str("wrong"),
+            Verdict::Absent(_) => f.write_str("none"),
+        }
+    }
 }
 
 /// Why there is no checksum to judge.

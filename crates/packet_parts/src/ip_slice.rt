@@ -1,13 +1,14 @@
 //! IP packets of either version, sliced into their parts.
 
 ghost use Rattle.std.specs.Prelude.{ℕ, ◌≡◌, ◌+◌, ◌<◌, ◌≤◌, ◌^◌, List, ◌++◌, IfErr, IfOk, IfSome};
-ghost use Rattle.std.specs.Prelude.{MatchOption, length, option_map};
+ghost use Rattle.std.specs.Prelude.{MatchOption, Some, length, option_map};
 ghost use Rattle.etherparse.specs.FirstByte.{version_of};
 ghost use Rattle.etherparse.specs.LenError.{len_error_moved};
 ghost use Rattle.etherparse.specs.Ipv6Header.{IsIpv6Layout};
 ghost use Rattle.etherparse.specs.Reading.{BeginsWith, too_short_error};
 ghost use Rattle.packet_parts.specs.IpSlice.{HasIpParts, HasLaxIpParts, HasNoIpParts, IsWhole};
-ghost use Rattle.packet_parts.specs.IpSlice.{RefusesIp, ipv4_fragment_of, ipv6_bytes, placed};
+ghost use Rattle.packet_parts.specs.IpSlice.{RefusesIp, ip_slice_error_text, ipv4_fragment_of};
+ghost use Rattle.packet_parts.specs.IpSlice.{ipv6_bytes, placed};
 ghost use Rattle.packet_parts.specs.declared.ip_slice.IpSliceError.TheVariants as Stop;
 
 use crate::checksum::{Absence, Verdict, ipv4_verdict, ipv6_verdict};
@@ -15,6 +16,8 @@ use crate::extensions::after_extensions;
 use crate::fragment::{Fragment, FragmentHeader};
 use etherparse::err::{Layer, LenError, ipv4, ipv6};
 use etherparse::{IpNumber, Ipv4Header, Ipv6Header, LenSource};
+use std::fmt;
+use std::net::{IpAddr, Ipv4Addr, Ipv6Addr};
 
 /// The parts of an IP packet, cut at its length field: what comes after the packet is in none of
 /// them.
@@ -71,6 +74,33 @@ pub enum IpSliceError {
     Extensions(LenError),
 }
 
+impl fmt::Display for IpSliceError {
+    ghost output = { λ error. Some (ip_slice_error_text error) };
+
+    fn fmt<W: fmt::Write>(&self, f: &mut fmt::Formatter<W>) -> fmt::Result {
+        match self {
+            IpSliceError::Empty => {
+                let e = LenError {
+                    required_len: 1,
+                    len: 0,
+                    len_source: LenSource::Slice,
+                    layer: Layer::IpHeader,
+                    layer_start_offset: 0,
+                };
+                fmt::Display::fmt(&e, f)
+            }
+            IpSliceError::UnexpectedVersion { version_number } => {
+                let version = *version_number;
+                write!(f, "IP Header Error: Version {version} is neither 4 nor 6.")
+            }
+            IpSliceError::Ipv4Header(e) => fmt::Display::fmt(e, f),
+            IpSliceError::Ipv6Header(e) => fmt::Display::fmt(e, f),
+            IpSliceError::Packet(e) => fmt::Display::fmt(e, f),
+            IpSliceError::Extensions(e) => fmt::Display::fmt(e, f),
+        }
+    }
+}
+
 /// The parts of an IP packet as far as they are there.
 #[derive(Clone, Debug, PartialEq, Eq, Drop)]
 pub struct LaxIpSlice<'a> {
@@ -86,8 +116,9 @@ pub struct LaxIpSlice<'a> {
 impl<'a> IpSlice<'a> {
     ghost use Rattle.std.specs.Prelude.{◌≡◌, ◌↔◌, IfErr, IfOk, IsTrue};
     ghost use Rattle.packet_parts.specs.Checksum.{IsVerdict};
-    ghost use Rattle.packet_parts.specs.IpSlice.{IsIpPacket, IsLater, RefusesIp, fragment_of};
-    ghost use Rattle.packet_parts.specs.IpSlice.{payload_of, upper_of};
+    ghost use Rattle.packet_parts.specs.IpSlice.{IsAddress, IsIpPacket, IsLater, RefusesIp};
+    ghost use Rattle.packet_parts.specs.IpSlice.{destination_of, fragment_of, payload_of, source_of};
+    ghost use Rattle.packet_parts.specs.IpSlice.{upper_of};
 
     /// The parts of the packet at the front of a slice.
     ///
@@ -128,6 +159,27 @@ impl<'a> IpSlice<'a> {
         match self {
             IpSlice::Ipv4 { payload, .. } => payload,
             IpSlice::Ipv6 { payload, .. } => payload,
+        }
+    }
+
+    /// The address of the sender.
+    pub fn source(&self) -> IpAddr
+        ensures value { IsAddress result (source_of self.now) }
+    {
+        match self {
+            IpSlice::Ipv4 { header, .. } => IpAddr::V4(Ipv4Addr::from_octets(header.source)),
+            IpSlice::Ipv6 { header, .. } => IpAddr::V6(Ipv6Addr::from_octets(header.source)),
+        }
+    }
+
+    /// The address of the receiver. In IPv6 it is that of the header, which a routing header can
+    /// have changed (RFC 8200 section 4.4).
+    pub fn destination(&self) -> IpAddr
+        ensures value { IsAddress result (destination_of self.now) }
+    {
+        match self {
+            IpSlice::Ipv4 { header, .. } => IpAddr::V4(Ipv4Addr::from_octets(header.destination)),
+            IpSlice::Ipv6 { header, .. } => IpAddr::V6(Ipv6Addr::from_octets(header.destination)),
         }
     }
 
