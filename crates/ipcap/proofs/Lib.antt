@@ -1,4 +1,3 @@
 mod Fronts
-mod PseudoHeader
 mod Runs
 mod Written

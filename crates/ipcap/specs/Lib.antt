@@ -1,4 +1,3 @@
-pub mod Cut
 pub mod Lines
 pub mod Link
 pub mod Listing

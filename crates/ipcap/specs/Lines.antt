@@ -1,32 +1,22 @@
 -- The line of a record, and the lines at the end.
 use Rattle.std.specs.Prelude.{ℕ, ◌-◌, ◌/◌, ◌==◌, Bool, List, [], ◌++◌, length, codes, decimal}
-use Rattle.std.specs.Prelude.{replicate, nat_lt, if◌then◌else◌, Option, Some, None, false}
+use Rattle.std.specs.Prelude.{replicate, nat_lt, if◌then◌else◌, Option, Some, None, false, true}
 use Rattle.std.specs.Fmt.{digits}
-use Rattle.std.specs.Net.Addr.{segments_of}
-use Rattle.std.specs.Net.Text.{ipv4_text, ipv6_text}
-use Rattle.etherparse.specs.Ipv4Errors.{ipv4_header_slice_error_text}
-use Rattle.etherparse.specs.Ipv6Errors.{ipv6_header_slice_error_text}
-use Rattle.etherparse.specs.LenError.{len_error_text}
-use Rattle.etherparse.specs.Reading.{too_short_error}
-use Rattle.etherparse.specs.declared.err.Layer.TheVariants as layer
+use Rattle.std.specs.Net.Text.{ip_text}
 use Rattle.packet_capture.specs.Capture.{Recorded}
 use Rattle.packet_capture.specs.declared.capture.CaptureError.{CaptureError}
 use Rattle.packet_capture.specs.declared.capture.CaptureError.TheVariants as capture
 use Rattle.packet_capture.specs.declared.capture.CutOff as cut
 use Rattle.packet_capture.specs.declared.capture.Resolution.{Resolution}
 use Rattle.packet_capture.specs.declared.capture.Resolution.TheVariants.{Microseconds, Nanoseconds}
-use Rattle.packet_parts.specs.declared.ip_slice.IpSliceError.{IpSliceError}
-use Rattle.packet_parts.specs.declared.ip_slice.IpSliceError.TheVariants as error
+use Rattle.packet_parts.specs.Checksum.{verdict_text}
+use Rattle.packet_parts.specs.IpSlice.{ip_slice_error_text}
+use Rattle.packet_parts.specs.declared.fragment.Fragment.{Fragment}
 use Rattle.ipcap.specs.declared.link.NoPacket.{NoPacket}
 use Rattle.ipcap.specs.declared.link.NoPacket.TheVariants.{NoLinkHeader, OtherFamily, OtherType}
-use Rattle.ipcap.specs.declared.packet.Address.{Address}
-use Rattle.ipcap.specs.declared.packet.Address.TheVariants.{V4, V6}
 use Rattle.ipcap.specs.declared.packet.Detail.{Detail}
 use Rattle.ipcap.specs.declared.packet.Detail.TheVariants.{Message, Nothing, Ports}
-use Rattle.ipcap.specs.declared.packet.Mark.{Mark}
 use Rattle.ipcap.specs.declared.packet.Shown.{Shown}
-use Rattle.ipcap.specs.declared.packet.Verdict.{Verdict}
-use Rattle.ipcap.specs.declared.packet.Verdict.TheVariants.{Absent, Right, Wrong}
 use Rattle.ipcap.specs.declared.reading.Reading.{Reading}
 use Rattle.ipcap.specs.declared.reading.Reading.TheVariants.{Other, Packet, Refused}
 use Rattle.ipcap.specs.declared.totals.Totals.{Totals}
@@ -45,11 +35,6 @@ unfoldable pub head_text : ℕ → ℕ → ℕ → Resolution → List ℕ
 head_text number seconds nanoseconds resolution =
     decimal number ++ (codes " " ++ (decimal seconds ++ (codes "."
     ++ (fraction_text resolution nanoseconds ++ codes " "))))
-
--- an address: dotted decimals, or the text of RFC 5952
-abbrev pub address_text : Address → List ℕ
-address_text (V4 octets) = ipv4_text octets
-address_text (V6 octets) = ipv6_text (segments_of octets)
 
 -- the keyword of a protocol's number (IANA's registry of protocol numbers)
 unfoldable pub keyword_of : ℕ → Option (List ℕ)
@@ -93,44 +78,35 @@ detail_text (Message kind code) = decimal kind ++ (codes "/" ++ decimal code)
 detail_text Nothing = codes "-"
 
 -- the identification and the offset of a fragment, with a plus if more fragments follow
-abbrev pub mark_text : Option Mark → List ℕ
-mark_text None = codes "-"
-mark_text (Some mark) = decimal mark.identification ++ (codes "@" ++ (decimal mark.offset
-    ++ (if mark.more then codes "+" else [])))
+abbrev pub place_text : Option Fragment → List ℕ
+place_text None = codes "-"
+place_text (Some fragment) = decimal fragment.identification ++ (codes "@"
+    ++ (decimal fragment.offset ++ (if fragment.more_fragments then codes "+" else [])))
 
--- a verdict on a checksum
-abbrev pub verdict_text : Verdict → List ℕ
-verdict_text Right = codes "right"
-verdict_text Wrong = codes "wrong"
-verdict_text Absent = codes "none"
+-- whether the checksum of a header is right
+abbrev pub header_verdict_text : Option Bool → List ℕ
+header_verdict_text None = codes "none"
+header_verdict_text (Some true) = codes "right"
+header_verdict_text (Some false) = codes "wrong"
 
 -- sender, receiver and protocol of the packet
 unfoldable pub parties_text : Shown → List ℕ
-parties_text shown = address_text shown.source ++ (codes " > "
-    ++ (address_text shown.destination ++ (codes " " ++ (upper_text shown.upper
+parties_text shown = ip_text shown.source ++ (codes " > "
+    ++ (ip_text shown.destination ++ (codes " " ++ (upper_text shown.upper
     ++ (codes " " ++ detail_text shown.detail)))))
 
--- the length of the payload, the hops left, the place of a fragment, and the verdicts on the
--- checksums of the IPv4 header and of the payload
+-- the length of the payload, the hops left, the place of a fragment, the verdicts on the checksums
+-- of the IPv4 header and of the payload, and that the total length is 0
 unfoldable pub payload_text : Shown → List ℕ
 payload_text shown = codes " length " ++ (decimal shown.len ++ (codes " hops "
-    ++ (decimal shown.hops ++ (codes " fragment " ++ (mark_text shown.mark
-    ++ (codes " checksums " ++ (verdict_text shown.header_checksum ++ (codes " "
-    ++ verdict_text shown.payload_checksum))))))))
+    ++ (decimal shown.hops ++ (codes " fragment " ++ (place_text shown.fragment
+    ++ (codes " checksums " ++ (header_verdict_text shown.is_header_right ++ (codes " "
+    ++ (verdict_text shown.verdict
+    ++ (if shown.has_no_length then codes " total length 0" else []))))))))))
 
 -- what is shown of a packet
 abbrev pub shown_text : Shown → List ℕ
 shown_text shown = parties_text shown ++ payload_text shown
-
--- the text of the error with which a packet is refused
-abbrev pub ip_slice_error_text : IpSliceError → List ℕ
-ip_slice_error_text error.Empty = len_error_text (too_short_error layer.IpHeader 1 0)
-ip_slice_error_text (error.UnexpectedVersion version) =
-    codes "IP Header Error: Version " ++ (decimal version ++ codes " is neither 4 nor 6.")
-ip_slice_error_text (error.Ipv4Header e) = ipv4_header_slice_error_text e
-ip_slice_error_text (error.Ipv6Header e) = ipv6_header_slice_error_text e
-ip_slice_error_text (error.Packet e) = len_error_text e
-ip_slice_error_text (error.Extensions e) = len_error_text e
 
 -- four hex digits, in lower case
 abbrev pub hex_text : ℕ → List ℕ

@@ -1,15 +1,15 @@
 -- What a frame is found to carry.
 use Rattle.std.specs.Prelude.{ℕ, ◌≡◌, ◌||◌, Bool, true, false, List, Result, Ok, Err}
+use Rattle.std.specs.Net.Addr.{is_ipv4, is_ipv6}
 use Rattle.ipcap.specs.Link.{packet_of}
-use Rattle.ipcap.specs.Packet.{IsRefused, IsShownOf, is_wrong}
+use Rattle.ipcap.specs.Packet.{IsRefused, IsShown, is_wrong, is_wrong_header}
 use Rattle.ipcap.specs.declared.link.NoPacket.{NoPacket}
-use Rattle.ipcap.specs.declared.packet.Address.TheVariants.{V4, V6}
 use Rattle.ipcap.specs.declared.reading.Reading.{Reading}
 use Rattle.ipcap.specs.declared.reading.Reading.TheVariants.{Other, Packet, Refused}
 
 -- a packet, which the capture may have cut, is shown like this, or refused for this reason
 abbrev pub ReadsPacket : Bool → List ℕ → Reading → Type 0
-ReadsPacket is_cut packet (Packet shown) = IsShownOf is_cut packet shown
+ReadsPacket is_cut packet (Packet shown) = IsShown is_cut packet shown
 ReadsPacket is_cut packet (Refused e) = IsRefused is_cut packet e
 ReadsPacket is_cut packet (Other e) = ⊥
 
@@ -25,12 +25,12 @@ ReadsFrame link_type is_cut frame reading =
 
 -- whether it is shown as a packet of version 4, and of version 6
 abbrev pub is_version_4 : Reading → Bool
-is_version_4 (Packet shown) = elim shown.source [ V4 octets ↦ true | V6 octets ↦ false ]
+is_version_4 (Packet shown) = is_ipv4 shown.source
 is_version_4 (Refused e) = false
 is_version_4 (Other e) = false
 
 abbrev pub is_version_6 : Reading → Bool
-is_version_6 (Packet shown) = elim shown.source [ V4 octets ↦ false | V6 octets ↦ true ]
+is_version_6 (Packet shown) = is_ipv6 shown.source
 is_version_6 (Refused e) = false
 is_version_6 (Other e) = false
 
@@ -49,6 +49,6 @@ is_other (Other e) = true
 -- whether one of its checksums is wrong
 abbrev pub has_wrong_checksum : Reading → Bool
 has_wrong_checksum (Packet shown) =
-    is_wrong shown.header_checksum || is_wrong shown.payload_checksum
+    is_wrong_header shown.is_header_right || is_wrong shown.verdict
 has_wrong_checksum (Refused e) = false
 has_wrong_checksum (Other e) = false

@@ -3,37 +3,21 @@
 ghost use Rattle.std.specs.Prelude.{◌≡◌, Some, OnOk, MatchOption, length};
 ghost use Rattle.std.specs.Io.KnownBytes.{Appends};
 ghost use Rattle.packet_capture.specs.Capture.{recorded};
-ghost use Rattle.ipcap.specs.Lines.{detail_text, mark_text, parties_text, payload_text};
-ghost use Rattle.ipcap.specs.Lines.{damage_text, kinds_text, verdict_text};
-ghost use Rattle.ipcap.specs.Lines.{address_text, capture_error_line, closing_line, cut_off_line};
+ghost use Rattle.ipcap.specs.Lines.{detail_text, parties_text, payload_text, place_text};
+ghost use Rattle.ipcap.specs.Lines.{damage_text, header_verdict_text, kinds_text};
+ghost use Rattle.ipcap.specs.Lines.{capture_error_line, closing_line, cut_off_line};
 ghost use Rattle.ipcap.specs.Lines.{cut_text, fraction_text, head_text, hex_text, keyword_of};
 ghost use Rattle.ipcap.specs.Lines.{link_type_line, no_packet_text, reading_text, record_line};
 ghost use Rattle.ipcap.specs.Lines.{shown_text, skipped_line, skipped_text, upper_text};
-ghost use Rattle.ipcap.specs.Lines.{ip_slice_error_text};
 
 use crate::link::NoPacket;
-use crate::packet::{Address, Detail, Mark, Shown, Verdict};
+use crate::packet::{Detail, Shown};
 use crate::reading::Reading;
 use crate::totals::Totals;
-use etherparse::LenSource;
-use etherparse::err::{Layer, LenError};
-use std::io::Write;
-use std::net::Ipv4Addr;
-use std::{fmt, io};
-use packet_parts::address::Ipv6Text;
 use packet_capture::capture::{CaptureError, CutOff, Record, Resolution};
-use packet_parts::ip_slice::IpSliceError;
-
-impl fmt::Display for Address {
-    ghost output = { λ address. Some (address_text address) };
-
-    fn fmt<W: fmt::Write>(&self, f: &mut fmt::Formatter<W>) -> fmt::Result {
-        match self {
-            Address::V4(octets) => fmt::Display::fmt(&Ipv4Addr::from_octets(*octets), f),
-            Address::V6(octets) => fmt::Display::fmt(&Ipv6Text(*octets), f),
-        }
-    }
-}
+use packet_parts::fragment::Fragment;
+use std::io::Write;
+use std::{fmt, io};
 
 // A protocol as it is shown.
 #[derive(Clone, Copy)]
@@ -183,10 +167,7 @@ fn write_reading<W: Write>(writer: &mut W, reading: &Reading) -> io::Result<()>
 {
     match reading {
         Reading::Packet(shown) => write_shown(writer, shown),
-        Reading::Refused(e) => {
-            let refusal = Refusal(e);
-            write!(writer, "error: {refusal}")
-        }
+        Reading::Refused(e) => { write!(writer, "error: {e}") }
         Reading::Other(reason) => {
             let reason = *reason;
             write!(writer, "other: {reason}")
@@ -249,18 +230,23 @@ fn write_parties<W: Write>(writer: &mut W, shown: &Shown) -> io::Result<()>
     write!(writer, "{source} > {destination} {upper} {detail}")
 }
 
-// Writes the length of a packet's payload, the hops left, the place of a fragment, and the verdicts
-// on checksums.
+// Writes the length of a packet's payload, the hops left, the place of a fragment, the verdicts on
+// checksums, and that the total length is 0.
 #[tactic(auto, unfolding(crate::specs::Lines::payload_text))]
 fn write_payload<W: Write>(writer: &mut W, shown: &Shown) -> io::Result<()>
     ensures { OnOk result (Appends (W.contents writer.old) (W.contents writer.new)
         (payload_text shown.now)) }
 {
-    let (len, hops, mark) = (shown.len, shown.hops, Marked(shown.mark));
-    let (header, payload) = (shown.header_checksum, shown.payload_checksum);
+    let (len, hops, place) = (shown.len, shown.hops, Place(shown.fragment));
+    let (header, payload) = (HeaderVerdict(shown.is_header_right), shown.verdict);
+    let no_length = if shown.has_no_length {
+        " total length 0"
+    } else {
+        ""
+    };
     write!(
         writer,
-        " length {len} hops {hops} fragment {mark} checksums {header} {payload}"
+        " length {len} hops {hops} fragment {place} checksums {header} {payload}{no_length}"
     )
 }
 
@@ -284,62 +270,35 @@ impl fmt::Display for Detail {
 
 // The place of a fragment, as it is shown.
 #[derive(Clone, Copy)]
-struct Marked(Option<Mark>);
+struct Place(Option<Fragment>);
 
-impl fmt::Display for Marked {
-    ghost output = { λ marked. Some (mark_text marked.0) };
+impl fmt::Display for Place {
+    ghost output = { λ place. Some (place_text place.0) };
 
     fn fmt<W: fmt::Write>(&self, f: &mut fmt::Formatter<W>) -> fmt::Result {
         match self.0 {
             None => f.write_str("-"),
-            Some(mark) => {
-                let (identification, offset) = (mark.identification, mark.offset);
-                let more = if mark.more { "+" } else { "" };
+            Some(fragment) => {
+                let (identification, offset) = (fragment.identification, fragment.offset);
+                let more = if fragment.more_fragments { "+" } else { "" };
                 write!(f, "{identification}@{offset}{more}")
             }
         }
     }
 }
 
-impl fmt::Display for Verdict {
-    ghost output = { λ verdict. Some (verdict_text verdict) };
-
-    fn fmt<W: fmt::Write>(&self, f: &mut fmt::Formatter<W>) -> fmt::Result {
-        match self {
-            Verdict::Right => f.write_str("right"),
-            Verdict::Wrong => f.write_str("wrong"),
-            Verdict::Absent => f.write_str("none"),
-        }
-    }
-}
-
-// Why a packet is refused.
+// Whether the checksum of a header is right, as it is shown.
 #[derive(Clone, Copy)]
-struct Refusal<'a>(&'a IpSliceError);
+struct HeaderVerdict(Option<bool>);
 
-impl fmt::Display for Refusal<'_> {
-    ghost output = { λ refusal. Some (ip_slice_error_text refusal.0.now) };
+impl fmt::Display for HeaderVerdict {
+    ghost output = { λ verdict. Some (header_verdict_text verdict.0) };
 
     fn fmt<W: fmt::Write>(&self, f: &mut fmt::Formatter<W>) -> fmt::Result {
         match self.0 {
-            IpSliceError::Empty => {
-                let e = LenError {
-                    required_len: 1,
-                    len: 0,
-                    len_source: LenSource::Slice,
-                    layer: Layer::IpHeader,
-                    layer_start_offset: 0,
-                };
-                fmt::Display::fmt(&e, f)
-            }
-            IpSliceError::UnexpectedVersion { version_number } => {
-                let version = *version_number;
-                write!(f, "IP Header Error: Version {version} is neither 4 nor 6.")
-            }
-            IpSliceError::Ipv4Header(e) => fmt::Display::fmt(e, f),
-            IpSliceError::Ipv6Header(e) => fmt::Display::fmt(e, f),
-            IpSliceError::Packet(e) => fmt::Display::fmt(e, f),
-            IpSliceError::Extensions(e) => fmt::Display::fmt(e, f),
+            Some(true) => f.write_str("right"),
+            Some(false) => f.write_str("wrong"),
+            None => f.write_str("none"),
         }
     }
 }

@@ -17,9 +17,9 @@ use crate::reading::{Reading, read_frame};
 use crate::totals::{Outcome, Totals};
 use crate::window::{ROOM, Window};
 use arrayvec::ArrayVec;
+use packet_capture::capture::{ByteOrder, CutOff, FileHeader, Record, Resolution, next_record};
 use std::io;
 use std::io::{ErrorKind, Read, Write};
-use packet_capture::capture::{ByteOrder, CutOff, FileHeader, Record, Resolution, next_record};
 
 // The room for text that is not yet passed to the writer.
 const TEXT_ROOM: usize = 65_536;

@@ -2,7 +2,6 @@
 #![tactic(auto)]
 
 mod arguments;
-mod cut;
 mod lines;
 mod link;
 mod listing;

@@ -1,12 +1,13 @@
 //! What a frame is found to carry.
 
-ghost use Rattle.packet_parts.specs.IpSlice.{RefusesIp};
+ghost use Rattle.std.specs.Prelude.{◌↔◌, IsTrue, MatchOption};
+ghost use Rattle.ipcap.specs.Packet.{IsShownAt};
 ghost use Rattle.ipcap.specs.Reading.{ReadsFrame, ReadsPacket};
 
-use crate::cut::cut_slice;
 use crate::link::{NoPacket, packet_of};
-use crate::packet::{Address, Shown, shown_of};
-use packet_parts::ip_slice::{IpSlice, IpSliceError};
+use crate::packet::{Shown, has_no_length, shown_of};
+use packet_parts::checksum::Verdict;
+use packet_parts::ip_slice::{IpSliceError, LaxIpSlice};
 
 /// What a frame is found to carry.
 #[derive(Drop)]
@@ -22,7 +23,7 @@ pub enum Reading {
 /// What a frame of a link type that is read is found to carry. If the capture cut the frame, its
 /// packet can be shorter than its length field says.
 pub fn read_frame(link_type: u32, is_cut: bool, frame: &[u8]) -> Reading
-    ensures { ReadsFrame link_type is_cut frame.now result }
+    ensures reads { ReadsFrame link_type is_cut frame.now result }
 {
     match packet_of(link_type, frame) {
         Ok(packet) => read_packet(is_cut, packet),
@@ -30,30 +31,33 @@ pub fn read_frame(link_type: u32, is_cut: bool, frame: &[u8]) -> Reading
     }
 }
 
-// What is shown of a packet, or why it is refused. One that the capture cut can be shorter than its
-// length field says.
+// What is shown of a packet, or why it is refused.
 fn read_packet(is_cut: bool, packet: &[u8]) -> Reading
-    ensures { ReadsPacket is_cut packet.now result }
+    ensures reads { ReadsPacket is_cut packet.now result }
 {
-    match IpSlice::from_slice(packet) {
-        Ok(slice) => Reading::Packet(shown_of(false, packet, &slice)),
-        Err(e) => read_cut(is_cut, packet, e),
+    match LaxIpSlice::from_slice(packet) {
+        Ok(lax) => {
+            if is_shown(is_cut, &lax) {
+                return Reading::Packet(shown_of(packet, &lax));
+            }
+            match lax.stop {
+                Some(e) => Reading::Refused(e),
+                None => unreachable!(),
+            }
+        }
+        Err(e) => Reading::Refused(e),
     }
 }
 
-// The same of a packet that is refused as a whole one: if the capture cut it, it is read as far as
-// it goes.
-#[inline(never)] // It is seldom called, and the code of its caller is shorter without it.
-fn read_cut(is_cut: bool, packet: &[u8], e: IpSliceError) -> Reading
-    requires { RefusesIp packet.now e }
-    ensures { ReadsPacket is_cut packet.now result }
+// Whether a packet is shown: it is whole; or it is shorter than its length field says in a record
+// that the capture cut; or its total length is 0.
+fn is_shown(is_cut: bool, lax: &LaxIpSlice) -> bool
+    ensures value { IsTrue result ↔ MatchOption lax.now.stop (Unit {0}) (IsShownAt is_cut lax.now) }
 {
-    if !is_cut {
-        return Reading::Refused(e);
-    }
-    match cut_slice(packet) {
-        Some(slice) => Reading::Packet(shown_of(true, packet, &slice)),
-        None => Reading::Refused(e),
+    match &lax.stop {
+        None => true,
+        Some(IpSliceError::Packet(_)) => is_cut || has_no_length(&lax.slice),
+        Some(_) => false,
     }
 }
 
@@ -64,39 +68,39 @@ impl Reading {
 
     /// Whether an IPv4 packet is shown.
     pub fn is_ipv4(&self) -> bool
-        ensures { result ≡ is_version_4 self.now }
+        ensures value { result ≡ is_version_4 self.now }
     {
-        matches!(self, Reading::Packet(shown) if matches!(shown.source, Address::V4(_)))
+        matches!(self, Reading::Packet(shown) if shown.source.is_ipv4())
     }
 
     /// Whether an IPv6 packet is shown.
     pub fn is_ipv6(&self) -> bool
-        ensures { result ≡ is_version_6 self.now }
+        ensures value { result ≡ is_version_6 self.now }
     {
-        matches!(self, Reading::Packet(shown) if matches!(shown.source, Address::V6(_)))
+        matches!(self, Reading::Packet(shown) if shown.source.is_ipv6())
     }
 
     /// Whether a packet is refused.
     pub fn is_refused(&self) -> bool
-        ensures { result ≡ is_refused self.now }
+        ensures value { result ≡ is_refused self.now }
     {
         matches!(self, Reading::Refused(_))
     }
 
     /// Whether the frame carries no IP packet.
     pub fn is_other(&self) -> bool
-        ensures { result ≡ is_other self.now }
+        ensures value { result ≡ is_other self.now }
     {
         matches!(self, Reading::Other(_))
     }
 
     /// Whether a packet is shown with a wrong checksum.
     pub fn has_wrong_checksum(&self) -> bool
-        ensures { result ≡ has_wrong_checksum self.now }
+        ensures value { result ≡ has_wrong_checksum self.now }
     {
         match self {
             Reading::Packet(shown) => {
-                shown.header_checksum.is_wrong() || shown.payload_checksum.is_wrong()
+                shown.is_header_right == Some(false) || matches!(shown.verdict, Verdict::Wrong)
             }
             Reading::Refused(_) => false,
             Reading::Other(_) => false,

@@ -14,9 +14,9 @@ use crate::listing::{Text, hand_over, list};
 use crate::status::Status;
 use crate::totals::Totals;
 use crate::window::Window;
+use packet_capture::capture::{CaptureError, CutOff, FileHeader};
 use std::io;
 use std::io::{ErrorKind, Read, Write};
-use packet_capture::capture::{CaptureError, CutOff, FileHeader};
 
 /// Reads a capture, and writes a line for each record and then, to `errors`, the closing line.
 ///

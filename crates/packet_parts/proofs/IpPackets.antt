@@ -1,9 +1,10 @@
 -- What there is of a packet, by its length field.
-use Rattle.std.proofs.Common.{ℕ, ◌≡◌, ◌≢◌, ◌+◌, ◌≤◌, Bool, List, MatchOption, Option, None, Some, arith, false, inl, inr, length, option_map, refl, true}
+use Rattle.std.proofs.Common.{ℕ, ◌≡◌, ◌≢◌, ◌+◌, ◌≤◌, Bool, List, MatchOption, Option, None, Some, ap, arith, false, inl, inr, length, length-append, length-take, option_map, refl, true}
 use Rattle.std.proofs.lemmas.List.{take_all}
 use Rattle.std.proofs.lemmas.Bool.Decides.{nat_tests}
 use Rattle.std.specs.Prelude.{take, IsTrue, ◌⊎◌}
 use Rattle.etherparse.specs.ExtensionHeaders.{IsSkippable}
+use Rattle.etherparse.specs.Ipv4Header.{IsIpv4Layout, ipv4_header_len}
 use Rattle.etherparse.specs.Ipv6Header.{IsIpv6Layout}
 use Rattle.etherparse.specs.LenError.{len_error_moved}
 use Rattle.etherparse.specs.Reading.{BeginsWith}
@@ -19,6 +20,15 @@ use Rattle.packet_parts.specs.declared.ip_slice.IpSliceError.TheVariants as erro
 -- as far as a total length that is not 0
 pub ipv4_bytes-told : (header : Ipv4Header) (s : List ℕ) → header.total_len ≢ 0 → take header.total_len s ≡ ipv4_bytes header s
 ipv4_bytes-told header s some = grind (arith, nat_tests, some)
+
+-- no more bytes than there are
+length-ipv4_bytes : (header : Ipv4Header) (s : List ℕ) → length (ipv4_bytes header s) ≤ length s
+length-ipv4_bytes header s = grind (arith, nat_tests, length-take {A = ℕ})
+
+-- so the header is within them
+pub ipv4_header-within : (header : Ipv4Header) (s payload : List ℕ) → BeginsWith IsIpv4Layout (ipv4_bytes header s) header payload → ipv4_header_len header ≤ length s
+ipv4_header-within header s payload b =
+    omega (arith, ap length b.whole, b.layout.layout.len, length-append {A = ℕ}, length-ipv4_bytes header s)
 
 -- all of a packet that is shorter than its payload length says
 pub ipv6_bytes-short : (header : Ipv6Header) (s : List ℕ) → length s ≤ 40 + header.payload_length → ipv6_bytes header s ≡ s

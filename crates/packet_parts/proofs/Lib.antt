@@ -1,4 +1,4 @@
 mod FragmentHeaders
-mod IpPackets
+pub mod IpPackets
 mod PseudoHeader
 mod UdpLayout

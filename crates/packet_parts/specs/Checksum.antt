@@ -1,6 +1,6 @@
 -- What a receiver finds of the checksum of UDP, TCP, ICMP or ICMPv6.
 use Rattle.std.specs.Prelude.{ℕ, ◌≡◌, ◌≢◌, ◌==◌, ◌<◌, ◌≤◌, ◌^◌, ◌⊎◌, List, [], ◌∷◌, ◌++◌}
-use Rattle.std.specs.Prelude.{None, Some, codes, if◌then◌else◌, length, slice_range, take}
+use Rattle.std.specs.Prelude.{MatchOption, None, Some, codes, if◌then◌else◌, length, slice_range, take}
 use Rattle.std.specs.Int.{from_be_bytes, to_be_bytes, w16, w32}
 use Rattle.etherparse.specs.Ipv4Header.{IsFragment}
 use Rattle.etherparse.specs.WordSums.{ones_complement_sum}
@@ -12,6 +12,7 @@ use Rattle.packet_parts.specs.declared.checksum.Verdict.{Verdict}
 use Rattle.packet_parts.specs.declared.checksum.Verdict.TheVariants.{Right, Wrong, Absent}
 use Rattle.packet_parts.specs.declared.ip_slice.IpSlice.{IpSlice}
 use Rattle.packet_parts.specs.declared.ip_slice.IpSlice.TheVariants as slice
+use Rattle.packet_parts.specs.declared.ip_slice.LaxIpSlice.{LaxIpSlice}
 
 -- The pseudo-header of IPv4 (RFC 768, RFC 9293 section 3.1): both addresses, a zero byte, the number
 -- of the protocol, and the length of its header and data in 16 bits.
@@ -115,6 +116,11 @@ IsVerdict (slice.Ipv6 ip extensions None is_later number payload) verdict =
     IsVerdictIpv6 ip number payload.now verdict
 IsVerdict (slice.Ipv6 ip extensions (Some fragment) is_later number payload) verdict =
     verdict ≡ Absent absence.Fragment
+
+-- the same of one that may not be whole: then not all that its checksum covers is there
+abbrev pub IsLaxVerdict : LaxIpSlice → Verdict → Type 0
+IsLaxVerdict lax verdict = MatchOption lax.stop (IsVerdict lax.slice verdict)
+    (λ e. verdict ≡ Absent absence.Incomplete)
 
 -- how a verdict is displayed
 abbrev pub verdict_text : Verdict → List ℕ

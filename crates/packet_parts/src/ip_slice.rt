@@ -230,6 +230,7 @@ impl<'a> IpSlice<'a> {
 
 impl<'a> LaxIpSlice<'a> {
     ghost use Rattle.std.specs.Prelude.{IfErr, IfOk};
+    ghost use Rattle.packet_parts.specs.Checksum.{IsLaxVerdict};
     ghost use Rattle.packet_parts.specs.IpSlice.{HasLaxIpParts, HasNoIpParts};
 
     /// The parts of the packet at the front of a slice, as far as they are there.
@@ -249,6 +250,17 @@ impl<'a> LaxIpSlice<'a> {
             4 => ipv4_slice(packet),
             6 => ipv6_slice(packet),
             version_number => Err(IpSliceError::UnexpectedVersion { version_number }),
+        }
+    }
+
+    /// The verdict on the checksum of the payload, as [`IpSlice::verdict`] gives it; `Incomplete` if
+    /// the packet is not whole.
+    pub fn verdict(&self) -> Verdict
+        ensures judges { IsLaxVerdict self.now result }
+    {
+        match self.stop {
+            None => self.slice.verdict(),
+            Some(_) => Verdict::Absent(Absence::Incomplete),
         }
     }
 }

@@ -1,0 +1,4 @@
+//! The records of a capture file in the classic format of libpcap.
+#![tactic(auto)]
+
+pub mod capture;
