@@ -11,7 +11,7 @@ use etherparse::checksum::u64_16bit_word;
 use packet_parts::checksum::ipv6_pseudo_header;
 
 /// Turns an ICMP echo request in place into its reply: type 0 in place of 8, and a checksum that is
-/// computed anew, so that it is correct whatever that of the request was. All else stays the same.
+/// computed anew, so that it is right whatever that of the request was. All else stays the same.
 ///
 /// `false`, with the message unchanged, if it is not an echo request: it has fewer than 8 bytes,
 /// another type, or a code other than 0. The slice has to end where the packet's length field says,
