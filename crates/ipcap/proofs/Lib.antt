@@ -1,4 +1,5 @@
 mod Fronts
+mod Outcomes
 mod PseudoHeader
 mod Runs
 mod Written
