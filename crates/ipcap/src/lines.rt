@@ -313,7 +313,11 @@ impl fmt::Display for HeaderVerdict {
 
 // Writes how much of a packet was captured, if not all of it.
 #[tactic(auto, unfolding(crate::specs::Lines::cut_text))]
-fn write_cut<W: fmt::Write>(f: &mut Formatter<W>, captured_len: usize, original_len: u32) -> fmt::Result
+fn write_cut<W: fmt::Write>(
+    f: &mut Formatter<W>,
+    captured_len: usize,
+    original_len: u32,
+) -> fmt::Result
     ensures text { DisplaysOnOk W.write_str_gives f.old result (Some (cut_text captured_len original_len)) f.new }
 {
     if captured_len < original_len as usize {

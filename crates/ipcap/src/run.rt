@@ -18,8 +18,8 @@ use crate::output::Output;
 use crate::status::Status;
 use crate::streams::{Sink, Source};
 use crate::totals::Totals;
-use std::fmt::Display;
 use packet_capture::capture::{CaptureError, CutOff, FileHeader};
+use std::fmt::Display;
 
 /// Reads a capture, and writes a line for each record and then, to `errors`, the closing line.
 ///
