@@ -1,0 +1,163 @@
+//! The transport header of an IP packet: UDP, TCP, and ICMP of either version.
+
+ghost use Rattle.std.specs.Prelude.{ℕ, ◌≡◌, ◌+◌, ◌*◌, ◌≤◌, ◌^◌, ◌<◌, IfErr, IfNone, IfOk, IfSome};
+ghost use Rattle.std.specs.Prelude.{length};
+ghost use Rattle.packet_parts.specs.IpSlice.{payload_of};
+ghost use Rattle.packet.specs.Transport.{HasPorts, IsIcmpLayout, IsMoved, IsTransport, LacksHeader};
+ghost use Rattle.packet.specs.Transport.{protocol_of};
+ghost use Rattle.etherparse.specs.Reading.{BeginsWith, IsTooShort};
+
+use crate::error::SliceError;
+use crate::ether_type::u16_at;
+use etherparse::err::{Layer, LenError};
+use etherparse::{IpNumber, LenSource};
+use packet_parts::ip_slice::IpSlice;
+use packet_parts::tcp::{TcpError, TcpHeaderSlice};
+use packet_parts::udp::UdpHeader;
+
+/// The transport header of an IP packet, and what there is of what follows it.
+#[derive(Clone, Debug, PartialEq, Eq, Drop)]
+pub enum TransportSlice<'a> {
+    /// A UDP datagram (RFC 768).
+    Udp {
+        /// The header. Its `length` counts header and payload as the sender says it, and can differ
+        /// from what is there.
+        header: UdpHeader,
+        /// All bytes after the header.
+        payload: &'a [u8],
+    },
+    /// A TCP segment (RFC 9293).
+    Tcp {
+        /// The header with its options.
+        header: TcpHeaderSlice<'a>,
+        /// All bytes after the header.
+        payload: &'a [u8],
+    },
+    /// A message of ICMP (RFC 792), over IPv4.
+    Icmpv4 {
+        /// What all messages begin with.
+        header: IcmpHeader,
+        /// All bytes after the checksum.
+        payload: &'a [u8],
+    },
+    /// A message of ICMPv6 (RFC 4443), over IPv6.
+    Icmpv6 {
+        /// What all messages begin with.
+        header: IcmpHeader,
+        /// All bytes after the checksum.
+        payload: &'a [u8],
+    },
+}
+
+/// What all messages of ICMP (RFC 792) and of ICMPv6 (RFC 4443 section 2.1) begin with: 4 bytes.
+#[derive(Clone, Copy, Debug, PartialEq, Eq)]
+pub struct IcmpHeader {
+    /// The type: byte 0.
+    pub type_u8: u8,
+    /// The code: byte 1.
+    pub code_u8: u8,
+    /// The checksum: bytes 2 and 3.
+    pub checksum: u16,
+}
+
+// The protocols whose headers are read.
+#[derive(Clone, Copy)]
+pub(crate) enum Protocol {
+    Udp,
+    Tcp,
+    Icmpv4,
+    Icmpv6,
+}
+
+// The protocol of the payload of a packet, unless that is of a later fragment.
+fn protocol_of(ip: &IpSlice) -> Option<Protocol>
+    ensures value { result ≡ protocol_of ip.now }
+{
+    if ip.is_later_fragment() {
+        return None;
+    }
+    let is_ipv4 = matches!(ip, IpSlice::Ipv4 { .. });
+    match ip.upper() {
+        IpNumber::UDP => Some(Protocol::Udp),
+        IpNumber::TCP => Some(Protocol::Tcp),
+        IpNumber::ICMP if is_ipv4 => Some(Protocol::Icmpv4),
+        IpNumber::IPV6_ICMP if !is_ipv4 => Some(Protocol::Icmpv6),
+        _ => None,
+    }
+}
+
+// The ports of a packet: the first four bytes of its payload.
+pub(crate) fn ports_in(ip: &IpSlice) -> Option<(u16, u16)>
+    ensures found { IfSome result (HasPorts ip.now) }
+    ensures none { IfNone result ((ports : ℕ × ℕ) → ¬ HasPorts ip.now ports) }
+{
+    let payload = ip.payload();
+    match protocol_of(ip) {
+        Some(Protocol::Udp | Protocol::Tcp) if payload.len() >= 4 => Some((
+            u16_at(payload, 0),
+            u16_at(payload, 2),
+        )),
+        _ => None,
+    }
+}
+
+// The transport header of a packet; `None` if the protocol is another one or the payload is of a
+// later fragment. An error's place counts from `place` on.
+pub(crate) fn transport_of<'a>(
+    place: usize,
+    ip: &IpSlice<'a>,
+) -> Result<Option<TransportSlice<'a>>, SliceError>
+    requires fits { place < 2 ^ 63 }
+    ensures found { IfOk result (λ found. IfSome found (IsTransport ip.now)) }
+    ensures none { IfOk result (λ found. IfNone found (protocol_of ip.now ≡ None)) }
+    ensures refused { IfErr result (LacksHeader place ip.now) }
+{
+    let bytes = ip.payload();
+    match protocol_of(ip) {
+        None => Ok(None),
+        Some(Protocol::Udp) => match UdpHeader::from_slice(bytes) {
+            Ok((header, payload)) => Ok(Some(TransportSlice::Udp { header, payload })),
+            Err(e) => Err(SliceError::Udp(e.add_offset(place))),
+        },
+        Some(Protocol::Tcp) => match TcpHeaderSlice::from_slice(bytes) {
+            Ok(header) => Ok(Some(TransportSlice::Tcp {
+                header,
+                payload: &bytes[header.slice.len()..],
+            })),
+            Err(TcpError::Len(e)) => Err(SliceError::Tcp(TcpError::Len(e.add_offset(place)))),
+            Err(e) => Err(SliceError::Tcp(e)),
+        },
+        Some(Protocol::Icmpv4) => match icmp(Layer::Icmpv4, place, bytes) {
+            Ok((header, payload)) => Ok(Some(TransportSlice::Icmpv4 { header, payload })),
+            Err(e) => Err(SliceError::Icmp(e)),
+        },
+        Some(Protocol::Icmpv6) => match icmp(Layer::Icmpv6, place, bytes) {
+            Ok((header, payload)) => Ok(Some(TransportSlice::Icmpv6 { header, payload })),
+            Err(e) => Err(SliceError::Icmp(e)),
+        },
+    }
+}
+
+// What a message begins with, and the rest of it.
+fn icmp(layer: Layer, place: usize, message: &[u8]) -> Result<(IcmpHeader, &[u8]), LenError>
+    requires fits { place < 2 ^ 63 }
+    ensures found { IfOk result (λ x. BeginsWith IsIcmpLayout message.now x.0 x.1.now) }
+    ensures refused { IfErr result (IsMoved place (IsTooShort layer 4 message.now)) }
+{
+    if message.len() < 4 {
+        let too_short = LenError {
+            required_len: 4,
+            len: message.len(),
+            len_source: LenSource::Slice,
+            layer,
+            layer_start_offset: 0,
+        };
+        return Err(too_short.add_offset(place));
+    }
+    let header = IcmpHeader {
+        type_u8: message[0],
+        code_u8: message[1],
+        checksum: u16_at(message, 2),
+    };
+    Ok((header, &message[4..]))
+}
