@@ -87,7 +87,14 @@ abbrev pub Whole : (SlicedPacket → Option SliceError → Type 0) → Result Sl
 Whole Lax (Ok packet) = Lax packet None
 Whole Lax (Err e) = (packet : SlicedPacket) × Lax packet (Some e)
 
+-- the frame ends within its link header
+pub record RefusesLink (link_type : LinkType) (frame : List ℕ) (e : SliceError) : Type 0 where
+  pub inside : LinkError
+  pub lacks : LacksLink link_type frame inside
+  pub error : e ≡ error.Link inside
+
 -- reading a frame whole
 abbrev pub ReadsFrame : LinkType → List ℕ → Result SlicedPacket SliceError → Type 0
-ReadsFrame link_type frame (Err (error.Link e)) = LacksLink link_type frame e
-ReadsFrame link_type frame answer = Whole (IsFrame link_type frame) answer
+ReadsFrame link_type frame (Ok packet) = Whole (IsFrame link_type frame) (Ok packet)
+ReadsFrame link_type frame (Err e) =
+    RefusesLink link_type frame e ⊎ Whole (IsFrame link_type frame) (Err e)

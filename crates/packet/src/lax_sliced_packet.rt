@@ -8,7 +8,7 @@ use crate::ether_type::EtherType;
 use crate::link::{LinkError, LinkSlice, LinkType, link_header};
 use crate::network::{Network, network_at};
 use crate::sliced_packet::SlicedPacket;
-use crate::vlan::after_tags;
+use crate::vlan::{Tagged, after_tags};
 
 /// The layers of a frame, as far as they can be read: of one that a capture cut, of one that is
 /// damaged, or of a packet whose sender left its length to the network card.
@@ -118,28 +118,31 @@ fn layers<'a>(
     ensures link { result.packet.link ≡ link.entry }
     ensures layers { HasLayers frame_len first bytes.now result.packet result.stop }
 {
-    let tagged = after_tags(frame_len, first, bytes);
-    let network = if let Some(e) = tagged.stop {
-        Network {
+    let Tagged {
+        vlan,
+        ether_type,
+        bytes: payload,
+        stop,
+    } = after_tags(frame_len, first, bytes);
+    let network = match stop {
+        Some(e) => Network {
             net: None,
             transport: None,
             stop: Some(SliceError::Vlan(e)),
-        }
-    } else if carries_ip(link, tagged.ether_type) {
-        network_at(frame_len - tagged.bytes.len(), tagged.bytes)
-    } else {
-        Network {
+        },
+        None if carries_ip(&link, &ether_type) => network_at(frame_len - payload.len(), payload),
+        None => Network {
             net: None,
             transport: None,
             stop: None,
-        }
+        },
     };
     LaxSlicedPacket {
         packet: SlicedPacket {
             link,
-            vlan: tagged.vlan,
-            ether_type: tagged.ether_type,
-            payload: tagged.bytes,
+            vlan,
+            ether_type,
+            payload,
             net: network.net,
             transport: network.transport,
         },
@@ -148,11 +151,11 @@ fn layers<'a>(
 }
 
 // Whether an IP packet follows.
-fn carries_ip(link: Option<LinkSlice>, ether_type: Option<EtherType>) -> bool
-    ensures value { result ≡ carries_ip link.entry ether_type }
+fn carries_ip(link: &Option<LinkSlice>, ether_type: &Option<EtherType>) -> bool
+    ensures value { result ≡ carries_ip link.now ether_type.now }
 {
     match (link, ether_type) {
-        (_, Some(EtherType(number))) => matches!(number, 0x0800 | 0x86dd),
+        (_, Some(ether_type)) => matches!(ether_type.0, 0x0800 | 0x86dd),
         (Some(LinkSlice::Loopback { family }), None) => matches!(family, 2 | 24 | 28 | 30),
         (None, None) => true,
         (Some(_), None) => false,

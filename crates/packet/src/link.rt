@@ -103,29 +103,28 @@ pub(crate) fn link_header<'a>(
         });
     }
     let (slice, rest) = (&frame[..required_len], &frame[required_len..]);
-    let (link, ether_type) = match link_type {
+    match link_type {
         LinkType::Ethernet2 => {
             let header = Ethernet2HeaderSlice { slice };
             let ether_type = header.ether_type();
-            (Some(LinkSlice::Ethernet2(header)), Some(ether_type))
+            Ok((Some(LinkSlice::Ethernet2(header)), Some(ether_type), rest))
         }
         LinkType::LinuxSll => {
             let header = LinuxSllHeaderSlice { slice };
             let ether_type = header.protocol_type();
-            (Some(LinkSlice::LinuxSll(header)), Some(ether_type))
+            Ok((Some(LinkSlice::LinuxSll(header)), Some(ether_type), rest))
         }
         LinkType::LinuxSll2 => {
             let header = LinuxSll2HeaderSlice { slice };
             let ether_type = header.protocol_type();
-            (Some(LinkSlice::LinuxSll2(header)), Some(ether_type))
+            Ok((Some(LinkSlice::LinuxSll2(header)), Some(ether_type), rest))
         }
         LinkType::Null | LinkType::Loop => {
             let family = family_of(link_type, [slice[0], slice[1], slice[2], slice[3]]);
-            (Some(LinkSlice::Loopback { family }), None)
+            Ok((Some(LinkSlice::Loopback { family }), None, rest))
         }
-        LinkType::Ip => (None, None),
-    };
-    Ok((link, ether_type, rest))
+        LinkType::Ip => Ok((None, None, rest)),
+    }
 }
 
 // The family in four bytes: in network order, or in the order that gives the smaller number.

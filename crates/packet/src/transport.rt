@@ -4,7 +4,7 @@ ghost use Rattle.std.specs.Prelude.{ℕ, ◌≡◌, ◌+◌, ◌*◌, ◌≤◌,
 ghost use Rattle.std.specs.Prelude.{length};
 ghost use Rattle.packet_parts.specs.IpSlice.{payload_of};
 ghost use Rattle.packet.specs.Transport.{HasPorts, IsIcmpLayout, IsMoved, IsTransport, LacksHeader};
-ghost use Rattle.packet.specs.Transport.{protocol_of};
+ghost use Rattle.packet.specs.Transport.{ReadsTransport, protocol_of};
 ghost use Rattle.etherparse.specs.Reading.{BeginsWith, IsTooShort};
 
 use crate::error::SliceError;
@@ -101,12 +101,29 @@ pub(crate) fn ports_in(ip: &IpSlice) -> Option<(u16, u16)>
     }
 }
 
-// The transport header of a packet; `None` if the protocol is another one or the payload is of a
-// later fragment. An error's place counts from `place` on.
+// The transport header of a payload at a place, or the error of one that is incomplete.
 pub(crate) fn transport_of<'a>(
     place: usize,
     ip: &IpSlice<'a>,
-) -> Result<Option<TransportSlice<'a>>, SliceError>
+) -> (Option<TransportSlice<'a>>, Option<SliceError>)
+    requires fits { place < 2 ^ 63 }
+    ensures reads { ReadsTransport place ip.now result.0 result.1 }
+{
+    match header_of(place, ip) {
+        Ok(found) => (found, None),
+        Err(e) => {
+            if ip.fragment().is_some() {
+                (None, None)
+            } else {
+                (None, Some(e))
+            }
+        }
+    }
+}
+
+// The header at the front of a payload at a place, if its protocol is one that is read, and it is
+// not of a later fragment.
+fn header_of<'a>(place: usize, ip: &IpSlice<'a>) -> Result<Option<TransportSlice<'a>>, SliceError>
     requires fits { place < 2 ^ 63 }
     ensures found { IfOk result (λ found. IfSome found (IsTransport ip.now)) }
     ensures none { IfOk result (λ found. IfNone found (protocol_of ip.now ≡ None)) }
@@ -154,10 +171,17 @@ fn icmp(layer: Layer, place: usize, message: &[u8]) -> Result<(IcmpHeader, &[u8]
         };
         return Err(too_short.add_offset(place));
     }
-    let header = IcmpHeader {
-        type_u8: message[0],
-        code_u8: message[1],
-        checksum: u16_at(message, 2),
-    };
-    Ok((header, &message[4..]))
+    Ok((icmp_header_of(&message[..4]), &message[4..]))
+}
+
+// The header of 4 bytes.
+fn icmp_header_of(bytes: &[u8]) -> IcmpHeader
+    requires { length bytes.now ≡ 4 }
+    ensures layout { IsIcmpLayout result bytes.now }
+{
+    IcmpHeader {
+        type_u8: bytes[0],
+        code_u8: bytes[1],
+        checksum: u16_at(bytes, 2),
+    }
 }

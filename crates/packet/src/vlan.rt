@@ -38,7 +38,7 @@ pub(crate) fn after_tags(frame_len: usize, first: Option<EtherType>, bytes: &[u8
     ensures tags { HasTags first bytes.now result.vlan result.ether_type result.bytes.now }
     ensures ends { EndsTags frame_len result.vlan result.ether_type result.bytes.now result.stop }
 {
-    if !is_tag(first) {
+    if !is_tag(&first) {
         return Tagged {
             vlan: None,
             ether_type: first,
@@ -56,7 +56,7 @@ pub(crate) fn after_tags(frame_len: usize, first: Option<EtherType>, bytes: &[u8
         },
     };
     let ether_type = Some(outer.ether_type());
-    if !is_tag(ether_type) {
+    if !is_tag(&ether_type) {
         return Tagged {
             vlan: Some(VlanSlice::SingleVlan(outer)),
             ether_type,
@@ -84,11 +84,11 @@ pub(crate) fn after_tags(frame_len: usize, first: Option<EtherType>, bytes: &[u8
 }
 
 // Whether this is the EtherType of a tag.
-fn is_tag(ether_type: Option<EtherType>) -> bool
-    ensures value { result ≡ is_tag ether_type }
+fn is_tag(ether_type: &Option<EtherType>) -> bool
+    ensures value { result ≡ is_tag ether_type.now }
 {
     match ether_type {
-        Some(EtherType(number)) => matches!(number, 0x8100 | 0x88a8 | 0x9100),
+        Some(ether_type) => matches!(ether_type.0, 0x8100 | 0x88a8 | 0x9100),
         None => false,
     }
 }
