@@ -1,1 +1,3 @@
+mod Frames
 mod Places
+mod Transports

@@ -1,6 +1,6 @@
 -- The link header of a frame (IEEE 802.3 section 3.1.1; the registry of link types of tcpdump.org).
 use Rattle.std.specs.Prelude.{ℕ, ◌≡◌, ◌==◌, ◌||◌, ◌<◌, Bool, List, ◌++◌, length, min}
-use Rattle.std.specs.Prelude.{Option, Some, None, if◌then◌else◌}
+use Rattle.std.specs.Prelude.{Option, Some, None, if◌then◌else◌, option_map}
 use Rattle.std.specs.Int.{from_be_bytes, from_le_bytes, w32}
 use Rattle.packet.specs.Bytes.{number_at}
 use Rattle.packet.specs.declared.link.LinkError.{LinkError}
@@ -38,20 +38,37 @@ abbrev pub family_of : LinkType → List ℕ → ℕ
 family_of Loop bytes = from_be_bytes w32 bytes
 family_of _ bytes = min (from_be_bytes w32 bytes) (from_le_bytes w32 bytes)
 
--- These bytes are a header of this type, with the EtherType of what follows: Ethernet has it at the
--- end, a Linux cooked capture too, and one of version 2 at the front. A loopback interface has a
--- family in its place. Before an IP packet without a link header is nothing.
-abbrev pub IsLinkHeader : LinkType → List ℕ → Option LinkSlice → Option ℕ → Type 0
-IsLinkHeader Ethernet2 bytes (Some (header.Ethernet2 view)) (Some ether_type) =
-    (view.slice.now ≡ bytes) × (ether_type ≡ number_at 12 bytes)
-IsLinkHeader LinuxSll bytes (Some (header.LinuxSll view)) (Some ether_type) =
-    (view.slice.now ≡ bytes) × (ether_type ≡ number_at 14 bytes)
-IsLinkHeader LinuxSll2 bytes (Some (header.LinuxSll2 view)) (Some ether_type) =
-    (view.slice.now ≡ bytes) × (ether_type ≡ number_at 0 bytes)
-IsLinkHeader Null bytes (Some (header.Loopback family)) None = family ≡ family_of Null bytes
-IsLinkHeader Loop bytes (Some (header.Loopback family)) None = family ≡ family_of Loop bytes
-IsLinkHeader Ip bytes None None = Unit {0}
-IsLinkHeader link_type bytes link ether_type = ⊥
+-- a link header, apart from where it lies in memory
+pub data LinkParts : Type 0 where
+  Ethernet2Parts : List ℕ → LinkParts
+  LinuxSllParts : List ℕ → LinkParts
+  LinuxSll2Parts : List ℕ → LinkParts
+  LoopbackParts : ℕ → LinkParts
+
+abbrev pub link_parts : LinkSlice → LinkParts
+link_parts (header.Ethernet2 view) = Ethernet2Parts view.slice.now
+link_parts (header.LinuxSll view) = LinuxSllParts view.slice.now
+link_parts (header.LinuxSll2 view) = LinuxSll2Parts view.slice.now
+link_parts (header.Loopback family) = LoopbackParts family
+
+-- the header that its bytes make; before an IP packet without a link header is none
+abbrev pub link_in : LinkType → List ℕ → Option LinkParts
+link_in Null bytes = Some (LoopbackParts (family_of Null bytes))
+link_in Ethernet2 bytes = Some (Ethernet2Parts bytes)
+link_in Ip bytes = None
+link_in Loop bytes = Some (LoopbackParts (family_of Loop bytes))
+link_in LinuxSll bytes = Some (LinuxSllParts bytes)
+link_in LinuxSll2 bytes = Some (LinuxSll2Parts bytes)
+
+-- the EtherType of what follows a header: Ethernet has it at the end, a Linux cooked capture too,
+-- and one of version 2 at the front; a loopback interface has a family in its place
+abbrev pub ether_type_in : LinkType → List ℕ → Option ℕ
+ether_type_in Null bytes = None
+ether_type_in Ethernet2 bytes = Some (number_at 12 bytes)
+ether_type_in Ip bytes = None
+ether_type_in Loop bytes = None
+ether_type_in LinuxSll bytes = Some (number_at 14 bytes)
+ether_type_in LinuxSll2 bytes = Some (number_at 0 bytes)
 
 -- the frame is this link header, and what follows it
 pub record BeginsWithLink (link_type : LinkType) (frame : List ℕ) (link : Option LinkSlice)
@@ -59,7 +76,8 @@ pub record BeginsWithLink (link_type : LinkType) (frame : List ℕ) (link : Opti
   pub front : List ℕ
   pub whole : frame ≡ front ++ rest
   pub len : length front ≡ link_len link_type
-  pub header : IsLinkHeader link_type front link ether_type
+  pub header : option_map link_parts link ≡ link_in link_type front
+  pub next : ether_type ≡ ether_type_in link_type front
 
 -- the frame is shorter than its link header
 pub record LacksLink (link_type : LinkType) (frame : List ℕ) (e : LinkError) : Type 0 where

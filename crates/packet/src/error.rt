@@ -1,7 +1,8 @@
 //! Why a frame is not read to the transport header.
 
 ghost use Rattle.std.specs.Prelude.{◌≡◌, ◌+◌, ◌^◌, ◌<◌};
-ghost use Rattle.packet.specs.Error.{ip_error_moved, ip_error_place};
+ghost use Rattle.packet.specs.Error.{ip_error_moved, ip_error_place, tcp_error_moved};
+ghost use Rattle.packet.specs.Error.{tcp_error_place};
 
 use crate::link::LinkError;
 use etherparse::err::LenError;
@@ -42,5 +43,16 @@ pub(crate) fn ip_error_moved(offset: usize, e: IpSliceError) -> IpSliceError
         IpSliceError::UnexpectedVersion { version_number } => IpSliceError::UnexpectedVersion {
             version_number,
         },
+    }
+}
+
+// The error of a TCP header that starts this many bytes further on.
+pub(crate) fn tcp_error_moved(offset: usize, e: TcpError) -> TcpError
+    requires fits { tcp_error_place e + offset < 2 ^ 64 }
+    ensures value { result ≡ tcp_error_moved offset e }
+{
+    match e {
+        TcpError::Len(e) => TcpError::Len(e.add_offset(offset)),
+        TcpError::DataOffset(data_offset) => TcpError::DataOffset(data_offset),
     }
 }

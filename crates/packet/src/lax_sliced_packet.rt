@@ -1,6 +1,7 @@
 //! A packet as far as it can be read.
 
-ghost use Rattle.std.specs.Prelude.{◌≡◌, ◌≤◌, ◌<◌, ◌^◌, length};
+ghost use Rattle.std.specs.Prelude.{◌≡◌, ◌≤◌, ◌<◌, ◌^◌, length, option_map};
+ghost use Rattle.packet.specs.Link.{link_parts};
 ghost use Rattle.packet.specs.SlicedPacket.{HasLayers, carries_ip};
 
 use crate::error::SliceError;
@@ -25,7 +26,8 @@ pub struct LaxSlicedPacket<'a> {
 
 impl<'a> LaxSlicedPacket<'a> {
     ghost use Rattle.std.specs.Prelude.{None, Some};
-    ghost use Rattle.packet.specs.SlicedPacket.{HasLayersAfter, ReadsLaxFrame};
+    ghost use Rattle.packet.specs.Link.{link_parts};
+ghost use Rattle.packet.specs.SlicedPacket.{IsLaxReadingAfter, IsLaxReadingOf};
 
     /// The layers of an Ethernet frame (IEEE 802.3 section 3.1.1).
     ///
@@ -33,7 +35,7 @@ impl<'a> LaxSlicedPacket<'a> {
     ///
     /// A `LinkError` if the frame has fewer than 14 bytes.
     pub fn from_ethernet(frame: &'a [u8]) -> Result<LaxSlicedPacket<'a>, LinkError>
-        ensures reads { ReadsLaxFrame LinkType.Ethernet2 frame.now result }
+        ensures reads { IsLaxReadingOf LinkType.Ethernet2 frame.now result }
     {
         LaxSlicedPacket::from_link_type(LinkType::Ethernet2, frame)
     }
@@ -44,7 +46,7 @@ impl<'a> LaxSlicedPacket<'a> {
     ///
     /// A `LinkError` if the frame has fewer than 16 bytes.
     pub fn from_linux_sll(frame: &'a [u8]) -> Result<LaxSlicedPacket<'a>, LinkError>
-        ensures reads { ReadsLaxFrame LinkType.LinuxSll frame.now result }
+        ensures reads { IsLaxReadingOf LinkType.LinuxSll frame.now result }
     {
         LaxSlicedPacket::from_link_type(LinkType::LinuxSll, frame)
     }
@@ -55,7 +57,7 @@ impl<'a> LaxSlicedPacket<'a> {
     ///
     /// A `LinkError` if the frame has fewer than 20 bytes.
     pub fn from_linux_sll2(frame: &'a [u8]) -> Result<LaxSlicedPacket<'a>, LinkError>
-        ensures reads { ReadsLaxFrame LinkType.LinuxSll2 frame.now result }
+        ensures reads { IsLaxReadingOf LinkType.LinuxSll2 frame.now result }
     {
         LaxSlicedPacket::from_link_type(LinkType::LinuxSll2, frame)
     }
@@ -68,7 +70,7 @@ impl<'a> LaxSlicedPacket<'a> {
     ///
     /// A `LinkError` if the frame has fewer than 4 bytes.
     pub fn from_loopback(frame: &'a [u8]) -> Result<LaxSlicedPacket<'a>, LinkError>
-        ensures reads { ReadsLaxFrame LinkType.Null frame.now result }
+        ensures reads { IsLaxReadingOf LinkType.Null frame.now result }
     {
         LaxSlicedPacket::from_link_type(LinkType::Null, frame)
     }
@@ -82,7 +84,7 @@ impl<'a> LaxSlicedPacket<'a> {
         link_type: LinkType,
         frame: &'a [u8],
     ) -> Result<LaxSlicedPacket<'a>, LinkError>
-        ensures reads { ReadsLaxFrame link_type frame.now result }
+        ensures reads { IsLaxReadingOf link_type frame.now result }
     {
         match link_header(link_type, frame) {
             Ok((link, ether_type, bytes)) => Ok(layers(frame.len(), link, ether_type, bytes)),
@@ -93,14 +95,14 @@ impl<'a> LaxSlicedPacket<'a> {
     /// The layers of bytes that an EtherType names: a VLAN tag and what it tags, an IP packet, or
     /// another protocol.
     pub fn from_ether_type(ether_type: EtherType, bytes: &'a [u8]) -> LaxSlicedPacket<'a>
-        ensures reads { HasLayersAfter (Some ether_type) bytes.now result.packet result.stop }
+        ensures reads { IsLaxReadingAfter (Some ether_type) bytes.now result }
     {
         layers(bytes.len(), None, Some(ether_type), bytes)
     }
 
     /// The layers of an IP packet of either version.
     pub fn from_ip(packet: &'a [u8]) -> LaxSlicedPacket<'a>
-        ensures reads { HasLayersAfter None packet.now result.packet result.stop }
+        ensures reads { IsLaxReadingAfter None packet.now result }
     {
         layers(packet.len(), None, None, packet)
     }
@@ -152,7 +154,7 @@ fn layers<'a>(
 
 // Whether an IP packet follows.
 fn carries_ip(link: &Option<LinkSlice>, ether_type: &Option<EtherType>) -> bool
-    ensures value { result ≡ carries_ip link.now ether_type.now }
+    ensures value { result ≡ carries_ip (option_map link_parts link.now) ether_type.now }
 {
     match (link, ether_type) {
         (_, Some(ether_type)) => matches!(ether_type.0, 0x0800 | 0x86dd),

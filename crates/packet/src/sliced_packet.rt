@@ -34,7 +34,7 @@ pub struct SlicedPacket<'a> {
 
 impl<'a> SlicedPacket<'a> {
     ghost use Rattle.std.specs.Prelude.{ℕ, IfNone, IfSome, None, Some};
-    ghost use Rattle.packet.specs.SlicedPacket.{HasLayersAfter, ReadsFrame, Whole};
+    ghost use Rattle.packet.specs.SlicedPacket.{IsReadingAfter, IsReadingOf};
     ghost use Rattle.packet.specs.Transport.{HasPorts};
 
     /// The layers of an Ethernet frame (IEEE 802.3 section 3.1.1).
@@ -44,7 +44,7 @@ impl<'a> SlicedPacket<'a> {
     /// In this order: `Link` if the frame has fewer than 14 bytes; `Vlan`; `Ip`; `Udp`, `Tcp` or
     /// `Icmp`.
     pub fn from_ethernet(frame: &'a [u8]) -> Result<SlicedPacket<'a>, SliceError>
-        ensures reads { ReadsFrame LinkType.Ethernet2 frame.now result }
+        ensures reads { IsReadingOf LinkType.Ethernet2 frame.now result }
     {
         SlicedPacket::from_link_type(LinkType::Ethernet2, frame)
     }
@@ -56,7 +56,7 @@ impl<'a> SlicedPacket<'a> {
     /// In this order: `Link` if the frame has fewer than 16 bytes; `Vlan`; `Ip`; `Udp`, `Tcp` or
     /// `Icmp`.
     pub fn from_linux_sll(frame: &'a [u8]) -> Result<SlicedPacket<'a>, SliceError>
-        ensures reads { ReadsFrame LinkType.LinuxSll frame.now result }
+        ensures reads { IsReadingOf LinkType.LinuxSll frame.now result }
     {
         SlicedPacket::from_link_type(LinkType::LinuxSll, frame)
     }
@@ -68,7 +68,7 @@ impl<'a> SlicedPacket<'a> {
     /// In this order: `Link` if the frame has fewer than 20 bytes; `Vlan`; `Ip`; `Udp`, `Tcp` or
     /// `Icmp`.
     pub fn from_linux_sll2(frame: &'a [u8]) -> Result<SlicedPacket<'a>, SliceError>
-        ensures reads { ReadsFrame LinkType.LinuxSll2 frame.now result }
+        ensures reads { IsReadingOf LinkType.LinuxSll2 frame.now result }
     {
         SlicedPacket::from_link_type(LinkType::LinuxSll2, frame)
     }
@@ -81,7 +81,7 @@ impl<'a> SlicedPacket<'a> {
     ///
     /// In this order: `Link` if the frame has fewer than 4 bytes; `Ip`; `Udp`, `Tcp` or `Icmp`.
     pub fn from_loopback(frame: &'a [u8]) -> Result<SlicedPacket<'a>, SliceError>
-        ensures reads { ReadsFrame LinkType.Null frame.now result }
+        ensures reads { IsReadingOf LinkType.Null frame.now result }
     {
         SlicedPacket::from_link_type(LinkType::Null, frame)
     }
@@ -95,7 +95,7 @@ impl<'a> SlicedPacket<'a> {
         link_type: LinkType,
         frame: &'a [u8],
     ) -> Result<SlicedPacket<'a>, SliceError>
-        ensures reads { ReadsFrame link_type frame.now result }
+        ensures reads { IsReadingOf link_type frame.now result }
     {
         match LaxSlicedPacket::from_link_type(link_type, frame) {
             Ok(lax) => whole(lax),
@@ -113,7 +113,7 @@ impl<'a> SlicedPacket<'a> {
         ether_type: EtherType,
         bytes: &'a [u8],
     ) -> Result<SlicedPacket<'a>, SliceError>
-        ensures reads { Whole (HasLayersAfter (Some ether_type) bytes.now) result }
+        ensures reads { IsReadingAfter (Some ether_type) bytes.now result }
     {
         whole(LaxSlicedPacket::from_ether_type(ether_type, bytes))
     }
@@ -124,7 +124,7 @@ impl<'a> SlicedPacket<'a> {
     ///
     /// In this order: `Ip`; `Udp`, `Tcp` or `Icmp`.
     pub fn from_ip(packet: &'a [u8]) -> Result<SlicedPacket<'a>, SliceError>
-        ensures reads { Whole (HasLayersAfter None packet.now) result }
+        ensures reads { IsReadingAfter None packet.now result }
     {
         whole(LaxSlicedPacket::from_ip(packet))
     }
@@ -146,7 +146,7 @@ impl<'a> SlicedPacket<'a> {
 
 // A packet that nothing stopped.
 fn whole(lax: LaxSlicedPacket) -> Result<SlicedPacket, SliceError>
-    ensures value { result ≡ whole_of lax.entry }
+    ensures value { result ≡ whole_of lax.entry.packet lax.entry.stop }
 {
     match lax.stop {
         None => Ok(lax.packet),

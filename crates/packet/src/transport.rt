@@ -1,18 +1,17 @@
 //! The transport header of an IP packet: UDP, TCP, and ICMP of either version.
 
-ghost use Rattle.std.specs.Prelude.{ℕ, ◌≡◌, ◌+◌, ◌*◌, ◌≤◌, ◌^◌, ◌<◌, IfErr, IfNone, IfOk, IfSome};
-ghost use Rattle.std.specs.Prelude.{length};
-ghost use Rattle.packet_parts.specs.IpSlice.{payload_of};
-ghost use Rattle.packet.specs.Transport.{HasPorts, IsIcmpLayout, IsMoved, IsTransport, LacksHeader};
-ghost use Rattle.packet.specs.Transport.{ReadsTransport, protocol_of};
-ghost use Rattle.etherparse.specs.Reading.{BeginsWith, IsTooShort};
+ghost use Rattle.std.specs.Prelude.{ℕ, ◌≡◌, ◌≤◌, ◌+◌, ◌^◌, ◌<◌, IfNone, IfSome, length};
+ghost use Rattle.std.specs.Result.{result_map_both};
+ghost use Rattle.etherparse.specs.Reading.{IsTooShort, Reads, found_and_rest};
+ghost use Rattle.packet.specs.Transport.{HasPorts, IsIcmpLayout, ReadsHeader, ReadsTransport};
+ghost use Rattle.packet.specs.Transport.{protocol_of, transport_parts};
 
-use crate::error::SliceError;
+use crate::error::{SliceError, tcp_error_moved};
 use crate::ether_type::u16_at;
 use etherparse::err::{Layer, LenError};
 use etherparse::{IpNumber, LenSource};
 use packet_parts::ip_slice::IpSlice;
-use packet_parts::tcp::{TcpError, TcpHeaderSlice};
+use packet_parts::tcp::TcpHeaderSlice;
 use packet_parts::udp::UdpHeader;
 
 /// The transport header of an IP packet, and what there is of what follows it.
@@ -109,67 +108,60 @@ pub(crate) fn transport_of<'a>(
     requires fits { place < 2 ^ 63 }
     ensures reads { ReadsTransport place ip.now result.0 result.1 }
 {
-    match header_of(place, ip) {
-        Ok(found) => (found, None),
-        Err(e) => {
-            if ip.fragment().is_some() {
-                (None, None)
-            } else {
-                (None, Some(e))
-            }
-        }
+    let protocol = match protocol_of(ip) {
+        Some(protocol) => protocol,
+        None => return (None, None),
+    };
+    match header_of(protocol, place, ip.payload()) {
+        Ok(found) => (Some(found), None),
+        Err(e) => match ip.fragment() {
+            Some(_) => (None, None),
+            None => (None, Some(e)),
+        },
     }
 }
 
-// The header at the front of a payload at a place, if its protocol is one that is read, and it is
-// not of a later fragment.
-fn header_of<'a>(place: usize, ip: &IpSlice<'a>) -> Result<Option<TransportSlice<'a>>, SliceError>
+// The header of a protocol at the front of a payload at a place.
+fn header_of(protocol: Protocol, place: usize, payload: &[u8]) -> Result<TransportSlice, SliceError>
     requires fits { place < 2 ^ 63 }
-    ensures found { IfOk result (λ found. IfSome found (IsTransport ip.now)) }
-    ensures none { IfOk result (λ found. IfNone found (protocol_of ip.now ≡ None)) }
-    ensures refused { IfErr result (LacksHeader place ip.now) }
+    ensures reads { ReadsHeader protocol place payload.now
+        (result_map_both transport_parts (λ e. e) result) }
 {
-    let bytes = ip.payload();
-    match protocol_of(ip) {
-        None => Ok(None),
-        Some(Protocol::Udp) => match UdpHeader::from_slice(bytes) {
-            Ok((header, payload)) => Ok(Some(TransportSlice::Udp { header, payload })),
+    match protocol {
+        Protocol::Udp => match UdpHeader::from_slice(payload) {
+            Ok((header, payload)) => Ok(TransportSlice::Udp { header, payload }),
             Err(e) => Err(SliceError::Udp(e.add_offset(place))),
         },
-        Some(Protocol::Tcp) => match TcpHeaderSlice::from_slice(bytes) {
-            Ok(header) => Ok(Some(TransportSlice::Tcp {
-                header,
-                payload: &bytes[header.slice.len()..],
-            })),
-            Err(TcpError::Len(e)) => Err(SliceError::Tcp(TcpError::Len(e.add_offset(place)))),
-            Err(e) => Err(SliceError::Tcp(e)),
+        Protocol::Tcp => match TcpHeaderSlice::from_slice(payload) {
+            Ok(header) => {
+                let payload = &payload[header.slice.len()..];
+                Ok(TransportSlice::Tcp { header, payload })
+            }
+            Err(e) => Err(SliceError::Tcp(tcp_error_moved(place, e))),
         },
-        Some(Protocol::Icmpv4) => match icmp(Layer::Icmpv4, place, bytes) {
-            Ok((header, payload)) => Ok(Some(TransportSlice::Icmpv4 { header, payload })),
-            Err(e) => Err(SliceError::Icmp(e)),
+        Protocol::Icmpv4 => match icmp(Layer::Icmpv4, payload) {
+            Ok((header, payload)) => Ok(TransportSlice::Icmpv4 { header, payload }),
+            Err(e) => Err(SliceError::Icmp(e.add_offset(place))),
         },
-        Some(Protocol::Icmpv6) => match icmp(Layer::Icmpv6, place, bytes) {
-            Ok((header, payload)) => Ok(Some(TransportSlice::Icmpv6 { header, payload })),
-            Err(e) => Err(SliceError::Icmp(e)),
+        Protocol::Icmpv6 => match icmp(Layer::Icmpv6, payload) {
+            Ok((header, payload)) => Ok(TransportSlice::Icmpv6 { header, payload }),
+            Err(e) => Err(SliceError::Icmp(e.add_offset(place))),
         },
     }
 }
 
 // What a message begins with, and the rest of it.
-fn icmp(layer: Layer, place: usize, message: &[u8]) -> Result<(IcmpHeader, &[u8]), LenError>
-    requires fits { place < 2 ^ 63 }
-    ensures found { IfOk result (λ x. BeginsWith IsIcmpLayout message.now x.0 x.1.now) }
-    ensures refused { IfErr result (IsMoved place (IsTooShort layer 4 message.now)) }
+fn icmp(layer: Layer, message: &[u8]) -> Result<(IcmpHeader, &[u8]), LenError>
+    ensures reads { Reads IsIcmpLayout (IsTooShort layer 4) message.now (found_and_rest result) }
 {
     if message.len() < 4 {
-        let too_short = LenError {
+        return Err(LenError {
             required_len: 4,
             len: message.len(),
             len_source: LenSource::Slice,
             layer,
             layer_start_offset: 0,
-        };
-        return Err(too_short.add_offset(place));
+        });
     }
     Ok((icmp_header_of(&message[..4]), &message[4..]))
 }
