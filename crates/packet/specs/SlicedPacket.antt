@@ -8,12 +8,13 @@ use Rattle.packet.specs.Link.{BeginsWithLink, LacksLink, LinkParts, LoopbackPart
 use Rattle.packet.specs.Link.{link_parts}
 use Rattle.packet.specs.Network.{HasNetwork}
 use Rattle.packet.specs.Transport.{TransportParts, transport_parts}
-use Rattle.packet.specs.Vlan.{AreAllTags, EndsInTag, HasTags, tags_of}
+use Rattle.packet.specs.Vlan.{AreAllTags, EndsInTag, EndsTags, HasTags, tags_of}
 use Rattle.packet.specs.declared.error.SliceError.{SliceError}
 use Rattle.packet.specs.declared.error.SliceError.TheVariants as error
 use Rattle.packet.specs.declared.lax_sliced_packet.LaxSlicedPacket.{LaxSlicedPacket}
 use Rattle.packet.specs.declared.link.LinkError.{LinkError}
 use Rattle.packet.specs.declared.link.LinkType.{LinkType}
+use Rattle.packet.specs.declared.link_layers.LinkLayers.{LinkLayers}
 use Rattle.packet.specs.declared.sliced_packet.SlicedPacket.{SlicedPacket}
 
 -- what a packet says, apart from where its slices lie in memory
@@ -40,9 +41,19 @@ layers_of packet = record {
 -- all there is. The version is told by the packet itself.
 abbrev pub carries_ip : Option LinkParts → Option ℕ → Bool
 carries_ip link (Some ether_type) = ether_type == 0x0800 || ether_type == 0x86dd
-carries_ip (Some (LoopbackParts family)) None = family == 2 || family == 24 || family == 28 || family == 30
+carries_ip (Some (LoopbackParts family)) None =
+    family == 2 || family == 24 || family == 28 || family == 30
 carries_ip None None = true
 carries_ip link None = false
+
+-- the frame is this link header, these tags, and these bytes; or it ends within a tag
+pub record HasLinkLayers (link_type : LinkType) (frame : List ℕ) (layers : LinkLayers)
+    : Type 0 where
+  pub first : Option ℕ
+  pub bytes : List ℕ
+  pub begins : BeginsWithLink link_type frame layers.link first bytes
+  pub tags : HasTags first bytes layers.vlan layers.ether_type layers.payload.now
+  pub ends : EndsTags (length frame) layers.vlan layers.ether_type layers.payload.now layers.stop
 
 -- it ends within a tag: nothing after it is read
 pub record StopsInTag (frame_len : ℕ) (packet : SlicedPacket) (stop : Option SliceError)

@@ -27,7 +27,7 @@ pub struct LaxSlicedPacket<'a> {
 impl<'a> LaxSlicedPacket<'a> {
     ghost use Rattle.std.specs.Prelude.{None, Some};
     ghost use Rattle.packet.specs.Link.{link_parts};
-ghost use Rattle.packet.specs.SlicedPacket.{IsLaxReadingAfter, IsLaxReadingOf};
+    ghost use Rattle.packet.specs.SlicedPacket.{IsLaxReadingAfter, IsLaxReadingOf};
 
     /// The layers of an Ethernet frame (IEEE 802.3 section 3.1.1).
     ///
@@ -153,7 +153,7 @@ fn layers<'a>(
 }
 
 // Whether an IP packet follows.
-fn carries_ip(link: &Option<LinkSlice>, ether_type: &Option<EtherType>) -> bool
+pub(crate) fn carries_ip(link: &Option<LinkSlice>, ether_type: &Option<EtherType>) -> bool
     ensures value { result ≡ carries_ip (option_map link_parts link.now) ether_type.now }
 {
     match (link, ether_type) {
