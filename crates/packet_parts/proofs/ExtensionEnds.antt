@@ -68,17 +68,24 @@ module _ (s : List ℕ) (first : ℕ) where
   passed_before d n r at_front k c = absurd (omega (arith, c))
   passed_before d n r (after_other {decided = e} {number = m} {rest = t} p skippable other enough) k c =
       elim (cases_order k (count e m t p)) [
-        inl same ↦ (e, m, t, p, sym same, record { skippable = skippable; enough = enough; not_later = λ h x is b. absurd (other is) })
+        | inl same ↦ (e, m, t, p, sym same, record { skippable = skippable; enough = enough; not_later = λ h x is b. absurd (other is) })
         | inr (inl below) ↦ passed_before e m t p k below
         | inr (inr above) ↦ absurd (omega (arith, c, above))
       ]
   passed_before d n r (after_fragment {decided = e} {at = t} {rest = x} {next = next} p b first_part) k c =
       elim (cases_order k (count e 44 t p)) [
-        inl same ↦ (e, 44, t, p, sym same, record {
-          skippable = search rules;
-          enough = fragment_enough t next x b;
-          not_later = λ h y is f. ap (λ z. z.fragment_offset) (one_fragment t h next y x f b).0 ∙ first_part;
-        })
+        | inl same ↦ (
+          e,
+          44,
+          t,
+          p,
+          sym same,
+          record {
+            skippable = search rules;
+            enough = fragment_enough t next x b;
+            not_later = λ h y is f. ap (λ z. z.fragment_offset) (one_fragment t h next y x f b).0 ∙ first_part;
+          },
+        )
         | inr (inl below) ↦ passed_before e 44 t p k below
         | inr (inr above) ↦ absurd (omega (arith, c, above))
       ]
@@ -88,7 +95,7 @@ module _ (s : List ℕ) (first : ℕ) where
       → (d ≡ e) × (n ≡ m) × (r ≡ t)
   one_place d e n m r t p q stuck stuck' =
       elim (cases_order (count d n r p) (count e m t q)) [
-        inl same ↦ same_place d e n m r t p q same
+        | inl same ↦ same_place d e n m r t p q same
         | inr (inl below) ↦ let o = passed_before e m t q (count d n r p) below in
             let same = same_place d o.0 n o.1 r o.2 p o.3 (sym o.4) in absurd (stuck (at_one _ _ _ _ same.1 same.2 o.5))
         | inr (inr above) ↦ let o = passed_before d n r p (count e m t q) above in
@@ -106,7 +113,7 @@ short_stuck : (n : ℕ) (r : List ℕ) → length r < required_len_of n r → Ca
 short_stuck n r short pass = omega (arith, pass.enough)
 
 whole_not_short : (at t : List ℕ) (m : ℕ) → at ≡ t → 44 ≡ m → (h : FragmentHeader) (x : List ℕ) → BeginsWith IsFragmentLayout at h x → length t < required_len_of m t → ⊥
-whole_not_short at t m e f h x b short = 
+whole_not_short at t m e f h x b short =
     let needed : required_len_of m t ≡ required_len_of 44 at = ap (λ k. required_len_of k t) (sym f) ∙ ap (λ y. required_len_of 44 y) (sym e) in
     omega (arith, needed, ap length e, fragment_enough at h x b)
 
@@ -135,8 +142,13 @@ one_end s first true true None None d e n m r t p q =
     }
 one_end s first false false (Some a) (Some b) d e n m r t (p, is) (q, is') =
     let same = one_place s first d e n m r t p.passes q.passes (short_stuck n r p.short) (short_stuck m t q.short) in
-    record { later = refl; incomplete = ap Some (is ∙ ap (λ x. incomplete_header_error x r (length s - length r)) same.1 ∙ ap (λ x. incomplete_header_error m x (length s - length x)) same.2 ∙ sym is');
-        decided = same.0; number = same.1; rest = same.2 }
+    record {
+      later = refl;
+      incomplete = ap Some (is ∙ ap (λ x. incomplete_header_error x r (length s - length r)) same.1 ∙ ap (λ x. incomplete_header_error m x (length s - length x)) same.2 ∙ sym is');
+      decided = same.0;
+      number = same.1;
+      rest = same.2;
+    }
 one_end s first false true None None d e n m r t (p, other) q =
     let same = one_place s first d _ n 44 r q.at p q.passes (ends_stuck n r other) (later_stuck _ _ _ q.begins q.later) in absurd (other (search (rules, same)))
 one_end s first true false None None d e n m r t p (q, other) =

@@ -32,7 +32,7 @@ same_cut_beginning Layout Refuses tells cut front s g h x y p q =
 
 pub ipv4_front : (h : Ipv4Header) (s : List ℕ) → (more : List ℕ) × (s ≡ ipv4_bytes h s ++ more)
 ipv4_front h s = elim (h.total_len == 0) as (λ b. (more : List ℕ) × (s ≡ (if b then s else take h.total_len s) ++ more)) [
-  true ↦ ([], sym (append-nil s))
+  | true ↦ ([], sym (append-nil s))
   | false ↦ (drop h.total_len s, sym (take-append-drop h.total_len s))
 ]
 

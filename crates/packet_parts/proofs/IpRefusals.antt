@@ -29,7 +29,7 @@ same_extensions : (s : List ℕ) (e f : LenError) → EndsInExtensions s e → E
 same_extensions s e f p q =
     let same = same_cut_beginning IsIpv6Layout RefusesIpv6 tells_ipv6 ipv6_bytes ipv6_front s p.header q.header p.body q.body p.begins q.begins in
     let ends : EndsAs false (Some p.inside) q.body q.header.next_header p.fragment p.number p.rest = subst (λ z. EndsAs false (Some p.inside) z q.header.next_header p.fragment p.number p.rest) same.1
-        (subst (λ k. EndsAs false (Some p.inside) p.body k.next_header p.fragment p.number p.rest) same.0 p.ends) in
+    (subst (λ k. EndsAs false (Some p.inside) p.body k.next_header p.fragment p.number p.rest) same.0 p.ends) in
     let inside : p.inside ≡ q.inside = let end = (one_end q.body q.header.next_header false false (Some p.inside) (Some q.inside) p.fragment q.fragment p.number q.number p.rest q.rest ends q.ends).incomplete in cc in
     p.moved ∙ ap (len_error_moved 40) inside ∙ sym q.moved
 
@@ -158,14 +158,14 @@ no_parts_refused s (Extensions e) p = absurd p
 -- a packet that begins with a header is refused for a reason that this header gives
 fails_4 : (s : List ℕ) (h : Header4) (x : List ℕ) (e : IpSliceError) → BeginsWith IsIpv4Layout s h x → RefusesIp s e → Fails4 (length s) (Ok (h, x))
 fails_4 s h x e b r = elim (reason s e r) [
-  inl o ↦ absurd ((o.other (header_4_fits s h x b).1).0 (is_version_4 s h x b))
+  | inl o ↦ absurd ((o.other (header_4_fits s h x b).1).0 (is_version_4 s h x b))
   | inr (inl o) ↦ subst (Fails4 (length s)) (read_once IsIpv4Layout RefusesIpv4 tells_ipv4 s o.answer (Ok (h, x)) o.reads b) o.fails
   | inr (inr o) ↦ absurd (omega (arith, is_version_4 s h x b, o.version))
 ]
 
 fails_6 : (s : List ℕ) (h : Header6) (x : List ℕ) (e : IpSliceError) → BeginsWith IsIpv6Layout s h x → RefusesIp s e → Is6 s e (Ok (h, x))
 fails_6 s h x e b r = elim (reason s e r) [
-  inl o ↦ absurd ((o.other (omega (arith, ap length b.whole, length-append {A = ℕ}, b.layout.len))).1 (is_version_6 s h x b))
+  | inl o ↦ absurd ((o.other (omega (arith, ap length b.whole, length-append {A = ℕ}, b.layout.len))).1 (is_version_6 s h x b))
   | inr (inl o) ↦ absurd (omega (arith, is_version_6 s h x b, o.version))
   | inr (inr o) ↦ subst (Is6 s e) (read_once IsIpv6Layout RefusesIpv6 tells_ipv6 s o.answer (Ok (h, x)) o.reads b) o.is
 ]
@@ -193,11 +193,11 @@ whole_not_refused s (slice.Ipv4 h x) e p whole r =
     let told = header_4_told s h x.now p whole.0 in
     elim (fails_4 s h _ e (longer IsIpv4Layout s _ _ h x.now (ipv4_front h s).1 p) r) [ inl less ↦ omega (arith, told, less) | inr short ↦ omega (arith, whole.1, short) ]
 whole_not_refused s (slice.Ipv6 h x d l n t) e p whole r = elim (fails_6 s h _ e (longer IsIpv6Layout s _ _ h p.body (ipv6_front h s).1 p.begins) r) [
-  inl short ↦ omega (arith, whole.0, short.0)
+  | inl short ↦ omega (arith, whole.0, short.0)
   | inr (y, enough, q, is) ↦
       let same = same_cut_beginning IsIpv6Layout RefusesIpv6 tells_ipv6 ipv6_bytes ipv6_front s h q.header p.body q.body p.begins q.begins in
       let ends : EndsAs l p.incomplete q.body q.header.next_header d n t.now = subst (λ z. EndsAs l p.incomplete z q.header.next_header d n t.now) same.1
-          (subst (λ k. EndsAs l p.incomplete p.body k.next_header d n t.now) same.0 p.ends) in
+      (subst (λ k. EndsAs l p.incomplete p.body k.next_header d n t.now) same.0 p.ends) in
       let end = one_end q.body q.header.next_header l false p.incomplete (Some q.inside) d q.fragment n q.number t.now q.rest ends q.ends in
       elim whole.1 [ inl later ↦ let no : IsTrue false = subst IsTrue end.later later in cc | inr other ↦ other (subst IsSkippable (sym end.number) q.ends.0.skippable) ]
 ]
@@ -208,7 +208,7 @@ parts_not_refused s (slice.Ipv4 h x) e p r = no_parts_4 s h _ e (longer IsIpv4La
 parts_not_refused s (slice.Ipv6 h x d l n t) e p r =
     let begins = longer IsIpv6Layout s _ _ h p.body (ipv6_front h s).1 p.begins in
     elim (fails_6 s h _ e begins (no_parts_refused s e r)) [
-      inl short ↦ let q = subst (HasNoIpParts s) short.1 r in omega (arith, is_version_6 s h _ begins, is_version_4 s q.states.header _ q.states.begins)
+      | inl short ↦ let q = subst (HasNoIpParts s) short.1 r in omega (arith, is_version_6 s h _ begins, is_version_4 s q.states.header _ q.states.begins)
       | inr later ↦ subst (HasNoIpParts s) later.3 r
     ]
 

@@ -1,10 +1,12 @@
 -- What the fragments of one packet have in common (RFC 791 section 3.2, RFC 8200 section 4.5).
-use Rattle.std.specs.Prelude.{ℕ, ◌≡◌, ◌⊎◌, Bool, List, Option, Some, None}
+use Rattle.std.specs.Prelude.{ℕ, ◌≡◌, ◌==◌, ◌⊎◌, Bool, List, Option, Some, None}
+use Rattle.std.specs.Prelude.{if◌then◌else◌}
 use Rattle.etherparse.specs.Ipv4Header.{IsFragment, IsIpv4Layout}
 use Rattle.etherparse.specs.Ipv6Header.{IsIpv6Layout, RefusesIpv6}
 use Rattle.etherparse.specs.LenError.{len_error_moved}
 use Rattle.etherparse.specs.Reading.{BeginsWith}
 use Rattle.etherparse.specs.declared.err.LenError.{LenError}
+use Rattle.etherparse.specs.declared.err.Layer.TheVariants as layer
 use Rattle.etherparse.specs.declared.err.ipv6.HeaderSliceError.{HeaderSliceError}
 use Rattle.etherparse.specs.declared.err.ipv6.HeaderSliceError.TheVariants.{Len, Content}
 use Rattle.etherparse.specs.declared.net.ipv4_header.Ipv4Header.{Ipv4Header}
@@ -64,13 +66,18 @@ pub record IsWholeIpv6 (packet : List ℕ) : Type 0 where
   pub header : Ipv6Header
   pub has : HasExtensions packet header None None
 
+-- the error of an extension header of this number that is incomplete: of a fragment header it says so
+abbrev pub undecided_error : ℕ → LenError → LenError
+undecided_error number e =
+    if number == 44 then record e { required_len = 8; layer = layer.Ipv6FragHeader } else e
+
 -- The packet is an IPv6 header and ends within an extension header, with none before it that
 -- decides. The place in the error counts from the packet's start.
 pub record EndsUndecided (packet : List ℕ) (e : LenError) : Type 0 where
   pub header : Ipv6Header
   pub inside : LenError
   pub has : HasExtensions packet header (Some inside) None
-  pub moved : e ≡ len_error_moved 40 inside
+  pub moved : e ≡ len_error_moved 40 (undecided_error has.number inside)
 
 -- why it is not told whether a packet is a fragment: there is no IPv6 header, or an incomplete
 -- header after it

@@ -1,12 +1,14 @@
 //! The keys by which a receiver puts the fragments of one packet together, of both versions.
 
-ghost use Rattle.std.specs.Prelude.{IfErr, IfNone, IfOk, IfSome};
+ghost use Rattle.std.specs.Prelude.{◌≡◌, IfErr, IfNone, IfOk, IfSome};
 ghost use Rattle.etherparse.specs.Ipv4Header.{RefusesIpv4};
 ghost use Rattle.packet_parts.specs.FragmentKey.{HasIpv4Key, HasIpv6Key, IsWholeIpv4};
 ghost use Rattle.packet_parts.specs.FragmentKey.{IsWholeIpv6, RefusesIpv6Key};
+ghost use Rattle.packet_parts.specs.FragmentKey.{undecided_error};
 
-use crate::extensions::after_extensions;
-use etherparse::err::{ipv4, ipv6};
+use crate::extensions::{AfterExtensions, after_extensions};
+use crate::fragment::FragmentHeader;
+use etherparse::err::{Layer, LenError, ipv4, ipv6};
 use etherparse::{IpNumber, Ipv4Header, Ipv6Header};
 
 /// The key of the fragments of one IPv4 packet (RFC 791 section 3.2).
@@ -72,17 +74,39 @@ pub fn ipv6_key(packet: &[u8]) -> Result<Option<Ipv6Key>, ipv6::HeaderSliceError
     ensures refused { IfErr result (RefusesIpv6Key packet.now) }
 {
     let (header, body) = Ipv6Header::from_slice(packet)?;
-    let after = after_extensions(body, header.next_header);
-    if let Some(fragment) = after.fragment {
-        let (source, destination) = (header.source, header.destination);
-        return Ok(Some(Ipv6Key {
-            source,
-            destination,
-            identification: fragment.identification,
-        }));
+    let AfterExtensions {
+        number,
+        fragment,
+        incomplete,
+        ..
+    } = after_extensions(body, header.next_header);
+    match (fragment, incomplete) {
+        (Some(fragment), _) => {
+            let (source, destination) = (header.source, header.destination);
+            Ok(Some(Ipv6Key {
+                source,
+                destination,
+                identification: fragment.identification,
+            }))
+        }
+        (None, Some(e)) => {
+            let e = undecided_error(number, e).add_offset(Ipv6Header::LEN);
+            Err(ipv6::HeaderSliceError::Len(e))
+        }
+        (None, None) => Ok(None),
     }
-    match after.incomplete {
-        Some(e) => Err(ipv6::HeaderSliceError::Len(e.add_offset(Ipv6Header::LEN))),
-        None => Ok(None),
+}
+
+// The error of an extension header of this number that is incomplete.
+fn undecided_error(number: IpNumber, e: LenError) -> LenError
+    ensures value { result ≡ undecided_error number e }
+{
+    if number != IpNumber::IPV6_FRAGMENTATION_HEADER {
+        return e;
+    }
+    LenError {
+        required_len: FragmentHeader::LEN,
+        layer: Layer::Ipv6FragHeader,
+        ..e
     }
 }
