@@ -31,9 +31,11 @@ use Rattle.packet.specs.declared.vlan.VlanSlice.TheVariants.{DoubleVlan, SingleV
 link_once : (link_type : LinkType) (frame : List ℕ) (l m : Option LinkSlice) (e f : Option ℕ) (x y : List ℕ)
     → BeginsWithLink link_type frame l e x → BeginsWithLink link_type frame m f y → (option_map link_parts l ≡ option_map link_parts m) × (e ≡ f) × (x ≡ y)
 link_once link_type frame l m e f x y p q =
-    let front = same_front p.front q.front x y (p.len ∙ sym q.len) (sym p.whole ∙ q.whole) in
-    (p.header ∙ ap (link_in link_type) front ∙ sym q.header, p.next ∙ ap (ether_type_in link_type) front ∙ sym q.next,
-        append_cancel_left q.front x y (ap (λ z. z ++ x) (sym front) ∙ sym p.whole ∙ q.whole))
+    let front = same_front p.front q.front x y (p.len ∙ sym q.len) (sym p.whole ∙ q.whole) in (
+      p.header ∙ ap (link_in link_type) front ∙ sym q.header,
+      p.next ∙ ap (ether_type_in link_type) front ∙ sym q.next,
+      append_cancel_left q.front x y (ap (λ z. z ++ x) (sym front) ∙ sym p.whole ∙ q.whole),
+    )
 
 -- no tag of at most n follows: there are as many, what follows is none, or it is incomplete
 abbrev AreLast : ℕ → List (List ℕ) → Option ℕ → List ℕ → Type 0
@@ -60,7 +62,7 @@ tags_once n (t ∷ ts) (u ∷ us) first d e bytes x y within within' t' u' p q l
     let tag = same_front t u (concat ts ++ x) (concat us ++ y) (t'.1 ∙ sym u'.1) whole in
     let after : concat ts ++ x ≡ concat us ++ y = append_cancel_left u _ _ (ap (λ z. z ++ (concat ts ++ x)) (sym tag) ∙ whole) in
     let rest = tags_once (n - 1) ts us (Some (number_at 2 u)) d e (concat us ++ y) x y (omega (arith, within)) (omega (arith, within')) (subst (λ z. AreTags (Some (number_at 2 z)) ts d) tag t'.2) u'.2
-        (sym after) refl (one_less n t ts d x within last) (one_less n u us e y within' last') in
+    (sym after) refl (one_less n t ts d x within last) (one_less n u us e y within' last') in
     (cc, rest.1, rest.2)
 
 -- a packet and its transport header are read in one way
@@ -110,9 +112,11 @@ no_tag ts us d e same type few is (inr other) = let kind = ap is_tag type in cc
 ends_once : (frame_len : ℕ) (p q : SlicedPacket) (i j : Option SliceError) → SameStart p q → StopsInTag frame_len p i ⊎ CarriesOther p i ⊎ CarriesIp frame_len p i
     → StopsInTag frame_len q j ⊎ CarriesOther q j ⊎ CarriesIp frame_len q j
     → (option_map ip_parts p.net ≡ option_map ip_parts q.net) × (option_map transport_parts p.transport ≡ option_map transport_parts q.transport) × (i ≡ j)
-ends_once frame_len p q i j same (inl e) (inl f) =
-    (ap (option_map ip_parts) (e.net ∙ sym f.net), ap (option_map transport_parts) (e.transport ∙ sym f.transport),
-        e.stops ∙ ap (λ x. Some (error.Vlan x)) (e.ends.error ∙ ap (λ s. tag_error (frame_len - length s) (length s)) same.payload ∙ sym f.ends.error) ∙ sym f.stops)
+ends_once frame_len p q i j same (inl e) (inl f) = (
+  ap (option_map ip_parts) (e.net ∙ sym f.net),
+  ap (option_map transport_parts) (e.transport ∙ sym f.transport),
+  e.stops ∙ ap (λ x. Some (error.Vlan x)) (e.ends.error ∙ ap (λ s. tag_error (frame_len - length s) (length s)) same.payload ∙ sym f.ends.error) ∙ sym f.stops,
+)
 ends_once frame_len p q i j same (inr (inl e)) (inr (inl f)) =
     (ap (option_map ip_parts) (e.net ∙ sym f.net), ap (option_map transport_parts) (e.transport ∙ sym f.transport), e.goes_on ∙ sym f.goes_on)
 ends_once frame_len p q i j same (inr (inr e)) (inr (inr f)) = network_once (frame_len - length q.payload.now) q.payload.now p.net q.net p.transport q.transport i j
@@ -129,7 +133,7 @@ pub layers_once : (frame_len : ℕ) (first : Option ℕ) (bytes : List ℕ) (p q
     → HasLayers frame_len first bytes p i → HasLayers frame_len first bytes q j → (layers_of p ≡ layers_of q) × (i ≡ j)
 layers_once frame_len first bytes p q i j link a b =
     let tags = tags_once 2 (tags_of p.vlan) (tags_of q.vlan) first p.ether_type q.ether_type bytes p.payload.now q.payload.now (two_tags p.vlan) (two_tags q.vlan)
-        a.tags.tags b.tags.tags a.tags.whole b.tags.whole (last_tags frame_len p i a.ends) (last_tags frame_len q j b.ends) in
+    a.tags.tags b.tags.tags a.tags.whole b.tags.whole (last_tags frame_len p i a.ends) (last_tags frame_len q j b.ends) in
     let ends = ends_once frame_len p q i j (record { link = link; tags = tags.0; ether_type = tags.1; payload = tags.2 }) a.ends b.ends in
     (cc, ends.2)
 
