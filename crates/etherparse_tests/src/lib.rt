@@ -27,6 +27,8 @@ mod layers;
 #[cfg(test)]
 mod limited_walk;
 #[cfg(test)]
+mod packet;
+#[cfg(test)]
 mod shared;
 #[cfg(test)]
 mod udp;

@@ -1,8 +1,7 @@
 -- A frame is read in one way.
-use Rattle.std.proofs.Common.{ℕ, suc, ◌≡◌, ◌+◌, ◌-◌, ◌<◌, ◌≤◌, ◌⊎◌, IsFalse, IsTrue, List, [], ◌∷◌, ◌++◌, length, drop, Ok, Err, Option, Result, Some, None, ap, ◌∙◌, arith, append_assoc, inl, inr, length-append, option_map, refl, rules, sym, subst}
+use Rattle.std.proofs.Common.{ℕ, ◌≡◌, ◌-◌, ◌<◌, ◌≤◌, ◌⊎◌, IsFalse, IsTrue, List, [], ◌∷◌, ◌++◌, length, Ok, Err, Option, Result, Some, None, ap, ◌∙◌, arith, append_assoc, inl, inr, length-append, option_map, refl, sym, subst}
 use Rattle.std.specs.List.{concat}
 use Rattle.std.specs.Result.{result_map_both}
-use Rattle.std.proofs.lemmas.Grind.{common_steps}
 use Rattle.std.proofs.lemmas.List.{append_cancel_left}
 use Rattle.etherparse.proofs.Parts.{same_front}
 use Rattle.packet_parts.proofs.IpRefusals.{lax_once, no_parts_refused, parts_not_refused, refused_once}

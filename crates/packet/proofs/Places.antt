@@ -1,5 +1,5 @@
 -- Places in a packet are within it.
-use Rattle.std.proofs.Common.{ℕ, ◌≡◌, ◌≤◌, ◌+◌, List, length, ap, arith, inl, inr, length-append}
+use Rattle.std.proofs.Common.{ℕ, ◌≤◌, List, length, ap, arith, inl, inr, length-append}
 use Rattle.std.proofs.lemmas.Grind.{common_steps}
 use Rattle.etherparse.specs.declared.net.ipv4_header.Ipv4Header.{Ipv4Header}
 use Rattle.etherparse.specs.declared.err.ipv4.HeaderSliceError.TheVariants as ipv4

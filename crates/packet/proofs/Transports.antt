@@ -1,6 +1,5 @@
 -- A transport header is read in one way.
-use Rattle.std.proofs.Common.{ℕ, ◌≡◌, ◌+◌, List, MatchOption, Option, Some, None, Ok, Err, Result, ap, ◌∙◌, arith, refl, rules, sym, subst, option_map}
-use Rattle.std.proofs.lemmas.Grind.{common_steps}
+use Rattle.std.proofs.Common.{ℕ, ◌≡◌, ◌+◌, List, MatchOption, Option, Some, None, Result, ap, ◌∙◌, arith, rules, sym, subst, option_map}
 use Rattle.std.specs.Result.{result_ok}
 use Rattle.etherparse.proofs.Fronts.{TellsHeaders, fixed_tells, read_once}
 use Rattle.etherparse.specs.Reading.{IsTooShort}

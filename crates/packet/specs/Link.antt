@@ -1,5 +1,5 @@
 -- The link header of a frame (IEEE 802.3 section 3.1.1; the registry of link types of tcpdump.org).
-use Rattle.std.specs.Prelude.{ℕ, ◌≡◌, ◌==◌, ◌||◌, ◌<◌, Bool, List, ◌++◌, length, min}
+use Rattle.std.specs.Prelude.{ℕ, ◌≡◌, ◌==◌, ◌||◌, ◌<◌, List, ◌++◌, length, min}
 use Rattle.std.specs.Prelude.{Option, Some, None, if◌then◌else◌, option_map}
 use Rattle.std.specs.Int.{from_be_bytes, from_le_bytes, w32}
 use Rattle.packet.specs.Bytes.{number_at}

@@ -1,5 +1,5 @@
 -- The IP packet of a frame and its transport header.
-use Rattle.std.specs.Prelude.{ℕ, ◌≡◌, ◌+◌, List, length, Option, Some, None, option_map}
+use Rattle.std.specs.Prelude.{ℕ, ◌≡◌, ◌+◌, List, length, Option, Some, None}
 use Rattle.etherparse.specs.Ipv4Header.{ipv4_header_len}
 use Rattle.packet_parts.specs.IpSlice.{HasLaxIpParts, HasNoIpParts}
 use Rattle.packet_parts.specs.declared.ip_slice.IpSlice.{IpSlice}

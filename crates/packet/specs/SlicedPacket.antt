@@ -1,9 +1,14 @@
 -- A frame in its layers.
 use Rattle.std.specs.Prelude.{ℕ, ◌≡◌, ◌-◌, ◌==◌, ◌||◌, ◌⊎◌, Bool, true, false, IsFalse, IsTrue, List}
-use Rattle.std.specs.Prelude.{length, Option, Some, None, Result, Ok, Err, option_map}
+use Rattle.std.specs.Prelude.{length, Option, Some, None, Result, Ok, Err, IsSomeAnd, option_map}
 use Rattle.std.specs.Result.{result_map_both}
 use Rattle.etherparse.specs.declared.err.LenError.{LenError}
+use Rattle.packet_parts.specs.Checksum.{IsVerdict}
 use Rattle.packet_parts.specs.IpSlice.{IpParts, ip_parts}
+use Rattle.packet_parts.specs.declared.checksum.Absence.TheVariants.{Incomplete}
+use Rattle.packet_parts.specs.declared.checksum.Verdict.{Verdict}
+use Rattle.packet_parts.specs.declared.checksum.Verdict.TheVariants.{Absent}
+use Rattle.packet_parts.specs.declared.ip_slice.IpSlice.{IpSlice}
 use Rattle.packet.specs.Link.{BeginsWithLink, LacksLink, LinkParts, LoopbackParts}
 use Rattle.packet.specs.Link.{link_parts}
 use Rattle.packet.specs.Network.{HasNetwork}
@@ -159,3 +164,9 @@ IsReadingAfter first bytes answer =
 abbrev pub whole_of : SlicedPacket → Option SliceError → Result SlicedPacket SliceError
 whole_of packet None = Ok packet
 whole_of packet (Some e) = Err e
+
+-- the verdict on the checksum of an IP packet, not all of which may be there
+abbrev pub IsVerdictOn : Option IpSlice → Option SliceError → Option Verdict → Type 0
+IsVerdictOn None stop verdict = verdict ≡ None
+IsVerdictOn (Some slice) (Some (error.Ip e)) verdict = verdict ≡ Some (Absent Incomplete)
+IsVerdictOn (Some slice) stop verdict = IsSomeAnd verdict (IsVerdict slice)

@@ -1,6 +1,6 @@
 -- The transport header of an IP packet: UDP (RFC 768), TCP (RFC 9293), ICMP (RFC 792) and ICMPv6
 -- (RFC 4443).
-use Rattle.std.specs.Prelude.{ℕ, ◌≡◌, ◌+◌, ◌==◌, ◌≤◌, ◌⊎◌, Bool, not, List, ◌++◌, length}
+use Rattle.std.specs.Prelude.{ℕ, ◌≡◌, ◌==◌, ◌≤◌, ◌⊎◌, List, length}
 use Rattle.std.specs.Prelude.{slice_index, Option, Some, None, MatchOption, Result, Ok, Err}
 use Rattle.std.specs.Prelude.{drop, if◌then◌else◌, option_map}
 use Rattle.std.specs.Result.{result_err, result_ok}

@@ -10,6 +10,7 @@ use crate::link::{LinkError, LinkSlice, LinkType, link_header};
 use crate::network::{Network, network_at};
 use crate::sliced_packet::SlicedPacket;
 use crate::vlan::{Tagged, after_tags};
+use packet_parts::checksum::{Absence, Verdict};
 
 /// The layers of a frame, as far as they can be read: of one that a capture cut, of one that is
 /// damaged, or of a packet whose sender left its length to the network card.
@@ -27,7 +28,7 @@ pub struct LaxSlicedPacket<'a> {
 impl<'a> LaxSlicedPacket<'a> {
     ghost use Rattle.std.specs.Prelude.{None, Some};
     ghost use Rattle.packet.specs.Link.{link_parts};
-    ghost use Rattle.packet.specs.SlicedPacket.{IsLaxReadingAfter, IsLaxReadingOf};
+    ghost use Rattle.packet.specs.SlicedPacket.{IsLaxReadingAfter, IsLaxReadingOf, IsVerdictOn};
 
     /// The layers of an Ethernet frame (IEEE 802.3 section 3.1.1).
     ///
@@ -105,6 +106,20 @@ impl<'a> LaxSlicedPacket<'a> {
         ensures reads { IsLaxReadingAfter None packet.now result }
     {
         layers(packet.len(), None, None, packet)
+    }
+
+    /// The verdict on the checksum of the IP packet's payload; `Incomplete` if the packet is not
+    /// whole; `None` if there is no IP packet.
+    pub fn verdict(&self) -> Option<Verdict>
+        ensures judges { IsVerdictOn self.now.packet.net self.now.stop result }
+    {
+        match &self.packet.net {
+            None => None,
+            Some(ip) => match &self.stop {
+                Some(SliceError::Ip(_)) => Some(Verdict::Absent(Absence::Incomplete)),
+                _ => Some(ip.verdict()),
+            },
+        }
     }
 }
 

@@ -43,6 +43,19 @@ impl<'a> SlicedPacket<'a> {
     ///
     /// In this order: `Link` if the frame has fewer than 14 bytes; `Vlan`; `Ip`; `Udp`, `Tcp` or
     /// `Icmp`.
+    ///
+    /// # Example
+    ///
+    /// ```
+    /// // Ethernet, a tag of VLAN 5 with priority 3, IPv4, and a datagram to port 53.
+    /// let frame = [
+    ///     2, 0, 0, 0, 0, 2, 2, 0, 0, 0, 0, 1, 0x81, 0, 0x60, 5, 8, 0, 0x45, 0, 0, 30, 0, 0, 0, 0, 64,
+    ///     17, 0, 0, 10, 0, 0, 1, 10, 0, 0, 2, 4, 0, 0, 53, 0, 10, 0, 0, b'h', b'i',
+    /// ];
+    /// let packet = SlicedPacket::from_ethernet(&frame)?;
+    /// assert!(rt; packet.ether_type == Some(EtherType::IPV4));
+    /// assert!(rt; packet.ports() == Some((1024, 53)));
+    /// ```
     pub fn from_ethernet(frame: &'a [u8]) -> Result<SlicedPacket<'a>, SliceError>
         ensures reads { IsReadingOf LinkType.Ethernet2 frame.now result }
     {
@@ -55,6 +68,16 @@ impl<'a> SlicedPacket<'a> {
     ///
     /// In this order: `Link` if the frame has fewer than 16 bytes; `Vlan`; `Ip`; `Udp`, `Tcp` or
     /// `Icmp`.
+    ///
+    /// # Example
+    ///
+    /// ```
+    /// // The header of a broadcast from 2:0:0:0:0:1, and an ARP packet that is not read.
+    /// let frame = [0, 1, 0, 1, 0, 6, 2, 0, 0, 0, 0, 1, 0, 0, 8, 6, 0, 1, 8, 0];
+    /// let packet = SlicedPacket::from_linux_sll(&frame)?;
+    /// assert!(rt; packet.ether_type == Some(EtherType::ARP));
+    /// assert!(rt; packet.payload == [0, 1, 8, 0].as_slice());
+    /// ```
     pub fn from_linux_sll(frame: &'a [u8]) -> Result<SlicedPacket<'a>, SliceError>
         ensures reads { IsReadingOf LinkType.LinuxSll frame.now result }
     {
@@ -67,6 +90,16 @@ impl<'a> SlicedPacket<'a> {
     ///
     /// In this order: `Link` if the frame has fewer than 20 bytes; `Vlan`; `Ip`; `Udp`, `Tcp` or
     /// `Icmp`.
+    ///
+    /// # Example
+    ///
+    /// ```
+    /// // The same with the header of version 2, on interface 3.
+    /// let frame = [8, 6, 0, 0, 0, 0, 0, 3, 0, 1, 1, 6, 2, 0, 0, 0, 0, 1, 0, 0, 0, 1, 8, 0];
+    /// let packet = SlicedPacket::from_linux_sll2(&frame)?;
+    /// assert!(rt; packet.ether_type == Some(EtherType::ARP));
+    /// assert!(rt; packet.payload == [0, 1, 8, 0].as_slice());
+    /// ```
     pub fn from_linux_sll2(frame: &'a [u8]) -> Result<SlicedPacket<'a>, SliceError>
         ensures reads { IsReadingOf LinkType.LinuxSll2 frame.now result }
     {
@@ -80,6 +113,16 @@ impl<'a> SlicedPacket<'a> {
     /// # Errors
     ///
     /// In this order: `Link` if the frame has fewer than 4 bytes; `Ip`; `Udp`, `Tcp` or `Icmp`.
+    ///
+    /// # Example
+    ///
+    /// ```
+    /// // Family 7 in either byte order, which is not that of IP.
+    /// let frame = [7, 0, 0, 0, 1];
+    /// let packet = SlicedPacket::from_loopback(&frame)?;
+    /// assert!(rt; packet.link == Some(LinkSlice::Loopback { family: 7 }));
+    /// assert!(rt; SlicedPacket::from_loopback(&[0, 0, 0, 7, 1])? == packet);
+    /// ```
     pub fn from_loopback(frame: &'a [u8]) -> Result<SlicedPacket<'a>, SliceError>
         ensures reads { IsReadingOf LinkType.Null frame.now result }
     {
@@ -91,6 +134,17 @@ impl<'a> SlicedPacket<'a> {
     /// # Errors
     ///
     /// In this order: `Link`; `Vlan`; `Ip`; `Udp`, `Tcp` or `Icmp`.
+    ///
+    /// # Example
+    ///
+    /// ```
+    /// // A frame of LINKTYPE_ETHERNET that ends within its link header.
+    /// let link_type = LinkType::from_number(1);
+    /// assert!(rt; link_type == Some(LinkType::Ethernet2));
+    /// let refused = SlicedPacket::from_link_type(LinkType::Ethernet2, &[0; 13]);
+    /// let too_short = LinkError { required_len: 14, len: 13 };
+    /// assert!(rt; refused == Err(SliceError::Link(too_short)));
+    /// ```
     pub fn from_link_type(
         link_type: LinkType,
         frame: &'a [u8],
@@ -109,6 +163,15 @@ impl<'a> SlicedPacket<'a> {
     /// # Errors
     ///
     /// In this order: `Vlan`; `Ip`; `Udp`, `Tcp` or `Icmp`.
+    ///
+    /// # Example
+    ///
+    /// ```
+    /// // A protocol that is not read.
+    /// let packet = SlicedPacket::from_ether_type(EtherType::ARP, &[0, 1, 8, 0])?;
+    /// assert!(rt; packet.net.is_none());
+    /// assert!(rt; packet.payload == [0, 1, 8, 0].as_slice());
+    /// ```
     pub fn from_ether_type(
         ether_type: EtherType,
         bytes: &'a [u8],
@@ -123,6 +186,24 @@ impl<'a> SlicedPacket<'a> {
     /// # Errors
     ///
     /// In this order: `Ip`; `Udp`, `Tcp` or `Icmp`.
+    ///
+    /// # Example
+    ///
+    /// ```
+    /// // Four bytes of a TCP header, in a packet that is as short as it says.
+    /// let packet = [
+    ///     0x45, 0, 0, 24, 0, 0, 0, 0, 64, 6, 0, 0, 10, 0, 0, 1, 10, 0, 0, 2, 4, 0, 0, 80,
+    /// ];
+    /// let too_short = LenError {
+    ///     required_len: 20,
+    ///     len: 4,
+    ///     len_source: LenSource::Slice,
+    ///     layer: Layer::TcpHeader,
+    ///     layer_start_offset: 20,
+    /// };
+    /// let refused = SlicedPacket::from_ip(&packet);
+    /// assert!(rt; refused == Err(SliceError::Tcp(TcpError::Len(too_short))));
+    /// ```
     pub fn from_ip(packet: &'a [u8]) -> Result<SlicedPacket<'a>, SliceError>
         ensures reads { IsReadingAfter None packet.now result }
     {
@@ -132,6 +213,19 @@ impl<'a> SlicedPacket<'a> {
     /// The source port and the destination port, if the IP packet carries UDP or TCP, is no later
     /// fragment, and has the first four bytes of that. So the ports are there in a first fragment
     /// or a cut packet that does not have the whole header.
+    ///
+    /// # Example
+    ///
+    /// ```
+    /// // Four bytes of a TCP header, in a packet that a capture cut.
+    /// let packet = [
+    ///     0x45, 0, 0, 40, 0, 0, 0, 0, 64, 6, 0, 0, 10, 0, 0, 1, 10, 0, 0, 2, 4, 0, 0, 80,
+    /// ];
+    /// let lax = LaxSlicedPacket::from_ip(&packet);
+    /// assert!(rt; lax.stop.is_some());
+    /// assert!(rt; lax.packet.transport.is_none());
+    /// assert!(rt; lax.packet.ports() == Some((1024, 80)));
+    /// ```
     pub fn ports(&self) -> Option<(u16, u16)>
         ensures found { IfSome result (λ ports. IfSome self.now.net (λ ip. HasPorts ip ports)) }
         ensures none { IfNone result (IfSome self.now.net (λ ip.

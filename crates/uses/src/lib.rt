@@ -8,6 +8,7 @@ pub mod compare;
 pub mod configure;
 pub mod filter;
 pub mod forward;
+pub mod frame;
 pub mod ipv4_view;
 pub mod ipv6_view;
 pub mod payload;

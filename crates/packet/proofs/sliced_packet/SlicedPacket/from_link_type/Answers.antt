@@ -1,4 +1,3 @@
-use Rattle.std.proofs.Common.{rules}
 use Rattle.packet.proofs.Frames.{frame_read}
 use Rattle.packet.proofs.sliced_packet.SlicedPacket.from_link_type.Goals as goal
 

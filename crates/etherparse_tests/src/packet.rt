@@ -1,0 +1,221 @@
+//! Frames in their layers: the examples of the doc comments, worked frames of each link type, and
+//! where reading stops.
+
+use etherparse::LenSource;
+use etherparse::err::ipv4::HeaderSliceError;
+use etherparse::err::{Layer, LenError};
+use packet::error::SliceError;
+use packet::ether_type::EtherType;
+use packet::lax_sliced_packet::LaxSlicedPacket;
+use packet::link::{LinkError, LinkSlice, LinkType};
+use packet::sliced_packet::SlicedPacket;
+use packet::transport::TransportSlice;
+use packet::vlan::VlanSlice;
+use packet_parts::ip_slice::IpSliceError;
+use packet_parts::tcp::TcpError;
+use std::test::Fail;
+
+#[test]
+fn a_tagged_frame(rt: HostRuntime) -> Result<(), Fail> {
+    // Ethernet, a tag of VLAN 5 with priority 3, IPv4, and a datagram to port 53.
+    let frame = [
+        2, 0, 0, 0, 0, 2, 2, 0, 0, 0, 0, 1, 0x81, 0, 0x60, 5, 8, 0, 0x45, 0, 0, 30, 0, 0, 0, 0, 64,
+        17, 0, 0, 10, 0, 0, 1, 10, 0, 0, 2, 4, 0, 0, 53, 0, 10, 0, 0, b'h', b'i',
+    ];
+    let packet = SlicedPacket::from_ethernet(&frame)?;
+    assert!(rt; packet.ether_type == Some(EtherType::IPV4));
+    assert!(rt; packet.ports() == Some((1024, 53)));
+    Ok(())
+}
+
+#[test]
+fn a_cooked_capture(rt: HostRuntime) -> Result<(), Fail> {
+    // The header of a broadcast from 2:0:0:0:0:1, and an ARP packet that is not read.
+    let frame = [0, 1, 0, 1, 0, 6, 2, 0, 0, 0, 0, 1, 0, 0, 8, 6, 0, 1, 8, 0];
+    let packet = SlicedPacket::from_linux_sll(&frame)?;
+    assert!(rt; packet.ether_type == Some(EtherType::ARP));
+    assert!(rt; packet.payload == [0, 1, 8, 0].as_slice());
+    Ok(())
+}
+
+#[test]
+fn a_cooked_capture_of_version_2(rt: HostRuntime) -> Result<(), Fail> {
+    // The same with the header of version 2, on interface 3.
+    let frame = [8, 6, 0, 0, 0, 0, 0, 3, 0, 1, 1, 6, 2, 0, 0, 0, 0, 1, 0, 0, 0, 1, 8, 0];
+    let packet = SlicedPacket::from_linux_sll2(&frame)?;
+    assert!(rt; packet.ether_type == Some(EtherType::ARP));
+    assert!(rt; packet.payload == [0, 1, 8, 0].as_slice());
+    Ok(())
+}
+
+#[test]
+fn a_loopback_frame(rt: HostRuntime) -> Result<(), Fail> {
+    // Family 7 in either byte order, which is not that of IP.
+    let frame = [7, 0, 0, 0, 1];
+    let packet = SlicedPacket::from_loopback(&frame)?;
+    assert!(rt; packet.link == Some(LinkSlice::Loopback { family: 7 }));
+    assert!(rt; SlicedPacket::from_loopback(&[0, 0, 0, 7, 1])? == packet);
+    Ok(())
+}
+
+#[test]
+fn a_link_type(rt: HostRuntime) -> Result<(), Fail> {
+    // A frame of LINKTYPE_ETHERNET that ends within its link header.
+    let link_type = LinkType::from_number(1);
+    assert!(rt; link_type == Some(LinkType::Ethernet2));
+    let refused = SlicedPacket::from_link_type(LinkType::Ethernet2, &[0; 13]);
+    let too_short = LinkError { required_len: 14, len: 13 };
+    assert!(rt; refused == Err(SliceError::Link(too_short)));
+    Ok(())
+}
+
+#[test]
+fn another_protocol(rt: HostRuntime) -> Result<(), Fail> {
+    // A protocol that is not read.
+    let packet = SlicedPacket::from_ether_type(EtherType::ARP, &[0, 1, 8, 0])?;
+    assert!(rt; packet.net.is_none());
+    assert!(rt; packet.payload == [0, 1, 8, 0].as_slice());
+    Ok(())
+}
+
+#[test]
+fn a_packet_without_its_transport_header(rt: HostRuntime) -> Result<(), Fail> {
+    // Four bytes of a TCP header, in a packet that is as short as it says.
+    let packet = [
+        0x45, 0, 0, 24, 0, 0, 0, 0, 64, 6, 0, 0, 10, 0, 0, 1, 10, 0, 0, 2, 4, 0, 0, 80,
+    ];
+    let too_short = LenError {
+        required_len: 20,
+        len: 4,
+        len_source: LenSource::Slice,
+        layer: Layer::TcpHeader,
+        layer_start_offset: 20,
+    };
+    let refused = SlicedPacket::from_ip(&packet);
+    assert!(rt; refused == Err(SliceError::Tcp(TcpError::Len(too_short))));
+    Ok(())
+}
+
+#[test]
+fn ports_of_a_cut_packet(rt: HostRuntime) -> Result<(), Fail> {
+    // Four bytes of a TCP header, in a packet that a capture cut.
+    let packet = [
+        0x45, 0, 0, 40, 0, 0, 0, 0, 64, 6, 0, 0, 10, 0, 0, 1, 10, 0, 0, 2, 4, 0, 0, 80,
+    ];
+    let lax = LaxSlicedPacket::from_ip(&packet);
+    assert!(rt; lax.stop.is_some());
+    assert!(rt; lax.packet.transport.is_none());
+    assert!(rt; lax.packet.ports() == Some((1024, 80)));
+    Ok(())
+}
+
+// A datagram over IPv4, of 30 bytes: from port 1024 to port 53.
+const DATAGRAM: [u8; 30] = [
+    0x45, 0, 0, 30, 0, 0, 0, 0, 64, 17, 0, 0, 10, 0, 0, 1, 10, 0, 0, 2, 4, 0, 0, 53, 0, 10, 0, 0,
+    b'h', b'i',
+];
+
+// The error of a layer at a place.
+fn too_short(layer: Layer, required_len: usize, len: usize, place: usize) -> LenError {
+    LenError {
+        required_len,
+        len,
+        len_source: LenSource::Slice,
+        layer,
+        layer_start_offset: place,
+    }
+}
+
+#[test]
+fn two_tags_are_read_and_a_third_is_another_protocol(rt: HostRuntime) -> Result<(), Fail> {
+    let bytes = [0xb0, 7, 0x81, 0, 0x60, 5, 0x91, 0, 0, 1, 8, 0];
+    let packet = SlicedPacket::from_ether_type(EtherType::PROVIDER_BRIDGING, &bytes)?;
+    assert!(rt; packet.ether_type == Some(EtherType::VLAN_DOUBLE_TAGGED_FRAME));
+    assert!(rt; packet.payload == [0, 1, 8, 0].as_slice() && packet.net.is_none());
+    let (outer, inner) = match packet.vlan {
+        Some(VlanSlice::DoubleVlan { outer, inner }) => (outer, inner),
+        _ => return Err(Fail::from("not two tags")),
+    };
+    assert!(rt; outer.priority_code_point() == 5 && outer.drop_eligible_indicator());
+    assert!(rt; outer.vlan_identifier() == 7);
+    assert!(rt; inner.priority_code_point() == 3 && !inner.drop_eligible_indicator());
+    assert!(rt; inner.vlan_identifier() == 5);
+    Ok(())
+}
+
+#[test]
+fn a_frame_that_ends_within_a_tag_keeps_the_tag_before(rt: HostRuntime) -> Result<(), Fail> {
+    let frame = [2, 0, 0, 0, 0, 2, 2, 0, 0, 0, 0, 1, 0x88, 0xa8, 0, 5, 0x81, 0, 1, 2, 3];
+    let lax = LaxSlicedPacket::from_ethernet(&frame)?;
+    let stop = SliceError::Vlan(too_short(Layer::VlanHeader, 4, 3, 18));
+    assert!(rt; matches!(lax.packet.vlan, Some(VlanSlice::SingleVlan(_))));
+    assert!(rt; lax.packet.ether_type == Some(EtherType::VLAN_TAGGED_FRAME));
+    assert!(rt; lax.packet.payload == [1, 2, 3].as_slice());
+    assert!(rt; SlicedPacket::from_ethernet(&frame) == Err(stop));
+    Ok(())
+}
+
+#[test]
+fn an_error_of_ip_has_its_place_in_the_frame(rt: HostRuntime) {
+    let mut frame = [0; 34];
+    frame[16..].copy_from_slice(&DATAGRAM[..18]);
+    [frame[14], frame[15]] = [8, 0];
+    let too_short = too_short(Layer::Ipv4Header, 20, 18, 16);
+    let refused = SlicedPacket::from_linux_sll(&frame);
+    let error = IpSliceError::Ipv4Header(HeaderSliceError::Len(too_short));
+    assert!(rt; refused == Err(SliceError::Ip(error)));
+}
+
+#[test]
+fn fragments_have_a_transport_header_if_the_first_has_all_of_it(rt: HostRuntime) {
+    let mut later = DATAGRAM;
+    later[7] = 1;
+    let mut tiny = [0; 24];
+    tiny.copy_from_slice(&DATAGRAM[..24]);
+    [tiny[3], tiny[6]] = [24, 0x20];
+    let later = LaxSlicedPacket::from_ip(&later);
+    assert!(rt; later.stop.is_none() && later.packet.transport.is_none());
+    assert!(rt; later.packet.ports().is_none());
+    let tiny = LaxSlicedPacket::from_ip(&tiny);
+    assert!(rt; tiny.stop.is_none() && tiny.packet.transport.is_none());
+    assert!(rt; tiny.packet.ports() == Some((1024, 53)));
+}
+
+#[test]
+fn transport_headers_by_their_protocol(rt: HostRuntime) -> Result<(), Fail> {
+    let packet = SlicedPacket::from_ip(&DATAGRAM)?;
+    assert!(rt; matches!(packet.transport, Some(TransportSlice::Udp { payload: [b'h', b'i'], .. })));
+    let mut message = DATAGRAM;
+    message[9] = 1;
+    let packet = SlicedPacket::from_ip(&message)?;
+    assert!(rt; matches!(packet.transport, Some(TransportSlice::Icmpv4 { .. })));
+    message[9] = 58;
+    assert!(rt; SlicedPacket::from_ip(&message)?.transport.is_none());
+    let mut segment = [0; 40];
+    segment[..20].copy_from_slice(&DATAGRAM[..20]);
+    [segment[3], segment[9], segment[32]] = [40, 6, 0x40];
+    let refused = SlicedPacket::from_ip(&segment);
+    assert!(rt; refused == Err(SliceError::Tcp(TcpError::DataOffset(4))));
+    segment[32] = 0x50;
+    let packet = SlicedPacket::from_ip(&segment)?;
+    assert!(rt; matches!(packet.transport, Some(TransportSlice::Tcp { .. })));
+    Ok(())
+}
+
+#[test]
+fn families_of_ip_and_byte_orders(rt: HostRuntime) -> Result<(), Fail> {
+    let mut frame = [0; 34];
+    frame[4..].copy_from_slice(&DATAGRAM);
+    for family in [2, 24, 28, 30] {
+        frame[0] = family;
+        frame[3] = 0;
+        assert!(rt; SlicedPacket::from_loopback(&frame)?.net.is_some());
+        assert!(rt; SlicedPacket::from_link_type(LinkType::Loop, &frame)?.net.is_none());
+        [frame[0], frame[3]] = [0, family];
+        assert!(rt; SlicedPacket::from_loopback(&frame)?.net.is_some());
+        assert!(rt; SlicedPacket::from_link_type(LinkType::Loop, &frame)?.net.is_some());
+    }
+    assert!(rt; LinkType::from_number(113) == Some(LinkType::LinuxSll));
+    assert!(rt; LinkType::from_number(127).is_none());
+    Ok(())
+}

@@ -1,0 +1,25 @@
+//! Ethernet frames.
+
+ghost use Rattle.std.specs.Prelude.{◌≡◌, ◌<◌, IfSome, Option, length};
+ghost use Rattle.packet.specs.SlicedPacket.{IsFrame};
+ghost use Rattle.packet.specs.Transport.{HasPorts};
+
+ghost use Rattle.packet.specs.declared.sliced_packet.SlicedPacket.{SlicedPacket as Packet};
+ghost use Rattle.packet.specs.declared.link.LinkType.{LinkType};
+ghost use Rattle.packet.specs.declared.error.SliceError.{SliceError};
+
+use packet::lax_sliced_packet::LaxSlicedPacket;
+
+/// The source port and the destination port of an Ethernet frame that carries UDP or TCP, also of
+/// one that the capture cut.
+pub fn ports(frame: &[u8]) -> Option<(u16, u16)>
+    ensures short { length frame.now < 14 → result ≡ None }
+    ensures found { IfSome result (λ ports. (packet : Packet) × (stop : Option SliceError)
+        × IsFrame LinkType.Ethernet2 frame.now packet stop
+        × IfSome packet.net (λ ip. HasPorts ip ports)) }
+{
+    match LaxSlicedPacket::from_ethernet(frame) {
+        Ok(lax) => lax.packet.ports(),
+        Err(_) => None,
+    }
+}
