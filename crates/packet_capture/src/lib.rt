@@ -1,4 +1,4 @@
-//! The records of a capture file in the classic format of libpcap.
+//! Captures in the classic format of libpcap: the header of a file, and one record after the other.
 #![tactic(auto)]
 
 pub mod capture;

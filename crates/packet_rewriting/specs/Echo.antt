@@ -1,6 +1,6 @@
 -- Echo messages of ICMP (RFC 792) and of ICMPv6 (RFC 4443 sections 4.1 and 4.2).
-use Rattle.std.specs.Prelude.{ℕ, ◌≡◌, ◌≤◌, ◌-◌, List, [], ◌∷◌, ◌++◌, length, drop, slice_index}
-use Rattle.std.specs.Int.{to_be_bytes, to_le_bytes, w16, w32}
+use Rattle.std.specs.Prelude.{ℕ, ◌≡◌, ◌≤◌, ◌-◌, List, ◌∷◌, ◌++◌, length, drop, slice_index}
+use Rattle.std.specs.Int.{to_le_bytes, w16}
 use Rattle.etherparse.specs.WordSums.{ones_complement_sum}
 
 -- the message is an echo request: at least 8 bytes, of its type, with code 0
@@ -21,9 +21,3 @@ echo_reply reply_type checksum request =
 abbrev pub IsEchoReply : ℕ → List ℕ → List (List ℕ) → List ℕ → Type 0
 IsEchoReply reply_type request pieces reply =
     reply ≡ echo_reply reply_type (65535 - ones_complement_sum pieces) request
-
--- what the checksum of an ICMPv6 message covers (RFC 4443 section 2.3): both addresses, the length
--- of the message in 32 bits, three zero bytes and the number of ICMPv6, and the message
-abbrev pub icmpv6_pieces : List ℕ → List ℕ → List ℕ → List (List ℕ)
-icmpv6_pieces source destination message = source ∷ destination
-    ∷ (to_be_bytes w32 (length message) ++ (0 ∷ 0 ∷ 0 ∷ 58 ∷ [])) ∷ message ∷ []

@@ -3,9 +3,12 @@
 ghost use Rattle.std.specs.Prelude.{◌≡◌, ◌↔◌, ◌<◌, ◌^◌, [], ◌∷◌, IsTrue, length};
 ghost use Rattle.std.specs.Bool.{OnFalse, OnTrue};
 ghost use Rattle.etherparse.specs.WordSums.{SumsToAllOnes, ones_complement_sum};
-ghost use Rattle.packet_rewriting.specs.Echo.{IsEchoReply, IsEchoRequest, echo_reply, icmpv6_pieces};
+ghost use Rattle.packet_parts.specs.Checksum.{ipv6_pseudo_header};
+ghost use Rattle.packet_rewriting.specs.Echo.{IsEchoReply, IsEchoRequest, echo_reply};
 
+use etherparse::IpNumber;
 use etherparse::checksum::u64_16bit_word;
+use packet_parts::checksum::ipv6_pseudo_header;
 
 /// Turns an ICMP echo request in place into its reply: type 0 in place of 8, and a checksum that is
 /// computed anew, so that it is correct whatever that of the request was. All else stays the same.
@@ -40,9 +43,11 @@ pub fn icmpv6_reply(source: [u8; 16], destination: [u8; 16], message: &mut [u8])
     ensures asked { IsTrue result
         ↔ (IsEchoRequest 128 message.old × (length message.old < 2 ^ 32)) }
     ensures made { OnTrue result (IsEchoReply 129 message.old
-        (icmpv6_pieces source destination (echo_reply 129 0 message.old)) message.new) }
-    ensures right { OnTrue result
-        (ones_complement_sum (icmpv6_pieces source destination message.new) ≡ 65535) }
+        (ipv6_pseudo_header source destination 58 (length message.old)
+        ∷ echo_reply 129 0 message.old ∷ []) message.new) }
+    ensures right { OnTrue result (ones_complement_sum
+        (ipv6_pseudo_header source destination 58 (length message.new) ∷ message.new ∷ [])
+        ≡ 65535) }
     ensures refused { OnFalse result (message.new ≡ message.old) }
 {
     let len = match u32::try_from(message.len()) {
@@ -52,16 +57,10 @@ pub fn icmpv6_reply(source: [u8; 16], destination: [u8; 16], message: &mut [u8])
     if len < 8 || message[0] != 128 || message[1] != 0 {
         return false;
     }
-    let [a, b, c, d] = len.to_be_bytes();
-    let front = [129, 0, 0, 0];
-    let sum = u64_16bit_word::add_slices(&[
-        &source,
-        &destination,
-        &[a, b, c, d, 0, 0, 0, 58],
-        &front,
-        &message[4..],
-    ]);
-    let [h, l] = u64_16bit_word::ones_complement(sum).to_le_bytes();
+    let sum = ipv6_pseudo_header(source, destination, IpNumber::IPV6_ICMP, len)
+        .add_4bytes([129, 0, 0, 0])
+        .add_slice(&message[4..]);
+    let [h, l] = sum.ones_complement().to_le_bytes();
     message[..4].copy_from_slice(&[129, 0, h, l]);
     true
 }

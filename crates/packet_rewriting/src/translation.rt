@@ -1,23 +1,22 @@
 //! Address translation: another source or destination address, and how it changes the checksums
 //! (RFC 3022).
 
-ghost use Rattle.std.specs.Prelude.{◌≡◌, IsTrue};
-ghost use Rattle.etherparse.specs.HeaderChecksum.{KeepsChecksum};
+ghost use Rattle.std.specs.Prelude.{◌≡◌, ◌==◌, if◌then◌else◌};
 ghost use Rattle.etherparse.specs.WordSums.{UpdatesChecksum, UpdatesChecksumWithNoZero};
 ghost use Rattle.etherparse.specs.WordSums.{network_order_word_sum, updated_checksum_of_words};
+ghost use Rattle.etherparse.specs.WordSums.{with_no_zero};
+ghost use Rattle.packet_rewriting.specs.Translation.{Readdresses};
 
 use etherparse::Ipv4Header;
-use etherparse::checksum::{update_2bytes, update_4bytes, update_4bytes_with_no_zero};
+use etherparse::checksum::{update_4bytes, update_4bytes_with_no_zero};
 
 /// Gives a header another source address, and returns the UDP checksum for it; 0, which says that
 /// there is none, stays 0.
 pub fn translate_udp_source(header: &mut Ipv4Header, udp_checksum: u16, source: [u8; 4]) -> u16
-    ensures set { header.new ≡ record header.old {
-      source = source;
-      header_checksum = updated_checksum_of_words 2 header.old.header_checksum
-          header.old.source source;
-    } }
-    ensures keeps_checksum { KeepsChecksum header.old header.new }
+    ensures header { Readdresses header.old header.new
+        (record header.old { source = source }) header.old.source source }
+    ensures value { result ≡ if udp_checksum == 0 then 0 else with_no_zero
+        (updated_checksum_of_words 2 udp_checksum header.old.source source) }
     ensures udp { UpdatesChecksumWithNoZero udp_checksum
         (network_order_word_sum header.old.source) (network_order_word_sum source) result }
 {
@@ -32,12 +31,10 @@ pub fn translate_udp_destination(
     udp_checksum: u16,
     destination: [u8; 4],
 ) -> u16
-    ensures set { header.new ≡ record header.old {
-      destination = destination;
-      header_checksum = updated_checksum_of_words 2 header.old.header_checksum
-          header.old.destination destination;
-    } }
-    ensures keeps_checksum { KeepsChecksum header.old header.new }
+    ensures header { Readdresses header.old header.new
+        (record header.old { destination = destination }) header.old.destination destination }
+    ensures value { result ≡ if udp_checksum == 0 then 0 else with_no_zero
+        (updated_checksum_of_words 2 udp_checksum header.old.destination destination) }
     ensures udp { UpdatesChecksumWithNoZero udp_checksum
         (network_order_word_sum header.old.destination) (network_order_word_sum destination)
         result }
@@ -49,12 +46,8 @@ pub fn translate_udp_destination(
 
 /// Gives a header another source address, and returns the TCP checksum for it, which may be 0.
 pub fn translate_tcp_source(header: &mut Ipv4Header, tcp_checksum: u16, source: [u8; 4]) -> u16
-    ensures set { header.new ≡ record header.old {
-      source = source;
-      header_checksum = updated_checksum_of_words 2 header.old.header_checksum
-          header.old.source source;
-    } }
-    ensures keeps_checksum { KeepsChecksum header.old header.new }
+    ensures header { Readdresses header.old header.new
+        (record header.old { source = source }) header.old.source source }
     ensures value { result
         ≡ updated_checksum_of_words 2 tcp_checksum header.old.source source }
     ensures tcp { UpdatesChecksum tcp_checksum
@@ -71,12 +64,8 @@ pub fn translate_tcp_destination(
     tcp_checksum: u16,
     destination: [u8; 4],
 ) -> u16
-    ensures set { header.new ≡ record header.old {
-      destination = destination;
-      header_checksum = updated_checksum_of_words 2 header.old.header_checksum
-          header.old.destination destination;
-    } }
-    ensures keeps_checksum { KeepsChecksum header.old header.new }
+    ensures header { Readdresses header.old header.new
+        (record header.old { destination = destination }) header.old.destination destination }
     ensures value { result
         ≡ updated_checksum_of_words 2 tcp_checksum header.old.destination destination }
     ensures tcp { UpdatesChecksum tcp_checksum
@@ -86,15 +75,4 @@ pub fn translate_tcp_destination(
     let old = header.destination;
     header.set_destination(destination);
     update_4bytes(tcp_checksum, old, destination)
-}
-
-/// Whether the update for an address is that for its two words, one after the other: it always is,
-/// so a translator may take an address by its words.
-pub fn is_updated_by_words(checksum: u16, old: [u8; 4], new: [u8; 4]) -> bool
-    ensures always { IsTrue result }
-{
-    let [a, b, c, d] = old;
-    let [e, f, g, h] = new;
-    let first = update_2bytes(checksum, [a, b], [e, f]);
-    update_4bytes(checksum, old, new) == update_2bytes(first, [c, d], [g, h])
 }

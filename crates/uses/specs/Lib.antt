@@ -1,14 +1,8 @@
-pub mod Address
 pub mod Capture
 pub mod Datagram
-pub mod Echo
 pub mod Filter
 pub mod Forward
-pub mod Fragment
-pub mod IpSlice
 pub mod Payload
 pub mod Queue
-pub mod Tcp
 pub mod Tunnel
-pub mod Udp
 pub mod UpperLayer

@@ -1,17 +1,15 @@
 //! A host that receives and sends datagrams: checksums that are checked and computed.
 
-ghost use Rattle.std.specs.Prelude.{ℕ, ◌≡◌, ◌≢◌, ◌↔◌, ◌-◌, List, [], ◌∷◌, IfErr, IfNone, IfOk};
-ghost use Rattle.std.specs.Prelude.{IfSome, IsTrue};
+ghost use Rattle.std.specs.Prelude.{◌≡◌, ◌≢◌, ◌↔◌, ◌-◌, [], ◌∷◌, IfErr, IfNone, IfOk, IfSome};
+ghost use Rattle.std.specs.Prelude.{IsTrue};
 ghost use Rattle.etherparse.specs.WordSums.{SumsToAllOnes, ones_complement_sum, with_no_zero};
-ghost use Rattle.uses.specs.Datagram.{HasDatagram, HasNoDatagram, IsDatagram, IsNoDatagram};
-ghost use Rattle.uses.specs.Datagram.{IsRightIn};
 ghost use Rattle.packet_parts.specs.IpSlice.{RefusesIp};
-ghost use Rattle.packet_parts.specs.Udp.{IsUdpLayout};
+ghost use Rattle.uses.specs.Datagram.{HasDatagram, HasNoDatagram};
 
-use packet_parts::ip_slice::{IpSlice, IpSliceError};
-use packet_parts::udp::UdpHeader;
 use etherparse::checksum::u64_16bit_word;
 use etherparse::{IpNumber, Ipv4HeaderSlice};
+use packet_parts::checksum::{Absence, Verdict};
+use packet_parts::ip_slice::{IpSlice, IpSliceError};
 
 /// Whether the checksum of a UDP datagram is right, from the pseudo-header of its addresses, its
 /// header and its payload.
@@ -45,7 +43,7 @@ pub fn is_ipv4_checksum_right(view: &Ipv4HeaderSlice) -> bool
 
 /// Whether the UDP datagram in a packet is right by its checksum. Over IPv4 a checksum of 0 says
 /// that there is none, and is right; over IPv6 there has to be one (RFC 8200 section 8.1). What
-/// stands behind the datagram, as its UDP length tells, does not count.
+/// comes after the datagram, by its UDP length, does not count.
 ///
 /// `None` where the packet has no datagram: its payload is of another protocol, or a fragment, or
 /// shorter than 8 bytes or than its UDP length says, or that is below 8. The destination is that of
@@ -63,38 +61,12 @@ pub fn is_udp_right(packet: &[u8]) -> Result<Option<bool>, IpSliceError>
         Ok(slice) => slice,
         Err(e) => return Err(e),
     };
-    if slice.upper() != IpNumber::UDP || slice.is_fragment() {
+    if slice.upper() != IpNumber::UDP {
         return Ok(None);
     }
-    match datagram(slice.payload()) {
-        Some((udp, data)) => Ok(Some(is_right_in(&slice, &udp, data))),
-        None => Ok(None),
-    }
-}
-
-// The datagram that a payload is: its header and its data.
-fn datagram(payload: &[u8]) -> Option<(UdpHeader, &[u8])>
-    ensures found { IfSome result (λ x. IsDatagram payload.now x.0 x.1.now) }
-    ensures none { IfNone result (IsNoDatagram payload.now) }
-{
-    let (udp, rest) = match UdpHeader::from_slice(payload) {
-        Ok(read) => read,
-        Err(_) => return None,
-    };
-    let len = usize::from(udp.length);
-    if len < 8 || rest.len() < len - 8 {
-        return None;
-    }
-    Some((udp, &rest[..len - 8]))
-}
-
-// Whether a datagram in a packet of these parts is right.
-fn is_right_in(slice: &IpSlice, udp: &UdpHeader, payload: &[u8]) -> bool
-    ensures right { (header : List ℕ) → IsUdpLayout udp.now header →
-        (IsTrue result ↔ IsRightIn slice.now udp.now header payload.now) }
-{
-    match slice {
-        IpSlice::Ipv4 { header, .. } => udp.is_right_ipv4(header, payload),
-        IpSlice::Ipv6 { header, .. } => udp.is_right_ipv6(header, payload),
+    match slice.verdict() {
+        Verdict::Right | Verdict::Absent(Absence::NotComputed) => Ok(Some(true)),
+        Verdict::Wrong => Ok(Some(false)),
+        Verdict::Absent(_) => Ok(None),
     }
 }

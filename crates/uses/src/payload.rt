@@ -1,8 +1,7 @@
 //! A capture reader: the payloads of packets, cut as their headers say.
 
 ghost use Rattle.std.specs.Prelude.{ℕ, ◌≡◌, ◌≤◌, ◌+◌, ◌*◌, ◌↔◌, List, IfErr, IfOk, IfSome, IsSome};
-ghost use Rattle.std.specs.Prelude.{length};
-ghost use Rattle.std.specs.Prelude.{take};
+ghost use Rattle.std.specs.Prelude.{length, take};
 ghost use Rattle.etherparse.specs.Ipv4Header.{OfIpv4Header, RefusesIpv4};
 ghost use Rattle.etherparse.specs.declared.err.LenError.{LenError as LengthError};
 ghost use Rattle.etherparse.specs.declared.err.ipv4.HeaderSliceError.TheVariants.{Len};
