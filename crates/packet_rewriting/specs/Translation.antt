@@ -5,7 +5,7 @@ use Rattle.etherparse.specs.WordSums.{updated_checksum_of_words}
 use Rattle.etherparse.specs.declared.net.ipv4_header.Ipv4Header.{Ipv4Header}
 
 -- The header becomes the one with another address in it, its checksum updated for that alone (RFC
--- 1624 section 3): a receiver finds it as correct as before.
+-- 1624 section 3): a receiver finds it right exactly when it was before.
 pub record Readdresses (old new readdressed : Ipv4Header) (address other : List ℕ) : Type 0 where
   pub set : new ≡ record readdressed {
     header_checksum = updated_checksum_of_words 2 old.header_checksum address other;
