@@ -1,4 +1,4 @@
-//! Tests of the library and of the layers of `uses` by their public paths: what no clause says, and
+//! Tests of the library and of the crates on packets by their public paths: what no clause says, and
 //! worked values from the standards.
 //!
 //! They are in a crate of their own, since each crate with tests is proved once more for them.
@@ -26,6 +26,8 @@ mod ipv6_reading;
 mod layers;
 #[cfg(test)]
 mod limited_walk;
+#[cfg(test)]
+mod packet_examples;
 #[cfg(test)]
 mod shared;
 #[cfg(test)]

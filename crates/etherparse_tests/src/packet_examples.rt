@@ -263,9 +263,9 @@ fn captures(rt: HostRuntime) {
         original_len: 5,
         bytes: b"abc",
     };
-    let none = [].as_slice();
-    assert!(rt; next_record(&header, &records) == Ok(Some((record, none))));
-    assert!(rt; next_record(&header, none) == Ok(None));
+    let expected = Ok(Some((record, [].as_slice())));
+    assert!(rt; next_record(&header, &records) == expected);
+    assert!(rt; next_record(&header, &[]) == Ok(None));
 }
 
 fn capture(rt: &impl Abort) -> Result<(), CaptureError> {

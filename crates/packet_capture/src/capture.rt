@@ -168,9 +168,9 @@ impl FileHeader {
 ///     original_len: 5,
 ///     bytes: b"abc",
 /// };
-/// let none = [].as_slice();
-/// assert!(rt; next_record(&header, &records) == Ok(Some((record, none))));
-/// assert!(rt; next_record(&header, none) == Ok(None));
+/// let expected = Ok(Some((record, [].as_slice())));
+/// assert!(rt; next_record(&header, &records) == expected);
+/// assert!(rt; next_record(&header, &[]) == Ok(None));
 /// ```
 pub fn next_record<'a>(
     header: &FileHeader,
