@@ -19,14 +19,14 @@ whole_in_front n p t h =
     let long : 8 ≤ length p = grind (arith, nat_tests, h.len) in
     (long, grind (arith, nat_tests, h.len, length-append, get_or_append_left p t 0 1))
 
--- two chains, one behind the other
+-- two chains, one after the other
 chain-append : (n : ℕ) (ps qs : List (List ℕ)) (m k : ℕ) → IsExtensionHeaderChain n ps m → IsExtensionHeaderChain m qs k → IsExtensionHeaderChain n (ps ++ qs) k
 chain-append n [] qs m k e c = rw e at c
 chain-append n (p ∷ ps) qs m k b c = (b.0, chain-append (get_or p 0 0) ps qs m k b.1 c)
 
-pub begins_behind : {s : List ℕ} {first n m : ℕ} {hs ps : List (List ℕ)} {r t : List ℕ} → BeginsWithChain s first hs n r → BeginsWithChain r n ps m t
+pub begins_after : {s : List ℕ} {first n m : ℕ} {hs ps : List (List ℕ)} {r t : List ℕ} → BeginsWithChain s first hs n r → BeginsWithChain r n ps m t
     → BeginsWithChain s first (hs ++ ps) m t
-begins_behind {first = first} {n = n} {m = m} {hs = hs} {ps = ps} b c =
+begins_after {first = first} {n = n} {m = m} {hs = hs} {ps = ps} b c =
     record { chain = chain-append first hs ps n m b.chain c.chain; whole = rw (concat-append, append_assoc, b.whole, c.whole) refl }
 
 -- the header in front of a slice that has as many bytes as it requires, and so one header more of a chain
@@ -39,7 +39,7 @@ one_header n k r skippable is fits =
 pub chain_goes_on : (s : List ℕ) (first n : ℕ) (r : List ℕ) (k : ℕ) → FollowsChain s first n r → IsSkippable n → k ≡ required_len_of n r
     → k ≤ length r → FollowsChain s first (get_or r 0 0) (drop k r)
 chain_goes_on s first n r k f skippable is fits =
-    record { headers = f.headers ++ take k r ∷ []; begins = begins_behind f.begins (one_header n k r skippable is fits) }
+    record { headers = f.headers ++ take k r ∷ []; begins = begins_after f.begins (one_header n k r skippable is fits) }
 
 -- the headers that are skipped up to an offset, in as many turns
 pub record SkippedUpTo (s : List ℕ) (n offset m turns : ℕ) : Type 0 where
@@ -58,7 +58,7 @@ one_skipped {s = s} {offset = offset} {m = m} {k = k} u skippable is fits =
     let byte : get_or rest 0 0 ≡ get_or s offset 0 = get_or-drop offset s 0 0 ∙ ap (λ i. get_or s i 0) (add-zero offset) in
     record {
       headers = u.headers ++ take k rest ∷ [];
-      begins = rw (byte, drop-drop k offset s) at (begins_behind u.begins (one_header m k rest skippable is (omega arith)));
+      begins = rw (byte, drop-drop k offset s) at (begins_after u.begins (one_header m k rest skippable is (omega arith)));
       within = omega (arith, u.within);
       counted = rw (length-append, u.counted) refl;
       eighth = omega (arith, u.eighth);

@@ -65,9 +65,9 @@ pub begins_at : {H : Type 0} (Layout : H → List ℕ → Type 0) (n : ℕ) (s p
     → BeginsWith Layout s h (take (length s - n) (drop n s))
 begins_at Layout n s p t h e l len = begins_with_front Layout n h s (rw (e, take_at p t n len) l)
 
--- a packet that is cut some bytes behind a header begins with that header still
-pub cut_behind : {H : Type 0} (Layout : H → List ℕ → Type 0) (k : ℕ) (s : List ℕ) (header : H) (rest : List ℕ) (b : BeginsWith Layout s header rest)
+-- a packet that is cut some bytes after a header begins with that header still
+pub cut_after : {H : Type 0} (Layout : H → List ℕ → Type 0) (k : ℕ) (s : List ℕ) (header : H) (rest : List ℕ) (b : BeginsWith Layout s header rest)
     → length b.front ≡ k → (n len : ℕ) → k + n ≡ len → len ≤ length s → BeginsWith Layout (take len s) header (take n rest)
-cut_behind Layout k s header rest b front n len sum within =
-    let behind : len ≡ length b.front + n = omega (arith, front, sum) in
-    record { front = b.front; whole = ap (take len) b.whole ∙ rw behind (take-append-add b.front rest n); layout = b.layout }
+cut_after Layout k s header rest b front n len sum within =
+    let told : len ≡ length b.front + n = omega (arith, front, sum) in
+    record { front = b.front; whole = ap (take len) b.whole ∙ rw told (take-append-add b.front rest n); layout = b.layout }

@@ -99,12 +99,12 @@ field_set h g offset field old new within are_bytes same_options ranges changes 
           let old_ranges = ranges_of h r b.front before in
           let one = part_written offset field b.front (omega (arith, before.len)) are_bytes before.are_bytes in
           let both = part_written 10 checksum (with_part offset field b.front) (omega (arith, one.0, before.len)) (word_is_bytes g.header_checksum) one.1 in
-          let behind : write (b.front ++ rest) ≡ write b.front ++ rest = ap (with_part 10 checksum) (one.2 rest) ∙ both.2 rest in
+          let same_rest : write (b.front ++ rest) ≡ write b.front ++ rest = ap (with_part 10 checksum) (one.2 rest) ∙ both.2 rest in
           let after : IsIpv4LayoutWith g r (write b.front) = spells g r (write b.front) (ranges old_ranges) (rw same_options before.options_len) before.reserved_fits both.1
           (ap write (spelled h r b.front before) ∙ (changes old_ranges r).2) in
           record {
-            begins = record { front = write b.front; whole = ap write b.whole ∙ behind; layout = record { reserved = r; layout = after } };
-            all_ones = rw (b.whole, behind, take_at b.front rest _ (sym (both.0 ∙ one.0) ∙ after.len), take_at (write b.front) rest _ after.len)
+            begins = record { front = write b.front; whole = ap write b.whole ∙ same_rest; layout = record { reserved = r; layout = after } };
+            all_ones = rw (b.whole, same_rest, take_at b.front rest _ (sym (both.0 ∙ one.0) ∙ after.len), take_at (write b.front) rest _ after.len)
                 (keeps.all_ones r b.front (write b.front) before after);
           },
     )

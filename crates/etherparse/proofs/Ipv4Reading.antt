@@ -4,7 +4,7 @@ use Rattle.std.specs.Result.{result_unwrap_or}
 use Rattle.std.proofs.lemmas.Grind.{common_steps}
 use Rattle.std.proofs.lemmas.List.{append_cancel_right, drop-append-le}
 use Rattle.etherparse_base.specs.Bytes.{IsBytes}
-use Rattle.etherparse.proofs.Fronts.{TellsHeaders, begins_at, cut_behind, read_once}
+use Rattle.etherparse.proofs.Fronts.{TellsHeaders, begins_at, cut_after, read_once}
 use Rattle.etherparse.proofs.Ipv4Layout.{cleared_layout, header_at, same_header, same_header_cleared}
 use Rattle.etherparse.specs.FirstByte.{ihl_of, version_of}
 use Rattle.etherparse.specs.Ipv4Header.{IsIpv4Layout, IsIpv4ReadingOf, Ipv4Reading, ReadsIpv4, RefusesIpv4, ViewsIpv4, ipv4_header_len}
@@ -35,7 +35,7 @@ is_reading_of s (Ok x) b =
       only = λ other o. read_once IsIpv4Layout RefusesIpv4 tells_headers s other (Ok x) o b;
       cleared = λ front whole. cleared_layout x.0 front (front_is front whole);
       same_header = λ front whole bytes other k. same_header_cleared other x.0 bytes front k (front_is front whole);
-      cut = cut_behind IsIpv4Layout (ipv4_header_len x.0) s x.0 x.1 b b.layout.layout.len;
+      cut = cut_after IsIpv4Layout (ipv4_header_len x.0) s x.0 x.1 b b.layout.layout.len;
     }
 is_reading_of s (Err e) r = record { reads = r; only = λ other o. read_once IsIpv4Layout RefusesIpv4 tells_headers s other (Err e) o r; cleared = tt; same_header = tt; cut = tt }
 

@@ -4,7 +4,7 @@ use Rattle.std.specs.Result.{result_unwrap_or}
 use Rattle.std.proofs.lemmas.Grind.{common_steps}
 use Rattle.etherparse_base.specs.Bytes.{IsBytes}
 use Rattle.etherparse.proofs.ExtensionHeaderChain.{chain_after_header}
-use Rattle.etherparse.proofs.Fronts.{TellsHeaders, begins_at, cut_behind, read_once}
+use Rattle.etherparse.proofs.Fronts.{TellsHeaders, begins_at, cut_after, read_once}
 use Rattle.etherparse.proofs.Parts.{part_is_bytes}
 use Rattle.etherparse.proofs.Ipv6Layout.{header_at, same_header, word_of-layout}
 use Rattle.etherparse.specs.Ipv6Header.{Ipv6Reading, IsIpv6Layout, IsIpv6ReadingOf, ReadsIpv6, RefusesIpv6, ViewsIpv6}
@@ -33,7 +33,7 @@ is_reading_of s (Ok x) b = record {
   reads = b;
   only = λ other o. read_once IsIpv6Layout RefusesIpv6 tells_headers s other (Ok x) o b;
   chain = chain_after_header s b.front x.1 x.0 b.whole b.layout;
-  cut = cut_behind IsIpv6Layout 40 s x.0 x.1 b b.layout.len;
+  cut = cut_after IsIpv6Layout 40 s x.0 x.1 b b.layout.len;
 }
 is_reading_of s (Err e) r = record { reads = r; only = λ other o. read_once IsIpv6Layout RefusesIpv6 tells_headers s other (Err e) o r; chain = tt; cut = tt }
 

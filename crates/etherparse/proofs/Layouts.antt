@@ -94,5 +94,5 @@ read_back p at (f ∷ fields) rest fit e =
     let len = length-bytes_of f fit.0 in
     let taken : at + width f - at ≡ width f = omega arith in
     let part : slice_range p at (at + width f) ≡ bytes_of f = rw (taken, e) (take_at (bytes_of f) (written fields rest) (width f) len) in
-    let behind : drop (at + width f) p ≡ written fields rest = sym (drop-drop (width f) at p) ∙ rw e (drop_at (bytes_of f) (written fields rest) (width f) len) in
-    (written_at p at f fit.0 part, read_back p (at + width f) fields rest fit.1 behind)
+    let later : drop (at + width f) p ≡ written fields rest = sym (drop-drop (width f) at p) ∙ rw e (drop_at (bytes_of f) (written fields rest) (width f) len) in
+    (written_at p at f fit.0 part, read_back p (at + width f) fields rest fit.1 later)

@@ -1,4 +1,4 @@
--- Where a walk ends, with a limit of headers and without one: in one way, and behind other headers as the walk of the whole slice.
+-- Where a walk ends, with a limit of headers and without one: in one way, and after other headers as the walk of the whole slice.
 use Rattle.std.proofs.Common.{ℕ, zero, suc, ◌≡◌, ◌+◌, ◌-◌, ◌/◌, ◌<◌, ◌≤◌, ◌==◌, ◌||◌, ◌&&◌, Bool, if◌then◌else◌, IfErr, IfOk, nat_le, nat_lt, List, [], ◌∷◌, ◌++◌, length, get_or, take, drop, refl, sym, ap, ◌∙◌, arith, append_assoc, length-append, length-drop, Ok, Err}
 use Rattle.std.specs.List.{concat}
 use Rattle.std.specs.Result.{result_map_both}
@@ -12,8 +12,8 @@ use Rattle.etherparse_base.specs.declared.err.ipv6.chain_error.ChainError.TheVar
 use Rattle.etherparse_base.specs.declared.err.layer.Layer.TheVariants as layer
 use Rattle.etherparse_base.specs.declared.err.len_error.LenError.{LenError}
 use Rattle.etherparse_fields.specs.ExtensionHeaders.{IsSkippable}
-use Rattle.etherparse.proofs.ExtensionHeaderChain.{SkippedUpTo, begins_behind, offset_of, whole_in_front}
-use Rattle.etherparse.specs.ExtensionHeaderChain.{BeginsWithChain, Ends, EndsAtLimit, EndsIncomplete, EndsUpTo, IsExtensionHeaderChain, IsOnlyWalkOf, IsWalkBehindChains, IsWalkOf, LimitedWalkAnswer, WalkAnswer, Walks, WalksUpTo, incomplete_header_error, required_len_of}
+use Rattle.etherparse.proofs.ExtensionHeaderChain.{SkippedUpTo, begins_after, offset_of, whole_in_front}
+use Rattle.etherparse.specs.ExtensionHeaderChain.{BeginsWithChain, Ends, EndsAtLimit, EndsIncomplete, EndsUpTo, IsExtensionHeaderChain, IsOnlyWalkOf, IsWalkAfterChains, IsWalkOf, LimitedWalkAnswer, WalkAnswer, Walks, WalksUpTo, incomplete_header_error, required_len_of}
 use Rattle.etherparse.specs.Reading.{too_short_error}
 
 -- the test for a number of a header that can be skipped
@@ -25,8 +25,8 @@ walked : ℕ → ℕ → List ℕ → List (List ℕ) × ℕ × List ℕ
 walked zero n s = ([], n, s)
 walked (suc limit) n s =
     let k = required_len_of n s in
-    let behind = walked limit (get_or s 0 0) (drop k s) in
-    if is_skippable n && nat_le k (length s) then (take k s ∷ behind.0, behind.1, behind.2) else ([], n, s)
+    let later = walked limit (get_or s 0 0) (drop k s) in
+    if is_skippable n && nat_le k (length s) then (take k s ∷ later.0, later.1, later.2) else ([], n, s)
 
 -- a chain at the front is what the walk skips if it has as many headers as the limit, or no whole one follows
 walked_is : (limit n : ℕ) (ps : List (List ℕ)) (m : ℕ) (r : List ℕ) → IsExtensionHeaderChain n ps m → length ps ≤ limit
@@ -97,25 +97,25 @@ pub at_limit_after : {limit : ℕ} {s : List ℕ} {n m : ℕ} {ps : List (List �
     → IsSkippable m → e ≡ chain_error.TooMany limit m (length (concat ps)) → EndsAtLimit limit s n ps e
 at_limit_after {m = m} {r = r} b full skippable error = record { last = m; rest = r; begins = b; full = full; skippable = skippable; error = error }
 
--- the offset of headers behind others
-length-behind : {s : List ℕ} {first n : ℕ} {hs : List (List ℕ)} {r : List ℕ} (ps : List (List ℕ)) → BeginsWithChain s first hs n r
+-- the offset of headers after others
+length-after : {s : List ℕ} {first n : ℕ} {hs : List (List ℕ)} {r : List ℕ} (ps : List (List ℕ)) → BeginsWithChain s first hs n r
     → length (concat ps) + (length s - length r) ≡ length (concat (hs ++ ps))
-length-behind {hs = hs} {r = r} ps b =
+length-after {hs = hs} {r = r} ps b =
     omega (arith, ap length b.whole, length-append (concat hs) r, ap length (concat-append hs ps), length-append (concat hs) (concat ps))
 
--- a walk behind a chain ends as that of the whole
-ends_up_to_behind : (limit : ℕ) (s : List ℕ) (first n : ℕ) (hs ps : List (List ℕ)) (r : List ℕ) (a : LimitedWalkAnswer) → BeginsWithChain s first hs n r
+-- a walk after a chain ends as that of the whole
+ends_up_to_after : (limit : ℕ) (s : List ℕ) (first n : ℕ) (hs ps : List (List ℕ)) (r : List ℕ) (a : LimitedWalkAnswer) → BeginsWithChain s first hs n r
     → EndsUpTo limit r n ps a → EndsUpTo (length hs + limit) s first (hs ++ ps) (result_map_both (λ x. x) (chain_error_moved (length hs) (length s - length r)) a)
-ends_up_to_behind limit s first n hs ps r (Ok x) b e = ((begins_behind b e.0.0, e.0.1), omega (arith, length-append hs ps, e.1))
-ends_up_to_behind limit s first n hs ps r (Err (chain_error.Len e)) b k =
-    (incomplete_after (begins_behind b k.0.begins) k.0.skippable k.0.short (rw (k.0.error, length-behind ps b) refl), omega (arith, length-append hs ps, k.1))
-ends_up_to_behind limit s first n hs ps r (Err (chain_error.TooMany l x y)) b k =
-    at_limit_after (begins_behind b k.begins) (omega (arith, length-append hs ps, k.full)) k.skippable (cc (length-behind ps b))
+ends_up_to_after limit s first n hs ps r (Ok x) b e = ((begins_after b e.0.0, e.0.1), omega (arith, length-append hs ps, e.1))
+ends_up_to_after limit s first n hs ps r (Err (chain_error.Len e)) b k =
+    (incomplete_after (begins_after b k.0.begins) k.0.skippable k.0.short (rw (k.0.error, length-after ps b) refl), omega (arith, length-append hs ps, k.1))
+ends_up_to_after limit s first n hs ps r (Err (chain_error.TooMany l x y)) b k =
+    at_limit_after (begins_after b k.begins) (omega (arith, length-append hs ps, k.full)) k.skippable (cc (length-after ps b))
 
-ends_behind : (s : List ℕ) (first n : ℕ) (hs ps : List (List ℕ)) (r : List ℕ) (a : WalkAnswer) → BeginsWithChain s first hs n r → Ends r n ps a
+ends_after : (s : List ℕ) (first n : ℕ) (hs ps : List (List ℕ)) (r : List ℕ) (a : WalkAnswer) → BeginsWithChain s first hs n r → Ends r n ps a
     → Ends s first (hs ++ ps) (result_map_both (λ x. x) (λ e. len_error_moved (length s - length r) e) a)
-ends_behind s first n hs ps r (Ok x) b e = (begins_behind b e.0, e.1)
-ends_behind s first n hs ps r (Err e) b k = (ends_up_to_behind (length ps + 1) s first n hs ps r (Err (chain_error.Len e)) b (k, omega arith)).0
+ends_after s first n hs ps r (Ok x) b e = (begins_after b e.0, e.1)
+ends_after s first n hs ps r (Err e) b k = (ends_up_to_after (length ps + 1) s first n hs ps r (Err (chain_error.Len e)) b (k, omega arith)).0
 
 -- what is left where a walk ends, or the offset of its error, is within the slice
 ends_within : (s : List ℕ) (n : ℕ) (ps : List (List ℕ)) (a : WalkAnswer) → Ends s n ps a
@@ -129,16 +129,16 @@ is_only_walk_of s n a w =
     let (shorter, within) = ends_within s n w.headers a w.ends in
     record { walks = w; only = λ other o. (ends_once s n w.headers o.headers a other w.ends o.ends).1; shorter = shorter; within = within }
 
--- behind a chain it is the walk of the whole slice
-pub walk_follows : (n : ℕ) (r : List ℕ) (a : WalkAnswer) → Walks r n a → IsWalkBehindChains r n a
+-- after a chain it is the walk of the whole slice
+pub walk_follows : (n : ℕ) (r : List ℕ) (a : WalkAnswer) → Walks r n a → IsWalkAfterChains r n a
 unfolding IsWalkOf
 walk_follows n r a w = λ s first f.
-    is_only_walk_of s first _ (record { headers = f.headers ++ w.headers; ends = ends_behind s first n f.headers w.headers r a f.begins w.ends })
+    is_only_walk_of s first _ (record { headers = f.headers ++ w.headers; ends = ends_after s first n f.headers w.headers r a f.begins w.ends })
 
 -- what is promised of a walk, and of its turns
 pub record IsCountedWalk (s : List ℕ) (n : ℕ) (a : WalkAnswer) (tested : ℕ) : Type 0 where
   pub walks : IsOnlyWalkOf s n a
-  pub follows : IsWalkBehindChains s n a
+  pub follows : IsWalkAfterChains s n a
   pub turns : (headers : List (List ℕ)) → Ends s n headers a → tested ≡ length headers + 1
 
 pub counted_walk : {s : List ℕ} {n offset m skipped : ℕ} (a : WalkAnswer) (u : SkippedUpTo s n offset m skipped) → Ends s n u.headers a
@@ -190,7 +190,7 @@ limited_walk {s = s} {n = n} limit a u ends = record {
   larger = λ larger more answer is.
       record { headers = u.headers; ends = rw is (at_larger_limit limit larger s n u.headers answer more (rw is at ends)) };
   follows = λ t first headers b.
-      record { headers = headers ++ u.headers; ends = ends_up_to_behind limit t first n headers u.headers s a b ends };
+      record { headers = headers ++ u.headers; ends = ends_up_to_after limit t first n headers u.headers s a b ends };
 }
 
 -- a walk ends after what is skipped where too few bytes are left

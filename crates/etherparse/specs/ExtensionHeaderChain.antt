@@ -97,8 +97,8 @@ unfoldable pub IsWalkOf : List ℕ → ℕ → WalkAnswer → Type 0
 IsWalkOf s first answer = IsOnlyWalkOf s first answer
 
 -- after a chain at the front of a slice, this is the walk of that slice, with an error moved
-abbrev pub IsWalkBehindChains : List ℕ → ℕ → WalkAnswer → Type 0
-IsWalkBehindChains rest number answer = (s : List ℕ) (first : ℕ) → FollowsChain s first number rest
+abbrev pub IsWalkAfterChains : List ℕ → ℕ → WalkAnswer → Type 0
+IsWalkAfterChains rest number answer = (s : List ℕ) (first : ℕ) → FollowsChain s first number rest
     → IsWalkOf s first
     (result_map_both (λ x. x) (λ e. len_error_moved (length s - length rest) e) answer)
 

@@ -21,7 +21,7 @@ with_field_and_checksum offset field checksum bytes =
     with_part 10 (to_be_bytes w16 checksum) (with_part offset field bytes)
 
 -- with either reserved bit, a checksum that was the computed one still is after a change, and a
--- receiver finds it correct exactly when it was correct before
+-- receiver finds it right exactly when it was right before
 pub record KeepsChecksum (old new : Ipv4Header) : Type 0 where
   pub stays_computed : (reserved : ℕ) (before after : List ℕ)
       → IsIpv4LayoutWith old reserved before → IsIpv4LayoutWith new reserved after
@@ -31,7 +31,8 @@ pub record KeepsChecksum (old new : Ipv4Header) : Type 0 where
       → IsIpv4LayoutWith old reserved before → IsIpv4LayoutWith new reserved after
       → SumsToAllOnes before ↔ SumsToAllOnes after
 
--- the changed packet begins with this header and the rest; its checksum is as correct as before
+-- the changed packet begins with this header and the rest; its checksum is right exactly when it was
+-- before
 pub record BecomesPacketOf (packet changed : List ℕ) (header : Ipv4Header) (rest : List ℕ)
     : Type 0 where
   pub begins : BeginsWith IsIpv4Layout changed header rest

@@ -127,7 +127,7 @@ adds_slice start answer bytes are_bytes sum =
           (omega (arith, folded_sum_value)) (rw (← change.changed) (omega (arith, folded_sum_value))));
     }
 
--- behind an even number of bytes a new word begins
+-- after an even number of bytes a new word begins
 weighted_byte_sum-append : (weight other : ℕ) (front rest : List ℕ) → length front % 2 ≡ 0
     → weighted_byte_sum weight other (front ++ rest) ≡ weighted_byte_sum weight other front + weighted_byte_sum weight other rest
 weighted_byte_sum-append weight other [] rest h = omega arith
@@ -165,7 +165,7 @@ sums_to_all_ones-written bytes place first second checksum even within a b is co
     (all_ones (little_endian_word_sum stored) stored refl).1
     (rw (little_endian_word_sum-written bytes place first second even within a b) (rw is completed))
 
--- behind the end there are no words
+-- after the end there are no words
 pub word_sum_past : (count : ℕ) (bytes : List ℕ) → length bytes ≤ count → little_endian_word_sum (drop count bytes) ≡ 0
 word_sum_past count bytes past = ap little_endian_word_sum (drop_of_length-le bytes past)
 

@@ -29,7 +29,7 @@ little_endian_word_sum bytes = weighted_byte_sum 1 256 bytes
 abbrev pub network_order_word_sum : List ℕ → ℕ
 network_order_word_sum bytes = weighted_byte_sum 256 1 bytes
 
--- the words sum to all ones, by which a receiver knows that a checksum among them is correct
+-- the words sum to all ones, by which a receiver knows that a checksum among them is right
 abbrev pub SumsToAllOnes : List ℕ → Type 0
 SumsToAllOnes bytes = folded_sum (network_order_word_sum bytes) ≡ 65535
 

@@ -23,7 +23,7 @@ pub struct Ipv4ViewFields {
     pub identification: u16,
     /// The fragment's offset in the packet, in units of 8 bytes, at most 8191.
     pub fragment_offset: u16,
-    /// The checksum that the header has, correct or not.
+    /// The checksum that the header has, right or wrong.
     pub header_checksum: u16,
     /// The length of the header in words of 4 bytes, 5 to 15.
     pub ihl: u8,

@@ -268,7 +268,7 @@ fn extension_headers_counted_and_too_many(rt: HostRuntime) {
 
 #[test]
 fn errors(rt: HostRuntime) {
-    // A UDP header of 8 bytes behind an IPv4 header of 20, of which 5 bytes are there.
+    // A UDP header of 8 bytes after an IPv4 header of 20, of which 5 bytes are there.
     let error = LenError {
         required_len: 8,
         len: 5,
@@ -276,10 +276,10 @@ fn errors(rt: HostRuntime) {
         layer: Layer::UdpHeader,
         layer_start_offset: 20,
     };
-    // The IPv4 header itself stands behind 14 bytes of Ethernet.
+    // The IPv4 header itself stands after 14 bytes of Ethernet.
     assert!(rt; error.add_offset(14).layer_start_offset == 34);
 
-    // One header too many, 8 bytes behind the IPv6 header, and its place in the packet.
+    // One header too many, 8 bytes after the IPv6 header, and its place in the packet.
     let error = ChainError::TooMany {
         limit: 1,
         next_header: 60,

@@ -1,7 +1,8 @@
 -- What is read at the front of a slice is read there, whatever follows it.
-use Rattle.std.proofs.Common.{ℕ, ◌≡◌, ◌≤◌, ◌⊎◌, List, [], ◌++◌, length, slice_range, arith, length-append, length-drop, append-nil, Err}
+use Rattle.std.proofs.Common.{ℕ, ◌≡◌, ◌≤◌, ◌+◌, ◌⊎◌, List, [], ◌++◌, length, slice_range, take, drop, ap, sym, ◌∙◌, arith, length-append, length-drop, length-take-le, take-append-drop, append-nil, Err}
+use Rattle.std.proofs.Math.Seq.{drop-append_seam}
 use Rattle.std.proofs.lemmas.List.{drop-append-le, take-append-le}
-use Rattle.packet_capture.specs.Capture.{BeginsWithFileHeader, BeginsWithRecord, ReadsFileHeader, Recorded, record_len}
+use Rattle.packet_capture.specs.Capture.{BeginsWithFileHeader, BeginsWithRecord, ReadsFileHeader, Recorded, record_head, record_len}
 use Rattle.packet_capture.specs.declared.capture.CaptureError.{CaptureError}
 use Rattle.packet_capture.specs.declared.capture.FileHeader.{FileHeader}
 use Rattle.ipcap.specs.Listing.{IsToldOfLongRecord}
@@ -10,16 +11,31 @@ use Rattle.ipcap.specs.declared.totals.Totals.{Totals}
 slice_range-append : (s more : List ℕ) (i j : ℕ) → i ≤ j → j ≤ length s → slice_range (s ++ more) i j ≡ slice_range s i j
 slice_range-append s more i j order within = grind (arith, drop-append-le, take-append-le, length-drop)
 
-pub record_len-append : (header : FileHeader) (s more : List ℕ) → 16 ≤ length s → record_len header (s ++ more) ≡ record_len header s
-record_len-append header s more enough = grind (arith, slice_range-append)
+range_front : (t rest more : List ℕ) (i j : ℕ) → i ≤ j → j ≤ length t → slice_range (t ++ rest) i j ≡ slice_range (t ++ more) i j
+range_front t rest more i j order within = slice_range-append t rest i j order within ∙ sym (slice_range-append t more i j order within)
 
-pub begins_with_record-append : (header : FileHeader) (s more : List ℕ) (found : Recorded) (rest : List ℕ)
-    → BeginsWithRecord header s found rest → BeginsWithRecord header (s ++ more) found (rest ++ more)
-begins_with_record-append header s more found rest b =
-    let same = record_len-append header s more b.enough in
-    let bytes = slice_range-append s more 16 (record_len header s) (omega arith) b.whole in
-    let after = drop-append-le (record_len header s) s more b.whole in
-    grind (arith, slice_range-append, length-append)
+record_head-append : (header : FileHeader) (s more : List ℕ) → 16 ≤ length s → record_head header (s ++ more) ≡ record_head header s
+record_head-append header s more enough = grind (arith, slice_range-append)
+
+pub record_len-append : (header : FileHeader) (s more : List ℕ) → 16 ≤ length s → record_len header (s ++ more) ≡ record_len header s
+record_len-append header s more enough = ap (λ h. 16 + h.captured_len) (record_head-append header s more enough)
+
+-- a record at the front is one there, whatever follows it
+pub begins_with_record-front : (header : FileHeader) (t rest more : List ℕ) (found : Recorded)
+    → BeginsWithRecord header (t ++ rest) found rest → length t ≡ record_len header (t ++ rest) → BeginsWithRecord header (t ++ more) found more
+begins_with_record-front header t rest more found b whole =
+    let enough : 16 ≤ length t = omega (arith, whole) in
+    let heads = record_head-append header t rest enough ∙ sym (record_head-append header t more enough) in
+    let len : record_len header (t ++ more) ≡ length t = ap (λ h. 16 + h.captured_len) (sym heads) ∙ sym whole in
+    record {
+      enough = omega (arith, enough, length-append t more);
+      whole = omega (arith, len, length-append t more);
+      seconds = b.seconds ∙ ap (λ h. h.seconds) heads;
+      nanoseconds = b.nanoseconds ∙ ap (λ h. h.nanoseconds) heads;
+      original_len = b.original_len ∙ ap (λ h. h.original_len) heads;
+      bytes = b.bytes ∙ ap (slice_range (t ++ rest) 16) (sym whole ∙ sym len) ∙ range_front t rest more 16 (record_len header (t ++ more)) (omega arith) (omega (arith, len));
+      after = sym (drop-append_seam t more) ∙ ap (λ n. drop n (t ++ more)) (sym len);
+    }
 
 pub long_record-append : (header : FileHeader) (before : Totals) (s more line : List ℕ) (after : Totals)
     → IsToldOfLongRecord header before s line after → IsToldOfLongRecord header before (s ++ more) line after
@@ -33,3 +49,12 @@ begins_with_file_header-append s more header rest b = grind (arith, slice_range-
 pub reads_no_file_header-append : (s more : List ℕ) (e : CaptureError) → (24 ≤ length s) ⊎ (more ≡ [])
     → ReadsFileHeader s (Err e) → ReadsFileHeader (s ++ more) (Err e)
 reads_no_file_header-append s more e enough r = grind (arith, slice_range-append, length-append, append-nil)
+
+-- a file header is read from its 24 bytes, whatever follows them
+pub begins_with_file_header-front : (s more : List ℕ) (header : FileHeader) (rest : List ℕ)
+    → BeginsWithFileHeader s header rest → BeginsWithFileHeader (take 24 s ++ more) header more
+begins_with_file_header-front s more header rest b =
+    let whole = take-append-drop 24 s in
+    let t = take 24 s in
+    let len : length t ≡ 24 = length-take-le 24 s b.enough in
+    grind (arith, range_front t (drop 24 s) more, drop-append_seam, length-append)

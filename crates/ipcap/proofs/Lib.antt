@@ -1,3 +1,4 @@
 mod Fronts
+mod Outcomes
 mod Runs
 mod Written

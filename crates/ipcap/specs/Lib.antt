@@ -6,4 +6,5 @@ pub mod Packet
 pub mod Private
 pub mod Reading
 pub mod Status
+pub mod Streams
 pub mod Totals

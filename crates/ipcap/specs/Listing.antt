@@ -1,11 +1,10 @@
 -- The lines of the records of a capture, in their order.
-use Rattle.std.specs.Prelude.{ℕ, ◌≡◌, ◌+◌, ◌*◌, ◌<◌, ◌≤◌, Bool, true, false, nat_lt, List, [], ◌++◌}
-use Rattle.std.specs.Prelude.{length, drop, slice_range, Option, Some, None, Err}
-use Rattle.std.specs.Int.{w32}
-use Rattle.packet_capture.specs.Capture.{BeginsWithRecord, Recorded, ReadsRecord, nanoseconds_in, number_in}
-use Rattle.packet_capture.specs.Capture.{record_len}
+use Rattle.std.specs.Prelude.{ℕ, ◌≡◌, ◌+◌, ◌<◌, ◌≤◌, Bool, true, false, nat_lt, List, [], ◌++◌}
+use Rattle.std.specs.Prelude.{length, drop, Option, Some, None, Err, if◌then◌else◌}
+use Rattle.packet_capture.specs.Capture.{BeginsWithRecord, Recorded, ReadsRecord, record_head, record_len}
 use Rattle.packet_capture.specs.declared.capture.CutOff as cut
 use Rattle.packet_capture.specs.declared.capture.FileHeader.{FileHeader}
+use Rattle.packet_capture.specs.declared.capture.RecordHead.{RecordHead}
 use Rattle.ipcap.specs.Lines.{is_cut, record_line, skipped_line}
 use Rattle.ipcap.specs.Link.{link_type_of}
 use Rattle.ipcap.specs.Reading.{ReadsFrame, has_wrong_checksum, is_other, is_refused}
@@ -28,14 +27,14 @@ outcome_of found reading = record {
 }
 
 -- what is counted for a record that is skipped
-abbrev pub skipped_outcome : Bool → Outcome
-skipped_outcome is_cut = record {
+abbrev pub skipped_outcome : RecordHead → Outcome
+skipped_outcome head = record {
   is_ipv4 = false;
   is_ipv6 = false;
   is_other = false;
   is_refused = false;
   is_skipped = true;
-  is_cut = is_cut;
+  is_cut = nat_lt head.captured_len head.original_len;
   is_wrong = false;
 }
 
@@ -58,13 +57,9 @@ pub record IsToldOfLongRecord (header : FileHeader) (before : Totals) (s : List 
   pub enough : 16 ≤ length s
   pub long : 16 + max_captured_len < record_len header s
   pub line_of : line ≡ skipped_line header.format.resolution (before.records + 1)
-      (number_in header.format.order w32 (slice_range s 0 4))
-      (number_in header.format.order w32 (slice_range s 4 8)
-      * nanoseconds_in header.format.resolution)
-      (number_in header.format.order w32 (slice_range s 8 12))
-  pub counts : after ≡ counted (skipped_outcome
-      (nat_lt (number_in header.format.order w32 (slice_range s 8 12))
-      (number_in header.format.order w32 (slice_range s 12 16)))) before
+      (record_head header s).seconds (record_head header s).nanoseconds
+      (record_head header s).captured_len
+  pub counts : after ≡ counted (skipped_outcome (record_head header s)) before
 
 -- The text is the lines of the records that the data consists of, one after the other, and each is
 -- counted: a record that is read, or one that is skipped since it is too long. The end of the data
@@ -86,3 +81,7 @@ pub data Lists (header : FileHeader) : Totals → List ℕ → List ℕ → Tota
   is_cut_off_long : {before after : Totals} {s line : List ℕ} {e : cut.CutOff}
       → IsToldOfLongRecord header before s line after → ReadsRecord header s (Err e)
       → Lists header before s line after (Some e)
+
+-- a quiet run writes no lines
+abbrev pub unless_quiet : Bool → List ℕ → List ℕ
+unless_quiet is_quiet text = if is_quiet then [] else text

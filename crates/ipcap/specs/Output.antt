@@ -1,15 +1,15 @@
 -- What the program writes.
 use Rattle.std.specs.Prelude.{ℕ, ◌≡◌, ◌⊎◌, Bool, false, IsTrue, List, [], ◌++◌, Option, Some, None}
 use Rattle.std.specs.Prelude.{Err, if◌then◌else◌}
-use Rattle.std.specs.Io.KnownBytes.{Appends}
+use Rattle.std.specs.Io.KnownBytes.{Appends, Consumes, Keeps}
 use Rattle.packet_capture.specs.Capture.{BeginsWithFileHeader, ReadsFileHeader}
 use Rattle.packet_capture.specs.declared.capture.CaptureError.{CaptureError}
 use Rattle.packet_capture.specs.declared.capture.CutOff as cut
 use Rattle.packet_capture.specs.declared.capture.FileHeader.{FileHeader}
 use Rattle.ipcap.specs.Lines.{capture_error_line, closing_line, end_text, link_type_line}
 use Rattle.ipcap.specs.Link.{is_read, link_type_of}
-use Rattle.ipcap.specs.Listing.{Lists}
-use Rattle.ipcap.specs.Totals.{nothing_counted}
+use Rattle.ipcap.specs.Listing.{Lists, unless_quiet}
+use Rattle.ipcap.specs.Totals.{IsFull, nothing_counted}
 use Rattle.ipcap.specs.declared.status.Status.{Status}
 use Rattle.ipcap.specs.declared.status.Status.TheVariants as status
 use Rattle.ipcap.specs.declared.totals.Totals.{Totals}
@@ -82,3 +82,41 @@ pub record Writes (P : Outcome → Type 0) (status : Status) (old new old_errors
   pub ended : status ≡ outcome.status
   pub output : Appends old new outcome.output
   pub errors : Appends old_errors new_errors outcome.errors
+
+-- a front of this text is appended
+pub record AppendsFront (old new : Option (List ℕ)) (text : List ℕ) : Type 0 where
+  pub front : List ℕ
+  pub rest : List ℕ
+  pub whole : text ≡ front ++ rest
+  pub appends : Appends old new front
+
+-- the counts after these records have no room for one more
+pub record HasFullCounts (header : FileHeader) (records : List ℕ) : Type 0 where
+  pub text : List ℕ
+  pub totals : Totals
+  pub end : Option cut.CutOff
+  pub lists : Lists header nothing_counted records text totals end
+  pub full : IsFull totals
+
+-- the counts after the records of this capture have no room for one more
+pub record IsFullCapture (capture : List ℕ) : Type 0 where
+  pub header : FileHeader
+  pub records : List ℕ
+  pub begins : BeginsWithFileHeader capture header records
+  pub full : HasFullCounts header records
+
+-- A run that fails has read `front` and `rest`. It has written a front of what it writes if the
+-- input ends after `front`. A write has failed; or all lines of the records are written, but none
+-- of the end, since a read has failed and `front` is all that was read, or since a count is full.
+pub record Fails (is_quiet : Bool) (IsOutcome : List ℕ → Outcome → Type 0)
+    (IsFull : List ℕ → Type 0) (read_failed write_failed : Type 0)
+    (input left old new old_errors new_errors : Option (List ℕ)) : Type 0 where
+  pub front : List ℕ
+  pub rest : List ℕ
+  pub read : Consumes input left (front ++ rest)
+  pub outcome : Outcome
+  pub is_outcome : IsOutcome front outcome
+  pub output : AppendsFront old new outcome.output
+  pub errors : AppendsFront old_errors new_errors outcome.errors
+  pub cause : write_failed ⊎ (((read_failed × (rest ≡ [])) ⊎ IsFull front)
+      × Appends old new (unless_quiet is_quiet outcome.output) × Keeps old_errors new_errors)

@@ -1,3 +1,2 @@
--- Invariants of the loop. The clause of `run` cites none of them, so a reader may skip them.
+-- Invariants of the loop. The clauses of `run` cite none of them, so a reader may skip them.
 pub mod Progress
-pub mod Window

@@ -35,3 +35,8 @@ abbrev pub Fits : Totals → Type 0
 Fits totals = (totals.records < 2 ^ 64) × (totals.ipv4 < 2 ^ 64) × (totals.ipv6 < 2 ^ 64)
     × (totals.other < 2 ^ 64) × (totals.refused < 2 ^ 64) × (totals.skipped < 2 ^ 64)
     × (totals.cut < 2 ^ 64) × (totals.wrong < 2 ^ 64)
+
+-- there is a record of which one more does not fit
+pub record IsFull (totals : Totals) : Type 0 where
+  pub outcome : Outcome
+  pub full : ¬ Fits (counted outcome totals)

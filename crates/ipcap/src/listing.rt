@@ -1,34 +1,25 @@
 //! The lines of the records, in their order.
 
-ghost use Rattle.std.specs.Prelude.{ℕ, ◌≡◌, ◌≤◌, ◌<◌, ◌+◌, ◌-◌, ◌*◌, ◌⊎◌, List, [], IfOk};
-ghost use Rattle.std.specs.Prelude.{MatchOption, OnOk, Option, drop, length, slice_range};
-ghost use Rattle.std.specs.Int.{w32};
-ghost use Rattle.std.specs.Io.KnownBytes.{Appends, IsAtEnd, Keeps, append_known, prepend_known};
-ghost use Rattle.packet_capture.specs.Capture.{nanoseconds_in, number_in, record_len, recorded};
+ghost use Rattle.std.specs.Prelude.{ℕ, ◌≡◌, ◌≤◌, ◌<◌, ◌+◌, ◌-◌, ◌⊎◌, [], IfErr, IfOk, OnErr};
+ghost use Rattle.std.specs.Prelude.{MatchOption, drop, length, take};
+ghost use Rattle.std.specs.Io.KnownBytes.{IsAtEnd};
+ghost use Rattle.packet_capture.specs.Capture.{record_len, recorded};
+ghost use Rattle.ipcap.specs.Lines.{is_cut};
 ghost use Rattle.ipcap.specs.Listing.{IsToldOfLongRecord, IsToldOfRecord, max_captured_len};
-ghost use Rattle.ipcap.specs.Lines.{is_cut, record_line};
-ghost use Rattle.ipcap.specs.Listing.{outcome_of};
-ghost use Rattle.ipcap.specs.Private.Progress.{Skips, Stops, Told, unless_quiet};
-ghost use Rattle.ipcap.specs.Private.Window.{unread};
+ghost use Rattle.ipcap.specs.Listing.{outcome_of, skipped_outcome};
+ghost use Rattle.ipcap.specs.Private.Progress.{Because, Breaks, Ends, HasLine, Lacks, Skips, Stops};
+ghost use Rattle.ipcap.specs.Private.Progress.{Tells, TellsFront, Turns};
+ghost use Rattle.ipcap.specs.Streams.{CannotRead, Prints, Takes, unread};
 ghost use Rattle.ipcap.specs.Totals.{nothing_counted};
 
-use crate::lines::{write_record, write_skipped};
+use crate::failure::Failure;
+use crate::input::{Input, ROOM};
+use crate::lines::{RecordLine, SkippedLine};
+use crate::output::Output;
 use crate::reading::{Reading, read_frame};
+use crate::streams::{Sink, Source};
 use crate::totals::{Outcome, Totals};
-use crate::window::{ROOM, Window};
-use arrayvec::ArrayVec;
-use packet_capture::capture::{ByteOrder, CutOff, FileHeader, Record, Resolution, next_record};
-use std::io;
-use std::io::{ErrorKind, Read, Write};
-
-// The room for text that is not yet passed to the writer.
-const TEXT_ROOM: usize = 65_536;
-
-// The room for one line.
-const LINE_ROOM: usize = 1024;
-
-/// Text that is not yet passed to the writer.
-pub type Text = ArrayVec<u8, TEXT_ROOM>;
+use packet_capture::capture::{CutOff, FileHeader, Record, RecordHead, next_record};
 
 /// Whether there is more to list.
 #[derive(Clone, Copy)]
@@ -39,41 +30,25 @@ pub enum Turn {
     Ends(Option<CutOff>),
 }
 
-/// Passes text to the writer, once: if the write fails, the text is gone too.
-pub fn hand_over<W: Write>(text: &mut Text, writer: &mut W) -> io::Result<()>
-    ensures kept { OnOk result (Keeps
-        (append_known (W.contents writer.old) text.old.items)
-        (append_known (W.contents writer.new) text.new.items)) }
-    ensures empty { text.new.items ≡ [] }
-{
-    let written = writer.write_all(text.as_slice());
-    text.clear();
-    written
-}
-
-// Passes text to the writer if there is no room for one more line.
-fn make_room<W: Write>(text: &mut Text, writer: &mut W) -> io::Result<()>
-    ensures { OnOk result (Keeps
-        (append_known (W.contents writer.old) text.old.items)
-        (append_known (W.contents writer.new) text.new.items)) }
-{
-    if text.remaining_capacity() < LINE_ROOM {
-        hand_over(text, writer)
-    } else {
-        Ok(())
-    }
+/// A capture that is listed.
+#[derive(Clone, Copy)]
+pub struct Listing {
+    /// Its header.
+    pub header: FileHeader,
+    /// Whether its records are counted alone, and have no lines.
+    pub is_quiet: bool,
 }
 
 // Whether the capture cut the packet of a record.
 fn is_cut(captured: &Record) -> bool
-    ensures { result ≡ is_cut (recorded captured.now) }
+    ensures value { result ≡ is_cut (recorded captured.now) }
 {
     captured.bytes.len() < captured.original_len as usize
 }
 
 // What is counted for a record that is read.
 fn outcome(captured: &Record, reading: &Reading) -> Outcome
-    ensures { result ≡ outcome_of (recorded captured.now) reading.now }
+    ensures value { result ≡ outcome_of (recorded captured.now) reading.now }
 {
     Outcome {
         is_ipv4: reading.is_ipv4(),
@@ -86,322 +61,254 @@ fn outcome(captured: &Record, reading: &Reading) -> Outcome
     }
 }
 
-// Lists a record.
-fn list_record<W: Write>(
-    header: &FileHeader,
-    captured: &Record,
-    is_quiet: bool,
-    before: Totals,
-    text: &mut Text,
-    writer: &mut W,
-) -> io::Result<Totals>
-    ensures { IfOk result (λ after. (line : List ℕ)
-        × IsToldOfRecord header.now before (recorded captured.now) line after
-        × Appends (append_known (W.contents writer.old) text.old.items)
-        (append_known (W.contents writer.new) text.new.items) (unless_quiet is_quiet line)) }
+// What is counted for a record that is skipped.
+fn skipped_outcome(head: &RecordHead) -> Outcome
+    ensures value { result ≡ skipped_outcome head.now }
 {
-    let reading = read_frame(header.link_type % 65_536, is_cut(captured), captured.bytes);
-    let Some(after) = before.count(outcome(captured, &reading)) else {
-        return Err(io::Error::from(ErrorKind::Other));
-    };
-    write_line(
-        is_quiet,
-        header,
-        after.records,
-        captured,
-        &reading,
-        text,
-        writer,
-    )?;
-    Ok(after)
-}
-
-// Writes the line of a record that is read, but not in a quiet run.
-fn write_line<W: Write>(
-    is_quiet: bool,
-    header: &FileHeader,
-    number: u64,
-    captured: &Record,
-    reading: &Reading,
-    text: &mut Text,
-    writer: &mut W,
-) -> io::Result<()>
-    ensures { OnOk result (Appends (append_known (W.contents writer.old) text.old.items)
-        (append_known (W.contents writer.new) text.new.items) (unless_quiet is_quiet
-        (record_line header.now.format.resolution number (recorded captured.now) reading.now))) }
-{
-    if is_quiet {
-        return Ok(());
-    }
-    make_room(text, writer)?;
-    write_record(text, header.format.resolution, number, captured, reading)?;
-    Ok(())
-}
-
-// Lists the whole records at the front of the data. Returns the rest, the totals after them, and how
-// the next record is cut off.
-fn list_front<'a, W: Write>(
-    header: &FileHeader,
-    bytes: &'a [u8],
-    is_quiet: bool,
-    before: Totals,
-    text: &mut Text,
-    writer: &mut W,
-) -> io::Result<(&'a [u8], Totals, Option<CutOff>)>
-    requires { length bytes.now ≤ ROOM }
-    ensures told { IfOk result (λ x. (left : Option (List ℕ)) →
-        Told header.now is_quiet before x.1 Turn.GoesOn
-        (prepend_known bytes.now left) (prepend_known x.0.now left)
-        (append_known (W.contents writer.old) text.old.items)
-        (append_known (W.contents writer.new) text.new.items)) }
-    ensures rest { IfOk result (λ x.
-        x.0.now ≡ drop (length bytes.now - length x.0.now) bytes.now) }
-    ensures stops { IfOk result (λ x. Stops header.now x.0.now x.2) }
-{
-    let mut rest = bytes;
-    let mut totals = before;
-    'records: loop {
-        match next_record(header, rest) {
-            Ok(Some((record, after))) => {
-                totals = list_record(header, &record, is_quiet, totals, text, writer)?;
-                rest = after;
-            }
-            Ok(None) => return Ok((rest, totals, None)),
-            Err(e) => return Ok((rest, totals, Some(e))),
-        }
-    }
-}
-
-// The number in four bytes.
-fn number_at(order: ByteOrder, bytes: &[u8], place: usize) -> u32
-    requires { place + 4 ≤ length bytes.now }
-    ensures { result ≡ number_in order w32 (slice_range bytes.now place (place + 4)) }
-{
-    let bytes = [
-        bytes[place],
-        bytes[place + 1],
-        bytes[place + 2],
-        bytes[place + 3],
-    ];
-    match order {
-        ByteOrder::BigEndian => u32::from_be_bytes(bytes),
-        ByteOrder::LittleEndian => u32::from_le_bytes(bytes),
-    }
-}
-
-// A fraction of a second in nanoseconds.
-fn nanoseconds(resolution: Resolution, fraction: u32) -> u64
-    ensures { result ≡ fraction * nanoseconds_in resolution }
-{
-    match resolution {
-        Resolution::Microseconds => u64::from(fraction) * 1000,
-        Resolution::Nanoseconds => u64::from(fraction),
-    }
-}
-
-// Lists a record that is too long, from its header of 16 bytes.
-fn list_long<W: Write>(
-    header: &FileHeader,
-    bytes: &[u8],
-    is_quiet: bool,
-    before: Totals,
-    text: &mut Text,
-    writer: &mut W,
-) -> io::Result<Totals>
-    requires enough { 16 ≤ length bytes.now }
-    requires long { 16 + max_captured_len < record_len header.now bytes.now }
-    ensures { IfOk result (λ after. (line : List ℕ)
-        × IsToldOfLongRecord header.now before bytes.now line after
-        × Appends (append_known (W.contents writer.old) text.old.items)
-        (append_known (W.contents writer.new) text.new.items) (unless_quiet is_quiet line)) }
-{
-    let order = header.format.order;
-    let captured_len = number_at(order, bytes, 8);
-    let is_cut = captured_len < number_at(order, bytes, 12);
-    let Some(after) = before.count(Outcome {
+    Outcome {
         is_ipv4: false,
         is_ipv6: false,
         is_other: false,
         is_refused: false,
         is_skipped: true,
-        is_cut,
+        is_cut: head.captured_len < head.original_len,
         is_wrong: false,
-    }) else {
-        return Err(io::Error::from(ErrorKind::Other));
-    };
-    if is_quiet {
-        return Ok(after);
     }
-    make_room(text, writer)?;
-    let resolution = header.format.resolution;
-    write_skipped(
-        text,
-        resolution,
-        after.records,
-        number_at(order, bytes, 0),
-        nanoseconds(resolution, number_at(order, bytes, 4)),
-        captured_len as usize,
-    )?;
-    Ok(after)
 }
 
 // Skips `len` bytes; if the input has fewer, returns how many.
-fn skip<R: Read>(window: &mut Window, reader: &mut R, len: usize) -> io::Result<Option<usize>>
-    ensures { IfOk result (λ there. MatchOption there
-        (Skips len (prepend_known (unread window.old) (R.remaining reader.old))
-        (prepend_known (unread window.new) (R.remaining reader.new)))
-        (λ n. (n < len)
-        × Skips n (prepend_known (unread window.old) (R.remaining reader.old)) (Some []))) }
+fn skip<R: Source>(input: &mut Input<R>, len: usize) -> Result<Option<usize>, Failure>
+    requires some { 0 < len }
+    requires empty { unread input.old ≡ [] }
+    ensures skips { IfOk result (λ end. MatchOption end
+        (Skips R.remaining input.old input.new len)
+        (λ n. Lacks R.remaining input.old input.new len n
+        × IsAtEnd (R.remaining input.new.source))) }
+    ensures failed { IfErr result (λ e. (e ≡ Failure.Read) × CannotRead R.has_failed input.new) }
+    ensures lacks { OnErr result ((n : ℕ) × Lacks R.remaining input.old input.new len n) }
 {
     let mut left = len;
-    'turns: for _ in 0..u64::MAX {
-        let passed = window.unread().len().min(left);
-        window.pass(passed);
+    'turns: loop {
+        let passed = input.unread().len().min(left);
+        input.pass(passed);
         left -= passed;
         if left == 0 {
             return Ok(None);
         }
-        if !window.fill(reader)? {
+        if !input.fill()? {
             return Ok(Some(len - left));
-        }
-    }
-    Err(io::Error::from(ErrorKind::Other))
-}
-
-// Lists the record at the front of the window, which is too long, and skips it.
-fn list_past<R: Read, W: Write>(
-    header: &FileHeader,
-    is_quiet: bool,
-    before: Totals,
-    cut_off: CutOff,
-    window: &mut Window,
-    reader: &mut R,
-    text: &mut Text,
-    writer: &mut W,
-) -> io::Result<(Totals, Turn)>
-    requires enough { 16 ≤ length (unread window.old) }
-    requires required { cut_off.required_len ≡ record_len header.now (unread window.old) }
-    requires there { cut_off.len ≡ length (unread window.old) }
-    requires short { cut_off.len < cut_off.required_len }
-    requires long { 16 + max_captured_len < cut_off.required_len }
-    ensures { IfOk result (λ x. Told header.now is_quiet before x.0 x.1
-        (prepend_known (unread window.old) (R.remaining reader.old))
-        (prepend_known (unread window.new) (R.remaining reader.new))
-        (append_known (W.contents writer.old) text.old.items)
-        (append_known (W.contents writer.new) text.new.items)) }
-{
-    let (required_len, len) = (cut_off.required_len, cut_off.len);
-    let after = list_long(header, window.unread(), is_quiet, before, text, writer)?;
-    window.clear();
-    match skip(window, reader, required_len - len)? {
-        None => Ok((after, Turn::GoesOn)),
-        Some(more) => {
-            let len = len + more;
-            Ok((after, Turn::Ends(Some(CutOff { required_len, len }))))
         }
     }
 }
 
 // Reads more of the input; if there is no more, the records end as given.
-fn read_on<R: Read>(window: &mut Window, reader: &mut R, end: Option<CutOff>) -> io::Result<Turn>
-    requires { length (unread window.old) < ROOM }
-    ensures kept { OnOk result (Keeps
-        (prepend_known (unread window.old) (R.remaining reader.old))
-        (prepend_known (unread window.new) (R.remaining reader.new))) }
-    ensures turn { IfOk result (λ turn. (turn ≡ Turn.GoesOn)
-        ⊎ ((turn ≡ Turn.Ends end) × (unread window.new ≡ unread window.old)
-        × IsAtEnd (R.remaining reader.new))) }
-    ensures progress { IfOk result (λ turn. turn ≡ Turn.GoesOn →
-        length (unread window.old) < length (unread window.new)) }
+fn read_on<R: Source>(input: &mut Input<R>, end: Option<CutOff>) -> Result<Turn, Failure>
+    requires room { length (unread input.old) < ROOM }
+    ensures takes { Takes R.remaining input.old input.new [] }
+    ensures turn { IfOk result (λ turn. ((turn ≡ Turn.GoesOn) × (input.old.count < input.new.count))
+        ⊎ ((turn ≡ Turn.Ends end) × (unread input.new ≡ unread input.old)
+        × IsAtEnd (R.remaining input.new.source))) }
+    ensures failed { IfErr result (λ e. (e ≡ Failure.Read) × CannotRead R.has_failed input.new) }
+    ensures unread { OnErr result (unread input.new ≡ unread input.old) }
 {
-    if window.fill(reader)? {
+    if input.fill()? {
         Ok(Turn::GoesOn)
     } else {
         Ok(Turn::Ends(end))
     }
 }
 
-// Goes on behind the whole records that have been read: lists and skips one that is too long, or
-// reads more.
-fn go_on<R: Read, W: Write>(
-    header: &FileHeader,
-    is_quiet: bool,
-    before: Totals,
-    stop: Option<CutOff>,
-    window: &mut Window,
-    reader: &mut R,
-    text: &mut Text,
-    writer: &mut W,
-) -> io::Result<(Totals, Turn)>
-    requires { Stops header.now (unread window.old) stop }
-    ensures { IfOk result (λ x. Told header.now is_quiet before x.0 x.1
-        (prepend_known (unread window.old) (R.remaining reader.old))
-        (prepend_known (unread window.new) (R.remaining reader.new))
-        (append_known (W.contents writer.old) text.old.items)
-        (append_known (W.contents writer.new) text.new.items)) }
-{
-    match stop {
-        None => {
-            let turn = read_on(window, reader, None)?;
-            Ok((before, turn))
+impl Listing {
+    // Lists a record.
+    fn list_record<W: Sink>(
+        &self,
+        before: Totals,
+        captured: &Record,
+        output: &mut Output<W>,
+    ) -> Result<Totals, Failure>
+        ensures told { IfOk result (λ after. HasLine W.contents self.now
+            (λ line. IsToldOfRecord self.now.header before (recorded captured.now) line after)
+            output.old output.new) }
+        ensures kept { OnErr result (Prints W.contents output.old output.new []) }
+        ensures failed { IfErr result (λ e. Because ⊥ (W.has_failed output.new.sink) e before []) }
+    {
+        let link_type = self.header.link_type % 65_536;
+        let reading = read_frame(link_type, is_cut(captured), captured.bytes);
+        let Some(after) = before.count(outcome(captured, &reading)) else {
+            return Err(Failure::Count);
+        };
+        if self.is_quiet {
+            return Ok(after);
         }
-        Some(e) => {
-            if e.required_len > ROOM {
-                return list_past(header, is_quiet, before, e, window, reader, text, writer);
+        output.print(RecordLine {
+            resolution: self.header.format.resolution,
+            number: after.records,
+            captured,
+            reading: &reading,
+        })?;
+        Ok(after)
+    }
+
+    // Lists the whole records at the front of the data. Returns the rest, the totals after them,
+    // and how the next record is cut off.
+    fn list_front<'a, W: Sink>(
+        &self,
+        before: Totals,
+        bytes: &'a [u8],
+        output: &mut Output<W>,
+    ) -> Result<(&'a [u8], Totals, Option<CutOff>), Failure>
+        requires room { length bytes.now ≤ ROOM }
+        ensures told { IfOk result (λ x. Tells W.contents self.now before x.1
+            (take (length bytes.now - length x.0.now) bytes.now) output.old output.new) }
+        ensures rest { IfOk result (λ x.
+            x.0.now ≡ drop (length bytes.now - length x.0.now) bytes.now) }
+        ensures stops { IfOk result (λ x. Stops self.now.header x.0.now x.2) }
+        ensures failed { IfErr result (λ e. TellsFront W.contents self.now before
+            (Because ⊥ (W.has_failed output.new.sink) e) bytes.now output.old output.new) }
+    {
+        let mut rest = bytes;
+        let mut totals = before;
+        'records: loop {
+            match next_record(&self.header, rest) {
+                Ok(Some((record, after))) => {
+                    totals = self.list_record(totals, &record, output)?;
+                    rest = after;
+                }
+                Ok(None) => return Ok((rest, totals, None)),
+                Err(e) => return Ok((rest, totals, Some(e))),
             }
-            let turn = read_on(window, reader, Some(e))?;
-            Ok((before, turn))
         }
     }
-}
 
-// Lists the whole records that have been read, and goes on behind them.
-fn list_turn<R: Read, W: Write>(
-    header: &FileHeader,
-    is_quiet: bool,
-    before: Totals,
-    window: &mut Window,
-    reader: &mut R,
-    text: &mut Text,
-    writer: &mut W,
-) -> io::Result<(Totals, Turn)>
-    ensures { IfOk result (λ x. Told header.now is_quiet before x.0 x.1
-        (prepend_known (unread window.old) (R.remaining reader.old))
-        (prepend_known (unread window.new) (R.remaining reader.new))
-        (append_known (W.contents writer.old) text.old.items)
-        (append_known (W.contents writer.new) text.new.items)) }
-{
-    let bytes = window.unread();
-    let (rest, totals, stop) = list_front(header, bytes, is_quiet, before, text, writer)?;
-    let passed = bytes.len() - rest.len();
-    window.pass(passed);
-    let (after, turn) = go_on(header, is_quiet, totals, stop, window, reader, text, writer)?;
-    Ok((after, turn))
-}
+    // Lists a record that is too long, from its head.
+    fn list_long<W: Sink>(
+        &self,
+        before: Totals,
+        bytes: &[u8],
+        output: &mut Output<W>,
+    ) -> Result<Totals, Failure>
+        requires enough { 16 ≤ length bytes.now }
+        requires long { 16 + max_captured_len < record_len self.now.header bytes.now }
+        ensures told { IfOk result (λ after. HasLine W.contents self.now
+            (λ line. IsToldOfLongRecord self.now.header before bytes.now line after)
+            output.old output.new) }
+        ensures kept { OnErr result (Prints W.contents output.old output.new []) }
+        ensures failed { IfErr result (λ e. Because ⊥ (W.has_failed output.new.sink) e before []) }
+    {
+        let head = self.header.record_head(bytes);
+        let Some(after) = before.count(skipped_outcome(&head)) else {
+            return Err(Failure::Count);
+        };
+        if self.is_quiet {
+            return Ok(after);
+        }
+        output.print(SkippedLine {
+            resolution: self.header.format.resolution,
+            number: after.records,
+            seconds: head.seconds,
+            nanoseconds: head.nanoseconds,
+            captured_len: head.captured_len,
+        })?;
+        Ok(after)
+    }
 
-/// Lists all records and counts them. Returns the totals, and how the last record is cut off. If
-/// `is_quiet` is true, it writes no lines.
-pub fn list<R: Read, W: Write>(
-    header: &FileHeader,
-    is_quiet: bool,
-    window: &mut Window,
-    reader: &mut R,
-    text: &mut Text,
-    writer: &mut W,
-) -> io::Result<(Totals, Option<CutOff>)>
-    ensures { IfOk result (λ x. Told header.now is_quiet nothing_counted x.0 (Turn.Ends x.1)
-        (prepend_known (unread window.old) (R.remaining reader.old))
-        (prepend_known (unread window.new) (R.remaining reader.new))
-        (append_known (W.contents writer.old) text.old.items)
-        (append_known (W.contents writer.new) text.new.items)) }
-{
-    let mut totals = Totals::none();
-    'turns: for _ in 0..u64::MAX {
-        let (after, turn) = list_turn(header, is_quiet, totals, window, reader, text, writer)?;
-        totals = after;
-        if let Turn::Ends(end) = turn {
-            return Ok((totals, end));
+    // Lists the record at the front of the window, which is too long, and skips it.
+    fn list_past<R: Source, W: Sink>(
+        &self,
+        before: Totals,
+        cut_off: CutOff,
+        input: &mut Input<R>,
+        output: &mut Output<W>,
+    ) -> Result<(Totals, Turn), Failure>
+        requires enough { 16 ≤ length (unread input.old) }
+        requires required { cut_off.required_len ≡ record_len self.now.header (unread input.old) }
+        requires there { cut_off.len ≡ length (unread input.old) }
+        requires short { cut_off.len < cut_off.required_len }
+        requires long { 16 + max_captured_len < cut_off.required_len }
+        ensures turns { IfOk result (λ x. Turns R.remaining W.contents self.now before
+            x.0 x.1 input.old input.new output.old output.new) }
+        ensures failed { IfErr result (λ e. Breaks R.remaining W.contents self.now
+            R.has_failed W.has_failed before e input.old input.new output.old output.new) }
+    {
+        let CutOff { required_len, len } = cut_off;
+        let after = self.list_long(before, input.unread(), output)?;
+        input.pass(len);
+        match skip(input, required_len - len)? {
+            None => Ok((after, Turn::GoesOn)),
+            Some(more) => {
+                let len = len + more;
+                Ok((after, Turn::Ends(Some(CutOff { required_len, len }))))
+            }
         }
     }
-    Err(io::Error::from(ErrorKind::Other))
+
+    // Goes on behind the whole records that have been read: lists and skips one that is too long,
+    // or reads more.
+    fn go_on<R: Source, W: Sink>(
+        &self,
+        before: Totals,
+        stop: Option<CutOff>,
+        input: &mut Input<R>,
+        output: &mut Output<W>,
+    ) -> Result<(Totals, Turn), Failure>
+        requires stops { Stops self.now.header (unread input.old) stop }
+        ensures turns { IfOk result (λ x. Turns R.remaining W.contents self.now before
+            x.0 x.1 input.old input.new output.old output.new) }
+        ensures failed { IfErr result (λ e. Breaks R.remaining W.contents self.now
+            R.has_failed W.has_failed before e input.old input.new output.old output.new) }
+    {
+        match stop {
+            None => {
+                let turn = read_on(input, None)?;
+                Ok((before, turn))
+            }
+            Some(e) => {
+                if e.required_len > ROOM {
+                    return self.list_past(before, e, input, output);
+                }
+                let turn = read_on(input, Some(e))?;
+                Ok((before, turn))
+            }
+        }
+    }
+
+    // Lists the whole records that have been read, and goes on behind them.
+    fn list_turn<R: Source, W: Sink>(
+        &self,
+        before: Totals,
+        input: &mut Input<R>,
+        output: &mut Output<W>,
+    ) -> Result<(Totals, Turn), Failure>
+        ensures turns { IfOk result (λ x. Turns R.remaining W.contents self.now before
+            x.0 x.1 input.old input.new output.old output.new) }
+        ensures failed { IfErr result (λ e. Breaks R.remaining W.contents self.now
+            R.has_failed W.has_failed before e input.old input.new output.old output.new) }
+    {
+        let bytes = input.unread();
+        let (rest, totals, stop) = self.list_front(before, bytes, output)?;
+        let passed = bytes.len() - rest.len();
+        input.pass(passed);
+        self.go_on(totals, stop, input, output)
+    }
+
+    /// Lists all records and counts them. Returns the totals, and how the last record is cut off.
+    pub fn list<R: Source, W: Sink>(
+        &self,
+        input: &mut Input<R>,
+        output: &mut Output<W>,
+    ) -> Result<(Totals, Option<CutOff>), Failure>
+        ensures ends { IfOk result (λ x. Ends R.remaining W.contents self.now nothing_counted
+            x.0 x.1 input.old input.new output.old output.new) }
+        ensures failed { IfErr result (λ e. Breaks R.remaining W.contents self.now
+            R.has_failed W.has_failed nothing_counted e input.old input.new output.old output.new) }
+    {
+        let mut totals = Totals::none();
+        'turns: loop {
+            let (after, turn) = self.list_turn(totals, input, output)?;
+            totals = after;
+            if let Turn::Ends(end) = turn {
+                return Ok((totals, end));
+            }
+        }
+    }
 }

@@ -1,175 +1,248 @@
 //! The whole run: a capture in, lines out.
 
-ghost use Rattle.std.specs.Prelude.{◌≡◌, ◌≢◌, ◌≤◌, ◌⊎◌, [], Err, IfErr, IfOk, IfSome, OnOk, drop};
-ghost use Rattle.std.specs.Prelude.{length};
-ghost use Rattle.std.specs.Io.KnownBytes.{Appends, IsAtEnd, Keeps, prepend_known};
+ghost use Rattle.std.specs.Prelude.{◌≡◌, ◌≢◌, ◌<◌, ◌≤◌, ◌⊎◌, [], Err, IfErr, IfOk, IfSome, OnErr, OnOk};
+ghost use Rattle.std.specs.Prelude.{drop, if◌then◌else◌, length};
+ghost use Rattle.std.specs.Io.KnownBytes.{Appends, IsAtEnd};
 ghost use Rattle.packet_capture.specs.Capture.{BeginsWithFileHeader, ReadsFileHeader};
-ghost use Rattle.ipcap.specs.Output.{IsListing, IsOutcome, Writes, listed, status_at};
-ghost use Rattle.ipcap.specs.Lines.{end_text};
-ghost use Rattle.ipcap.specs.Private.Window.{unread};
+ghost use Rattle.ipcap.specs.Lines.{closing_line};
+ghost use Rattle.ipcap.specs.Output.{AppendsFront, Fails, HasFullCounts, IsFullCapture, IsListing};
+ghost use Rattle.ipcap.specs.Output.{IsOutcome, Writes, listed, status_at};
+ghost use Rattle.ipcap.specs.Streams.{CannotRead, Prints, Takes, pending, unlisted, unread};
 
-use crate::lines::{write_capture_error, write_closing, write_cut_off, write_link_type};
+use crate::failure::Failure;
+use crate::input::Input;
+use crate::lines::{ClosingLine, EndLine, LinkTypeLine, NoCaptureLine};
 use crate::link::is_read;
-use crate::listing::{Text, hand_over, list};
+use crate::listing::Listing;
+use crate::output::Output;
 use crate::status::Status;
+use crate::streams::{Sink, Source};
 use crate::totals::Totals;
-use crate::window::Window;
 use packet_capture::capture::{CaptureError, CutOff, FileHeader};
-use std::io;
-use std::io::{ErrorKind, Read, Write};
+use std::fmt::Display;
 
 /// Reads a capture, and writes a line for each record and then, to `errors`, the closing line.
 ///
-/// A quiet run writes the closing line alone, to `writer`. If the input is no capture, or one of a
+/// A quiet run writes the closing line alone, to `output`. If the input is no capture, or one of a
 /// link type that is not read, or its last record is cut off, `errors` gets a line on that. The run
-/// ends as soon as a read or a write fails. It allocates no memory.
-pub fn run<R: Read, W: Write, E: Write>(
+/// ends as soon as a read or a write fails; the lines of what was read before a read that fails are
+/// written. It allocates no memory.
+pub fn run<R: Source, W: Sink, E: Sink>(
     is_quiet: bool,
-    reader: &mut R,
-    writer: &mut W,
-    errors: &mut E,
+    input: &mut Input<R>,
+    output: &mut Output<W>,
+    errors: &mut Output<E>,
 ) -> Status
-    ensures output { result ≢ Status.Failed → IfSome (R.remaining reader.old) (λ input.
-        Writes (IsOutcome is_quiet input) result (W.contents writer.old) (W.contents writer.new)
-        (E.contents errors.old) (E.contents errors.new)) }
+    requires fresh { (pending output.old ≡ []) × (pending errors.old ≡ []) }
+    ensures output { result ≢ Status.Failed → IfSome (unlisted R.remaining input.old) (λ capture.
+        Writes (IsOutcome is_quiet capture) result
+        (W.contents output.old.sink) (W.contents output.new.sink)
+        (E.contents errors.old.sink) (E.contents errors.new.sink)) }
+    ensures failed { result ≡ Status.Failed → Fails is_quiet
+        (IsOutcome is_quiet) IsFullCapture (CannotRead R.has_failed input.new)
+        (W.has_failed output.new.sink ⊎ E.has_failed errors.new.sink)
+        (unlisted R.remaining input.old) (R.remaining input.new.source)
+        (W.contents output.old.sink) (W.contents output.new.sink)
+        (E.contents errors.old.sink) (E.contents errors.new.sink) }
 {
-    try_run(is_quiet, reader, writer, errors).unwrap_or(Status::Failed)
+    match try_run(is_quiet, input, output, errors) {
+        Ok(status) => status,
+        Err(_) => Status::Failed,
+    }
 }
 
-// `run`, with an error if a read or a write fails.
-fn try_run<R: Read, W: Write, E: Write>(
+// `run`, with what failed.
+fn try_run<R: Source, W: Sink, E: Sink>(
     is_quiet: bool,
-    reader: &mut R,
-    writer: &mut W,
-    errors: &mut E,
-) -> io::Result<Status>
-    ensures { IfOk result (λ status. IfSome (R.remaining reader.old) (λ input.
-        Writes (IsOutcome is_quiet input) status (W.contents writer.old) (W.contents writer.new)
-        (E.contents errors.old) (E.contents errors.new))) }
+    input: &mut Input<R>,
+    output: &mut Output<W>,
+    errors: &mut Output<E>,
+) -> Result<Status, Failure>
+    requires fresh { (pending output.old ≡ []) × (pending errors.old ≡ []) }
+    ensures status { IfOk result (λ status. status ≢ Status.Failed) }
+    ensures output { IfOk result (λ status. IfSome (unlisted R.remaining input.old) (λ capture.
+        Writes (IsOutcome is_quiet capture) status
+        (W.contents output.old.sink) (W.contents output.new.sink)
+        (E.contents errors.old.sink) (E.contents errors.new.sink))) }
+    ensures failed { OnErr result (Fails is_quiet
+        (IsOutcome is_quiet) IsFullCapture (CannotRead R.has_failed input.new)
+        (W.has_failed output.new.sink ⊎ E.has_failed errors.new.sink)
+        (unlisted R.remaining input.old) (R.remaining input.new.source)
+        (W.contents output.old.sink) (W.contents output.new.sink)
+        (E.contents errors.old.sink) (E.contents errors.new.sink)) }
 {
-    let mut window = Window::new();
-    fill_to_file_header(&mut window, reader)?;
-    list_input(is_quiet, &mut window, reader, writer, errors)
+    fill_to_file_header(input)?;
+    list_input(is_quiet, input, output, errors)
 }
 
-// Lists an input of which the window has the file header, if it has one.
-fn list_input<R: Read, W: Write, E: Write>(
-    is_quiet: bool,
-    window: &mut Window,
-    reader: &mut R,
-    writer: &mut W,
-    errors: &mut E,
-) -> io::Result<Status>
-    requires { (24 ≤ length (unread window.old)) ⊎ IsAtEnd (R.remaining reader.old) }
-    ensures { IfOk result (λ status. IfSome
-        (prepend_known (unread window.old) (R.remaining reader.old)) (λ input.
-        Writes (IsOutcome is_quiet input) status (W.contents writer.old) (W.contents writer.new)
-        (E.contents errors.old) (E.contents errors.new))) }
+// Reads until there is a whole file header, or the input is at its end.
+fn fill_to_file_header<R: Source>(input: &mut Input<R>) -> Result<(), Failure>
+    ensures takes { Takes R.remaining input.old input.new [] }
+    ensures enough { OnOk result ((24 ≤ length (unread input.new))
+        ⊎ IsAtEnd (R.remaining input.new.source)) }
+    ensures failed { IfErr result (λ e. (e ≡ Failure.Read) × CannotRead R.has_failed input.new
+        × (length (unread input.new) < 24)) }
 {
-    let header = match read_file_header(window) {
-        Ok(header) => header,
-        Err(e) => {
-            write_capture_error(errors, e)?;
-            return Ok(Status::NoCapture);
+    'reads: while input.unread().len() < FileHeader::LEN {
+        if !input.fill()? {
+            return Ok(());
         }
+    }
+    Ok(())
+}
+
+// Lists an input of which the file header is read, if it has one.
+fn list_input<R: Source, W: Sink, E: Sink>(
+    is_quiet: bool,
+    input: &mut Input<R>,
+    output: &mut Output<W>,
+    errors: &mut Output<E>,
+) -> Result<Status, Failure>
+    requires enough { (24 ≤ length (unread input.old)) ⊎ IsAtEnd (R.remaining input.old.source) }
+    requires fresh { (pending output.old ≡ []) × (pending errors.old ≡ []) }
+    ensures status { IfOk result (λ status. status ≢ Status.Failed) }
+    ensures output { IfOk result (λ status. IfSome (unlisted R.remaining input.old) (λ capture.
+        Writes (IsOutcome is_quiet capture) status
+        (W.contents output.old.sink) (W.contents output.new.sink)
+        (E.contents errors.old.sink) (E.contents errors.new.sink))) }
+    ensures failed { OnErr result (Fails is_quiet
+        (IsOutcome is_quiet) IsFullCapture (CannotRead R.has_failed input.new)
+        (W.has_failed output.new.sink ⊎ E.has_failed errors.new.sink)
+        (unlisted R.remaining input.old) (R.remaining input.new.source)
+        (W.contents output.old.sink) (W.contents output.new.sink)
+        (E.contents errors.old.sink) (E.contents errors.new.sink)) }
+{
+    let header = match read_file_header(input.unread()) {
+        Ok(header) => header,
+        Err(e) => return refuse(NoCaptureLine(e), errors),
     };
     let link_type = header.link_type % 65_536;
     if !is_read(link_type) {
-        write_link_type(errors, link_type)?;
-        return Ok(Status::NoCapture);
+        return refuse(LinkTypeLine(link_type), errors);
     }
-    window.pass(24);
-    let status = list_records(is_quiet, &header, window, reader, writer, errors)?;
-    Ok(status)
+    input.pass(FileHeader::LEN);
+    list_records(&Listing { header, is_quiet }, input, output, errors)
 }
 
-// The header of the capture file that the window begins with.
-fn read_file_header(window: &Window) -> Result<FileHeader, CaptureError>
+// The header of a capture file.
+fn read_file_header(bytes: &[u8]) -> Result<FileHeader, CaptureError>
     ensures found { IfOk result (λ header.
-        BeginsWithFileHeader (unread window.now) header (drop 24 (unread window.now))) }
-    ensures refused { IfErr result (λ e. ReadsFileHeader (unread window.now) (Err e)) }
+        BeginsWithFileHeader bytes.now header (drop 24 bytes.now)) }
+    ensures refused { IfErr result (λ e. ReadsFileHeader bytes.now (Err e)) }
 {
-    match FileHeader::from_slice(window.unread()) {
+    match FileHeader::from_slice(bytes) {
         Ok((header, _)) => Ok(header),
         Err(e) => Err(e),
     }
 }
 
-// Lists the records of a capture, and writes the lines at the end.
-fn list_records<R: Read, W: Write, E: Write>(
-    is_quiet: bool,
-    header: &FileHeader,
-    window: &mut Window,
-    reader: &mut R,
-    writer: &mut W,
-    errors: &mut E,
-) -> io::Result<Status>
-    ensures { IfOk result (λ status. IfSome
-        (prepend_known (unread window.old) (R.remaining reader.old)) (λ records.
-        Writes (IsListing is_quiet header.now records) status
-        (W.contents writer.old) (W.contents writer.new)
-        (E.contents errors.old) (E.contents errors.new))) }
+// Writes why the records of the input are not listed.
+fn refuse<E: Sink, D: Display + Drop>(line: D, errors: &mut Output<E>) -> Result<Status, Failure>
+    requires fresh { pending errors.old ≡ [] }
+    ensures status { IfOk result (λ status. status ≡ Status.NoCapture) }
+    ensures errors { OnOk result (IfSome (D.output line)
+        (Appends (E.contents errors.old.sink) (E.contents errors.new.sink))) }
+    ensures front { OnErr result (IfSome (D.output line)
+        (AppendsFront (E.contents errors.old.sink) (E.contents errors.new.sink))) }
+    ensures failed { OnErr result (E.has_failed errors.new.sink) }
 {
-    let mut text = Text::new();
-    let listed = list(header, is_quiet, window, reader, &mut text, writer);
-    hand_over(&mut text, writer)?;
-    let (totals, end) = listed?;
-    let status = close(is_quiet, totals, end, writer, errors)?;
-    Ok(status)
+    errors.print(line)?;
+    errors.hand_over()?;
+    Ok(Status::NoCapture)
+}
+
+// Lists the records of a capture, and writes the lines at the end.
+fn list_records<R: Source, W: Sink, E: Sink>(
+    listing: &Listing,
+    input: &mut Input<R>,
+    output: &mut Output<W>,
+    errors: &mut Output<E>,
+) -> Result<Status, Failure>
+    requires fresh { (pending output.old ≡ []) × (pending errors.old ≡ []) }
+    ensures status { IfOk result (λ status. status ≢ Status.Failed) }
+    ensures output { IfOk result (λ status. IfSome (unlisted R.remaining input.old) (λ records.
+        Writes (IsListing listing.now.is_quiet listing.now.header records) status
+        (W.contents output.old.sink) (W.contents output.new.sink)
+        (E.contents errors.old.sink) (E.contents errors.new.sink))) }
+    ensures failed { OnErr result (Fails listing.now.is_quiet
+        (IsListing listing.now.is_quiet listing.now.header) (HasFullCounts listing.now.header)
+        (CannotRead R.has_failed input.new)
+        (W.has_failed output.new.sink ⊎ E.has_failed errors.new.sink)
+        (unlisted R.remaining input.old) (R.remaining input.new.source)
+        (W.contents output.old.sink) (W.contents output.new.sink)
+        (E.contents errors.old.sink) (E.contents errors.new.sink)) }
+{
+    match listing.list(input, output) {
+        Ok((totals, end)) => {
+            output.hand_over()?;
+            close(listing.is_quiet, totals, end, output, errors)
+        }
+        Err(Failure::Write) => Err(Failure::Write),
+        Err(Failure::Read) => {
+            output.hand_over()?;
+            Err(Failure::Read)
+        }
+        Err(Failure::Count) => {
+            output.hand_over()?;
+            Err(Failure::Count)
+        }
+    }
 }
 
 // Writes the lines at the end.
-fn close<W: Write, E: Write>(
+fn close<W: Sink, E: Sink>(
     is_quiet: bool,
     totals: Totals,
     end: Option<CutOff>,
-    writer: &mut W,
-    errors: &mut E,
-) -> io::Result<Status>
+    output: &mut Output<W>,
+    errors: &mut Output<E>,
+) -> Result<Status, Failure>
+    requires fresh { (pending output.old ≡ []) × (pending errors.old ≡ []) }
     ensures status { IfOk result (λ status. status ≡ status_at end) }
-    ensures output { OnOk result (Appends (W.contents writer.old) (W.contents writer.new)
+    ensures output { OnOk result
+        (Appends (W.contents output.old.sink) (W.contents output.new.sink)
         (listed is_quiet [] totals end).output) }
-    ensures errors { OnOk result (Appends (E.contents errors.old) (E.contents errors.new)
+    ensures errors { OnOk result
+        (Appends (E.contents errors.old.sink) (E.contents errors.new.sink)
         (listed is_quiet [] totals end).errors) }
+    ensures front { OnErr result
+        (AppendsFront (W.contents output.old.sink) (W.contents output.new.sink)
+        (listed is_quiet [] totals end).output) }
+    ensures front_of_errors { OnErr result
+        (AppendsFront (E.contents errors.old.sink) (E.contents errors.new.sink)
+        (listed is_quiet [] totals end).errors) }
+    ensures failed { OnErr result
+        (W.has_failed output.new.sink ⊎ E.has_failed errors.new.sink) }
 {
-    let status = write_end(errors, end)?;
-    if is_quiet {
-        write_closing(writer, totals)?;
-    } else {
-        write_closing(errors, totals)?;
-    }
-    Ok(status)
-}
-
-// Writes how the records end.
-fn write_end<E: Write>(errors: &mut E, end: Option<CutOff>) -> io::Result<Status>
-    ensures { IfOk result (λ status. (status ≡ status_at end)
-        × Appends (E.contents errors.old) (E.contents errors.new) (end_text end)) }
-{
+    errors.print(EndLine(end))?;
+    print_closing(is_quiet, totals, output, errors)?;
+    errors.hand_over()?;
+    output.hand_over()?;
     match end {
         None => Ok(Status::Done),
-        Some(e) => {
-            write_cut_off(errors, e)?;
-            Ok(Status::CutOff)
-        }
+        Some(_) => Ok(Status::CutOff),
     }
 }
 
-// Reads until there is a whole file header, or the input is at its end.
-fn fill_to_file_header<R: Read>(window: &mut Window, reader: &mut R) -> io::Result<()>
-    ensures kept { OnOk result (Keeps
-        (prepend_known (unread window.old) (R.remaining reader.old))
-        (prepend_known (unread window.new) (R.remaining reader.new))) }
-    ensures enough { OnOk result ((24 ≤ length (unread window.new))
-        ⊎ IsAtEnd (R.remaining reader.new)) }
+// Prints the closing line.
+fn print_closing<W: Sink, E: Sink>(
+    is_quiet: bool,
+    totals: Totals,
+    output: &mut Output<W>,
+    errors: &mut Output<E>,
+) -> Result<(), Failure>
+    ensures output { OnOk result (Prints W.contents output.old output.new
+        (if is_quiet then closing_line totals else [])) }
+    ensures errors { OnOk result (Prints E.contents errors.old errors.new
+        (if is_quiet then [] else closing_line totals)) }
+    ensures kept { OnErr result ((Prints W.contents output.old output.new [])
+        × Prints E.contents errors.old errors.new []) }
+    ensures failed { OnErr result
+        (W.has_failed output.new.sink ⊎ E.has_failed errors.new.sink) }
 {
-    'reads: for _ in 0..u64::MAX {
-        if window.unread().len() >= 24 {
-            return Ok(());
-        }
-        if !window.fill(reader)? {
-            return Ok(());
-        }
+    if is_quiet {
+        output.print(ClosingLine(totals))
+    } else {
+        errors.print(ClosingLine(totals))
     }
-    Err(io::Error::from(ErrorKind::Other))
 }

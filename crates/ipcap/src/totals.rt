@@ -46,7 +46,7 @@ impl Totals {
 
     /// No record.
     pub fn none() -> Totals
-        ensures { result ≡ nothing_counted }
+        ensures value { result ≡ nothing_counted }
     {
         Totals {
             records: 0,

@@ -13,7 +13,7 @@ pub fn decode_input(digits: &[u8], out: &mut [u8; 2048]) -> Option<usize>
         ↔ ((length digits.now % 2 ≡ 0) × AllPass is_hex_digit digits.now) }
     ensures value { IfSome result (λ n. (2 * n ≡ length digits.now)
         × (decode_of digits.now ≡ Ok (take n out.new))) }
-    ensures behind { IfSome result (λ n. drop n out.new ≡ drop n out.old) }
+    ensures beyond { IfSome result (λ n. drop n out.new ≡ drop n out.old) }
 {
     let n = digits.len() / 2;
     hex::decode_to_slice(digits, &mut out[..n]).ok()?;

@@ -13,6 +13,7 @@ use Rattle.packet_capture.specs.declared.capture.CutOff.{CutOff}
 use Rattle.packet_capture.specs.declared.capture.FileHeader.{FileHeader}
 use Rattle.packet_capture.specs.declared.capture.Format.{Format}
 use Rattle.packet_capture.specs.declared.capture.Record.{Record}
+use Rattle.packet_capture.specs.declared.capture.RecordHead.{RecordHead}
 use Rattle.packet_capture.specs.declared.capture.Resolution.{Resolution}
 use Rattle.packet_capture.specs.declared.capture.Resolution.TheVariants.{Microseconds, Nanoseconds}
 
@@ -104,20 +105,30 @@ recorded found = record {
   bytes = found.bytes.now;
 }
 
--- the length of a record, from its captured length: the head of 16 bytes and as many
-abbrev pub record_len : FileHeader → List ℕ → ℕ
-record_len header s = 16 + number_in header.format.order w32 (slice_range s 8 12)
+-- the head of a record: the seconds; the fraction of a second; the captured length; the original
+-- length
+abbrev pub record_head : FileHeader → List ℕ → RecordHead
+record_head header s = record {
+  seconds = number_in header.format.order w32 (slice_range s 0 4);
+  nanoseconds = number_in header.format.order w32 (slice_range s 4 8)
+      * nanoseconds_in header.format.resolution;
+  captured_len = number_in header.format.order w32 (slice_range s 8 12);
+  original_len = number_in header.format.order w32 (slice_range s 12 16);
+}
 
--- The data begins with this record, and the rest follows: the seconds; the fraction of a second;
--- the captured length; the original length; as many bytes as were captured.
+-- the length of a record: the head of 16 bytes, and as many bytes as were captured
+abbrev pub record_len : FileHeader → List ℕ → ℕ
+record_len header s = 16 + (record_head header s).captured_len
+
+-- The data begins with this record, and the rest follows: its head, and as many bytes as were
+-- captured.
 pub record BeginsWithRecord (header : FileHeader) (s : List ℕ) (found : Recorded) (rest : List ℕ)
     : Type 0 where
   pub enough : 16 ≤ length s
   pub whole : record_len header s ≤ length s
-  pub seconds : found.seconds ≡ number_in header.format.order w32 (slice_range s 0 4)
-  pub nanoseconds : found.nanoseconds ≡ number_in header.format.order w32 (slice_range s 4 8)
-      * nanoseconds_in header.format.resolution
-  pub original_len : found.original_len ≡ number_in header.format.order w32 (slice_range s 12 16)
+  pub seconds : found.seconds ≡ (record_head header s).seconds
+  pub nanoseconds : found.nanoseconds ≡ (record_head header s).nanoseconds
+  pub original_len : found.original_len ≡ (record_head header s).original_len
   pub bytes : found.bytes ≡ slice_range s 16 (record_len header s)
   pub after : rest ≡ drop (record_len header s) s
 

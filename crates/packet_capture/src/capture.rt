@@ -5,7 +5,8 @@ ghost use Rattle.std.specs.Prelude.{◌≡◌, ◌+◌, ◌*◌, ◌≤◌, IfOk
 ghost use Rattle.std.specs.Int.{w16, w32};
 ghost use Rattle.etherparse.specs.Reading.{found_and_rest};
 ghost use Rattle.packet_capture.specs.Capture.{FileReading, ReadsFileHeader, ReadsRecord, RecordReading};
-ghost use Rattle.packet_capture.specs.Capture.{nanoseconds_in, number_in, record_and_rest, told_by};
+ghost use Rattle.packet_capture.specs.Capture.{nanoseconds_in, number_in, record_and_rest, record_head};
+ghost use Rattle.packet_capture.specs.Capture.{told_by};
 
 /// The byte order of all numbers in a file: that of the machine that wrote it.
 #[derive(Clone, Copy, Debug, PartialEq, Eq)]
@@ -68,6 +69,20 @@ pub enum CaptureError {
     Version { major: u16, minor: u16 },
 }
 
+/// The head of a record, of 16 bytes.
+#[derive(Clone, Copy, Debug, PartialEq, Eq)]
+pub struct RecordHead {
+    /// Seconds since the start of 1970, UTC: bytes 0 to 3.
+    pub seconds: u32,
+    /// Nanoseconds of that second, even if the file counts microseconds: bytes 4 to 7. They are not
+    /// checked to be less than a second.
+    pub nanoseconds: u64,
+    /// How many bytes of the packet were kept: bytes 8 to 11.
+    pub captured_len: u32,
+    /// The length of the packet in bytes: bytes 12 to 15.
+    pub original_len: u32,
+}
+
 /// A captured packet: a head of 16 bytes, and the bytes that were kept.
 #[derive(Clone, Copy, Debug, PartialEq, Eq)]
 pub struct Record<'a> {
@@ -83,7 +98,17 @@ pub struct Record<'a> {
     pub bytes: &'a [u8],
 }
 
+const _: () = prove!(FileHeader::LEN == 24 && RecordHead::LEN == 16);
+
+impl RecordHead {
+    /// Its length in bytes.
+    pub const LEN: usize = 16;
+}
+
 impl FileHeader {
+    /// Its length in bytes.
+    pub const LEN: usize = 24;
+
     /// The header at the front of a file, and all the bytes after it: its records.
     ///
     /// # Errors
@@ -109,9 +134,9 @@ impl FileHeader {
         ensures only { (other : FileReading) → ReadsFileHeader file.now other →
             other ≡ found_and_rest result }
     {
-        if file.len() < 24 {
+        if file.len() < FileHeader::LEN {
             return Err(CaptureError::CutOff(CutOff {
-                required_len: 24,
+                required_len: FileHeader::LEN,
                 len: file.len(),
             }));
         }
@@ -131,7 +156,22 @@ impl FileHeader {
             snap_len: order.u32_of(&file[16..20]),
             link_type: order.u32_of(&file[20..24]),
         };
-        Ok((header, &file[24..]))
+        Ok((header, &file[FileHeader::LEN..]))
+    }
+
+    /// The head at the front of a record.
+    pub fn record_head(&self, slice: &[u8]) -> RecordHead
+        requires enough { 16 ≤ length slice.now }
+        ensures value { result ≡ record_head self.now slice.now }
+    {
+        let order = self.format.order;
+        let fraction = order.u32_of(&slice[4..8]);
+        RecordHead {
+            seconds: order.u32_of(&slice[..4]),
+            nanoseconds: self.format.resolution.nanoseconds(fraction),
+            captured_len: order.u32_of(&slice[8..12]),
+            original_len: order.u32_of(&slice[12..16]),
+        }
     }
 }
 
@@ -185,14 +225,14 @@ pub fn next_record<'a>(
     if slice.is_empty() {
         return Ok(None);
     }
-    if slice.len() < 16 {
+    if slice.len() < RecordHead::LEN {
         return Err(CutOff {
-            required_len: 16,
+            required_len: RecordHead::LEN,
             len: slice.len(),
         });
     }
-    let order = header.format.order;
-    let end = 16 + order.u32_of(&slice[8..12]) as usize;
+    let head = header.record_head(slice);
+    let end = RecordHead::LEN + head.captured_len as usize;
     if slice.len() < end {
         return Err(CutOff {
             required_len: end,
@@ -200,13 +240,10 @@ pub fn next_record<'a>(
         });
     }
     let record = Record {
-        seconds: order.u32_of(&slice[..4]),
-        nanoseconds: header
-            .format
-            .resolution
-            .nanoseconds(order.u32_of(&slice[4..8])),
-        original_len: order.u32_of(&slice[12..16]),
-        bytes: &slice[16..end],
+        seconds: head.seconds,
+        nanoseconds: head.nanoseconds,
+        original_len: head.original_len,
+        bytes: &slice[RecordHead::LEN..end],
     };
     Ok(Some((record, &slice[end..])))
 }

@@ -20,5 +20,5 @@ pub as_skipped : {E : Type 0} (s rest after : List ℕ) (header : FragmentHeader
 as_skipped s rest after header number next is_fragment b skipped =
     let enough : 8 ≤ length s = omega (arith, ap length b.whole, length-append {A = ℕ}, b.layout.len) in
     let named : slice_index s 0 ≡ header.next_header = rw b.whole (get_or-append b.front rest 0 0 (omega (arith, b.layout.len))) ∙ b.layout.next_header in
-    let behind : drop (required_len_of number s) s ≡ rest = rw (is_fragment, required_len_of-44 s enough, b.whole, sym b.layout.len) (drop-append_seam b.front rest) in
-    IfOk-at_ok (λ x. (x.0 ≡ header.next_header) × (x.1 ≡ rest)) (sym skipped) (named, behind)
+    let after_it : drop (required_len_of number s) s ≡ rest = rw (is_fragment, required_len_of-44 s enough, b.whole, sym b.layout.len) (drop-append_seam b.front rest) in
+    IfOk-at_ok (λ x. (x.0 ≡ header.next_header) × (x.1 ≡ rest)) (sym skipped) (named, after_it)

@@ -1,4 +1,7 @@
+pub mod ExtensionEnds
 mod FragmentHeaders
 pub mod IpPackets
+pub mod IpParts
+pub mod IpRefusals
 mod PseudoHeader
 mod UdpLayout

@@ -165,6 +165,16 @@ abbrev pub destination_of : IpSlice → List ℕ
 destination_of (slice.Ipv4 header payload) = header.destination
 destination_of (slice.Ipv6 header extensions fragment is_later upper payload) = header.destination
 
+-- the parts of a packet, apart from where they lie in memory
+pub data IpParts : Type 0 where
+  Ipv4Parts : Ipv4Header → List ℕ → IpParts
+  Ipv6Parts : Ipv6Header → List ℕ → Option FragmentHeader → Bool → ℕ → List ℕ → IpParts
+
+abbrev pub ip_parts : IpSlice → IpParts
+ip_parts (slice.Ipv4 header payload) = Ipv4Parts header payload.now
+ip_parts (slice.Ipv6 header extensions fragment is_later upper payload) =
+    Ipv6Parts header extensions.now fragment is_later upper payload.now
+
 -- the number of the payload of a slice
 abbrev pub upper_of : IpSlice → ℕ
 upper_of (slice.Ipv4 header payload) = header.protocol

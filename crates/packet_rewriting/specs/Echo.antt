@@ -10,7 +10,7 @@ pub record IsEchoRequest (request_type : ℕ) (message : List ℕ) : Type 0 wher
   pub code : slice_index message 1 ≡ 0
 
 -- The reply to a request, with this checksum: its type; code 0; the checksum in two bytes; and all
--- that was after that of the request: the identifier, the sequence number and the data. The low
+-- that came after that of the request: the identifier, the sequence number and the data. The low
 -- byte of the checksum comes first, as that of each word in the sum (RFC 1071 section 2 (B)).
 abbrev pub echo_reply : ℕ → ℕ → List ℕ → List ℕ
 echo_reply reply_type checksum request =

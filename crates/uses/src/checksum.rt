@@ -33,7 +33,7 @@ pub fn udp_checksum(pseudo_header: &[u8], header: &[u8], payload: &[u8]) -> u16
     u64_16bit_word::ones_complement_with_no_zero(sum)
 }
 
-/// Whether the checksum of an IPv4 header is correct as it was received, counting the reserved bit.
+/// Whether the checksum of an IPv4 header is right as it was received, counting the reserved bit.
 pub fn is_ipv4_checksum_right(view: &Ipv4HeaderSlice) -> bool
     ensures right { IsTrue result ↔ SumsToAllOnes view.now.slice.now }
 {

@@ -36,7 +36,7 @@ pub fn ipv4_next_hop(packet: &[u8]) -> Result<Option<ArrayVec<u8, 60>>, ipv4::He
 
 /// An IPv4 packet with one hop less to go: the bytes of its header, written again with the checksum
 /// updated, and what follows it; `None` if it may go no further. What is written has the reserved
-/// bit 0, so the checksum is correct exactly when it was for the header with that bit cleared.
+/// bit 0, so the checksum is right exactly when it was for the header with that bit cleared.
 pub fn ipv4_forwarded(
     packet: &[u8],
 ) -> Result<Option<(ArrayVec<u8, 60>, &[u8])>, ipv4::HeaderSliceError>
@@ -55,7 +55,7 @@ pub fn ipv4_forwarded(
 }
 
 /// Takes one hop from an IPv4 packet in place, in bytes 8, 10 and 11 alone; `false` if it may go no
-/// further. The reserved bit stays, so the checksum is correct exactly when it was before. A packet
+/// further. The reserved bit stays, so the checksum is right exactly when it was before. A packet
 /// that goes no further is unchanged.
 pub fn ipv4_forward_in_place(packet: &mut [u8]) -> Result<bool, ipv4::HeaderSliceError>
     ensures next { IfOk result (λ goes_on.
@@ -79,7 +79,7 @@ pub fn ipv4_forward_in_place(packet: &mut [u8]) -> Result<bool, ipv4::HeaderSlic
 }
 
 /// Gives an IPv4 packet another code point in place, in bytes 1, 10 and 11 alone, as a router does
-/// at the edge of a network (RFC 2474 section 6). The reserved bit stays, so the checksum is correct
+/// at the edge of a network (RFC 2474 section 6). The reserved bit stays, so the checksum is right
 /// exactly when it was before.
 pub fn ipv4_mark_in_place(packet: &mut [u8], dscp: IpDscp) -> Result<(), ipv4::HeaderSliceError>
     ensures marked { OnOk result (IsMarkedInPlace dscp packet.old packet.new) }

@@ -9,7 +9,7 @@ ghost use Rattle.uses.specs.Payload.{HasIpv4Payload};
 use arrayvec::ArrayVec;
 use etherparse::Ipv4Header;
 
-/// The bytes of a header with these options, a total length for this payload and a correct
+/// The bytes of a header with these options, a total length for this payload and a right
 /// checksum; `None` if options cannot have that many bytes, or if the payload does not fit after
 /// them. Whoever reads a packet of these bytes and the payload, and cuts it at its total length,
 /// gets this payload, whatever follows it, such as the padding of a frame.

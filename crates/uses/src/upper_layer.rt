@@ -42,7 +42,7 @@ pub fn upper_layer_on_ethernet(
     }
 }
 
-/// The walk past all extension headers of a slice, from behind those that were skipped before:
+/// The walk past all extension headers of a slice, after those that were skipped before:
 /// their rest, and its number.
 pub fn walked_on<'a>(
     slice: &[u8],
@@ -50,7 +50,7 @@ pub fn walked_on<'a>(
     rest: &'a [u8],
     number: IpNumber,
 ) -> Result<(IpNumber, &'a [u8]), LenError>
-    requires behind { FollowsChain slice.now first number rest.now }
+    requires after { FollowsChain slice.now first number rest.now }
     requires within { length rest.now ≤ length slice.now }
     ensures walk { IsWalkOf slice.now first (found_and_rest result) }
 {

@@ -63,7 +63,7 @@ pub struct Ipv4Header {
     pub time_to_live: u8,
     /// The protocol of what follows the header.
     pub protocol: IpNumber,
-    /// The checksum over the header, correct or not: bytes 10 and 11, the high byte first. What
+    /// The checksum over the header, right or wrong: bytes 10 and 11, the high byte first. What
     /// [`ones_complement`](crate::checksum::u64_16bit_word::ones_complement) returns has the low
     /// byte first; its `swap_bytes` is the number for this field.
     pub header_checksum: u16,
@@ -113,7 +113,7 @@ impl Ipv4Header {
     const MAX_PAYLOAD_LEN: u16 = u16::MAX - Ipv4Header::MIN_LEN_U16;
 
     /// A header without options for a payload of this length in bytes. All else is as in the
-    /// default, so the checksum is 0: [`Ipv4Header::calc_header_checksum`] gives the correct one.
+    /// default, so the checksum is 0: [`Ipv4Header::calc_header_checksum`] gives the right one.
     ///
     /// # Errors
     ///
@@ -374,7 +374,7 @@ impl Ipv4Header {
         ensures read_alone { IsIpv4ReadingOf result.items (Ok (self.now, [])) }
         ensures viewed_alone { ViewsIpv4 result.items (Ok result.items) }
 
-        // A receiver finds the checksum correct if it is the computed one, in either form of zero.
+        // A receiver finds the checksum right if it is the computed one, in either form of zero.
         ensures sums_to_all_ones { SumsToAllOnes result.items
             ↔ ((self.now.header_checksum ≡ header_checksum_of result.items)
             ⊎ ((self.now.header_checksum ≡ 65535) × (header_checksum_of result.items ≡ 0))) }

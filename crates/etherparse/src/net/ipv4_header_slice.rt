@@ -206,7 +206,7 @@ impl<'a> Ipv4HeaderSlice<'a> {
         IpNumber(self.slice[9])
     }
 
-    /// The stored checksum, correct or not: bytes 10 and 11.
+    /// The stored checksum, right or wrong: bytes 10 and 11.
     #[inline]
     pub fn header_checksum(&self) -> u16
         ensures value { OfIpv4Header self.now.slice.now (λ header.

@@ -47,7 +47,7 @@ impl Sum16BitWords {
     /// Adds the words of a slice. An odd last byte is paired with a zero byte after it (RFC 1071
     /// section 1).
     ///
-    /// The result has the correct complement; nothing else about it is promised.
+    /// The result has the right complement; nothing else about it is promised.
     #[inline]
     pub fn add_slice(self, slice: &[u8]) -> Sum16BitWords
         ensures adds { AddsSlice self slice.now result }

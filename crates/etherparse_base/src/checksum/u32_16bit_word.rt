@@ -39,7 +39,7 @@ pub fn add_4bytes(start: u32, value: [u8; 4]) -> u32
 /// Adds the words of a slice. An odd last byte is paired with a zero byte after it (RFC 1071
 /// section 1).
 ///
-/// The result has the correct complement; nothing else about it is promised.
+/// The result has the right complement; nothing else about it is promised.
 #[inline(always)]
 #[tactic(auto, using(crate::proofs::WordSumLaws::adds_slice))]
 pub fn add_slice(start_sum: u32, slice: &[u8]) -> u32

@@ -52,7 +52,7 @@ pub fn add_8bytes(start: u64, value: [u8; 8]) -> u64
 /// Adds the words of a slice. An odd last byte is paired with a zero byte after it (RFC 1071
 /// section 1).
 ///
-/// The result has the correct complement; nothing else about it is promised.
+/// The result has the right complement; nothing else about it is promised.
 #[inline(always)]
 #[tactic(auto, using(crate::proofs::WordSumLaws::adds_slice))]
 pub fn add_slice(start_sum: u64, slice: &[u8]) -> u64

@@ -16,7 +16,7 @@ use super::u32_16bit_word::ones_complement;
 /// was read from its bytes with the high byte first.
 ///
 /// The checksum that is computed of the old words becomes the one that would be computed anew,
-/// unless all words are 0 now: it is then 0, and 0xffff if computed anew. An incorrect one is not
+/// unless all words are 0 now: it is then 0, and 0xffff if computed anew. A wrong one is not
 /// repaired.
 ///
 /// The Rust crate has no such call.

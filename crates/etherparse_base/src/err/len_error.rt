@@ -57,7 +57,7 @@ impl LenError {
     /// # Example
     ///
     /// ```
-    /// // A UDP header of 8 bytes behind an IPv4 header of 20, of which 5 bytes are there.
+    /// // A UDP header of 8 bytes after an IPv4 header of 20, of which 5 bytes are there.
     /// let error = LenError {
     ///     required_len: 8,
     ///     len: 5,
@@ -65,7 +65,7 @@ impl LenError {
     ///     layer: Layer::UdpHeader,
     ///     layer_start_offset: 20,
     /// };
-    /// // The IPv4 header itself stands behind 14 bytes of Ethernet.
+    /// // The IPv4 header itself stands after 14 bytes of Ethernet.
     /// assert!(rt; error.add_offset(14).layer_start_offset == 34);
     /// ```
     #[inline]

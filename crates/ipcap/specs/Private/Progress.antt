@@ -1,44 +1,110 @@
 -- How much of a capture has been listed.
-use Rattle.std.specs.Prelude.{ℕ, ◌≡◌, Bool, List, [], length, Option, Some, None, Err, IfSome}
-use Rattle.std.specs.Prelude.{if◌then◌else◌}
-use Rattle.std.specs.Io.KnownBytes.{Appends, Consumes}
+use Rattle.std.specs.Prelude.{ℕ, ◌≡◌, ◌<◌, List, [], ◌++◌, Option, Some, None, Err, length}
+use Rattle.std.specs.Io.KnownBytes.{IsAtEnd}
 use Rattle.packet_capture.specs.Capture.{ReadsRecord}
 use Rattle.packet_capture.specs.declared.capture.CutOff as cut
 use Rattle.packet_capture.specs.declared.capture.FileHeader.{FileHeader}
-use Rattle.ipcap.specs.Listing.{Lists}
+use Rattle.ipcap.specs.Listing.{Lists, unless_quiet}
+use Rattle.ipcap.specs.Streams.{CannotRead, Prints, Reads, Takes, unread}
+use Rattle.ipcap.specs.Totals.{IsFull}
+use Rattle.ipcap.specs.declared.failure.Failure.{Failure}
+use Rattle.ipcap.specs.declared.failure.Failure.TheVariants as failure
+use Rattle.ipcap.specs.declared.input.Input.{Input}
+use Rattle.ipcap.specs.declared.listing.Listing.{Listing}
 use Rattle.ipcap.specs.declared.listing.Turn.{Turn}
 use Rattle.ipcap.specs.declared.listing.Turn.TheVariants as turn
+use Rattle.ipcap.specs.declared.output.Output.{Output}
 use Rattle.ipcap.specs.declared.totals.Totals.{Totals}
-
--- a quiet run writes no lines
-abbrev pub unless_quiet : Bool → List ℕ → List ℕ
-unless_quiet is_quiet text = if is_quiet then [] else text
-
--- these are records that have lines, and the lines are written
-pub record IsTold (header : FileHeader) (is_quiet : Bool) (before last : Totals)
-    (end : Option cut.CutOff) (old new : Option (List ℕ)) (records : List ℕ) : Type 0 where
-  pub text : List ℕ
-  pub lists : Lists header before records text last end
-  pub written : Appends old new (unless_quiet is_quiet text)
-
--- what a turn makes of the input: all of it is told, if all that is left of it is told afterwards;
--- or all of it is told, and that is the end
-abbrev pub Told : FileHeader → Bool → Totals → Totals → Turn → Option (List ℕ) → Option (List ℕ)
-    → Option (List ℕ) → Option (List ℕ) → Type 0
-Told header is_quiet before after turn.GoesOn input rest old new =
-    (last : Totals) (end : Option cut.CutOff) (final : Option (List ℕ))
-    → IfSome rest (IsTold header is_quiet after last end new final)
-    → IfSome input (IsTold header is_quiet before last end old final)
-Told header is_quiet before after (turn.Ends end) input rest old new =
-    IfSome input (IsTold header is_quiet before after end old new)
 
 -- why no whole record is at the front of the data: it is empty, or begins with an incomplete one
 abbrev pub Stops : FileHeader → List ℕ → Option cut.CutOff → Type 0
 Stops header rest None = rest ≡ []
 Stops header rest (Some e) = ReadsRecord header rest (Err e)
 
--- this many bytes were taken from the input
-pub record Skips (len : ℕ) (input rest : Option (List ℕ)) : Type 0 where
-  pub bytes : List ℕ
-  pub many : length bytes ≡ len
-  pub taken : Consumes input rest bytes
+-- why no more is told: nothing is left of what was read, and a read failed; or a write did; or a
+-- count is full
+abbrev pub Because : Type 0 → Type 0 → Failure → Totals → List ℕ → Type 0
+Because read_failed write_failed failure.Read last rest = (rest ≡ []) × read_failed
+Because read_failed write_failed failure.Write last rest = write_failed
+Because read_failed write_failed failure.Count last rest = IsFull last
+
+-- this many bytes were taken
+pub record Skips {R : Type 0} (remaining : R → Option (List ℕ)) (old new : Input R) (len : ℕ)
+    : Type 0 where
+  pub taken : List ℕ
+  pub takes : Takes remaining old new taken
+  pub many : length taken ≡ len
+  pub more : old.count < new.count
+
+-- there were fewer bytes, all of which were read
+pub record Lacks {R : Type 0} (remaining : R → Option (List ℕ)) (old new : Input R) (len n : ℕ)
+    : Type 0 where
+  pub got : List ℕ
+  pub reads : Reads remaining old new got
+  pub many : length got ≡ n
+  pub few : n < len
+
+module _ {W : Type 0} (contents : W → Option (List ℕ)) (listing : Listing) where
+  -- these are records that have lines, and the lines are printed
+  pub record IsTold (before last : Totals) (end : Option cut.CutOff) (old new : Output W)
+      (records : List ℕ) : Type 0 where
+    pub text : List ℕ
+    pub lists : Lists listing.header before records text last end
+    pub prints : Prints contents old new (unless_quiet listing.is_quiet text)
+
+  -- this data is told: with whatever is told after it, it is the records of all
+  abbrev pub Tells : Totals → Totals → List ℕ → Output W → Output W → Type 0
+  Tells before after taken old new =
+      (last : Totals) (end : Option cut.CutOff) (final : Output W) (more : List ℕ)
+      → IsTold after last end new final more → IsTold before last end old final (taken ++ more)
+
+  -- a line that is such a one is printed, but not in a quiet run
+  pub record HasLine (IsLine : List ℕ → Type 0) (old new : Output W) : Type 0 where
+    pub line : List ℕ
+    pub is_line : IsLine line
+    pub prints : Prints contents old new (unless_quiet listing.is_quiet line)
+
+  -- a front of the data is told
+  pub record TellsFront (before : Totals) (because : Totals → List ℕ → Type 0) (bytes : List ℕ)
+      (old new : Output W) : Type 0 where
+    pub front : List ℕ
+    pub rest : List ℕ
+    pub whole : bytes ≡ front ++ rest
+    pub last : Totals
+    pub end : Option cut.CutOff
+    pub told : IsTold before last end old new front
+    pub cause : because last rest
+
+module _ {R W : Type 0} (remaining : R → Option (List ℕ)) (contents : W → Option (List ℕ))
+    (listing : Listing) where
+  -- the records that were taken are told, and more was read
+  pub record GoesOn (before after : Totals) (old new : Input R) (old_output new_output : Output W)
+      : Type 0 where
+    pub taken : List ℕ
+    pub takes : Takes remaining old new taken
+    pub tells : Tells contents listing before after taken old_output new_output
+    pub more : old.count < new.count
+
+  -- all records are told
+  pub record Ends (before last : Totals) (end : Option cut.CutOff) (old new : Input R)
+      (old_output new_output : Output W) : Type 0 where
+    pub got : List ℕ
+    pub reads : Reads remaining old new got
+    pub at_end : IsAtEnd (remaining new.source)
+    pub told : IsTold contents listing before last end old_output new_output (unread old ++ got)
+
+  -- what a turn does
+  abbrev pub Turns : Totals → Totals → Turn → Input R → Input R → Output W → Output W → Type 0
+  Turns before after turn.GoesOn old new old_output new_output =
+      GoesOn before after old new old_output new_output
+  Turns before after (turn.Ends end) old new old_output new_output =
+      Ends before after end old new old_output new_output
+
+  -- a front of what was read is told, and then a call failed
+  pub record Breaks (read_failed : R → Type 0) (write_failed : W → Type 0) (before : Totals)
+      (e : Failure) (old new : Input R) (old_output new_output : Output W) : Type 0 where
+    pub got : List ℕ
+    pub reads : Reads remaining old new got
+    pub tells : TellsFront contents listing before
+        (Because (CannotRead read_failed new) (write_failed new_output.sink) e)
+        (unread old ++ got) old_output new_output

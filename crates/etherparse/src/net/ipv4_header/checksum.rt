@@ -20,7 +20,7 @@ impl Ipv4Header {
     /// The checksum that the header should have: the complement of the ones-complement sum of its
     /// words in network byte order, with 0 for the checksum, whatever `header_checksum` is (RFC 791
     /// section 3.1, RFC 1071 section 1). It is never 0xffff. The reserved bit counts as 0, so a
-    /// packet that has it set looks incorrect: sum the bytes of the view to check what was
+    /// packet that has it set looks wrong: sum the bytes of the view to check what was
     /// received.
     #[inline(always)]
     pub fn calc_header_checksum(&self) -> u16
@@ -39,7 +39,7 @@ impl Ipv4Header {
 
     /// Stores the checksum that the header should have, [`Ipv4Header::calc_header_checksum`]. The
     /// bytes that [`Ipv4Header::to_bytes`] then writes sum to all ones, by which a receiver finds
-    /// the checksum correct. Call it last: a field that is assigned later leaves it as it was.
+    /// the checksum right. Call it last: a field that is assigned later leaves it as it was.
     ///
     /// The Rust crate has no such call.
     ///
@@ -63,8 +63,8 @@ impl Ipv4Header {
     }
 
     /// Sets the differentiated services code point, and updates the stored checksum for the first
-    /// word, with [`update_2bytes`] (RFC 1624 section 3, equation 3). A correct checksum stays
-    /// correct; an incorrect one is not repaired.
+    /// word, with [`update_2bytes`] (RFC 1624 section 3, equation 3). A right checksum stays
+    /// right; a wrong one is not repaired.
     ///
     /// The Rust crate has no such call.
     ///
@@ -94,8 +94,8 @@ impl Ipv4Header {
     }
 
     /// Sets the explicit congestion notification, and updates the stored checksum for the first
-    /// word, with [`update_2bytes`] (RFC 1624 section 3, equation 3). A correct checksum stays
-    /// correct; an incorrect one is not repaired.
+    /// word, with [`update_2bytes`] (RFC 1624 section 3, equation 3). A right checksum stays
+    /// right; a wrong one is not repaired.
     ///
     /// The Rust crate has no such call.
     ///
@@ -137,8 +137,8 @@ impl Ipv4Header {
     }
 
     /// Sets the time to live, and updates the stored checksum for the word of the time to live and
-    /// the protocol, with [`update_2bytes`] (RFC 1624 section 3, equation 3). A correct checksum
-    /// stays correct; an incorrect one is not repaired.
+    /// the protocol, with [`update_2bytes`] (RFC 1624 section 3, equation 3). A right checksum
+    /// stays right; a wrong one is not repaired.
     ///
     /// The Rust crate has no such call.
     ///
@@ -216,7 +216,7 @@ impl Ipv4Header {
     }
 
     /// Sets the source address, and updates the stored checksum for it, with [`update_4bytes`]. A
-    /// correct checksum stays correct; an incorrect one is not repaired.
+    /// right checksum stays right; a wrong one is not repaired.
     ///
     /// The Rust crate has no such call.
     ///
@@ -245,7 +245,7 @@ impl Ipv4Header {
     }
 
     /// Sets the destination address, and updates the stored checksum for it, with
-    /// [`update_4bytes`]. A correct checksum stays correct; an incorrect one is not repaired.
+    /// [`update_4bytes`]. A right checksum stays right; a wrong one is not repaired.
     ///
     /// The Rust crate has no such call.
     ///

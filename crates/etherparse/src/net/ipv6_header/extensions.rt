@@ -38,7 +38,7 @@ impl Ipv6Header {
     ghost use Rattle.etherparse_base.specs.LenError.{len_error_moved};
     ghost use Rattle.etherparse_fields.specs.ExtensionHeaders.{IsSkippable};
     ghost use Rattle.etherparse.specs.ExtensionHeaderChain.{Ends, FollowsChain};
-    ghost use Rattle.etherparse.specs.ExtensionHeaderChain.{IsOnlyWalkOf, IsWalkBehindChains};
+    ghost use Rattle.etherparse.specs.ExtensionHeaderChain.{IsOnlyWalkOf, IsWalkAfterChains};
     ghost use Rattle.etherparse.specs.ExtensionHeaderChain.{IsWalkOf, incomplete_header_error};
     ghost use Rattle.etherparse.specs.ExtensionHeaderChain.{required_len_of};
     ghost use Rattle.etherparse.specs.Reading.{found_and_rest};
@@ -148,7 +148,7 @@ impl Ipv6Header {
         next_header: IpNumber,
     ) -> Result<(IpNumber, &[u8]), LenError>
         ensures walks { IsOnlyWalkOf slice.now next_header (found_and_rest result) }
-        ensures follows { IsWalkBehindChains slice.now next_header (found_and_rest result) }
+        ensures follows { IsWalkAfterChains slice.now next_header (found_and_rest result) }
     {
         Ipv6Header::skip_all_header_extensions_counted(slice, next_header).0
     }
@@ -177,7 +177,7 @@ impl Ipv6Header {
         next_header: IpNumber,
     ) -> (Result<(IpNumber, &[u8]), LenError>, usize)
         ensures walks { IsOnlyWalkOf slice.now next_header (found_and_rest result.0) }
-        ensures follows { IsWalkBehindChains slice.now next_header (found_and_rest result.0) }
+        ensures follows { IsWalkAfterChains slice.now next_header (found_and_rest result.0) }
         ensures turns { (headers : List (List ℕ)) →
             Ends slice.now next_header headers (found_and_rest result.0) →
             result.1 ≡ length headers + 1 }

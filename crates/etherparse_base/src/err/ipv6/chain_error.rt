@@ -32,7 +32,7 @@ impl ChainError {
     /// # Example
     ///
     /// ```
-    /// // One header too many, 8 bytes behind the IPv6 header, and its place in the packet.
+    /// // One header too many, 8 bytes after the IPv6 header, and its place in the packet.
     /// let error = ChainError::TooMany {
     ///     limit: 1,
     ///     next_header: 60,

@@ -22,10 +22,10 @@ front_of text piece start n le stop =
     ]
     )
 
--- a piece behind what is written of a text, as far as there is room
-put_behind : (text piece before now new : List ℕ) (room len start end : ℕ) → len ≡ length text → start ≡ min len room → end ≡ min (len + length piece) room → room ≤ length before
+-- a piece after what is written of a text, as far as there is room
+put_after : (text piece before now new : List ℕ) (room len start end : ℕ) → len ≡ length text → start ≡ min len room → end ≡ min (len + length piece) room → room ≤ length before
     → new ≡ take (end - start) piece → now ≡ take start text ++ drop start before → put_mid start (end - start) now new ≡ take end (text ++ piece) ++ drop end before
-put_behind text piece before now new room len start end l s e fits is w =
+put_after text piece before now new room len start end l s e fits is w =
     let long = length-take-le start text (omega arith) in
     let written = take_at (take start text) (drop start before) start long in
     let kept = drop_at (take start text) (drop start before) start long in
@@ -63,7 +63,7 @@ loop-piece-preserved c =
     let end : c.min-end.result ≡ min (l.len + length (get_or c.args.pieces.now l.piece-index (record { ref_ptr = (0, 0); now = [] })).now) c.saturating_sub-room.result = omega (arith, c.min-end.ensures) in
     rw (next, ← end) (
       omega (arith, l.invariant.0, length-append {A = ℕ}),
-      put_behind _ _ c.args.text.now l.text _ c.saturating_sub-room.result l.len c.min-start.result c.min-end.result l.invariant.0 start end (omega (arith, c.saturating_sub-room.ensures))
+      put_after _ _ c.args.text.now l.text _ c.saturating_sub-room.result l.len c.min-start.result c.min-end.result l.invariant.0 start end (omega (arith, c.saturating_sub-room.ensures))
           (c.copy.ensures.copied ∙ ap (λ b. take (c.min-end.result - c.min-start.result) b) c.as_bytes.ensures.value) (rw (← start) at l.invariant.1),
     )
 

@@ -4,9 +4,9 @@ use Rattle.etherparse_c.specs.declared.answer.Error.{Error}
 use Rattle.etherparse_c.proofs.text.put_len_in.Goals as goal
 
 -- nine pieces, and two after them, of which the first may be five
-behind : (a b c d e f g h i place dot : List ℕ) → a ++ (b ++ (c ++ (d ++ (e ++ (f ++ (g ++ (h ++ (i ++ (place ++ dot)))))))))
+in_pieces : (a b c d e f g h i place dot : List ℕ) → a ++ (b ++ (c ++ (d ++ (e ++ (f ++ (g ++ (h ++ (i ++ (place ++ dot)))))))))
     ≡ (a ++ (b ++ (c ++ (d ++ (e ++ (f ++ (g ++ (h ++ (i ++ []))))))))) ++ place ++ dot
-behind a b c d e f g h i place dot = simp append_assoc refl
+in_pieces a b c d e f g h i place dot = simp append_assoc refl
 
 five : (a b c d e dot : List ℕ) → a ++ (b ++ (c ++ (d ++ (e ++ dot)))) ≡ (a ++ b ++ c ++ d ++ e) ++ dot
 five a b c d e dot = simp append_assoc refl
@@ -17,7 +17,7 @@ returns-then-error-eq0 c = record {
       let e = c.args.error.now in
       let text = rw (c.digits.ensures.text, c.digits-then-error-eq0.ensures.text) at c.put.ensures.gives in
       rw (← ap (λ (n : Error). n.required_len) is, ← ap (λ (n : Error). n.len) is, ← ap (λ (n : Error). n.layer_start_offset) is, c.if-error-eq0.true, lt-ltb _ _ c.requires.below, ← title, ← layer, ← source) (subst (λ x. GivesText x c.args.text.now c.put.new.text c.put.result)
-      (behind c.args.title.now (codes ": Not enough data to decode '") c.args.layer.now (codes "'. ") (decimal e.required_len) (codes " byte(s) would be required, but only ") (decimal e.len)
+      (in_pieces c.args.title.now (codes ": Not enough data to decode '") c.args.layer.now (codes "'. ") (decimal e.required_len) (codes " byte(s) would be required, but only ") (decimal e.len)
       (codes " byte(s) are available based on the ") c.args.source.now [] (codes ".")) text);
 }
 
@@ -29,6 +29,6 @@ returns c = record {
       let place = five (codes " ('") c.args.layer.now (codes "' starts at overall parsed byte ") (decimal e.layer_start_offset) (codes ")") (codes ".") in
       let text = rw (c.digits-2.ensures.text, c.digits-3.ensures.text, c.digits-4.ensures.text) at c.put-2.ensures.gives in
       rw (← ap (λ (n : Error). n.required_len) is, ← ap (λ (n : Error). n.len) is, ← ap (λ (n : Error). n.layer_start_offset) is, lt-ltb 0 e.layer_start_offset some, lt-ltb _ _ c.requires.below, ← title, ← layer, ← source) (subst (λ x. GivesText x c.args.text.now c.put-2.new.text c.put-2.result)
-      (behind c.args.title.now (codes ": Not enough data to decode '") c.args.layer.now (codes "'. ") (decimal e.required_len) (codes " byte(s) would be required, but only ") (decimal e.len)
+      (in_pieces c.args.title.now (codes ": Not enough data to decode '") c.args.layer.now (codes "'. ") (decimal e.required_len) (codes " byte(s) would be required, but only ") (decimal e.len)
       (codes " byte(s) are available based on the ") c.args.source.now _ (codes ".")) (rw place at text));
 }

@@ -1,13 +1,15 @@
-use Rattle.std.proofs.Common.{◌-◌, ◌≤◌}
-use Rattle.std.specs.Io.KnownBytes.{prepend_known}
-use Rattle.ipcap.specs.Private.Progress.{Skips}
-use Rattle.ipcap.specs.Private.Window.{unread}
+use Rattle.std.proofs.Common.{◌≡◌, ◌-◌, ◌<◌, ◌≤◌, ◌^◌, List, ℕ, length}
+use Rattle.ipcap.specs.Streams.{Takes}
 use Rattle.ipcap.proofs.listing.skip.Given as goal
 
 abbrev pub invariant-turns : goal.invariant-turns
-invariant-turns g l =
-    let remaining = g.R.Read.remaining in
-    record {
-      within : l.left ≤ l.len;
-      passed : Skips (l.len - l.left) (prepend_known (unread l.fn.window) (remaining l.fn.reader)) (prepend_known (unread l.window) (remaining l.reader));
-    }
+invariant-turns g l = record {
+  within : l.left ≤ l.len;
+  some : 0 < l.left;
+  taken : List ℕ;
+  takes : Takes g.R.Source.remaining l.fn.input l.input taken;
+  many : length taken ≡ l.len - l.left;
+}
+
+abbrev pub decreases-turns : goal.decreases-turns
+decreases-turns g l = 2 ^ 64 - l.input.count

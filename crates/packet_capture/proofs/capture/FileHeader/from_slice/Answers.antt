@@ -12,7 +12,7 @@ pub returns-then-major-ne2 : goal.returns-then-major-ne2
 returns-then-major-ne2 c =
     let magic : c.from_be_bytes-magic.result ≡ magic_of c.args.file.now = grind (arith, common_steps) in
     let reads : HasOtherVersion c.args.file.now _ _ = record {
-      enough = c.if-file-lt24.false;
+      enough = c.if-file-lt-LEN.false;
       format = c.in-Some.format;
       magic = sym (rw magic at c.in-Some.ensures.value);
       major = c.u16_of-major.ensures.value;
@@ -25,7 +25,7 @@ pub returns : goal.returns
 returns c =
     let magic : c.from_be_bytes-magic.result ≡ magic_of c.args.file.now = grind (arith, common_steps) in
     let reads : BeginsWithFileHeader c.args.file.now _ _ = record {
-      enough = c.if-file-lt24.false;
+      enough = c.if-file-lt-LEN.false;
       magic = sym (rw magic at c.in-Some.ensures.value);
       major = sym c.u16_of-major.ensures.value ∙ c.if-major-ne2.false;
       minor = sym c.u16_of-minor.ensures.value ∙ c.if-minor-ne4.false;

@@ -1,0 +1,13 @@
+use Rattle.std.proofs.Common.{◌≡◌, ◌-◌, []}
+use Rattle.arrayvec.specs.ArrayVec.{array_vec_len}
+use Rattle.ipcap.specs.Streams.{Prints}
+use Rattle.ipcap.proofs.output.Output.hand_over.Given as goal
+
+abbrev pub invariant-writes : goal.invariant-writes
+invariant-writes g l = record {
+  kept : Prints g.W.Sink.contents l.fn.self l.self [];
+  line : l.self.line ≡ l.fn.self.line;
+}
+
+abbrev pub decreases-writes : goal.decreases-writes
+decreases-writes g l = array_vec_len l.self.text - l.self.passed

@@ -1,0 +1,126 @@
+//! What a run reads from and writes to, and whether one of their calls has failed.
+
+ghost use Rattle.std.specs.Prelude.{◌≡◌, ◌<◌, ◌⊎◌, ℕ, List, [], IfOk, IfSome, Option, OnErr, OnOk};
+ghost use Rattle.std.specs.Prelude.{false, length, true};
+ghost use Rattle.std.specs.Io.{ReadsAtMost, WritesAtMost};
+ghost use Rattle.std.specs.Io.KnownBytes.{Keeps, ReadConsumes, WriteAppends};
+
+use arrayvec::ArrayVec;
+use std::fmt::Display;
+use std::io;
+use std::io::{ErrorKind, Read, Write};
+
+/// The most bytes in a line.
+pub const LINE_ROOM: usize = 1024;
+
+/// A line.
+pub type Line = ArrayVec<u8, LINE_ROOM>;
+
+/// What a run reads from.
+///
+/// A run is proved for every source, so whatever `has_failed` is, a run knows it from a call that
+/// has returned an error, and from nothing else. The same holds of a sink.
+pub trait Source {
+    // The bytes that reads will give from here on, where they are known.
+    ghost remaining: { Self → Option (List ℕ) };
+
+    // A read has failed.
+    ghost has_failed: { Self → Type 0 };
+
+    /// Reads once, as `Read::read` does.
+    fn read(&mut self, buf: &mut [u8]) -> io::Result<usize>
+        ensures bound { ReadsAtMost result buf.new }
+        ensures bytes { ReadConsumes (remaining self.old) (remaining self.new) result buf.new }
+        ensures failed { OnErr result (has_failed self.new) };
+}
+
+/// What a run writes to.
+pub trait Sink {
+    // The bytes that the sink holds, where they are known.
+    ghost contents: { Self → Option (List ℕ) };
+
+    // A write has failed, or `write!` could not write a line to an empty `Line`.
+    ghost has_failed: { Self → Type 0 };
+
+    /// Writes once, as `Write::write` does, but takes at least one byte if there are any.
+    fn write(&mut self, bytes: &[u8]) -> io::Result<usize>
+        ensures bound { WritesAtMost result bytes.now }
+        ensures bytes { WriteAppends (contents self.old) (contents self.new) result bytes.now }
+        ensures some { IfOk result (λ n. 0 < length bytes.now → 0 < n) }
+        ensures failed { OnErr result (has_failed self.new) };
+
+    /// Writes a text to an empty line, as `write!` does. What the sink holds stays as it is.
+    fn format<D: Display + Drop>(&mut self, text: D, line: &mut Line) -> io::Result<()>
+        requires empty { line.old.items ≡ [] }
+        ensures text { OnOk result (IfSome (D.output text) (λ bytes. line.new.items ≡ bytes)) }
+        ensures kept { Keeps (contents self.old) (contents self.new) }
+        ensures failed { OnErr result (has_failed self.new) };
+}
+
+/// A reader or a writer, and whether one of its calls has failed.
+#[derive(Drop)]
+pub struct Watched<T> {
+    inner: T,
+    has_failed: bool,
+}
+
+impl<T> Watched<T> {
+    /// None of its calls has failed.
+    pub fn new(inner: T) -> Watched<T>
+        ensures value { result ≡ record { inner = inner; has_failed = false } }
+    {
+        Watched {
+            inner,
+            has_failed: false,
+        }
+    }
+}
+
+impl<R: Read> Source for Watched<R> {
+    ghost remaining = { λ watched. R.remaining watched.inner };
+
+    ghost has_failed = { λ watched. watched.has_failed ≡ true };
+
+    fn read(&mut self, buf: &mut [u8]) -> io::Result<usize> {
+        match self.inner.read(buf) {
+            Ok(n) => Ok(n),
+            Err(e) => {
+                self.has_failed = true;
+                Err(e)
+            }
+        }
+    }
+}
+
+impl<W: Write> Sink for Watched<W> {
+    ghost contents = { λ watched. W.contents watched.inner };
+
+    ghost has_failed = { λ watched. watched.has_failed ≡ true };
+
+    // A write that a signal interrupts is tried again, as in `write_all`.
+    fn write(&mut self, bytes: &[u8]) -> io::Result<usize> {
+        'tries: for _ in 0..u64::MAX {
+            match self.inner.write(bytes) {
+                Ok(0) if !bytes.is_empty() => break,
+                Err(e) if e.kind() == ErrorKind::Interrupted => {}
+                Ok(n) => return Ok(n),
+                Err(e) => {
+                    self.has_failed = true;
+                    return Err(e);
+                }
+            }
+        }
+        self.has_failed = true;
+        Err(io::Error::from(ErrorKind::WriteZero))
+    }
+
+    fn format<D: Display + Drop>(&mut self, text: D, line: &mut Line) -> io::Result<()> {
+        match line.write_fmt(text) {
+            Ok(()) => Ok(()),
+            Err(e) => {
+                self.has_failed = true;
+                Err(e)
+            }
+        }
+    }
+}

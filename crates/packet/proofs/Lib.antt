@@ -1,0 +1,3 @@
+mod Frames
+mod Places
+mod Transports

@@ -1,0 +1,81 @@
+-- A transport header is read in one way.
+use Rattle.std.proofs.Common.{ℕ, ◌≡◌, ◌+◌, List, MatchOption, Option, Some, None, Ok, Err, Result, ap, ◌∙◌, arith, refl, rules, sym, subst, option_map}
+use Rattle.std.proofs.lemmas.Grind.{common_steps}
+use Rattle.std.specs.Result.{result_ok}
+use Rattle.etherparse.proofs.Fronts.{TellsHeaders, fixed_tells, read_once}
+use Rattle.etherparse.specs.Reading.{IsTooShort}
+use Rattle.etherparse.specs.declared.err.Layer.{Layer}
+use Rattle.etherparse.specs.declared.err.Layer.TheVariants as layer
+use Rattle.packet_parts.specs.Tcp.{ViewsTcp}
+use Rattle.packet_parts.specs.Udp.{IsUdpLayout}
+use Rattle.packet_parts.specs.IpSlice.{fragment_of, ip_parts, payload_of}
+use Rattle.packet_parts.specs.declared.ip_slice.IpSlice.{IpSlice}
+use Rattle.packet_parts.specs.declared.ip_slice.IpSlice.TheVariants.{Ipv4, Ipv6}
+use Rattle.packet_parts.specs.declared.tcp.TcpError.{TcpError}
+use Rattle.packet.specs.Network.{ip_header_len}
+use Rattle.packet.specs.Transport.{Icmpv4Parts, Icmpv6Parts, IsIcmpLayout, ReadsHeader, ReadsPayload, ReadsTransport, TransportReading, icmp_reading, missing_in, protocol_of, tcp_reading, transport_parts, udp_reading}
+use Rattle.packet.specs.declared.error.SliceError.{SliceError}
+use Rattle.packet.specs.declared.transport.Protocol.{Protocol}
+use Rattle.packet.specs.declared.transport.Protocol.TheVariants.{Icmpv4, Icmpv6, Tcp, Udp}
+use Rattle.packet.specs.declared.transport.TransportSlice.{TransportSlice}
+
+tells_udp : TellsHeaders IsUdpLayout (IsTooShort layer.UdpHeader 8)
+tells_udp = fixed_tells IsUdpLayout layer.UdpHeader 8 (λ g h p k l. search rules) (λ h p l. l.len)
+
+tells_icmp : (of : Layer) → TellsHeaders IsIcmpLayout (IsTooShort of 4)
+tells_icmp of = fixed_tells IsIcmpLayout of 4 (λ g h p k l. search rules) (λ h p l. l.len)
+
+tcp_once : (s : List ℕ) (a b : Result (List ℕ) TcpError) → ViewsTcp s a → ViewsTcp s b → a ≡ b
+tcp_once s a b p q = grind arith
+
+-- the header of a protocol is read in one way
+header_once : (read : Protocol) (place : ℕ) (s : List ℕ) (a b : TransportReading) → ReadsHeader read place s a → ReadsHeader read place s b → a ≡ b
+header_once Udp place s a b p q =
+    p.becomes ∙ ap (udp_reading place) (read_once IsUdpLayout (IsTooShort layer.UdpHeader 8) tells_udp s p.inside q.inside p.allowed q.allowed) ∙ sym q.becomes
+header_once Tcp place s a b p q = p.becomes ∙ ap (tcp_reading place s) (tcp_once s p.inside q.inside p.allowed q.allowed) ∙ sym q.becomes
+header_once Icmpv4 place s a b p q =
+    p.becomes ∙ ap (icmp_reading Icmpv4Parts place) (read_once IsIcmpLayout (IsTooShort layer.Icmpv4 4) (tells_icmp layer.Icmpv4) s p.inside q.inside p.allowed q.allowed) ∙ sym q.becomes
+header_once Icmpv6 place s a b p q =
+    p.becomes ∙ ap (icmp_reading Icmpv6Parts place) (read_once IsIcmpLayout (IsTooShort layer.Icmpv6 4) (tells_icmp layer.Icmpv6) s p.inside q.inside p.allowed q.allowed) ∙ sym q.becomes
+
+-- packets with one list of parts have what a transport header depends on in common
+record SameFront (a b : IpSlice) : Type 0 where
+  protocol : protocol_of a ≡ protocol_of b
+  payload : payload_of a ≡ payload_of b
+  fragment : fragment_of a ≡ fragment_of b
+  len : ip_header_len a ≡ ip_header_len b
+
+same_front : (a b : IpSlice) → ip_parts a ≡ ip_parts b → SameFront a b
+same_front (Ipv4 g x) (Ipv4 h y) e = let same : g ≡ h = cc in let rest : x.now ≡ y.now = cc in record { protocol = cc; payload = rest; fragment = cc; len = cc }
+same_front (Ipv6 g x d l n r) (Ipv6 h y e k m t) f =
+    let front : x.now ≡ y.now = cc in
+    let decided : d ≡ e = cc in
+    let later : l ≡ k = cc in
+    let number : n ≡ m = cc in
+    let rest : r.now ≡ t.now = cc in
+    record { protocol = cc; payload = rest; fragment = cc; len = cc }
+same_front (Ipv4 g x) (Ipv6 h y e k m t) f = cc
+same_front (Ipv6 g x d l n r) (Ipv4 h y) f = cc
+
+-- the header of a payload is read in one way
+payload_once : (read : Protocol) (place : ℕ) (a b : IpSlice) (t u : Option TransportSlice) (m n : Option SliceError) → SameFront a b
+    → ReadsPayload read place a t m → ReadsPayload read place b u n → (option_map transport_parts t ≡ option_map transport_parts u) × (m ≡ n)
+payload_once read place a b t u m n same p q =
+    let reading = header_once read place (payload_of b) p.reading q.reading (subst (λ s. ReadsHeader read place s p.reading) same.payload p.reads) q.reads in
+    (p.finds ∙ ap result_ok reading ∙ sym q.finds, p.misses ∙ ap (λ f. missing_in f p.reading) same.fragment ∙ ap (missing_in (fragment_of b)) reading ∙ sym q.misses)
+
+at_protocol : (o r : Option Protocol) (place : ℕ) (a b : IpSlice) (t u : Option TransportSlice) (m n : Option SliceError) → SameFront a b → o ≡ r
+    → MatchOption o ((t ≡ None) × (m ≡ None)) (λ read. ReadsPayload read place a t m) → MatchOption r ((u ≡ None) × (n ≡ None)) (λ read. ReadsPayload read place b u n)
+    → (option_map transport_parts t ≡ option_map transport_parts u) × (m ≡ n)
+at_protocol None None place a b t u m n same e p q = (ap (option_map transport_parts) (p.0 ∙ sym q.0), p.1 ∙ sym q.1)
+at_protocol (Some x) (Some y) place a b t u m n same e p q =
+    let is : x ≡ y = cc in payload_once y place a b t u m n same (subst (λ z. ReadsPayload z place a t m) is p) q
+at_protocol None (Some y) place a b t u m n same e p q = cc
+at_protocol (Some x) None place a b t u m n same e p q = cc
+
+pub transport_once : (place : ℕ) (a b : IpSlice) (t u : Option TransportSlice) (m n : Option SliceError) → ip_parts a ≡ ip_parts b
+    → ReadsTransport (place + ip_header_len a) a t m → ReadsTransport (place + ip_header_len b) b u n
+    → (option_map transport_parts t ≡ option_map transport_parts u) × (m ≡ n)
+transport_once place a b t u m n e p q =
+    let same = same_front a b e in
+    at_protocol (protocol_of a) (protocol_of b) (place + ip_header_len b) a b t u m n same same.protocol (subst (λ k. ReadsTransport (place + k) a t m) same.len p) q

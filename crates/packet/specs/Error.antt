@@ -1,0 +1,36 @@
+-- The errors of a header that stands further on in a frame.
+use Rattle.std.specs.Prelude.{ℕ}
+use Rattle.etherparse.specs.Ipv4Errors.{ipv4_error_moved, ipv4_error_place}
+use Rattle.etherparse.specs.Ipv6Errors.{ipv6_error_moved, ipv6_error_place}
+use Rattle.etherparse.specs.LenError.{len_error_moved}
+use Rattle.packet_parts.specs.declared.ip_slice.IpSliceError.{IpSliceError}
+use Rattle.packet_parts.specs.declared.ip_slice.IpSliceError.TheVariants as ip
+use Rattle.packet_parts.specs.declared.tcp.TcpError.{TcpError}
+use Rattle.packet_parts.specs.declared.tcp.TcpError.TheVariants as tcp
+
+-- where an error says that its layer starts, if it has a place
+abbrev pub ip_error_place : IpSliceError → ℕ
+ip_error_place ip.Empty = 0
+ip_error_place (ip.UnexpectedVersion version) = 0
+ip_error_place (ip.Ipv4Header e) = ipv4_error_place e
+ip_error_place (ip.Ipv6Header e) = ipv6_error_place e
+ip_error_place (ip.Packet e) = e.layer_start_offset
+ip_error_place (ip.Extensions e) = e.layer_start_offset
+
+-- the error of a packet that starts this many bytes further on
+abbrev pub ip_error_moved : ℕ → IpSliceError → IpSliceError
+ip_error_moved offset ip.Empty = ip.Empty
+ip_error_moved offset (ip.UnexpectedVersion version) = ip.UnexpectedVersion version
+ip_error_moved offset (ip.Ipv4Header e) = ip.Ipv4Header (ipv4_error_moved offset e)
+ip_error_moved offset (ip.Ipv6Header e) = ip.Ipv6Header (ipv6_error_moved offset e)
+ip_error_moved offset (ip.Packet e) = ip.Packet (len_error_moved offset e)
+ip_error_moved offset (ip.Extensions e) = ip.Extensions (len_error_moved offset e)
+
+-- the same of a TCP header
+abbrev pub tcp_error_place : TcpError → ℕ
+tcp_error_place (tcp.Len e) = e.layer_start_offset
+tcp_error_place (tcp.DataOffset offset) = 0
+
+abbrev pub tcp_error_moved : ℕ → TcpError → TcpError
+tcp_error_moved offset (tcp.Len e) = tcp.Len (len_error_moved offset e)
+tcp_error_moved offset (tcp.DataOffset data_offset) = tcp.DataOffset data_offset

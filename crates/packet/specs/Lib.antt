@@ -1,0 +1,7 @@
+pub mod Bytes
+pub mod Error
+pub mod Link
+pub mod Network
+pub mod SlicedPacket
+pub mod Transport
+pub mod Vlan

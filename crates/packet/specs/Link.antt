@@ -1,0 +1,85 @@
+-- The link header of a frame (IEEE 802.3 section 3.1.1; the registry of link types of tcpdump.org).
+use Rattle.std.specs.Prelude.{ℕ, ◌≡◌, ◌==◌, ◌||◌, ◌<◌, Bool, List, ◌++◌, length, min}
+use Rattle.std.specs.Prelude.{Option, Some, None, if◌then◌else◌, option_map}
+use Rattle.std.specs.Int.{from_be_bytes, from_le_bytes, w32}
+use Rattle.packet.specs.Bytes.{number_at}
+use Rattle.packet.specs.declared.link.LinkError.{LinkError}
+use Rattle.packet.specs.declared.link.LinkSlice.{LinkSlice}
+use Rattle.packet.specs.declared.link.LinkSlice.TheVariants as header
+use Rattle.packet.specs.declared.link.LinkType.{LinkType}
+use Rattle.packet.specs.declared.link.LinkType.TheVariants.{Ethernet2, Ip, LinuxSll, LinuxSll2, Loop}
+use Rattle.packet.specs.declared.link.LinkType.TheVariants.{Null}
+
+-- The link types by their numbers. The number of LINKTYPE_RAW is 101; some systems write 12 or 14.
+abbrev pub link_type_of : ℕ → Option LinkType
+link_type_of number =
+    if number == 0 then Some Null
+    else if number == 1 then Some Ethernet2
+    else if number == 12 || number == 14 || number == 101 || number == 228 || number == 229
+    then Some Ip
+    else if number == 108 then Some Loop
+    else if number == 113 then Some LinuxSll
+    else if number == 276 then Some LinuxSll2
+    else None
+
+-- the length of the link header of a type, in bytes
+abbrev pub link_len : LinkType → ℕ
+link_len Null = 4
+link_len Ethernet2 = 14
+link_len Ip = 0
+link_len Loop = 4
+link_len LinuxSll = 16
+link_len LinuxSll2 = 20
+
+-- The family in the header of a loopback interface. LINKTYPE_LOOP has it in network byte order.
+-- LINKTYPE_NULL has it in the order of the machine that captured it, which may differ from the
+-- file's: it is read in the order that gives the smaller number, since all families are small.
+abbrev pub family_of : LinkType → List ℕ → ℕ
+family_of Loop bytes = from_be_bytes w32 bytes
+family_of _ bytes = min (from_be_bytes w32 bytes) (from_le_bytes w32 bytes)
+
+-- a link header, apart from where it lies in memory
+pub data LinkParts : Type 0 where
+  Ethernet2Parts : List ℕ → LinkParts
+  LinuxSllParts : List ℕ → LinkParts
+  LinuxSll2Parts : List ℕ → LinkParts
+  LoopbackParts : ℕ → LinkParts
+
+abbrev pub link_parts : LinkSlice → LinkParts
+link_parts (header.Ethernet2 view) = Ethernet2Parts view.slice.now
+link_parts (header.LinuxSll view) = LinuxSllParts view.slice.now
+link_parts (header.LinuxSll2 view) = LinuxSll2Parts view.slice.now
+link_parts (header.Loopback family) = LoopbackParts family
+
+-- the header that its bytes make; before an IP packet without a link header is none
+abbrev pub link_in : LinkType → List ℕ → Option LinkParts
+link_in Null bytes = Some (LoopbackParts (family_of Null bytes))
+link_in Ethernet2 bytes = Some (Ethernet2Parts bytes)
+link_in Ip bytes = None
+link_in Loop bytes = Some (LoopbackParts (family_of Loop bytes))
+link_in LinuxSll bytes = Some (LinuxSllParts bytes)
+link_in LinuxSll2 bytes = Some (LinuxSll2Parts bytes)
+
+-- the EtherType of what follows a header: Ethernet has it at the end, a Linux cooked capture too,
+-- and one of version 2 at the front; a loopback interface has a family in its place
+abbrev pub ether_type_in : LinkType → List ℕ → Option ℕ
+ether_type_in Null bytes = None
+ether_type_in Ethernet2 bytes = Some (number_at 12 bytes)
+ether_type_in Ip bytes = None
+ether_type_in Loop bytes = None
+ether_type_in LinuxSll bytes = Some (number_at 14 bytes)
+ether_type_in LinuxSll2 bytes = Some (number_at 0 bytes)
+
+-- the frame is this link header, and what follows it
+pub record BeginsWithLink (link_type : LinkType) (frame : List ℕ) (link : Option LinkSlice)
+    (ether_type : Option ℕ) (rest : List ℕ) : Type 0 where
+  pub front : List ℕ
+  pub whole : frame ≡ front ++ rest
+  pub len : length front ≡ link_len link_type
+  pub header : option_map link_parts link ≡ link_in link_type front
+  pub next : ether_type ≡ ether_type_in link_type front
+
+-- the frame is shorter than its link header
+pub record LacksLink (link_type : LinkType) (frame : List ℕ) (e : LinkError) : Type 0 where
+  pub short : length frame < link_len link_type
+  pub error : e ≡ record { required_len = link_len link_type; len = length frame }

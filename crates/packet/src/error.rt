@@ -1,0 +1,58 @@
+//! Why a frame is not read to the transport header.
+
+ghost use Rattle.std.specs.Prelude.{◌≡◌, ◌+◌, ◌^◌, ◌<◌};
+ghost use Rattle.packet.specs.Error.{ip_error_moved, ip_error_place, tcp_error_moved};
+ghost use Rattle.packet.specs.Error.{tcp_error_place};
+
+use crate::link::LinkError;
+use etherparse::err::LenError;
+use packet_parts::ip_slice::IpSliceError;
+use packet_parts::tcp::TcpError;
+
+/// Why a frame is not read to the transport header. Each `layer_start_offset` counts from the start
+/// of the frame.
+#[derive(Clone, Debug, PartialEq, Eq, Drop)]
+pub enum SliceError {
+    /// The frame ends within its link header.
+    Link(LinkError),
+    /// The frame ends within the first or the second VLAN tag. `len` is the number of bytes after
+    /// the tag's EtherType, of which 4 are required.
+    Vlan(LenError),
+    /// The IP packet is refused.
+    Ip(IpSliceError),
+    /// The payload is a UDP datagram of fewer than 8 bytes, and no fragment.
+    Udp(LenError),
+    /// The payload is a TCP segment that does not begin with a whole header, and no fragment.
+    Tcp(TcpError),
+    /// The payload is a message of ICMP or ICMPv6 of fewer than 4 bytes, and no fragment. The layer
+    /// says which.
+    Icmp(LenError),
+}
+
+// The error of a packet that starts this many bytes further on.
+pub(crate) fn ip_error_moved(offset: usize, e: IpSliceError) -> IpSliceError
+    requires fits { ip_error_place e + offset < 2 ^ 64 }
+    ensures value { result ≡ ip_error_moved offset e }
+{
+    match e {
+        IpSliceError::Ipv4Header(e) => IpSliceError::Ipv4Header(e.add_slice_offset(offset)),
+        IpSliceError::Ipv6Header(e) => IpSliceError::Ipv6Header(e.add_slice_offset(offset)),
+        IpSliceError::Packet(e) => IpSliceError::Packet(e.add_offset(offset)),
+        IpSliceError::Extensions(e) => IpSliceError::Extensions(e.add_offset(offset)),
+        IpSliceError::Empty => IpSliceError::Empty,
+        IpSliceError::UnexpectedVersion { version_number } => IpSliceError::UnexpectedVersion {
+            version_number,
+        },
+    }
+}
+
+// The error of a TCP header that starts this many bytes further on.
+pub(crate) fn tcp_error_moved(offset: usize, e: TcpError) -> TcpError
+    requires fits { tcp_error_place e + offset < 2 ^ 64 }
+    ensures value { result ≡ tcp_error_moved offset e }
+{
+    match e {
+        TcpError::Len(e) => TcpError::Len(e.add_offset(offset)),
+        TcpError::DataOffset(data_offset) => TcpError::DataOffset(data_offset),
+    }
+}

@@ -1,0 +1,48 @@
+//! EtherTypes (IEEE 802.3 section 3.2.6).
+
+ghost use Rattle.std.specs.Prelude.{ℕ, ◌≡◌, ◌+◌, ◌≤◌, length};
+ghost use Rattle.packet.specs.Bytes.{number_at};
+
+use std::marker::Model;
+
+/// What the bytes after a header are. Up to 1500 it is none: in Ethernet a length (IEEE 802.3
+/// section 3.2.6), in a Linux cooked capture a number of Linux's own.
+#[derive(Clone, Copy, Debug, PartialEq, Eq, PartialOrd, Ord, Hash)]
+pub struct EtherType(pub u16);
+
+/// A contract sees the number itself.
+impl Model for EtherType {
+    ghost Value = { ℕ };
+
+    ghost view = { λ ether_type. ether_type.0 };
+
+    ghost inverse = { λ number. record { 0 = number } };
+}
+
+impl EtherType {
+    /// Internet Protocol version 4 (RFC 894).
+    pub const IPV4: EtherType = EtherType(0x0800);
+
+    /// Address Resolution Protocol (RFC 826).
+    pub const ARP: EtherType = EtherType(0x0806);
+
+    /// The tag of a customer's VLAN (IEEE 802.1Q section 9.5, C-TAG).
+    pub const VLAN_TAGGED_FRAME: EtherType = EtherType(0x8100);
+
+    /// Internet Protocol version 6 (RFC 2464 section 3).
+    pub const IPV6: EtherType = EtherType(0x86dd);
+
+    /// The tag of a service's VLAN (IEEE 802.1Q section 9.5, S-TAG).
+    pub const PROVIDER_BRIDGING: EtherType = EtherType(0x88a8);
+
+    /// The outer of two tags before the one of a service existed.
+    pub const VLAN_DOUBLE_TAGGED_FRAME: EtherType = EtherType(0x9100);
+}
+
+// Two bytes at a place as a number, the high byte first.
+pub(crate) fn u16_at(bytes: &[u8], place: usize) -> u16
+    requires within { place + 2 ≤ length bytes.now }
+    ensures value { result ≡ number_at place bytes.now }
+{
+    u16::from_be_bytes([bytes[place], bytes[place + 1]])
+}

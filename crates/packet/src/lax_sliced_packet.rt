@@ -1,0 +1,165 @@
+//! A packet as far as it can be read.
+
+ghost use Rattle.std.specs.Prelude.{◌≡◌, ◌≤◌, ◌<◌, ◌^◌, length, option_map};
+ghost use Rattle.packet.specs.Link.{link_parts};
+ghost use Rattle.packet.specs.SlicedPacket.{HasLayers, carries_ip};
+
+use crate::error::SliceError;
+use crate::ether_type::EtherType;
+use crate::link::{LinkError, LinkSlice, LinkType, link_header};
+use crate::network::{Network, network_at};
+use crate::sliced_packet::SlicedPacket;
+use crate::vlan::{Tagged, after_tags};
+
+/// The layers of a frame, as far as they can be read: of one that a capture cut, of one that is
+/// damaged, or of a packet whose sender left its length to the network card.
+#[derive(Clone, Debug, PartialEq, Eq, Drop)]
+pub struct LaxSlicedPacket<'a> {
+    /// The layers. If the frame ends within a VLAN tag, `ether_type` is that of the tag, and
+    /// `payload` what there is of it. If it ends within the IP packet, `net` has the parts as
+    /// [`packet_parts::ip_slice::LaxIpSlice`] has them, and the transport header is there if it is
+    /// whole.
+    pub packet: SlicedPacket<'a>,
+    /// Why [`SlicedPacket`] refuses the frame; `None` if it does not.
+    pub stop: Option<SliceError>,
+}
+
+impl<'a> LaxSlicedPacket<'a> {
+    ghost use Rattle.std.specs.Prelude.{None, Some};
+    ghost use Rattle.packet.specs.Link.{link_parts};
+    ghost use Rattle.packet.specs.SlicedPacket.{IsLaxReadingAfter, IsLaxReadingOf};
+
+    /// The layers of an Ethernet frame (IEEE 802.3 section 3.1.1).
+    ///
+    /// # Errors
+    ///
+    /// A `LinkError` if the frame has fewer than 14 bytes.
+    pub fn from_ethernet(frame: &'a [u8]) -> Result<LaxSlicedPacket<'a>, LinkError>
+        ensures reads { IsLaxReadingOf LinkType.Ethernet2 frame.now result }
+    {
+        LaxSlicedPacket::from_link_type(LinkType::Ethernet2, frame)
+    }
+
+    /// The layers of a Linux cooked capture (LINKTYPE_LINUX_SLL).
+    ///
+    /// # Errors
+    ///
+    /// A `LinkError` if the frame has fewer than 16 bytes.
+    pub fn from_linux_sll(frame: &'a [u8]) -> Result<LaxSlicedPacket<'a>, LinkError>
+        ensures reads { IsLaxReadingOf LinkType.LinuxSll frame.now result }
+    {
+        LaxSlicedPacket::from_link_type(LinkType::LinuxSll, frame)
+    }
+
+    /// The layers of a Linux cooked capture of version 2 (LINKTYPE_LINUX_SLL2).
+    ///
+    /// # Errors
+    ///
+    /// A `LinkError` if the frame has fewer than 20 bytes.
+    pub fn from_linux_sll2(frame: &'a [u8]) -> Result<LaxSlicedPacket<'a>, LinkError>
+        ensures reads { IsLaxReadingOf LinkType.LinuxSll2 frame.now result }
+    {
+        LaxSlicedPacket::from_link_type(LinkType::LinuxSll2, frame)
+    }
+
+    /// The layers of a frame of a loopback interface whose family is in the byte order of the
+    /// machine that captured it (LINKTYPE_NULL). For LINKTYPE_LOOP there is
+    /// [`LaxSlicedPacket::from_link_type`].
+    ///
+    /// # Errors
+    ///
+    /// A `LinkError` if the frame has fewer than 4 bytes.
+    pub fn from_loopback(frame: &'a [u8]) -> Result<LaxSlicedPacket<'a>, LinkError>
+        ensures reads { IsLaxReadingOf LinkType.Null frame.now result }
+    {
+        LaxSlicedPacket::from_link_type(LinkType::Null, frame)
+    }
+
+    /// The layers of a frame of a link type.
+    ///
+    /// # Errors
+    ///
+    /// A `LinkError` if the frame ends within its link header.
+    pub fn from_link_type(
+        link_type: LinkType,
+        frame: &'a [u8],
+    ) -> Result<LaxSlicedPacket<'a>, LinkError>
+        ensures reads { IsLaxReadingOf link_type frame.now result }
+    {
+        match link_header(link_type, frame) {
+            Ok((link, ether_type, bytes)) => Ok(layers(frame.len(), link, ether_type, bytes)),
+            Err(e) => Err(e),
+        }
+    }
+
+    /// The layers of bytes that an EtherType names: a VLAN tag and what it tags, an IP packet, or
+    /// another protocol.
+    pub fn from_ether_type(ether_type: EtherType, bytes: &'a [u8]) -> LaxSlicedPacket<'a>
+        ensures reads { IsLaxReadingAfter (Some ether_type) bytes.now result }
+    {
+        layers(bytes.len(), None, Some(ether_type), bytes)
+    }
+
+    /// The layers of an IP packet of either version.
+    pub fn from_ip(packet: &'a [u8]) -> LaxSlicedPacket<'a>
+        ensures reads { IsLaxReadingAfter None packet.now result }
+    {
+        layers(packet.len(), None, None, packet)
+    }
+}
+
+// The layers after the link header of a frame of this length, as far as they can be read.
+fn layers<'a>(
+    frame_len: usize,
+    link: Option<LinkSlice<'a>>,
+    first: Option<EtherType>,
+    bytes: &'a [u8],
+) -> LaxSlicedPacket<'a>
+    requires fits { frame_len < 2 ^ 63 }
+    requires within { length bytes.now ≤ frame_len }
+    ensures link { result.packet.link ≡ link.entry }
+    ensures layers { HasLayers frame_len first bytes.now result.packet result.stop }
+{
+    let Tagged {
+        vlan,
+        ether_type,
+        bytes: payload,
+        stop,
+    } = after_tags(frame_len, first, bytes);
+    let network = match stop {
+        Some(e) => Network {
+            net: None,
+            transport: None,
+            stop: Some(SliceError::Vlan(e)),
+        },
+        None if carries_ip(&link, &ether_type) => network_at(frame_len - payload.len(), payload),
+        None => Network {
+            net: None,
+            transport: None,
+            stop: None,
+        },
+    };
+    LaxSlicedPacket {
+        packet: SlicedPacket {
+            link,
+            vlan,
+            ether_type,
+            payload,
+            net: network.net,
+            transport: network.transport,
+        },
+        stop: network.stop,
+    }
+}
+
+// Whether an IP packet follows.
+pub(crate) fn carries_ip(link: &Option<LinkSlice>, ether_type: &Option<EtherType>) -> bool
+    ensures value { result ≡ carries_ip (option_map link_parts link.now) ether_type.now }
+{
+    match (link, ether_type) {
+        (_, Some(ether_type)) => matches!(ether_type.0, 0x0800 | 0x86dd),
+        (Some(LinkSlice::Loopback { family }), None) => matches!(family, 2 | 24 | 28 | 30),
+        (None, None) => true,
+        (Some(_), None) => false,
+    }
+}

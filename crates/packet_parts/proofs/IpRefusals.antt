@@ -1,0 +1,221 @@
+-- A packet has one reason to be refused, and one with parts or a whole one has none.
+use Rattle.std.proofs.Common.{ℕ, false, IsTrue, ◌≡◌, ◌≢◌, ◌==◌, ◌+◌, ◌<◌, ◌≤◌, ◌⊎◌, List, ◌++◌, length, take, refl, sym, ap, ◌∙◌, subst, arith, Option, None, Some, Ok, Err, Result, length-append, inl, inr, if◌then◌else◌}
+use Rattle.std.proofs.lemmas.Bool.Decides.{nat_tests}
+use Rattle.std.proofs.lemmas.Grind.{common_steps}
+use Rattle.etherparse.proofs.Fronts.{read_once}
+use Rattle.etherparse.proofs.Ipv4Reading.{tells_headers as tells_ipv4}
+use Rattle.etherparse.proofs.Ipv6Reading.{tells_headers as tells_ipv6}
+use Rattle.etherparse.specs.FirstByte.{version_of}
+use Rattle.etherparse.specs.Ipv4Header.{IsIpv4Layout, Ipv4Reading, ReadsIpv4, RefusesIpv4, ipv4_header_len, ipv4_payload_len}
+use Rattle.etherparse.specs.Ipv6Header.{IsIpv6Layout, Ipv6Reading, ReadsIpv6, RefusesIpv6}
+use Rattle.etherparse.specs.LenError.{len_error_moved}
+use Rattle.etherparse.specs.Reading.{BeginsWith, too_short_error}
+use Rattle.etherparse.specs.declared.err.Layer.TheVariants as layer
+use Rattle.etherparse.specs.declared.err.LenError.{LenError}
+use Rattle.etherparse.specs.declared.net.ipv4_header.Ipv4Header.{Ipv4Header as Header4}
+use Rattle.etherparse.specs.declared.net.ipv6_header.Ipv6Header.{Ipv6Header as Header6}
+use Rattle.etherparse.specs.ExtensionHeaders.{IsSkippable}
+use Rattle.packet_parts.proofs.ExtensionEnds.{one_end, same_beginning}
+use Rattle.packet_parts.proofs.IpParts.{ipv4_front, ipv6_front, is_version_4, is_version_6, longer, same_cut_beginning, same_parts}
+use Rattle.packet_parts.specs.Extensions.{EndsAs}
+use Rattle.packet_parts.specs.IpSlice.{EndsInExtensions, HasIpParts, HasLaxIpParts, HasNoIpParts, ip_parts, IsWhole, RefusesIp, ipv4_bytes, ipv6_bytes}
+use Rattle.packet_parts.specs.declared.ip_slice.IpSlice.{IpSlice}
+use Rattle.packet_parts.specs.declared.ip_slice.IpSlice.TheVariants as slice
+use Rattle.packet_parts.specs.declared.ip_slice.IpSliceError.{IpSliceError}
+use Rattle.packet_parts.specs.declared.ip_slice.IpSliceError.TheVariants.{Empty, Extensions, Ipv4Header, Ipv6Header, Packet, UnexpectedVersion}
+
+-- an extension header is incomplete in one way
+same_extensions : (s : List ℕ) (e f : LenError) → EndsInExtensions s e → EndsInExtensions s f → e ≡ f
+same_extensions s e f p q =
+    let same = same_cut_beginning IsIpv6Layout RefusesIpv6 tells_ipv6 ipv6_bytes ipv6_front s p.header q.header p.body q.body p.begins q.begins in
+    let ends : EndsAs false (Some p.inside) q.body q.header.next_header p.fragment p.number p.rest = subst (λ z. EndsAs false (Some p.inside) z q.header.next_header p.fragment p.number p.rest) same.1
+        (subst (λ k. EndsAs false (Some p.inside) p.body k.next_header p.fragment p.number p.rest) same.0 p.ends) in
+    let inside : p.inside ≡ q.inside = let end = (one_end q.body q.header.next_header false false (Some p.inside) (Some q.inside) p.fragment q.fragment p.number q.number p.rest q.rest ends q.ends).incomplete in cc in
+    p.moved ∙ ap (len_error_moved 40) inside ∙ sym q.moved
+
+-- the error that a total length makes: what it states itself, or else that there are fewer bytes
+abbrev stated : Result ℕ LenError → LenError → LenError
+stated (Ok n) e = e
+stated (Err f) e = f
+
+-- the reason of a packet of version 4, by its header or the reason why there is none, and its length
+abbrev error_4 : ℕ → Ipv4Reading → IpSliceError
+error_4 n (Err e) = Ipv4Header e
+error_4 n (Ok x) = Packet (stated (ipv4_payload_len x.0) (too_short_error layer.Ipv4Packet x.0.total_len n))
+
+abbrev Fails4 : ℕ → Ipv4Reading → Type 0
+Fails4 n (Err e) = Unit {0}
+Fails4 n (Ok x) = (x.0.total_len < ipv4_header_len x.0) ⊎ (n < x.0.total_len)
+
+record Reason4 (s : List ℕ) (e : IpSliceError) : Type 0 where
+  some : 0 < length s
+  version : version_of s ≡ 4
+  answer : Ipv4Reading
+  reads : ReadsIpv4 s answer
+  fails : Fails4 (length s) answer
+  is : e ≡ error_4 (length s) answer
+
+-- the same of version 6
+abbrev Is6 : List ℕ → IpSliceError → Ipv6Reading → Type 0
+Is6 s e (Err x) = e ≡ Ipv6Header x
+Is6 s e (Ok x) = ((length s < 40 + x.0.payload_length) × (e ≡ Packet (too_short_error layer.Ipv6Packet (40 + x.0.payload_length) (length s))))
+    ⊎ ((y : LenError) × (40 + x.0.payload_length ≤ length s) × EndsInExtensions s y × (e ≡ Extensions y))
+
+record Reason6 (s : List ℕ) (e : IpSliceError) : Type 0 where
+  some : 0 < length s
+  version : version_of s ≡ 6
+  answer : Ipv6Reading
+  reads : ReadsIpv6 s answer
+  is : Is6 s e answer
+
+-- the reason of a packet of no version
+record ReasonOther (s : List ℕ) (e : IpSliceError) : Type 0 where
+  other : 0 < length s → (version_of s ≢ 4) × (version_of s ≢ 6)
+  is : e ≡ (if length s == 0 then Empty else UnexpectedVersion (version_of s))
+
+payload_len_stated : (h : Header4) (e : LenError) → ipv4_payload_len h ≡ Err e → h.total_len < ipv4_header_len h
+payload_len_stated h e says = grind (arith, nat_tests)
+
+payload_len_fits : (h : Header4) (e : LenError) → ipv4_header_len h ≤ h.total_len → stated (ipv4_payload_len h) e ≡ e
+payload_len_fits h e fits = grind (arith, nat_tests)
+
+header_4_fits : (s : List ℕ) (h : Header4) (x : List ℕ) → BeginsWith IsIpv4Layout s h x → (ipv4_header_len h ≤ length s) × (0 < length s)
+header_4_fits s h x b = (omega (arith, ap length b.whole, length-append {A = ℕ}, b.layout.layout.len), omega (arith, ap length b.whole, length-append {A = ℕ}, b.layout.layout.len))
+
+reason : (s : List ℕ) (e : IpSliceError) → RefusesIp s e → ReasonOther s e ⊎ Reason4 s e ⊎ Reason6 s e
+reason s Empty r = inl (record { other = λ some. absurd (omega (arith, r, some)); is = rw r refl })
+reason s (UnexpectedVersion version) (some, is, not_4, not_6) = inl (record { other = λ _. (λ v. not_4 (is ∙ v), λ v. not_6 (is ∙ v)); is = grind (arith, nat_tests) })
+reason s (Ipv4Header e) (some, is, r) = inr (inl (record { some = some; version = is; answer = Err e; reads = r; fails = tt; is = refl }))
+reason s (Ipv6Header e) (some, is, r) = inr (inr (record { some = some; version = is; answer = Err e; reads = r; is = refl }))
+reason s (Packet e) (inl r) = inr (inl (record {
+  some = (header_4_fits s r.header r.rest r.begins).1;
+  version = is_version_4 s r.header r.rest r.begins;
+  answer = Ok (r.header, r.rest);
+  reads = r.begins;
+  fails = inl (payload_len_stated r.header e r.says);
+  is = ap Packet (ap (λ x. stated x (too_short_error layer.Ipv4Packet r.header.total_len (length s))) (sym r.says));
+}))
+reason s (Packet e) (inr (inl r)) =
+    let fits = header_4_fits s r.header r.rest r.begins in
+    inr (inl (record {
+      some = fits.1;
+      version = is_version_4 s r.header r.rest r.begins;
+      answer = Ok (r.header, r.rest);
+      reads = r.begins;
+      fails = inr r.short;
+      is = ap Packet (r.error ∙ sym (payload_len_fits r.header _ (omega (arith, fits.0, r.short))));
+    }))
+reason s (Packet e) (inr (inr r)) = inr (inr (record {
+  some = omega (arith, ap length r.begins.whole, length-append {A = ℕ}, r.begins.layout.len);
+  version = is_version_6 s r.header r.rest r.begins;
+  answer = Ok (r.header, r.rest);
+  reads = r.begins;
+  is = inl (r.short, ap Packet r.error);
+}))
+reason s (Extensions e) r =
+    let begins = longer IsIpv6Layout s _ _ r.header r.body (ipv6_front r.header s).1 r.begins in
+    inr (inr (record {
+      some = omega (arith, r.enough);
+      version = is_version_6 s r.header _ begins;
+      answer = Ok (r.header, _);
+      reads = begins;
+      is = inr (e, r.enough, r, refl);
+    }))
+
+same_6 : (s : List ℕ) (e f : IpSliceError) (a : Ipv6Reading) → Is6 s e a → Is6 s f a → e ≡ f
+same_6 s e f (Err x) p q = p ∙ sym q
+same_6 s e f (Ok x) (inl p) (inl q) = p.1 ∙ sym q.1
+same_6 s e f (Ok x) (inl p) (inr q) = absurd (omega (arith, p.0, q.1))
+same_6 s e f (Ok x) (inr p) (inl q) = absurd (omega (arith, q.0, p.1))
+same_6 s e f (Ok x) (inr p) (inr q) = p.3 ∙ ap Extensions (same_extensions s p.0 q.0 p.2 q.2) ∙ sym q.3
+
+same_reason : (s : List ℕ) (e f : IpSliceError) → ReasonOther s e ⊎ Reason4 s e ⊎ Reason6 s e → ReasonOther s f ⊎ Reason4 s f ⊎ Reason6 s f → e ≡ f
+same_reason s e f (inl p) (inl q) = p.is ∙ sym q.is
+same_reason s e f (inr (inl p)) (inr (inl q)) =
+    p.is ∙ ap (error_4 (length s)) (read_once IsIpv4Layout RefusesIpv4 tells_ipv4 s p.answer q.answer p.reads q.reads) ∙ sym q.is
+same_reason s e f (inr (inr p)) (inr (inr q)) =
+    same_6 s e f q.answer (subst (Is6 s e) (read_once IsIpv6Layout RefusesIpv6 tells_ipv6 s p.answer q.answer p.reads q.reads) p.is) q.is
+same_reason s e f (inl p) (inr (inl q)) = absurd ((p.other q.some).0 q.version)
+same_reason s e f (inl p) (inr (inr q)) = absurd ((p.other q.some).1 q.version)
+same_reason s e f (inr (inl p)) (inl q) = absurd ((q.other p.some).0 p.version)
+same_reason s e f (inr (inr p)) (inl q) = absurd ((q.other p.some).1 p.version)
+same_reason s e f (inr (inl p)) (inr (inr q)) = absurd (omega (arith, p.version, q.version))
+same_reason s e f (inr (inr p)) (inr (inl q)) = absurd (omega (arith, p.version, q.version))
+
+-- a packet is refused for one reason
+pub refused_once : (s : List ℕ) (e f : IpSliceError) → RefusesIp s e → RefusesIp s f → e ≡ f
+refused_once s e f p q = same_reason s e f (reason s e p) (reason s f q)
+
+-- what has no parts is refused
+pub no_parts_refused : (s : List ℕ) (e : IpSliceError) → HasNoIpParts s e → RefusesIp s e
+no_parts_refused s Empty p = p
+no_parts_refused s (UnexpectedVersion version) p = p
+no_parts_refused s (Ipv4Header e) p = p
+no_parts_refused s (Ipv6Header e) p = p
+no_parts_refused s (Packet e) p = inl p.states
+no_parts_refused s (Extensions e) p = absurd p
+
+-- a packet that begins with a header is refused for a reason that this header gives
+fails_4 : (s : List ℕ) (h : Header4) (x : List ℕ) (e : IpSliceError) → BeginsWith IsIpv4Layout s h x → RefusesIp s e → Fails4 (length s) (Ok (h, x))
+fails_4 s h x e b r = elim (reason s e r) [
+  inl o ↦ absurd ((o.other (header_4_fits s h x b).1).0 (is_version_4 s h x b))
+  | inr (inl o) ↦ subst (Fails4 (length s)) (read_once IsIpv4Layout RefusesIpv4 tells_ipv4 s o.answer (Ok (h, x)) o.reads b) o.fails
+  | inr (inr o) ↦ absurd (omega (arith, is_version_4 s h x b, o.version))
+]
+
+fails_6 : (s : List ℕ) (h : Header6) (x : List ℕ) (e : IpSliceError) → BeginsWith IsIpv6Layout s h x → RefusesIp s e → Is6 s e (Ok (h, x))
+fails_6 s h x e b r = elim (reason s e r) [
+  inl o ↦ absurd ((o.other (omega (arith, ap length b.whole, length-append {A = ℕ}, b.layout.len))).1 (is_version_6 s h x b))
+  | inr (inl o) ↦ absurd (omega (arith, is_version_6 s h x b, o.version))
+  | inr (inr o) ↦ subst (Is6 s e) (read_once IsIpv6Layout RefusesIpv6 tells_ipv6 s o.answer (Ok (h, x)) o.reads b) o.is
+]
+
+-- a header is within the total length that it tells
+header_4_told : (s : List ℕ) (h : Header4) (x : List ℕ) → BeginsWith IsIpv4Layout (ipv4_bytes h s) h x → h.total_len ≢ 0 → ipv4_header_len h ≤ h.total_len
+header_4_told s h x p some =
+    let told : length (ipv4_bytes h s) ≤ h.total_len = grind (arith, common_steps, nat_tests) in
+    omega (arith, told, ap length p.whole, length-append {A = ℕ}, p.layout.layout.len)
+
+no_parts_4 : (s : List ℕ) (h : Header4) (x : List ℕ) (e : IpSliceError) → BeginsWith IsIpv4Layout s h x → (h.total_len ≢ 0 → ipv4_header_len h ≤ h.total_len) → HasNoIpParts s e → ⊥
+no_parts_4 s h x Empty b told r = omega (arith, (header_4_fits s h x b).1, r)
+no_parts_4 s h x (UnexpectedVersion version) b told r = r.2 (r.1 ∙ is_version_4 s h x b)
+no_parts_4 s h x (Ipv4Header e) b told r = tells_ipv4.not_refused s h x e b r.2
+no_parts_4 s h x (Ipv6Header e) b told r = omega (arith, is_version_4 s h x b, r.1)
+no_parts_4 s h x (Packet e) b told r =
+    let same = (same_beginning IsIpv4Layout RefusesIpv4 tells_ipv4 s r.states.header h r.states.rest x r.states.begins b).0 in
+    let fits = told (λ zero. r.some (ap (λ k. k.total_len) same ∙ zero)) in
+    omega (arith, fits, payload_len_stated h e (subst (λ k. ipv4_payload_len k ≡ Err e) same r.states.says))
+no_parts_4 s h x (Extensions e) b told r = r
+
+-- a whole packet is not refused
+pub whole_not_refused : (s : List ℕ) (a : IpSlice) (e : IpSliceError) → HasIpParts s a → IsWhole s a → RefusesIp s e → ⊥
+whole_not_refused s (slice.Ipv4 h x) e p whole r =
+    let told = header_4_told s h x.now p whole.0 in
+    elim (fails_4 s h _ e (longer IsIpv4Layout s _ _ h x.now (ipv4_front h s).1 p) r) [ inl less ↦ omega (arith, told, less) | inr short ↦ omega (arith, whole.1, short) ]
+whole_not_refused s (slice.Ipv6 h x d l n t) e p whole r = elim (fails_6 s h _ e (longer IsIpv6Layout s _ _ h p.body (ipv6_front h s).1 p.begins) r) [
+  inl short ↦ omega (arith, whole.0, short.0)
+  | inr (y, enough, q, is) ↦
+      let same = same_cut_beginning IsIpv6Layout RefusesIpv6 tells_ipv6 ipv6_bytes ipv6_front s h q.header p.body q.body p.begins q.begins in
+      let ends : EndsAs l p.incomplete q.body q.header.next_header d n t.now = subst (λ z. EndsAs l p.incomplete z q.header.next_header d n t.now) same.1
+          (subst (λ k. EndsAs l p.incomplete p.body k.next_header d n t.now) same.0 p.ends) in
+      let end = one_end q.body q.header.next_header l false p.incomplete (Some q.inside) d q.fragment n q.number t.now q.rest ends q.ends in
+      elim whole.1 [ inl later ↦ let no : IsTrue false = subst IsTrue end.later later in cc | inr other ↦ other (subst IsSkippable (sym end.number) q.ends.0.skippable) ]
+]
+
+-- a packet with parts has none of the reasons for which it would have none
+pub parts_not_refused : (s : List ℕ) (a : IpSlice) (e : IpSliceError) → HasIpParts s a → HasNoIpParts s e → ⊥
+parts_not_refused s (slice.Ipv4 h x) e p r = no_parts_4 s h _ e (longer IsIpv4Layout s _ _ h x.now (ipv4_front h s).1 p) (header_4_told s h x.now p) r
+parts_not_refused s (slice.Ipv6 h x d l n t) e p r =
+    let begins = longer IsIpv6Layout s _ _ h p.body (ipv6_front h s).1 p.begins in
+    elim (fails_6 s h _ e begins (no_parts_refused s e r)) [
+      inl short ↦ let q = subst (HasNoIpParts s) short.1 r in omega (arith, is_version_6 s h _ begins, is_version_4 s q.states.header _ q.states.begins)
+      | inr later ↦ subst (HasNoIpParts s) later.3 r
+    ]
+
+-- a packet is read in one way as far as it goes
+pub lax_once : (s : List ℕ) (a b : IpSlice) (i j : Option IpSliceError) → HasLaxIpParts s (record { slice = a; stop = i }) → HasLaxIpParts s (record { slice = b; stop = j })
+    → (ip_parts a ≡ ip_parts b) × (i ≡ j)
+lax_once s a b None None p q = (same_parts s a b p.parts q.parts, refl)
+lax_once s a b (Some e) (Some f) p q = (same_parts s a b p.parts q.parts, ap Some (refused_once s e f p.stop q.stop))
+lax_once s a b None (Some e) p q = absurd (whole_not_refused s a e p.parts p.stop q.stop)
+lax_once s a b (Some e) None p q = absurd (whole_not_refused s b e q.parts q.stop p.stop)
