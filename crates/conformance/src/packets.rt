@@ -1,19 +1,22 @@
-//! Packets of either version, taken apart by the layers of `uses`.
+//! Packets of either version, taken apart by `packet_parts` and rewritten by `packet_rewriting`.
 
 use crate::arguments::Arguments;
 use crate::shown::{Bytes, Named, Show, Shown, Written, write_shown};
-use etherparse::{IpNumber, Ipv4Header};
-use std::alloc::Global;
-use std::fmt;
-use packet_rewriting::echo::{icmpv4_reply, icmpv6_reply};
-use packet_parts::fragment::{Ipv4Key, Ipv6Fragment, Ipv6Key, ipv4_key, ipv6_fragment, ipv6_key};
+use etherparse::err::ipv6::HeaderSliceError;
+use etherparse::{IpNumber, Ipv4Header, Ipv6Header};
+use packet_parts::checksum::{Absence, Verdict};
+use packet_parts::fragment::FragmentHeader;
+use packet_parts::fragment_key::{Ipv4Key, Ipv6Key, ipv4_key, ipv6_key};
 use packet_parts::ip_slice::{IpSlice, IpSliceError};
-use packet_parts::tcp::{TcpError, TcpHeaderSlice, is_tcp_right_ipv4, is_tcp_right_ipv6};
+use packet_parts::tcp::{TcpError, TcpHeaderSlice};
+use packet_parts::udp::UdpHeader;
+use packet_rewriting::echo::{icmpv4_reply, icmpv6_reply};
 use packet_rewriting::translation::{
     translate_tcp_destination, translate_tcp_source, translate_udp_destination,
     translate_udp_source,
 };
-use packet_parts::udp::UdpHeader;
+use std::alloc::Global;
+use std::fmt;
 
 // The addresses that translation gives to packets: 198.51.100.7 and 203.0.113.9 (RFC 5737).
 const SOURCE: [u8; 4] = [198, 51, 100, 7];
@@ -27,14 +30,14 @@ pub fn answer(arguments: &mut Arguments, answer: &mut String) -> Written {
     let sliced = IpSlice::from_slice(&bytes);
     write_shown(&sliced, answer)?;
     if let Ok(slice) = &sliced
-        && !slice.is_fragment()
+        && slice.fragment().is_none()
     {
         write_upper(slice, arguments.alloc, answer)?;
     }
     match bytes.first() {
         Some(first) if *first >> 4 == 4 => write_found("key", &ipv4_key(&bytes), answer),
         Some(first) if *first >> 4 == 6 => {
-            write_found("fragment_header", &ipv6_fragment(&bytes), answer)?;
+            write_found("fragment_header", &first_fragment_header(&bytes), answer)?;
             write_found("key", &ipv6_key(&bytes), answer)
         }
         _ => Ok(()),
@@ -95,7 +98,7 @@ impl Shown for IpSlice<'_> {
         };
         headers?;
         let (upper, payload) = (self.upper().0, Bytes(self.payload()));
-        let is_fragment = self.is_fragment();
+        let is_fragment = self.fragment().is_some();
         write!(f, " upper={upper} payload={payload} fragment={is_fragment}")
     }
 }
@@ -150,31 +153,27 @@ fn write_udp_checksum(
         return Ok(());
     }
     let data = &rest[..len - 8];
-    let is_right = match slice {
-        IpSlice::Ipv4 { header, .. } => {
-            let is_right = udp.is_right_ipv4(header, data);
-            udp.set_checksum_ipv4(header, data);
-            is_right
-        }
-        IpSlice::Ipv6 { header, .. } => {
-            let is_right = udp.is_right_ipv6(header, data);
-            udp.set_checksum_ipv6(header, data);
-            is_right
-        }
-    };
+    match slice {
+        IpSlice::Ipv4 { header, .. } => udp.set_checksum_ipv4(header, data),
+        IpSlice::Ipv6 { header, .. } => udp.set_checksum_ipv6(header, data),
+    }
+    let is_right = is_right(slice);
     write!(answer, " right={is_right} made={}", Bytes(&udp.to_bytes()))
+}
+
+// Whether a receiver finds no fault with the checksum: it is correct, or there is none.
+fn is_right(slice: &IpSlice) -> bool {
+    match slice.verdict() {
+        Verdict::Right | Verdict::Absent(Absence::NotComputed) => true,
+        _ => false,
+    }
 }
 
 // A TCP header, and the checksum of its segment.
 fn write_tcp(slice: &IpSlice, answer: &mut String) -> Written {
     match TcpHeaderSlice::from_slice(slice.payload()) {
         Ok(view) => {
-            write!(
-                answer,
-                " ; tcp {} right={}",
-                Show(&view),
-                is_tcp_right(slice)
-            )?;
+            write!(answer, " ; tcp {} right={}", Show(&view), is_right(slice))?;
             write_translated(slice, view.checksum(), answer)
         }
         Err(TcpError::Len(e)) => write_part("tcp", "=", &e, answer),
@@ -205,17 +204,6 @@ impl Shown for TcpHeaderSlice<'_> {
         ];
         let options = Bytes(self.options());
         write!(f, "{} {} options={options}", Named(&numbers), Named(&flags))
-    }
-}
-
-fn is_tcp_right(slice: &IpSlice) -> bool {
-    match slice {
-        IpSlice::Ipv4 { header, payload } => is_tcp_right_ipv4(header, payload),
-        IpSlice::Ipv6 {
-            header,
-            payload,
-            ..
-        } => is_tcp_right_ipv6(header, payload),
     }
 }
 
@@ -294,10 +282,35 @@ impl Shown for Ipv6Key {
     }
 }
 
-// The fragment header of a packet of version 6, and what follows it.
-impl Shown for Ipv6Fragment<'_> {
+// The first fragment header of a packet of version 6, which can be an atomic one, and all the bytes
+// after it: the packet is not cut at its payload length.
+fn first_fragment_header(
+    packet: &[u8],
+) -> Result<Option<(FragmentHeader, &[u8])>, HeaderSliceError> {
+    let (header, body) = Ipv6Header::from_slice(packet)?;
+    let mut number = header.next_header;
+    let mut rest = body;
+    'headers: loop {
+        let place = packet.len() - rest.len();
+        if number == IpNumber::IPV6_FRAGMENTATION_HEADER {
+            return match FragmentHeader::from_slice(rest) {
+                Ok(found) => Ok(Some(found)),
+                Err(e) => Err(HeaderSliceError::Len(e.add_offset(place))),
+            };
+        }
+        if !Ipv6Header::is_skippable_header_extension(number) {
+            return Ok(None);
+        }
+        match Ipv6Header::skip_header_extension_in_slice(rest, number) {
+            Ok(skipped) => (number, rest) = skipped,
+            Err(e) => return Err(HeaderSliceError::Len(e.add_offset(place))),
+        }
+    }
+}
+
+impl Shown for (FragmentHeader, &[u8]) {
     fn show<W: fmt::Write>(&self, f: &mut fmt::Formatter<W>) -> fmt::Result {
-        let header = &self.fragment;
+        let (header, rest) = (self.0, Bytes(self.1));
         let numbers = [
             ("next_header", u16::from(header.next_header.0)),
             ("fragment_offset", header.fragment_offset.value()),
@@ -305,9 +318,8 @@ impl Shown for Ipv6Fragment<'_> {
         let (more_fragments, identification) = (header.more_fragments, header.identification);
         write!(
             f,
-            "{} more_fragments={more_fragments} identification={identification} rest={}",
-            Named(&numbers),
-            Bytes(self.payload)
+            "{} more_fragments={more_fragments} identification={identification} rest={rest}",
+            Named(&numbers)
         )
     }
 }
