@@ -257,6 +257,8 @@ fn captures(rt: HostRuntime) {
     let records = [
         1, 0, 0, 0, 2, 0, 0, 0, 3, 0, 0, 0, 5, 0, 0, 0, b'a', b'b', b'c',
     ];
+    let head = header.record_head(&records);
+    assert!(rt; (head.captured_len, head.original_len) == (3, 5));
     let record = Record {
         seconds: 1,
         nanoseconds: 2000,
