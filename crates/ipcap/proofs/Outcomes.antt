@@ -9,7 +9,7 @@ use Rattle.packet_capture.specs.declared.capture.CaptureError.TheVariants as cap
 use Rattle.packet_capture.specs.declared.capture.CutOff as cut
 use Rattle.packet_capture.specs.declared.capture.FileHeader.{FileHeader}
 use Rattle.ipcap.specs.Lines.{capture_error_line, closing_line, end_text, link_type_line}
-use Rattle.ipcap.specs.Link.{is_read, link_type_of}
+use Rattle.ipcap.specs.Reading.{is_read, link_type_of}
 use Rattle.ipcap.specs.Listing.{unless_quiet}
 use Rattle.ipcap.specs.Output.{AppendsFront, Fails, HasFullCounts, HasOtherFrames, IsFullCapture, IsListed, IsListing, IsNoCapture, IsOutcome, Outcome, Writes, listed, refused, status_at}
 use Rattle.ipcap.specs.Private.Progress.{Breaks, Ends}

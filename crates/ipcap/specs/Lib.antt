@@ -1,10 +1,9 @@
 pub mod Lines
-pub mod Link
 pub mod Listing
 pub mod Output
-pub mod Packet
 pub mod Private
 pub mod Reading
+pub mod Shown
 pub mod Status
 pub mod Streams
 pub mod Totals

@@ -12,11 +12,11 @@ use Rattle.packet_capture.specs.declared.capture.Resolution.TheVariants.{Microse
 use Rattle.packet_parts.specs.Checksum.{verdict_text}
 use Rattle.packet_parts.specs.IpSlice.{ip_slice_error_text}
 use Rattle.packet_parts.specs.declared.fragment.Fragment.{Fragment}
-use Rattle.ipcap.specs.declared.link.NoPacket.{NoPacket}
-use Rattle.ipcap.specs.declared.link.NoPacket.TheVariants.{NoLinkHeader, OtherFamily, OtherType}
-use Rattle.ipcap.specs.declared.packet.Detail.{Detail}
-use Rattle.ipcap.specs.declared.packet.Detail.TheVariants.{Message, Nothing, Ports}
-use Rattle.ipcap.specs.declared.packet.Shown.{Shown}
+use Rattle.ipcap.specs.declared.reading.NoPacket.{NoPacket}
+use Rattle.ipcap.specs.declared.reading.NoPacket.TheVariants.{NoLinkHeader, OtherFamily, OtherType}
+use Rattle.ipcap.specs.declared.shown.Detail.{Detail}
+use Rattle.ipcap.specs.declared.shown.Detail.TheVariants.{Message, Nothing, Ports}
+use Rattle.ipcap.specs.declared.shown.Shown.{Shown}
 use Rattle.ipcap.specs.declared.reading.Reading.{Reading}
 use Rattle.ipcap.specs.declared.reading.Reading.TheVariants.{Other, Packet, Refused}
 use Rattle.ipcap.specs.declared.totals.Totals.{Totals}

@@ -6,7 +6,7 @@ use Rattle.packet_capture.specs.declared.capture.CutOff as cut
 use Rattle.packet_capture.specs.declared.capture.FileHeader.{FileHeader}
 use Rattle.packet_capture.specs.declared.capture.RecordHead.{RecordHead}
 use Rattle.ipcap.specs.Lines.{is_cut, record_line, skipped_line}
-use Rattle.ipcap.specs.Link.{link_type_of}
+use Rattle.ipcap.specs.Reading.{link_type_of}
 use Rattle.ipcap.specs.Reading.{ReadsFrame, has_wrong_checksum, is_other, is_refused}
 use Rattle.ipcap.specs.Reading.{is_version_4, is_version_6}
 use Rattle.ipcap.specs.Totals.{counted}

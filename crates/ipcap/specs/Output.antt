@@ -7,7 +7,7 @@ use Rattle.packet_capture.specs.declared.capture.CaptureError.{CaptureError}
 use Rattle.packet_capture.specs.declared.capture.CutOff as cut
 use Rattle.packet_capture.specs.declared.capture.FileHeader.{FileHeader}
 use Rattle.ipcap.specs.Lines.{capture_error_line, closing_line, end_text, link_type_line}
-use Rattle.ipcap.specs.Link.{is_read, link_type_of}
+use Rattle.ipcap.specs.Reading.{is_read, link_type_of}
 use Rattle.ipcap.specs.Listing.{Lists, unless_quiet}
 use Rattle.ipcap.specs.Totals.{IsFull, nothing_counted}
 use Rattle.ipcap.specs.declared.status.Status.{Status}

@@ -1,9 +1,19 @@
 -- What a frame is found to carry.
-use Rattle.std.specs.Prelude.{ℕ, ◌≡◌, ◌||◌, Bool, true, false, List, Result, Ok, Err}
+use Rattle.std.specs.Prelude.{ℕ, ◌≡◌, ◌%◌, ◌^◌, ◌||◌, ◌⊎◌, Bool, true, false, MatchBool, List, length}
+use Rattle.std.specs.Prelude.{Option, Some, None, option_map}
 use Rattle.std.specs.Net.Addr.{is_ipv4, is_ipv6}
-use Rattle.ipcap.specs.Link.{packet_of}
-use Rattle.ipcap.specs.Packet.{IsRefused, IsShown, is_wrong, is_wrong_header}
-use Rattle.ipcap.specs.declared.link.NoPacket.{NoPacket}
+use Rattle.std.specs.Option.{is_some, unwrap_or}
+use Rattle.packet.specs.Link.{LacksLink, LinkParts, LoopbackParts, link_parts}
+use Rattle.packet.specs.Link.{link_type_of as link_type_of_number}
+use Rattle.packet.specs.SlicedPacket.{HasLinkLayers, carries_ip}
+use Rattle.packet.specs.declared.link.LinkError.{LinkError}
+use Rattle.packet.specs.declared.link.LinkType.{LinkType}
+use Rattle.packet.specs.declared.link.LinkType.TheVariants.{Ip}
+use Rattle.packet.specs.declared.link_layers.LinkLayers.{LinkLayers}
+use Rattle.packet_capture.specs.declared.capture.FileHeader.{FileHeader}
+use Rattle.ipcap.specs.Shown.{IsRefused, IsShown, is_wrong, is_wrong_header}
+use Rattle.ipcap.specs.declared.reading.NoPacket.{NoPacket}
+use Rattle.ipcap.specs.declared.reading.NoPacket.TheVariants.{NoLinkHeader, OtherFamily, OtherType}
 use Rattle.ipcap.specs.declared.reading.Reading.{Reading}
 use Rattle.ipcap.specs.declared.reading.Reading.TheVariants.{Other, Packet, Refused}
 
@@ -13,15 +23,50 @@ ReadsPacket is_cut packet (Packet shown) = IsShown is_cut packet shown
 ReadsPacket is_cut packet (Refused e) = IsRefused is_cut packet e
 ReadsPacket is_cut packet (Other e) = ⊥
 
--- the reading of a frame is that of its packet, or the reason why it has none
-abbrev pub ReadsCarried : Bool → Result (List ℕ) NoPacket → Reading → Type 0
-ReadsCarried is_cut (Ok packet) reading = ReadsPacket is_cut packet reading
-ReadsCarried is_cut (Err e) reading = reading ≡ Other e
+-- the link type without the bits above it, which are about a frame check sequence
+abbrev pub link_type_of : FileHeader → ℕ
+link_type_of header = header.link_type % 2 ^ 16
 
--- the reading of a frame of this link type, which the capture may have cut
+-- whether frames of a link type are read
+abbrev pub is_read : ℕ → Bool
+is_read number = is_some (link_type_of_number number)
+
+abbrev pub other_by : Option ℕ → Option LinkParts → ℕ → NoPacket
+other_by (Some ether_type) link len = OtherType ether_type
+other_by None (Some (LoopbackParts family)) len = OtherFamily family
+other_by None link len = NoLinkHeader len
+
+-- what says that the frame carries another protocol: its EtherType, or else its family; what has
+-- neither counts as without a link header
+abbrev pub other_of : LinkLayers → ℕ → NoPacket
+other_of layers len = other_by layers.ether_type (option_map link_parts layers.link) len
+
+-- the reading of a frame with these layers: that of its packet; or it ends within a tag, or carries
+-- another protocol
+abbrev pub ReadsCarried : Bool → ℕ → LinkLayers → Reading → Type 0
+ReadsCarried is_cut len layers reading = MatchBool (is_some layers.stop)
+    (reading ≡ Other (NoLinkHeader len))
+    (MatchBool (carries_ip (option_map link_parts layers.link) layers.ether_type)
+    (ReadsPacket is_cut layers.payload.now reading) (reading ≡ Other (other_of layers len)))
+
+-- a frame of this type is read, which the capture may have cut
+pub record ReadsLayers (link_type : LinkType) (is_cut : Bool) (frame : List ℕ) (reading : Reading)
+    : Type 0 where
+  pub layers : LinkLayers
+  pub has : HasLinkLayers link_type frame layers
+  pub reads : ReadsCarried is_cut (length frame) layers reading
+
+-- or it ends within its link header
+pub record LacksHeader (link_type : LinkType) (frame : List ℕ) (reading : Reading) : Type 0 where
+  pub e : LinkError
+  pub lacks : LacksLink link_type frame e
+  pub reads : reading ≡ Other (NoLinkHeader (length frame))
+
+-- the reading of a frame of the link type with this number; without one its frames are packets
 abbrev pub ReadsFrame : ℕ → Bool → List ℕ → Reading → Type 0
-ReadsFrame link_type is_cut frame reading =
-    ReadsCarried is_cut (packet_of link_type frame) reading
+ReadsFrame number is_cut frame reading =
+    ReadsLayers (unwrap_or (link_type_of_number number) Ip) is_cut frame reading
+    ⊎ LacksHeader (unwrap_or (link_type_of_number number) Ip) frame reading
 
 -- whether it is shown as a packet of version 4, and of version 6
 abbrev pub is_version_4 : Reading → Bool

@@ -10,9 +10,8 @@ ghost use Rattle.ipcap.specs.Lines.{cut_text, fraction_text, head_text, hex_text
 ghost use Rattle.ipcap.specs.Lines.{link_type_line, no_packet_text, reading_text, record_line};
 ghost use Rattle.ipcap.specs.Lines.{shown_text, skipped_line, skipped_text, upper_text};
 
-use crate::link::NoPacket;
-use crate::packet::{Detail, Shown};
-use crate::reading::Reading;
+use crate::reading::{NoPacket, Reading};
+use crate::shown::{Detail, Shown};
 use crate::totals::Totals;
 use packet_capture::capture::{CaptureError, CutOff, Record, Resolution};
 use packet_parts::fragment::Fragment;

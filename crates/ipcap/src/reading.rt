@@ -1,13 +1,27 @@
 //! What a frame is found to carry.
 
-ghost use Rattle.std.specs.Prelude.{◌↔◌, IsTrue, MatchOption};
-ghost use Rattle.ipcap.specs.Packet.{IsShownAt};
-ghost use Rattle.ipcap.specs.Reading.{ReadsFrame, ReadsPacket};
+ghost use Rattle.std.specs.Prelude.{◌≡◌, ◌↔◌, IsTrue, MatchOption};
+ghost use Rattle.ipcap.specs.Shown.{IsShownAt};
+ghost use Rattle.ipcap.specs.Reading.{ReadsFrame, ReadsPacket, is_read};
 
-use crate::link::{NoPacket, packet_of};
-use crate::packet::{Shown, has_no_length, shown_of};
+use crate::shown::{Shown, has_no_length, shown_of};
+use packet::link::{LinkSlice, LinkType};
+use packet::link_layers::LinkLayers;
 use packet_parts::checksum::Verdict;
 use packet_parts::ip_slice::{IpSliceError, LaxIpSlice};
+
+/// Why a frame carries no IP packet.
+#[derive(Clone, Copy)]
+pub enum NoPacket {
+    /// The frame ends within its link header or a VLAN tag; the number is the frame's length in
+    /// bytes.
+    NoLinkHeader(usize),
+    /// It carries another protocol, of this EtherType. Up to 1500 it is no EtherType: in Ethernet a
+    /// length (IEEE 802.3 section 3.2.6), in a Linux cooked capture a number of Linux's own.
+    OtherType(u16),
+    /// It carries another protocol, of this family of a loopback interface.
+    OtherFamily(u32),
+}
 
 /// What a frame is found to carry.
 #[derive(Drop)]
@@ -20,14 +34,35 @@ pub enum Reading {
     Other(NoPacket),
 }
 
+/// Whether frames of a link type are read.
+pub fn is_read(link_type: u32) -> bool
+    ensures value { result ≡ is_read link_type }
+{
+    LinkType::from_number(link_type).is_some()
+}
+
 /// What a frame of a link type that is read is found to carry. If the capture cut the frame, its
 /// packet can be shorter than its length field says.
 pub fn read_frame(link_type: u32, is_cut: bool, frame: &[u8]) -> Reading
     ensures reads { ReadsFrame link_type is_cut frame.now result }
 {
-    match packet_of(link_type, frame) {
-        Ok(packet) => read_packet(is_cut, packet),
-        Err(e) => Reading::Other(e),
+    let link_type = LinkType::from_number(link_type).unwrap_or(LinkType::Ip);
+    let layers = match LinkLayers::from_link_type(link_type, frame) {
+        Ok(layers) => layers,
+        Err(_) => return Reading::Other(NoPacket::NoLinkHeader(frame.len())),
+    };
+    if layers.stop.is_some() {
+        return Reading::Other(NoPacket::NoLinkHeader(frame.len()));
+    }
+    if layers.carries_ip() {
+        return read_packet(is_cut, layers.payload);
+    }
+    match (layers.ether_type, layers.link) {
+        (Some(ether_type), _) => Reading::Other(NoPacket::OtherType(ether_type.0)),
+        (None, Some(LinkSlice::Loopback { family })) => {
+            Reading::Other(NoPacket::OtherFamily(family))
+        }
+        (None, _) => Reading::Other(NoPacket::NoLinkHeader(frame.len())),
     }
 }
 

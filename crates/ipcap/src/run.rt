@@ -12,9 +12,9 @@ ghost use Rattle.ipcap.specs.Streams.{CannotRead, Prints, Takes, pending, unlist
 use crate::failure::Failure;
 use crate::input::Input;
 use crate::lines::{ClosingLine, EndLine, LinkTypeLine, NoCaptureLine};
-use crate::link::is_read;
 use crate::listing::Listing;
 use crate::output::Output;
+use crate::reading::is_read;
 use crate::status::Status;
 use crate::streams::{Sink, Source};
 use crate::totals::Totals;

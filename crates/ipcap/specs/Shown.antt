@@ -16,9 +16,9 @@ use Rattle.packet_parts.specs.declared.ip_slice.IpSlice.TheVariants as slice
 use Rattle.packet_parts.specs.declared.ip_slice.IpSliceError.{IpSliceError}
 use Rattle.packet_parts.specs.declared.ip_slice.IpSliceError.TheVariants as error
 use Rattle.packet_parts.specs.declared.ip_slice.LaxIpSlice.{LaxIpSlice}
-use Rattle.ipcap.specs.declared.packet.Detail.{Detail}
-use Rattle.ipcap.specs.declared.packet.Detail.TheVariants.{Ports, Message, Nothing}
-use Rattle.ipcap.specs.declared.packet.Shown.{Shown}
+use Rattle.ipcap.specs.declared.shown.Detail.{Detail}
+use Rattle.ipcap.specs.declared.shown.Detail.TheVariants.{Ports, Message, Nothing}
+use Rattle.ipcap.specs.declared.shown.Shown.{Shown}
 
 -- how many routers it may pass: the time to live or the hop limit
 abbrev pub hops_of : IpSlice → ℕ

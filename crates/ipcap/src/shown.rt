@@ -2,8 +2,8 @@
 
 ghost use Rattle.std.specs.Prelude.{◌≡◌, ◌≢◌};
 ghost use Rattle.packet_parts.specs.IpSlice.{HasIpParts, HasLaxIpParts};
-ghost use Rattle.ipcap.specs.Packet.{IsDetail, IsHeaderDetail, IsHeaderVerdict, Shows};
-ghost use Rattle.ipcap.specs.Packet.{has_no_length, has_whole_payload, hops_of, len_of};
+ghost use Rattle.ipcap.specs.Shown.{IsDetail, IsHeaderDetail, IsHeaderVerdict, Shows};
+ghost use Rattle.ipcap.specs.Shown.{has_no_length, has_whole_payload, hops_of, len_of};
 
 use etherparse::IpNumber;
 use etherparse::checksum::u64_16bit_word;
