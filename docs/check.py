@@ -35,7 +35,8 @@ NAMES = {str(file.relative_to(ROOT)) for file in FILES}
 PAGES = [file for file in FILES if file.suffix == '.md']
 SOURCES = {file: file.read_text() for file in FILES if file.suffix == '.rt'}
 SPECS = {file: file.read_text() for file in FILES if file.suffix == '.antt'}
-LIBRARY = 'etherparse_base', 'etherparse_fields', 'etherparse'
+LIBRARY = ('etherparse_base', 'etherparse_fields', 'etherparse', 'packet_parts', 'packet',
+           'packet_rewriting', 'packet_capture')
 PATH = re.compile(r'[\w.{},/-]+\.(?:md|rt|antt|sh|py|edit|txt|c|h|rs|toml)$')
 FIGURE = re.compile(r'(?<![\w.])\d+(?:\.\d+)? (?:ns|nanoseconds?|seconds?|minutes?|GB|MB)\b')
 RUN = re.compile(r'\| rt (run|try)\b')
@@ -84,7 +85,7 @@ class Contract(NamedTuple):
 
 ITEM = re.compile(
     r'^impl(?:<.*?>)? (?:(?:\w+::)*(?P<trait>\w+)(?:<.*?>)? for )?(?:\w+::)*(?P<impl>\w+)'
-    r'|^(?:pub )?struct (?P<struct>\w+)|^(?P<end>\})'
+    r'|^(?:pub )?(?:struct|trait) (?P<struct>\w+)|^(?P<end>\})'
     r'|^ *(?P<pub>pub |)(?:pub\(\w+\) )?(?:const |extern "C" )?fn (?P<function>\w+)'
     r'|^ *(?:ensures|requires)\*? (?P<clause>\w+) \{'
     r'|^ *(?:pub )?ghost (?P<ghost>\w+)(?: =|:) \{', re.M)
@@ -150,8 +151,8 @@ KNOWN = known_names()
 
 
 def proves(block):
-    """whether a block proves as the one file of a crate above a copy of the library, in half a
-    minute if the library is proved already"""
+    """whether a block proves as the one file of a crate above a copy of the library and the crates
+    on packets, in half a minute if these are proved already"""
     with tempfile.TemporaryDirectory() as room:
         crates = pathlib.Path(room) / 'crates'
         (crates / 'my_crate/src').mkdir(parents=True)
@@ -159,7 +160,7 @@ def proves(block):
                  if line.split(':')[0] in LIBRARY]
         for name in LIBRARY:
             shutil.copytree(ROOT / 'crates' / name, crates / name)
-        lines.append('my_crate: etherparse etherparse_fields arrayvec\n')
+        lines.append('my_crate: ' + ' '.join(LIBRARY[1:]) + ' arrayvec\n')
         (crates.parent / 'crates.txt').write_text(''.join(lines))
         head = '' if '#![tactic' in block else '#![tactic(auto)]\n\n'
         (crates / 'my_crate/src/lib.rt').write_text(head + block)

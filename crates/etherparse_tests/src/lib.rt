@@ -1,4 +1,4 @@
-//! Tests of the library and of the layers of `uses` by their public paths: what no clause says, and
+//! Tests of the library and of the crates on packets by their public paths: what no clause says, and
 //! worked values from the standards.
 //!
 //! They are in a crate of their own, since each crate with tests is proved once more for them.
@@ -15,6 +15,8 @@ mod examples;
 #[cfg(test)]
 mod fields;
 #[cfg(test)]
+mod frames;
+#[cfg(test)]
 mod headers;
 #[cfg(test)]
 mod ip_number;
@@ -27,7 +29,7 @@ mod layers;
 #[cfg(test)]
 mod limited_walk;
 #[cfg(test)]
-mod packet;
+mod packet_examples;
 #[cfg(test)]
 mod shared;
 #[cfg(test)]

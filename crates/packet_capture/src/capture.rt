@@ -115,6 +115,20 @@ impl FileHeader {
     ///
     /// `CutOff` if the slice has fewer than 24 bytes; otherwise `Magic` if the first four bytes are
     /// not a known magic number; otherwise `Version` if the version is not 2.4.
+    ///
+    /// # Example
+    ///
+    /// ```
+    /// // A file without records: packets that begin with their IP header, in microseconds.
+    /// let file = [
+    ///     0xd4, 0xc3, 0xb2, 0xa1, 2, 0, 4, 0, 0, 0, 0, 0, 0, 0, 0, 0, 0xff, 0xff, 0, 0, 101, 0, 0,
+    ///     0,
+    /// ];
+    /// let (header, records) = FileHeader::from_slice(&file)?;
+    /// assert!(rt; header.format.resolution == Resolution::Microseconds);
+    /// assert!(rt; (header.snap_len, header.link_type) == (65535, 101));
+    /// assert!(rt; records.is_empty());
+    /// ```
     pub fn from_slice(file: &[u8]) -> Result<(FileHeader, &[u8]), CaptureError>
         ensures reads { ReadsFileHeader file.now (found_and_rest result) }
         ensures only { (other : FileReading) → ReadsFileHeader file.now other →
@@ -171,6 +185,35 @@ impl FileHeader {
 ///
 /// A `CutOff` if the slice has some bytes, but fewer than 16, or fewer than 16 plus the captured
 /// length.
+///
+/// # Example
+///
+/// ```
+/// let format = Format {
+///     order: ByteOrder::LittleEndian,
+///     resolution: Resolution::Microseconds,
+/// };
+/// let header = FileHeader {
+///     format,
+///     snap_len: 65535,
+///     link_type: 101,
+/// };
+/// // 3 bytes of a packet of 5, captured 2 microseconds into second 1.
+/// let records = [
+///     1, 0, 0, 0, 2, 0, 0, 0, 3, 0, 0, 0, 5, 0, 0, 0, b'a', b'b', b'c',
+/// ];
+/// let head = header.record_head(&records);
+/// assert!(rt; (head.captured_len, head.original_len) == (3, 5));
+/// let record = Record {
+///     seconds: 1,
+///     nanoseconds: 2000,
+///     original_len: 5,
+///     bytes: b"abc",
+/// };
+/// let expected = Ok(Some((record, [].as_slice())));
+/// assert!(rt; next_record(&header, &records) == expected);
+/// assert!(rt; next_record(&header, &[]) == Ok(None));
+/// ```
 pub fn next_record<'a>(
     header: &FileHeader,
     slice: &'a [u8],

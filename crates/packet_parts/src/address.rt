@@ -11,6 +11,14 @@ use std::net::Ipv6Addr;
 /// zeros. `::` stands for the longest run of zero fields, for the first of equal runs, and never
 /// for one field alone (RFC 5952 section 4). An IPv4-mapped address ends in dotted decimals
 /// (section 5).
+///
+/// # Example
+///
+/// ```
+/// let address = Ipv6Text([0x20, 0x01, 0x0d, 0xb8, 0, 0, 0, 0, 0, 0, 0, 0, 0, 0, 0, 1]);
+/// let text = format!(in rt.alloc(); "{address}")?;
+/// assert!(rt; text.as_str() == "2001:db8::1");
+/// ```
 #[derive(Clone, Copy, Debug, PartialEq, Eq)]
 pub struct Ipv6Text(pub [u8; 16]);
 

@@ -57,6 +57,16 @@ pub enum Absence {
 
 /// The sum of the pseudo-header of IPv4, from both addresses, the protocol's number and the length
 /// in bytes of its header and data (RFC 768, RFC 9293 section 3.1).
+///
+/// # Example
+///
+/// ```
+/// // A datagram of 12 bytes and its pseudo-header sum to all ones.
+/// let (source, destination) = ([192, 168, 0, 1], [192, 168, 0, 199]);
+/// let datagram = [4, 0, 0, 53, 0, 12, 0x91, 0xae, b't', b'e', b's', b't'];
+/// let mut sum = ipv4_pseudo_header(source, destination, IpNumber::UDP, 12);
+/// assert!(rt; sum.add_slice(&datagram).ones_complement() == 0);
+/// ```
 pub fn ipv4_pseudo_header(
     source: [u8; 4],
     destination: [u8; 4],
@@ -74,6 +84,18 @@ pub fn ipv4_pseudo_header(
 
 /// The sum of the pseudo-header of IPv6, from both addresses, the number of the upper layer and the
 /// length in bytes of its header and data (RFC 8200 section 8.1).
+///
+/// # Example
+///
+/// ```
+/// // A datagram of 12 bytes from 2001:db8::1 to 2001:db8::2, with its pseudo-header.
+/// let source = [0x20, 0x01, 0x0d, 0xb8, 0, 0, 0, 0, 0, 0, 0, 0, 0, 0, 0, 1];
+/// let mut destination = source;
+/// destination[15] = 2;
+/// let datagram = [4, 0, 0, 53, 0, 12, 0xb8, 0x52, b't', b'e', b's', b't'];
+/// let mut sum = ipv6_pseudo_header(source, destination, IpNumber::UDP, 12);
+/// assert!(rt; sum.add_slice(&datagram).ones_complement() == 0);
+/// ```
 pub fn ipv6_pseudo_header(
     source: [u8; 16],
     destination: [u8; 16],
@@ -91,6 +113,20 @@ pub fn ipv6_pseudo_header(
 
 /// The verdict on the checksum of an IPv4 packet's payload. The payload has to end where the total
 /// length says, since each of its bytes counts, but those after a UDP datagram.
+///
+/// # Example
+///
+/// ```
+/// let (source, destination) = ([192, 168, 0, 1], [192, 168, 0, 199]);
+/// let header = Ipv4Header::new(12, 64, IpNumber::UDP, source, destination)?;
+/// let mut payload = [4, 0, 0, 53, 0, 12, 0x91, 0xae, b't', b'e', b's', b't'];
+/// assert!(rt; ipv4_verdict(&header, &payload) == Verdict::Right);
+/// payload[11] = b'x';
+/// assert!(rt; ipv4_verdict(&header, &payload) == Verdict::Wrong);
+/// // The sender has computed none.
+/// [payload[6], payload[7]] = [0, 0];
+/// assert!(rt; ipv4_verdict(&header, &payload) == Verdict::Absent(Absence::NotComputed));
+/// ```
 pub fn ipv4_verdict(header: &Ipv4Header, payload: &[u8]) -> Verdict
     ensures judges { IsVerdictIpv4 header.now payload.now result }
 {
@@ -115,6 +151,19 @@ pub fn ipv4_verdict(header: &Ipv4Header, payload: &[u8]) -> Verdict
 /// The verdict on the checksum of the payload of an IPv6 packet that is no fragment, with the number
 /// of the payload. The payload has to end where the payload length says. The destination is that of
 /// the header, which a routing header can have changed (RFC 8200 section 8.1).
+///
+/// # Example
+///
+/// ```
+/// let mut header = Ipv6Header::default();
+/// header.source = [0x20, 0x01, 0x0d, 0xb8, 0, 0, 0, 0, 0, 0, 0, 0, 0, 0, 0, 1];
+/// header.destination = [0x20, 0x01, 0x0d, 0xb8, 0, 0, 0, 0, 0, 0, 0, 0, 0, 0, 0, 2];
+/// let mut payload = [4, 0, 0, 53, 0, 12, 0xb8, 0x52, b't', b'e', b's', b't'];
+/// assert!(rt; ipv6_verdict(&header, IpNumber::UDP, &payload) == Verdict::Right);
+/// // Over IPv6 there has to be a checksum.
+/// [payload[6], payload[7]] = [0, 0];
+/// assert!(rt; ipv6_verdict(&header, IpNumber::UDP, &payload) == Verdict::Wrong);
+/// ```
 pub fn ipv6_verdict(header: &Ipv6Header, number: IpNumber, payload: &[u8]) -> Verdict
     ensures judges { IsVerdictIpv6 header.now number payload.now result }
 {

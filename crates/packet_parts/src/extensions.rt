@@ -36,6 +36,16 @@ pub struct AfterExtensions<'a> {
 /// this number: the payload, or an extension header that is incomplete.
 ///
 /// Nothing after a fragment header whose offset is not 0 counts as a header.
+///
+/// # Example
+///
+/// ```
+/// // The fragment header of a fragment that is not the first, and the middle of a payload.
+/// let body = [17, 0, 0, 9, 1, 2, 3, 4, 5, 6, 7, 8];
+/// let after = after_extensions(&body, IpNumber::IPV6_FRAGMENTATION_HEADER);
+/// assert!(rt; after.number == IpNumber::UDP && after.is_later);
+/// assert!(rt; after.rest == [5, 6, 7, 8].as_slice());
+/// ```
 #[tactic(auto, using(crate::specs::Extensions::at_front))]
 pub fn after_extensions(body: &[u8], first: IpNumber) -> AfterExtensions
     ensures chain { FollowsChain body.now first result.number result.rest.now }

@@ -34,6 +34,17 @@ impl FragmentHeader {
     /// # Errors
     ///
     /// A `LenError` if the slice has fewer than 8 bytes.
+    ///
+    /// # Example
+    ///
+    /// ```
+    /// // A fragment that is not the first, and not the last.
+    /// let slice = [17, 0, 0, 9, 1, 2, 3, 4, 5, 6, 7, 8];
+    /// let (header, rest) = FragmentHeader::from_slice(&slice)?;
+    /// assert!(rt; header.is_fragmenting_payload() && header.more_fragments);
+    /// assert!(rt; header.fragment_offset.byte_offset() == 8);
+    /// assert!(rt; rest == [5, 6, 7, 8].as_slice());
+    /// ```
     pub fn from_slice(slice: &[u8]) -> Result<(FragmentHeader, &[u8]), LenError>
         ensures reads { Reads IsFragmentLayout RefusesFragment slice.now (found_and_rest result) }
         ensures only { (other : Result (Header × List ℕ) LenError) →

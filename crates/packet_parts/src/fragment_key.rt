@@ -41,6 +41,21 @@ pub struct Ipv6Key {
 /// # Errors
 ///
 /// Those of [`Ipv4Header::from_slice`].
+///
+/// # Example
+///
+/// ```
+/// // Two fragments of one packet, without their payload.
+/// let first = [
+///     0x45, 0, 0, 20, 0x12, 0x34, 0x20, 0, 64, 17, 0, 0, 192, 168, 0, 1, 192, 168, 0, 199,
+/// ];
+/// let mut packet = first;
+/// [packet[6], packet[7]] = [0, 185];
+/// assert!(rt; ipv4_key(&packet) == ipv4_key(&first));
+/// // A whole packet.
+/// [packet[6], packet[7]] = [0, 0];
+/// assert!(rt; ipv4_key(&packet) == Ok(None));
+/// ```
 pub fn ipv4_key(packet: &[u8]) -> Result<Option<Ipv4Key>, ipv4::HeaderSliceError>
     ensures found { IfOk result (λ found. IfSome found (HasIpv4Key packet.now)) }
     ensures none { IfOk result (λ found. IfNone found (IsWholeIpv4 packet.now)) }
@@ -62,12 +77,27 @@ pub fn ipv4_key(packet: &[u8]) -> Result<Option<Ipv4Key>, ipv4::HeaderSliceError
 /// fragment header, or atomic ones alone, which have neither an offset nor more fragments. Such a
 /// packet is not to be put together with fragments that have its addresses and identification (RFC
 /// 8200 section 4.5, RFC 6946 section 4). So the first fragment header that is not atomic decides.
-/// The packet is not cut at its payload length.
+/// The packet is not trimmed at its payload length.
 ///
 /// # Errors
 ///
 /// Those of [`Ipv6Header::from_slice`]; `Len` if an extension header before the one that decides is
 /// incomplete, or that one, with the place of that header from the packet's start.
+///
+/// # Example
+///
+/// ```
+/// // Two fragments of one packet, without their payload.
+/// let mut first = [0; 48];
+/// [first[0], first[5], first[6], first[7]] = [0x60, 8, 44, 64];
+/// first[40..].copy_from_slice(&[17, 0, 0, 1, 1, 2, 3, 4]);
+/// let mut packet = first;
+/// packet[43] = 8;
+/// assert!(rt; ipv6_key(&packet) == ipv6_key(&first));
+/// // An atomic fragment header: the packet is whole.
+/// packet[43] = 0;
+/// assert!(rt; ipv6_key(&packet) == Ok(None));
+/// ```
 pub fn ipv6_key(packet: &[u8]) -> Result<Option<Ipv6Key>, ipv6::HeaderSliceError>
     ensures found { IfOk result (λ found. IfSome found (HasIpv6Key packet.now)) }
     ensures none { IfOk result (λ found. IfNone found (IsWholeIpv6 packet.now)) }

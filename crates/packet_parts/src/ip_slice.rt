@@ -19,18 +19,18 @@ use etherparse::{IpNumber, Ipv4Header, Ipv6Header, LenSource};
 use std::fmt;
 use std::net::{IpAddr, Ipv4Addr, Ipv6Addr};
 
-/// The parts of an IP packet, cut at its length field: what comes after the packet is in none of
-/// them.
+/// The parts of an IP packet, trimmed at its length field: what comes after the packet is in none
+/// of them.
 #[derive(Clone, Debug, PartialEq, Eq, Drop)]
 pub enum IpSlice<'a> {
-    /// An IPv4 packet (RFC 791 section 3.1), cut at `total_len`.
+    /// An IPv4 packet (RFC 791 section 3.1), trimmed at `total_len`.
     Ipv4 {
         /// The header. Its `protocol` is the number of the payload.
         header: Ipv4Header,
         /// What follows the header, an authentication header (51) included.
         payload: &'a [u8],
     },
-    /// An IPv6 packet (RFC 8200 section 3), cut at `payload_length`.
+    /// An IPv6 packet (RFC 8200 section 3), trimmed at `payload_length`.
     Ipv6 {
         /// The header, without its extension headers.
         header: Ipv6Header,
@@ -69,7 +69,7 @@ pub enum IpSliceError {
     /// the header length. Or the packet has fewer bytes than its length field says: `len` is then
     /// how many it has, `required_len` how many it should have, with the header.
     Packet(LenError),
-    /// An IPv6 packet, cut at its payload length, ends within an extension header.
+    /// An IPv6 packet, trimmed at its payload length, ends within an extension header.
     /// `layer_start_offset` is the place of that header from the packet's start.
     Extensions(LenError),
 }
@@ -129,6 +129,21 @@ impl<'a> IpSlice<'a> {
     ///
     /// In this order: `Empty`, `UnexpectedVersion`, `Ipv4Header` or `Ipv6Header`, `Packet`,
     /// `Extensions`.
+    ///
+    /// # Example
+    ///
+    /// ```
+    /// // A datagram of 12 bytes, and two bytes that the link added.
+    /// let packet = [
+    ///     0x45, 0, 0, 32, 0, 0, 0, 0, 64, 17, 0, 0, 192, 168, 0, 1, 192, 168, 0, 199, 4, 0, 0, 53,
+    ///     0, 12, 0x91, 0xae, b't', b'e', b's', b't', 0, 0,
+    /// ];
+    /// let slice = IpSlice::from_slice(&packet)?;
+    /// assert!(rt; slice.source() == IpAddr::V4(Ipv4Addr::new(192, 168, 0, 1)));
+    /// assert!(rt; slice.destination() == IpAddr::V4(Ipv4Addr::new(192, 168, 0, 199)));
+    /// assert!(rt; slice.upper() == IpNumber::UDP && slice.payload().len() == 12);
+    /// assert!(rt; slice.verdict() == Verdict::Right);
+    /// ```
     pub fn from_slice(packet: &'a [u8]) -> Result<IpSlice<'a>, IpSliceError>
         ensures found { IfOk result (IsIpPacket packet.now) }
         ensures refused { IfErr result (RefusesIp packet.now) }
@@ -185,6 +200,23 @@ impl<'a> IpSlice<'a> {
 
     /// The place of the payload, if it is a fragment: more fragments follow it, or its offset is not
     /// 0. In IPv6 the first fragment header that is not atomic tells it (RFC 8200 section 4.5).
+    ///
+    /// # Example
+    ///
+    /// ```
+    /// // A fragment that is not the first, and not the last.
+    /// let packet = [
+    ///     0x45, 0, 0, 28, 0x12, 0x34, 0x20, 1, 64, 17, 0, 0, 192, 168, 0, 1, 192, 168, 0, 199, 1,
+    ///     2, 3, 4, 5, 6, 7, 8,
+    /// ];
+    /// let slice = IpSlice::from_slice(&packet)?;
+    /// let place = Fragment {
+    ///     identification: 0x1234,
+    ///     offset: 8,
+    ///     more_fragments: true,
+    /// };
+    /// assert!(rt; slice.fragment() == Some(place) && slice.is_later_fragment());
+    /// ```
     pub fn fragment(&self) -> Option<Fragment>
         ensures value { result ≡ fragment_of self.now }
     {
@@ -239,6 +271,23 @@ impl<'a> LaxIpSlice<'a> {
     ///
     /// Those of [`IpSlice::from_slice`] without parts: `Empty`, `UnexpectedVersion`, `Ipv4Header` or
     /// `Ipv6Header`, and `Packet` if the total length is below that of the header, but not 0.
+    ///
+    /// # Example
+    ///
+    /// ```
+    /// // A packet of 32 bytes, 28 of which were captured.
+    /// let mut packet = [
+    ///     0x45, 0, 0, 32, 0, 0, 0, 0, 64, 17, 0, 0, 192, 168, 0, 1, 192, 168, 0, 199, 4, 0, 0, 53,
+    ///     0, 12, 0x91, 0xae,
+    /// ];
+    /// let lax = LaxIpSlice::from_slice(&packet)?;
+    /// assert!(rt; lax.slice.payload().len() == 8 && lax.stop.is_some());
+    /// assert!(rt; lax.verdict() == Verdict::Absent(Absence::Incomplete));
+    /// // A total length of 0: the payload is all that there is.
+    /// packet[3] = 0;
+    /// let lax = LaxIpSlice::from_slice(&packet)?;
+    /// assert!(rt; lax.slice.payload().len() == 8 && lax.stop.is_some());
+    /// ```
     pub fn from_slice(packet: &'a [u8]) -> Result<LaxIpSlice<'a>, IpSliceError>
         ensures found { IfOk result (HasLaxIpParts packet.now) }
         ensures refused { IfErr result (HasNoIpParts packet.now) }

@@ -44,6 +44,22 @@ impl<'a> TcpHeaderSlice<'a> {
     ///
     /// `Len` if the slice has fewer than 20 bytes; otherwise `DataOffset` if the data offset is
     /// below 5; otherwise `Len` if the slice has fewer bytes than the data offset says.
+    ///
+    /// # Example
+    ///
+    /// ```
+    /// // A SYN from port 1024 to port 80, with sequence number 1 and a window of 8192 bytes.
+    /// let segment = [
+    ///     4, 0, 0, 80, 0, 0, 0, 1, 0, 0, 0, 0, 0x50, 0x02, 0x20, 0, 0x09, 0x79, 0, 0,
+    /// ];
+    /// let header = TcpHeaderSlice::from_slice(&segment)?;
+    /// assert!(rt; (header.source_port(), header.destination_port()) == (1024, 80));
+    /// assert!(rt; (header.sequence_number(), header.acknowledgment_number()) == (1, 0));
+    /// assert!(rt; header.syn() && !header.ack() && !header.fin() && !header.rst());
+    /// assert!(rt; (header.data_offset(), header.flags()) == (5, 0b0000_0010));
+    /// assert!(rt; (header.window_size(), header.checksum()) == (8192, 0x0979));
+    /// assert!(rt; header.urgent_pointer() == 0 && header.options().is_empty());
+    /// ```
     pub fn from_slice(slice: &'a [u8]) -> Result<TcpHeaderSlice<'a>, TcpError>
         ensures views { ViewsTcp slice.now
             (result_map_both (λ view. view.slice.now) (λ e. e) result) }

@@ -37,6 +37,15 @@ impl UdpHeader {
     /// # Errors
     ///
     /// A `LenError` if the slice has fewer than 8 bytes.
+    ///
+    /// # Example
+    ///
+    /// ```
+    /// let slice = [4, 0, 0, 53, 0, 12, 0x91, 0xae, b't', b'e', b's', b't'];
+    /// let (header, rest) = UdpHeader::from_slice(&slice)?;
+    /// assert!(rt; (header.source_port, header.destination_port) == (1024, 53));
+    /// assert!(rt; rest == b"test".as_slice());
+    /// ```
     pub fn from_slice(slice: &[u8]) -> Result<(UdpHeader, &[u8]), LenError>
         ensures reads { ReadsUdp slice.now (found_and_rest result) }
         ensures only { (other : UdpReading) → ReadsUdp slice.now other →
@@ -68,6 +77,21 @@ impl UdpHeader {
     /// pseudo-header, and it is not 0, which says that there is none.
     ///
     /// The sum counts the field `length` as it stands: set it first, to 8 and the payload's length.
+    ///
+    /// # Example
+    ///
+    /// ```
+    /// let (source, destination) = ([192, 168, 0, 1], [192, 168, 0, 199]);
+    /// let ip = Ipv4Header::new(12, 64, IpNumber::UDP, source, destination)?;
+    /// let mut udp = UdpHeader {
+    ///     source_port: 1024,
+    ///     destination_port: 53,
+    ///     length: 12,
+    ///     checksum: 0,
+    /// };
+    /// udp.set_checksum_ipv4(&ip, b"test");
+    /// assert!(rt; udp.to_bytes() == [4, 0, 0, 53, 0, 12, 0x91, 0xae]);
+    /// ```
     pub fn set_checksum_ipv4(&mut self, ip: &Ipv4Header, payload: &[u8])
         ensures others { self.new ≡ record self.old { checksum = self.new.checksum } }
         ensures there { self.new.checksum ≢ 0 }
@@ -86,6 +110,22 @@ impl UdpHeader {
 
     /// Sets the checksum of a datagram over IPv6, as [`UdpHeader::set_checksum_ipv4`] does. In a
     /// packet with a routing header, the destination has to be the last one (RFC 8200 section 8.1).
+    ///
+    /// # Example
+    ///
+    /// ```
+    /// let mut ip = Ipv6Header::default();
+    /// ip.source = [0x20, 0x01, 0x0d, 0xb8, 0, 0, 0, 0, 0, 0, 0, 0, 0, 0, 0, 1];
+    /// ip.destination = [0x20, 0x01, 0x0d, 0xb8, 0, 0, 0, 0, 0, 0, 0, 0, 0, 0, 0, 2];
+    /// let mut udp = UdpHeader {
+    ///     source_port: 1024,
+    ///     destination_port: 53,
+    ///     length: 12,
+    ///     checksum: 0,
+    /// };
+    /// udp.set_checksum_ipv6(&ip, b"test");
+    /// assert!(rt; udp.checksum == 0xb852);
+    /// ```
     pub fn set_checksum_ipv6(&mut self, ip: &Ipv6Header, payload: &[u8])
         ensures others { self.new ≡ record self.old { checksum = self.new.checksum } }
         ensures there { self.new.checksum ≢ 0 }

@@ -16,6 +16,16 @@ use packet_parts::checksum::ipv6_pseudo_header;
 /// `false`, with the message unchanged, if it is not an echo request: it has fewer than 8 bytes,
 /// another type, or a code other than 0. The slice has to end where the packet's length field says,
 /// since each of its bytes counts in the checksum.
+///
+/// # Example
+///
+/// ```
+/// let mut message = [8, 0, 0x84, 0x68, 0x12, 0x34, 0, 1, b'a', b'b'];
+/// assert!(rt; icmpv4_reply(&mut message));
+/// assert!(rt; message == [0, 0, 0x8c, 0x68, 0x12, 0x34, 0, 1, b'a', b'b']);
+/// // A reply gets no reply.
+/// assert!(rt; !icmpv4_reply(&mut message));
+/// ```
 pub fn icmpv4_reply(message: &mut [u8]) -> bool
     ensures asked { IsTrue result ↔ IsEchoRequest 8 message.old }
     ensures made { OnTrue result
@@ -39,6 +49,18 @@ pub fn icmpv4_reply(message: &mut [u8]) -> bool
 /// `false`, with the message unchanged, if it is not an echo request: it has fewer than 8 bytes, or
 /// 2^32 or more, another type, or a code other than 0. The addresses are those of the reply: if the
 /// request was sent to a multicast address, the reply's source is another address.
+///
+/// # Example
+///
+/// ```
+/// // A reply from 2001:db8::1 to 2001:db8::2.
+/// let source = [0x20, 0x01, 0x0d, 0xb8, 0, 0, 0, 0, 0, 0, 0, 0, 0, 0, 0, 1];
+/// let mut destination = source;
+/// destination[15] = 2;
+/// let mut message = [128, 0, 0xb0, 0xae, 0x12, 0x34, 0, 1, b'a', b'b'];
+/// assert!(rt; icmpv6_reply(source, destination, &mut message));
+/// assert!(rt; message == [129, 0, 0xaf, 0xae, 0x12, 0x34, 0, 1, b'a', b'b']);
+/// ```
 pub fn icmpv6_reply(source: [u8; 16], destination: [u8; 16], message: &mut [u8]) -> bool
     ensures asked { IsTrue result
         ↔ (IsEchoRequest 128 message.old × (length message.old < 2 ^ 32)) }

@@ -12,6 +12,18 @@ use etherparse::checksum::{update_4bytes, update_4bytes_with_no_zero};
 
 /// Gives a header another source address, and returns the UDP checksum for it; 0, which says that
 /// there is none, stays 0.
+///
+/// # Example
+///
+/// ```
+/// let (source, destination) = ([192, 168, 0, 1], [192, 168, 0, 199]);
+/// let mut header = Ipv4Header::new(12, 64, IpNumber::UDP, source, destination)?;
+/// header.set_checksum();
+/// let checksum = translate_udp_source(&mut header, 0x91ae, [198, 51, 100, 7]);
+/// assert!(rt; (header.header_checksum, checksum) == (0x4f23, 0x281d));
+/// let checksum = translate_udp_destination(&mut header, checksum, [10, 0, 0, 2]);
+/// assert!(rt; (header.header_checksum, checksum) == (0x0691, 0xdf8a));
+/// ```
 pub fn translate_udp_source(header: &mut Ipv4Header, udp_checksum: u16, source: [u8; 4]) -> u16
     ensures header { Readdresses header.old header.new
         (record header.old { source = source }) header.old.source source }
@@ -45,6 +57,18 @@ pub fn translate_udp_destination(
 }
 
 /// Gives a header another source address, and returns the TCP checksum for it, which may be 0.
+///
+/// # Example
+///
+/// ```
+/// let (source, destination) = ([192, 168, 0, 1], [192, 168, 0, 199]);
+/// let mut header = Ipv4Header::new(20, 64, IpNumber::TCP, source, destination)?;
+/// header.set_checksum();
+/// let checksum = translate_tcp_source(&mut header, 0x0979, [198, 51, 100, 7]);
+/// assert!(rt; (header.header_checksum, checksum) == (0x4f26, 0x9fe7));
+/// let checksum = translate_tcp_destination(&mut header, checksum, [10, 0, 0, 2]);
+/// assert!(rt; (header.header_checksum, checksum) == (0x0694, 0x5755));
+/// ```
 pub fn translate_tcp_source(header: &mut Ipv4Header, tcp_checksum: u16, source: [u8; 4]) -> u16
     ensures header { Readdresses header.old header.new
         (record header.old { source = source }) header.old.source source }
