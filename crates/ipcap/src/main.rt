@@ -21,9 +21,9 @@ use input::Input;
 use output::Output;
 use run::run;
 use status::Status;
-use streams::Watched;
 use std::io;
 use std::process::ExitCode;
+use streams::Watched;
 
 fn main(rt: HostRuntime) -> ExitCode {
     let is_quiet = match read_request(&rt) {

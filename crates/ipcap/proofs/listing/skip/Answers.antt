@@ -69,6 +69,7 @@ pub returns-then-not-branch-clause-skips : goal.returns-then-not-branch-clause-s
 returns-then-not-branch-clause-skips g c =
     let was = c.turns.invariant in
     let many = many_more c.args.len c.turns.left _ c.unread.result.now was.taken (unread c.turns.input) was.many was.within c.unread.ensures.value c.min-passed.ensures in
-    let over = passed_all c.unread.result.now (unread c.turns.input) (unread c.pass.new.self) c.turns.left _ c.unread.ensures.value c.min-passed.ensures c.pass.ensures.rest (omega (arith, c.if-left-eq0.false)) in
-    (lacked _ _ _ _ _ _ c.requires.empty (grind (arith, over, c.in_ok-fill.ensures.same)) (takes_then _ _ _ _ _ (takes_both _ _ _ _ _ _ was.takes c.pass.ensures.takes) c.in_ok-fill.ensures.takes) many (omega (arith, was.within, c.if-left-eq0.false)),
-    c.in_ok-fill.ensures.end c.if-not-branch.true)
+    let over = passed_all c.unread.result.now (unread c.turns.input) (unread c.pass.new.self) c.turns.left _ c.unread.ensures.value c.min-passed.ensures c.pass.ensures.rest (omega (arith, c.if-left-eq0.false)) in (
+      lacked _ _ _ _ _ _ c.requires.empty (grind (arith, over, c.in_ok-fill.ensures.same)) (takes_then _ _ _ _ _ (takes_both _ _ _ _ _ _ was.takes c.pass.ensures.takes) c.in_ok-fill.ensures.takes) many (omega (arith, was.within, c.if-left-eq0.false)),
+      c.in_ok-fill.ensures.end c.if-not-branch.true,
+    )

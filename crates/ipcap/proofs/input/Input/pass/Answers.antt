@@ -11,7 +11,7 @@ returns g c =
     let whole : c.args.len + left ≡ w.len = omega (arith, c.requires, length-take-le w.len w.bytes (omega arith)) in
     let moved = length-take-le left (drop c.args.len w.bytes) (omega (arith, length-drop c.args.len w.bytes)) in
     let rest = ap (take left) c.copy_within.ensures.after ∙ take_at (take left (drop c.args.len w.bytes)) _ left moved ∙ sym (drop-take c.args.len left w.bytes)
-        ∙ ap (λ k. drop c.args.len (take k w.bytes)) whole in
+    ∙ ap (λ k. drop c.args.len (take k w.bytes)) whole in
     record {
       takes = record {
         got = [];
