@@ -13,7 +13,7 @@ use Rattle.ipcap.specs.Reading.{is_read, link_type_of}
 use Rattle.ipcap.specs.Listing.{unless_quiet}
 use Rattle.ipcap.specs.Output.{AppendsFront, Fails, HasFullCounts, HasOtherFrames, IsFullCapture, IsListed, IsListing, IsNoCapture, IsOutcome, Outcome, Writes, listed, refused, status_at}
 use Rattle.ipcap.specs.Private.Progress.{Breaks, Ends}
-use Rattle.ipcap.specs.Streams.{CannotRead, Prints, Reads, Takes, pending, unlisted, unread}
+use Rattle.ipcap.specs.Streams.{CannotRead, Prints, Takes, pending, unlisted, unread}
 use Rattle.ipcap.specs.Totals.{nothing_counted}
 use Rattle.ipcap.specs.declared.failure.Failure.{Failure}
 use Rattle.ipcap.specs.declared.failure.Failure.TheVariants as failure
@@ -23,7 +23,7 @@ use Rattle.ipcap.specs.declared.output.Output.{Output}
 use Rattle.ipcap.specs.declared.status.Status.{Status}
 use Rattle.ipcap.specs.declared.status.Status.TheVariants.{NoCapture}
 use Rattle.ipcap.specs.declared.totals.Totals.{Totals}
-use Rattle.ipcap.proofs.Runs.{prints_both, reads_nothing}
+use Rattle.ipcap.proofs.Runs.{prints_both, reads_both, reads_nothing}
 use Rattle.ipcap.proofs.Fronts.{begins_with_file_header-append, begins_with_file_header-front, reads_no_file_header-append}
 
 -- ---- what a sink gets
@@ -86,9 +86,8 @@ module _ {W : Type 0} (contents : W → Option (List ℕ)) where
 before : (a b : Option (List ℕ)) (bytes : List ℕ) (P Q : List ℕ → Type 0) → Consumes a b bytes → ((rest : List ℕ) → Q rest → P (bytes ++ rest)) → IfSome b Q → IfSome a P
 before a b bytes P Q taken f q = grind arith
 
-after : (a b c : Option (List ℕ)) (u v got s front rest : List ℕ) → Consumes a b got → u ++ got ≡ s ++ v → Consumes (prepend_known v b) c (front ++ rest)
-    → Consumes (prepend_known u a) c ((s ++ front) ++ rest)
-after a b c u v got s front rest p e q = grind (arith, append_assoc)
+whole_after : (u v s g h front rest : List ℕ) → u ++ g ≡ s ++ v → v ++ h ≡ front ++ rest → u ++ (g ++ h) ≡ (s ++ front) ++ rest
+whole_after u v s g h front rest e f = grind (arith, append_assoc)
 
 all : (a b : Option (List ℕ)) (u got bytes : List ℕ) → Consumes a b got → u ++ got ≡ bytes → Consumes (prepend_known u a) b bytes
 all a b u got bytes c e = grind (arith, append_assoc)
@@ -100,22 +99,13 @@ from_records a b u v got s P Q p e f q = before (prepend_known u a) (prepend_kno
 all_read : (a b : Option (List ℕ)) (u got : List ℕ) → Consumes a b got → Consumes (prepend_known u a) b (u ++ got)
 all_read a b u got c = all a b u got (u ++ got) c refl
 
-module _ {R : Type 0} (remaining : R → Option (List ℕ)) where
-  -- what was read of the input is a front of it
-  consumed : (a b : Input R) (got front rest : List ℕ) → Reads remaining a b got → unread a ++ got ≡ front ++ rest → Consumes (unlisted remaining a) (remaining b.source) (front ++ rest)
-  consumed a b got front rest r e = all (remaining a.source) (remaining b.source) (unread a) got (front ++ rest) r.gave e
-
-  consumed_after : (a b : Input R) (c : Option (List ℕ)) (s front rest : List ℕ) → Takes remaining a b s → Consumes (unlisted remaining b) c (front ++ rest)
-      → Consumes (unlisted remaining a) c ((s ++ front) ++ rest)
-  consumed_after a b c s front rest t q = after (remaining a.source) (remaining b.source) c (unread a) (unread b) t.got s front rest t.reads.gave t.takes q
-
 -- ---- how a listing fails
 
 module _ {R W V : Type 0} (remaining : R → Option (List ℕ)) (contents : W → Option (List ℕ)) (also : V → Option (List ℕ)) (P : R → Type 0) (Q : W → Type 0) (Q' : V → Type 0) (listing : Listing) where
   -- this is how a listing fails
   abbrev pub FailsListing : Input R → Input R → Output W → Output W → Output V → Output V → Type 0
-  FailsListing a c o n p q = Fails listing.is_quiet (IsListing listing.is_quiet listing.header) (HasFullCounts listing.header) (CannotRead P c) (Q n.sink ⊎ Q' q.sink)
-      (unlisted remaining a) (remaining c.source) (contents o.sink) (contents n.sink) (also p.sink) (also q.sink)
+  FailsListing a c o n p q = Fails remaining listing.is_quiet (IsListing listing.is_quiet listing.header) (HasFullCounts listing.header) (CannotRead P c) (Q n.sink ⊎ Q' q.sink)
+      a c (contents o.sink) (contents n.sink) (also p.sink) (also q.sink)
 
   -- a front is told, and then a call failed
   module _ (e : Failure) (a c : Input R) (o m n : Output W) (p : Output V) (fresh : pending o ≡ []) (b : Breaks remaining contents listing P Q nothing_counted e a c o m) (handed : Prints contents m n []) where
@@ -127,7 +117,9 @@ module _ {R W V : Type 0} (remaining : R → Option (List ℕ)) (contents : W �
         record {
           front = f.front;
           rest = f.rest;
-          read = consumed remaining a c b.got f.front f.rest b.reads f.whole;
+          got = b.got;
+          reads = b.reads;
+          whole = f.whole;
           outcome = listed listing.is_quiet f.told.text f.last f.end;
           is_outcome = record { text = f.told.text; totals = f.last; end = f.end; lists = f.told.lists; outcome_of = refl };
           output = rw (output_of listing.is_quiet f.told.text f.last f.end) (printed_front contents o n text _ fresh printed);
@@ -156,7 +148,9 @@ module _ {R W V : Type 0} (remaining : R → Option (List ℕ)) (contents : W �
         record {
           front = unread a ++ b.got;
           rest = [];
-          read = consumed remaining a c b.got _ [] b.reads (sym (append-nil _));
+          got = b.got;
+          reads = b.reads;
+          whole = sym (append-nil (unread a ++ b.got));
           outcome = listed listing.is_quiet b.told.text t end;
           is_outcome = record { text = b.told.text; totals = t; end = end; lists = b.told.lists; outcome_of = refl };
           output = rw (output_of listing.is_quiet b.told.text t end) (printed_front contents o n text _ fresh (prints_then contents o m n text b.told.prints handed));
@@ -171,7 +165,9 @@ module _ {R W V : Type 0} (remaining : R → Option (List ℕ)) (contents : W �
         record {
           front = unread a ++ b.got;
           rest = [];
-          read = consumed remaining a c b.got _ [] b.reads (sym (append-nil _));
+          got = b.got;
+          reads = b.reads;
+          whole = sym (append-nil (unread a ++ b.got));
           outcome = listed listing.is_quiet b.told.text t end;
           is_outcome = record { text = b.told.text; totals = t; end = end; lists = b.told.lists; outcome_of = refl };
           output = appends_more _ _ _ text _ _ (printed_all contents o n text fresh (prints_then contents o m n text b.told.prints handed) all) out (output_of listing.is_quiet b.told.text t end);
@@ -231,8 +227,8 @@ other_frames is_quiet (Some more) u rest header begins other = has_other_frames 
 module _ {R W V : Type 0} (remaining : R → Option (List ℕ)) (contents : W → Option (List ℕ)) (also : V → Option (List ℕ)) (P : R → Type 0) (Q : W → Type 0) (Q' : V → Type 0) (is_quiet : Bool) where
   -- this is how a run fails
   abbrev pub FailsRun : Input R → Input R → Output W → Output W → Output V → Output V → Type 0
-  FailsRun a c o n p q = Fails is_quiet (IsOutcome is_quiet) IsFullCapture (CannotRead P c) (Q n.sink ⊎ Q' q.sink)
-      (unlisted remaining a) (remaining c.source) (contents o.sink) (contents n.sink) (also p.sink) (also q.sink)
+  FailsRun a c o n p q = Fails remaining is_quiet (IsOutcome is_quiet) IsFullCapture (CannotRead P c) (Q n.sink ⊎ Q' q.sink)
+      a c (contents o.sink) (contents n.sink) (also p.sink) (also q.sink)
 
   is_listed : (s records : List ℕ) (outcome : Outcome) (header : FileHeader) → BeginsWithFileHeader (s ++ records) header records → is_read (link_type_of header) ≡ true
       → IsListing is_quiet header records outcome → IsOutcome is_quiet (s ++ records) outcome
@@ -259,7 +255,9 @@ module _ {R W V : Type 0} (remaining : R → Option (List ℕ)) (contents : W �
     not_refused_by (Err e) is wrote w = record {
       front = unread a;
       rest = [];
-      read = grind (arith, consumed remaining a a [] (unread a) [] (reads_nothing remaining a) (append-nil (unread a) ∙ sym (append-nil (unread a))));
+      got = [];
+      reads = reads_nothing remaining a;
+      whole = refl;
       outcome = refused line;
       is_outcome = is;
       output = appends_nothing (contents o.sink) [];
@@ -274,7 +272,9 @@ module _ {R W V : Type 0} (remaining : R → Option (List ℕ)) (contents : W �
       record {
         front = unread b;
         rest = [];
-        read = consumed remaining a b t.got (unread b) [] t.reads (t.takes ∙ sym (append-nil (unread b)));
+        got = t.got;
+        reads = t.reads;
+        whole = t.takes ∙ sym (append-nil (unread b));
         outcome = refused (capture_error_line (capture.CutOff e));
         is_outcome = is_no_capture is_quiet (unread b) (capture.CutOff e) (record { short = few; error = refl });
         output = appends_nothing (contents o.sink) [];
@@ -289,7 +289,9 @@ module _ {R W V : Type 0} (remaining : R → Option (List ℕ)) (contents : W �
     header_then_by (Err e) f = record {
       front = f.front;
       rest = f.rest;
-      read = consumed_after remaining a b (remaining c.source) [] f.front f.rest t f.read;
+      got = t.got ++ f.got;
+      reads = reads_both remaining a b c t.got f.got t.reads f.reads;
+      whole = whole_after (unread a) (unread b) [] t.got f.got f.front f.rest t.takes f.whole;
       outcome = f.outcome;
       is_outcome = f.is_outcome;
       output = f.output;
@@ -313,7 +315,9 @@ module _ {R W V : Type 0} (remaining : R → Option (List ℕ)) (contents : W �
     listing_fails f = record {
       front = take 24 (unread a) ++ f.front;
       rest = f.rest;
-      read = consumed_after remaining a b (remaining c.source) (take 24 (unread a)) f.front f.rest t f.read;
+      got = t.got ++ f.got;
+      reads = reads_both remaining a b c t.got f.got t.reads f.reads;
+      whole = whole_after (unread a) (unread b) (take 24 (unread a)) t.got f.got f.front f.rest t.takes f.whole;
       outcome = f.outcome;
       is_outcome = is_listed (take 24 (unread a)) f.front f.outcome header (listed_front f.front) shown f.is_outcome;
       output = f.output;

@@ -1,7 +1,7 @@
 -- What the program writes.
 use Rattle.std.specs.Prelude.{ℕ, ◌≡◌, ◌⊎◌, Bool, false, IsTrue, List, [], ◌++◌, Option, Some, None}
-use Rattle.std.specs.Prelude.{Err, if◌then◌else◌}
-use Rattle.std.specs.Io.KnownBytes.{Appends, Consumes, Keeps}
+use Rattle.std.specs.Prelude.{Err, IfSome, if◌then◌else◌}
+use Rattle.std.specs.Io.KnownBytes.{Appends, Keeps}
 use Rattle.packet_capture.specs.Capture.{BeginsWithFileHeader, ReadsFileHeader}
 use Rattle.packet_capture.specs.declared.capture.CaptureError.{CaptureError}
 use Rattle.packet_capture.specs.declared.capture.CutOff as cut
@@ -9,7 +9,10 @@ use Rattle.packet_capture.specs.declared.capture.FileHeader.{FileHeader}
 use Rattle.ipcap.specs.Lines.{capture_error_line, closing_line, end_text, link_type_line}
 use Rattle.ipcap.specs.Reading.{is_read, link_type_of}
 use Rattle.ipcap.specs.Listing.{Lists, unless_quiet}
+use Rattle.ipcap.specs.Streams.{CannotRead, Reads, unlisted, unread}
 use Rattle.ipcap.specs.Totals.{IsFull, nothing_counted}
+use Rattle.ipcap.specs.declared.input.Input.{Input}
+use Rattle.ipcap.specs.declared.output.Output.{Output}
 use Rattle.ipcap.specs.declared.status.Status.{Status}
 use Rattle.ipcap.specs.declared.status.Status.TheVariants as status
 use Rattle.ipcap.specs.declared.totals.Totals.{Totals}
@@ -105,18 +108,41 @@ pub record IsFullCapture (capture : List ℕ) : Type 0 where
   pub begins : BeginsWithFileHeader capture header records
   pub full : HasFullCounts header records
 
--- A run that fails has read `front` and `rest`. It has written a front of what it writes if the
--- input ends after `front`. A write has failed; or all lines of the records are written, but none
--- of the end, since a read has failed and `front` is all that was read, or since a count is full.
-pub record Fails (is_quiet : Bool) (IsOutcome : List ℕ → Outcome → Type 0)
-    (IsFull : List ℕ → Type 0) (read_failed write_failed : Type 0)
-    (input left old new old_errors new_errors : Option (List ℕ)) : Type 0 where
+-- A run that fails got these bytes from the source. All that was read is `front`, and a rest that
+-- is not listed. It has written a front of what it writes if the input ends after `front`. A write
+-- has failed; or all lines of the records are written, but none of the end, since a read has failed
+-- and nothing is left to list, or since a count is full.
+pub record Fails {R : Type 0} (remaining : R → Option (List ℕ)) (is_quiet : Bool)
+    (IsOutcome : List ℕ → Outcome → Type 0) (IsFull : List ℕ → Type 0)
+    (read_failed write_failed : Type 0) (input left : Input R)
+    (old new old_errors new_errors : Option (List ℕ)) : Type 0 where
+  pub got : List ℕ
+  pub reads : Reads remaining input left got
   pub front : List ℕ
   pub rest : List ℕ
-  pub read : Consumes input left (front ++ rest)
+  pub whole : unread input ++ got ≡ front ++ rest
   pub outcome : Outcome
   pub is_outcome : IsOutcome front outcome
   pub output : AppendsFront old new outcome.output
   pub errors : AppendsFront old_errors new_errors outcome.errors
   pub cause : write_failed ⊎ (((read_failed × (rest ≡ [])) ⊎ IsFull front)
       × Appends old new (unless_quiet is_quiet outcome.output) × Keeps old_errors new_errors)
+
+-- the sinks get the texts of such an outcome, for all that the input has left
+abbrev pub WritesAll : {R W E : Type 0} → (R → Option (List ℕ)) → (W → Option (List ℕ))
+    → (E → Option (List ℕ)) → (List ℕ → Outcome → Type 0) → Status → Input R → Output W → Output W
+    → Output E → Output E → Type 0
+WritesAll remaining contents contents_of_errors P status input old new old_errors new_errors =
+    IfSome (unlisted remaining input) (λ bytes. Writes (P bytes) status (contents old.sink)
+    (contents new.sink) (contents_of_errors old_errors.sink) (contents_of_errors new_errors.sink))
+
+-- the sinks get fronts of the texts of such an outcome, and a call has failed or a count is full
+abbrev pub FailsWith : {R W E : Type 0} → (R → Option (List ℕ)) → (W → Option (List ℕ))
+    → (E → Option (List ℕ)) → (R → Type 0) → (W → Type 0) → (E → Type 0) → Bool
+    → (List ℕ → Outcome → Type 0) → (List ℕ → Type 0) → Input R → Input R → Output W → Output W
+    → Output E → Output E → Type 0
+FailsWith remaining contents contents_of_errors read_failed write_failed error_failed is_quiet P
+    Full input left old new old_errors new_errors =
+    Fails remaining is_quiet P Full (CannotRead read_failed left)
+    (write_failed new.sink ⊎ error_failed new_errors.sink) input left (contents old.sink)
+    (contents new.sink) (contents_of_errors old_errors.sink) (contents_of_errors new_errors.sink)

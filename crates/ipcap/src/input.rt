@@ -5,9 +5,13 @@ ghost use Rattle.std.specs.Prelude.{◌<◌, ◌≤◌, ◌^◌};
 
 use crate::failure::Failure;
 use crate::streams::Source;
+use packet_capture::capture::RecordHead;
 
-/// The room for the longest record that is read, and its head of 16 bytes.
-pub const ROOM: usize = 262_160;
+// The greatest number of captured bytes in a record that is read.
+const MAX_CAPTURED_LEN: usize = 262_144;
+
+/// The room for a record and its head.
+pub const ROOM: usize = RecordHead::LEN + MAX_CAPTURED_LEN;
 
 const _: () = prove!(ROOM == 262_160);
 

@@ -36,7 +36,7 @@ impl fmt::Display for Upper {
 // The keyword of a protocol's number.
 #[tactic(auto, unfolding(crate::specs::Lines::keyword_of))]
 fn keyword(number: u8) -> Option<&'static str>
-    ensures { MatchOption result (keyword_of number ≡ None)
+    ensures value { MatchOption result (keyword_of number ≡ None)
         (λ keyword. keyword_of number ≡ Some keyword.now) }
 {
     match number {
@@ -122,7 +122,8 @@ impl fmt::Display for SkippedLine {
 // Writes why a record is skipped.
 #[tactic(auto, unfolding(crate::specs::Lines::skipped_text))]
 fn write_skipped<W: fmt::Write>(f: &mut Formatter<W>, captured_len: u32) -> fmt::Result
-    ensures text { DisplaysOnOk W.write_str_gives f.old result (Some (skipped_text captured_len)) f.new }
+    ensures text { DisplaysOnOk W.write_str_gives f.old result
+        (Some (skipped_text captured_len)) f.new }
 {
     write!(f, "skipped: {captured_len} bytes are too many\n")
 }
@@ -136,7 +137,8 @@ fn write_head<W: fmt::Write>(
     seconds: u32,
     nanoseconds: u64,
 ) -> fmt::Result
-    ensures text { DisplaysOnOk W.write_str_gives f.old result (Some (head_text number seconds nanoseconds resolution)) f.new }
+    ensures text { DisplaysOnOk W.write_str_gives f.old result
+        (Some (head_text number seconds nanoseconds resolution)) f.new }
 {
     let fraction = Fraction {
         resolution,
@@ -173,7 +175,8 @@ impl fmt::Display for Fraction {
 // Writes what a frame is found to carry.
 #[tactic(auto, unfolding(crate::specs::Lines::reading_text))]
 fn write_reading<W: fmt::Write>(f: &mut Formatter<W>, reading: &Reading) -> fmt::Result
-    ensures text { DisplaysOnOk W.write_str_gives f.old result (Some (reading_text reading.now)) f.new }
+    ensures text { DisplaysOnOk W.write_str_gives f.old result
+        (Some (reading_text reading.now)) f.new }
 {
     match reading {
         Reading::Packet(shown) => write_shown(f, shown),
@@ -231,7 +234,8 @@ fn write_shown<W: fmt::Write>(f: &mut Formatter<W>, shown: &Shown) -> fmt::Resul
 // Writes sender, receiver and protocol of a packet.
 #[tactic(auto, unfolding(crate::specs::Lines::parties_text))]
 fn write_parties<W: fmt::Write>(f: &mut Formatter<W>, shown: &Shown) -> fmt::Result
-    ensures text { DisplaysOnOk W.write_str_gives f.old result (Some (parties_text shown.now)) f.new }
+    ensures text { DisplaysOnOk W.write_str_gives f.old result
+        (Some (parties_text shown.now)) f.new }
 {
     let (source, destination) = (shown.source, shown.destination);
     let (upper, detail) = (Upper(shown.upper), shown.detail);
@@ -242,7 +246,8 @@ fn write_parties<W: fmt::Write>(f: &mut Formatter<W>, shown: &Shown) -> fmt::Res
 // checksums, and that the total length is 0.
 #[tactic(auto, unfolding(crate::specs::Lines::payload_text))]
 fn write_payload<W: fmt::Write>(f: &mut Formatter<W>, shown: &Shown) -> fmt::Result
-    ensures text { DisplaysOnOk W.write_str_gives f.old result (Some (payload_text shown.now)) f.new }
+    ensures text { DisplaysOnOk W.write_str_gives f.old result
+        (Some (payload_text shown.now)) f.new }
 {
     let (len, hops, place) = (shown.len, shown.hops, Place(shown.fragment));
     let (header, payload) = (HeaderVerdict(shown.is_header_right), shown.verdict);
@@ -317,7 +322,8 @@ fn write_cut<W: fmt::Write>(
     captured_len: usize,
     original_len: u32,
 ) -> fmt::Result
-    ensures text { DisplaysOnOk W.write_str_gives f.old result (Some (cut_text captured_len original_len)) f.new }
+    ensures text { DisplaysOnOk W.write_str_gives f.old result
+        (Some (cut_text captured_len original_len)) f.new }
 {
     if captured_len < original_len as usize {
         write!(f, " cut {captured_len}/{original_len}")

@@ -212,7 +212,7 @@ impl Listing {
         Ok(after)
     }
 
-    // Lists the record at the front of the window, which is too long, and skips it.
+    // Lists the record at the front of what has been read, which is too long, and skips it.
     fn list_past<R: Source, W: Sink>(
         &self,
         before: Totals,

@@ -1,13 +1,13 @@
 //! The whole run: a capture in, lines out.
 
-ghost use Rattle.std.specs.Prelude.{◌≡◌, ◌≢◌, ◌<◌, ◌≤◌, ◌⊎◌, [], Err, IfErr, IfOk, IfSome, OnErr, OnOk};
-ghost use Rattle.std.specs.Prelude.{drop, if◌then◌else◌, length};
+ghost use Rattle.std.specs.Prelude.{◌≡◌, ◌≢◌, ◌<◌, ◌≤◌, ◌⊎◌, [], Err, IfErr, IfOk, IfSome, OnErr};
+ghost use Rattle.std.specs.Prelude.{OnOk, drop, if◌then◌else◌, length};
 ghost use Rattle.std.specs.Io.KnownBytes.{Appends, IsAtEnd};
 ghost use Rattle.packet_capture.specs.Capture.{BeginsWithFileHeader, ReadsFileHeader};
 ghost use Rattle.ipcap.specs.Lines.{closing_line};
-ghost use Rattle.ipcap.specs.Output.{AppendsFront, Fails, HasFullCounts, IsFullCapture, IsListing};
-ghost use Rattle.ipcap.specs.Output.{IsOutcome, Writes, listed, status_at};
-ghost use Rattle.ipcap.specs.Streams.{CannotRead, Prints, Takes, pending, unlisted, unread};
+ghost use Rattle.ipcap.specs.Output.{AppendsFront, FailsWith, HasFullCounts, IsFullCapture};
+ghost use Rattle.ipcap.specs.Output.{IsListing, IsOutcome, WritesAll, listed, status_at};
+ghost use Rattle.ipcap.specs.Streams.{CannotRead, Prints, Takes, pending, unread};
 
 use crate::failure::Failure;
 use crate::input::Input;
@@ -34,16 +34,12 @@ pub fn run<R: Source, W: Sink, E: Sink>(
     errors: &mut Output<E>,
 ) -> Status
     requires fresh { (pending output.old ≡ []) × (pending errors.old ≡ []) }
-    ensures output { result ≢ Status.Failed → IfSome (unlisted R.remaining input.old) (λ capture.
-        Writes (IsOutcome is_quiet capture) result
-        (W.contents output.old.sink) (W.contents output.new.sink)
-        (E.contents errors.old.sink) (E.contents errors.new.sink)) }
-    ensures failed { result ≡ Status.Failed → Fails is_quiet
-        (IsOutcome is_quiet) IsFullCapture (CannotRead R.has_failed input.new)
-        (W.has_failed output.new.sink ⊎ E.has_failed errors.new.sink)
-        (unlisted R.remaining input.old) (R.remaining input.new.source)
-        (W.contents output.old.sink) (W.contents output.new.sink)
-        (E.contents errors.old.sink) (E.contents errors.new.sink) }
+    ensures output { result ≢ Status.Failed →
+        WritesAll R.remaining W.contents E.contents (IsOutcome is_quiet) result
+        input.old output.old output.new errors.old errors.new }
+    ensures failed { result ≡ Status.Failed → FailsWith R.remaining W.contents E.contents
+        R.has_failed W.has_failed E.has_failed is_quiet (IsOutcome is_quiet) IsFullCapture
+        input.old input.new output.old output.new errors.old errors.new }
 {
     match try_run(is_quiet, input, output, errors) {
         Ok(status) => status,
@@ -60,16 +56,12 @@ fn try_run<R: Source, W: Sink, E: Sink>(
 ) -> Result<Status, Failure>
     requires fresh { (pending output.old ≡ []) × (pending errors.old ≡ []) }
     ensures status { IfOk result (λ status. status ≢ Status.Failed) }
-    ensures output { IfOk result (λ status. IfSome (unlisted R.remaining input.old) (λ capture.
-        Writes (IsOutcome is_quiet capture) status
-        (W.contents output.old.sink) (W.contents output.new.sink)
-        (E.contents errors.old.sink) (E.contents errors.new.sink))) }
-    ensures failed { OnErr result (Fails is_quiet
-        (IsOutcome is_quiet) IsFullCapture (CannotRead R.has_failed input.new)
-        (W.has_failed output.new.sink ⊎ E.has_failed errors.new.sink)
-        (unlisted R.remaining input.old) (R.remaining input.new.source)
-        (W.contents output.old.sink) (W.contents output.new.sink)
-        (E.contents errors.old.sink) (E.contents errors.new.sink)) }
+    ensures output { IfOk result (λ status.
+        WritesAll R.remaining W.contents E.contents (IsOutcome is_quiet) status
+        input.old output.old output.new errors.old errors.new) }
+    ensures failed { OnErr result (FailsWith R.remaining W.contents E.contents
+        R.has_failed W.has_failed E.has_failed is_quiet (IsOutcome is_quiet) IsFullCapture
+        input.old input.new output.old output.new errors.old errors.new) }
 {
     fill_to_file_header(input)?;
     list_input(is_quiet, input, output, errors)
@@ -101,16 +93,12 @@ fn list_input<R: Source, W: Sink, E: Sink>(
     requires enough { (24 ≤ length (unread input.old)) ⊎ IsAtEnd (R.remaining input.old.source) }
     requires fresh { (pending output.old ≡ []) × (pending errors.old ≡ []) }
     ensures status { IfOk result (λ status. status ≢ Status.Failed) }
-    ensures output { IfOk result (λ status. IfSome (unlisted R.remaining input.old) (λ capture.
-        Writes (IsOutcome is_quiet capture) status
-        (W.contents output.old.sink) (W.contents output.new.sink)
-        (E.contents errors.old.sink) (E.contents errors.new.sink))) }
-    ensures failed { OnErr result (Fails is_quiet
-        (IsOutcome is_quiet) IsFullCapture (CannotRead R.has_failed input.new)
-        (W.has_failed output.new.sink ⊎ E.has_failed errors.new.sink)
-        (unlisted R.remaining input.old) (R.remaining input.new.source)
-        (W.contents output.old.sink) (W.contents output.new.sink)
-        (E.contents errors.old.sink) (E.contents errors.new.sink)) }
+    ensures output { IfOk result (λ status.
+        WritesAll R.remaining W.contents E.contents (IsOutcome is_quiet) status
+        input.old output.old output.new errors.old errors.new) }
+    ensures failed { OnErr result (FailsWith R.remaining W.contents E.contents
+        R.has_failed W.has_failed E.has_failed is_quiet (IsOutcome is_quiet) IsFullCapture
+        input.old input.new output.old output.new errors.old errors.new) }
 {
     let header = match read_file_header(input.unread()) {
         Ok(header) => header,
@@ -160,17 +148,14 @@ fn list_records<R: Source, W: Sink, E: Sink>(
 ) -> Result<Status, Failure>
     requires fresh { (pending output.old ≡ []) × (pending errors.old ≡ []) }
     ensures status { IfOk result (λ status. status ≢ Status.Failed) }
-    ensures output { IfOk result (λ status. IfSome (unlisted R.remaining input.old) (λ records.
-        Writes (IsListing listing.now.is_quiet listing.now.header records) status
-        (W.contents output.old.sink) (W.contents output.new.sink)
-        (E.contents errors.old.sink) (E.contents errors.new.sink))) }
-    ensures failed { OnErr result (Fails listing.now.is_quiet
+    ensures output { IfOk result (λ status.
+        WritesAll R.remaining W.contents E.contents
+        (IsListing listing.now.is_quiet listing.now.header) status
+        input.old output.old output.new errors.old errors.new) }
+    ensures failed { OnErr result (FailsWith R.remaining W.contents E.contents
+        R.has_failed W.has_failed E.has_failed listing.now.is_quiet
         (IsListing listing.now.is_quiet listing.now.header) (HasFullCounts listing.now.header)
-        (CannotRead R.has_failed input.new)
-        (W.has_failed output.new.sink ⊎ E.has_failed errors.new.sink)
-        (unlisted R.remaining input.old) (R.remaining input.new.source)
-        (W.contents output.old.sink) (W.contents output.new.sink)
-        (E.contents errors.old.sink) (E.contents errors.new.sink)) }
+        input.old input.new output.old output.new errors.old errors.new) }
 {
     match listing.list(input, output) {
         Ok((totals, end)) => {

@@ -10,8 +10,8 @@ use std::fmt::Display;
 use std::io;
 use std::io::{ErrorKind, Read, Write};
 
-/// The most bytes in a line.
-pub const LINE_ROOM: usize = 1024;
+// The most bytes in a line.
+const LINE_ROOM: usize = 1024;
 
 /// A line.
 pub type Line = ArrayVec<u8, LINE_ROOM>;
