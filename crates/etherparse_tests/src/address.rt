@@ -1,10 +1,10 @@
 //! That every kind of IPv6 address is printed: the examples of RFC 4291 section 2.2 and of RFC 5952
 //! section 4.
 
+use packet_parts::address::Ipv6Text;
 use std::alloc::Global;
 use std::process::Abort;
 use std::test::Fail;
-use packet_parts::address::Ipv6Text;
 
 static CASES: [([u16; 8], &str); 9] = [
     ([0; 8], "::"),

@@ -1,15 +1,17 @@
-//! The layers of `uses` over worked packets: TCP, fragments, slices of packets, captures, echo
-//! replies. Their checksums are summed by hand, word by word.
+//! The crates on top of the library over worked packets: TCP, fragments, slices of packets,
+//! captures, echo replies. Their checksums are summed by hand, word by word.
 
 use etherparse::err::{Layer, LenError};
 use etherparse::{IpFragOffset, IpNumber, Ipv4Header, Ipv6Header, LenSource};
+use packet_capture::capture::{ByteOrder, FileHeader, Format, Record, Resolution, next_record};
+use packet_parts::checksum::{Verdict, ipv4_verdict, ipv6_verdict};
+use packet_parts::fragment::{Fragment, FragmentHeader};
+use packet_parts::fragment_key::{Ipv4Key, Ipv6Key, ipv4_key, ipv6_key};
+use packet_parts::ip_slice::{IpSlice, IpSliceError, LaxIpSlice};
+use packet_parts::tcp::TcpHeaderSlice;
+use packet_rewriting::echo::{icmpv4_reply, icmpv6_reply};
 use std::process::Abort;
 use std::test::Fail;
-use packet_capture::capture::{ByteOrder, FileHeader, Format, Record, Resolution, next_record};
-use packet_rewriting::echo::{icmpv4_reply, icmpv6_reply};
-use packet_parts::fragment::{FragmentHeader, Ipv4Key, Ipv6Key, ipv4_key, ipv6_key};
-use packet_parts::ip_slice::{IpSlice, IpSliceError};
-use packet_parts::tcp::{TcpHeaderSlice, is_tcp_right_ipv4, is_tcp_right_ipv6};
 
 // 2001:db8::1 and 2001:db8::2.
 const FIRST: [u8; 16] = [0x20, 0x01, 0x0d, 0xb8, 0, 0, 0, 0, 0, 0, 0, 0, 0, 0, 0, 1];
@@ -74,26 +76,31 @@ fn a_tcp_checksum_is_judged_over_both_versions(rt: HostRuntime) {
     let mut segment = SEGMENT;
     [segment[16], segment[17]] = [0x30, 0x1d];
     let judged = [
-        is_tcp_right_ipv4(&over_ipv4, &SEGMENT),
-        is_tcp_right_ipv4(&over_ipv4, &acknowledged),
-        is_tcp_right_ipv6(&over_ipv6, &segment),
-        is_tcp_right_ipv6(&over_ipv6, &SEGMENT),
+        ipv4_verdict(&over_ipv4, &SEGMENT),
+        ipv4_verdict(&over_ipv4, &acknowledged),
+        ipv6_verdict(&over_ipv6, IpNumber::TCP, &segment),
+        ipv6_verdict(&over_ipv6, IpNumber::TCP, &SEGMENT),
     ];
-    assert_eq!(rt; judged, [true, false, true, false]);
+    let (right, wrong) = (Verdict::Right, Verdict::Wrong);
+    assert_eq!(rt; judged, [right, wrong, right, wrong]);
 }
 
-#[test]
-fn a_fragment_has_its_header_and_the_key_of_its_packet(rt: HostRuntime) {
-    let header = FragmentHeader {
+// The fragment header of `IPV6_PACKET`.
+fn fragment_header() -> FragmentHeader {
+    FragmentHeader {
         next_header: IpNumber::UDP,
         fragment_offset: IpFragOffset::try_new(1).unwrap(),
         more_fragments: true,
         identification: 0x01020304,
-    };
+    }
+}
+
+#[test]
+fn a_fragment_has_its_header_and_the_key_of_its_packet(rt: HostRuntime) {
     let rest = [5, 6, 7, 8, 9].as_slice();
     assert_eq!(rt;
         FragmentHeader::from_slice(&IPV6_PACKET[40..]),
-        Ok((header, rest))
+        Ok((fragment_header(), rest))
     );
     let ipv6 = Ipv6Key {
         source: FIRST,
@@ -131,6 +138,8 @@ fn packets_are_cut_at_their_length_field(rt: HostRuntime) -> Result<(), Fail> {
     let ipv6 = IpSlice::Ipv6 {
         header,
         extensions: &[17, 0, 0, 9, 1, 2, 3, 4],
+        fragment: Some(fragment_header()),
+        is_later: true,
         upper: IpNumber::UDP,
         payload: &[5, 6, 7, 8],
     };
@@ -142,12 +151,40 @@ fn packets_are_cut_at_their_length_field(rt: HostRuntime) -> Result<(), Fail> {
     Ok(())
 }
 
+#[test]
+fn a_packet_that_ends_early_has_the_parts_that_are_there(rt: HostRuntime) -> Result<(), Fail> {
+    let lax = LaxIpSlice::from_slice(&IPV6_PACKET[..50])?;
+    let slice = &lax.slice;
+    let fragment = Fragment {
+        identification: 0x01020304,
+        offset: 8,
+        more_fragments: true,
+    };
+    assert_eq!(rt;
+        (slice.payload(), slice.fragment(), slice.is_later_fragment()),
+        ([5, 6].as_slice(), Some(fragment), true)
+    );
+    let missing = LenError {
+        required_len: 52,
+        len: 50,
+        len_source: LenSource::Slice,
+        layer: Layer::Ipv6Packet,
+        layer_start_offset: 0,
+    };
+    assert_eq!(rt; lax.stop, Some(IpSliceError::Packet(missing)));
+    Ok(())
+}
+
 // Whether a packet is a fragment, and the number and the bytes of its payload.
 type PayloadOf<'a> = Result<(bool, IpNumber, &'a [u8]), IpSliceError>;
 
 fn payload_of(packet: &[u8]) -> PayloadOf {
     let sliced = IpSlice::from_slice(packet)?;
-    Ok((sliced.is_fragment(), sliced.upper(), sliced.payload()))
+    Ok((
+        sliced.fragment().is_some(),
+        sliced.upper(),
+        sliced.payload(),
+    ))
 }
 
 fn assert_has_payload(rt: &impl Abort, packet: &[u8], expected: PayloadOf) {
@@ -155,7 +192,7 @@ fn assert_has_payload(rt: &impl Abort, packet: &[u8], expected: PayloadOf) {
 }
 
 #[test]
-fn behind_a_later_fragment_header_stands_no_header(rt: HostRuntime) {
+fn after_a_later_fragment_header_comes_no_header(rt: HostRuntime) {
     // An authentication header of these bytes would have 32 of them, and destination options 56.
     let mut authenticated = IPV6_PACKET;
     authenticated[40] = 51;
@@ -207,7 +244,7 @@ fn a_capture_hands_its_packets_over(rt: HostRuntime) {
 fn echo_requests_become_replies(rt: HostRuntime) {
     let mut over_ipv4 = [8, 0, 0xff, 0xff, 0x12, 0x34, 0, 1, 0x61, 0x62];
     let mut over_ipv6 = [128, 0, 0, 0, 0x12, 0x34, 0, 1, 0x61, 0x62];
-    // The words behind the checksum are all ones, and their complement is 0.
+    // The words after the checksum are all ones, and their complement is 0.
     let mut all_ones = [8, 0, 0xf7, 0xff, 0xff, 0xff, 0, 0];
     let are_replies = [
         icmpv4_reply(&mut over_ipv4),

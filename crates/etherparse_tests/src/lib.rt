@@ -1,5 +1,5 @@
-//! Tests of the library and of the crates on packets by their public paths: what no clause says, and
-//! worked values from the standards.
+//! Tests of the library and of the crates on top of it by their public paths: what no clause says,
+//! and worked values from the standards.
 //!
 //! They are in a crate of their own, since each crate with tests is proved once more for them.
 #![tactic(auto)]

@@ -4,13 +4,14 @@
 use etherparse::err::ipv4::HeaderSliceError;
 use etherparse::err::{Layer, LenError, ValueTooBigError};
 use etherparse::{IpNumber, Ipv4Header, Ipv6Header, LenSource};
-use std::test::Fail;
-use uses::checksum::is_udp_right;
+use packet_parts::checksum::{Absence, Verdict, ipv4_verdict, ipv6_verdict};
+use packet_parts::ip_slice::{IpSlice, IpSliceError};
+use packet_parts::udp::UdpHeader;
 use packet_rewriting::translation::{
     translate_tcp_destination, translate_tcp_source, translate_udp_destination,
     translate_udp_source,
 };
-use packet_parts::udp::UdpHeader;
+use std::test::Fail;
 
 // The header of a datagram of 12 bytes, with this checksum.
 fn header(checksum: u16) -> UdpHeader {
@@ -83,39 +84,67 @@ fn the_udp_header_of_a_packet_is_found_or_refused_with_its_place(rt: HostRuntime
     assert_eq!(rt; found, [Ok(Some(header(0x91ae))), refused, Ok(None)]);
 }
 
+// The bytes of a datagram with this header.
+fn datagram(header: &UdpHeader, data: [u8; 4]) -> [u8; 12] {
+    let mut bytes = [0; 12];
+    bytes[..8].copy_from_slice(&header.to_bytes());
+    bytes[8..].copy_from_slice(&data);
+    bytes
+}
+
+// What a receiver finds of a datagram with this header over IPv4, and over IPv6.
+fn judged_over_ipv4(ip: &Ipv4Header, udp: &UdpHeader, data: &[u8; 4]) -> Verdict {
+    ipv4_verdict(ip, &datagram(udp, *data))
+}
+
+fn judged_over_ipv6(ip: &Ipv6Header, udp: &UdpHeader, data: &[u8; 4]) -> Verdict {
+    ipv6_verdict(ip, IpNumber::UDP, &datagram(udp, *data))
+}
+
+const NOT_COMPUTED: Verdict = Verdict::Absent(Absence::NotComputed);
+
 #[test]
 fn a_checksum_is_made_and_judged(rt: HostRuntime) -> Result<(), Fail> {
     let (ipv4, ipv6) = (over_ipv4()?, over_ipv6());
     let mut udp = header(0);
     let without = [
-        udp.is_right_ipv4(&ipv4, b"test"),
-        udp.is_right_ipv6(&ipv6, b"test"),
+        judged_over_ipv4(&ipv4, &udp, b"test"),
+        judged_over_ipv6(&ipv6, &udp, b"test"),
     ];
     udp.set_checksum_ipv4(&ipv4, b"test");
     let made = (
         udp.checksum,
-        udp.is_right_ipv4(&ipv4, b"test"),
-        udp.is_right_ipv4(&ipv4, b"text"),
+        judged_over_ipv4(&ipv4, &udp, b"test"),
+        judged_over_ipv4(&ipv4, &udp, b"text"),
     );
     udp.set_checksum_ipv6(&ipv6, b"test");
     let made_over_ipv6 = (
         udp.checksum,
-        udp.is_right_ipv6(&ipv6, b"test"),
-        udp.is_right_ipv6(&ipv6, b"text"),
+        judged_over_ipv6(&ipv6, &udp, b"test"),
+        judged_over_ipv6(&ipv6, &udp, b"text"),
     );
+    let (right, wrong) = (Verdict::Right, Verdict::Wrong);
     assert_eq!(rt;
         (without, made, made_over_ipv6),
-        ([true, false], (0x91ae, true, false), (0xb852, true, false))
+        (
+            [NOT_COMPUTED, wrong],
+            (0x91ae, right, wrong),
+            (0xb852, right, wrong)
+        )
     );
     Ok(())
 }
 
-// A datagram of 12 bytes over IPv6, and one byte behind it in the packet.
+// A datagram of 12 bytes over IPv6, and one byte after it in the packet.
 const OVER_IPV6: [u8; 53] = [
     0x60, 0, 0, 0, 0, 13, 17, 64, 0x20, 0x01, 0x0d, 0xb8, 0, 0, 0, 0, 0, 0, 0, 0, 0, 0, 0, 1, 0x20,
     0x01, 0x0d, 0xb8, 0, 0, 0, 0, 0, 0, 0, 0, 0, 0, 0, 2, 4, 0, 0, 53, 0, 12, 0xb8, 0x52, 0x74,
     0x65, 0x73, 0x74, 0xff,
 ];
+
+fn judged(packet: &[u8]) -> Result<Verdict, IpSliceError> {
+    Ok(IpSlice::from_slice(packet)?.verdict())
+}
 
 #[test]
 fn the_datagram_of_a_packet_is_judged_as_long_as_it_says(rt: HostRuntime) {
@@ -125,15 +154,17 @@ fn the_datagram_of_a_packet_is_judged_as_long_as_it_says(rt: HostRuntime) {
     shorter_than_a_header[45] = 7;
     let mut longer_than_the_packet = OVER_IPV6;
     longer_than_the_packet[45] = 14;
-    let judged = [
-        is_udp_right(&OVER_IPV6),
-        is_udp_right(&without_checksum),
-        is_udp_right(&shorter_than_a_header),
-        is_udp_right(&longer_than_the_packet),
+    let found = [
+        judged(&OVER_IPV6),
+        judged(&without_checksum),
+        judged(&shorter_than_a_header),
+        judged(&longer_than_the_packet),
     ];
+    let (right, wrong) = (Verdict::Right, Verdict::Wrong);
+    let incomplete = Verdict::Absent(Absence::Incomplete);
     assert_eq!(rt;
-        judged,
-        [Ok(Some(true)), Ok(Some(false)), Ok(None), Ok(None)]
+        found,
+        [Ok(right), Ok(wrong), Ok(incomplete), Ok(incomplete)]
     );
 }
 
@@ -150,7 +181,8 @@ fn a_translated_address_keeps_both_checksums_right(rt: HostRuntime) -> Result<()
 
 // Whether the checksum of the header and this one of the datagram over it are right.
 fn are_both_right(ip: &Ipv4Header, checksum: u16) -> bool {
-    ip.header_checksum == ip.calc_header_checksum() && header(checksum).is_right_ipv4(ip, b"test")
+    ip.header_checksum == ip.calc_header_checksum()
+        && judged_over_ipv4(ip, &header(checksum), b"test") == Verdict::Right
 }
 
 #[test]
