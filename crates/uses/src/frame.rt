@@ -11,7 +11,7 @@ ghost use Rattle.packet.specs.declared.error.SliceError.{SliceError};
 use packet::lax_sliced_packet::LaxSlicedPacket;
 
 /// The source port and the destination port of an Ethernet frame that carries UDP or TCP, also of
-/// one that the capture cut.
+/// one that the capture truncated.
 pub fn ports(frame: &[u8]) -> Option<(u16, u16)>
     ensures short { length frame.now < 14 → result ≡ None }
     ensures found { IfSome result (λ ports. (packet : Packet) × (stop : Option SliceError)
