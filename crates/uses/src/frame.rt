@@ -3,7 +3,6 @@
 ghost use Rattle.std.specs.Prelude.{◌≡◌, ◌<◌, IfSome, Option, length};
 ghost use Rattle.packet.specs.SlicedPacket.{IsFrame};
 ghost use Rattle.packet.specs.Transport.{HasPorts};
-
 ghost use Rattle.packet.specs.declared.sliced_packet.SlicedPacket.{SlicedPacket as Packet};
 ghost use Rattle.packet.specs.declared.link.LinkType.{LinkType};
 ghost use Rattle.packet.specs.declared.error.SliceError.{SliceError};
