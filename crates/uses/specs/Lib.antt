@@ -2,6 +2,8 @@ pub mod Capture
 pub mod Datagram
 pub mod Filter
 pub mod Forward
+pub mod Gre
+pub mod Options
 pub mod Payload
 pub mod Queue
 pub mod Tunnel

@@ -1,0 +1,168 @@
+//! The GRE header (RFC 2784, RFC 2890), whose length its flags tell.
+
+ghost use Rattle.std.specs.Prelude.{ℕ, ◌≡◌, ◌≢◌, ◌<◌, ◌≤◌, ◌+◌, IfErr, IfOk, length};
+ghost use Rattle.std.specs.Prelude.{slice_index, slice_range};
+ghost use Rattle.std.specs.Int.{from_be_bytes, w16};
+ghost use Rattle.etherparse.specs.WordSums.{SumsToAllOnes};
+ghost use Rattle.uses.specs.Gre.{IsGreLayout, IsUnsupported, RefusesAs, flag_at, gre_len_of};
+ghost use Rattle.uses.specs.Gre.{if_set, word_at};
+
+use etherparse::checksum::Sum16BitWords;
+
+/// A GRE header. Each optional field is there if its flag is set: C, K or S.
+#[derive(Clone, Debug, PartialEq, Eq, Drop)]
+pub struct GreHeader {
+    /// The EtherType of the payload: 0x0800 for IPv4.
+    pub protocol_type: u16,
+    pub checksum: Option<u16>,
+    pub key: Option<u32>,
+    pub sequence_number: Option<u32>,
+}
+
+/// Why there is no GRE header, and where it would start: bytes from the start of the parsed data.
+#[derive(Clone, Debug, PartialEq, Eq, Drop)]
+pub struct GreError {
+    pub cause: GreCause,
+    pub offset: usize,
+}
+
+/// Why bytes do not begin with a GRE header.
+#[derive(Clone, Debug, PartialEq, Eq, Drop)]
+pub enum GreCause {
+    /// There are `len` of the `required_len` bytes.
+    TooShort { required_len: usize, len: usize },
+    /// The first two bytes: bit 1, 4 or 5 is set, or the version is not 0 (RFC 2784 section 2.3).
+    Unsupported(u16),
+}
+
+impl GreError {
+    ghost use Rattle.std.specs.Prelude.{◌≡◌, ◌+◌, ◌<◌, ◌^◌};
+    ghost use Rattle.uses.specs.Gre.{gre_error_moved};
+
+    /// The error of the same header in data that starts `offset` bytes earlier.
+    pub fn add_offset(self, offset: usize) -> GreError
+        requires fits { self.offset + offset < 2 ^ 64 }
+        ensures moved { result ≡ gre_error_moved offset self }
+    {
+        GreError {
+            offset: self.offset + offset,
+            ..self
+        }
+    }
+}
+
+impl GreHeader {
+    ghost use Rattle.std.specs.Prelude.{◌≡◌};
+    ghost use Rattle.etherparse.specs.Reading.{found_and_rest};
+    ghost use Rattle.uses.specs.Gre.{GreReading, ReadsGre};
+
+    /// The header at the front of a slice, and all the bytes after it.
+    ///
+    /// # Errors
+    ///
+    /// In this order: `TooShort` if the slice has fewer than 4 bytes; `Unsupported`; `TooShort` if
+    /// it has fewer bytes than the flags say.
+    pub fn from_slice(slice: &[u8]) -> Result<(GreHeader, &[u8]), GreError>
+        ensures reads { ReadsGre slice.now (found_and_rest result) }
+        ensures only { (other : GreReading) → ReadsGre slice.now other →
+            other ≡ found_and_rest result }
+    {
+        match len_of(slice) {
+            Ok(len) => Ok((header_of(&slice[..len]), &slice[len..])),
+            Err(cause) => Err(GreError { cause, offset: 0 }),
+        }
+    }
+}
+
+/// Stores the checksum of a GRE header and its payload, in bytes 4 and 5 (RFC 2784 section 2.5).
+pub fn store_checksum(packet: &mut [u8])
+    requires there { 6 ≤ length packet.old }
+    ensures all_ones { SumsToAllOnes packet.new }
+    ensures len { length packet.new ≡ length packet.old }
+    ensures others { (i : ℕ) → i ≢ 4 → i ≢ 5 →
+        slice_index packet.new i ≡ slice_index packet.old i }
+{
+    packet[4] = 0;
+    packet[5] = 0;
+    let checksum = Sum16BitWords::new().add_slice(packet).ones_complement();
+    let [low, high] = checksum.to_le_bytes();
+    packet[4] = low;
+    packet[5] = high;
+}
+
+// The length of the header at the front of a slice.
+fn len_of(slice: &[u8]) -> Result<usize, GreCause>
+    ensures len { IfOk result (λ len. len ≡ gre_len_of slice.now) }
+    ensures enough { IfOk result (λ len. len ≤ length slice.now) }
+    ensures supported { IfOk result (λ len. ¬ IsUnsupported slice.now) }
+    ensures refused { IfErr result (RefusesAs slice.now) }
+{
+    if slice.len() < 4 {
+        return Err(GreCause::TooShort {
+            required_len: 4,
+            len: slice.len(),
+        });
+    }
+    if flag(slice, 6) == 1 || slice[0] / 4 % 4 != 0 || slice[1] % 8 != 0 {
+        return Err(GreCause::Unsupported(u16::from_be_bytes([slice[0], slice[1]])));
+    }
+    let required_len = 4 + 4 * flag(slice, 7) + 4 * flag(slice, 5) + 4 * flag(slice, 4);
+    if slice.len() < required_len {
+        return Err(GreCause::TooShort {
+            required_len,
+            len: slice.len(),
+        });
+    }
+    Ok(required_len)
+}
+
+// The header of these bytes.
+fn header_of(bytes: &[u8]) -> GreHeader
+    requires len { length bytes.now ≡ gre_len_of bytes.now }
+    requires supported { ¬ IsUnsupported bytes.now }
+    ensures layout { IsGreLayout result bytes.now }
+{
+    let key_at = 4 + 4 * flag(bytes, 7);
+    let sequence_at = key_at + 4 * flag(bytes, 5);
+    GreHeader {
+        protocol_type: u16::from_be_bytes([bytes[2], bytes[3]]),
+        checksum: checksum_of(bytes),
+        key: word_if(flag(bytes, 5), bytes, key_at),
+        sequence_number: word_if(flag(bytes, 4), bytes, sequence_at),
+    }
+}
+
+// A bit of the first byte.
+fn flag(bytes: &[u8], place: u32) -> usize
+    requires some { 0 < length bytes.now }
+    requires within { place < 8 }
+    ensures value { result ≡ flag_at place bytes.now }
+    ensures within { result ≤ 1 }
+{
+    usize::from((bytes[0] >> place) % 2)
+}
+
+// The four bytes from a place on, if their flag is set.
+fn word_if(flag: usize, bytes: &[u8], at: usize) -> Option<u32>
+    requires there { flag ≡ 1 → at + 4 ≤ length bytes.now }
+    ensures value { result ≡ if_set flag (word_at bytes.now at) }
+{
+    if flag == 1 {
+        Some(u32::from_be_bytes([bytes[at], bytes[at + 1], bytes[at + 2], bytes[at + 3]]))
+    } else {
+        None
+    }
+}
+
+// The checksum, if its flag is set.
+fn checksum_of(bytes: &[u8]) -> Option<u16>
+    requires len { length bytes.now ≡ gre_len_of bytes.now }
+    ensures value { result ≡ if_set (flag_at 7 bytes.now)
+        (from_be_bytes w16 (slice_range bytes.now 4 6)) }
+{
+    if flag(bytes, 7) == 1 {
+        Some(u16::from_be_bytes([bytes[4], bytes[5]]))
+    } else {
+        None
+    }
+}
