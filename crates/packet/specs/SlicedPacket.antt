@@ -1,6 +1,7 @@
 -- A frame in its layers.
-use Rattle.std.specs.Prelude.{ℕ, ◌≡◌, ◌-◌, ◌==◌, ◌||◌, ◌⊎◌, Bool, true, false, IsFalse, IsTrue, List}
-use Rattle.std.specs.Prelude.{length, Option, Some, None, Result, Ok, Err, IsSomeAnd, option_map}
+use Rattle.std.specs.Prelude.{ℕ, ◌≡◌, ◌-◌, ◌==◌, ◌||◌, ◌⊎◌, Bool, true, false, IsFalse, IsTrue}
+use Rattle.std.specs.Prelude.{IsSomeAnd, List, length, Option, Some, None, Result, Ok, Err}
+use Rattle.std.specs.Prelude.{option_map}
 use Rattle.std.specs.Result.{result_map_both}
 use Rattle.etherparse.specs.declared.err.LenError.{LenError}
 use Rattle.packet_parts.specs.Checksum.{IsVerdict}
@@ -45,7 +46,8 @@ layers_of packet = record {
 -- all there is. The version is told by the packet itself.
 abbrev pub carries_ip : Option LinkParts → Option ℕ → Bool
 carries_ip link (Some ether_type) = ether_type == 0x0800 || ether_type == 0x86dd
-carries_ip (Some (LoopbackParts family)) None = family == 2 || family == 24 || family == 28 || family == 30
+carries_ip (Some (LoopbackParts family)) None =
+    family == 2 || family == 24 || family == 28 || family == 30
 carries_ip None None = true
 carries_ip link None = false
 
