@@ -7,8 +7,8 @@ use Rattle.packet.specs.declared.link.LinkError.{LinkError}
 use Rattle.packet.specs.declared.link.LinkSlice.{LinkSlice}
 use Rattle.packet.specs.declared.link.LinkSlice.TheVariants as header
 use Rattle.packet.specs.declared.link.LinkType.{LinkType}
-use Rattle.packet.specs.declared.link.LinkType.TheVariants.{Ethernet2, Ip, LinuxSll, LinuxSll2, Loop}
-use Rattle.packet.specs.declared.link.LinkType.TheVariants.{Null}
+use Rattle.packet.specs.declared.link.LinkType.TheVariants.{Ethernet2, Ip, LinuxSll, LinuxSll2}
+use Rattle.packet.specs.declared.link.LinkType.TheVariants.{Loop, Null}
 
 -- The link types by their numbers. The number of LINKTYPE_RAW is 101; some systems write 12 or 14.
 abbrev pub link_type_of : ℕ → Option LinkType

@@ -14,7 +14,8 @@ use Rattle.packet.specs.declared.transport.TransportSlice.{TransportSlice}
 -- the place of the payload in a packet: how long the header is, with its extension headers
 abbrev pub ip_header_len : IpSlice → ℕ
 ip_header_len (ip.Ipv4 header payload) = ipv4_header_len header
-ip_header_len (ip.Ipv6 header extensions fragment is_later upper payload) = 40 + length extensions.now
+ip_header_len (ip.Ipv6 header extensions fragment is_later upper payload) =
+    40 + length extensions.now
 
 -- of two errors the one of the lower layer: that of a packet at a place, or else the other
 abbrev pub first_error : ℕ → Option IpSliceError → Option SliceError → Option SliceError

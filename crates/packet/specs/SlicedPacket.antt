@@ -1,6 +1,7 @@
 -- A frame in its layers.
-use Rattle.std.specs.Prelude.{ℕ, ◌≡◌, ◌-◌, ◌==◌, ◌||◌, ◌⊎◌, Bool, true, false, IsFalse, IsTrue, List}
-use Rattle.std.specs.Prelude.{length, Option, Some, None, Result, Ok, Err, IsSomeAnd, option_map}
+use Rattle.std.specs.Prelude.{ℕ, ◌≡◌, ◌-◌, ◌==◌, ◌||◌, ◌⊎◌, Bool, true, false, IsFalse, IsTrue}
+use Rattle.std.specs.Prelude.{IsSomeAnd, List, length, Option, Some, None, Result, Ok, Err}
+use Rattle.std.specs.Prelude.{option_map}
 use Rattle.std.specs.Result.{result_map_both}
 use Rattle.etherparse.specs.declared.err.LenError.{LenError}
 use Rattle.packet_parts.specs.Checksum.{IsVerdict}

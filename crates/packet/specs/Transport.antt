@@ -91,9 +91,11 @@ abbrev pub ReadsHeader : Protocol → ℕ → List ℕ → TransportReading → 
 ReadsHeader protocol.Udp place payload = ReadsAs (ReadsUdp payload) (udp_reading place)
 ReadsHeader protocol.Tcp place payload = ReadsAs (ViewsTcp payload) (tcp_reading place payload)
 ReadsHeader protocol.Icmpv4 place payload =
-    ReadsAs (Reads IsIcmpLayout (IsTooShort layer.Icmpv4 4) payload) (icmp_reading Icmpv4Parts place)
+    ReadsAs (Reads IsIcmpLayout (IsTooShort layer.Icmpv4 4) payload)
+    (icmp_reading Icmpv4Parts place)
 ReadsHeader protocol.Icmpv6 place payload =
-    ReadsAs (Reads IsIcmpLayout (IsTooShort layer.Icmpv6 4) payload) (icmp_reading Icmpv6Parts place)
+    ReadsAs (Reads IsIcmpLayout (IsTooShort layer.Icmpv6 4) payload)
+    (icmp_reading Icmpv6Parts place)
 
 -- that a header is incomplete is no error in a first fragment
 abbrev pub missing_in : Option Fragment → TransportReading → Option SliceError
