@@ -41,7 +41,9 @@ fn a_cooked_capture(rt: HostRuntime) -> Result<(), Fail> {
 #[test]
 fn a_cooked_capture_of_version_2(rt: HostRuntime) -> Result<(), Fail> {
     // The same with the header of version 2, on interface 3.
-    let frame = [8, 6, 0, 0, 0, 0, 0, 3, 0, 1, 1, 6, 2, 0, 0, 0, 0, 1, 0, 0, 0, 1, 8, 0];
+    let frame = [
+        8, 6, 0, 0, 0, 0, 0, 3, 0, 1, 1, 6, 2, 0, 0, 0, 0, 1, 0, 0, 0, 1, 8, 0,
+    ];
     let packet = SlicedPacket::from_linux_sll2(&frame)?;
     assert!(rt; packet.ether_type == Some(EtherType::ARP));
     assert!(rt; packet.payload == [0, 1, 8, 0].as_slice());
@@ -64,7 +66,10 @@ fn a_link_type(rt: HostRuntime) -> Result<(), Fail> {
     let link_type = LinkType::from_number(1);
     assert!(rt; link_type == Some(LinkType::Ethernet2));
     let refused = SlicedPacket::from_link_type(LinkType::Ethernet2, &[0; 13]);
-    let too_short = LinkError { required_len: 14, len: 13 };
+    let too_short = LinkError {
+        required_len: 14,
+        len: 13,
+    };
     assert!(rt; refused == Err(SliceError::Link(too_short)));
     Ok(())
 }
@@ -145,7 +150,9 @@ fn two_tags_are_read_and_a_third_is_another_protocol(rt: HostRuntime) -> Result<
 
 #[test]
 fn a_frame_that_ends_within_a_tag_keeps_the_tag_before(rt: HostRuntime) -> Result<(), Fail> {
-    let frame = [2, 0, 0, 0, 0, 2, 2, 0, 0, 0, 0, 1, 0x88, 0xa8, 0, 5, 0x81, 0, 1, 2, 3];
+    let frame = [
+        2, 0, 0, 0, 0, 2, 2, 0, 0, 0, 0, 1, 0x88, 0xa8, 0, 5, 0x81, 0, 1, 2, 3,
+    ];
     let lax = LaxSlicedPacket::from_ethernet(&frame)?;
     let stop = SliceError::Vlan(too_short(Layer::VlanHeader, 4, 3, 18));
     assert!(rt; matches!(lax.packet.vlan, Some(VlanSlice::SingleVlan(_))));
@@ -184,7 +191,15 @@ fn fragments_have_a_transport_header_if_the_first_has_all_of_it(rt: HostRuntime)
 #[test]
 fn transport_headers_by_their_protocol(rt: HostRuntime) -> Result<(), Fail> {
     let packet = SlicedPacket::from_ip(&DATAGRAM)?;
-    assert!(rt; matches!(packet.transport, Some(TransportSlice::Udp { payload: [b'h', b'i'], .. })));
+    assert!(rt;
+        matches!(
+            packet.transport,
+            Some(TransportSlice::Udp {
+                payload: [b'h', b'i'],
+                ..
+            })
+        )
+    );
     let mut message = DATAGRAM;
     message[9] = 1;
     let packet = SlicedPacket::from_ip(&message)?;
@@ -210,10 +225,18 @@ fn families_of_ip_and_byte_orders(rt: HostRuntime) -> Result<(), Fail> {
         frame[0] = family;
         frame[3] = 0;
         assert!(rt; SlicedPacket::from_loopback(&frame)?.net.is_some());
-        assert!(rt; SlicedPacket::from_link_type(LinkType::Loop, &frame)?.net.is_none());
+        assert!(rt;
+            SlicedPacket::from_link_type(LinkType::Loop, &frame)?
+                .net
+                .is_none()
+        );
         [frame[0], frame[3]] = [0, family];
         assert!(rt; SlicedPacket::from_loopback(&frame)?.net.is_some());
-        assert!(rt; SlicedPacket::from_link_type(LinkType::Loop, &frame)?.net.is_some());
+        assert!(rt;
+            SlicedPacket::from_link_type(LinkType::Loop, &frame)?
+                .net
+                .is_some()
+        );
     }
     assert!(rt; LinkType::from_number(113) == Some(LinkType::LinuxSll));
     assert!(rt; LinkType::from_number(127).is_none());

@@ -95,7 +95,9 @@ impl<'a> SlicedPacket<'a> {
     ///
     /// ```
     /// // The same with the header of version 2, on interface 3.
-    /// let frame = [8, 6, 0, 0, 0, 0, 0, 3, 0, 1, 1, 6, 2, 0, 0, 0, 0, 1, 0, 0, 0, 1, 8, 0];
+    /// let frame = [
+    ///     8, 6, 0, 0, 0, 0, 0, 3, 0, 1, 1, 6, 2, 0, 0, 0, 0, 1, 0, 0, 0, 1, 8, 0,
+    /// ];
     /// let packet = SlicedPacket::from_linux_sll2(&frame)?;
     /// assert!(rt; packet.ether_type == Some(EtherType::ARP));
     /// assert!(rt; packet.payload == [0, 1, 8, 0].as_slice());
@@ -142,7 +144,10 @@ impl<'a> SlicedPacket<'a> {
     /// let link_type = LinkType::from_number(1);
     /// assert!(rt; link_type == Some(LinkType::Ethernet2));
     /// let refused = SlicedPacket::from_link_type(LinkType::Ethernet2, &[0; 13]);
-    /// let too_short = LinkError { required_len: 14, len: 13 };
+    /// let too_short = LinkError {
+    ///     required_len: 14,
+    ///     len: 13,
+    /// };
     /// assert!(rt; refused == Err(SliceError::Link(too_short)));
     /// ```
     pub fn from_link_type(
