@@ -2,7 +2,8 @@
 use Rattle.std.specs.Prelude.{ℕ, ◌-◌, ◌/◌, ◌==◌, Bool, List, [], ◌++◌, length, codes, decimal}
 use Rattle.std.specs.Prelude.{replicate, nat_lt, if◌then◌else◌, Option, Some, None, false, true}
 use Rattle.std.specs.Fmt.{digits}
-use Rattle.std.specs.Net.Text.{ip_text}
+use Rattle.std.specs.Net.Addr.{segments_of}
+use Rattle.std.specs.Net.Text.{ipv4_text, ipv6_text}
 use Rattle.packet_capture.specs.Capture.{Recorded}
 use Rattle.packet_capture.specs.declared.capture.CaptureError.{CaptureError}
 use Rattle.packet_capture.specs.declared.capture.CaptureError.TheVariants as capture
@@ -10,8 +11,11 @@ use Rattle.packet_capture.specs.declared.capture.CutOff as cut
 use Rattle.packet_capture.specs.declared.capture.Resolution.{Resolution}
 use Rattle.packet_capture.specs.declared.capture.Resolution.TheVariants.{Microseconds, Nanoseconds}
 use Rattle.packet_parts.specs.Checksum.{verdict_text}
-use Rattle.packet_parts.specs.IpSlice.{ip_slice_error_text}
+use Rattle.packet_parts.specs.IpSlice.{fragment_of, ip_slice_error_text, upper_of}
 use Rattle.packet_parts.specs.declared.fragment.Fragment.{Fragment}
+use Rattle.packet_parts.specs.declared.ip_slice.IpSlice.{IpSlice}
+use Rattle.packet_parts.specs.declared.ip_slice.IpSlice.TheVariants as slice
+use Rattle.ipcap.specs.Shown.{has_no_length, hops_of, len_of}
 use Rattle.ipcap.specs.declared.reading.NoPacket.{NoPacket}
 use Rattle.ipcap.specs.declared.reading.NoPacket.TheVariants.{NoLinkHeader, OtherFamily, OtherType}
 use Rattle.ipcap.specs.declared.shown.Detail.{Detail}
@@ -89,20 +93,33 @@ header_verdict_text None = codes "none"
 header_verdict_text (Some true) = codes "right"
 header_verdict_text (Some false) = codes "wrong"
 
+-- who sent the packet: dotted decimals, or the text of RFC 5952
+abbrev pub source_text : IpSlice → List ℕ
+source_text (slice.Ipv4 header payload) = ipv4_text header.source
+source_text (slice.Ipv6 header extensions fragment is_later upper payload) =
+    ipv6_text (segments_of header.source)
+
+-- who receives it
+abbrev pub destination_text : IpSlice → List ℕ
+destination_text (slice.Ipv4 header payload) = ipv4_text header.destination
+destination_text (slice.Ipv6 header extensions fragment is_later upper payload) =
+    ipv6_text (segments_of header.destination)
+
 -- sender, receiver and protocol of the packet
 unfoldable pub parties_text : Shown → List ℕ
-parties_text shown = ip_text shown.source ++ (codes " > "
-    ++ (ip_text shown.destination ++ (codes " " ++ (upper_text shown.upper
+parties_text shown = source_text shown.lax.slice ++ (codes " > "
+    ++ (destination_text shown.lax.slice ++ (codes " " ++ (upper_text (upper_of shown.lax.slice)
     ++ (codes " " ++ detail_text shown.detail)))))
 
 -- the length of the payload, the hops left, the place of a fragment, the verdicts on the checksums
 -- of the IPv4 header and of the payload, and that the total length is 0
 unfoldable pub payload_text : Shown → List ℕ
-payload_text shown = codes " length " ++ (decimal shown.len ++ (codes " hops "
-    ++ (decimal shown.hops ++ (codes " fragment " ++ (place_text shown.fragment
+payload_text shown = codes " length " ++ (decimal (len_of shown.lax.slice) ++ (codes " hops "
+    ++ (decimal (hops_of shown.lax.slice)
+    ++ (codes " fragment " ++ (place_text (fragment_of shown.lax.slice)
     ++ (codes " checksums " ++ (header_verdict_text shown.is_header_right ++ (codes " "
     ++ (verdict_text shown.verdict
-    ++ (if shown.has_no_length then codes " total length 0" else []))))))))))
+    ++ (if has_no_length shown.lax.slice then codes " total length 0" else []))))))))))
 
 -- what is shown of a packet
 abbrev pub shown_text : Shown → List ℕ

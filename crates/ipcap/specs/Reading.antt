@@ -1,7 +1,6 @@
 -- What a frame is found to carry.
-use Rattle.std.specs.Prelude.{ℕ, ◌≡◌, ◌%◌, ◌^◌, ◌||◌, ◌⊎◌, Bool, true, false, MatchBool, List, length}
-use Rattle.std.specs.Prelude.{Option, Some, None, option_map}
-use Rattle.std.specs.Net.Addr.{is_ipv4, is_ipv6}
+use Rattle.std.specs.Prelude.{ℕ, ◌≡◌, ◌%◌, ◌^◌, ◌||◌, ◌⊎◌, Bool, true, false, not, MatchBool, List}
+use Rattle.std.specs.Prelude.{length, Option, Some, None, option_map}
 use Rattle.std.specs.Option.{is_some, unwrap_or}
 use Rattle.packet.specs.Link.{LacksLink, LinkParts, LoopbackParts, link_parts}
 use Rattle.packet.specs.Link.{link_type_of as link_type_of_number}
@@ -11,6 +10,8 @@ use Rattle.packet.specs.declared.link.LinkType.{LinkType}
 use Rattle.packet.specs.declared.link.LinkType.TheVariants.{Ip}
 use Rattle.packet.specs.declared.link_layers.LinkLayers.{LinkLayers}
 use Rattle.packet_capture.specs.declared.capture.FileHeader.{FileHeader}
+use Rattle.packet_parts.specs.declared.ip_slice.IpSlice.{IpSlice}
+use Rattle.packet_parts.specs.declared.ip_slice.IpSlice.TheVariants as slice
 use Rattle.ipcap.specs.Shown.{IsRefused, IsShown, is_wrong, is_wrong_header}
 use Rattle.ipcap.specs.declared.reading.NoPacket.{NoPacket}
 use Rattle.ipcap.specs.declared.reading.NoPacket.TheVariants.{NoLinkHeader, OtherFamily, OtherType}
@@ -68,14 +69,19 @@ ReadsFrame number is_cut frame reading =
     ReadsLayers (unwrap_or (link_type_of_number number) Ip) is_cut frame reading
     ⊎ LacksHeader (unwrap_or (link_type_of_number number) Ip) frame reading
 
+-- whether a packet is of version 4
+abbrev pub is_ipv4_slice : IpSlice → Bool
+is_ipv4_slice (slice.Ipv4 header payload) = true
+is_ipv4_slice (slice.Ipv6 header extensions fragment is_later upper payload) = false
+
 -- whether it is shown as a packet of version 4, and of version 6
 abbrev pub is_version_4 : Reading → Bool
-is_version_4 (Packet shown) = is_ipv4 shown.source
+is_version_4 (Packet shown) = is_ipv4_slice shown.lax.slice
 is_version_4 (Refused e) = false
 is_version_4 (Other e) = false
 
 abbrev pub is_version_6 : Reading → Bool
-is_version_6 (Packet shown) = is_ipv6 shown.source
+is_version_6 (Packet shown) = not (is_ipv4_slice shown.lax.slice)
 is_version_6 (Refused e) = false
 is_version_6 (Other e) = false
 

@@ -7,8 +7,7 @@ use Rattle.std.specs.Option.{is_none}
 use Rattle.etherparse.specs.Ipv4Header.{ipv4_header_len}
 use Rattle.etherparse.specs.WordSums.{SumsToAllOnes}
 use Rattle.packet_parts.specs.Checksum.{IsLaxVerdict}
-use Rattle.packet_parts.specs.IpSlice.{HasLaxIpParts, HasNoIpParts, IsAddress, IsLater}
-use Rattle.packet_parts.specs.IpSlice.{destination_of, fragment_of, source_of, upper_of}
+use Rattle.packet_parts.specs.IpSlice.{HasLaxIpParts, HasNoIpParts, IsLater, fragment_of}
 use Rattle.packet_parts.specs.declared.checksum.Verdict.TheVariants.{Absent, Wrong, Right}
 use Rattle.packet_parts.specs.declared.checksum.Verdict.{Verdict}
 use Rattle.packet_parts.specs.declared.ip_slice.IpSlice.{IpSlice}
@@ -96,18 +95,11 @@ is_wrong (Absent reason) = false
 abbrev pub has_whole_payload : LaxIpSlice → Bool
 has_whole_payload lax = is_none lax.stop && is_none (fragment_of lax.slice)
 
--- this is shown of the packet in these parts, as far as they are there
-pub record Shows (packet : List ℕ) (lax : LaxIpSlice) (shown : Shown) : Type 0 where
-  pub source : IsAddress shown.source (source_of lax.slice)
-  pub destination : IsAddress shown.destination (destination_of lax.slice)
-  pub upper : shown.upper ≡ upper_of lax.slice
-  pub detail : IsDetail (has_whole_payload lax) lax.slice shown.detail
-  pub len : shown.len ≡ len_of lax.slice
-  pub hops : shown.hops ≡ hops_of lax.slice
-  pub fragment : shown.fragment ≡ fragment_of lax.slice
-  pub header_checksum : IsHeaderVerdict packet lax.slice shown.is_header_right
-  pub verdict : IsLaxVerdict lax shown.verdict
-  pub has_no_length : shown.has_no_length ≡ has_no_length lax.slice
+-- what is shown of a packet in these parts: the header that the payload begins with, and the verdicts
+pub record Shows (packet : List ℕ) (shown : Shown) : Type 0 where
+  pub detail : IsDetail (has_whole_payload shown.lax) shown.lax.slice shown.detail
+  pub header_checksum : IsHeaderVerdict packet shown.lax.slice shown.is_header_right
+  pub verdict : IsLaxVerdict shown.lax shown.verdict
 
 -- It is shown although it is not whole: it is shorter than its length field says, in a record that
 -- the capture cut; or its total length is 0.
@@ -117,10 +109,9 @@ IsShownAt is_cut lax e = ⊥
 
 -- this is shown of a packet, which the capture may have cut
 pub record IsShown (is_cut : Bool) (packet : List ℕ) (shown : Shown) : Type 0 where
-  pub lax : LaxIpSlice
-  pub parts : HasLaxIpParts packet lax
-  pub why : MatchOption lax.stop (Unit {0}) (IsShownAt is_cut lax)
-  pub shows : Shows packet lax shown
+  pub parts : HasLaxIpParts packet shown.lax
+  pub why : MatchOption shown.lax.stop (Unit {0}) (IsShownAt is_cut shown.lax)
+  pub shows : Shows packet shown
 
 -- the packet is not shown for this reason
 pub record IsNotWhole (is_cut : Bool) (packet : List ℕ) (e : IpSliceError) : Type 0 where

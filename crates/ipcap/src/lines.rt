@@ -11,7 +11,7 @@ ghost use Rattle.ipcap.specs.Lines.{link_type_line, no_packet_text, reading_text
 ghost use Rattle.ipcap.specs.Lines.{shown_text, skipped_line, skipped_text, upper_text};
 
 use crate::reading::{NoPacket, Reading};
-use crate::shown::{Detail, Shown};
+use crate::shown::{Detail, Shown, has_no_length, hops_of, len_of};
 use crate::totals::Totals;
 use packet_capture::capture::{CaptureError, CutOff, Record, Resolution};
 use packet_parts::fragment::Fragment;
@@ -76,7 +76,7 @@ pub struct RecordLine<'a> {
     /// The record.
     pub captured: &'a Record<'a>,
     /// What its frame is found to carry.
-    pub reading: &'a Reading,
+    pub reading: &'a Reading<'a>,
 }
 
 impl fmt::Display for RecordLine<'_> {
@@ -237,8 +237,9 @@ fn write_parties<W: fmt::Write>(f: &mut Formatter<W>, shown: &Shown) -> fmt::Res
     ensures text { DisplaysOnOk W.write_str_gives f.old result
         (Some (parties_text shown.now)) f.new }
 {
-    let (source, destination) = (shown.source, shown.destination);
-    let (upper, detail) = (Upper(shown.upper), shown.detail);
+    let slice = &shown.lax.slice;
+    let (source, destination) = (slice.source(), slice.destination());
+    let (upper, detail) = (Upper(slice.upper().0), shown.detail);
     write!(f, "{source} > {destination} {upper} {detail}")
 }
 
@@ -249,9 +250,10 @@ fn write_payload<W: fmt::Write>(f: &mut Formatter<W>, shown: &Shown) -> fmt::Res
     ensures text { DisplaysOnOk W.write_str_gives f.old result
         (Some (payload_text shown.now)) f.new }
 {
-    let (len, hops, place) = (shown.len, shown.hops, Place(shown.fragment));
+    let slice = &shown.lax.slice;
+    let (len, hops, place) = (len_of(slice), hops_of(slice), Place(slice.fragment()));
     let (header, payload) = (HeaderVerdict(shown.is_header_right), shown.verdict);
-    let no_length = if shown.has_no_length {
+    let no_length = if has_no_length(slice) {
         " total length 0"
     } else {
         ""

@@ -8,7 +8,7 @@ use crate::shown::{Shown, has_no_length, shown_of};
 use packet::link::{LinkSlice, LinkType};
 use packet::link_layers::LinkLayers;
 use packet_parts::checksum::Verdict;
-use packet_parts::ip_slice::{IpSliceError, LaxIpSlice};
+use packet_parts::ip_slice::{IpSlice, IpSliceError, LaxIpSlice};
 
 /// Why a frame carries no IP packet.
 #[derive(Clone, Copy)]
@@ -25,9 +25,9 @@ pub enum NoPacket {
 
 /// What a frame is found to carry.
 #[derive(Drop)]
-pub enum Reading {
-    /// An IP packet, and what is shown of it.
-    Packet(Shown),
+pub enum Reading<'a> {
+    /// An IP packet that is shown.
+    Packet(Shown<'a>),
     /// An IP packet that is refused.
     Refused(IpSliceError),
     /// No IP packet.
@@ -73,7 +73,7 @@ fn read_packet(is_cut: bool, packet: &[u8]) -> Reading
     match LaxIpSlice::from_slice(packet) {
         Ok(lax) => {
             if is_shown(is_cut, &lax) {
-                return Reading::Packet(shown_of(packet, &lax));
+                return Reading::Packet(shown_of(packet, lax));
             }
             match lax.stop {
                 Some(e) => Reading::Refused(e),
@@ -96,7 +96,7 @@ fn is_shown(is_cut: bool, lax: &LaxIpSlice) -> bool
     }
 }
 
-impl Reading {
+impl Reading<'_> {
     ghost use Rattle.std.specs.Prelude.{◌≡◌};
     ghost use Rattle.ipcap.specs.Reading.{has_wrong_checksum, is_other, is_refused};
     ghost use Rattle.ipcap.specs.Reading.{is_version_4, is_version_6};
@@ -105,14 +105,14 @@ impl Reading {
     pub fn is_ipv4(&self) -> bool
         ensures value { result ≡ is_version_4 self.now }
     {
-        matches!(self, Reading::Packet(shown) if shown.source.is_ipv4())
+        matches!(self, Reading::Packet(shown) if matches!(shown.lax.slice, IpSlice::Ipv4 { .. }))
     }
 
     /// Whether an IPv6 packet is shown.
     pub fn is_ipv6(&self) -> bool
         ensures value { result ≡ is_version_6 self.now }
     {
-        matches!(self, Reading::Packet(shown) if shown.source.is_ipv6())
+        matches!(self, Reading::Packet(shown) if matches!(shown.lax.slice, IpSlice::Ipv6 { .. }))
     }
 
     /// Whether a packet is refused.

@@ -8,11 +8,9 @@ ghost use Rattle.ipcap.specs.Shown.{has_no_length, has_whole_payload, hops_of, l
 use etherparse::IpNumber;
 use etherparse::checksum::u64_16bit_word;
 use packet_parts::checksum::Verdict;
-use packet_parts::fragment::Fragment;
 use packet_parts::ip_slice::{IpSlice, LaxIpSlice};
 use packet_parts::tcp::TcpHeaderSlice;
 use packet_parts::udp::UdpHeader;
-use std::net::IpAddr;
 
 /// What is shown of the header that a payload begins with.
 #[derive(Clone, Copy)]
@@ -25,53 +23,34 @@ pub enum Detail {
     Nothing,
 }
 
-/// What is shown of a packet.
-#[derive(Clone, Copy)]
-pub struct Shown {
-    /// The address of the sender.
-    pub source: IpAddr,
-    /// The address of the receiver.
-    pub destination: IpAddr,
-    /// The protocol number of the payload: in IPv6 the first that cannot be skipped as an extension
-    /// header, or what the fragment header of a later fragment names. If the capture ends within an
-    /// extension header, its number.
-    pub upper: u8,
-    /// What the payload's header says.
+/// A packet that is shown.
+#[derive(Drop)]
+pub struct Shown<'a> {
+    /// Its parts, as far as they are there.
+    pub lax: LaxIpSlice<'a>,
+    /// What the header that its payload begins with says.
     pub detail: Detail,
-    /// The length in bytes of the payload, after any extension headers, by the length field. If the
-    /// capture ends within one of these, that header counts too, and all that follows it. If the
-    /// total length is 0, what there is.
-    pub len: usize,
-    /// The time to live, or the hop limit.
-    pub hops: u8,
-    /// The place of the payload, if it is a fragment and its fragment header is there.
-    pub fragment: Option<Fragment>,
     /// Whether the checksum of an IPv4 header is right; `None` for IPv6, which has none.
     pub is_header_right: Option<bool>,
     /// The verdict on the checksum of UDP, TCP, ICMP or ICMPv6.
     pub verdict: Verdict,
-    /// That the total length is 0, as in a packet that a network card is to cut.
-    pub has_no_length: bool,
 }
 
 /// What is shown of a packet in these parts.
 #[inline(always)] // The caller makes a larger value of it, in place.
-pub fn shown_of(packet: &[u8], lax: &LaxIpSlice) -> Shown
-    requires parts { HasLaxIpParts packet.now lax.now }
-    ensures shows { Shows packet.now lax.now result }
+pub fn shown_of<'a>(packet: &[u8], lax: LaxIpSlice<'a>) -> Shown<'a>
+    requires parts { HasLaxIpParts packet.now lax }
+    ensures lax { result.lax ≡ lax.entry }
+    ensures shows { Shows packet.now result }
 {
-    let slice = &lax.slice;
+    let detail = detail_of(has_whole_payload(&lax), &lax.slice);
+    let is_header_right = is_header_right(packet, &lax.slice);
+    let verdict = lax.verdict();
     Shown {
-        source: slice.source(),
-        destination: slice.destination(),
-        upper: slice.upper().0,
-        detail: detail_of(has_whole_payload(lax), slice),
-        len: len_of(slice),
-        hops: hops_of(slice),
-        fragment: slice.fragment(),
-        is_header_right: is_header_right(packet, slice),
-        verdict: lax.verdict(),
-        has_no_length: has_no_length(slice),
+        lax,
+        detail,
+        is_header_right,
+        verdict,
     }
 }
 
@@ -82,8 +61,8 @@ fn has_whole_payload(lax: &LaxIpSlice) -> bool
     lax.stop.is_none() && lax.slice.fragment().is_none()
 }
 
-// The time to live or the hop limit.
-fn hops_of(slice: &IpSlice) -> u8
+/// The time to live or the hop limit.
+pub fn hops_of(slice: &IpSlice) -> u8
     ensures value { result ≡ hops_of slice.now }
 {
     match slice {
@@ -92,8 +71,10 @@ fn hops_of(slice: &IpSlice) -> u8
     }
 }
 
-// How long the payload is, by the length field or, if there is none, by what there is.
-fn len_of(slice: &IpSlice) -> usize
+/// How long the payload is, in bytes: after any extension headers, by the length field, or if that
+/// says nothing by what there is. If the packet ends within an extension header, that header counts
+/// too, and all that follows it.
+pub fn len_of(slice: &IpSlice) -> usize
     ensures value { result ≡ len_of slice.now }
 {
     match slice {

@@ -150,10 +150,12 @@ ip_slice_error_text (error.Ipv6Header e) = ipv6_header_slice_error_text e
 ip_slice_error_text (error.Packet e) = len_error_text e
 ip_slice_error_text (error.Extensions e) = len_error_text e
 
--- an address of 4 octets, or one of 16
-abbrev pub IsAddress : IpAddr → List ℕ → Type 0
-IsAddress (V4 address) octets = ipv4_octets address ≡ octets
-IsAddress (V6 address) octets = ipv6_segments address ≡ segments_of octets
+-- an address of the version of the packet, with these octets: 4 or 16
+abbrev pub IsAddressIn : IpSlice → IpAddr → List ℕ → Type 0
+IsAddressIn (slice.Ipv4 header payload) (V4 address) octets = ipv4_octets address ≡ octets
+IsAddressIn (slice.Ipv6 header extensions fragment is_later upper payload) (V6 address) octets =
+    ipv6_segments address ≡ segments_of octets
+IsAddressIn slice address octets = ⊥
 
 -- who sent the packet
 abbrev pub source_of : IpSlice → List ℕ

@@ -116,7 +116,7 @@ pub struct LaxIpSlice<'a> {
 impl<'a> IpSlice<'a> {
     ghost use Rattle.std.specs.Prelude.{◌≡◌, ◌↔◌, IfErr, IfOk, IsTrue};
     ghost use Rattle.packet_parts.specs.Checksum.{IsVerdict};
-    ghost use Rattle.packet_parts.specs.IpSlice.{IsAddress, IsIpPacket, IsLater, RefusesIp};
+    ghost use Rattle.packet_parts.specs.IpSlice.{IsAddressIn, IsIpPacket, IsLater, RefusesIp};
     ghost use Rattle.packet_parts.specs.IpSlice.{destination_of, fragment_of, payload_of, source_of};
     ghost use Rattle.packet_parts.specs.IpSlice.{upper_of};
 
@@ -179,7 +179,7 @@ impl<'a> IpSlice<'a> {
 
     /// The address of the sender.
     pub fn source(&self) -> IpAddr
-        ensures value { IsAddress result (source_of self.now) }
+        ensures value { IsAddressIn self.now result (source_of self.now) }
     {
         match self {
             IpSlice::Ipv4 { header, .. } => IpAddr::V4(Ipv4Addr::from_octets(header.source)),
@@ -190,7 +190,7 @@ impl<'a> IpSlice<'a> {
     /// The address of the receiver. In IPv6 it is that of the header, which a routing header can
     /// have changed (RFC 8200 section 4.4).
     pub fn destination(&self) -> IpAddr
-        ensures value { IsAddress result (destination_of self.now) }
+        ensures value { IsAddressIn self.now result (destination_of self.now) }
     {
         match self {
             IpSlice::Ipv4 { header, .. } => IpAddr::V4(Ipv4Addr::from_octets(header.destination)),
