@@ -7,9 +7,9 @@ ghost use Rattle.packet.specs.SlicedPacket.{HasLayers, carries_ip};
 use crate::error::SliceError;
 use crate::ether_type::EtherType;
 use crate::link::{LinkError, LinkSlice, LinkType, link_header};
-use crate::network::{Network, network_at};
+use crate::network::network_at;
 use crate::sliced_packet::SlicedPacket;
-use crate::vlan::{Tagged, after_tags};
+use crate::vlan::{Tagged, VlanSlice, after_tags};
 use packet_parts::checksum::{Absence, Verdict};
 
 /// The layers of a frame, as far as they can be read: of one that a capture cut, of one that is
@@ -141,19 +141,16 @@ fn layers<'a>(
         bytes: payload,
         stop,
     } = after_tags(frame_len, first, bytes);
-    let network = match stop {
-        Some(e) => Network {
-            net: None,
-            transport: None,
-            stop: Some(SliceError::Vlan(e)),
-        },
-        None if carries_ip(&link, &ether_type) => network_at(frame_len - payload.len(), payload),
-        None => Network {
-            net: None,
-            transport: None,
-            stop: None,
-        },
-    };
+    if let Some(e) = stop {
+        let stop = Some(SliceError::Vlan(e));
+        let packet = without_ip(link, vlan, ether_type, payload);
+        return LaxSlicedPacket { packet, stop };
+    }
+    if !carries_ip(&link, &ether_type) {
+        let packet = without_ip(link, vlan, ether_type, payload);
+        return LaxSlicedPacket { packet, stop: None };
+    }
+    let network = network_at(frame_len - payload.len(), payload);
     LaxSlicedPacket {
         packet: SlicedPacket {
             link,
@@ -164,6 +161,30 @@ fn layers<'a>(
             transport: network.transport,
         },
         stop: network.stop,
+    }
+}
+
+// A packet of which no IP packet is read.
+fn without_ip<'a>(
+    link: Option<LinkSlice<'a>>,
+    vlan: Option<VlanSlice<'a>>,
+    ether_type: Option<EtherType>,
+    payload: &'a [u8],
+) -> SlicedPacket<'a>
+    ensures link { result.link ≡ link.entry }
+    ensures vlan { result.vlan ≡ vlan.entry }
+    ensures ether_type { result.ether_type ≡ ether_type }
+    ensures payload { result.payload ≡ payload.entry }
+    ensures net { result.net ≡ None }
+    ensures transport { result.transport ≡ None }
+{
+    SlicedPacket {
+        link,
+        vlan,
+        ether_type,
+        payload,
+        net: None,
+        transport: None,
     }
 }
 

@@ -1,14 +1,13 @@
 //! The IP packet of a frame and its transport header.
 
-ghost use Rattle.std.specs.Prelude.{ℕ, ◌≡◌, ◌+◌, ◌≤◌, ◌<◌, ◌^◌, IfSome, length};
+ghost use Rattle.std.specs.Prelude.{ℕ, ◌≡◌, ◌+◌, ◌≤◌, ◌<◌, ◌^◌, length};
 ghost use Rattle.packet_parts.specs.IpSlice.{HasIpParts};
-ghost use Rattle.packet.specs.Error.{ip_error_place};
-ghost use Rattle.packet.specs.Network.{HasNetwork, first_error, ip_header_len};
+ghost use Rattle.packet.specs.Network.{HasNetwork, ip_header_len};
 
 use crate::error::{SliceError, ip_error_moved};
 use crate::transport::{TransportSlice, transport_of};
 use etherparse::Ipv6Header;
-use packet_parts::ip_slice::{IpSlice, IpSliceError, LaxIpSlice};
+use packet_parts::ip_slice::{IpSlice, LaxIpSlice};
 
 // The IP packet of a frame and its transport header, and why they are not read further.
 #[derive(Drop)]
@@ -24,34 +23,27 @@ pub(crate) fn network_at(place: usize, packet: &[u8]) -> Network
     requires fits { place + length packet.now < 2 ^ 63 }
     ensures layers { HasNetwork place packet.now result.net result.transport result.stop }
 {
-    let (slice, stop) = match LaxIpSlice::from_slice(packet) {
-        Ok(lax) => (lax.slice, lax.stop),
+    let lax = match LaxIpSlice::from_slice(packet) {
+        Ok(lax) => lax,
         Err(e) => return Network {
             net: None,
             transport: None,
             stop: Some(SliceError::Ip(ip_error_moved(place, e))),
         },
     };
+    let slice = lax.slice;
     let (transport, missing) = transport_of(place + header_len(packet, &slice), &slice);
-    Network {
-        net: Some(slice),
-        transport,
-        stop: first_error(place, stop, missing),
-    }
-}
-
-// Of two errors the one of the lower layer: that of a packet at a place, or else the other.
-fn first_error(
-    place: usize,
-    ip: Option<IpSliceError>,
-    missing: Option<SliceError>,
-) -> Option<SliceError>
-    requires fits { IfSome ip (λ e. ip_error_place e + place < 2 ^ 64) }
-    ensures value { result ≡ first_error place ip missing }
-{
-    match ip {
-        Some(e) => Some(SliceError::Ip(ip_error_moved(place, e))),
-        None => missing,
+    match lax.stop {
+        None => Network {
+            net: Some(slice),
+            transport,
+            stop: missing,
+        },
+        Some(e) => Network {
+            net: Some(slice),
+            transport,
+            stop: Some(SliceError::Ip(ip_error_moved(place, e))),
+        },
     }
 }
 
