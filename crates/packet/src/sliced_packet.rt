@@ -33,7 +33,7 @@ pub struct SlicedPacket<'a> {
 }
 
 impl<'a> SlicedPacket<'a> {
-    ghost use Rattle.std.specs.Prelude.{ℕ, IfNone, IfSome, None, Some};
+    ghost use Rattle.std.specs.Prelude.{ℕ, IfNone, IfSome, IsSomeAnd, None, Some};
     ghost use Rattle.packet.specs.SlicedPacket.{IsReadingAfter, IsReadingOf};
     ghost use Rattle.packet.specs.Transport.{HasPorts};
 
@@ -232,7 +232,7 @@ impl<'a> SlicedPacket<'a> {
     /// assert!(rt; lax.packet.ports() == Some((1024, 80)));
     /// ```
     pub fn ports(&self) -> Option<(u16, u16)>
-        ensures found { IfSome result (λ ports. IfSome self.now.net (λ ip. HasPorts ip ports)) }
+        ensures found { IfSome result (λ ports. IsSomeAnd self.now.net (λ ip. HasPorts ip ports)) }
         ensures none { IfNone result (IfSome self.now.net (λ ip.
             (ports : ℕ × ℕ) → ¬ HasPorts ip ports)) }
     {

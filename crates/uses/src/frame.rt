@@ -1,11 +1,11 @@
 //! Ethernet frames.
 
-ghost use Rattle.std.specs.Prelude.{◌≡◌, ◌<◌, IfSome, Option, length};
+ghost use Rattle.std.specs.Prelude.{◌≡◌, ◌<◌, IfSome, IsSomeAnd, Option, length};
 ghost use Rattle.packet.specs.SlicedPacket.{IsFrame};
 ghost use Rattle.packet.specs.Transport.{HasPorts};
-ghost use Rattle.packet.specs.declared.sliced_packet.SlicedPacket.{SlicedPacket as Packet};
-ghost use Rattle.packet.specs.declared.link.LinkType.{LinkType};
 ghost use Rattle.packet.specs.declared.error.SliceError.{SliceError};
+ghost use Rattle.packet.specs.declared.link.LinkType.{LinkType};
+ghost use Rattle.packet.specs.declared.sliced_packet.SlicedPacket.{SlicedPacket as Packet};
 
 use packet::lax_sliced_packet::LaxSlicedPacket;
 
@@ -15,7 +15,7 @@ pub fn ports(frame: &[u8]) -> Option<(u16, u16)>
     ensures short { length frame.now < 14 → result ≡ None }
     ensures found { IfSome result (λ ports. (packet : Packet) × (stop : Option SliceError)
         × IsFrame LinkType.Ethernet2 frame.now packet stop
-        × IfSome packet.net (λ ip. HasPorts ip ports)) }
+        × IsSomeAnd packet.net (λ ip. HasPorts ip ports)) }
 {
     match LaxSlicedPacket::from_ethernet(frame) {
         Ok(lax) => lax.packet.ports(),
