@@ -1,1 +1,2 @@
 mod GreLayout
+mod GreWritten

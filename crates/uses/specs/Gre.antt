@@ -1,8 +1,8 @@
 -- The GRE header (RFC 2784, RFC 2890).
 use Rattle.std.specs.Prelude.{ℕ, ◌≡◌, ◌≢◌, ◌+◌, ◌*◌, ◌/◌, ◌%◌, ◌^◌, ◌<◌, ◌≤◌, ◌⊎◌, ◌==◌}
-use Rattle.std.specs.Prelude.{List, length, slice_index, slice_range, Option, Some, None}
-use Rattle.std.specs.Prelude.{Result, if◌then◌else◌}
-use Rattle.std.specs.Int.{from_be_bytes, w16, w32}
+use Rattle.std.specs.Prelude.{List, [], ◌∷◌, ◌++◌, length, slice_index, slice_range}
+use Rattle.std.specs.Prelude.{Option, Some, None, Result, if◌then◌else◌}
+use Rattle.std.specs.Int.{from_be_bytes, to_be_bytes, w16, w32}
 use Rattle.etherparse.specs.Bytes.{IsBytes}
 use Rattle.etherparse.specs.Reading.{Reads}
 use Rattle.uses.specs.declared.gre.GreCause.{GreCause}
@@ -72,3 +72,22 @@ GreReading = Result (GreHeader × List ℕ) GreError
 
 abbrev pub ReadsGre : List ℕ → GreReading → Type 0
 ReadsGre s reading = Reads IsGreLayout RefusesGre s reading
+
+-- a flag: 1 if the field is there
+abbrev pub flag_of : Option ℕ → ℕ
+flag_of None = 0
+flag_of (Some n) = 1
+
+abbrev pub checksum_bytes : Option ℕ → List ℕ
+checksum_bytes None = []
+checksum_bytes (Some n) = to_be_bytes w16 n ++ 0 ∷ 0 ∷ []
+
+abbrev pub field_bytes : Option ℕ → List ℕ
+field_bytes None = []
+field_bytes (Some n) = to_be_bytes w32 n
+
+-- the bytes of a header that is written; what a receiver ignores is 0
+abbrev pub gre_bytes : GreHeader → List ℕ
+gre_bytes h = (128 * flag_of h.checksum + 32 * flag_of h.key + 16 * flag_of h.sequence_number) ∷ 0
+    ∷ (to_be_bytes w16 h.protocol_type
+    ++ (checksum_bytes h.checksum ++ (field_bytes h.key ++ field_bytes h.sequence_number)))

@@ -1,12 +1,14 @@
 //! The GRE header (RFC 2784, RFC 2890), whose length its flags tell.
 
-ghost use Rattle.std.specs.Prelude.{ℕ, ◌≡◌, ◌≢◌, ◌<◌, ◌≤◌, ◌+◌, IfErr, IfOk, length};
-ghost use Rattle.std.specs.Prelude.{slice_index, slice_range};
-ghost use Rattle.std.specs.Int.{from_be_bytes, w16};
+ghost use Rattle.std.specs.Prelude.{ℕ, ◌≡◌, ◌≢◌, ◌<◌, ◌≤◌, ◌+◌, ◌^◌, ◌∷◌, ◌++◌};
+ghost use Rattle.std.specs.Prelude.{IfErr, IfOk, IfSome, length, slice_index, slice_range};
+ghost use Rattle.std.specs.Int.{from_be_bytes, to_be_bytes, w16};
+ghost use Rattle.etherparse.specs.Bytes.{IsBytes};
 ghost use Rattle.etherparse.specs.WordSums.{SumsToAllOnes};
 ghost use Rattle.uses.specs.Gre.{IsGreLayout, IsUnsupported, RefusesAs, flag_at, gre_len_of};
-ghost use Rattle.uses.specs.Gre.{if_set, word_at};
+ghost use Rattle.uses.specs.Gre.{checksum_bytes, field_bytes, if_set, word_at};
 
+use arrayvec::ArrayVec;
 use etherparse::checksum::Sum16BitWords;
 
 /// A GRE header. Each optional field is there if its flag is set: C, K or S.
@@ -52,9 +54,9 @@ impl GreError {
 }
 
 impl GreHeader {
-    ghost use Rattle.std.specs.Prelude.{◌≡◌};
+    ghost use Rattle.std.specs.Prelude.{ℕ, ◌≡◌, ◌++◌, List, Ok};
     ghost use Rattle.etherparse.specs.Reading.{found_and_rest};
-    ghost use Rattle.uses.specs.Gre.{GreReading, ReadsGre};
+    ghost use Rattle.uses.specs.Gre.{GreReading, IsGreLayout, ReadsGre, gre_bytes};
 
     /// The header at the front of a slice, and all the bytes after it.
     ///
@@ -71,6 +73,25 @@ impl GreHeader {
             Ok(len) => Ok((header_of(&slice[..len]), &slice[len..])),
             Err(cause) => Err(GreError { cause, offset: 0 }),
         }
+    }
+
+    /// The bytes of the header, 4 to 16. What a receiver ignores is 0.
+    pub fn to_bytes(&self) -> ArrayVec<u8, 16>
+        ensures value { result.items ≡ gre_bytes self.now }
+        ensures layout { IsGreLayout self.now result.items }
+        ensures read_again { (rest : List ℕ) →
+            ReadsGre (result.items ++ rest) (Ok (self.now, rest)) }
+    {
+        let (checksum, key, number) = (self.checksum, self.key, self.sequence_number);
+        let flags = 128 * u8::from(checksum.is_some())
+            + 32 * u8::from(key.is_some())
+            + 16 * u8::from(number.is_some());
+        let mut bytes = ArrayVec::new();
+        push(&mut bytes, first_bytes(flags, self.protocol_type));
+        push_checksum(&mut bytes, checksum);
+        push_field(&mut bytes, key);
+        push_field(&mut bytes, number);
+        bytes
     }
 }
 
@@ -164,5 +185,52 @@ fn checksum_of(bytes: &[u8]) -> Option<u16>
         Some(u16::from_be_bytes([bytes[4], bytes[5]]))
     } else {
         None
+    }
+}
+
+// The four bytes that each header has.
+fn first_bytes(flags: u8, protocol_type: u16) -> [u8; 4]
+    ensures value { result ≡ flags ∷ 0 ∷ to_be_bytes w16 protocol_type }
+    ensures fits { protocol_type < 2 ^ 16 }
+{
+    let [high, low] = protocol_type.to_be_bytes();
+    [flags, 0, high, low]
+}
+
+// Four bytes more.
+fn push(bytes: &mut ArrayVec<u8, 16>, more: [u8; 4])
+    requires room { length bytes.old.items ≤ 12 }
+    ensures items { bytes.new.items ≡ bytes.old.items ++ more }
+    ensures are_bytes { IsBytes bytes.old.items → IsBytes bytes.new.items }
+{
+    let [a, b, c, d] = more;
+    bytes.push(a);
+    bytes.push(b);
+    bytes.push(c);
+    bytes.push(d);
+}
+
+// The checksum and two bytes 0, if it is there.
+fn push_checksum(bytes: &mut ArrayVec<u8, 16>, checksum: Option<u16>)
+    requires room { length bytes.old.items ≤ 12 }
+    ensures items { bytes.new.items ≡ bytes.old.items ++ checksum_bytes checksum }
+    ensures are_bytes { IsBytes bytes.old.items → IsBytes bytes.new.items }
+    ensures fits { IfSome checksum (λ n. n < 2 ^ 16) }
+{
+    if let Some(checksum) = checksum {
+        let [high, low] = checksum.to_be_bytes();
+        push(bytes, [high, low, 0, 0]);
+    }
+}
+
+// A field of four bytes, if it is there.
+fn push_field(bytes: &mut ArrayVec<u8, 16>, field: Option<u32>)
+    requires room { length bytes.old.items ≤ 12 }
+    ensures items { bytes.new.items ≡ bytes.old.items ++ field_bytes field }
+    ensures are_bytes { IsBytes bytes.old.items → IsBytes bytes.new.items }
+    ensures fits { IfSome field (λ n. n < 2 ^ 32) }
+{
+    if let Some(number) = field {
+        push(bytes, number.to_be_bytes());
     }
 }
