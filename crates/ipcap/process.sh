@@ -202,9 +202,9 @@ record() {
     bytes "$3" "$4"
 }
 
-# behind TYPE HEADER4 HEADER6 OTHER LINE: the four packets of `stdin` after the link headers for
+# after TYPE HEADER4 HEADER6 OTHER LINE: the four packets of `stdin` after the link headers for
 # IPv4 and IPv6 have the lines of `stdout`, and a frame of another protocol has its own.
-behind() {
+after() {
     {
         bytes 0 20
         number "$1"
@@ -227,7 +227,7 @@ behind() {
     judge "link type $1, and $5" $? 0
 }
 
-# Packets that the capture cut: behind the ports, or type and code, or before that.
+# Packets that the capture cut: after the ports, or type and code, or before that.
 cut_packets() {
     {
         bytes 0 20
@@ -252,8 +252,42 @@ cut_packets() {
     judge 'packets that are cut' $? 0
 }
 
+# with_length LENGTH PLACE CAPTURED ORIGINAL: a record of the first packet of `stdin`, with another
+# total length, identification 7 and another place as a fragment, which leaves its checksum wrong.
+with_length() {
+    bytes 24 8
+    number "$3"
+    number "$4"
+    bytes 54 2
+    printf "$1\0\7$2"
+    bytes 62 $(($3 - 8))
+}
+
+# A total length of 0, as in packets that a network card is to cut, also of one that the capture cut;
+# and a first fragment that has the ports alone.
+lengths() {
+    {
+        bytes 0 20
+        number 101
+        with_length '\0\0' '\0\0' 33 33
+        with_length '\0\0' '\0\0' 24 33
+        with_length '\0\30' '\40\0' 24 24
+    } >"$room/input"
+    parties='192.0.2.1 > 198.51.100.7 UDP 53>40000'
+    {
+        echo "1 1700000001.001001 $parties length 13 hops 64 fragment - checksums wrong none" \
+            'total length 0'
+        echo "2 1700000001.001001 $parties length 4 hops 64 fragment - checksums wrong none" \
+            'total length 0 cut 24/33'
+        echo "3 1700000001.001001 $parties length 4 hops 64 fragment 7@0+ checksums wrong none"
+    } >"$room/wanted"
+    closing 3 3 0 0 1 3 >"$room/wanted.errors"
+    run
+    judge 'total lengths of 0, and a first fragment of four bytes' $? 0
+}
+
 # cut_ipv6 FIRST EXTENSIONS CAPTURED: a record of so many bytes of an IPv6 packet that had 80. The
-# number of its first extension header, and its bytes behind the header, are as `printf` takes them.
+# number of its first extension header, and its bytes after the header, are as `printf` takes them.
 cut_ipv6() {
     addresses='\40\1\15\270\0\0\0\0\0\0\0\0\0\0\0\1\40\1\15\270\0\0\0\0\0\1\0\0\0\0\0\2'
     printf "\140\0\0\0\0\50$1\100$addresses$2" >"$room/packet"
@@ -351,28 +385,28 @@ fronts() {
 
 link_types() {
     for type in 12 14 101 228 229; do
-        behind "$type" '' '' '' ''
+        after "$type" '' '' '' ''
     done
     fronts 0 '\2\0\0\0'
-    behind 0 '\2\0\0\0' '\30\0\0\0' '\7\0\0\0' 'family 7'
-    behind 0 '\2\0\0\0' '\34\0\0\0' '\0\0\0\27' 'family 23'
-    behind 0 '\0\0\0\2' '\0\0\0\36' '\0\0\0\0' 'family 0'
+    after 0 '\2\0\0\0' '\30\0\0\0' '\7\0\0\0' 'family 7'
+    after 0 '\2\0\0\0' '\34\0\0\0' '\0\0\0\27' 'family 23'
+    after 0 '\0\0\0\2' '\0\0\0\36' '\0\0\0\0' 'family 0'
     fronts 108 '\0\0\0\2'
-    behind 108 '\0\0\0\2' '\0\0\0\30' '\2\0\0\0' 'family 33554432'
+    after 108 '\0\0\0\2' '\0\0\0\30' '\2\0\0\0' 'family 33554432'
     tag='\201\0\0\12'
     macs='\2\0\0\0\0\7\2\0\0\0\0\1'
     fronts 1 "$macs\10\0"
     fronts 1 "$macs$tag$tag\10\0"
-    behind 1 "$macs\10\0" "$macs\221\0\0\12$tag\206\335" "$macs$tag$tag$tag\10\0" 'type 0x8100'
-    behind 1 "$macs$tag$tag\10\0" "$macs\210\250\0\12\206\335" "$macs\0\46" 'type 0x0026'
+    after 1 "$macs\10\0" "$macs\221\0\0\12$tag\206\335" "$macs$tag$tag$tag\10\0" 'type 0x8100'
+    after 1 "$macs$tag$tag\10\0" "$macs\210\250\0\12\206\335" "$macs\0\46" 'type 0x0026'
     sent='\0\0\0\1\0\6\2\0\0\0\0\1\0\0'
     fronts 113 "$sent$tag\10\0"
-    behind 113 "$sent\10\0" "$sent\206\335" "$sent\10\6" 'type 0x0806'
-    behind 113 "$sent$tag\10\0" "$sent$tag\206\335" "$sent\0\4" 'type 0x0004'
+    after 113 "$sent\10\0" "$sent\206\335" "$sent\10\6" 'type 0x0806'
+    after 113 "$sent$tag\10\0" "$sent$tag\206\335" "$sent\0\4" 'type 0x0004'
     sent='\0\0\0\0\0\2\0\1\0\6\2\0\0\0\0\1\0\0'
     fronts 276 "\10\0$sent"
-    behind 276 "\10\0$sent" "\206\335$sent" "\10\6$sent" 'type 0x0806'
-    behind 276 "\201\0$sent\0\12\10\0" "\201\0$sent\0\12\206\335" "\0\4$sent" 'type 0x0004'
+    after 276 "\10\0$sent" "\206\335$sent" "\10\6$sent" 'type 0x0806'
+    after 276 "\201\0$sent\0\12\10\0" "\201\0$sent\0\12\206\335" "\0\4$sent" 'type 0x0004'
 }
 
 # format MAGIC REST FRACTION: a file with this magic number, and with the rest of its header and a
@@ -615,6 +649,7 @@ for build; do
     longest_records
     link_types
     cut_packets
+    lengths
     cut_extensions
     nested_fragment
     protocols

@@ -57,7 +57,7 @@ fn write_found<T: Shown, E: Shown>(
     }
 }
 
-// A part of a packet, or what is wrong with it, behind its name.
+// A part of a packet, or what is wrong with it, after its name.
 fn write_part<T: Shown>(name: &str, gap: &str, part: &T, answer: &mut String) -> Written {
     write!(answer, " ; {name}{gap}{}", Show(part))
 }

@@ -242,7 +242,7 @@ impl Listing {
         }
     }
 
-    // Goes on behind the whole records that have been read: lists and skips one that is too long,
+    // Goes on after the whole records that have been read: lists and skips one that is too long,
     // or reads more.
     fn go_on<R: Source, W: Sink>(
         &self,
@@ -272,7 +272,7 @@ impl Listing {
         }
     }
 
-    // Lists the whole records that have been read, and goes on behind them.
+    // Lists the whole records that have been read, and goes on after them.
     fn list_turn<R: Source, W: Sink>(
         &self,
         before: Totals,

@@ -104,7 +104,7 @@ pub fn has_no_length(slice: &IpSlice) -> bool
 }
 
 // What is shown of the header that the payload begins with, which goes on elsewhere if it is not
-// whole: in another fragment, or behind what was captured.
+// whole: in another fragment, or beyond what was captured.
 fn detail_of(is_whole: bool, slice: &IpSlice) -> Detail
     ensures shows { IsDetail is_whole slice.now result }
 {

@@ -1,5 +1,5 @@
 -- Extension headers end in one way.
-use Rattle.std.proofs.Common.{ℕ, zero, suc, ◌≡◌, ◌≢◌, ◌+◌, ◌-◌, ◌<◌, ◌≤◌, Bool, false, true, List, [], ◌++◌, length, take, drop, get_or, refl, sym, ap, ◌∙◌, subst, arith, rules, Option, Some, None, Ok, Err, Result, length-append, take-append-drop, append_assoc, inl, inr}
+use Rattle.std.proofs.Common.{ℕ, suc, ◌≡◌, ◌≢◌, ◌-◌, ◌<◌, ◌≤◌, Bool, false, true, List, length, refl, sym, ap, ◌∙◌, subst, arith, rules, Option, Some, None, Ok, length-append, inl, inr}
 use Rattle.std.specs.Option.{option_or}
 use Rattle.std.specs.Result.{result_unwrap_or}
 use Rattle.std.proofs.lemmas.Bool.{cases_order}

@@ -1,5 +1,5 @@
 -- A packet has one list of parts, and one reason to be refused.
-use Rattle.std.proofs.Common.{ℕ, zero, suc, ◌≡◌, ◌≢◌, ◌==◌, ◌+◌, ◌-◌, ◌<◌, ◌≤◌, Bool, false, true, List, [], ◌++◌, length, take, drop, get_or, refl, sym, ap, ◌∙◌, subst, arith, rules, Option, Some, None, Ok, Err, Result, length-append, take-append-drop, append_assoc, append-nil, inl, inr, if◌then◌else◌}
+use Rattle.std.proofs.Common.{ℕ, ◌≡◌, ◌==◌, ◌+◌, false, true, List, [], ◌++◌, take, drop, sym, ap, ◌∙◌, subst, arith, take-append-drop, append_assoc, append-nil, if◌then◌else◌}
 use Rattle.std.proofs.lemmas.Grind.{common_steps}
 use Rattle.std.proofs.lemmas.List.{append_cancel_right}
 use Rattle.etherparse.proofs.Fronts.{TellsHeaders}
@@ -14,7 +14,7 @@ use Rattle.etherparse.specs.declared.net.ipv4_header.Ipv4Header.{Ipv4Header}
 use Rattle.etherparse.specs.declared.net.ipv6_header.Ipv6Header.{Ipv6Header}
 use Rattle.packet_parts.proofs.ExtensionEnds.{one_end, same_beginning}
 use Rattle.packet_parts.specs.Extensions.{EndsAs}
-use Rattle.packet_parts.specs.IpSlice.{HasIpParts, ip_parts, Ipv4Parts, Ipv6Parts, ipv4_bytes, ipv6_bytes}
+use Rattle.packet_parts.specs.IpSlice.{HasIpParts, ip_parts, ipv4_bytes, ipv6_bytes}
 use Rattle.packet_parts.specs.declared.ip_slice.IpSlice.{IpSlice}
 use Rattle.packet_parts.specs.declared.ip_slice.IpSlice.TheVariants.{Ipv4, Ipv6}
 

@@ -1,5 +1,5 @@
 -- A packet has one reason to be refused, and one with parts or a whole one has none.
-use Rattle.std.proofs.Common.{ℕ, false, IsTrue, ◌≡◌, ◌≢◌, ◌==◌, ◌+◌, ◌<◌, ◌≤◌, ◌⊎◌, List, ◌++◌, length, take, refl, sym, ap, ◌∙◌, subst, arith, Option, None, Some, Ok, Err, Result, length-append, inl, inr, if◌then◌else◌}
+use Rattle.std.proofs.Common.{ℕ, false, IsTrue, ◌≡◌, ◌≢◌, ◌==◌, ◌+◌, ◌<◌, ◌≤◌, ◌⊎◌, List, length, refl, sym, ap, ◌∙◌, subst, arith, Option, None, Some, Ok, Err, Result, length-append, inl, inr, if◌then◌else◌}
 use Rattle.std.proofs.lemmas.Bool.Decides.{nat_tests}
 use Rattle.std.proofs.lemmas.Grind.{common_steps}
 use Rattle.etherparse.proofs.Fronts.{read_once}
