@@ -1,7 +1,8 @@
 -- The lines of the records of a capture, in their order.
 use Rattle.std.specs.Prelude.{ℕ, ◌≡◌, ◌+◌, ◌<◌, ◌≤◌, Bool, true, false, nat_lt, List, [], ◌++◌}
 use Rattle.std.specs.Prelude.{length, drop, Option, Some, None, Err, if◌then◌else◌}
-use Rattle.packet_capture.specs.Capture.{BeginsWithRecord, Recorded, ReadsRecord, record_head, record_len}
+use Rattle.packet_capture.specs.Capture.{BeginsWithRecord, Recorded, ReadsRecord, record_head}
+use Rattle.packet_capture.specs.Capture.{record_len}
 use Rattle.packet_capture.specs.declared.capture.CutOff as cut
 use Rattle.packet_capture.specs.declared.capture.FileHeader.{FileHeader}
 use Rattle.packet_capture.specs.declared.capture.RecordHead.{RecordHead}

@@ -95,7 +95,7 @@ is_wrong (Absent reason) = false
 abbrev pub has_whole_payload : LaxIpSlice → Bool
 has_whole_payload lax = is_none lax.stop && is_none (fragment_of lax.slice)
 
--- what is shown of a packet in these parts: the header that the payload begins with, and the verdicts
+-- what is shown of a packet in these parts: the header that the payload begins with, and verdicts
 pub record Shows (packet : List ℕ) (shown : Shown) : Type 0 where
   pub detail : IsDetail (has_whole_payload shown.lax) shown.lax.slice shown.detail
   pub header_checksum : IsHeaderVerdict packet shown.lax.slice shown.is_header_right

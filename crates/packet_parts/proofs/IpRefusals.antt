@@ -18,10 +18,11 @@ use Rattle.etherparse.specs.ExtensionHeaders.{IsSkippable}
 use Rattle.packet_parts.proofs.ExtensionEnds.{one_end, same_beginning}
 use Rattle.packet_parts.proofs.IpParts.{ipv4_front, ipv6_front, is_version_4, is_version_6, longer, same_cut_beginning, same_parts}
 use Rattle.packet_parts.specs.Extensions.{EndsAs}
-use Rattle.packet_parts.specs.IpSlice.{EndsInExtensions, HasIpParts, HasLaxIpParts, HasNoIpParts, ip_parts, IsWhole, RefusesIp, ipv4_bytes, ipv6_bytes}
+use Rattle.packet_parts.specs.IpSlice.{EndsInExtensions, HasIpParts, HasLaxIpParts, HasNoIpParts, ip_parts, IsWhole, ReadsIp, ReadsLaxIp, RefusesIp, ip_answer, ipv4_bytes, ipv6_bytes, lax_ip_answer}
 use Rattle.packet_parts.specs.declared.ip_slice.IpSlice.{IpSlice}
 use Rattle.packet_parts.specs.declared.ip_slice.IpSlice.TheVariants as slice
 use Rattle.packet_parts.specs.declared.ip_slice.IpSliceError.{IpSliceError}
+use Rattle.packet_parts.specs.declared.ip_slice.LaxIpSlice.{LaxIpSlice}
 use Rattle.packet_parts.specs.declared.ip_slice.IpSliceError.TheVariants.{Empty, Extensions, Ipv4Header, Ipv6Header, Packet, UnexpectedVersion}
 
 -- an extension header is incomplete in one way
@@ -219,3 +220,16 @@ lax_once s a b None None p q = (same_parts s a b p.parts q.parts, refl)
 lax_once s a b (Some e) (Some f) p q = (same_parts s a b p.parts q.parts, ap Some (refused_once s e f p.stop q.stop))
 lax_once s a b None (Some e) p q = absurd (whole_not_refused s a e p.parts p.stop q.stop)
 lax_once s a b (Some e) None p q = absurd (whole_not_refused s b e q.parts q.stop p.stop)
+
+-- so slicing has one answer, and slicing as far as it goes
+pub sliced_once : (s : List ℕ) (a b : Result IpSlice IpSliceError) → ReadsIp s a → ReadsIp s b → ip_answer a ≡ ip_answer b
+sliced_once s (Ok a) (Ok b) p q = ap Ok (same_parts s a b p.0 q.0)
+sliced_once s (Err e) (Err f) p q = ap Err (refused_once s e f p q)
+sliced_once s (Ok a) (Err e) p q = absurd (whole_not_refused s a e p.0 p.1 q)
+sliced_once s (Err e) (Ok a) p q = absurd (whole_not_refused s a e q.0 q.1 p)
+
+pub lax_sliced_once : (s : List ℕ) (a b : Result LaxIpSlice IpSliceError) → ReadsLaxIp s a → ReadsLaxIp s b → lax_ip_answer a ≡ lax_ip_answer b
+lax_sliced_once s (Ok a) (Ok b) p q = let same = lax_once s a.slice b.slice a.stop b.stop p q in rw (same.0, same.1) refl
+lax_sliced_once s (Err e) (Err f) p q = ap Err (refused_once s e f (no_parts_refused s e p) (no_parts_refused s f q))
+lax_sliced_once s (Ok a) (Err e) p q = absurd (parts_not_refused s a.slice e p.parts q)
+lax_sliced_once s (Err e) (Ok a) p q = absurd (parts_not_refused s a.slice e q.parts p)

@@ -1,6 +1,7 @@
 -- What a receiver finds of the checksum of UDP, TCP, ICMP or ICMPv6.
 use Rattle.std.specs.Prelude.{ℕ, ◌≡◌, ◌≢◌, ◌==◌, ◌<◌, ◌≤◌, ◌^◌, ◌⊎◌, List, [], ◌∷◌, ◌++◌}
-use Rattle.std.specs.Prelude.{MatchOption, None, Some, codes, if◌then◌else◌, length, slice_range, take}
+use Rattle.std.specs.Prelude.{MatchOption, None, Some, codes, if◌then◌else◌, length, slice_range}
+use Rattle.std.specs.Prelude.{take}
 use Rattle.std.specs.Int.{from_be_bytes, to_be_bytes, w16, w32}
 use Rattle.etherparse.specs.Ipv4Header.{IsFragment}
 use Rattle.etherparse.specs.WordSums.{ones_complement_sum}
@@ -14,8 +15,8 @@ use Rattle.packet_parts.specs.declared.ip_slice.IpSlice.{IpSlice}
 use Rattle.packet_parts.specs.declared.ip_slice.IpSlice.TheVariants as slice
 use Rattle.packet_parts.specs.declared.ip_slice.LaxIpSlice.{LaxIpSlice}
 
--- The pseudo-header of IPv4 (RFC 768, RFC 9293 section 3.1): both addresses, a zero byte, the number
--- of the protocol, and the length of its header and data in 16 bits.
+-- The pseudo-header of IPv4 (RFC 768, RFC 9293 section 3.1): both addresses, a zero byte, the
+-- number of the protocol, and the length of its header and data in 16 bits.
 abbrev pub ipv4_pseudo_header : List ℕ → List ℕ → ℕ → ℕ → List ℕ
 ipv4_pseudo_header source destination protocol len =
     source ++ (destination ++ (0 ∷ protocol ∷ to_be_bytes w16 len))
@@ -61,8 +62,8 @@ pub record IsRightIpv4 (ip : Ipv4Header) (covered : List ℕ) : Type 0 where
   pub fits : ip.protocol ≢ 1 → length covered < 2 ^ 16
   pub sum : ones_complement_sum (ipv4_pieces ip covered) ≡ 65535
 
--- the same over IPv6, where the length has 32 bits, also of ICMPv6 (RFC 4443 section 2.3), and where
--- a datagram has to have a checksum (RFC 8200 section 8.1)
+-- the same over IPv6, where the length has 32 bits, also of ICMPv6 (RFC 4443 section 2.3), and
+-- where a datagram has to have a checksum (RFC 8200 section 8.1)
 pub record IsRightIpv6 (ip : Ipv6Header) (number : ℕ) (covered : List ℕ) : Type 0 where
   pub there : ¬ IsWithoutChecksum number covered
   pub fits : length covered < 2 ^ 32

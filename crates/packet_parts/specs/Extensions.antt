@@ -1,5 +1,5 @@
--- The extension headers of IPv6 in one pass (RFC 8200 sections 4 and 4.5): where they end, and which
--- fragment header decides.
+-- The extension headers of IPv6 in one pass (RFC 8200 sections 4 and 4.5): where they end, and
+-- which fragment header decides.
 use Rattle.std.specs.Prelude.{ℕ, ◌≡◌, ◌≢◌, ◌-◌, ◌<◌, ◌≤◌, Bool, false, true, List, Option, Some}
 use Rattle.std.specs.Prelude.{None, drop, if◌then◌else◌, length, slice_index}
 use Rattle.std.specs.Option.{option_or}
@@ -10,15 +10,15 @@ use Rattle.etherparse.specs.declared.err.LenError.{LenError}
 use Rattle.packet_parts.specs.Fragment.{IsFragmentLayout, is_part}
 use Rattle.packet_parts.specs.declared.fragment.FragmentHeader.{FragmentHeader}
 
--- A fragment header decides unless it is atomic: a packet with an atomic one is processed as without
--- it (RFC 8200 section 4.5, RFC 6946).
+-- A fragment header decides unless it is atomic: a packet with an atomic one is processed as
+-- without it (RFC 8200 section 4.5, RFC 6946).
 abbrev pub deciding : FragmentHeader → Option FragmentHeader
 deciding header = if is_part header then Some header else None
 
 -- What is reached after extension headers at the front of a slice, of which the first has this
 -- number: the fragment header that decides, the first of these that does; a number; and the rest
--- that it tells of. Each header that is passed is whole. After a fragment header whose offset is not 0 comes
--- the middle of a payload: nothing after it is a header.
+-- that it tells of. Each header that is passed is whole. After a fragment header whose offset is not
+-- 0 comes the middle of a payload: nothing after it is a header.
 pub data Passes (s : List ℕ) (first : ℕ) : Option FragmentHeader → ℕ → List ℕ → Type 0 where
   at_front : Passes s first None first s
   after_other : {decided : Option FragmentHeader} {number : ℕ} {rest : List ℕ}
@@ -31,8 +31,8 @@ pub data Passes (s : List ℕ) (first : ℕ) : Option FragmentHeader → ℕ →
       → Passes s first (option_or decided (deciding next)) next.next_header rest
 
 -- The last header is the fragment header of a fragment that is not the first. Extension headers and
--- the header of the upper layer, which can follow that of the first fragment, are in the first alone
--- (RFC 8200 section 4.5). The payload is what follows it, whatever the number that it names.
+-- the header of the upper layer, which can follow that of the first fragment, are in the first
+-- alone (RFC 8200 section 4.5). The payload is what follows it, whatever the number that it names.
 pub record EndsAtLaterFragment (s : List ℕ) (first : ℕ) (decided : Option FragmentHeader)
     (number : ℕ) (payload : List ℕ) : Type 0 where
   pub before : Option FragmentHeader
@@ -54,7 +54,8 @@ pub record EndsInHeader (s : List ℕ) (first : ℕ) (decided : Option FragmentH
 -- Where the extension headers end, and whether the payload is that of a later fragment: before a
 -- number that is of none that can be skipped; after the fragment header of a later fragment; or
 -- within a header, with the error of that.
-abbrev pub EndsAs : Bool → Option LenError → List ℕ → ℕ → Option FragmentHeader → ℕ → List ℕ → Type 0
+abbrev pub EndsAs : Bool → Option LenError → List ℕ → ℕ → Option FragmentHeader → ℕ → List ℕ
+    → Type 0
 EndsAs false None s first decided number rest =
     Passes s first decided number rest × ¬ IsSkippable number
 EndsAs true None s first decided number rest = EndsAtLaterFragment s first decided number rest

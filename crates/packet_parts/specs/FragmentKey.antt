@@ -66,7 +66,8 @@ pub record IsWholeIpv6 (packet : List ℕ) : Type 0 where
   pub header : Ipv6Header
   pub has : HasExtensions packet header None None
 
--- the error of an extension header of this number that is incomplete: of a fragment header it says so
+-- the error of an extension header of this number that is incomplete: of a fragment header it says
+-- so
 abbrev pub undecided_error : ℕ → LenError → LenError
 undecided_error number e =
     if number == 44 then record e { required_len = 8; layer = layer.Ipv6FragHeader } else e

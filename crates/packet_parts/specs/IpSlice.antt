@@ -1,8 +1,9 @@
 -- The parts of an IP packet of either version (RFC 791 section 3.1, RFC 8200 section 3), as far as
 -- its length field says and its bytes are there.
 use Rattle.std.specs.Prelude.{ℕ, ◌≡◌, ◌≢◌, ◌+◌, ◌*◌, ◌<◌, ◌≤◌, ◌==◌, ◌||◌, ◌⊎◌, Bool, false, not}
-use Rattle.std.specs.Prelude.{IsTrue, List, ◌++◌, length, take, Err, MatchOption, Option, Some}
-use Rattle.std.specs.Prelude.{None, codes, decimal, if◌then◌else◌, option_map}
+use Rattle.std.specs.Prelude.{IsTrue, List, ◌++◌, length, take, Result, Ok, Err, MatchOption, Option}
+use Rattle.std.specs.Prelude.{Some, None, codes, decimal, if◌then◌else◌, option_map}
+use Rattle.std.specs.Result.{result_map_both}
 use Rattle.std.specs.Net.Addr.{ipv4_octets, ipv6_segments, segments_of}
 use Rattle.std.specs.declared.net.ip_addr.IpAddr.{IpAddr}
 use Rattle.std.specs.declared.net.ip_addr.IpAddr.TheVariants.{V4, V6}
@@ -38,8 +39,8 @@ abbrev pub ipv6_bytes : Ipv6Header → List ℕ → List ℕ
 ipv6_bytes header s = take (40 + header.payload_length) s
 
 -- What there is of the packet is this header, these bytes of whole extension headers, and a payload
--- of the number that the last of them gives. If it ends within an extension header, what there is of
--- that is in the place of the payload.
+-- of the number that the last of them gives. If it ends within an extension header, what there is
+-- of that is in the place of the payload.
 pub record HasIpv6Parts (packet : List ℕ) (header : Ipv6Header) (extensions : List ℕ)
     (fragment : Option FragmentHeader) (is_later : Bool) (upper : ℕ) (payload : List ℕ)
     : Type 0 where
@@ -177,6 +178,23 @@ ip_parts (slice.Ipv4 header payload) = Ipv4Parts header payload.now
 ip_parts (slice.Ipv6 header extensions fragment is_later upper payload) =
     Ipv6Parts header extensions.now fragment is_later upper payload.now
 
+-- slicing a packet: it is in these parts, or it is refused; and the same as far as it is there
+abbrev pub ReadsIp : List ℕ → Result IpSlice IpSliceError → Type 0
+ReadsIp packet (Ok slice) = IsIpPacket packet slice
+ReadsIp packet (Err e) = RefusesIp packet e
+
+abbrev pub ReadsLaxIp : List ℕ → Result LaxIpSlice IpSliceError → Type 0
+ReadsLaxIp packet (Ok lax) = HasLaxIpParts packet lax
+ReadsLaxIp packet (Err e) = HasNoIpParts packet e
+
+-- what an answer says, apart from where its slices lie in memory
+abbrev pub ip_answer : Result IpSlice IpSliceError → Result IpParts IpSliceError
+ip_answer answer = result_map_both ip_parts (λ e. e) answer
+
+abbrev pub lax_ip_answer : Result LaxIpSlice IpSliceError
+    → Result (IpParts × Option IpSliceError) IpSliceError
+lax_ip_answer answer = result_map_both (λ lax. (ip_parts lax.slice, lax.stop)) (λ e. e) answer
+
 -- the number of the payload of a slice
 abbrev pub upper_of : IpSlice → ℕ
 upper_of (slice.Ipv4 header payload) = header.protocol
@@ -209,7 +227,8 @@ placed header = record {
 -- the place of the payload of a slice, if it is a fragment
 abbrev pub fragment_of : IpSlice → Option Fragment
 fragment_of (slice.Ipv4 header payload) = ipv4_fragment_of header
-fragment_of (slice.Ipv6 header extensions fragment is_later upper payload) = option_map placed fragment
+fragment_of (slice.Ipv6 header extensions fragment is_later upper payload) =
+    option_map placed fragment
 
 -- the payload of a slice is that of a fragment that is not the first: it begins with no header
 abbrev pub IsLater : IpSlice → Type 0

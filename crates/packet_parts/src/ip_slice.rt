@@ -7,6 +7,7 @@ ghost use Rattle.etherparse.specs.LenError.{len_error_moved};
 ghost use Rattle.etherparse.specs.Ipv6Header.{IsIpv6Layout};
 ghost use Rattle.etherparse.specs.Reading.{BeginsWith, too_short_error};
 ghost use Rattle.packet_parts.specs.IpSlice.{HasIpParts, HasLaxIpParts, HasNoIpParts, IsWhole};
+ghost use Rattle.packet_parts.specs.IpSlice.{ReadsIp, ReadsLaxIp};
 ghost use Rattle.packet_parts.specs.IpSlice.{RefusesIp, ip_slice_error_text, ipv4_fragment_of};
 ghost use Rattle.packet_parts.specs.IpSlice.{ipv6_bytes, placed};
 ghost use Rattle.packet_parts.specs.declared.ip_slice.IpSliceError.TheVariants as Stop;
@@ -114,11 +115,13 @@ pub struct LaxIpSlice<'a> {
 }
 
 impl<'a> IpSlice<'a> {
-    ghost use Rattle.std.specs.Prelude.{◌≡◌, ◌↔◌, IfErr, IfOk, IsTrue};
+    ghost use Rattle.std.specs.Prelude.{◌≡◌, ◌↔◌, IfErr, IfOk, IsTrue, Result};
     ghost use Rattle.packet_parts.specs.Checksum.{IsVerdict};
-    ghost use Rattle.packet_parts.specs.IpSlice.{IsAddressIn, IsIpPacket, IsLater, RefusesIp};
-    ghost use Rattle.packet_parts.specs.IpSlice.{destination_of, fragment_of, payload_of, source_of};
-    ghost use Rattle.packet_parts.specs.IpSlice.{upper_of};
+    ghost use Rattle.packet_parts.specs.declared.ip_slice.IpSlice.{IpSlice as Slice};
+    ghost use Rattle.packet_parts.specs.declared.ip_slice.IpSliceError.{IpSliceError as Refused};
+    ghost use Rattle.packet_parts.specs.IpSlice.{IsAddressIn, IsIpPacket, IsLater, ReadsIp};
+    ghost use Rattle.packet_parts.specs.IpSlice.{RefusesIp, destination_of, fragment_of, ip_answer};
+    ghost use Rattle.packet_parts.specs.IpSlice.{payload_of, source_of, upper_of};
 
     /// The parts of the packet at the front of a slice.
     ///
@@ -147,14 +150,10 @@ impl<'a> IpSlice<'a> {
     pub fn from_slice(packet: &'a [u8]) -> Result<IpSlice<'a>, IpSliceError>
         ensures found { IfOk result (IsIpPacket packet.now) }
         ensures refused { IfErr result (RefusesIp packet.now) }
+        ensures only { (other : Result Slice Refused) → ReadsIp packet.now other →
+            ip_answer other ≡ ip_answer result }
     {
-        match LaxIpSlice::from_slice(packet) {
-            Ok(lax) => match lax.stop {
-                None => Ok(lax.slice),
-                Some(e) => Err(e),
-            },
-            Err(e) => Err(e),
-        }
+        whole_slice(packet)
     }
 
     /// The number of the payload, of either version.
@@ -261,9 +260,12 @@ impl<'a> IpSlice<'a> {
 }
 
 impl<'a> LaxIpSlice<'a> {
-    ghost use Rattle.std.specs.Prelude.{IfErr, IfOk};
+    ghost use Rattle.std.specs.Prelude.{◌≡◌, IfErr, IfOk, Result};
     ghost use Rattle.packet_parts.specs.Checksum.{IsLaxVerdict};
-    ghost use Rattle.packet_parts.specs.IpSlice.{HasLaxIpParts, HasNoIpParts};
+    ghost use Rattle.packet_parts.specs.IpSlice.{HasLaxIpParts, HasNoIpParts, ReadsLaxIp};
+    ghost use Rattle.packet_parts.specs.IpSlice.{lax_ip_answer};
+    ghost use Rattle.packet_parts.specs.declared.ip_slice.IpSliceError.{IpSliceError as Refused};
+    ghost use Rattle.packet_parts.specs.declared.ip_slice.LaxIpSlice.{LaxIpSlice as Lax};
 
     /// The parts of the packet at the front of a slice, as far as they are there.
     ///
@@ -291,15 +293,10 @@ impl<'a> LaxIpSlice<'a> {
     pub fn from_slice(packet: &'a [u8]) -> Result<LaxIpSlice<'a>, IpSliceError>
         ensures found { IfOk result (HasLaxIpParts packet.now) }
         ensures refused { IfErr result (HasNoIpParts packet.now) }
+        ensures only { (other : Result Lax Refused) → ReadsLaxIp packet.now other →
+            lax_ip_answer other ≡ lax_ip_answer result }
     {
-        if packet.is_empty() {
-            return Err(IpSliceError::Empty);
-        }
-        match packet[0] >> 4 {
-            4 => ipv4_slice(packet),
-            6 => ipv6_slice(packet),
-            version_number => Err(IpSliceError::UnexpectedVersion { version_number }),
-        }
+        lax_slice(packet)
     }
 
     /// The verdict on the checksum of the payload, as [`IpSlice::verdict`] gives it; `Incomplete` if
@@ -311,6 +308,33 @@ impl<'a> LaxIpSlice<'a> {
             None => self.slice.verdict(),
             Some(_) => Verdict::Absent(Absence::Incomplete),
         }
+    }
+}
+
+// The parts of a packet that is whole.
+fn whole_slice(packet: &[u8]) -> Result<IpSlice, IpSliceError>
+    ensures reads { ReadsIp packet.now result }
+{
+    match lax_slice(packet) {
+        Ok(lax) => match lax.stop {
+            None => Ok(lax.slice),
+            Some(e) => Err(e),
+        },
+        Err(e) => Err(e),
+    }
+}
+
+// The parts of a packet as far as they are there.
+fn lax_slice(packet: &[u8]) -> Result<LaxIpSlice, IpSliceError>
+    ensures reads { ReadsLaxIp packet.now result }
+{
+    if packet.is_empty() {
+        return Err(IpSliceError::Empty);
+    }
+    match packet[0] >> 4 {
+        4 => ipv4_slice(packet),
+        6 => ipv6_slice(packet),
+        version_number => Err(IpSliceError::UnexpectedVersion { version_number }),
     }
 }
 

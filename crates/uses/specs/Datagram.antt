@@ -6,7 +6,8 @@ use Rattle.packet_parts.specs.declared.checksum.Absence.TheVariants as absence
 use Rattle.packet_parts.specs.declared.checksum.Verdict.TheVariants.{Right, Wrong, Absent}
 use Rattle.packet_parts.specs.declared.ip_slice.IpSlice.{IpSlice}
 
--- a receiver finds the payload right, or has no checksum to judge it by (RFC 768); or finds it wrong
+-- a receiver finds the payload right, or has no checksum to judge it by (RFC 768); or finds it
+-- wrong
 abbrev pub IsFoundRight : IpSlice → Bool → Type 0
 IsFoundRight parts true = IsVerdict parts Right ⊎ IsVerdict parts (Absent absence.NotComputed)
 IsFoundRight parts false = IsVerdict parts Wrong
