@@ -15,6 +15,8 @@ mod examples;
 #[cfg(test)]
 mod fields;
 #[cfg(test)]
+mod frame_examples;
+#[cfg(test)]
 mod frames;
 #[cfg(test)]
 mod headers;

@@ -5,6 +5,20 @@ ghost use Rattle.std.specs.Prelude.{◌≡◌, length};
 use crate::ether_type::{EtherType, u16_at};
 
 /// A view of the header of an Ethernet frame (IEEE 802.3 section 3.1.1).
+///
+/// # Example
+///
+/// ```
+/// // A frame from 2:0:0:0:0:1 to 2:0:0:0:0:2 with the first bytes of an ARP packet.
+/// let frame = [2, 0, 0, 0, 0, 2, 2, 0, 0, 0, 0, 1, 8, 6, 0, 1];
+/// let layers = LinkLayers::from_link_type(LinkType::Ethernet2, &frame)?;
+/// let Some(LinkSlice::Ethernet2(header)) = layers.link else {
+///     return Err(Fail::from("no header"));
+/// };
+/// assert!(rt; header.destination() == [2, 0, 0, 0, 0, 2]);
+/// assert!(rt; header.source() == [2, 0, 0, 0, 0, 1]);
+/// assert!(rt; header.ether_type() == EtherType::ARP);
+/// ```
 #[derive(Clone, Copy, Debug, PartialEq, Eq)]
 pub struct Ethernet2HeaderSlice<'a> {
     /// The 14 bytes of the header.

@@ -35,6 +35,20 @@ impl<'a> LaxSlicedPacket<'a> {
     /// # Errors
     ///
     /// A `LinkError` if the frame has fewer than 14 bytes.
+    ///
+    /// # Example
+    ///
+    /// ```
+    /// // A frame that ends within its second tag.
+    /// let frame = [
+    ///     2, 0, 0, 0, 0, 2, 2, 0, 0, 0, 0, 1, 0x88, 0xa8, 0, 5, 0x81, 0, 1, 2, 3,
+    /// ];
+    /// let lax = LaxSlicedPacket::from_ethernet(&frame)?;
+    /// assert!(rt; matches!(lax.stop, Some(SliceError::Vlan(_))));
+    /// assert!(rt; matches!(lax.packet.vlan, Some(VlanSlice::SingleVlan(_))));
+    /// assert!(rt; lax.packet.ether_type == Some(EtherType::VLAN_TAGGED_FRAME));
+    /// assert!(rt; lax.packet.payload == [1, 2, 3].as_slice());
+    /// ```
     pub fn from_ethernet(frame: &'a [u8]) -> Result<LaxSlicedPacket<'a>, LinkError>
         ensures reads { IsLaxReadingOf LinkType.Ethernet2 frame.now result }
     {
@@ -46,6 +60,16 @@ impl<'a> LaxSlicedPacket<'a> {
     /// # Errors
     ///
     /// A `LinkError` if the frame has fewer than 16 bytes.
+    ///
+    /// # Example
+    ///
+    /// ```
+    /// // A packet of which two bytes were captured.
+    /// let frame = [0, 0, 0, 1, 0, 6, 2, 0, 0, 0, 0, 1, 0, 0, 8, 0, 0x45, 0];
+    /// let lax = LaxSlicedPacket::from_linux_sll(&frame)?;
+    /// assert!(rt; matches!(lax.stop, Some(SliceError::Ip(_))));
+    /// assert!(rt; lax.packet.net.is_none() && lax.packet.payload == [0x45, 0].as_slice());
+    /// ```
     pub fn from_linux_sll(frame: &'a [u8]) -> Result<LaxSlicedPacket<'a>, LinkError>
         ensures reads { IsLaxReadingOf LinkType.LinuxSll frame.now result }
     {
@@ -57,6 +81,18 @@ impl<'a> LaxSlicedPacket<'a> {
     /// # Errors
     ///
     /// A `LinkError` if the frame has fewer than 20 bytes.
+    ///
+    /// # Example
+    ///
+    /// ```
+    /// // The same with the header of version 2, on interface 3.
+    /// let frame = [
+    ///     8, 0, 0, 0, 0, 0, 0, 3, 0, 1, 0, 6, 2, 0, 0, 0, 0, 1, 0, 0, 0x45, 0,
+    /// ];
+    /// let lax = LaxSlicedPacket::from_linux_sll2(&frame)?;
+    /// assert!(rt; matches!(lax.stop, Some(SliceError::Ip(_))));
+    /// assert!(rt; lax.packet.net.is_none() && lax.packet.payload == [0x45, 0].as_slice());
+    /// ```
     pub fn from_linux_sll2(frame: &'a [u8]) -> Result<LaxSlicedPacket<'a>, LinkError>
         ensures reads { IsLaxReadingOf LinkType.LinuxSll2 frame.now result }
     {
@@ -70,6 +106,15 @@ impl<'a> LaxSlicedPacket<'a> {
     /// # Errors
     ///
     /// A `LinkError` if the frame has fewer than 4 bytes.
+    ///
+    /// # Example
+    ///
+    /// ```
+    /// // The family of IPv4, and a packet of which two bytes were captured.
+    /// let lax = LaxSlicedPacket::from_loopback(&[2, 0, 0, 0, 0x45, 0])?;
+    /// assert!(rt; lax.packet.link == Some(LinkSlice::Loopback { family: 2 }));
+    /// assert!(rt; matches!(lax.stop, Some(SliceError::Ip(_))));
+    /// ```
     pub fn from_loopback(frame: &'a [u8]) -> Result<LaxSlicedPacket<'a>, LinkError>
         ensures reads { IsLaxReadingOf LinkType.Null frame.now result }
     {
@@ -81,6 +126,15 @@ impl<'a> LaxSlicedPacket<'a> {
     /// # Errors
     ///
     /// A `LinkError` if the frame ends within its link header.
+    ///
+    /// # Example
+    ///
+    /// ```
+    /// // The same in network byte order, as a frame of LINKTYPE_LOOP.
+    /// let lax = LaxSlicedPacket::from_link_type(LinkType::Loop, &[0, 0, 0, 2, 0x45, 0])?;
+    /// assert!(rt; lax.packet.link == Some(LinkSlice::Loopback { family: 2 }));
+    /// assert!(rt; matches!(lax.stop, Some(SliceError::Ip(_))));
+    /// ```
     pub fn from_link_type(
         link_type: LinkType,
         frame: &'a [u8],
@@ -95,6 +149,15 @@ impl<'a> LaxSlicedPacket<'a> {
 
     /// The layers of bytes that an EtherType names: a VLAN tag and what it tags, an IP packet, or
     /// another protocol.
+    ///
+    /// # Example
+    ///
+    /// ```
+    /// // A frame that ends within its tag.
+    /// let lax = LaxSlicedPacket::from_ether_type(EtherType::VLAN_TAGGED_FRAME, &[1, 2, 3]);
+    /// assert!(rt; matches!(lax.stop, Some(SliceError::Vlan(_))));
+    /// assert!(rt; lax.packet.vlan.is_none() && lax.packet.payload == [1, 2, 3].as_slice());
+    /// ```
     pub fn from_ether_type(ether_type: EtherType, bytes: &'a [u8]) -> LaxSlicedPacket<'a>
         ensures reads { IsLaxReadingAfter (Some ether_type) bytes.now result }
     {
@@ -110,6 +173,20 @@ impl<'a> LaxSlicedPacket<'a> {
 
     /// The verdict on the checksum of the IP packet's payload; `Incomplete` if the packet is not
     /// whole; `None` if there is no IP packet.
+    ///
+    /// # Example
+    ///
+    /// ```
+    /// // A datagram of 12 bytes, and without its last byte.
+    /// let packet = [
+    ///     0x45, 0, 0, 32, 0, 0, 0, 0, 64, 17, 0, 0, 192, 168, 0, 1, 192, 168, 0, 199, 4, 0, 0, 53,
+    ///     0, 12, 0x91, 0xae, b't', b'e', b's', b't',
+    /// ];
+    /// let lax = LaxSlicedPacket::from_ip(&packet);
+    /// assert!(rt; lax.verdict() == Some(Verdict::Right));
+    /// let lax = LaxSlicedPacket::from_ip(&packet[..31]);
+    /// assert!(rt; lax.verdict() == Some(Verdict::Absent(Absence::Incomplete)));
+    /// ```
     pub fn verdict(&self) -> Option<Verdict>
         ensures judges { IsVerdictOn self.now.packet.net self.now.stop result }
     {

@@ -74,6 +74,15 @@ impl LinkType {
     }
 
     /// The length of the link header, in bytes.
+    ///
+    /// # Example
+    ///
+    /// ```
+    /// // LINKTYPE_LINUX_SLL2.
+    /// let link_type = LinkType::from_number(276);
+    /// assert!(rt; link_type == Some(LinkType::LinuxSll2));
+    /// assert!(rt; LinkType::LinuxSll2.header_len() == 20);
+    /// ```
     pub fn header_len(self) -> usize
         ensures value { result ≡ link_len self }
     {

@@ -33,6 +33,18 @@ impl<'a> LinkLayers<'a> {
     /// # Errors
     ///
     /// A `LinkError` if the frame ends within its link header.
+    ///
+    /// # Example
+    ///
+    /// ```
+    /// // Ethernet, a tag of VLAN 5, and the first bytes of an ARP packet.
+    /// let frame = [
+    ///     2, 0, 0, 0, 0, 2, 2, 0, 0, 0, 0, 1, 0x81, 0, 0, 5, 8, 6, 0, 1,
+    /// ];
+    /// let layers = LinkLayers::from_link_type(LinkType::Ethernet2, &frame)?;
+    /// assert!(rt; layers.ether_type == Some(EtherType::ARP) && !layers.carries_ip());
+    /// assert!(rt; layers.payload == [0, 1].as_slice() && layers.stop.is_none());
+    /// ```
     pub fn from_link_type(link_type: LinkType, frame: &'a [u8]) -> Result<LinkLayers<'a>, LinkError>
         ensures found { IfOk result (HasLinkLayers link_type frame.now) }
         ensures refused { IfErr result (LacksLink link_type frame.now) }

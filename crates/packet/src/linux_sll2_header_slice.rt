@@ -6,6 +6,24 @@ use crate::ether_type::{EtherType, u16_at};
 use crate::linux_sll_header_slice::address_in;
 
 /// A view of the header of a Linux cooked capture of version 2 (LINKTYPE_LINUX_SLL2).
+///
+/// # Example
+///
+/// ```
+/// // A broadcast from 2:0:0:0:0:1 on interface 3, an Ethernet device, and the first bytes of an ARP
+/// // packet.
+/// let frame = [
+///     8, 6, 0, 0, 0, 0, 0, 3, 0, 1, 1, 6, 2, 0, 0, 0, 0, 1, 0, 0, 0, 1,
+/// ];
+/// let layers = LinkLayers::from_link_type(LinkType::LinuxSll2, &frame)?;
+/// let Some(LinkSlice::LinuxSll2(header)) = layers.link else {
+///     return Err(Fail::from("no header"));
+/// };
+/// assert!(rt; header.protocol_type() == EtherType::ARP);
+/// assert!(rt; (header.interface_index(), header.arp_hardware_type()) == (3, 1));
+/// assert!(rt; (header.packet_type(), header.sender_address_valid_length()) == (1, 6));
+/// assert!(rt; header.sender_address() == [2, 0, 0, 0, 0, 1].as_slice());
+/// ```
 #[derive(Clone, Copy, Debug, PartialEq, Eq)]
 pub struct LinuxSll2HeaderSlice<'a> {
     /// The 20 bytes of the header.

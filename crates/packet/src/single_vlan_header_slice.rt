@@ -6,6 +6,19 @@ use crate::ether_type::{EtherType, u16_at};
 
 /// A view of what follows the EtherType of a VLAN tag: the tag control information, and the
 /// EtherType of what is tagged (IEEE 802.1Q sections 9.3 and 9.6).
+///
+/// # Example
+///
+/// ```
+/// // A tag of VLAN 5 with priority 3, and the first bytes of an ARP packet.
+/// let bytes = [0x60, 5, 8, 6, 0, 1];
+/// let packet = SlicedPacket::from_ether_type(EtherType::VLAN_TAGGED_FRAME, &bytes)?;
+/// let Some(VlanSlice::SingleVlan(tag)) = packet.vlan else {
+///     return Err(Fail::from("no tag"));
+/// };
+/// assert!(rt; tag.priority_code_point() == 3 && !tag.drop_eligible_indicator());
+/// assert!(rt; tag.vlan_identifier() == 5 && tag.ether_type() == EtherType::ARP);
+/// ```
 #[derive(Clone, Copy, Debug, PartialEq, Eq)]
 pub struct SingleVlanHeaderSlice<'a> {
     /// The 4 bytes.

@@ -1,0 +1,153 @@
+//! The examples in the doc comments of `packet` on link headers and on frames that end early, line by
+//! line as they stand there.
+
+use packet::error::SliceError;
+use packet::ether_type::EtherType;
+use packet::lax_sliced_packet::LaxSlicedPacket;
+use packet::link::{LinkSlice, LinkType};
+use packet::link_layers::LinkLayers;
+use packet::sliced_packet::SlicedPacket;
+use packet::vlan::VlanSlice;
+use packet_parts::checksum::{Absence, Verdict};
+use std::test::Fail;
+
+#[test]
+fn link_layers(rt: HostRuntime) -> Result<(), Fail> {
+    // LINKTYPE_LINUX_SLL2.
+    let link_type = LinkType::from_number(276);
+    assert!(rt; link_type == Some(LinkType::LinuxSll2));
+    assert!(rt; LinkType::LinuxSll2.header_len() == 20);
+
+    // Ethernet, a tag of VLAN 5, and the first bytes of an ARP packet.
+    let frame = [
+        2, 0, 0, 0, 0, 2, 2, 0, 0, 0, 0, 1, 0x81, 0, 0, 5, 8, 6, 0, 1,
+    ];
+    let layers = LinkLayers::from_link_type(LinkType::Ethernet2, &frame)?;
+    assert!(rt; layers.ether_type == Some(EtherType::ARP) && !layers.carries_ip());
+    assert!(rt; layers.payload == [0, 1].as_slice() && layers.stop.is_none());
+    Ok(())
+}
+
+#[test]
+fn ethernet(rt: HostRuntime) -> Result<(), Fail> {
+    // A frame from 2:0:0:0:0:1 to 2:0:0:0:0:2 with the first bytes of an ARP packet.
+    let frame = [2, 0, 0, 0, 0, 2, 2, 0, 0, 0, 0, 1, 8, 6, 0, 1];
+    let layers = LinkLayers::from_link_type(LinkType::Ethernet2, &frame)?;
+    let Some(LinkSlice::Ethernet2(header)) = layers.link else {
+        return Err(Fail::from("no header"));
+    };
+    assert!(rt; header.destination() == [2, 0, 0, 0, 0, 2]);
+    assert!(rt; header.source() == [2, 0, 0, 0, 0, 1]);
+    assert!(rt; header.ether_type() == EtherType::ARP);
+    Ok(())
+}
+
+#[test]
+fn a_cooked_capture(rt: HostRuntime) -> Result<(), Fail> {
+    // A broadcast from 2:0:0:0:0:1 on an Ethernet device, and the first bytes of an ARP packet.
+    let frame = [0, 1, 0, 1, 0, 6, 2, 0, 0, 0, 0, 1, 0, 0, 8, 6, 0, 1];
+    let layers = LinkLayers::from_link_type(LinkType::LinuxSll, &frame)?;
+    let Some(LinkSlice::LinuxSll(header)) = layers.link else {
+        return Err(Fail::from("no header"));
+    };
+    assert!(rt; (header.packet_type(), header.arp_hardware_type()) == (1, 1));
+    assert!(rt; header.sender_address_valid_length() == 6);
+    assert!(rt; header.sender_address() == [2, 0, 0, 0, 0, 1].as_slice());
+    assert!(rt; header.protocol_type() == EtherType::ARP);
+    Ok(())
+}
+
+#[test]
+fn a_cooked_capture_of_version_2(rt: HostRuntime) -> Result<(), Fail> {
+    // A broadcast from 2:0:0:0:0:1 on interface 3, an Ethernet device, and the first bytes of an ARP
+    // packet.
+    let frame = [
+        8, 6, 0, 0, 0, 0, 0, 3, 0, 1, 1, 6, 2, 0, 0, 0, 0, 1, 0, 0, 0, 1,
+    ];
+    let layers = LinkLayers::from_link_type(LinkType::LinuxSll2, &frame)?;
+    let Some(LinkSlice::LinuxSll2(header)) = layers.link else {
+        return Err(Fail::from("no header"));
+    };
+    assert!(rt; header.protocol_type() == EtherType::ARP);
+    assert!(rt; (header.interface_index(), header.arp_hardware_type()) == (3, 1));
+    assert!(rt; (header.packet_type(), header.sender_address_valid_length()) == (1, 6));
+    assert!(rt; header.sender_address() == [2, 0, 0, 0, 0, 1].as_slice());
+    Ok(())
+}
+
+#[test]
+fn a_tag(rt: HostRuntime) -> Result<(), Fail> {
+    // A tag of VLAN 5 with priority 3, and the first bytes of an ARP packet.
+    let bytes = [0x60, 5, 8, 6, 0, 1];
+    let packet = SlicedPacket::from_ether_type(EtherType::VLAN_TAGGED_FRAME, &bytes)?;
+    let Some(VlanSlice::SingleVlan(tag)) = packet.vlan else {
+        return Err(Fail::from("no tag"));
+    };
+    assert!(rt; tag.priority_code_point() == 3 && !tag.drop_eligible_indicator());
+    assert!(rt; tag.vlan_identifier() == 5 && tag.ether_type() == EtherType::ARP);
+    Ok(())
+}
+
+#[test]
+fn frames_that_end_within_a_tag(rt: HostRuntime) -> Result<(), Fail> {
+    // A frame that ends within its second tag.
+    let frame = [
+        2, 0, 0, 0, 0, 2, 2, 0, 0, 0, 0, 1, 0x88, 0xa8, 0, 5, 0x81, 0, 1, 2, 3,
+    ];
+    let lax = LaxSlicedPacket::from_ethernet(&frame)?;
+    assert!(rt; matches!(lax.stop, Some(SliceError::Vlan(_))));
+    assert!(rt; matches!(lax.packet.vlan, Some(VlanSlice::SingleVlan(_))));
+    assert!(rt; lax.packet.ether_type == Some(EtherType::VLAN_TAGGED_FRAME));
+    assert!(rt; lax.packet.payload == [1, 2, 3].as_slice());
+
+    // A frame that ends within its tag.
+    let lax = LaxSlicedPacket::from_ether_type(EtherType::VLAN_TAGGED_FRAME, &[1, 2, 3]);
+    assert!(rt; matches!(lax.stop, Some(SliceError::Vlan(_))));
+    assert!(rt; lax.packet.vlan.is_none() && lax.packet.payload == [1, 2, 3].as_slice());
+    Ok(())
+}
+
+#[test]
+fn cooked_captures_that_end_within_a_packet(rt: HostRuntime) -> Result<(), Fail> {
+    // A packet of which two bytes were captured.
+    let frame = [0, 0, 0, 1, 0, 6, 2, 0, 0, 0, 0, 1, 0, 0, 8, 0, 0x45, 0];
+    let lax = LaxSlicedPacket::from_linux_sll(&frame)?;
+    assert!(rt; matches!(lax.stop, Some(SliceError::Ip(_))));
+    assert!(rt; lax.packet.net.is_none() && lax.packet.payload == [0x45, 0].as_slice());
+
+    // The same with the header of version 2, on interface 3.
+    let frame = [
+        8, 0, 0, 0, 0, 0, 0, 3, 0, 1, 0, 6, 2, 0, 0, 0, 0, 1, 0, 0, 0x45, 0,
+    ];
+    let lax = LaxSlicedPacket::from_linux_sll2(&frame)?;
+    assert!(rt; matches!(lax.stop, Some(SliceError::Ip(_))));
+    assert!(rt; lax.packet.net.is_none() && lax.packet.payload == [0x45, 0].as_slice());
+    Ok(())
+}
+
+#[test]
+fn loopback_frames_that_end_within_a_packet(rt: HostRuntime) -> Result<(), Fail> {
+    // The family of IPv4, and a packet of which two bytes were captured.
+    let lax = LaxSlicedPacket::from_loopback(&[2, 0, 0, 0, 0x45, 0])?;
+    assert!(rt; lax.packet.link == Some(LinkSlice::Loopback { family: 2 }));
+    assert!(rt; matches!(lax.stop, Some(SliceError::Ip(_))));
+
+    // The same in network byte order, as a frame of LINKTYPE_LOOP.
+    let lax = LaxSlicedPacket::from_link_type(LinkType::Loop, &[0, 0, 0, 2, 0x45, 0])?;
+    assert!(rt; lax.packet.link == Some(LinkSlice::Loopback { family: 2 }));
+    assert!(rt; matches!(lax.stop, Some(SliceError::Ip(_))));
+    Ok(())
+}
+
+#[test]
+fn verdicts(rt: HostRuntime) {
+    // A datagram of 12 bytes, and without its last byte.
+    let packet = [
+        0x45, 0, 0, 32, 0, 0, 0, 0, 64, 17, 0, 0, 192, 168, 0, 1, 192, 168, 0, 199, 4, 0, 0, 53, 0,
+        12, 0x91, 0xae, b't', b'e', b's', b't',
+    ];
+    let lax = LaxSlicedPacket::from_ip(&packet);
+    assert!(rt; lax.verdict() == Some(Verdict::Right));
+    let lax = LaxSlicedPacket::from_ip(&packet[..31]);
+    assert!(rt; lax.verdict() == Some(Verdict::Absent(Absence::Incomplete)));
+}
