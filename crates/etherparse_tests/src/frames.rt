@@ -242,3 +242,27 @@ fn families_of_ip_and_byte_orders(rt: HostRuntime) -> Result<(), Fail> {
     assert!(rt; LinkType::from_number(127).is_none());
     Ok(())
 }
+
+#[test]
+fn errors_have_texts(rt: HostRuntime) -> Result<(), Fail> {
+    let Err(e) = SlicedPacket::from_ethernet(&[0; 13]) else {
+        return Err(Fail::from("no error"));
+    };
+    let text = format!(in rt.alloc(); "{e}")?;
+    assert_eq!(rt;
+        text.as_str(),
+        "Link Header Error: The header has 14 bytes, the frame 13."
+    );
+    let mut segment = [0; 40];
+    segment[..20].copy_from_slice(&DATAGRAM[..20]);
+    [segment[3], segment[9], segment[32]] = [40, 6, 0x40];
+    let Err(e) = SlicedPacket::from_ip(&segment) else {
+        return Err(Fail::from("no error"));
+    };
+    let text = format!(in rt.alloc(); "{e}")?;
+    assert_eq!(rt;
+        text.as_str(),
+        "TCP Header Error: Data offset 4 is less than 5."
+    );
+    Ok(())
+}

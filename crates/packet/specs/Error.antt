@@ -1,8 +1,13 @@
--- The errors of a header that stands further on in a frame.
-use Rattle.std.specs.Prelude.{ℕ}
+-- The errors of a header that stands further on in a frame, and their texts.
+use Rattle.std.specs.Prelude.{ℕ, List}
 use Rattle.etherparse.specs.Ipv4Errors.{ipv4_error_moved, ipv4_error_place}
 use Rattle.etherparse.specs.Ipv6Errors.{ipv6_error_moved, ipv6_error_place}
-use Rattle.etherparse.specs.LenError.{len_error_moved}
+use Rattle.etherparse.specs.LenError.{len_error_moved, len_error_text}
+use Rattle.packet.specs.Link.{link_error_text}
+use Rattle.packet.specs.declared.error.SliceError.{SliceError}
+use Rattle.packet.specs.declared.error.SliceError.TheVariants as error
+use Rattle.packet_parts.specs.IpSlice.{ip_slice_error_text}
+use Rattle.packet_parts.specs.Tcp.{tcp_error_text}
 use Rattle.packet_parts.specs.declared.ip_slice.IpSliceError.{IpSliceError}
 use Rattle.packet_parts.specs.declared.ip_slice.IpSliceError.TheVariants as ip
 use Rattle.packet_parts.specs.declared.tcp.TcpError.{TcpError}
@@ -34,3 +39,12 @@ tcp_error_place (tcp.DataOffset offset) = 0
 abbrev pub tcp_error_moved : ℕ → TcpError → TcpError
 tcp_error_moved offset (tcp.Len e) = tcp.Len (len_error_moved offset e)
 tcp_error_moved offset (tcp.DataOffset data_offset) = tcp.DataOffset data_offset
+
+-- the text of the error with which a frame is refused: that of its part
+abbrev pub slice_error_text : SliceError → List ℕ
+slice_error_text (error.Link e) = link_error_text e
+slice_error_text (error.Vlan e) = len_error_text e
+slice_error_text (error.Ip e) = ip_slice_error_text e
+slice_error_text (error.Udp e) = len_error_text e
+slice_error_text (error.Tcp e) = tcp_error_text e
+slice_error_text (error.Icmp e) = len_error_text e

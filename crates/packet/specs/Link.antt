@@ -1,6 +1,6 @@
 -- The link header of a frame (IEEE 802.3 section 3.1.1; the registry of link types of tcpdump.org).
 use Rattle.std.specs.Prelude.{ℕ, ◌≡◌, ◌==◌, ◌||◌, ◌<◌, List, ◌++◌, length, min}
-use Rattle.std.specs.Prelude.{Option, Some, None, if◌then◌else◌, option_map}
+use Rattle.std.specs.Prelude.{Option, Some, None, codes, decimal, if◌then◌else◌, option_map}
 use Rattle.std.specs.Int.{from_be_bytes, from_le_bytes, w32}
 use Rattle.packet.specs.Bytes.{number_at}
 use Rattle.packet.specs.declared.link.LinkError.{LinkError}
@@ -83,3 +83,8 @@ pub record BeginsWithLink (link_type : LinkType) (frame : List ℕ) (link : Opti
 pub record LacksLink (link_type : LinkType) (frame : List ℕ) (e : LinkError) : Type 0 where
   pub short : length frame < link_len link_type
   pub error : e ≡ record { required_len = link_len link_type; len = length frame }
+
+-- the text of such an error
+abbrev pub link_error_text : LinkError → List ℕ
+link_error_text e = codes "Link Header Error: The header has " ++ (decimal e.required_len
+    ++ (codes " bytes, the frame " ++ (decimal e.len ++ codes ".")))

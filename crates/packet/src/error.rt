@@ -1,13 +1,14 @@
 //! Why a frame is not read to the transport header.
 
-ghost use Rattle.std.specs.Prelude.{◌≡◌, ◌+◌, ◌^◌, ◌<◌};
-ghost use Rattle.packet.specs.Error.{ip_error_moved, ip_error_place, tcp_error_moved};
-ghost use Rattle.packet.specs.Error.{tcp_error_place};
+ghost use Rattle.std.specs.Prelude.{◌≡◌, ◌+◌, ◌^◌, ◌<◌, Some};
+ghost use Rattle.packet.specs.Error.{ip_error_moved, ip_error_place, slice_error_text};
+ghost use Rattle.packet.specs.Error.{tcp_error_moved, tcp_error_place};
 
 use crate::link::LinkError;
 use etherparse::err::LenError;
 use packet_parts::ip_slice::IpSliceError;
 use packet_parts::tcp::TcpError;
+use std::fmt;
 
 /// Why a frame is not read to the transport header. Each `layer_start_offset` counts from the start
 /// of the frame.
@@ -27,6 +28,21 @@ pub enum SliceError {
     /// The payload is a message of ICMP or ICMPv6 of fewer than 4 bytes, and no fragment. The layer
     /// says which.
     Icmp(LenError),
+}
+
+impl fmt::Display for SliceError {
+    ghost output = { λ error. Some (slice_error_text error) };
+
+    fn fmt<W: fmt::Write>(&self, f: &mut fmt::Formatter<W>) -> fmt::Result {
+        match self {
+            SliceError::Link(e) => fmt::Display::fmt(e, f),
+            SliceError::Vlan(e) => fmt::Display::fmt(e, f),
+            SliceError::Ip(e) => fmt::Display::fmt(e, f),
+            SliceError::Udp(e) => fmt::Display::fmt(e, f),
+            SliceError::Tcp(e) => fmt::Display::fmt(e, f),
+            SliceError::Icmp(e) => fmt::Display::fmt(e, f),
+        }
+    }
 }
 
 // The error of a packet that starts this many bytes further on.

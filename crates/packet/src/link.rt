@@ -1,12 +1,13 @@
 //! The link header of a frame: Ethernet, Linux cooked captures, and loopback interfaces.
 
-ghost use Rattle.std.specs.Prelude.{◌≡◌, IfErr, IfOk, length};
-ghost use Rattle.packet.specs.Link.{BeginsWithLink, LacksLink, family_of, link_len};
+ghost use Rattle.std.specs.Prelude.{◌≡◌, IfErr, IfOk, Some, length};
+ghost use Rattle.packet.specs.Link.{BeginsWithLink, LacksLink, family_of, link_error_text, link_len};
 
 use crate::ether_type::EtherType;
 use crate::ethernet2_header_slice::Ethernet2HeaderSlice;
 use crate::linux_sll_header_slice::LinuxSllHeaderSlice;
 use crate::linux_sll2_header_slice::LinuxSll2HeaderSlice;
+use std::fmt;
 
 /// How frames begin. A capture names it by a number of the registry of link types of tcpdump.org.
 #[derive(Clone, Copy, Debug, PartialEq, Eq)]
@@ -51,6 +52,18 @@ pub struct LinkError {
     pub required_len: usize,
     /// The length of the frame, in bytes.
     pub len: usize,
+}
+
+impl fmt::Display for LinkError {
+    ghost output = { λ error. Some (link_error_text error) };
+
+    fn fmt<W: fmt::Write>(&self, f: &mut fmt::Formatter<W>) -> fmt::Result {
+        let (required_len, len) = (self.required_len, self.len);
+        write!(
+            f,
+            "Link Header Error: The header has {required_len} bytes, the frame {len}."
+        )
+    }
 }
 
 impl LinkType {

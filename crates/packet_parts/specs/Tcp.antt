@@ -1,6 +1,7 @@
 -- The TCP header (RFC 9293 section 3.1), seen by its data offset.
-use Rattle.std.specs.Prelude.{ℕ, ◌≡◌, ◌*◌, ◌/◌, ◌%◌, ◌^◌, ◌<◌, ◌≤◌, ◌⊎◌, List, length, slice_index}
-use Rattle.std.specs.Prelude.{take, Result, Ok, Err}
+use Rattle.std.specs.Prelude.{ℕ, ◌≡◌, ◌*◌, ◌/◌, ◌%◌, ◌^◌, ◌<◌, ◌≤◌, ◌⊎◌, List, ◌++◌, length}
+use Rattle.std.specs.Prelude.{Result, Ok, Err, codes, decimal, slice_index, take}
+use Rattle.etherparse.specs.LenError.{len_error_text}
 use Rattle.etherparse.specs.Reading.{IsTooShort, too_short_error}
 use Rattle.etherparse.specs.declared.err.Layer.TheVariants as layer
 use Rattle.etherparse.specs.declared.err.LenError.{LenError}
@@ -39,3 +40,9 @@ ViewsTcp s (Err (Len e)) = IsTooShort layer.TcpHeader 20 s e
     ⊎ (HasDataOffset s × IsTooShort layer.TcpHeader (4 * data_offset_of s) s e)
 ViewsTcp s (Err (DataOffset offset)) =
     (20 ≤ length s) × (data_offset_of s < 5) × (offset ≡ data_offset_of s)
+
+-- the text of such an error
+abbrev pub tcp_error_text : TcpError → List ℕ
+tcp_error_text (Len e) = len_error_text e
+tcp_error_text (DataOffset offset) =
+    codes "TCP Header Error: Data offset " ++ (decimal offset ++ codes " is less than 5.")

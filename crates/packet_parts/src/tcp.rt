@@ -1,11 +1,12 @@
 //! A view of a TCP header (RFC 9293 section 3.1).
 
-ghost use Rattle.std.specs.Prelude.{◌≡◌, ◌*◌, ◌≤◌, length};
+ghost use Rattle.std.specs.Prelude.{◌≡◌, ◌*◌, ◌≤◌, Some, length};
 ghost use Rattle.etherparse.specs.Bytes.{IsBytes};
-ghost use Rattle.packet_parts.specs.Tcp.{data_offset_of, tcp_len_error};
+ghost use Rattle.packet_parts.specs.Tcp.{data_offset_of, tcp_error_text, tcp_len_error};
 
 use etherparse::LenSource;
 use etherparse::err::{Layer, LenError};
+use std::fmt;
 
 /// Why a slice does not begin with a TCP header.
 #[derive(Clone, Debug, PartialEq, Eq, Drop)]
@@ -14,6 +15,23 @@ pub enum TcpError {
     Len(LenError),
     /// The data offset, which is below 5: less than a header without options.
     DataOffset(u8),
+}
+
+impl fmt::Display for TcpError {
+    ghost output = { λ error. Some (tcp_error_text error) };
+
+    fn fmt<W: fmt::Write>(&self, f: &mut fmt::Formatter<W>) -> fmt::Result {
+        match self {
+            TcpError::Len(e) => fmt::Display::fmt(e, f),
+            TcpError::DataOffset(data_offset) => {
+                let data_offset = *data_offset;
+                write!(
+                    f,
+                    "TCP Header Error: Data offset {data_offset} is less than 5."
+                )
+            }
+        }
+    }
 }
 
 /// A view of the bytes of a TCP header with its options.
