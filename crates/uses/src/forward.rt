@@ -46,11 +46,9 @@ pub fn ipv4_forwarded(
     ensures refused { IfErr result (RefusesIpv4 packet.now) }
 {
     let (mut header, rest) = Ipv4Header::from_slice(packet)?;
-    let time_to_live = header.time_to_live;
-    if time_to_live <= 1 {
+    if !header.lower_time_to_live() {
         return Ok(None);
     }
-    header.set_time_to_live(time_to_live - 1);
     Ok(Some((header.to_bytes(), rest)))
 }
 
@@ -66,11 +64,9 @@ pub fn ipv4_forward_in_place(packet: &mut [u8]) -> Result<bool, ipv4::HeaderSlic
     ensures unchanged { OnErr result (packet.new ≡ packet.old) }
 {
     let (mut header, _) = Ipv4Header::from_slice(packet)?;
-    let time_to_live = header.time_to_live;
-    if time_to_live <= 1 {
+    if !header.lower_time_to_live() {
         return Ok(false);
     }
-    header.set_time_to_live(time_to_live - 1);
     let [high, low] = header.header_checksum.to_be_bytes();
     packet[8] = header.time_to_live;
     packet[10] = high;
