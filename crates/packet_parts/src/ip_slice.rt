@@ -384,6 +384,7 @@ fn ipv4_slice(packet: &[u8]) -> Result<LaxIpSlice, IpSliceError>
 }
 
 // The parts of a packet of version 6.
+#[inline(always)] // The caller makes a larger value of it, in place.
 fn ipv6_slice(packet: &[u8]) -> Result<LaxIpSlice, IpSliceError>
     requires some { 0 < length packet.now }
     requires version { version_of packet.now ≡ 6 }
@@ -405,6 +406,7 @@ fn ipv6_slice(packet: &[u8]) -> Result<LaxIpSlice, IpSliceError>
 }
 
 // The parts of a packet of version 6 with this header and this body.
+#[inline(always)] // Likewise.
 fn ipv6_parts(header: Ipv6Header, body: &[u8]) -> LaxIpSlice
     ensures parts { (packet : List ℕ) →
         BeginsWith IsIpv6Layout (ipv6_bytes header packet) header body.now →
