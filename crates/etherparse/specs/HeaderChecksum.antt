@@ -31,8 +31,8 @@ pub record KeepsChecksum (old new : Ipv4Header) : Type 0 where
       → IsIpv4LayoutWith old reserved before → IsIpv4LayoutWith new reserved after
       → SumsToAllOnes before ↔ SumsToAllOnes after
 
--- the changed packet begins with this header and the rest; its checksum is right exactly when it was
--- before
+-- the changed packet begins with this header and the rest; its checksum is right exactly when it
+-- was before
 pub record BecomesPacketOf (packet changed : List ℕ) (header : Ipv4Header) (rest : List ℕ)
     : Type 0 where
   pub begins : BeginsWith IsIpv4Layout changed header rest

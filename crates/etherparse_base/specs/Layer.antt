@@ -34,8 +34,11 @@ row layer.Icmpv4Timestamp = (21, codes "ICMP Timestamp Error", codes "ICMP times
 row layer.Icmpv4TimestampReply =
     (22, codes "ICMP Timestamp Reply Error", codes "ICMP timestamp reply message")
 row layer.Icmpv6 = (23, codes "ICMPv6 Packet Error", codes "ICMPv6 packet")
-row layer.Arp =
-    (24, codes "Address Resolution Protocol Packet Error", codes "Address Resolution Protocol packet")
+row layer.Arp = (
+  24,
+  codes "Address Resolution Protocol Packet Error",
+  codes "Address Resolution Protocol packet",
+)
 
 -- the columns of the table
 abbrev pub layer_index : Layer → ℕ

@@ -1,6 +1,7 @@
 -- The differentiated services code points that are known by name, and their numbers.
 use Rattle.std.specs.Prelude.{ℕ, ◌≡◌, ◌≢◌, Result, Ok, Err}
-use Rattle.etherparse_base.specs.declared.err.ip.ip_dscp_unknown_value_error.IpDscpUnknownValueError as error
+use Rattle.etherparse_base.specs.declared.err.ip.ip_dscp_unknown_value_error.IpDscpUnknownValueError
+    as error
 use Rattle.etherparse_fields.specs.declared.net.ip_dscp_known.IpDscpKnown.{IpDscpKnown}
 use Rattle.etherparse_fields.specs.declared.net.ip_dscp_known.IpDscpKnown.TheVariants as known
 

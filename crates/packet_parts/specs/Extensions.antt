@@ -17,8 +17,8 @@ deciding header = if is_part header then Some header else None
 
 -- What is reached after extension headers at the front of a slice, of which the first has this
 -- number: the fragment header that decides, the first of these that does; a number; and the rest
--- that it tells of. Each header that is passed is whole. After a fragment header whose offset is not
--- 0 comes the middle of a payload: nothing after it is a header.
+-- that it tells of. Each header that is passed is whole. After a fragment header whose offset is
+-- not 0 comes the middle of a payload: nothing after it is a header.
 pub data Passes (s : List ℕ) (first : ℕ) : Option FragmentHeader → ℕ → List ℕ → Type 0 where
   at_front : Passes s first None first s
   after_other : {decided : Option FragmentHeader} {number : ℕ} {rest : List ℕ}

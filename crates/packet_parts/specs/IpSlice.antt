@@ -1,8 +1,8 @@
 -- The parts of an IP packet of either version (RFC 791 section 3.1, RFC 8200 section 3), as far as
 -- its length field says and its bytes are there.
 use Rattle.std.specs.Prelude.{ℕ, ◌≡◌, ◌≢◌, ◌+◌, ◌*◌, ◌<◌, ◌≤◌, ◌==◌, ◌||◌, ◌⊎◌, Bool, false, not}
-use Rattle.std.specs.Prelude.{IsTrue, List, ◌++◌, length, take, Result, Ok, Err, MatchOption, Option}
-use Rattle.std.specs.Prelude.{Some, None, codes, decimal, if◌then◌else◌, option_map}
+use Rattle.std.specs.Prelude.{IsTrue, List, ◌++◌, length, take, Result, Ok, Err, MatchOption}
+use Rattle.std.specs.Prelude.{Option, Some, None, codes, decimal, if◌then◌else◌, option_map}
 use Rattle.std.specs.Result.{result_map_both}
 use Rattle.std.specs.Net.Addr.{ipv4_octets, ipv6_segments, segments_of}
 use Rattle.std.specs.declared.net.ip_addr.IpAddr.{IpAddr}

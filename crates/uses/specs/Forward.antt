@@ -87,8 +87,8 @@ with_dscp dscp header = record header {
       (ipv4_first_word (record header { dscp = dscp }));
 }
 
--- The packet has another code point, with only bytes 1, 10 and 11 changed. The header's bytes sum to
--- all ones exactly when they did before.
+-- The packet has another code point, with only bytes 1, 10 and 11 changed. The header's bytes sum
+-- to all ones exactly when they did before.
 pub record IsMarkedInPlace (dscp : ℕ) (packet marked : List ℕ) : Type 0 where
   pub header : Ipv4Header
   pub rest : List ℕ
