@@ -1,27 +1,30 @@
 -- Places in a packet are within it.
-use Rattle.std.proofs.Common.{ℕ, ◌≤◌, List, length, ap, arith, inl, inr, length-append}
+use Rattle.std.proofs.Common.{ℕ, ◌+◌, ◌≤◌, List, length, ap, arith, inl, inr, length-append}
 use Rattle.std.proofs.lemmas.Grind.{common_steps}
 use Rattle.etherparse.specs.declared.net.ipv4_header.Ipv4Header.{Ipv4Header}
 use Rattle.etherparse.specs.declared.err.ipv4.HeaderSliceError.TheVariants as ipv4
 use Rattle.etherparse.specs.declared.err.ipv6.HeaderSliceError.TheVariants as ipv6
-use Rattle.packet_parts.specs.IpSlice.{HasIpParts, RefusesIp, ipv4_bytes, ipv6_bytes}
+use Rattle.packet_parts.specs.IpSlice.{HasIpParts, HasPartsAfter, RefusesIp, header_bytes, header_len_of, ipv4_bytes, ipv6_bytes}
+use Rattle.packet_parts.specs.declared.ip_slice.IpHeaderSlice.{IpHeaderSlice}
+use Rattle.packet_parts.specs.declared.ip_slice.IpHeaderSlice.TheVariants as header
 use Rattle.packet_parts.specs.declared.ip_slice.IpSlice.{IpSlice}
-use Rattle.packet_parts.specs.declared.ip_slice.IpSlice.TheVariants.{Ipv4, Ipv6}
 use Rattle.packet_parts.specs.declared.ip_slice.IpSliceError.{IpSliceError}
 use Rattle.packet_parts.specs.declared.ip_slice.IpSliceError.TheVariants as error
 use Rattle.packet.specs.Error.{ip_error_place}
-use Rattle.packet.specs.Network.{ip_header_len}
 
 ipv4_bytes-le : (header : Ipv4Header) (s : List ℕ) → length (ipv4_bytes header s) ≤ length s
 ipv4_bytes-le header s = grind (arith, common_steps)
 
 -- the payload is in the packet
-pub header_within : (packet : List ℕ) (slice : IpSlice) → HasIpParts packet slice → ip_header_len slice ≤ length packet
-header_within packet (Ipv4 header payload) p =
-    omega (arith, ipv4_bytes-le header packet, ap length p.whole, length-append {A = ℕ}, p.layout.layout.len)
-header_within packet (Ipv6 header extensions fragment is_later upper payload) p =
-    let enough : length (ipv6_bytes header packet) ≤ length packet = grind (arith, common_steps) in
-    omega (arith, enough, ap length p.begins.whole, ap length p.parts, length-append {A = ℕ}, p.begins.layout.len)
+within : (packet : List ℕ) (slice : IpSlice) (h : IpHeaderSlice) → HasPartsAfter h packet slice → length (header_bytes h) + length slice.extensions.now ≤ length packet
+within packet slice (header.Ipv4 view) p =
+    omega (arith, ipv4_bytes-le p.header packet, ap length p.begins.whole, ap length p.view, ap length p.no_extensions, length-append {A = ℕ})
+within packet slice (header.Ipv6 view) p =
+    let enough : length (ipv6_bytes p.header packet) ≤ length packet = grind (arith, common_steps) in
+    omega (arith, enough, ap length p.begins.whole, ap length p.view, ap length p.parts, length-append {A = ℕ})
+
+pub header_within : (packet : List ℕ) (slice : IpSlice) → HasIpParts packet slice → header_len_of slice ≤ length packet
+header_within packet slice p = within packet slice slice.header p
 
 -- what stops a reader is in the packet
 pub error_within : (packet : List ℕ) (e : IpSliceError) → RefusesIp packet e → ip_error_place e ≤ length packet

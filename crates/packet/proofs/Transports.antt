@@ -1,5 +1,5 @@
 -- A transport header is read in one way.
-use Rattle.std.proofs.Common.{ℕ, ◌≡◌, ◌+◌, List, MatchOption, Option, Some, None, Result, ap, ◌∙◌, arith, rules, sym, subst, option_map}
+use Rattle.std.proofs.Common.{ℕ, ◌≡◌, ◌+◌, List, MatchOption, Option, Some, None, Result, ap, ◌∙◌, arith, refl, rules, sym, subst, option_map, if◌then◌else◌}
 use Rattle.std.specs.Result.{result_ok}
 use Rattle.etherparse.proofs.Fronts.{TellsHeaders, fixed_tells, read_once}
 use Rattle.etherparse.specs.Reading.{IsTooShort}
@@ -7,12 +7,12 @@ use Rattle.etherparse.specs.declared.err.Layer.{Layer}
 use Rattle.etherparse.specs.declared.err.Layer.TheVariants as layer
 use Rattle.packet_parts.specs.Tcp.{ViewsTcp}
 use Rattle.packet_parts.specs.Udp.{IsUdpLayout}
-use Rattle.packet_parts.specs.IpSlice.{fragment_of, ip_parts, payload_of}
+use Rattle.packet_parts.specs.IpSlice.{header_bytes, header_len_of, header_parts, ip_parts}
+use Rattle.packet_parts.specs.declared.ip_slice.IpHeaderSlice.{IpHeaderSlice}
+use Rattle.packet_parts.specs.declared.ip_slice.IpHeaderSlice.TheVariants as header
 use Rattle.packet_parts.specs.declared.ip_slice.IpSlice.{IpSlice}
-use Rattle.packet_parts.specs.declared.ip_slice.IpSlice.TheVariants.{Ipv4, Ipv6}
 use Rattle.packet_parts.specs.declared.tcp.TcpError.{TcpError}
-use Rattle.packet.specs.Network.{ip_header_len}
-use Rattle.packet.specs.Transport.{Icmpv4Parts, Icmpv6Parts, IsIcmpLayout, ReadsHeader, ReadsPayload, ReadsTransport, TransportReading, icmp_reading, missing_in, protocol_of, tcp_reading, transport_parts, udp_reading}
+use Rattle.packet.specs.Transport.{Icmpv4Parts, Icmpv6Parts, IsIcmpLayout, ReadsHeader, ReadsPayload, ReadsTransport, TransportReading, icmp_reading, missing_in, protocol_after, protocol_of, tcp_reading, transport_parts, udp_reading}
 use Rattle.packet.specs.declared.error.SliceError.{SliceError}
 use Rattle.packet.specs.declared.transport.Protocol.{Protocol}
 use Rattle.packet.specs.declared.transport.Protocol.TheVariants.{Icmpv4, Icmpv6, Tcp, Udp}
@@ -40,28 +40,40 @@ header_once Icmpv6 place s a b p q =
 -- packets with one list of parts have what a transport header depends on in common
 record SameFront (a b : IpSlice) : Type 0 where
   protocol : protocol_of a ≡ protocol_of b
-  payload : payload_of a ≡ payload_of b
-  fragment : fragment_of a ≡ fragment_of b
-  len : ip_header_len a ≡ ip_header_len b
+  payload : a.payload.now ≡ b.payload.now
+  fragment : a.fragment ≡ b.fragment
+  len : header_len_of a ≡ header_len_of b
+
+same_protocol : (g h : IpHeaderSlice) (number : ℕ) → header_parts g ≡ header_parts h → protocol_after g number ≡ protocol_after h number
+same_protocol (header.Ipv4 v) (header.Ipv4 w) number e = refl
+same_protocol (header.Ipv6 v) (header.Ipv6 w) number e = refl
+same_protocol (header.Ipv4 v) (header.Ipv6 w) number e = cc
+same_protocol (header.Ipv6 v) (header.Ipv4 w) number e = cc
+
+same_bytes : (g h : IpHeaderSlice) → header_parts g ≡ header_parts h → header_bytes g ≡ header_bytes h
+same_bytes (header.Ipv4 v) (header.Ipv4 w) e = cc
+same_bytes (header.Ipv6 v) (header.Ipv6 w) e = cc
+same_bytes (header.Ipv4 v) (header.Ipv6 w) e = cc
+same_bytes (header.Ipv6 v) (header.Ipv4 w) e = cc
 
 same_front : (a b : IpSlice) → ip_parts a ≡ ip_parts b → SameFront a b
-same_front (Ipv4 g x) (Ipv4 h y) e = let same : g ≡ h = cc in let rest : x.now ≡ y.now = cc in record { protocol = cc; payload = rest; fragment = cc; len = cc }
-same_front (Ipv6 g x d l n r) (Ipv6 h y e k m t) f =
-    let front : x.now ≡ y.now = cc in
-    let decided : d ≡ e = cc in
-    let later : l ≡ k = cc in
-    let number : n ≡ m = cc in
-    let rest : r.now ≡ t.now = cc in
-    record { protocol = cc; payload = rest; fragment = cc; len = cc }
-same_front (Ipv4 g x) (Ipv6 h y e k m t) f = cc
-same_front (Ipv6 g x d l n r) (Ipv4 h y) f = cc
+same_front a b e =
+    let headers = ap (λ p. p.header) e in
+    let later = ap (λ p. p.is_later_fragment) e in
+    let upper = ap (λ p. p.upper) e in
+    record {
+      protocol = rw (later, upper) (ap (λ p. if b.is_later_fragment then None else p) (same_protocol a.header b.header b.upper headers));
+      payload = ap (λ p. p.payload) e;
+      fragment = ap (λ p. p.fragment) e;
+      len = rw (same_bytes a.header b.header headers, ap (λ p. p.extensions) e) refl;
+    }
 
 -- the header of a payload is read in one way
 payload_once : (read : Protocol) (place : ℕ) (a b : IpSlice) (t u : Option TransportSlice) (m n : Option SliceError) → SameFront a b
     → ReadsPayload read place a t m → ReadsPayload read place b u n → (option_map transport_parts t ≡ option_map transport_parts u) × (m ≡ n)
 payload_once read place a b t u m n same p q =
-    let reading = header_once read place (payload_of b) p.reading q.reading (subst (λ s. ReadsHeader read place s p.reading) same.payload p.reads) q.reads in
-    (p.finds ∙ ap result_ok reading ∙ sym q.finds, p.misses ∙ ap (λ f. missing_in f p.reading) same.fragment ∙ ap (missing_in (fragment_of b)) reading ∙ sym q.misses)
+    let reading = header_once read place b.payload.now p.reading q.reading (subst (λ s. ReadsHeader read place s p.reading) same.payload p.reads) q.reads in
+    (p.finds ∙ ap result_ok reading ∙ sym q.finds, p.misses ∙ ap (λ f. missing_in f p.reading) same.fragment ∙ ap (missing_in b.fragment) reading ∙ sym q.misses)
 
 at_protocol : (o r : Option Protocol) (place : ℕ) (a b : IpSlice) (t u : Option TransportSlice) (m n : Option SliceError) → SameFront a b → o ≡ r
     → MatchOption o ((t ≡ None) × (m ≡ None)) (λ read. ReadsPayload read place a t m) → MatchOption r ((u ≡ None) × (n ≡ None)) (λ read. ReadsPayload read place b u n)
@@ -73,8 +85,8 @@ at_protocol None (Some y) place a b t u m n same e p q = cc
 at_protocol (Some x) None place a b t u m n same e p q = cc
 
 pub transport_once : (place : ℕ) (a b : IpSlice) (t u : Option TransportSlice) (m n : Option SliceError) → ip_parts a ≡ ip_parts b
-    → ReadsTransport (place + ip_header_len a) a t m → ReadsTransport (place + ip_header_len b) b u n
+    → ReadsTransport (place + header_len_of a) a t m → ReadsTransport (place + header_len_of b) b u n
     → (option_map transport_parts t ≡ option_map transport_parts u) × (m ≡ n)
 transport_once place a b t u m n e p q =
     let same = same_front a b e in
-    at_protocol (protocol_of a) (protocol_of b) (place + ip_header_len b) a b t u m n same same.protocol (subst (λ k. ReadsTransport (place + k) a t m) same.len p) q
+    at_protocol (protocol_of a) (protocol_of b) (place + header_len_of b) a b t u m n same same.protocol (subst (λ k. ReadsTransport (place + k) a t m) same.len p) q

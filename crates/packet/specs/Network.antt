@@ -1,21 +1,13 @@
 -- The IP packet of a frame and its transport header.
-use Rattle.std.specs.Prelude.{ℕ, ◌≡◌, ◌+◌, List, length, Option, Some, None}
-use Rattle.etherparse.specs.Ipv4Header.{ipv4_header_len}
-use Rattle.packet_parts.specs.IpSlice.{HasLaxIpParts, HasNoIpParts}
+use Rattle.std.specs.Prelude.{ℕ, ◌≡◌, ◌+◌, List, Option, Some, None}
+use Rattle.packet_parts.specs.IpSlice.{HasLaxIpParts, HasNoIpParts, header_len_of}
 use Rattle.packet_parts.specs.declared.ip_slice.IpSlice.{IpSlice}
-use Rattle.packet_parts.specs.declared.ip_slice.IpSlice.TheVariants as ip
 use Rattle.packet_parts.specs.declared.ip_slice.IpSliceError.{IpSliceError}
 use Rattle.packet.specs.Error.{ip_error_moved}
 use Rattle.packet.specs.Transport.{ReadsTransport}
 use Rattle.packet.specs.declared.error.SliceError.{SliceError}
 use Rattle.packet.specs.declared.error.SliceError.TheVariants as error
 use Rattle.packet.specs.declared.transport.TransportSlice.{TransportSlice}
-
--- the place of the payload in a packet: how long the header is, with its extension headers
-abbrev pub ip_header_len : IpSlice → ℕ
-ip_header_len (ip.Ipv4 header payload) = ipv4_header_len header
-ip_header_len (ip.Ipv6 header extensions fragment is_later upper payload) =
-    40 + length extensions.now
 
 -- of two errors the one of the lower layer: that of a packet at a place, or else the other
 abbrev pub first_error : ℕ → Option IpSliceError → Option SliceError → Option SliceError
@@ -36,7 +28,7 @@ pub record HasIp (place : ℕ) (packet : List ℕ) (slice : IpSlice)
   pub ip_stop : Option IpSliceError
   pub parts : HasLaxIpParts packet (record { slice = slice; stop = ip_stop })
   pub missing : Option SliceError
-  pub reads : ReadsTransport (place + ip_header_len slice) slice transport missing
+  pub reads : ReadsTransport (place + header_len_of slice) slice transport missing
   pub stops : stop ≡ first_error place ip_stop missing
 
 -- the packet at a place, as far as it can be read, and why it cannot be read further

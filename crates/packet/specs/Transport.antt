@@ -8,12 +8,12 @@ use Rattle.etherparse.specs.LenError.{len_error_moved}
 use Rattle.etherparse.specs.Reading.{IsTooShort, Reads}
 use Rattle.etherparse.specs.declared.err.LenError.{LenError}
 use Rattle.etherparse.specs.declared.err.Layer.TheVariants as layer
-use Rattle.packet_parts.specs.IpSlice.{fragment_of, payload_of}
 use Rattle.packet_parts.specs.Tcp.{ViewsTcp}
 use Rattle.packet_parts.specs.Udp.{ReadsUdp, UdpReading}
 use Rattle.packet_parts.specs.declared.fragment.Fragment.{Fragment}
+use Rattle.packet_parts.specs.declared.ip_slice.IpHeaderSlice.{IpHeaderSlice}
+use Rattle.packet_parts.specs.declared.ip_slice.IpHeaderSlice.TheVariants as header
 use Rattle.packet_parts.specs.declared.ip_slice.IpSlice.{IpSlice}
-use Rattle.packet_parts.specs.declared.ip_slice.IpSlice.TheVariants as ip
 use Rattle.packet_parts.specs.declared.tcp.TcpError.{TcpError}
 use Rattle.packet_parts.specs.declared.udp.UdpHeader.{UdpHeader}
 use Rattle.packet.specs.Bytes.{number_at}
@@ -34,12 +34,14 @@ protocol_with icmp_number icmp number =
     else if number == icmp_number then Some icmp
     else None
 
+abbrev pub protocol_after : IpHeaderSlice → ℕ → Option Protocol
+protocol_after (header.Ipv4 view) = protocol_with 1 protocol.Icmpv4
+protocol_after (header.Ipv6 view) = protocol_with 58 protocol.Icmpv6
+
 -- the protocol of the payload of a packet, which begins with no header if it is of a later fragment
 abbrev pub protocol_of : IpSlice → Option Protocol
-protocol_of (ip.Ipv4 header payload) =
-    if header.fragment_offset == 0 then protocol_with 1 protocol.Icmpv4 header.protocol else None
-protocol_of (ip.Ipv6 header extensions fragment is_later upper payload) =
-    if is_later then None else protocol_with 58 protocol.Icmpv6 upper
+protocol_of slice =
+    if slice.is_later_fragment then None else protocol_after slice.header slice.upper
 
 -- the 4 bytes that all messages of ICMP and ICMPv6 begin with
 pub record IsIcmpLayout (header : IcmpHeader) (bytes : List ℕ) : Type 0 where
@@ -106,9 +108,9 @@ missing_in (Some fragment) reading = None
 pub record ReadsPayload (read : Protocol) (place : ℕ) (slice : IpSlice)
     (found : Option TransportSlice) (missing : Option SliceError) : Type 0 where
   pub reading : TransportReading
-  pub reads : ReadsHeader read place (payload_of slice) reading
+  pub reads : ReadsHeader read place slice.payload.now reading
   pub finds : option_map transport_parts found ≡ result_ok reading
-  pub misses : missing ≡ missing_in (fragment_of slice) reading
+  pub misses : missing ≡ missing_in slice.fragment reading
 
 -- The transport header of a payload at a place, and the error of one that is incomplete. There is
 -- neither if the protocol is another one, or if the payload is of a later fragment.
@@ -120,6 +122,6 @@ ReadsTransport place slice found missing = MatchOption (protocol_of slice)
 -- are there in a first fragment or a cut packet without the whole header too.
 pub record HasPorts (slice : IpSlice) (ports : ℕ × ℕ) : Type 0 where
   pub protocol : (protocol_of slice ≡ Some protocol.Udp) ⊎ (protocol_of slice ≡ Some protocol.Tcp)
-  pub enough : 4 ≤ length (payload_of slice)
-  pub source : ports.0 ≡ number_at 0 (payload_of slice)
-  pub destination : ports.1 ≡ number_at 2 (payload_of slice)
+  pub enough : 4 ≤ length slice.payload.now
+  pub source : ports.0 ≡ number_at 0 slice.payload.now
+  pub destination : ports.1 ≡ number_at 2 slice.payload.now

@@ -1,12 +1,10 @@
 //! The IP packet of a frame and its transport header.
 
 ghost use Rattle.std.specs.Prelude.{ℕ, ◌≡◌, ◌+◌, ◌≤◌, ◌<◌, ◌^◌, length};
-ghost use Rattle.packet_parts.specs.IpSlice.{HasIpParts};
-ghost use Rattle.packet.specs.Network.{HasNetwork, ip_header_len};
+ghost use Rattle.packet.specs.Network.{HasNetwork};
 
 use crate::error::{SliceError, ip_error_moved};
 use crate::transport::{TransportSlice, transport_of};
-use etherparse::Ipv6Header;
 use packet_parts::ip_slice::{IpSlice, LaxIpSlice};
 
 // The IP packet of a frame and its transport header, and why they are not read further.
@@ -18,7 +16,7 @@ pub(crate) struct Network<'a> {
 }
 
 // The IP packet at a place in a frame and its transport header, as far as they can be read.
-#[tactic(auto, using(crate::proofs::Places::error_within))]
+#[tactic(auto, using(crate::proofs::Places::error_within, crate::proofs::Places::header_within))]
 pub(crate) fn network_at(place: usize, packet: &[u8]) -> Network
     requires fits { place + length packet.now < 2 ^ 63 }
     ensures layers { HasNetwork place packet.now result.net result.transport result.stop }
@@ -32,7 +30,7 @@ pub(crate) fn network_at(place: usize, packet: &[u8]) -> Network
         },
     };
     let slice = lax.slice;
-    let (transport, missing) = transport_of(place + header_len(packet, &slice), &slice);
+    let (transport, missing) = transport_of(place + slice.header_len(), &slice);
     match lax.stop {
         None => Network {
             net: Some(slice),
@@ -44,18 +42,5 @@ pub(crate) fn network_at(place: usize, packet: &[u8]) -> Network
             transport,
             stop: Some(SliceError::Ip(ip_error_moved(place, e))),
         },
-    }
-}
-
-// The place of the payload in a packet.
-#[tactic(auto, using(crate::proofs::Places::header_within))]
-fn header_len(packet: &[u8], ip: &IpSlice) -> usize
-    requires parts { HasIpParts packet.now ip.now }
-    ensures value { result ≡ ip_header_len ip.now }
-    ensures within { result ≤ length packet.now }
-{
-    match ip {
-        IpSlice::Ipv4 { header, .. } => header.header_len(),
-        IpSlice::Ipv6 { extensions, .. } => Ipv6Header::LEN + extensions.len(),
     }
 }

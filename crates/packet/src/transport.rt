@@ -10,7 +10,7 @@ use crate::error::{SliceError, tcp_error_moved};
 use crate::ether_type::u16_at;
 use etherparse::err::{Layer, LenError};
 use etherparse::{IpNumber, LenSource};
-use packet_parts::ip_slice::IpSlice;
+use packet_parts::ip_slice::{IpHeaderSlice, IpSlice};
 use packet_parts::tcp::TcpHeaderSlice;
 use packet_parts::udp::UdpHeader;
 
@@ -72,11 +72,11 @@ pub(crate) enum Protocol {
 fn protocol_of(ip: &IpSlice) -> Option<Protocol>
     ensures value { result ≡ protocol_of ip.now }
 {
-    if ip.is_later_fragment() {
+    if ip.is_later_fragment {
         return None;
     }
-    let is_ipv4 = matches!(ip, IpSlice::Ipv4 { .. });
-    match ip.upper() {
+    let is_ipv4 = matches!(ip.header, IpHeaderSlice::Ipv4(_));
+    match ip.upper {
         IpNumber::UDP => Some(Protocol::Udp),
         IpNumber::TCP => Some(Protocol::Tcp),
         IpNumber::ICMP if is_ipv4 => Some(Protocol::Icmpv4),
@@ -90,7 +90,7 @@ pub(crate) fn ports_in(ip: &IpSlice) -> Option<(u16, u16)>
     ensures found { IfSome result (HasPorts ip.now) }
     ensures none { IfNone result ((ports : ℕ × ℕ) → ¬ HasPorts ip.now ports) }
 {
-    let payload = ip.payload();
+    let payload = ip.payload;
     match protocol_of(ip) {
         Some(Protocol::Udp | Protocol::Tcp) if payload.len() >= 4 => Some((
             u16_at(payload, 0),
@@ -112,9 +112,9 @@ pub(crate) fn transport_of<'a>(
         Some(protocol) => protocol,
         None => return (None, None),
     };
-    match header_of(protocol, place, ip.payload()) {
+    match header_of(protocol, place, ip.payload) {
         Ok(found) => (Some(found), None),
-        Err(e) => match ip.fragment() {
+        Err(e) => match ip.fragment {
             Some(_) => (None, None),
             None => (None, Some(e)),
         },

@@ -13,14 +13,17 @@ use Rattle.etherparse.specs.Reading.{BeginsWith, too_short_error}
 use Rattle.etherparse.specs.declared.err.Layer.TheVariants as layer
 use Rattle.etherparse.specs.declared.err.LenError.{LenError}
 use Rattle.etherparse.specs.declared.net.ipv4_header.Ipv4Header.{Ipv4Header as Header4}
+use Rattle.etherparse.specs.declared.net.ipv4_header_slice.Ipv4HeaderSlice.{Ipv4HeaderSlice}
 use Rattle.etherparse.specs.declared.net.ipv6_header.Ipv6Header.{Ipv6Header as Header6}
+use Rattle.etherparse.specs.declared.net.ipv6_header_slice.Ipv6HeaderSlice.{Ipv6HeaderSlice}
 use Rattle.etherparse.specs.ExtensionHeaders.{IsSkippable}
 use Rattle.packet_parts.proofs.ExtensionEnds.{one_end, same_beginning}
-use Rattle.packet_parts.proofs.IpParts.{ipv4_front, ipv6_front, is_version_4, is_version_6, longer, same_cut_beginning, same_parts}
+use Rattle.packet_parts.proofs.IpParts.{begins_4, begins_6, ipv6_front, is_version_4, is_version_6, longer, packet_len_4, packet_len_6, same_cut_beginning, same_parts}
 use Rattle.packet_parts.specs.Extensions.{EndsAs}
-use Rattle.packet_parts.specs.IpSlice.{EndsInExtensions, HasIpParts, HasLaxIpParts, HasNoIpParts, ip_parts, IsWhole, ReadsIp, ReadsLaxIp, RefusesIp, ip_answer, ipv4_bytes, ipv6_bytes, lax_ip_answer}
+use Rattle.packet_parts.specs.IpSlice.{EndsInExtensions, HasIpParts, HasIpv4Parts, HasIpv6Parts, HasLaxIpParts, HasNoIpParts, HasPartsAfter, HasWholeHeaders, IsWhole, ReadsIp, ReadsLaxIp, RefusesIp, ip_answer, ip_parts, ipv4_bytes, ipv6_bytes, lax_ip_answer, packet_len_of}
+use Rattle.packet_parts.specs.declared.ip_slice.IpHeaderSlice.{IpHeaderSlice}
+use Rattle.packet_parts.specs.declared.ip_slice.IpHeaderSlice.TheVariants as header
 use Rattle.packet_parts.specs.declared.ip_slice.IpSlice.{IpSlice}
-use Rattle.packet_parts.specs.declared.ip_slice.IpSlice.TheVariants as slice
 use Rattle.packet_parts.specs.declared.ip_slice.IpSliceError.{IpSliceError}
 use Rattle.packet_parts.specs.declared.ip_slice.LaxIpSlice.{LaxIpSlice}
 use Rattle.packet_parts.specs.declared.ip_slice.IpSliceError.TheVariants.{Empty, Extensions, Ipv4Header, Ipv6Header, Packet, UnexpectedVersion}
@@ -189,29 +192,45 @@ no_parts_4 s h x (Packet e) b told r =
 no_parts_4 s h x (Extensions e) b told r = r
 
 -- a whole packet is not refused
-pub whole_not_refused : (s : List ℕ) (a : IpSlice) (e : IpSliceError) → HasIpParts s a → IsWhole s a → RefusesIp s e → ⊥
-whole_not_refused s (slice.Ipv4 h x) e p whole r =
-    let told = header_4_told s h x.now p whole.0 in
-    elim (fails_4 s h _ e (longer IsIpv4Layout s _ _ h x.now (ipv4_front h s).1 p) r) [ inl less ↦ omega (arith, told, less) | inr short ↦ omega (arith, whole.1, short) ]
-whole_not_refused s (slice.Ipv6 h x d l n t) e p whole r = elim (fails_6 s h _ e (longer IsIpv6Layout s _ _ h p.body (ipv6_front h s).1 p.begins) r) [
-  | inl short ↦ omega (arith, whole.0, short.0)
-  | inr (y, enough, q, is) ↦
-      let same = same_cut_beginning IsIpv6Layout RefusesIpv6 tells_ipv6 ipv6_bytes ipv6_front s h q.header p.body q.body p.begins q.begins in
-      let ends : EndsAs l p.incomplete q.body q.header.next_header d n t.now = subst (λ z. EndsAs l p.incomplete z q.header.next_header d n t.now) same.1
-      (subst (λ k. EndsAs l p.incomplete p.body k.next_header d n t.now) same.0 p.ends) in
-      let end = one_end q.body q.header.next_header l false p.incomplete (Some q.inside) d q.fragment n q.number t.now q.rest ends q.ends in
-      elim whole.1 [ inl later ↦ let no : IsTrue false = subst IsTrue end.later later in cc | inr other ↦ other (subst IsSkippable (sym end.number) q.ends.0.skippable) ]
+whole_4 : (s : List ℕ) (view : Ipv4HeaderSlice) (a : IpSlice) (e : IpSliceError) → HasIpv4Parts s view.slice.now a → packet_len_of (header.Ipv4 view) ≢ 0
+    → packet_len_of (header.Ipv4 view) ≤ length s → RefusesIp s e → ⊥
+whole_4 s view a e p told enough r =
+    let is = packet_len_4 view p.header p.begins.front p.begins.layout p.view in
+    let fits = header_4_told s p.header a.payload.now p.begins (λ zero. told (is ∙ zero)) in
+    elim (fails_4 s p.header _ e (begins_4 s _ a p) r) [ inl less ↦ omega (arith, fits, less) | inr short ↦ omega (arith, is, enough, short) ]
+
+whole_6 : (s : List ℕ) (view : Ipv6HeaderSlice) (a : IpSlice) (e : IpSliceError) → HasIpv6Parts s view.slice.now a → packet_len_of (header.Ipv6 view) ≤ length s
+    → IsTrue a.is_later_fragment ⊎ ¬ IsSkippable a.upper → RefusesIp s e → ⊥
+whole_6 s view a e p enough headers r = elim (fails_6 s p.header _ e (begins_6 s _ a p) r) [
+  | inl short ↦ omega (arith, packet_len_6 view p.header p.begins.front p.begins.layout p.view, enough, short.0)
+  | inr (y, within, q, is) ↦
+      let same = same_cut_beginning IsIpv6Layout RefusesIpv6 tells_ipv6 ipv6_bytes ipv6_front s p.header q.header p.body q.body p.begins q.begins in
+      let ends : EndsAs a.is_later_fragment p.incomplete q.body q.header.next_header p.decided a.upper a.payload.now =
+      subst (λ z. EndsAs a.is_later_fragment p.incomplete z q.header.next_header p.decided a.upper a.payload.now) same.1
+      (subst (λ k. EndsAs a.is_later_fragment p.incomplete p.body k.next_header p.decided a.upper a.payload.now) same.0 p.ends) in
+      let end = one_end q.body q.header.next_header a.is_later_fragment false p.incomplete (Some q.inside) p.decided q.fragment a.upper q.number a.payload.now q.rest ends q.ends in
+      elim headers [ inl later ↦ let no : IsTrue false = subst IsTrue end.later later in cc | inr other ↦ other (subst IsSkippable (sym end.number) q.ends.0.skippable) ]
 ]
 
+whole_after : (s : List ℕ) (a : IpSlice) (h : IpHeaderSlice) (e : IpSliceError) → HasPartsAfter h s a → packet_len_of h ≢ 0 → packet_len_of h ≤ length s → HasWholeHeaders h a → RefusesIp s e → ⊥
+whole_after s a (header.Ipv4 view) e p told enough headers r = whole_4 s view a e p told enough r
+whole_after s a (header.Ipv6 view) e p told enough headers r = whole_6 s view a e p enough headers r
+
+pub whole_not_refused : (s : List ℕ) (a : IpSlice) (e : IpSliceError) → HasIpParts s a → IsWhole s a → RefusesIp s e → ⊥
+whole_not_refused s a e p whole r = whole_after s a a.header e p whole.told whole.enough whole.headers r
+
 -- a packet with parts has none of the reasons for which it would have none
-pub parts_not_refused : (s : List ℕ) (a : IpSlice) (e : IpSliceError) → HasIpParts s a → HasNoIpParts s e → ⊥
-parts_not_refused s (slice.Ipv4 h x) e p r = no_parts_4 s h _ e (longer IsIpv4Layout s _ _ h x.now (ipv4_front h s).1 p) (header_4_told s h x.now p) r
-parts_not_refused s (slice.Ipv6 h x d l n t) e p r =
-    let begins = longer IsIpv6Layout s _ _ h p.body (ipv6_front h s).1 p.begins in
-    elim (fails_6 s h _ e begins (no_parts_refused s e r)) [
-      | inl short ↦ let q = subst (HasNoIpParts s) short.1 r in omega (arith, is_version_6 s h _ begins, is_version_4 s q.states.header _ q.states.begins)
+parts_after : (s : List ℕ) (a : IpSlice) (h : IpHeaderSlice) (e : IpSliceError) → HasPartsAfter h s a → HasNoIpParts s e → ⊥
+parts_after s a (header.Ipv4 view) e p r = no_parts_4 s p.header _ e (begins_4 s _ a p) (header_4_told s p.header a.payload.now p.begins) r
+parts_after s a (header.Ipv6 view) e p r =
+    let begins = begins_6 s _ a p in
+    elim (fails_6 s p.header _ e begins (no_parts_refused s e r)) [
+      | inl short ↦ let q = subst (HasNoIpParts s) short.1 r in omega (arith, is_version_6 s p.header _ begins, is_version_4 s q.states.header _ q.states.begins)
       | inr later ↦ subst (HasNoIpParts s) later.3 r
     ]
+
+pub parts_not_refused : (s : List ℕ) (a : IpSlice) (e : IpSliceError) → HasIpParts s a → HasNoIpParts s e → ⊥
+parts_not_refused s a e p r = parts_after s a a.header e p r
 
 -- a packet is read in one way as far as it goes
 pub lax_once : (s : List ℕ) (a b : IpSlice) (i j : Option IpSliceError) → HasLaxIpParts s (record { slice = a; stop = i }) → HasLaxIpParts s (record { slice = b; stop = j })

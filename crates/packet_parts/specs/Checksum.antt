@@ -3,16 +3,15 @@ use Rattle.std.specs.Prelude.{ℕ, ◌≡◌, ◌≢◌, ◌==◌, ◌<◌, ◌�
 use Rattle.std.specs.Prelude.{MatchOption, None, Some, codes, if◌then◌else◌, length, slice_range}
 use Rattle.std.specs.Prelude.{take}
 use Rattle.std.specs.Int.{from_be_bytes, to_be_bytes, w16, w32}
-use Rattle.etherparse.specs.Ipv4Header.{IsFragment}
 use Rattle.etherparse.specs.WordSums.{ones_complement_sum}
-use Rattle.etherparse.specs.declared.net.ipv4_header.Ipv4Header.{Ipv4Header}
-use Rattle.etherparse.specs.declared.net.ipv6_header.Ipv6Header.{Ipv6Header}
+use Rattle.packet_parts.specs.IpSlice.{destination_of, source_of}
 use Rattle.packet_parts.specs.declared.checksum.Absence.{Absence}
 use Rattle.packet_parts.specs.declared.checksum.Absence.TheVariants as absence
 use Rattle.packet_parts.specs.declared.checksum.Verdict.{Verdict}
 use Rattle.packet_parts.specs.declared.checksum.Verdict.TheVariants.{Right, Wrong, Absent}
+use Rattle.packet_parts.specs.declared.ip_slice.IpHeaderSlice.{IpHeaderSlice}
+use Rattle.packet_parts.specs.declared.ip_slice.IpHeaderSlice.TheVariants as header
 use Rattle.packet_parts.specs.declared.ip_slice.IpSlice.{IpSlice}
-use Rattle.packet_parts.specs.declared.ip_slice.IpSlice.TheVariants as slice
 use Rattle.packet_parts.specs.declared.ip_slice.LaxIpSlice.{LaxIpSlice}
 
 -- The pseudo-header of IPv4 (RFC 768, RFC 9293 section 3.1): both addresses, a zero byte, the
@@ -53,22 +52,24 @@ abbrev pub IsWithoutChecksum : ℕ → List ℕ → Type 0
 IsWithoutChecksum number covered = (number ≡ 17) × (udp_checksum covered ≡ 0)
 
 -- what sums to all ones over IPv4: with the pseudo-header, but for ICMP, which has none (RFC 792)
-abbrev pub ipv4_pieces : Ipv4Header → List ℕ → List (List ℕ)
-ipv4_pieces ip covered = if ip.protocol == 1 then covered ∷ []
-    else ipv4_pseudo_header ip.source ip.destination ip.protocol (length covered) ∷ covered ∷ []
+abbrev pub ipv4_pieces : List ℕ → List ℕ → ℕ → List ℕ → List (List ℕ)
+ipv4_pieces source destination protocol covered = if protocol == 1 then covered ∷ []
+    else ipv4_pseudo_header source destination protocol (length covered) ∷ covered ∷ []
 
 -- a receiver finds the checksum right over IPv4; the 16 bits of a pseudo-header can tell the length
-pub record IsRightIpv4 (ip : Ipv4Header) (covered : List ℕ) : Type 0 where
-  pub fits : ip.protocol ≢ 1 → length covered < 2 ^ 16
-  pub sum : ones_complement_sum (ipv4_pieces ip covered) ≡ 65535
+pub record IsRightIpv4 (source destination : List ℕ) (protocol : ℕ) (covered : List ℕ)
+    : Type 0 where
+  pub fits : protocol ≢ 1 → length covered < 2 ^ 16
+  pub sum : ones_complement_sum (ipv4_pieces source destination protocol covered) ≡ 65535
 
 -- the same over IPv6, where the length has 32 bits, also of ICMPv6 (RFC 4443 section 2.3), and
 -- where a datagram has to have a checksum (RFC 8200 section 8.1)
-pub record IsRightIpv6 (ip : Ipv6Header) (number : ℕ) (covered : List ℕ) : Type 0 where
+pub record IsRightIpv6 (source destination : List ℕ) (number : ℕ) (covered : List ℕ)
+    : Type 0 where
   pub there : ¬ IsWithoutChecksum number covered
   pub fits : length covered < 2 ^ 32
-  pub sum : ones_complement_sum (ipv6_pseudo_header ip.source ip.destination number
-      (length covered) ∷ covered ∷ []) ≡ 65535
+  pub sum : ones_complement_sum (ipv6_pseudo_header source destination number (length covered)
+      ∷ covered ∷ []) ≡ 65535
 
 -- the payload is of a protocol without a checksum that is known here, or is not all that its
 -- checksum covers
@@ -80,43 +81,42 @@ IsAbsent icmp number payload absence.Incomplete = ((number ≡ 17) ⊎ (number �
 IsAbsent icmp number payload absence.Fragment = ⊥
 IsAbsent icmp number payload absence.NotComputed = ⊥
 
--- what is judged in an IPv4 packet: a payload that is no fragment, and its checksum, which it has
-pub record JudgesIpv4 (ip : Ipv4Header) (payload covered : List ℕ) : Type 0 where
-  pub whole : ¬ IsFragment ip
-  pub covers : Covers 1 ip.protocol payload covered
-  pub there : ¬ IsWithoutChecksum ip.protocol covered
+-- what is judged of the payload of an IPv4 packet: its checksum, which it has
+pub record JudgesIpv4 (protocol : ℕ) (payload covered : List ℕ) : Type 0 where
+  pub covers : Covers 1 protocol payload covered
+  pub there : ¬ IsWithoutChecksum protocol covered
 
--- the verdict on the payload of an IPv4 packet
-abbrev pub IsVerdictIpv4 : Ipv4Header → List ℕ → Verdict → Type 0
-IsVerdictIpv4 ip payload Right =
-    (covered : List ℕ) × JudgesIpv4 ip payload covered × IsRightIpv4 ip covered
-IsVerdictIpv4 ip payload Wrong =
-    (covered : List ℕ) × JudgesIpv4 ip payload covered × ¬ IsRightIpv4 ip covered
-IsVerdictIpv4 ip payload (Absent absence.Fragment) = IsFragment ip
-IsVerdictIpv4 ip payload (Absent absence.NotComputed) = ¬ IsFragment ip
-    × ((covered : List ℕ) × Covers 1 ip.protocol payload covered
-    × IsWithoutChecksum ip.protocol covered)
-IsVerdictIpv4 ip payload (Absent absence.OtherProtocol) =
-    ¬ IsFragment ip × IsAbsent 1 ip.protocol payload absence.OtherProtocol
-IsVerdictIpv4 ip payload (Absent absence.Incomplete) =
-    ¬ IsFragment ip × IsAbsent 1 ip.protocol payload absence.Incomplete
+-- the verdict on the payload of an IPv4 packet that is no fragment
+abbrev pub IsVerdictIpv4 : List ℕ → List ℕ → ℕ → List ℕ → Verdict → Type 0
+IsVerdictIpv4 source destination protocol payload Right = (covered : List ℕ)
+    × JudgesIpv4 protocol payload covered × IsRightIpv4 source destination protocol covered
+IsVerdictIpv4 source destination protocol payload Wrong = (covered : List ℕ)
+    × JudgesIpv4 protocol payload covered × ¬ IsRightIpv4 source destination protocol covered
+IsVerdictIpv4 source destination protocol payload (Absent absence.NotComputed) =
+    (covered : List ℕ) × Covers 1 protocol payload covered × IsWithoutChecksum protocol covered
+IsVerdictIpv4 source destination protocol payload (Absent reason) =
+    IsAbsent 1 protocol payload reason
 
--- the verdict on the payload of an IPv6 packet that is no fragment
-abbrev pub IsVerdictIpv6 : Ipv6Header → ℕ → List ℕ → Verdict → Type 0
-IsVerdictIpv6 ip number payload Right =
-    (covered : List ℕ) × Covers 58 number payload covered × IsRightIpv6 ip number covered
-IsVerdictIpv6 ip number payload Wrong =
-    (covered : List ℕ) × Covers 58 number payload covered × ¬ IsRightIpv6 ip number covered
-IsVerdictIpv6 ip number payload (Absent reason) = IsAbsent 58 number payload reason
+-- the same of IPv6
+abbrev pub IsVerdictIpv6 : List ℕ → List ℕ → ℕ → List ℕ → Verdict → Type 0
+IsVerdictIpv6 source destination number payload Right = (covered : List ℕ)
+    × Covers 58 number payload covered × IsRightIpv6 source destination number covered
+IsVerdictIpv6 source destination number payload Wrong = (covered : List ℕ)
+    × Covers 58 number payload covered × ¬ IsRightIpv6 source destination number covered
+IsVerdictIpv6 source destination number payload (Absent reason) = IsAbsent 58 number payload reason
 
--- the verdict on the payload of a packet in these parts; in IPv6 the fragment header that decides
--- says whether it is a fragment
+-- the verdict on the payload of a packet with this header that is no fragment
+abbrev pub IsVerdictAfter : IpHeaderSlice → ℕ → List ℕ → Verdict → Type 0
+IsVerdictAfter (header.Ipv4 view) =
+    IsVerdictIpv4 (source_of (header.Ipv4 view)) (destination_of (header.Ipv4 view))
+IsVerdictAfter (header.Ipv6 view) =
+    IsVerdictIpv6 (source_of (header.Ipv6 view)) (destination_of (header.Ipv6 view))
+
+-- the verdict on the payload of a packet in these parts, which may be a fragment
 abbrev pub IsVerdict : IpSlice → Verdict → Type 0
-IsVerdict (slice.Ipv4 ip payload) verdict = IsVerdictIpv4 ip payload.now verdict
-IsVerdict (slice.Ipv6 ip extensions None is_later number payload) verdict =
-    IsVerdictIpv6 ip number payload.now verdict
-IsVerdict (slice.Ipv6 ip extensions (Some fragment) is_later number payload) verdict =
-    verdict ≡ Absent absence.Fragment
+IsVerdict slice verdict = MatchOption slice.fragment
+    (IsVerdictAfter slice.header slice.upper slice.payload.now verdict)
+    (λ fragment. verdict ≡ Absent absence.Fragment)
 
 -- the same of one that may not be whole: then not all that its checksum covers is there
 abbrev pub IsLaxVerdict : LaxIpSlice → Verdict → Type 0

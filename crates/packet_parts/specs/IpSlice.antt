@@ -1,8 +1,10 @@
 -- The parts of an IP packet of either version (RFC 791 section 3.1, RFC 8200 section 3), as far as
 -- its length field says and its bytes are there.
 use Rattle.std.specs.Prelude.{ℕ, ◌≡◌, ◌≢◌, ◌+◌, ◌*◌, ◌<◌, ◌≤◌, ◌==◌, ◌||◌, ◌⊎◌, Bool, false, not}
-use Rattle.std.specs.Prelude.{IsTrue, List, ◌++◌, length, take, Result, Ok, Err, MatchOption}
+use Rattle.std.specs.Prelude.{IsTrue, List, [], ◌++◌, length, take, Result, Ok, Err, MatchOption}
 use Rattle.std.specs.Prelude.{Option, Some, None, codes, decimal, if◌then◌else◌, option_map}
+use Rattle.std.specs.Prelude.{slice_range}
+use Rattle.std.specs.Int.{from_be_bytes, w16}
 use Rattle.std.specs.Result.{result_map_both}
 use Rattle.std.specs.Net.Addr.{ipv4_octets, ipv6_segments, segments_of}
 use Rattle.std.specs.declared.net.ip_addr.IpAddr.{IpAddr}
@@ -22,8 +24,9 @@ use Rattle.etherparse.specs.declared.net.ipv6_header.Ipv6Header.{Ipv6Header}
 use Rattle.packet_parts.specs.Extensions.{EndsAs}
 use Rattle.packet_parts.specs.declared.fragment.Fragment.{Fragment}
 use Rattle.packet_parts.specs.declared.fragment.FragmentHeader.{FragmentHeader}
+use Rattle.packet_parts.specs.declared.ip_slice.IpHeaderSlice.{IpHeaderSlice}
+use Rattle.packet_parts.specs.declared.ip_slice.IpHeaderSlice.TheVariants as header
 use Rattle.packet_parts.specs.declared.ip_slice.IpSlice.{IpSlice}
-use Rattle.packet_parts.specs.declared.ip_slice.IpSlice.TheVariants as slice
 use Rattle.packet_parts.specs.declared.ip_slice.IpSliceError.{IpSliceError}
 use Rattle.packet_parts.specs.declared.ip_slice.IpSliceError.TheVariants as error
 use Rattle.packet_parts.specs.declared.ip_slice.LaxIpSlice.{LaxIpSlice}
@@ -38,31 +41,84 @@ ipv4_bytes header s = if header.total_len == 0 then s else take header.total_len
 abbrev pub ipv6_bytes : Ipv6Header → List ℕ → List ℕ
 ipv6_bytes header s = take (40 + header.payload_length) s
 
--- What there is of the packet is this header, these bytes of whole extension headers, and a payload
+-- the bytes of the header
+abbrev pub header_bytes : IpHeaderSlice → List ℕ
+header_bytes (header.Ipv4 view) = view.slice.now
+header_bytes (header.Ipv6 view) = view.slice.now
+
+-- How long the packet is by its length field: the total length is in bytes 2 and 3 of the header
+-- (RFC 791 section 3.1), the payload length in bytes 4 and 5 (RFC 8200 section 3).
+abbrev pub packet_len_of : IpHeaderSlice → ℕ
+packet_len_of (header.Ipv4 view) = from_be_bytes w16 (slice_range view.slice.now 2 4)
+packet_len_of (header.Ipv6 view) = 40 + from_be_bytes w16 (slice_range view.slice.now 4 6)
+
+-- the place of a fragment, whose offset is in units of 8 bytes (RFC 791 section 3.1)
+abbrev pub ipv4_fragment_of : Ipv4Header → Option Fragment
+ipv4_fragment_of header =
+    if header.more_fragments || not (header.fragment_offset == 0)
+    then Some (record {
+      identification = header.identification;
+      offset = 8 * header.fragment_offset;
+      more_fragments = header.more_fragments;
+    })
+    else None
+
+-- the same by a fragment header of IPv6 (RFC 8200 section 4.5)
+abbrev pub placed : FragmentHeader → Fragment
+placed header = record {
+  identification = header.identification;
+  offset = 8 * header.fragment_offset;
+  more_fragments = header.more_fragments;
+}
+
+-- What there is of the packet is a header with these bytes and a payload of its protocol. The
+-- header says whether that is a fragment, and a later one if its offset is not 0.
+pub record HasIpv4Parts (packet bytes : List ℕ) (slice : IpSlice) : Type 0 where
+  pub header : Ipv4Header
+  pub begins : BeginsWith IsIpv4Layout (ipv4_bytes header packet) header slice.payload.now
+  pub view : begins.front ≡ bytes
+  pub no_extensions : slice.extensions.now ≡ []
+  pub fragment : slice.fragment ≡ ipv4_fragment_of header
+  pub is_later : slice.is_later_fragment ≡ not (header.fragment_offset == 0)
+  pub upper : slice.upper ≡ header.protocol
+
+-- What there is of the packet is a header with these bytes, whole extension headers, and a payload
 -- of the number that the last of them gives. If it ends within an extension header, what there is
--- of that is in the place of the payload.
-pub record HasIpv6Parts (packet : List ℕ) (header : Ipv6Header) (extensions : List ℕ)
-    (fragment : Option FragmentHeader) (is_later : Bool) (upper : ℕ) (payload : List ℕ)
-    : Type 0 where
+-- of that is in the place of the payload. The fragment header that decides says whether the payload
+-- is a fragment.
+pub record HasIpv6Parts (packet bytes : List ℕ) (slice : IpSlice) : Type 0 where
+  pub header : Ipv6Header
   pub body : List ℕ
   pub begins : BeginsWith IsIpv6Layout (ipv6_bytes header packet) header body
-  pub parts : body ≡ extensions ++ payload
+  pub view : begins.front ≡ bytes
+  pub parts : body ≡ slice.extensions.now ++ slice.payload.now
+  pub decided : Option FragmentHeader
   pub incomplete : Option LenError
-  pub ends : EndsAs is_later incomplete body header.next_header fragment upper payload
+  pub ends : EndsAs slice.is_later_fragment incomplete body header.next_header decided slice.upper
+      slice.payload.now
+  pub fragment : slice.fragment ≡ option_map placed decided
+
+-- what there is of the packet is these parts, of which this is the header
+abbrev pub HasPartsAfter : IpHeaderSlice → List ℕ → IpSlice → Type 0
+HasPartsAfter (header.Ipv4 view) packet slice = HasIpv4Parts packet view.slice.now slice
+HasPartsAfter (header.Ipv6 view) packet slice = HasIpv6Parts packet view.slice.now slice
 
 -- what there is of the packet is these parts
 abbrev pub HasIpParts : List ℕ → IpSlice → Type 0
-HasIpParts packet (slice.Ipv4 header payload) =
-    BeginsWith IsIpv4Layout (ipv4_bytes header packet) header payload.now
-HasIpParts packet (slice.Ipv6 header extensions fragment is_later upper payload) =
-    HasIpv6Parts packet header extensions.now fragment is_later upper payload.now
+HasIpParts packet slice = HasPartsAfter slice.header packet slice
 
--- the packet has all the bytes that its length field says, and ends within no extension header
-abbrev pub IsWhole : List ℕ → IpSlice → Type 0
-IsWhole packet (slice.Ipv4 header payload) =
-    (header.total_len ≢ 0) × (header.total_len ≤ length packet)
-IsWhole packet (slice.Ipv6 header extensions fragment is_later upper payload) =
-    (40 + header.payload_length ≤ length packet) × (IsTrue is_later ⊎ ¬ IsSkippable upper)
+-- no extension header is incomplete: the payload is of a later fragment, or it begins with none
+abbrev pub HasWholeHeaders : IpHeaderSlice → IpSlice → Type 0
+HasWholeHeaders (header.Ipv4 view) slice = Unit {0}
+HasWholeHeaders (header.Ipv6 view) slice = IsTrue slice.is_later_fragment
+    ⊎ ¬ IsSkippable slice.upper
+
+-- the length field says how long the packet is, all those bytes are there, and it ends within no
+-- extension header
+pub record IsWhole (packet : List ℕ) (slice : IpSlice) : Type 0 where
+  pub told : packet_len_of slice.header ≢ 0
+  pub enough : packet_len_of slice.header ≤ length packet
+  pub headers : HasWholeHeaders slice.header slice
 
 -- the packet is in these parts
 abbrev pub IsIpPacket : List ℕ → IpSlice → Type 0
@@ -151,32 +207,54 @@ ip_slice_error_text (error.Ipv6Header e) = ipv6_header_slice_error_text e
 ip_slice_error_text (error.Packet e) = len_error_text e
 ip_slice_error_text (error.Extensions e) = len_error_text e
 
+-- who sent the packet: bytes 12 to 15 of the header (RFC 791 section 3.1), or 8 to 23 (RFC 8200
+-- section 3)
+abbrev pub source_of : IpHeaderSlice → List ℕ
+source_of (header.Ipv4 view) = slice_range view.slice.now 12 16
+source_of (header.Ipv6 view) = slice_range view.slice.now 8 24
+
+-- who receives it: bytes 16 to 19, or 24 to 39
+abbrev pub destination_of : IpHeaderSlice → List ℕ
+destination_of (header.Ipv4 view) = slice_range view.slice.now 16 20
+destination_of (header.Ipv6 view) = slice_range view.slice.now 24 40
+
 -- an address of the version of the packet, with these octets: 4 or 16
-abbrev pub IsAddressIn : IpSlice → IpAddr → List ℕ → Type 0
-IsAddressIn (slice.Ipv4 header payload) (V4 address) octets = ipv4_octets address ≡ octets
-IsAddressIn (slice.Ipv6 header extensions fragment is_later upper payload) (V6 address) octets =
-    ipv6_segments address ≡ segments_of octets
-IsAddressIn slice address octets = ⊥
+abbrev pub IsAddressIn : IpHeaderSlice → IpAddr → List ℕ → Type 0
+IsAddressIn (header.Ipv4 view) (V4 address) octets = ipv4_octets address ≡ octets
+IsAddressIn (header.Ipv6 view) (V6 address) octets = ipv6_segments address ≡ segments_of octets
+IsAddressIn header address octets = ⊥
 
--- who sent the packet
-abbrev pub source_of : IpSlice → List ℕ
-source_of (slice.Ipv4 header payload) = header.source
-source_of (slice.Ipv6 header extensions fragment is_later upper payload) = header.source
+-- the place of the payload: how long the headers before it are
+abbrev pub header_len_of : IpSlice → ℕ
+header_len_of slice = length (header_bytes slice.header) + length slice.extensions.now
 
--- who receives it
-abbrev pub destination_of : IpSlice → List ℕ
-destination_of (slice.Ipv4 header payload) = header.destination
-destination_of (slice.Ipv6 header extensions fragment is_later upper payload) = header.destination
+-- the header of a packet, apart from where it lies in memory
+pub data IpHeaderParts : Type 0 where
+  Ipv4Bytes : List ℕ → IpHeaderParts
+  Ipv6Bytes : List ℕ → IpHeaderParts
 
--- the parts of a packet, apart from where they lie in memory
-pub data IpParts : Type 0 where
-  Ipv4Parts : Ipv4Header → List ℕ → IpParts
-  Ipv6Parts : Ipv6Header → List ℕ → Option FragmentHeader → Bool → ℕ → List ℕ → IpParts
+abbrev pub header_parts : IpHeaderSlice → IpHeaderParts
+header_parts (header.Ipv4 view) = Ipv4Bytes view.slice.now
+header_parts (header.Ipv6 view) = Ipv6Bytes view.slice.now
+
+-- and all its parts
+pub record IpParts : Type 0 where
+  pub header : IpHeaderParts
+  pub extensions : List ℕ
+  pub fragment : Option Fragment
+  pub is_later_fragment : Bool
+  pub upper : ℕ
+  pub payload : List ℕ
 
 abbrev pub ip_parts : IpSlice → IpParts
-ip_parts (slice.Ipv4 header payload) = Ipv4Parts header payload.now
-ip_parts (slice.Ipv6 header extensions fragment is_later upper payload) =
-    Ipv6Parts header extensions.now fragment is_later upper payload.now
+ip_parts slice = record {
+  header = header_parts slice.header;
+  extensions = slice.extensions.now;
+  fragment = slice.fragment;
+  is_later_fragment = slice.is_later_fragment;
+  upper = slice.upper;
+  payload = slice.payload.now;
+}
 
 -- slicing a packet: it is in these parts, or it is refused; and the same as far as it is there
 abbrev pub ReadsIp : List ℕ → Result IpSlice IpSliceError → Type 0
@@ -194,43 +272,3 @@ ip_answer answer = result_map_both ip_parts (λ e. e) answer
 abbrev pub lax_ip_answer : Result LaxIpSlice IpSliceError
     → Result (IpParts × Option IpSliceError) IpSliceError
 lax_ip_answer answer = result_map_both (λ lax. (ip_parts lax.slice, lax.stop)) (λ e. e) answer
-
--- the number of the payload of a slice
-abbrev pub upper_of : IpSlice → ℕ
-upper_of (slice.Ipv4 header payload) = header.protocol
-upper_of (slice.Ipv6 header extensions fragment is_later upper payload) = upper
-
--- the payload of a slice
-abbrev pub payload_of : IpSlice → List ℕ
-payload_of (slice.Ipv4 header payload) = payload.now
-payload_of (slice.Ipv6 header extensions fragment is_later upper payload) = payload.now
-
--- the place of a fragment, whose offset is in units of 8 bytes (RFC 791 section 3.1)
-abbrev pub ipv4_fragment_of : Ipv4Header → Option Fragment
-ipv4_fragment_of header =
-    if header.more_fragments || not (header.fragment_offset == 0)
-    then Some (record {
-      identification = header.identification;
-      offset = 8 * header.fragment_offset;
-      more_fragments = header.more_fragments;
-    })
-    else None
-
--- the same by a fragment header of IPv6 (RFC 8200 section 4.5)
-abbrev pub placed : FragmentHeader → Fragment
-placed header = record {
-  identification = header.identification;
-  offset = 8 * header.fragment_offset;
-  more_fragments = header.more_fragments;
-}
-
--- the place of the payload of a slice, if it is a fragment
-abbrev pub fragment_of : IpSlice → Option Fragment
-fragment_of (slice.Ipv4 header payload) = ipv4_fragment_of header
-fragment_of (slice.Ipv6 header extensions fragment is_later upper payload) =
-    option_map placed fragment
-
--- the payload of a slice is that of a fragment that is not the first: it begins with no header
-abbrev pub IsLater : IpSlice → Type 0
-IsLater (slice.Ipv4 header payload) = header.fragment_offset ≢ 0
-IsLater (slice.Ipv6 header extensions fragment is_later upper payload) = IsTrue is_later

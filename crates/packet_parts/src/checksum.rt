@@ -10,8 +10,8 @@ ghost use Rattle.packet_parts.specs.Checksum.{udp_length, verdict_text};
 
 use crate::tcp::TcpHeaderSlice;
 use crate::udp::UdpHeader;
+use etherparse::IpNumber;
 use etherparse::checksum::Sum16BitWords;
-use etherparse::{IpNumber, Ipv4Header, Ipv6Header};
 use std::fmt;
 
 /// What a receiver finds of the checksum of a payload. It is displayed as `right`, `wrong` or
@@ -111,65 +111,76 @@ pub fn ipv6_pseudo_header(
         .add_8bytes([a, b, c, d, 0, 0, 0, number.0])
 }
 
-/// The verdict on the checksum of an IPv4 packet's payload. The payload has to end where the total
-/// length says, since each of its bytes counts, but those after a UDP datagram.
+/// The verdict on the checksum of an IPv4 packet's payload that is no fragment, from both addresses
+/// and the protocol's number. The payload has to end where the total length says, since each of its
+/// bytes counts, but those after a UDP datagram.
 ///
 /// # Example
 ///
 /// ```
 /// let (source, destination) = ([192, 168, 0, 1], [192, 168, 0, 199]);
-/// let header = Ipv4Header::new(12, 64, IpNumber::UDP, source, destination)?;
 /// let mut payload = [4, 0, 0, 53, 0, 12, 0x91, 0xae, b't', b'e', b's', b't'];
-/// assert!(rt; ipv4_verdict(&header, &payload) == Verdict::Right);
+/// let verdict = ipv4_verdict(source, destination, IpNumber::UDP, &payload);
+/// assert!(rt; verdict == Verdict::Right);
 /// payload[11] = b'x';
-/// assert!(rt; ipv4_verdict(&header, &payload) == Verdict::Wrong);
+/// let verdict = ipv4_verdict(source, destination, IpNumber::UDP, &payload);
+/// assert!(rt; verdict == Verdict::Wrong);
 /// // The sender has computed none.
 /// [payload[6], payload[7]] = [0, 0];
-/// assert!(rt; ipv4_verdict(&header, &payload) == Verdict::Absent(Absence::NotComputed));
+/// let verdict = ipv4_verdict(source, destination, IpNumber::UDP, &payload);
+/// assert!(rt; verdict == Verdict::Absent(Absence::NotComputed));
 /// ```
-pub fn ipv4_verdict(header: &Ipv4Header, payload: &[u8]) -> Verdict
-    ensures judges { IsVerdictIpv4 header.now payload.now result }
+pub fn ipv4_verdict(
+    source: [u8; 4],
+    destination: [u8; 4],
+    protocol: IpNumber,
+    payload: &[u8],
+) -> Verdict
+    ensures judges { IsVerdictIpv4 source destination protocol payload.now result }
 {
-    if header.is_fragmenting_payload() {
-        return Verdict::Absent(Absence::Fragment);
-    }
-    let number = header.protocol;
-    let covered = match covered(IpNumber::ICMP, number, payload) {
+    let covered = match covered(IpNumber::ICMP, protocol, payload) {
         Ok(covered) => covered,
         Err(reason) => return Verdict::Absent(reason),
     };
-    if is_without_checksum(number, covered) {
+    if is_without_checksum(protocol, covered) {
         return Verdict::Absent(Absence::NotComputed);
     }
-    if is_right_ipv4(header, covered) {
+    if is_right_ipv4(source, destination, protocol, covered) {
         Verdict::Right
     } else {
         Verdict::Wrong
     }
 }
 
-/// The verdict on the checksum of the payload of an IPv6 packet that is no fragment, with the number
-/// of the payload. The payload has to end where the payload length says. The destination is that of
-/// the header, which a routing header can have changed (RFC 8200 section 8.1).
+/// The verdict on the checksum of an IPv6 packet's payload that is no fragment, from both addresses
+/// and the number of the payload, which has to end where the payload length says. The destination
+/// is the final one: at the receiver that of the header (RFC 8200 section 8.1).
 ///
 /// # Example
 ///
 /// ```
-/// let mut header = Ipv6Header::default();
-/// header.source = [0x20, 0x01, 0x0d, 0xb8, 0, 0, 0, 0, 0, 0, 0, 0, 0, 0, 0, 1];
-/// header.destination = [0x20, 0x01, 0x0d, 0xb8, 0, 0, 0, 0, 0, 0, 0, 0, 0, 0, 0, 2];
+/// let source = [0x20, 0x01, 0x0d, 0xb8, 0, 0, 0, 0, 0, 0, 0, 0, 0, 0, 0, 1];
+/// let mut destination = source;
+/// destination[15] = 2;
 /// let mut payload = [4, 0, 0, 53, 0, 12, 0xb8, 0x52, b't', b'e', b's', b't'];
-/// assert!(rt; ipv6_verdict(&header, IpNumber::UDP, &payload) == Verdict::Right);
+/// let verdict = ipv6_verdict(source, destination, IpNumber::UDP, &payload);
+/// assert!(rt; verdict == Verdict::Right);
 /// // Over IPv6 there has to be a checksum.
 /// [payload[6], payload[7]] = [0, 0];
-/// assert!(rt; ipv6_verdict(&header, IpNumber::UDP, &payload) == Verdict::Wrong);
+/// let verdict = ipv6_verdict(source, destination, IpNumber::UDP, &payload);
+/// assert!(rt; verdict == Verdict::Wrong);
 /// ```
-pub fn ipv6_verdict(header: &Ipv6Header, number: IpNumber, payload: &[u8]) -> Verdict
-    ensures judges { IsVerdictIpv6 header.now number payload.now result }
+pub fn ipv6_verdict(
+    source: [u8; 16],
+    destination: [u8; 16],
+    number: IpNumber,
+    payload: &[u8],
+) -> Verdict
+    ensures judges { IsVerdictIpv6 source destination number payload.now result }
 {
     match covered(IpNumber::IPV6_ICMP, number, payload) {
         Ok(covered) => {
-            if is_right_ipv6(header, number, covered) {
+            if is_right_ipv6(source, destination, number, covered) {
                 Verdict::Right
             } else {
                 Verdict::Wrong
@@ -225,24 +236,24 @@ fn is_without_checksum(number: IpNumber, covered: &[u8]) -> bool
 }
 
 // Whether the bytes sum to all ones, with the pseudo-header of IPv4 but for ICMP.
-fn is_right_ipv4(header: &Ipv4Header, covered: &[u8]) -> bool
-    ensures value { IsTrue result ↔ IsRightIpv4 header.now covered.now }
+fn is_right_ipv4(source: [u8; 4], destination: [u8; 4], protocol: IpNumber, covered: &[u8]) -> bool
+    ensures value { IsTrue result ↔ IsRightIpv4 source destination protocol covered.now }
 {
-    if header.protocol == IpNumber::ICMP {
+    if protocol == IpNumber::ICMP {
         return Sum16BitWords::new().add_slice(covered).ones_complement() == 0;
     }
     let len = match u16::try_from(covered.len()) {
         Ok(len) => len,
         Err(_) => return false,
     };
-    let sum = ipv4_pseudo_header(header.source, header.destination, header.protocol, len);
+    let sum = ipv4_pseudo_header(source, destination, protocol, len);
     sum.add_slice(covered).ones_complement() == 0
 }
 
 // Whether the bytes sum to all ones with the pseudo-header of IPv6, and have a checksum.
-fn is_right_ipv6(header: &Ipv6Header, number: IpNumber, covered: &[u8]) -> bool
+fn is_right_ipv6(source: [u8; 16], destination: [u8; 16], number: IpNumber, covered: &[u8]) -> bool
     requires enough { number ≡ 17 → 8 ≤ length covered.now }
-    ensures value { IsTrue result ↔ IsRightIpv6 header.now number covered.now }
+    ensures value { IsTrue result ↔ IsRightIpv6 source destination number covered.now }
 {
     let len = match u32::try_from(covered.len()) {
         Ok(len) => len,
@@ -251,6 +262,6 @@ fn is_right_ipv6(header: &Ipv6Header, number: IpNumber, covered: &[u8]) -> bool
     if is_without_checksum(number, covered) {
         return false;
     }
-    let sum = ipv6_pseudo_header(header.source, header.destination, number, len);
+    let sum = ipv6_pseudo_header(source, destination, number, len);
     sum.add_slice(covered).ones_complement() == 0
 }

@@ -3,53 +3,58 @@
 ghost use Rattle.std.specs.Prelude.{ℕ, ◌≡◌, ◌+◌, ◌<◌, ◌≤◌, ◌^◌, List, ◌++◌, IfErr, IfOk, IfSome};
 ghost use Rattle.std.specs.Prelude.{MatchOption, Some, length, option_map};
 ghost use Rattle.etherparse.specs.FirstByte.{version_of};
-ghost use Rattle.etherparse.specs.LenError.{len_error_moved};
+ghost use Rattle.etherparse.specs.Ipv4Header.{IsIpv4Layout, OfIpv4Header};
 ghost use Rattle.etherparse.specs.Ipv6Header.{IsIpv6Layout};
+ghost use Rattle.etherparse.specs.LenError.{len_error_moved};
 ghost use Rattle.etherparse.specs.Reading.{BeginsWith, too_short_error};
+ghost use Rattle.etherparse.specs.declared.net.ipv4_header.Ipv4Header.{Ipv4Header as Header4};
+ghost use Rattle.etherparse.specs.declared.net.ipv6_header.Ipv6Header.{Ipv6Header as Header6};
 ghost use Rattle.packet_parts.specs.IpSlice.{HasIpParts, HasLaxIpParts, HasNoIpParts, IsWhole};
-ghost use Rattle.packet_parts.specs.IpSlice.{ReadsIp, ReadsLaxIp};
-ghost use Rattle.packet_parts.specs.IpSlice.{RefusesIp, ip_slice_error_text, ipv4_fragment_of};
-ghost use Rattle.packet_parts.specs.IpSlice.{ipv6_bytes, placed};
+ghost use Rattle.packet_parts.specs.IpSlice.{ReadsIp, ReadsLaxIp, RefusesIp, ip_slice_error_text};
+ghost use Rattle.packet_parts.specs.IpSlice.{ipv4_bytes, ipv4_fragment_of, ipv6_bytes, placed};
+ghost use Rattle.packet_parts.specs.declared.ip_slice.IpHeaderSlice.TheVariants as Header;
 ghost use Rattle.packet_parts.specs.declared.ip_slice.IpSliceError.TheVariants as Stop;
 
 use crate::checksum::{Absence, Verdict, ipv4_verdict, ipv6_verdict};
 use crate::extensions::after_extensions;
 use crate::fragment::{Fragment, FragmentHeader};
 use etherparse::err::{Layer, LenError, ipv4, ipv6};
-use etherparse::{IpNumber, Ipv4Header, Ipv6Header, LenSource};
+use etherparse::{IpNumber, Ipv4HeaderSlice, Ipv6Header, Ipv6HeaderSlice, LenSource};
 use std::fmt;
 use std::net::{IpAddr, Ipv4Addr, Ipv6Addr};
 
+/// The header of an IP packet, without extension headers.
+#[derive(Clone, Copy, Debug, PartialEq, Eq)]
+pub enum IpHeaderSlice<'a> {
+    /// That of an IPv4 packet (RFC 791 section 3.1).
+    Ipv4(Ipv4HeaderSlice<'a>),
+    /// That of an IPv6 packet (RFC 8200 section 3).
+    Ipv6(Ipv6HeaderSlice<'a>),
+}
+
 /// The parts of an IP packet, trimmed at its length field: what comes after the packet is in none
 /// of them.
-#[derive(Clone, Debug, PartialEq, Eq, Drop)]
-pub enum IpSlice<'a> {
-    /// An IPv4 packet (RFC 791 section 3.1), trimmed at `total_len`.
-    Ipv4 {
-        /// The header. Its `protocol` is the number of the payload.
-        header: Ipv4Header,
-        /// What follows the header, an authentication header (51) included.
-        payload: &'a [u8],
-    },
-    /// An IPv6 packet (RFC 8200 section 3), trimmed at `payload_length`.
-    Ipv6 {
-        /// The header, without its extension headers.
-        header: Ipv6Header,
-        /// The bytes of the extension headers, which can be none. A fragment header is among them.
-        /// If its offset is not 0 it is the last: what follows it is the fragment itself, and no
-        /// header (RFC 8200 section 4.5).
-        extensions: &'a [u8],
-        /// The fragment header that decides whether the payload is a fragment: the first that is
-        /// not atomic.
-        fragment: Option<FragmentHeader>,
-        /// That the payload is of a fragment that is not the first.
-        is_later: bool,
-        /// The number of the payload: the first that is of no extension header that can be skipped,
-        /// or any that a fragment header with an offset other than 0 names.
-        upper: IpNumber,
-        /// What follows the extension headers.
-        payload: &'a [u8],
-    },
+#[derive(Clone, Copy, Debug, PartialEq, Eq)]
+pub struct IpSlice<'a> {
+    /// The header.
+    pub header: IpHeaderSlice<'a>,
+    /// The bytes of the extension headers of an IPv6 packet, which can be none, as in IPv4. A
+    /// fragment header is among them. If its offset is not 0 it is the last: what follows it is the
+    /// fragment itself, and no header (RFC 8200 section 4.5).
+    pub extensions: &'a [u8],
+    /// The place of the payload, if it is a fragment: more fragments follow it, or its offset is not
+    /// 0. In IPv6 the first fragment header that is not atomic tells it (RFC 8200 section 4.5).
+    pub fragment: Option<Fragment>,
+    /// Whether the payload is that of a fragment that is not the first: the middle of a payload,
+    /// which does not begin with the header of an upper layer.
+    pub is_later_fragment: bool,
+    /// The number of the payload. In IPv4 it is the header's `protocol`; in IPv6 the first that is
+    /// of no extension header that can be skipped, or any that a fragment header with an offset
+    /// other than 0 names.
+    pub upper: IpNumber,
+    /// What follows the header and the extension headers. In IPv4 an authentication header (51) is
+    /// in it.
+    pub payload: &'a [u8],
 }
 
 /// Why a packet is not sliced.
@@ -114,14 +119,41 @@ pub struct LaxIpSlice<'a> {
     pub stop: Option<IpSliceError>,
 }
 
+impl<'a> IpHeaderSlice<'a> {
+    ghost use Rattle.std.specs.Prelude.{◌≡◌};
+    ghost use Rattle.packet_parts.specs.IpSlice.{header_bytes, packet_len_of};
+
+    /// The bytes of the header.
+    pub fn slice(&self) -> &'a [u8]
+        ensures value { result.now ≡ header_bytes self.now }
+    {
+        match self {
+            IpHeaderSlice::Ipv4(view) => view.slice(),
+            IpHeaderSlice::Ipv6(view) => view.slice(),
+        }
+    }
+
+    /// How long the packet is by its length field, in bytes and with the header. In IPv4 a total
+    /// length of 0 says nothing: a host writes it that leaves it to its network card to cut a long
+    /// packet (segmentation offload).
+    pub fn packet_len(&self) -> usize
+        ensures value { result ≡ packet_len_of self.now }
+    {
+        match self {
+            IpHeaderSlice::Ipv4(view) => usize::from(view.total_len()),
+            IpHeaderSlice::Ipv6(view) => Ipv6Header::LEN + usize::from(view.payload_length()),
+        }
+    }
+}
+
 impl<'a> IpSlice<'a> {
-    ghost use Rattle.std.specs.Prelude.{◌≡◌, ◌↔◌, IfErr, IfOk, IsTrue, Result};
+    ghost use Rattle.std.specs.Prelude.{◌≡◌, IfErr, IfOk, Result};
     ghost use Rattle.packet_parts.specs.Checksum.{IsVerdict};
     ghost use Rattle.packet_parts.specs.declared.ip_slice.IpSlice.{IpSlice as Slice};
     ghost use Rattle.packet_parts.specs.declared.ip_slice.IpSliceError.{IpSliceError as Refused};
-    ghost use Rattle.packet_parts.specs.IpSlice.{IsAddressIn, IsIpPacket, IsLater, ReadsIp};
-    ghost use Rattle.packet_parts.specs.IpSlice.{RefusesIp, destination_of, fragment_of, ip_answer};
-    ghost use Rattle.packet_parts.specs.IpSlice.{payload_of, source_of, upper_of};
+    ghost use Rattle.packet_parts.specs.IpSlice.{IsAddressIn, IsIpPacket, ReadsIp, RefusesIp};
+    ghost use Rattle.packet_parts.specs.IpSlice.{destination_of, header_len_of, ip_answer};
+    ghost use Rattle.packet_parts.specs.IpSlice.{source_of};
 
     /// The parts of the packet at the front of a slice.
     ///
@@ -144,65 +176,8 @@ impl<'a> IpSlice<'a> {
     /// let slice = IpSlice::from_slice(&packet)?;
     /// assert!(rt; slice.source() == IpAddr::V4(Ipv4Addr::new(192, 168, 0, 1)));
     /// assert!(rt; slice.destination() == IpAddr::V4(Ipv4Addr::new(192, 168, 0, 199)));
-    /// assert!(rt; slice.upper() == IpNumber::UDP && slice.payload().len() == 12);
+    /// assert!(rt; slice.upper == IpNumber::UDP && slice.payload.len() == 12);
     /// assert!(rt; slice.verdict() == Verdict::Right);
-    /// ```
-    pub fn from_slice(packet: &'a [u8]) -> Result<IpSlice<'a>, IpSliceError>
-        ensures found { IfOk result (IsIpPacket packet.now) }
-        ensures refused { IfErr result (RefusesIp packet.now) }
-        ensures only { (other : Result Slice Refused) → ReadsIp packet.now other →
-            ip_answer other ≡ ip_answer result }
-    {
-        whole_slice(packet)
-    }
-
-    /// The number of the payload, of either version.
-    pub fn upper(&self) -> IpNumber
-        ensures value { result ≡ upper_of self.now }
-    {
-        match self {
-            IpSlice::Ipv4 { header, .. } => header.protocol,
-            IpSlice::Ipv6 { upper, .. } => *upper,
-        }
-    }
-
-    /// The payload, of either version.
-    pub fn payload(&self) -> &'a [u8]
-        ensures value { result.now ≡ payload_of self.now }
-    {
-        match self {
-            IpSlice::Ipv4 { payload, .. } => payload,
-            IpSlice::Ipv6 { payload, .. } => payload,
-        }
-    }
-
-    /// The address of the sender.
-    pub fn source(&self) -> IpAddr
-        ensures value { IsAddressIn self.now result (source_of self.now) }
-    {
-        match self {
-            IpSlice::Ipv4 { header, .. } => IpAddr::V4(Ipv4Addr::from_octets(header.source)),
-            IpSlice::Ipv6 { header, .. } => IpAddr::V6(Ipv6Addr::from_octets(header.source)),
-        }
-    }
-
-    /// The address of the receiver. In IPv6 it is that of the header, which a routing header can
-    /// have changed (RFC 8200 section 4.4).
-    pub fn destination(&self) -> IpAddr
-        ensures value { IsAddressIn self.now result (destination_of self.now) }
-    {
-        match self {
-            IpSlice::Ipv4 { header, .. } => IpAddr::V4(Ipv4Addr::from_octets(header.destination)),
-            IpSlice::Ipv6 { header, .. } => IpAddr::V6(Ipv6Addr::from_octets(header.destination)),
-        }
-    }
-
-    /// The place of the payload, if it is a fragment: more fragments follow it, or its offset is not
-    /// 0. In IPv6 the first fragment header that is not atomic tells it (RFC 8200 section 4.5).
-    ///
-    /// # Example
-    ///
-    /// ```
     /// // A fragment that is not the first, and not the last.
     /// let packet = [
     ///     0x45, 0, 0, 28, 0x12, 0x34, 0x20, 1, 64, 17, 0, 0, 192, 168, 0, 1, 192, 168, 0, 199, 1,
@@ -214,47 +189,59 @@ impl<'a> IpSlice<'a> {
     ///     offset: 8,
     ///     more_fragments: true,
     /// };
-    /// assert!(rt; slice.fragment() == Some(place) && slice.is_later_fragment());
+    /// assert!(rt; slice.fragment == Some(place) && slice.is_later_fragment);
     /// ```
-    pub fn fragment(&self) -> Option<Fragment>
-        ensures value { result ≡ fragment_of self.now }
+    pub fn from_slice(packet: &'a [u8]) -> Result<IpSlice<'a>, IpSliceError>
+        ensures found { IfOk result (IsIpPacket packet.now) }
+        ensures refused { IfErr result (RefusesIp packet.now) }
+        ensures only { (other : Result Slice Refused) → ReadsIp packet.now other →
+            ip_answer other ≡ ip_answer result }
     {
-        match self {
-            IpSlice::Ipv4 { header, .. } => ipv4_fragment(header),
-            IpSlice::Ipv6 { fragment, .. } => match fragment {
-                Some(header) => Some(placed(header)),
-                None => None,
-            },
+        whole_slice(packet)
+    }
+
+    /// The place of the payload in the packet: how long the header is with its extension headers, in
+    /// bytes.
+    pub fn header_len(&self) -> usize
+        ensures value { result ≡ header_len_of self.now }
+    {
+        self.header.slice().len() + self.extensions.len()
+    }
+
+    /// The address of the sender.
+    pub fn source(&self) -> IpAddr
+        ensures value { IsAddressIn self.now.header result (source_of self.now.header) }
+    {
+        match &self.header {
+            IpHeaderSlice::Ipv4(view) => IpAddr::V4(Ipv4Addr::from_octets(view.source())),
+            IpHeaderSlice::Ipv6(view) => IpAddr::V6(Ipv6Addr::from_octets(view.source())),
         }
     }
 
-    /// Whether the payload is that of a fragment that is not the first: the middle of a payload,
-    /// which does not begin with the header of an upper layer.
-    pub fn is_later_fragment(&self) -> bool
-        ensures value { IsTrue result ↔ IsLater self.now }
+    /// The address of the receiver. In IPv6 it is that of the header, which a routing header can
+    /// have changed (RFC 8200 section 4.4).
+    pub fn destination(&self) -> IpAddr
+        ensures value { IsAddressIn self.now.header result (destination_of self.now.header) }
     {
-        match self {
-            IpSlice::Ipv4 { header, .. } => header.fragment_offset.value() != 0,
-            IpSlice::Ipv6 { is_later, .. } => *is_later,
+        match &self.header {
+            IpHeaderSlice::Ipv4(view) => IpAddr::V4(Ipv4Addr::from_octets(view.destination())),
+            IpHeaderSlice::Ipv6(view) => IpAddr::V6(Ipv6Addr::from_octets(view.destination())),
         }
     }
 
-    /// The verdict on the checksum of the payload, by [`ipv4_verdict`] and [`ipv6_verdict`].
+    /// The verdict on the checksum of the payload: none of a fragment, or else that of
+    /// [`ipv4_verdict`] or [`ipv6_verdict`].
     pub fn verdict(&self) -> Verdict
         ensures judges { IsVerdict self.now result }
     {
-        match self {
-            IpSlice::Ipv4 { header, payload } => ipv4_verdict(header, payload),
-            IpSlice::Ipv6 {
-                header,
-                fragment,
-                upper,
-                payload,
-                ..
-            } => match fragment {
-                Some(_) => Verdict::Absent(Absence::Fragment),
-                None => ipv6_verdict(header, *upper, payload),
-            },
+        match (self.fragment, &self.header) {
+            (Some(_), _) => Verdict::Absent(Absence::Fragment),
+            (None, IpHeaderSlice::Ipv4(view)) => {
+                ipv4_verdict(view.source(), view.destination(), self.upper, self.payload)
+            }
+            (None, IpHeaderSlice::Ipv6(view)) => {
+                ipv6_verdict(view.source(), view.destination(), self.upper, self.payload)
+            }
         }
     }
 }
@@ -283,12 +270,12 @@ impl<'a> LaxIpSlice<'a> {
     ///     0, 12, 0x91, 0xae,
     /// ];
     /// let lax = LaxIpSlice::from_slice(&packet)?;
-    /// assert!(rt; lax.slice.payload().len() == 8 && lax.stop.is_some());
+    /// assert!(rt; lax.slice.payload.len() == 8 && lax.stop.is_some());
     /// assert!(rt; lax.verdict() == Verdict::Absent(Absence::Incomplete));
     /// // A total length of 0: the payload is all that there is.
     /// packet[3] = 0;
     /// let lax = LaxIpSlice::from_slice(&packet)?;
-    /// assert!(rt; lax.slice.payload().len() == 8 && lax.stop.is_some());
+    /// assert!(rt; lax.slice.payload.len() == 8 && lax.stop.is_some());
     /// ```
     pub fn from_slice(packet: &'a [u8]) -> Result<LaxIpSlice<'a>, IpSliceError>
         ensures found { IfOk result (HasLaxIpParts packet.now) }
@@ -345,111 +332,119 @@ fn ipv4_slice(packet: &[u8]) -> Result<LaxIpSlice, IpSliceError>
     ensures found { IfOk result (HasLaxIpParts packet.now) }
     ensures refused { IfErr result (HasNoIpParts packet.now) }
 {
-    let (header, rest) = match Ipv4Header::from_slice(packet) {
-        Ok(read) => read,
+    let header = match Ipv4HeaderSlice::from_slice(packet) {
+        Ok(header) => header,
         Err(e) => return Err(IpSliceError::Ipv4Header(e)),
     };
-    let total_len = usize::from(header.total_len);
-    match header.payload_len() {
+    let rest = &packet[header.slice().len()..];
+    let total_len = usize::from(header.total_len());
+    let (payload, stop) = match header.payload_len() {
         Ok(_) if packet.len() < total_len => {
             let e = too_short(total_len, packet.len(), Layer::Ipv4Packet);
-            Ok(LaxIpSlice {
-                slice: IpSlice::Ipv4 {
-                    header,
-                    payload: rest,
-                },
-                stop: Some(IpSliceError::Packet(e)),
-            })
+            (rest, Some(IpSliceError::Packet(e)))
         }
-        Ok(len) => {
-            let payload = &rest[..usize::from(len)];
-            Ok(LaxIpSlice {
-                slice: IpSlice::Ipv4 { header, payload },
-                stop: None,
-            })
-        }
+        Ok(len) => (&rest[..usize::from(len)], None),
         Err(e) => {
             if total_len != 0 {
                 return Err(IpSliceError::Packet(e));
             }
-            Ok(LaxIpSlice {
-                slice: IpSlice::Ipv4 {
-                    header,
-                    payload: rest,
-                },
-                stop: Some(IpSliceError::Packet(e)),
-            })
+            (rest, Some(IpSliceError::Packet(e)))
         }
+    };
+    Ok(LaxIpSlice {
+        slice: ipv4_parts(header, payload),
+        stop,
+    })
+}
+
+// The parts of a packet of version 4 with this header and this payload.
+fn ipv4_parts<'a>(header: Ipv4HeaderSlice<'a>, payload: &'a [u8]) -> IpSlice<'a>
+    ensures parts { (packet : List ℕ) → (read : Header4) →
+        (begins : BeginsWith IsIpv4Layout (ipv4_bytes read packet) read payload.now) →
+        begins.front ≡ header.entry.slice.now → HasIpParts packet result }
+    ensures header { result.header ≡ Header.Ipv4 header.entry }
+{
+    IpSlice {
+        header: IpHeaderSlice::Ipv4(header),
+        extensions: &[],
+        fragment: ipv4_fragment(&header),
+        is_later_fragment: header.fragments_offset().value() != 0,
+        upper: header.protocol(),
+        payload,
     }
 }
 
 // The parts of a packet of version 6.
-#[inline(always)] // The caller makes a larger value of it, in place.
 fn ipv6_slice(packet: &[u8]) -> Result<LaxIpSlice, IpSliceError>
     requires some { 0 < length packet.now }
     requires version { version_of packet.now ≡ 6 }
     ensures found { IfOk result (HasLaxIpParts packet.now) }
     ensures refused { IfErr result (HasNoIpParts packet.now) }
 {
-    let (header, rest) = match Ipv6Header::from_slice(packet) {
-        Ok(read) => read,
+    let header = match Ipv6HeaderSlice::from_slice(packet) {
+        Ok(header) => header,
         Err(e) => return Err(IpSliceError::Ipv6Header(e)),
     };
-    let len = usize::from(header.payload_length);
-    if rest.len() < len {
-        let e = too_short(Ipv6Header::LEN + len, packet.len(), Layer::Ipv6Packet);
-        let slice = ipv6_parts(header, rest).slice;
+    let len = Ipv6Header::LEN + usize::from(header.payload_length());
+    if packet.len() < len {
+        let e = too_short(len, packet.len(), Layer::Ipv6Packet);
+        let slice = ipv6_parts(header, &packet[Ipv6Header::LEN..]).slice;
         let stop = Some(IpSliceError::Packet(e));
         return Ok(LaxIpSlice { slice, stop });
     }
-    Ok(ipv6_parts(header, &rest[..len]))
+    Ok(ipv6_parts(header, &packet[Ipv6Header::LEN..len]))
 }
 
 // The parts of a packet of version 6 with this header and this body.
-#[inline(always)] // Likewise.
-fn ipv6_parts(header: Ipv6Header, body: &[u8]) -> LaxIpSlice
-    ensures parts { (packet : List ℕ) →
-        BeginsWith IsIpv6Layout (ipv6_bytes header packet) header body.now →
-        HasIpParts packet result.slice }
-    ensures stop { (packet : List ℕ) → 40 + header.payload_length ≤ length packet →
-        BeginsWith IsIpv6Layout (ipv6_bytes header packet) header body.now →
+fn ipv6_parts<'a>(header: Ipv6HeaderSlice<'a>, body: &'a [u8]) -> LaxIpSlice<'a>
+    ensures parts { (packet : List ℕ) → (read : Header6) →
+        (begins : BeginsWith IsIpv6Layout (ipv6_bytes read packet) read body.now) →
+        begins.front ≡ header.entry.slice.now → HasIpParts packet result.slice }
+    ensures stop { (packet : List ℕ) → (read : Header6) →
+        40 + read.payload_length ≤ length packet →
+        (begins : BeginsWith IsIpv6Layout (ipv6_bytes read packet) read body.now) →
+        begins.front ≡ header.entry.slice.now →
         MatchOption result.stop (IsWhole packet result.slice) (RefusesIp packet) }
+    ensures header { result.slice.header ≡ Header.Ipv6 header.entry }
 {
-    let after = after_extensions(body, header.next_header);
-    let stop = moved(after.incomplete);
-    let slice = IpSlice::Ipv6 {
-        header,
+    let after = after_extensions(body, header.next_header());
+    let slice = IpSlice {
+        header: IpHeaderSlice::Ipv6(header),
         extensions: before(body, after.rest),
-        fragment: after.fragment,
-        is_later: after.is_later,
+        fragment: placed(after.fragment),
+        is_later_fragment: after.is_later,
         upper: after.number,
         payload: after.rest,
     };
+    let stop = moved(after.incomplete);
     LaxIpSlice { slice, stop }
 }
 
 // The place of an IPv4 fragment.
-fn ipv4_fragment(header: &Ipv4Header) -> Option<Fragment>
-    ensures value { result ≡ ipv4_fragment_of header.now }
+fn ipv4_fragment(header: &Ipv4HeaderSlice) -> Option<Fragment>
+    ensures value { OfIpv4Header header.now.slice.now (λ read. result ≡ ipv4_fragment_of read) }
 {
     if !header.is_fragmenting_payload() {
         return None;
     }
     Some(Fragment {
-        identification: u32::from(header.identification),
-        offset: 8 * u32::from(header.fragment_offset.value()),
-        more_fragments: header.more_fragments,
+        identification: u32::from(header.identification()),
+        offset: 8 * u32::from(header.fragments_offset().value()),
+        more_fragments: header.more_fragments(),
     })
 }
 
-// The place of an IPv6 fragment, by its fragment header.
-fn placed(header: &FragmentHeader) -> Fragment
-    ensures value { result ≡ placed header.now }
+// The place of an IPv6 fragment, by the fragment header that decides.
+fn placed(decided: Option<FragmentHeader>) -> Option<Fragment>
+    ensures value { result ≡ option_map placed decided }
 {
-    Fragment {
-        identification: header.identification,
-        offset: 8 * u32::from(header.fragment_offset.value()),
-        more_fragments: header.more_fragments,
+    match decided {
+        Some(header) => Some(Fragment {
+            identification: header.identification,
+            offset: 8 * u32::from(header.fragment_offset.value()),
+            more_fragments: header.more_fragments,
+        }),
+        None => None,
     }
 }
 

@@ -1,4 +1,4 @@
-use Rattle.std.proofs.Common.{ℕ, ◌≡◌, [], ◌∷◌, ap, arith, length, subst, sym}
+use Rattle.std.proofs.Common.{ℕ, ◌≡◌, [], ◌∷◌, arith, length, subst, sym}
 use Rattle.std.proofs.lemmas.Bool.Decides.{not_from_Decides}
 use Rattle.etherparse.specs.WordSums.{ones_complement_sum}
 use Rattle.packet_parts.proofs.PseudoHeader.{judges}
@@ -7,12 +7,10 @@ use Rattle.packet_parts.proofs.checksum.is_right_ipv6.Goals as goal
 
 pub returns : goal.returns
 returns c =
-    let ip = c.args.header.now in
     let covered = c.args.covered.now in
     let told : c.in-Ok.len ≡ length covered = grind (arith, c.in-Ok.is, c.try_from.ensures) in
-    let judged = rw (ap (λ h. h.source) c.header.view_is, ap (λ h. h.destination) c.header.view_is)
-    at (judges _ covered _ _ _ c.ipv6_pseudo_header-sum.ensures.sum c.add_slice.ensures.adds c.ones_complement.ensures.complements) in
-    let sums = λ (n : ℕ). ones_complement_sum (ipv6_pseudo_header ip.source ip.destination c.args.number n ∷ covered ∷ []) ≡ 65535 in
+    let judged = judges _ covered _ _ _ c.ipv6_pseudo_header-sum.ensures.sum c.add_slice.ensures.adds c.ones_complement.ensures.complements in
+    let sums = λ (n : ℕ). ones_complement_sum (ipv6_pseudo_header c.args.source c.args.destination c.args.number n ∷ covered ∷ []) ≡ 65535 in
     record {
       value = (
         λ zero. record {

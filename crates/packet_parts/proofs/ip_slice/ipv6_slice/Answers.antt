@@ -1,25 +1,35 @@
-use Rattle.std.proofs.Common.{ℕ, ◌≤◌, ◌<◌, ◌+◌, ◌∙◌, ap, arith, inr, length, length-append}
+use Rattle.std.proofs.Common.{ℕ, ◌≡◌, ◌+◌, ◌<◌, ◌≤◌, ◌∙◌, ◌++◌, ap, arith, inr, drop, length, refl, sym, take}
+use Rattle.std.proofs.lemmas.List.{drop_at}
+use Rattle.etherparse.specs.Ipv6Header.{IsIpv6Layout}
+use Rattle.etherparse.specs.Reading.{BeginsWith}
 use Rattle.packet_parts.proofs.IpPackets.{ipv6_bytes-short}
+use Rattle.packet_parts.proofs.IpParts.{cut_front, rest_is}
+use Rattle.packet_parts.specs.IpSlice.{ipv6_bytes}
 use Rattle.packet_parts.proofs.ip_slice.ipv6_slice.Goals as goal
 
-pub returns-then-rest-len-clause-found : goal.returns-then-rest-len-clause-found
-returns-then-rest-len-clause-found c =
-    let header = c.in-Ok.read.0 in
-    let begins = c.in-Ok.ensures.reads.reads in
-    let told = c.from-len.ensures ∙ ap (λ h. h.payload_length) c.header.view_is in
-    let short : length c.args.packet.now < 40 + header.payload_length =
-    omega (arith, told, c.if-rest-len.true, ap length begins.whole, begins.layout.len, length-append {A = ℕ}) in
+pub returns-then-packet-len-clause-found : goal.returns-then-packet-len-clause-found
+returns-then-packet-len-clause-found c =
+    let packet = c.args.packet.now in
+    let view = c.in-Ok.header in
+    let f = c.in-Ok.ensures.views in
+    let told = c.from-len.ensures ∙ c.payload_length.ensures.value f.header f.layout in
+    let short : length packet < 40 + f.header.payload_length = omega (arith, told, c.if-packet-len.true) in
+    let rest = rest_is 40 packet view.slice.now f.rest f.whole f.layout.len in
+    let begins : BeginsWith IsIpv6Layout packet f.header f.rest = record { front = view.slice.now; whole = f.whole; layout = f.layout } in
     record {
-      parts = c.ipv6_parts-slice.ensures.parts c.args.packet.now (rw (ipv6_bytes-short header c.args.packet.now (omega (arith, short))) begins);
-      stop = inr (inr (record { header = header; rest = _; begins = begins; short = short; error = rw told at c.too_short-e.ensures.value }));
+      parts = c.ipv6_parts-slice.ensures.parts packet f.header
+          (record { front = view.slice.now; whole = ipv6_bytes-short f.header packet (omega (arith, short)) ∙ f.whole ∙ ap (λ x. view.slice.now ++ x) (sym rest); layout = f.layout }) refl;
+      stop = inr (inr (record { header = f.header; rest = f.rest; begins = begins; short = short; error = rw told at c.too_short-e.ensures.value }));
     }
 
 pub returns-clause-found : goal.returns-clause-found
 returns-clause-found c =
-    let header = c.in-Ok.read.0 in
-    let begins = c.in-Ok.ensures.reads.reads in
-    let told = c.from-len.ensures ∙ ap (λ h. h.payload_length) c.header.view_is in
-    let enough : 40 + header.payload_length ≤ length c.args.packet.now =
-    omega (arith, told, c.if-rest-len.false, ap length begins.whole, begins.layout.len, length-append {A = ℕ}) in
-    let cut = c.in-Ok.ensures.reads.cut _ (40 + header.payload_length) (omega (arith, told)) enough in
-    record { parts = c.ipv6_parts.ensures.parts c.args.packet.now cut; stop = c.ipv6_parts.ensures.stop c.args.packet.now enough cut }
+    let packet = c.args.packet.now in
+    let view = c.in-Ok.header in
+    let f = c.in-Ok.ensures.views in
+    let told = c.from-len.ensures ∙ c.payload_length.ensures.value f.header f.layout in
+    let enough : 40 + f.header.payload_length ≤ length packet = omega (arith, told, c.if-packet-len.false) in
+    let rest = ap (drop 40) f.whole ∙ drop_at view.slice.now f.rest 40 f.layout.len in
+    let cut = cut_front packet view.slice.now f.rest f.header.payload_length (40 + f.header.payload_length) f.whole (omega (arith, f.layout.len)) in
+    let body : BeginsWith IsIpv6Layout (ipv6_bytes f.header packet) f.header _ = record { front = view.slice.now; whole = cut ∙ ap (λ x. view.slice.now ++ x) (ap (take _) (sym rest) ∙ ap (λ n. take n (drop 40 packet)) (omega (arith, told))); layout = f.layout } in
+    record { parts = c.ipv6_parts.ensures.parts packet f.header body refl; stop = c.ipv6_parts.ensures.stop packet f.header enough body refl }
