@@ -11,10 +11,11 @@ use Rattle.packet_capture.specs.declared.capture.CutOff as cut
 use Rattle.packet_capture.specs.declared.capture.Resolution.{Resolution}
 use Rattle.packet_capture.specs.declared.capture.Resolution.TheVariants.{Microseconds, Nanoseconds}
 use Rattle.packet_parts.specs.Checksum.{verdict_text}
-use Rattle.packet_parts.specs.IpSlice.{fragment_of, ip_slice_error_text, upper_of}
+use Rattle.packet_parts.specs.IpSlice.{destination_of, ip_slice_error_text, source_of}
 use Rattle.packet_parts.specs.declared.fragment.Fragment.{Fragment}
+use Rattle.packet_parts.specs.declared.ip_slice.IpHeaderSlice.{IpHeaderSlice}
+use Rattle.packet_parts.specs.declared.ip_slice.IpHeaderSlice.TheVariants as header
 use Rattle.packet_parts.specs.declared.ip_slice.IpSlice.{IpSlice}
-use Rattle.packet_parts.specs.declared.ip_slice.IpSlice.TheVariants as slice
 use Rattle.ipcap.specs.Shown.{has_no_length, hops_of, len_of}
 use Rattle.ipcap.specs.declared.reading.NoPacket.{NoPacket}
 use Rattle.ipcap.specs.declared.reading.NoPacket.TheVariants.{NoLinkHeader, OtherFamily, OtherType}
@@ -93,30 +94,26 @@ header_verdict_text None = codes "none"
 header_verdict_text (Some true) = codes "right"
 header_verdict_text (Some false) = codes "wrong"
 
--- who sent the packet: dotted decimals, or the text of RFC 5952
-abbrev pub source_text : IpSlice → List ℕ
-source_text (slice.Ipv4 header payload) = ipv4_text header.source
-source_text (slice.Ipv6 header extensions fragment is_later upper payload) =
-    ipv6_text (segments_of header.source)
+-- the text of an address, by the version of the packet: dotted decimals, or that of RFC 5952
+abbrev pub address_text : IpHeaderSlice → List ℕ → List ℕ
+address_text (header.Ipv4 view) octets = ipv4_text octets
+address_text (header.Ipv6 view) octets = ipv6_text (segments_of octets)
 
--- who receives it
-abbrev pub destination_text : IpSlice → List ℕ
-destination_text (slice.Ipv4 header payload) = ipv4_text header.destination
-destination_text (slice.Ipv6 header extensions fragment is_later upper payload) =
-    ipv6_text (segments_of header.destination)
+-- sender, receiver and protocol of a packet, and what is shown of the header of its payload
+abbrev pub slice_text : IpSlice → Detail → List ℕ
+slice_text slice detail = address_text slice.header (source_of slice.header) ++ (codes " > "
+    ++ (address_text slice.header (destination_of slice.header) ++ (codes " "
+    ++ (upper_text slice.upper ++ (codes " " ++ detail_text detail)))))
 
--- sender, receiver and protocol of the packet
 unfoldable pub parties_text : Shown → List ℕ
-parties_text shown = source_text shown.lax.slice ++ (codes " > "
-    ++ (destination_text shown.lax.slice ++ (codes " " ++ (upper_text (upper_of shown.lax.slice)
-    ++ (codes " " ++ detail_text shown.detail)))))
+parties_text shown = slice_text shown.lax.slice shown.detail
 
 -- the length of the payload, the hops left, the place of a fragment, the verdicts on the checksums
 -- of the IPv4 header and of the payload, and that the total length is 0
 unfoldable pub payload_text : Shown → List ℕ
 payload_text shown = codes " length " ++ (decimal (len_of shown.lax.slice) ++ (codes " hops "
     ++ (decimal (hops_of shown.lax.slice)
-    ++ (codes " fragment " ++ (place_text (fragment_of shown.lax.slice)
+    ++ (codes " fragment " ++ (place_text shown.lax.slice.fragment
     ++ (codes " checksums " ++ (header_verdict_text shown.is_header_right ++ (codes " "
     ++ (verdict_text shown.verdict
     ++ (if has_no_length shown.lax.slice then codes " total length 0" else []))))))))))

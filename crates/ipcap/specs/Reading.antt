@@ -10,8 +10,8 @@ use Rattle.packet.specs.declared.link.LinkType.{LinkType}
 use Rattle.packet.specs.declared.link.LinkType.TheVariants.{Ip}
 use Rattle.packet.specs.declared.link_layers.LinkLayers.{LinkLayers}
 use Rattle.packet_capture.specs.declared.capture.FileHeader.{FileHeader}
-use Rattle.packet_parts.specs.declared.ip_slice.IpSlice.{IpSlice}
-use Rattle.packet_parts.specs.declared.ip_slice.IpSlice.TheVariants as slice
+use Rattle.packet_parts.specs.declared.ip_slice.IpHeaderSlice.{IpHeaderSlice}
+use Rattle.packet_parts.specs.declared.ip_slice.IpHeaderSlice.TheVariants as header
 use Rattle.ipcap.specs.Shown.{IsRefused, IsShown, is_wrong, is_wrong_header}
 use Rattle.ipcap.specs.declared.reading.NoPacket.{NoPacket}
 use Rattle.ipcap.specs.declared.reading.NoPacket.TheVariants.{NoLinkHeader, OtherFamily, OtherType}
@@ -70,18 +70,18 @@ ReadsFrame number is_cut frame reading =
     ⊎ LacksHeader (unwrap_or (link_type_of_number number) Ip) frame reading
 
 -- whether a packet is of version 4
-abbrev pub is_ipv4_slice : IpSlice → Bool
-is_ipv4_slice (slice.Ipv4 header payload) = true
-is_ipv4_slice (slice.Ipv6 header extensions fragment is_later upper payload) = false
+abbrev pub is_ipv4_header : IpHeaderSlice → Bool
+is_ipv4_header (header.Ipv4 view) = true
+is_ipv4_header (header.Ipv6 view) = false
 
 -- whether it is shown as a packet of version 4, and of version 6
 abbrev pub is_version_4 : Reading → Bool
-is_version_4 (Packet shown) = is_ipv4_slice shown.lax.slice
+is_version_4 (Packet shown) = is_ipv4_header shown.lax.slice.header
 is_version_4 (Refused e) = false
 is_version_4 (Other e) = false
 
 abbrev pub is_version_6 : Reading → Bool
-is_version_6 (Packet shown) = not (is_ipv4_slice shown.lax.slice)
+is_version_6 (Packet shown) = not (is_ipv4_header shown.lax.slice.header)
 is_version_6 (Refused e) = false
 is_version_6 (Other e) = false
 

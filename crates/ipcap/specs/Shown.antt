@@ -1,17 +1,17 @@
 -- What is shown of a packet.
-use Rattle.std.specs.Prelude.{ℕ, ◌≡◌, ◌-◌, ◌≤◌, ◌==◌, ◌&&◌, ◌↔◌, ◌⊎◌, Bool, false, true, not}
+use Rattle.std.specs.Prelude.{ℕ, ◌≡◌, ◌-◌, ◌≤◌, ◌==◌, ◌&&◌, ◌↔◌, ◌⊎◌, Bool, false, true, not, MatchBool}
 use Rattle.std.specs.Prelude.{IsTrue, List, MatchOption, Option, Some, None, if◌then◌else◌, length}
-use Rattle.std.specs.Prelude.{slice_index, slice_range, take}
+use Rattle.std.specs.Prelude.{slice_index, slice_range}
 use Rattle.std.specs.Int.{from_be_bytes, w16}
 use Rattle.std.specs.Option.{is_none}
-use Rattle.etherparse.specs.Ipv4Header.{ipv4_header_len}
 use Rattle.etherparse.specs.WordSums.{SumsToAllOnes}
 use Rattle.packet_parts.specs.Checksum.{IsLaxVerdict}
-use Rattle.packet_parts.specs.IpSlice.{HasLaxIpParts, HasNoIpParts, IsLater, fragment_of}
+use Rattle.packet_parts.specs.IpSlice.{HasLaxIpParts, HasNoIpParts, header_len_of, packet_len_of}
 use Rattle.packet_parts.specs.declared.checksum.Verdict.TheVariants.{Absent, Wrong, Right}
 use Rattle.packet_parts.specs.declared.checksum.Verdict.{Verdict}
+use Rattle.packet_parts.specs.declared.ip_slice.IpHeaderSlice.{IpHeaderSlice}
+use Rattle.packet_parts.specs.declared.ip_slice.IpHeaderSlice.TheVariants as header
 use Rattle.packet_parts.specs.declared.ip_slice.IpSlice.{IpSlice}
-use Rattle.packet_parts.specs.declared.ip_slice.IpSlice.TheVariants as slice
 use Rattle.packet_parts.specs.declared.ip_slice.IpSliceError.{IpSliceError}
 use Rattle.packet_parts.specs.declared.ip_slice.IpSliceError.TheVariants as error
 use Rattle.packet_parts.specs.declared.ip_slice.LaxIpSlice.{LaxIpSlice}
@@ -19,24 +19,25 @@ use Rattle.ipcap.specs.declared.shown.Detail.{Detail}
 use Rattle.ipcap.specs.declared.shown.Detail.TheVariants.{Ports, Message, Nothing}
 use Rattle.ipcap.specs.declared.shown.Shown.{Shown}
 
--- how many routers it may pass: the time to live or the hop limit
+-- how many routers it may pass: the time to live in byte 8 (RFC 791 section 3.1), or the hop limit
+-- in byte 7 (RFC 8200 section 3)
+abbrev pub hops_after : IpHeaderSlice → ℕ
+hops_after (header.Ipv4 view) = slice_index view.slice.now 8
+hops_after (header.Ipv6 view) = slice_index view.slice.now 7
+
 abbrev pub hops_of : IpSlice → ℕ
-hops_of (slice.Ipv4 header payload) = header.time_to_live
-hops_of (slice.Ipv6 header extensions fragment is_later upper payload) = header.hop_limit
+hops_of slice = hops_after slice.header
 
 -- the total length is 0, and says nothing
 abbrev pub has_no_length : IpSlice → Bool
-has_no_length (slice.Ipv4 header payload) = header.total_len == 0
-has_no_length (slice.Ipv6 header extensions fragment is_later upper payload) = false
+has_no_length slice = packet_len_of slice.header == 0
 
 -- how long the payload is by the length field, also where the capture cut it, or as it is there if
 -- the field says nothing; or what stands after whole extension headers, where the capture ends
 -- within another one
 abbrev pub len_of : IpSlice → ℕ
-len_of (slice.Ipv4 header payload) = if header.total_len == 0 then length payload.now
-    else header.total_len - ipv4_header_len header
-len_of (slice.Ipv6 header extensions fragment is_later upper payload) =
-    header.payload_length - length extensions.now
+len_of slice = if has_no_length slice then length slice.payload.now
+    else packet_len_of slice.header - header_len_of slice
 
 -- The payload begins with the ports of UDP (RFC 768) or TCP (RFC 9293): the shortest header is
 -- there, or the ports alone if the payload goes on elsewhere.
@@ -63,23 +64,21 @@ IsHeaderDetail is_whole icmp number payload (Message kind code) =
 IsHeaderDetail is_whole icmp number payload Nothing =
     ¬ HasPorts is_whole number payload × ¬ HasMessage is_whole icmp number payload
 
--- the same of a payload that is not of a later fragment, which begins with no header
-abbrev pub IsFirstDetail : Bool → IpSlice → Detail → Type 0
-IsFirstDetail is_whole (slice.Ipv4 header payload) detail =
-    IsHeaderDetail is_whole 1 header.protocol payload.now detail
-IsFirstDetail is_whole (slice.Ipv6 header extensions fragment is_later upper payload) detail =
-    IsHeaderDetail is_whole 58 upper payload.now detail
+-- the number of ICMP over IPv4, and of ICMPv6
+abbrev pub icmp_after : IpHeaderSlice → ℕ
+icmp_after (header.Ipv4 view) = 1
+icmp_after (header.Ipv6 view) = 58
 
+-- the same of the payload of a packet; that of a later fragment begins with no header
 abbrev pub IsDetail : Bool → IpSlice → Detail → Type 0
-IsDetail is_whole parts detail = (IsLater parts × (detail ≡ Nothing))
-    ⊎ (¬ IsLater parts × IsFirstDetail is_whole parts detail)
+IsDetail is_whole slice detail = MatchBool slice.is_later_fragment (detail ≡ Nothing)
+    (IsHeaderDetail is_whole (icmp_after slice.header) slice.upper slice.payload.now detail)
 
 -- whether the checksum of an IPv4 header is right; IPv6 has none
-abbrev pub IsHeaderVerdict : List ℕ → IpSlice → Option Bool → Type 0
-IsHeaderVerdict packet (slice.Ipv4 header payload) verdict = MatchOption verdict ⊥
-    (λ is_right. IsTrue is_right ↔ SumsToAllOnes (take (ipv4_header_len header) packet))
-IsHeaderVerdict packet (slice.Ipv6 header extensions fragment is_later upper payload) verdict =
-    verdict ≡ None
+abbrev pub IsHeaderVerdict : IpHeaderSlice → Option Bool → Type 0
+IsHeaderVerdict (header.Ipv4 view) verdict =
+    MatchOption verdict ⊥ (λ is_right. IsTrue is_right ↔ SumsToAllOnes view.slice.now)
+IsHeaderVerdict (header.Ipv6 view) verdict = verdict ≡ None
 
 -- a checksum is wrong
 abbrev pub is_wrong_header : Option Bool → Bool
@@ -93,12 +92,12 @@ is_wrong (Absent reason) = false
 
 -- the payload is there whole, and goes on in no other fragment
 abbrev pub has_whole_payload : LaxIpSlice → Bool
-has_whole_payload lax = is_none lax.stop && is_none (fragment_of lax.slice)
+has_whole_payload lax = is_none lax.stop && is_none lax.slice.fragment
 
 -- what is shown of a packet in these parts: the header that the payload begins with, and verdicts
-pub record Shows (packet : List ℕ) (shown : Shown) : Type 0 where
+pub record Shows (shown : Shown) : Type 0 where
   pub detail : IsDetail (has_whole_payload shown.lax) shown.lax.slice shown.detail
-  pub header_checksum : IsHeaderVerdict packet shown.lax.slice shown.is_header_right
+  pub header_checksum : IsHeaderVerdict shown.lax.slice.header shown.is_header_right
   pub verdict : IsLaxVerdict shown.lax shown.verdict
 
 -- It is shown although it is not whole: it is shorter than its length field says, in a record that
@@ -111,7 +110,7 @@ IsShownAt is_cut lax e = ⊥
 pub record IsShown (is_cut : Bool) (packet : List ℕ) (shown : Shown) : Type 0 where
   pub parts : HasLaxIpParts packet shown.lax
   pub why : MatchOption shown.lax.stop (Unit {0}) (IsShownAt is_cut shown.lax)
-  pub shows : Shows packet shown
+  pub shows : Shows shown
 
 -- the packet is not shown for this reason
 pub record IsNotWhole (is_cut : Bool) (packet : List ℕ) (e : IpSliceError) : Type 0 where

@@ -239,7 +239,7 @@ fn write_parties<W: fmt::Write>(f: &mut Formatter<W>, shown: &Shown) -> fmt::Res
 {
     let slice = &shown.lax.slice;
     let (source, destination) = (slice.source(), slice.destination());
-    let (upper, detail) = (Upper(slice.upper().0), shown.detail);
+    let (upper, detail) = (Upper(slice.upper.0), shown.detail);
     write!(f, "{source} > {destination} {upper} {detail}")
 }
 
@@ -251,7 +251,7 @@ fn write_payload<W: fmt::Write>(f: &mut Formatter<W>, shown: &Shown) -> fmt::Res
         (Some (payload_text shown.now)) f.new }
 {
     let slice = &shown.lax.slice;
-    let (len, hops, place) = (len_of(slice), hops_of(slice), Place(slice.fragment()));
+    let (len, hops, place) = (len_of(slice), hops_of(slice), Place(slice.fragment));
     let (header, payload) = (HeaderVerdict(shown.is_header_right), shown.verdict);
     let no_length = if has_no_length(slice) {
         " total length 0"

@@ -8,7 +8,7 @@ use crate::shown::{Shown, has_no_length, shown_of};
 use packet::link::{LinkSlice, LinkType};
 use packet::link_layers::LinkLayers;
 use packet_parts::checksum::Verdict;
-use packet_parts::ip_slice::{IpSlice, IpSliceError, LaxIpSlice};
+use packet_parts::ip_slice::{IpHeaderSlice, IpSliceError, LaxIpSlice};
 
 /// Why a frame carries no IP packet.
 #[derive(Clone, Copy)]
@@ -73,7 +73,7 @@ fn read_packet(is_cut: bool, packet: &[u8]) -> Reading
     match LaxIpSlice::from_slice(packet) {
         Ok(lax) => {
             if is_shown(is_cut, &lax) {
-                return Reading::Packet(shown_of(packet, lax));
+                return Reading::Packet(shown_of(lax));
             }
             match lax.stop {
                 Some(e) => Reading::Refused(e),
@@ -105,14 +105,14 @@ impl Reading<'_> {
     pub fn is_ipv4(&self) -> bool
         ensures value { result ≡ is_version_4 self.now }
     {
-        matches!(self, Reading::Packet(shown) if matches!(shown.lax.slice, IpSlice::Ipv4 { .. }))
+        matches!(self, Reading::Packet(shown) if matches!(shown.lax.slice.header, IpHeaderSlice::Ipv4(_)))
     }
 
     /// Whether an IPv6 packet is shown.
     pub fn is_ipv6(&self) -> bool
         ensures value { result ≡ is_version_6 self.now }
     {
-        matches!(self, Reading::Packet(shown) if matches!(shown.lax.slice, IpSlice::Ipv6 { .. }))
+        matches!(self, Reading::Packet(shown) if matches!(shown.lax.slice.header, IpHeaderSlice::Ipv6(_)))
     }
 
     /// Whether a packet is refused.

@@ -1,14 +1,13 @@
 //! What is shown of a packet.
 
 ghost use Rattle.std.specs.Prelude.{◌≡◌, ◌≢◌};
-ghost use Rattle.packet_parts.specs.IpSlice.{HasIpParts, HasLaxIpParts};
 ghost use Rattle.ipcap.specs.Shown.{IsDetail, IsHeaderDetail, IsHeaderVerdict, Shows};
 ghost use Rattle.ipcap.specs.Shown.{has_no_length, has_whole_payload, hops_of, len_of};
 
 use etherparse::IpNumber;
 use etherparse::checksum::u64_16bit_word;
 use packet_parts::checksum::Verdict;
-use packet_parts::ip_slice::{IpSlice, LaxIpSlice};
+use packet_parts::ip_slice::{IpHeaderSlice, IpSlice, LaxIpSlice};
 use packet_parts::tcp::TcpHeaderSlice;
 use packet_parts::udp::UdpHeader;
 
@@ -38,13 +37,12 @@ pub struct Shown<'a> {
 
 /// What is shown of a packet in these parts.
 #[inline(always)] // The caller makes a larger value of it, in place.
-pub fn shown_of<'a>(packet: &[u8], lax: LaxIpSlice<'a>) -> Shown<'a>
-    requires parts { HasLaxIpParts packet.now lax }
+pub fn shown_of(lax: LaxIpSlice) -> Shown
     ensures lax { result.lax ≡ lax.entry }
-    ensures shows { Shows packet.now result }
+    ensures shows { Shows result }
 {
     let detail = detail_of(has_whole_payload(&lax), &lax.slice);
-    let is_header_right = is_header_right(packet, &lax.slice);
+    let is_header_right = is_header_right(&lax.slice.header);
     let verdict = lax.verdict();
     Shown {
         lax,
@@ -58,16 +56,16 @@ pub fn shown_of<'a>(packet: &[u8], lax: LaxIpSlice<'a>) -> Shown<'a>
 fn has_whole_payload(lax: &LaxIpSlice) -> bool
     ensures value { result ≡ has_whole_payload lax.now }
 {
-    lax.stop.is_none() && lax.slice.fragment().is_none()
+    lax.stop.is_none() && lax.slice.fragment.is_none()
 }
 
 /// The time to live or the hop limit.
 pub fn hops_of(slice: &IpSlice) -> u8
     ensures value { result ≡ hops_of slice.now }
 {
-    match slice {
-        IpSlice::Ipv4 { header, .. } => header.time_to_live,
-        IpSlice::Ipv6 { header, .. } => header.hop_limit,
+    match &slice.header {
+        IpHeaderSlice::Ipv4(view) => view.ttl(),
+        IpHeaderSlice::Ipv6(view) => view.hop_limit(),
     }
 }
 
@@ -77,19 +75,11 @@ pub fn hops_of(slice: &IpSlice) -> u8
 pub fn len_of(slice: &IpSlice) -> usize
     ensures value { result ≡ len_of slice.now }
 {
-    match slice {
-        IpSlice::Ipv4 { header, payload } => {
-            if header.total_len == 0 {
-                payload.len()
-            } else {
-                usize::from(header.total_len).saturating_sub(header.header_len())
-            }
-        }
-        IpSlice::Ipv6 {
-            header,
-            extensions,
-            ..
-        } => usize::from(header.payload_length).saturating_sub(extensions.len()),
+    let packet_len = slice.header.packet_len();
+    if packet_len == 0 {
+        slice.payload.len()
+    } else {
+        packet_len.saturating_sub(slice.header_len())
     }
 }
 
@@ -97,10 +87,7 @@ pub fn len_of(slice: &IpSlice) -> usize
 pub fn has_no_length(slice: &IpSlice) -> bool
     ensures value { result ≡ has_no_length slice.now }
 {
-    match slice {
-        IpSlice::Ipv4 { header, .. } => header.total_len == 0,
-        IpSlice::Ipv6 { .. } => false,
-    }
+    slice.header.packet_len() == 0
 }
 
 // What is shown of the header that the payload begins with, which goes on elsewhere if it is not
@@ -108,17 +95,14 @@ pub fn has_no_length(slice: &IpSlice) -> bool
 fn detail_of(is_whole: bool, slice: &IpSlice) -> Detail
     ensures shows { IsDetail is_whole slice.now result }
 {
-    if slice.is_later_fragment() {
+    if slice.is_later_fragment {
         return Detail::Nothing;
     }
-    match slice {
-        IpSlice::Ipv4 { header, payload } => {
-            header_detail(is_whole, IpNumber::ICMP, header.protocol, payload)
-        }
-        IpSlice::Ipv6 { upper, payload, .. } => {
-            header_detail(is_whole, IpNumber::IPV6_ICMP, *upper, payload)
-        }
-    }
+    let icmp = match slice.header {
+        IpHeaderSlice::Ipv4(_) => IpNumber::ICMP,
+        IpHeaderSlice::Ipv6(_) => IpNumber::IPV6_ICMP,
+    };
+    header_detail(is_whole, icmp, slice.upper, slice.payload)
 }
 
 // What is shown of the header that a payload of this number begins with.
@@ -145,15 +129,11 @@ fn header_detail(is_whole: bool, icmp: IpNumber, number: IpNumber, payload: &[u8
 }
 
 // Whether the checksum of an IPv4 header is right.
-fn is_header_right(packet: &[u8], slice: &IpSlice) -> Option<bool>
-    requires parts { HasIpParts packet.now slice.now }
-    ensures value { IsHeaderVerdict packet.now slice.now result }
+fn is_header_right(header: &IpHeaderSlice) -> Option<bool>
+    ensures value { IsHeaderVerdict header.now result }
 {
-    match slice {
-        IpSlice::Ipv4 { header, .. } => {
-            let front = &packet[..header.header_len()];
-            Some(u64_16bit_word::checksum(0, front) == 0)
-        }
-        IpSlice::Ipv6 { .. } => None,
+    match header {
+        IpHeaderSlice::Ipv4(view) => Some(u64_16bit_word::checksum(0, view.slice()) == 0),
+        IpHeaderSlice::Ipv6(_) => None,
     }
 }
