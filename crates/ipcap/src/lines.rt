@@ -67,7 +67,7 @@ fn keyword(number: u8) -> Option<&'static str>
 }
 
 /// The line of a record that is read.
-#[derive(Clone, Copy)]
+#[derive(Drop)]
 pub struct RecordLine<'a> {
     /// The unit of the file's fractions of a second.
     pub resolution: Resolution,
@@ -76,18 +76,18 @@ pub struct RecordLine<'a> {
     /// The record.
     pub captured: &'a Record<'a>,
     /// What its frame is found to carry.
-    pub reading: &'a Reading<'a>,
+    pub reading: Reading<'a>,
 }
 
 impl fmt::Display for RecordLine<'_> {
     ghost output = { λ line. Some (record_line line.resolution line.number
-        (recorded line.captured.now) line.reading.now) };
+        (recorded line.captured.now) line.reading) };
 
     fn fmt<W: fmt::Write>(&self, f: &mut Formatter<W>) -> fmt::Result {
         let captured = self.captured;
         let (seconds, nanoseconds) = (captured.seconds, captured.nanoseconds);
         write_head(f, self.resolution, self.number, seconds, nanoseconds)?;
-        write_reading(f, self.reading)?;
+        write_reading(f, &self.reading)?;
         write_cut(f, captured.bytes.len(), captured.original_len)?;
         f.write_str("\n")
     }

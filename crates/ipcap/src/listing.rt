@@ -144,7 +144,7 @@ impl Listing {
             resolution: self.header.format.resolution,
             number: after.records,
             captured,
-            reading: &reading,
+            reading,
         })?;
         Ok(after)
     }
