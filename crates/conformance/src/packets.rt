@@ -7,7 +7,7 @@ use etherparse::{IpNumber, Ipv4Header, Ipv6Header};
 use packet_parts::checksum::{Absence, Verdict};
 use packet_parts::fragment::FragmentHeader;
 use packet_parts::fragment_key::{Ipv4Key, Ipv6Key, ipv4_key, ipv6_key};
-use packet_parts::ip_slice::{IpSlice, IpSliceError};
+use packet_parts::ip_slice::{IpHeaderSlice, IpSlice, IpSliceError};
 use packet_parts::tcp::{TcpError, TcpHeaderSlice};
 use packet_parts::udp::UdpHeader;
 use packet_rewriting::echo::{icmpv4_reply, icmpv6_reply};
@@ -30,7 +30,7 @@ pub fn answer(arguments: &mut Arguments, answer: &mut String) -> Written {
     let sliced = IpSlice::from_slice(&bytes);
     write_shown(&sliced, answer)?;
     if let Ok(slice) = &sliced
-        && slice.fragment().is_none()
+        && slice.fragment.is_none()
     {
         write_upper(slice, arguments.alloc, answer)?;
     }
@@ -88,36 +88,34 @@ fn show_part<E: Shown, W: fmt::Write>(
 
 impl Shown for IpSlice<'_> {
     fn show<W: fmt::Write>(&self, f: &mut fmt::Formatter<W>) -> fmt::Result {
-        let headers = match self {
-            IpSlice::Ipv4 { header, .. } => header.show(f),
-            IpSlice::Ipv6 {
-                header,
-                extensions,
-                ..
-            } => write!(f, "{} extensions={}", Show(header), Bytes(extensions)),
+        let headers = match &self.header {
+            IpHeaderSlice::Ipv4(view) => view.to_header().show(f),
+            IpHeaderSlice::Ipv6(view) => {
+                let (header, extensions) = (view.to_header(), Bytes(self.extensions));
+                write!(f, "{} extensions={extensions}", Show(&header))
+            }
         };
         headers?;
-        let (upper, payload) = (self.upper().0, Bytes(self.payload()));
-        let is_fragment = self.fragment().is_some();
+        let (upper, payload) = (self.upper.0, Bytes(self.payload));
+        let is_fragment = self.fragment.is_some();
         write!(f, " upper={upper} payload={payload} fragment={is_fragment}")
     }
 }
 
 // What the payload of a packet that is no fragment holds.
 fn write_upper(slice: &IpSlice, alloc: Global, answer: &mut String) -> Written {
-    match (slice, slice.upper()) {
+    match (&slice.header, slice.upper) {
         (_, IpNumber::UDP) => write_udp(slice, answer),
         (_, IpNumber::TCP) => write_tcp(slice, answer),
-        (IpSlice::Ipv4 { .. }, IpNumber::ICMP) | (IpSlice::Ipv6 { .. }, IpNumber::IPV6_ICMP) => {
-            write_echo(slice, alloc, answer)
-        }
+        (IpHeaderSlice::Ipv4(_), IpNumber::ICMP) | (IpHeaderSlice::Ipv6(_), IpNumber::IPV6_ICMP) =>
+            write_echo(slice, alloc, answer),
         _ => Ok(()),
     }
 }
 
 // A UDP header, and the checksum of its datagram.
 fn write_udp(slice: &IpSlice, answer: &mut String) -> Written {
-    match UdpHeader::from_slice(slice.payload()) {
+    match UdpHeader::from_slice(slice.payload) {
         Ok((mut udp, rest)) => {
             let checksum = udp.checksum;
             write_part("udp", " ", &udp, answer)?;
@@ -153,9 +151,9 @@ fn write_udp_checksum(
         return Ok(());
     }
     let data = &rest[..len - 8];
-    match slice {
-        IpSlice::Ipv4 { header, .. } => udp.set_checksum_ipv4(header, data),
-        IpSlice::Ipv6 { header, .. } => udp.set_checksum_ipv6(header, data),
+    match &slice.header {
+        IpHeaderSlice::Ipv4(view) => udp.set_checksum_ipv4(&view.to_header(), data),
+        IpHeaderSlice::Ipv6(view) => udp.set_checksum_ipv6(&view.to_header(), data),
     }
     let is_right = is_right(slice);
     write!(answer, " right={is_right} made={}", Bytes(&udp.to_bytes()))
@@ -171,7 +169,7 @@ fn is_right(slice: &IpSlice) -> bool {
 
 // A TCP header, and the checksum of its segment.
 fn write_tcp(slice: &IpSlice, answer: &mut String) -> Written {
-    match TcpHeaderSlice::from_slice(slice.payload()) {
+    match TcpHeaderSlice::from_slice(slice.payload) {
         Ok(view) => {
             write!(answer, " ; tcp {} right={}", Show(&view), is_right(slice))?;
             write_translated(slice, view.checksum(), answer)
@@ -209,10 +207,10 @@ impl Shown for TcpHeaderSlice<'_> {
 
 // The header of an IPv4 packet and the checksum of UDP or TCP, with other addresses.
 fn write_translated(slice: &IpSlice, checksum: u16, answer: &mut String) -> Written {
-    let IpSlice::Ipv4 { header, .. } = slice else {
+    let IpHeaderSlice::Ipv4(view) = &slice.header else {
         return Ok(());
     };
-    let mut header = header.clone()?;
+    let mut header = view.to_header();
     let checksum = translated(&mut header, checksum);
     let checksums = [
         ("header_checksum", header.header_checksum),
@@ -242,11 +240,11 @@ fn translated(header: &mut Ipv4Header, checksum: u16) -> u16 {
 // The reply to an echo request, or the message as it was. The reply goes to the sender of the
 // request.
 fn write_echo(slice: &IpSlice, alloc: Global, answer: &mut String) -> Written {
-    let mut message = slice.payload().to_vec(alloc)?;
-    let is_reply = match slice {
-        IpSlice::Ipv4 { .. } => icmpv4_reply(message.as_mut_slice()),
-        IpSlice::Ipv6 { header, .. } => {
-            icmpv6_reply(header.destination, header.source, message.as_mut_slice())
+    let mut message = slice.payload.to_vec(alloc)?;
+    let is_reply = match &slice.header {
+        IpHeaderSlice::Ipv4(_) => icmpv4_reply(message.as_mut_slice()),
+        IpHeaderSlice::Ipv6(view) => {
+            icmpv6_reply(view.destination(), view.source(), message.as_mut_slice())
         }
     };
     write!(

@@ -2,12 +2,12 @@
 //! captures, echo replies. Their checksums are summed by hand, word by word.
 
 use etherparse::err::{Layer, LenError};
-use etherparse::{IpFragOffset, IpNumber, Ipv4Header, Ipv6Header, LenSource};
+use etherparse::{IpFragOffset, IpNumber, Ipv4HeaderSlice, Ipv6HeaderSlice, LenSource};
 use packet_capture::capture::{ByteOrder, FileHeader, Format, Record, Resolution, next_record};
 use packet_parts::checksum::{Verdict, ipv4_verdict, ipv6_verdict};
 use packet_parts::fragment::{Fragment, FragmentHeader};
 use packet_parts::fragment_key::{Ipv4Key, Ipv6Key, ipv4_key, ipv6_key};
-use packet_parts::ip_slice::{IpSlice, IpSliceError, LaxIpSlice};
+use packet_parts::ip_slice::{IpHeaderSlice, IpSlice, IpSliceError, LaxIpSlice};
 use packet_parts::tcp::TcpHeaderSlice;
 use packet_rewriting::echo::{icmpv4_reply, icmpv6_reply};
 use std::process::Abort;
@@ -66,24 +66,26 @@ fn a_tcp_header_is_seen(rt: HostRuntime) {
 #[test]
 fn a_tcp_checksum_is_judged_over_both_versions(rt: HostRuntime) {
     let (source, destination) = ([192, 168, 0, 1], [192, 168, 0, 199]);
-    let made = Ipv4Header::new(20, 64, IpNumber::TCP, source, destination);
-    let over_ipv4 = made.expect(&rt, "a short payload");
     let mut acknowledged = SEGMENT;
     acknowledged[13] = 0x12;
-    let mut over_ipv6 = Ipv6Header::default();
-    over_ipv6.source = FIRST;
-    over_ipv6.destination = SECOND;
     let mut segment = SEGMENT;
     [segment[16], segment[17]] = [0x30, 0x1d];
     let judged = [
-        ipv4_verdict(&over_ipv4, &SEGMENT),
-        ipv4_verdict(&over_ipv4, &acknowledged),
-        ipv6_verdict(&over_ipv6, IpNumber::TCP, &segment),
-        ipv6_verdict(&over_ipv6, IpNumber::TCP, &SEGMENT),
+        ipv4_verdict(source, destination, IpNumber::TCP, &SEGMENT),
+        ipv4_verdict(source, destination, IpNumber::TCP, &acknowledged),
+        ipv6_verdict(FIRST, SECOND, IpNumber::TCP, &segment),
+        ipv6_verdict(FIRST, SECOND, IpNumber::TCP, &SEGMENT),
     ];
     let (right, wrong) = (Verdict::Right, Verdict::Wrong);
     assert_eq!(rt; judged, [right, wrong, right, wrong]);
 }
+
+// What the fragment header of `IPV6_PACKET` says of its payload.
+const IPV6_FRAGMENT: Fragment = Fragment {
+    identification: 0x01020304,
+    offset: 8,
+    more_fragments: true,
+};
 
 // The fragment header of `IPV6_PACKET`.
 fn fragment_header() -> FragmentHeader {
@@ -129,17 +131,19 @@ fn a_fragment_has_its_header_and_the_key_of_its_packet(rt: HostRuntime) {
 
 #[test]
 fn packets_are_cut_at_their_length_field(rt: HostRuntime) -> Result<(), Fail> {
-    let (header, _) = Ipv4Header::from_slice(&IPV4_PACKET)?;
-    let ipv4 = IpSlice::Ipv4 {
-        header,
+    let ipv4 = IpSlice {
+        header: IpHeaderSlice::Ipv4(Ipv4HeaderSlice::from_slice(&IPV4_PACKET)?),
+        extensions: &[],
+        fragment: None,
+        is_later_fragment: false,
+        upper: IpNumber::UDP,
         payload: &[1, 2, 3, 4],
     };
-    let (header, _) = Ipv6Header::from_slice(&IPV6_PACKET)?;
-    let ipv6 = IpSlice::Ipv6 {
-        header,
+    let ipv6 = IpSlice {
+        header: IpHeaderSlice::Ipv6(Ipv6HeaderSlice::from_slice(&IPV6_PACKET)?),
         extensions: &[17, 0, 0, 9, 1, 2, 3, 4],
-        fragment: Some(fragment_header()),
-        is_later: true,
+        fragment: Some(IPV6_FRAGMENT),
+        is_later_fragment: true,
         upper: IpNumber::UDP,
         payload: &[5, 6, 7, 8],
     };
@@ -155,14 +159,9 @@ fn packets_are_cut_at_their_length_field(rt: HostRuntime) -> Result<(), Fail> {
 fn a_packet_that_ends_early_has_the_parts_that_are_there(rt: HostRuntime) -> Result<(), Fail> {
     let lax = LaxIpSlice::from_slice(&IPV6_PACKET[..50])?;
     let slice = &lax.slice;
-    let fragment = Fragment {
-        identification: 0x01020304,
-        offset: 8,
-        more_fragments: true,
-    };
     assert_eq!(rt;
-        (slice.payload(), slice.fragment(), slice.is_later_fragment()),
-        ([5, 6].as_slice(), Some(fragment), true)
+        (slice.payload, slice.fragment, slice.is_later_fragment),
+        ([5, 6].as_slice(), Some(IPV6_FRAGMENT), true)
     );
     let missing = LenError {
         required_len: 52,
@@ -180,11 +179,7 @@ type PayloadOf<'a> = Result<(bool, IpNumber, &'a [u8]), IpSliceError>;
 
 fn payload_of(packet: &[u8]) -> PayloadOf {
     let sliced = IpSlice::from_slice(packet)?;
-    Ok((
-        sliced.fragment().is_some(),
-        sliced.upper(),
-        sliced.payload(),
-    ))
+    Ok((sliced.fragment.is_some(), sliced.upper, sliced.payload))
 }
 
 fn assert_has_payload(rt: &impl Abort, packet: &[u8], expected: PayloadOf) {

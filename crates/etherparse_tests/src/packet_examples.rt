@@ -33,14 +33,16 @@ fn checksums_over_ipv4(rt: HostRuntime) -> Result<(), Fail> {
     assert!(rt; sum.add_slice(&datagram).ones_complement() == 0);
 
     let (source, destination) = ([192, 168, 0, 1], [192, 168, 0, 199]);
-    let header = Ipv4Header::new(12, 64, IpNumber::UDP, source, destination)?;
     let mut payload = [4, 0, 0, 53, 0, 12, 0x91, 0xae, b't', b'e', b's', b't'];
-    assert!(rt; ipv4_verdict(&header, &payload) == Verdict::Right);
+    let verdict = ipv4_verdict(source, destination, IpNumber::UDP, &payload);
+    assert!(rt; verdict == Verdict::Right);
     payload[11] = b'x';
-    assert!(rt; ipv4_verdict(&header, &payload) == Verdict::Wrong);
+    let verdict = ipv4_verdict(source, destination, IpNumber::UDP, &payload);
+    assert!(rt; verdict == Verdict::Wrong);
     // The sender has computed none.
     [payload[6], payload[7]] = [0, 0];
-    assert!(rt; ipv4_verdict(&header, &payload) == Verdict::Absent(Absence::NotComputed));
+    let verdict = ipv4_verdict(source, destination, IpNumber::UDP, &payload);
+    assert!(rt; verdict == Verdict::Absent(Absence::NotComputed));
 
     let (source, destination) = ([192, 168, 0, 1], [192, 168, 0, 199]);
     let ip = Ipv4Header::new(12, 64, IpNumber::UDP, source, destination)?;
@@ -65,14 +67,16 @@ fn checksums_over_ipv6(rt: HostRuntime) {
     let mut sum = ipv6_pseudo_header(source, destination, IpNumber::UDP, 12);
     assert!(rt; sum.add_slice(&datagram).ones_complement() == 0);
 
-    let mut header = Ipv6Header::default();
-    header.source = [0x20, 0x01, 0x0d, 0xb8, 0, 0, 0, 0, 0, 0, 0, 0, 0, 0, 0, 1];
-    header.destination = [0x20, 0x01, 0x0d, 0xb8, 0, 0, 0, 0, 0, 0, 0, 0, 0, 0, 0, 2];
+    let source = [0x20, 0x01, 0x0d, 0xb8, 0, 0, 0, 0, 0, 0, 0, 0, 0, 0, 0, 1];
+    let mut destination = source;
+    destination[15] = 2;
     let mut payload = [4, 0, 0, 53, 0, 12, 0xb8, 0x52, b't', b'e', b's', b't'];
-    assert!(rt; ipv6_verdict(&header, IpNumber::UDP, &payload) == Verdict::Right);
+    let verdict = ipv6_verdict(source, destination, IpNumber::UDP, &payload);
+    assert!(rt; verdict == Verdict::Right);
     // Over IPv6 there has to be a checksum.
     [payload[6], payload[7]] = [0, 0];
-    assert!(rt; ipv6_verdict(&header, IpNumber::UDP, &payload) == Verdict::Wrong);
+    let verdict = ipv6_verdict(source, destination, IpNumber::UDP, &payload);
+    assert!(rt; verdict == Verdict::Wrong);
 
     let mut ip = Ipv6Header::default();
     ip.source = [0x20, 0x01, 0x0d, 0xb8, 0, 0, 0, 0, 0, 0, 0, 0, 0, 0, 0, 1];
@@ -138,9 +142,9 @@ fn slices(rt: &impl Abort) -> Result<(), IpSliceError> {
     let slice = IpSlice::from_slice(&packet)?;
     assert!(rt; slice.source() == IpAddr::V4(Ipv4Addr::new(192, 168, 0, 1)));
     assert!(rt; slice.destination() == IpAddr::V4(Ipv4Addr::new(192, 168, 0, 199)));
-    assert!(rt; slice.upper() == IpNumber::UDP && slice.payload().len() == 12);
+    assert!(rt; slice.header_len() == 20 && slice.header.packet_len() == 32);
+    assert!(rt; slice.upper == IpNumber::UDP && slice.payload.len() == 12);
     assert!(rt; slice.verdict() == Verdict::Right);
-
     // A fragment that is not the first, and not the last.
     let packet = [
         0x45, 0, 0, 28, 0x12, 0x34, 0x20, 1, 64, 17, 0, 0, 192, 168, 0, 1, 192, 168, 0, 199, 1, 2,
@@ -152,7 +156,7 @@ fn slices(rt: &impl Abort) -> Result<(), IpSliceError> {
         offset: 8,
         more_fragments: true,
     };
-    assert!(rt; slice.fragment() == Some(place) && slice.is_later_fragment());
+    assert!(rt; slice.fragment == Some(place) && slice.is_later_fragment);
     Ok(())
 }
 
@@ -163,12 +167,12 @@ fn lax_slices(rt: &impl Abort) -> Result<(), IpSliceError> {
         12, 0x91, 0xae,
     ];
     let lax = LaxIpSlice::from_slice(&packet)?;
-    assert!(rt; lax.slice.payload().len() == 8 && lax.stop.is_some());
+    assert!(rt; lax.slice.payload.len() == 8 && lax.stop.is_some());
     assert!(rt; lax.verdict() == Verdict::Absent(Absence::Incomplete));
     // A total length of 0: the payload is all that there is.
     packet[3] = 0;
     let lax = LaxIpSlice::from_slice(&packet)?;
-    assert!(rt; lax.slice.payload().len() == 8 && lax.stop.is_some());
+    assert!(rt; lax.slice.payload.len() == 8 && lax.stop.is_some());
     Ok(())
 }
 

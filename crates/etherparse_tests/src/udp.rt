@@ -94,11 +94,13 @@ fn datagram(header: &UdpHeader, data: [u8; 4]) -> [u8; 12] {
 
 // What a receiver finds of a datagram with this header over IPv4, and over IPv6.
 fn judged_over_ipv4(ip: &Ipv4Header, udp: &UdpHeader, data: &[u8; 4]) -> Verdict {
-    ipv4_verdict(ip, &datagram(udp, *data))
+    let datagram = datagram(udp, *data);
+    ipv4_verdict(ip.source, ip.destination, IpNumber::UDP, &datagram)
 }
 
 fn judged_over_ipv6(ip: &Ipv6Header, udp: &UdpHeader, data: &[u8; 4]) -> Verdict {
-    ipv6_verdict(ip, IpNumber::UDP, &datagram(udp, *data))
+    let datagram = datagram(udp, *data);
+    ipv6_verdict(ip.source, ip.destination, IpNumber::UDP, &datagram)
 }
 
 const NOT_COMPUTED: Verdict = Verdict::Absent(Absence::NotComputed);

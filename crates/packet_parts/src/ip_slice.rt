@@ -176,6 +176,7 @@ impl<'a> IpSlice<'a> {
     /// let slice = IpSlice::from_slice(&packet)?;
     /// assert!(rt; slice.source() == IpAddr::V4(Ipv4Addr::new(192, 168, 0, 1)));
     /// assert!(rt; slice.destination() == IpAddr::V4(Ipv4Addr::new(192, 168, 0, 199)));
+    /// assert!(rt; slice.header_len() == 20 && slice.header.packet_len() == 32);
     /// assert!(rt; slice.upper == IpNumber::UDP && slice.payload.len() == 12);
     /// assert!(rt; slice.verdict() == Verdict::Right);
     /// // A fragment that is not the first, and not the last.

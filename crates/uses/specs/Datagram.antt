@@ -1,7 +1,7 @@
 -- What a host asks of the UDP datagram in a packet of either version.
 use Rattle.std.specs.Prelude.{ℕ, ◌≡◌, ◌≢◌, ◌⊎◌, Bool, false, true, List}
 use Rattle.packet_parts.specs.Checksum.{IsVerdict}
-use Rattle.packet_parts.specs.IpSlice.{IsIpPacket, upper_of}
+use Rattle.packet_parts.specs.IpSlice.{IsIpPacket}
 use Rattle.packet_parts.specs.declared.checksum.Absence.TheVariants as absence
 use Rattle.packet_parts.specs.declared.checksum.Verdict.TheVariants.{Right, Wrong, Absent}
 use Rattle.packet_parts.specs.declared.ip_slice.IpSlice.{IpSlice}
@@ -16,12 +16,12 @@ IsFoundRight parts false = IsVerdict parts Wrong
 pub record HasDatagram (packet : List ℕ) (is_right : Bool) : Type 0 where
   pub parts : IpSlice
   pub is_packet : IsIpPacket packet parts
-  pub is_udp : upper_of parts ≡ 17
+  pub is_udp : parts.upper ≡ 17
   pub found : IsFoundRight parts is_right
 
 -- the payload of the packet is of another protocol, a fragment, or no whole datagram
 pub record HasNoDatagram (packet : List ℕ) : Type 0 where
   pub parts : IpSlice
   pub is_packet : IsIpPacket packet parts
-  pub why : (upper_of parts ≢ 17) ⊎ IsVerdict parts (Absent absence.Fragment)
+  pub why : (parts.upper ≢ 17) ⊎ IsVerdict parts (Absent absence.Fragment)
       ⊎ IsVerdict parts (Absent absence.Incomplete)

@@ -61,7 +61,7 @@ pub fn is_udp_right(packet: &[u8]) -> Result<Option<bool>, IpSliceError>
         Ok(slice) => slice,
         Err(e) => return Err(e),
     };
-    if slice.upper() != IpNumber::UDP {
+    if slice.upper != IpNumber::UDP {
         return Ok(None);
     }
     match slice.verdict() {
