@@ -21,12 +21,12 @@ use Rattle.ipcap.specs.declared.shown.Shown.{Shown}
 
 -- how many routers it may pass: the time to live in byte 8 (RFC 791 section 3.1), or the hop limit
 -- in byte 7 (RFC 8200 section 3)
-abbrev pub hops_after : IpHeaderSlice → ℕ
-hops_after (header.Ipv4 view) = slice_index view.slice.now 8
-hops_after (header.Ipv6 view) = slice_index view.slice.now 7
+abbrev pub hops_in : IpHeaderSlice → ℕ
+hops_in (header.Ipv4 view) = slice_index view.slice.now 8
+hops_in (header.Ipv6 view) = slice_index view.slice.now 7
 
 abbrev pub hops_of : IpSlice → ℕ
-hops_of slice = hops_after slice.header
+hops_of slice = hops_in slice.header
 
 -- the total length is 0, and says nothing
 abbrev pub has_no_length : IpSlice → Bool
@@ -65,14 +65,14 @@ IsHeaderDetail is_whole icmp number payload Nothing =
     ¬ HasPorts is_whole number payload × ¬ HasMessage is_whole icmp number payload
 
 -- the number of ICMP over IPv4, and of ICMPv6
-abbrev pub icmp_after : IpHeaderSlice → ℕ
-icmp_after (header.Ipv4 view) = 1
-icmp_after (header.Ipv6 view) = 58
+abbrev pub icmp_over : IpHeaderSlice → ℕ
+icmp_over (header.Ipv4 view) = 1
+icmp_over (header.Ipv6 view) = 58
 
 -- the same of the payload of a packet; that of a later fragment begins with no header
 abbrev pub IsDetail : Bool → IpSlice → Detail → Type 0
 IsDetail is_whole slice detail = MatchBool slice.is_later_fragment (detail ≡ Nothing)
-    (IsHeaderDetail is_whole (icmp_after slice.header) slice.upper slice.payload.now detail)
+    (IsHeaderDetail is_whole (icmp_over slice.header) slice.upper slice.payload.now detail)
 
 -- whether the checksum of an IPv4 header is right; IPv6 has none
 abbrev pub IsHeaderVerdict : IpHeaderSlice → Option Bool → Type 0

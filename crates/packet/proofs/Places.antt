@@ -4,7 +4,7 @@ use Rattle.std.proofs.lemmas.Grind.{common_steps}
 use Rattle.etherparse.specs.declared.net.ipv4_header.Ipv4Header.{Ipv4Header}
 use Rattle.etherparse.specs.declared.err.ipv4.HeaderSliceError.TheVariants as ipv4
 use Rattle.etherparse.specs.declared.err.ipv6.HeaderSliceError.TheVariants as ipv6
-use Rattle.packet_parts.specs.IpSlice.{HasIpParts, HasPartsAfter, RefusesIp, header_bytes, header_len_of, ipv4_bytes, ipv6_bytes}
+use Rattle.packet_parts.specs.IpSlice.{HasIpParts, HasPartsWith, RefusesIp, header_bytes, header_len_of, ipv4_bytes, ipv6_bytes}
 use Rattle.packet_parts.specs.declared.ip_slice.IpHeaderSlice.{IpHeaderSlice}
 use Rattle.packet_parts.specs.declared.ip_slice.IpHeaderSlice.TheVariants as header
 use Rattle.packet_parts.specs.declared.ip_slice.IpSlice.{IpSlice}
@@ -16,7 +16,7 @@ ipv4_bytes-le : (header : Ipv4Header) (s : List ℕ) → length (ipv4_bytes head
 ipv4_bytes-le header s = grind (arith, common_steps)
 
 -- the payload is in the packet
-within : (packet : List ℕ) (slice : IpSlice) (h : IpHeaderSlice) → HasPartsAfter h packet slice → length (header_bytes h) + length slice.extensions.now ≤ length packet
+within : (packet : List ℕ) (slice : IpSlice) (h : IpHeaderSlice) → HasPartsWith h packet slice → length (header_bytes h) + length slice.extensions.now ≤ length packet
 within packet slice (header.Ipv4 view) p =
     omega (arith, ipv4_bytes-le p.header packet, ap length p.begins.whole, ap length p.view, ap length p.no_extensions, length-append {A = ℕ})
 within packet slice (header.Ipv6 view) p =

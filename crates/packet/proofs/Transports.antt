@@ -12,7 +12,7 @@ use Rattle.packet_parts.specs.declared.ip_slice.IpHeaderSlice.{IpHeaderSlice}
 use Rattle.packet_parts.specs.declared.ip_slice.IpHeaderSlice.TheVariants as header
 use Rattle.packet_parts.specs.declared.ip_slice.IpSlice.{IpSlice}
 use Rattle.packet_parts.specs.declared.tcp.TcpError.{TcpError}
-use Rattle.packet.specs.Transport.{Icmpv4Parts, Icmpv6Parts, IsIcmpLayout, ReadsHeader, ReadsPayload, ReadsTransport, TransportReading, icmp_reading, missing_in, protocol_after, protocol_of, tcp_reading, transport_parts, udp_reading}
+use Rattle.packet.specs.Transport.{Icmpv4Parts, Icmpv6Parts, IsIcmpLayout, ReadsHeader, ReadsPayload, ReadsTransport, TransportReading, icmp_reading, missing_in, protocol_over, protocol_of, tcp_reading, transport_parts, udp_reading}
 use Rattle.packet.specs.declared.error.SliceError.{SliceError}
 use Rattle.packet.specs.declared.transport.Protocol.{Protocol}
 use Rattle.packet.specs.declared.transport.Protocol.TheVariants.{Icmpv4, Icmpv6, Tcp, Udp}
@@ -44,7 +44,7 @@ record SameFront (a b : IpSlice) : Type 0 where
   fragment : a.fragment ≡ b.fragment
   len : header_len_of a ≡ header_len_of b
 
-same_protocol : (g h : IpHeaderSlice) (number : ℕ) → header_parts g ≡ header_parts h → protocol_after g number ≡ protocol_after h number
+same_protocol : (g h : IpHeaderSlice) (number : ℕ) → header_parts g ≡ header_parts h → protocol_over g number ≡ protocol_over h number
 same_protocol (header.Ipv4 v) (header.Ipv4 w) number e = refl
 same_protocol (header.Ipv6 v) (header.Ipv6 w) number e = refl
 same_protocol (header.Ipv4 v) (header.Ipv6 w) number e = cc

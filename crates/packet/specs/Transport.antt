@@ -34,14 +34,14 @@ protocol_with icmp_number icmp number =
     else if number == icmp_number then Some icmp
     else None
 
-abbrev pub protocol_after : IpHeaderSlice → ℕ → Option Protocol
-protocol_after (header.Ipv4 view) = protocol_with 1 protocol.Icmpv4
-protocol_after (header.Ipv6 view) = protocol_with 58 protocol.Icmpv6
+abbrev pub protocol_over : IpHeaderSlice → ℕ → Option Protocol
+protocol_over (header.Ipv4 view) = protocol_with 1 protocol.Icmpv4
+protocol_over (header.Ipv6 view) = protocol_with 58 protocol.Icmpv6
 
 -- the protocol of the payload of a packet, which begins with no header if it is of a later fragment
 abbrev pub protocol_of : IpSlice → Option Protocol
 protocol_of slice =
-    if slice.is_later_fragment then None else protocol_after slice.header slice.upper
+    if slice.is_later_fragment then None else protocol_over slice.header slice.upper
 
 -- the 4 bytes that all messages of ICMP and ICMPv6 begin with
 pub record IsIcmpLayout (header : IcmpHeader) (bytes : List ℕ) : Type 0 where

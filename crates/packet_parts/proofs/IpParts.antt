@@ -17,7 +17,7 @@ use Rattle.etherparse.specs.declared.net.ipv6_header.Ipv6Header.{Ipv6Header}
 use Rattle.etherparse.specs.declared.net.ipv6_header_slice.Ipv6HeaderSlice.{Ipv6HeaderSlice}
 use Rattle.packet_parts.proofs.ExtensionEnds.{one_end, same_beginning}
 use Rattle.packet_parts.specs.Extensions.{EndsAs}
-use Rattle.packet_parts.specs.IpSlice.{HasIpParts, HasIpv4Parts, HasIpv6Parts, HasPartsAfter, Ipv4Bytes, Ipv6Bytes, header_parts, ip_parts, ipv4_bytes, ipv4_fragment_of, ipv6_bytes, packet_len_of, placed}
+use Rattle.packet_parts.specs.IpSlice.{HasIpParts, HasIpv4Parts, HasIpv6Parts, HasPartsWith, Ipv4Bytes, Ipv6Bytes, header_parts, ip_parts, ipv4_bytes, ipv4_fragment_of, ipv6_bytes, packet_len_of, placed}
 use Rattle.packet_parts.specs.declared.ip_slice.IpHeaderSlice.{IpHeaderSlice}
 use Rattle.packet_parts.specs.declared.ip_slice.IpHeaderSlice.TheVariants as header
 use Rattle.packet_parts.specs.declared.ip_slice.IpSlice.{IpSlice}
@@ -100,7 +100,7 @@ parts_6 s v w a b is_a is_b p q =
     joined a b (is_a ∙ ap Ipv6Bytes (sym p.view ∙ fronts ∙ q.view) ∙ sym is_b) before (p.fragment ∙ ap (option_map placed) end.decided ∙ sym q.fragment) end.later end.number end.rest
 
 -- a packet has one list of parts
-after_headers : (s : List ℕ) (a b : IpSlice) (h k : IpHeaderSlice) → a.header ≡ h → b.header ≡ k → HasPartsAfter h s a → HasPartsAfter k s b → ip_parts a ≡ ip_parts b
+after_headers : (s : List ℕ) (a b : IpSlice) (h k : IpHeaderSlice) → a.header ≡ h → b.header ≡ k → HasPartsWith h s a → HasPartsWith k s b → ip_parts a ≡ ip_parts b
 after_headers s a b (header.Ipv4 v) (header.Ipv4 w) is_a is_b p q = parts_4 s v.slice.now w.slice.now a b (ap header_parts is_a) (ap header_parts is_b) p q
 after_headers s a b (header.Ipv6 v) (header.Ipv6 w) is_a is_b p q = parts_6 s v.slice.now w.slice.now a b (ap header_parts is_a) (ap header_parts is_b) p q
 after_headers s a b (header.Ipv4 v) (header.Ipv6 w) is_a is_b p q = absurd (omega (arith, is_version_4 s p.header _ (begins_4 s _ a p), is_version_6 s q.header _ (begins_6 s _ b q)))

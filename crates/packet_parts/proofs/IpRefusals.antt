@@ -20,7 +20,7 @@ use Rattle.etherparse.specs.ExtensionHeaders.{IsSkippable}
 use Rattle.packet_parts.proofs.ExtensionEnds.{one_end, same_beginning}
 use Rattle.packet_parts.proofs.IpParts.{begins_4, begins_6, ipv6_front, is_version_4, is_version_6, longer, packet_len_4, packet_len_6, same_cut_beginning, same_parts}
 use Rattle.packet_parts.specs.Extensions.{EndsAs}
-use Rattle.packet_parts.specs.IpSlice.{EndsInExtensions, HasIpParts, HasIpv4Parts, HasIpv6Parts, HasLaxIpParts, HasNoIpParts, HasPartsAfter, HasWholeHeaders, IsWhole, ReadsIp, ReadsLaxIp, RefusesIp, ip_answer, ip_parts, ipv4_bytes, ipv6_bytes, lax_ip_answer, packet_len_of}
+use Rattle.packet_parts.specs.IpSlice.{EndsInExtensions, HasIpParts, HasIpv4Parts, HasIpv6Parts, HasLaxIpParts, HasNoIpParts, HasPartsWith, HasWholeHeaders, IsWhole, ReadsIp, ReadsLaxIp, RefusesIp, ip_answer, ip_parts, ipv4_bytes, ipv6_bytes, lax_ip_answer, packet_len_of}
 use Rattle.packet_parts.specs.declared.ip_slice.IpHeaderSlice.{IpHeaderSlice}
 use Rattle.packet_parts.specs.declared.ip_slice.IpHeaderSlice.TheVariants as header
 use Rattle.packet_parts.specs.declared.ip_slice.IpSlice.{IpSlice}
@@ -212,7 +212,7 @@ whole_6 s view a e p enough headers r = elim (fails_6 s p.header _ e (begins_6 s
       elim headers [ inl later ↦ let no : IsTrue false = subst IsTrue end.later later in cc | inr other ↦ other (subst IsSkippable (sym end.number) q.ends.0.skippable) ]
 ]
 
-whole_after : (s : List ℕ) (a : IpSlice) (h : IpHeaderSlice) (e : IpSliceError) → HasPartsAfter h s a → packet_len_of h ≢ 0 → packet_len_of h ≤ length s → HasWholeHeaders h a → RefusesIp s e → ⊥
+whole_after : (s : List ℕ) (a : IpSlice) (h : IpHeaderSlice) (e : IpSliceError) → HasPartsWith h s a → packet_len_of h ≢ 0 → packet_len_of h ≤ length s → HasWholeHeaders h a → RefusesIp s e → ⊥
 whole_after s a (header.Ipv4 view) e p told enough headers r = whole_4 s view a e p told enough r
 whole_after s a (header.Ipv6 view) e p told enough headers r = whole_6 s view a e p enough headers r
 
@@ -220,7 +220,7 @@ pub whole_not_refused : (s : List ℕ) (a : IpSlice) (e : IpSliceError) → HasI
 whole_not_refused s a e p whole r = whole_after s a a.header e p whole.told whole.enough whole.headers r
 
 -- a packet with parts has none of the reasons for which it would have none
-parts_after : (s : List ℕ) (a : IpSlice) (h : IpHeaderSlice) (e : IpSliceError) → HasPartsAfter h s a → HasNoIpParts s e → ⊥
+parts_after : (s : List ℕ) (a : IpSlice) (h : IpHeaderSlice) (e : IpSliceError) → HasPartsWith h s a → HasNoIpParts s e → ⊥
 parts_after s a (header.Ipv4 view) e p r = no_parts_4 s p.header _ e (begins_4 s _ a p) (header_4_told s p.header a.payload.now p.begins) r
 parts_after s a (header.Ipv6 view) e p r =
     let begins = begins_6 s _ a p in

@@ -106,16 +106,16 @@ IsVerdictIpv6 source destination number payload Wrong = (covered : List ℕ)
 IsVerdictIpv6 source destination number payload (Absent reason) = IsAbsent 58 number payload reason
 
 -- the verdict on the payload of a packet with this header that is no fragment
-abbrev pub IsVerdictAfter : IpHeaderSlice → ℕ → List ℕ → Verdict → Type 0
-IsVerdictAfter (header.Ipv4 view) =
+abbrev pub IsVerdictOver : IpHeaderSlice → ℕ → List ℕ → Verdict → Type 0
+IsVerdictOver (header.Ipv4 view) =
     IsVerdictIpv4 (source_of (header.Ipv4 view)) (destination_of (header.Ipv4 view))
-IsVerdictAfter (header.Ipv6 view) =
+IsVerdictOver (header.Ipv6 view) =
     IsVerdictIpv6 (source_of (header.Ipv6 view)) (destination_of (header.Ipv6 view))
 
 -- the verdict on the payload of a packet in these parts, which may be a fragment
 abbrev pub IsVerdict : IpSlice → Verdict → Type 0
 IsVerdict slice verdict = MatchOption slice.fragment
-    (IsVerdictAfter slice.header slice.upper slice.payload.now verdict)
+    (IsVerdictOver slice.header slice.upper slice.payload.now verdict)
     (λ fragment. verdict ≡ Absent absence.Fragment)
 
 -- the same of one that may not be whole: then not all that its checksum covers is there

@@ -99,13 +99,13 @@ pub record HasIpv6Parts (packet bytes : List ℕ) (slice : IpSlice) : Type 0 whe
   pub fragment : slice.fragment ≡ option_map placed decided
 
 -- what there is of the packet is these parts, of which this is the header
-abbrev pub HasPartsAfter : IpHeaderSlice → List ℕ → IpSlice → Type 0
-HasPartsAfter (header.Ipv4 view) packet slice = HasIpv4Parts packet view.slice.now slice
-HasPartsAfter (header.Ipv6 view) packet slice = HasIpv6Parts packet view.slice.now slice
+abbrev pub HasPartsWith : IpHeaderSlice → List ℕ → IpSlice → Type 0
+HasPartsWith (header.Ipv4 view) packet slice = HasIpv4Parts packet view.slice.now slice
+HasPartsWith (header.Ipv6 view) packet slice = HasIpv6Parts packet view.slice.now slice
 
 -- what there is of the packet is these parts
 abbrev pub HasIpParts : List ℕ → IpSlice → Type 0
-HasIpParts packet slice = HasPartsAfter slice.header packet slice
+HasIpParts packet slice = HasPartsWith slice.header packet slice
 
 -- no extension header is incomplete: the payload is of a later fragment, or it begins with none
 abbrev pub HasWholeHeaders : IpHeaderSlice → IpSlice → Type 0
