@@ -1,13 +1,14 @@
 -- The line of a record, and the lines at the end.
 use Rattle.std.specs.Prelude.{ℕ, ◌-◌, ◌/◌, ◌==◌, Bool, List, [], ◌++◌, length, codes, decimal}
-use Rattle.std.specs.Prelude.{replicate, nat_lt, if◌then◌else◌, Option, Some, None, false, true}
+use Rattle.std.specs.Prelude.{replicate, if◌then◌else◌, Option, Some, None, false, true}
+use Rattle.std.specs.Prelude.{unwrap_or}
 use Rattle.std.specs.Fmt.{digits}
 use Rattle.std.specs.Net.Addr.{segments_of}
 use Rattle.std.specs.Net.Text.{ipv4_text, ipv6_text}
-use Rattle.packet_capture.specs.Capture.{Recorded}
 use Rattle.packet_capture.specs.declared.capture.CaptureError.{CaptureError}
 use Rattle.packet_capture.specs.declared.capture.CaptureError.TheVariants as capture
 use Rattle.packet_capture.specs.declared.capture.CutOff as cut
+use Rattle.packet_capture.specs.declared.capture.RecordHead.{RecordHead}
 use Rattle.packet_capture.specs.declared.capture.Resolution.{Resolution}
 use Rattle.packet_capture.specs.declared.capture.Resolution.TheVariants.{Microseconds, Nanoseconds}
 use Rattle.packet_parts.specs.Checksum.{verdict_text}
@@ -16,6 +17,7 @@ use Rattle.packet_parts.specs.declared.fragment.Fragment.{Fragment}
 use Rattle.packet_parts.specs.declared.ip_slice.IpHeaderSlice.{IpHeaderSlice}
 use Rattle.packet_parts.specs.declared.ip_slice.IpHeaderSlice.TheVariants as header
 use Rattle.packet_parts.specs.declared.ip_slice.IpSlice.{IpSlice}
+use Rattle.ipcap.specs.Reading.{is_cut}
 use Rattle.ipcap.specs.Shown.{has_no_length, hops_of, len_of}
 use Rattle.ipcap.specs.declared.reading.NoPacket.{NoPacket}
 use Rattle.ipcap.specs.declared.reading.NoPacket.TheVariants.{NoLinkHeader, OtherFamily, OtherType}
@@ -23,7 +25,7 @@ use Rattle.ipcap.specs.declared.shown.Detail.{Detail}
 use Rattle.ipcap.specs.declared.shown.Detail.TheVariants.{Message, Nothing, Ports}
 use Rattle.ipcap.specs.declared.shown.Shown.{Shown}
 use Rattle.ipcap.specs.declared.reading.Reading.{Reading}
-use Rattle.ipcap.specs.declared.reading.Reading.TheVariants.{Other, Packet, Refused}
+use Rattle.ipcap.specs.declared.reading.Reading.TheVariants.{Other, Packet, Refused, Skipped}
 use Rattle.ipcap.specs.declared.totals.Totals.{Totals}
 
 -- a number in decimal, with leading zeros up to this many digits
@@ -36,10 +38,10 @@ fraction_text Microseconds nanoseconds = zero_padded 6 (decimal (nanoseconds / 1
 fraction_text Nanoseconds nanoseconds = zero_padded 9 (decimal nanoseconds)
 
 -- the number of a record and its time
-unfoldable pub head_text : ℕ → ℕ → ℕ → Resolution → List ℕ
-head_text number seconds nanoseconds resolution =
-    decimal number ++ (codes " " ++ (decimal seconds ++ (codes "."
-    ++ (fraction_text resolution nanoseconds ++ codes " "))))
+unfoldable pub head_text : Resolution → ℕ → RecordHead → List ℕ
+head_text resolution number head =
+    decimal number ++ (codes " " ++ (decimal head.seconds ++ (codes "."
+    ++ (fraction_text resolution head.nanoseconds ++ codes " "))))
 
 -- the keyword of a protocol's number (IANA's registry of protocol numbers)
 unfoldable pub keyword_of : ℕ → Option (List ℕ)
@@ -69,12 +71,8 @@ keyword_of number =
     else None
 
 -- a protocol's keyword, or its number if it has none
-abbrev pub upper_text_by : Option (List ℕ) → ℕ → List ℕ
-upper_text_by None number = decimal number
-upper_text_by (Some keyword) number = keyword
-
 abbrev pub upper_text : ℕ → List ℕ
-upper_text number = upper_text_by (keyword_of number) number
+upper_text number = unwrap_or (keyword_of number) (decimal number)
 
 -- ports, or type and code, or a dash
 abbrev pub detail_text : Detail → List ℕ
@@ -132,39 +130,25 @@ no_packet_text (NoLinkHeader len) = decimal len ++ codes " bytes are no link hea
 no_packet_text (OtherType ether_type) = codes "type 0x" ++ hex_text ether_type
 no_packet_text (OtherFamily family) = codes "family " ++ decimal family
 
--- the text on a frame: what is shown of its packet, or why that is refused, or why there is
--- none
-unfoldable pub reading_text : Reading → List ℕ
-reading_text (Packet shown) = shown_text shown
-reading_text (Refused e) = codes "error: " ++ ip_slice_error_text e
-reading_text (Other e) = codes "other: " ++ no_packet_text e
-
--- fewer bytes were captured than the packet had
-abbrev pub is_cut : Recorded → Bool
-is_cut found = nat_lt (length found.bytes) found.original_len
-
 -- how many bytes were captured, and of how many, if the record was cut
-unfoldable pub cut_text : ℕ → ℕ → List ℕ
-cut_text captured_len original_len =
-    if nat_lt captured_len original_len
-    then codes " cut " ++ (decimal captured_len ++ (codes "/" ++ decimal original_len))
+abbrev pub cut_text : RecordHead → List ℕ
+cut_text head = if is_cut head
+    then codes " cut " ++ (decimal head.captured_len ++ (codes "/" ++ decimal head.original_len))
     else []
 
--- the line of a record that is read
-abbrev pub record_line : Resolution → ℕ → Recorded → Reading → List ℕ
-record_line resolution number found reading =
-    head_text number found.seconds found.nanoseconds resolution ++ (reading_text reading
-    ++ (cut_text (length found.bytes) found.original_len ++ codes "\n"))
+-- the text on a frame: what is shown of its packet, or why that is refused, or why there is none;
+-- or that the record is too long for the buffer
+unfoldable pub reading_text : RecordHead → Reading → List ℕ
+reading_text head (Packet shown) = shown_text shown ++ cut_text head
+reading_text head (Refused e) = codes "error: " ++ (ip_slice_error_text e ++ cut_text head)
+reading_text head (Other e) = codes "other: " ++ (no_packet_text e ++ cut_text head)
+reading_text head Skipped =
+    codes "skipped: " ++ (decimal head.captured_len ++ codes " bytes are too many")
 
--- the text on a record that is too long for the buffer
-unfoldable pub skipped_text : ℕ → List ℕ
-skipped_text captured_len =
-    codes "skipped: " ++ (decimal captured_len ++ codes " bytes are too many\n")
-
--- the line of a record that is skipped
-abbrev pub skipped_line : Resolution → ℕ → ℕ → ℕ → ℕ → List ℕ
-skipped_line resolution number seconds nanoseconds captured_len =
-    head_text number seconds nanoseconds resolution ++ skipped_text captured_len
+-- the line of a record
+abbrev pub record_line : Resolution → ℕ → RecordHead → Reading → List ℕ
+record_line resolution number head reading =
+    head_text resolution number head ++ (reading_text head reading ++ codes "\n")
 
 -- the line on a last record that is cut off
 unfoldable pub cut_off_line : cut.CutOff → List ℕ
@@ -191,9 +175,10 @@ damage_text totals =
     decimal totals.skipped ++ (codes " skipped, " ++ (decimal totals.cut ++ (codes " cut, "
     ++ (decimal totals.wrong ++ codes " with a wrong checksum\n"))))
 
--- the closing line
-abbrev pub closing_line : Totals → List ℕ
-closing_line totals = kinds_text totals ++ damage_text totals
+-- the closing line, if it is written
+abbrev pub closing_text : Option Totals → List ℕ
+closing_text None = []
+closing_text (Some totals) = kinds_text totals ++ damage_text totals
 
 -- why an input is no capture
 unfoldable pub capture_error_line : CaptureError → List ℕ

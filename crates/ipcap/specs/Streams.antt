@@ -39,3 +39,15 @@ pub record Prints {W : Type 0} (contents : W → Option (List ℕ)) (old new : O
   pub passed : List ℕ
   pub gets : Appends (contents old.sink) (contents new.sink) passed
   pub prints : pending old ++ text ≡ passed ++ pending new
+
+-- the sink got this text
+abbrev pub Gets : {W : Type 0} → (W → Option (List ℕ)) → Output W → Output W → List ℕ → Type 0
+Gets contents old new text = Appends (contents old.sink) (contents new.sink) text
+
+-- the sink got a front of this text
+pub record GetsFront {W : Type 0} (contents : W → Option (List ℕ)) (old new : Output W)
+    (text : List ℕ) : Type 0 where
+  pub front : List ℕ
+  pub rest : List ℕ
+  pub whole : text ≡ front ++ rest
+  pub gets : Gets contents old new front

@@ -1,7 +1,12 @@
 -- What is counted.
-use Rattle.std.specs.Prelude.{◌+◌, ◌^◌, ◌<◌}
+use Rattle.std.specs.Prelude.{◌+◌, ◌-◌, ◌^◌, ◌<◌}
 use Rattle.std.specs.Int.{from_bool}
-use Rattle.ipcap.specs.declared.totals.Outcome.{Outcome}
+use Rattle.packet_capture.specs.declared.capture.RecordHead.{RecordHead}
+use Rattle.packet_parts.specs.declared.ip_slice.IpHeaderSlice.{IpHeaderSlice}
+use Rattle.packet_parts.specs.declared.ip_slice.IpHeaderSlice.TheVariants as header
+use Rattle.ipcap.specs.Reading.{has_wrong_checksum, is_cut}
+use Rattle.ipcap.specs.declared.reading.Reading.{Reading}
+use Rattle.ipcap.specs.declared.reading.Reading.TheVariants.{Other, Packet, Refused, Skipped}
 use Rattle.ipcap.specs.declared.totals.Totals.{Totals}
 
 -- before any record
@@ -17,26 +22,28 @@ nothing_counted = record {
   wrong = 0;
 }
 
--- with one more record
-abbrev pub counted : Outcome → Totals → Totals
-counted outcome totals = record {
+-- with one more packet that is shown, of either version
+abbrev pub counted_packet : IpHeaderSlice → Totals → Totals
+counted_packet (header.Ipv4 view) totals = record totals { ipv4 = totals.ipv4 + 1 }
+counted_packet (header.Ipv6 view) totals = record totals { ipv6 = totals.ipv6 + 1 }
+
+-- with one more record of its kind
+abbrev pub counted_as : Reading → Totals → Totals
+counted_as (Packet shown) totals = counted_packet shown.lax.slice.header totals
+counted_as (Other e) totals = record totals { other = totals.other + 1 }
+counted_as (Refused e) totals = record totals { refused = totals.refused + 1 }
+counted_as Skipped totals = record totals { skipped = totals.skipped + 1 }
+
+-- with one more record, which has this head and this reading
+abbrev pub counted : RecordHead → Reading → Totals → Totals
+counted head reading totals = record (counted_as reading totals) {
   records = totals.records + 1;
-  ipv4 = totals.ipv4 + from_bool outcome.is_ipv4;
-  ipv6 = totals.ipv6 + from_bool outcome.is_ipv6;
-  other = totals.other + from_bool outcome.is_other;
-  refused = totals.refused + from_bool outcome.is_refused;
-  skipped = totals.skipped + from_bool outcome.is_skipped;
-  cut = totals.cut + from_bool outcome.is_cut;
-  wrong = totals.wrong + from_bool outcome.is_wrong;
+  cut = totals.cut + from_bool (is_cut head);
+  wrong = totals.wrong + from_bool (has_wrong_checksum reading);
 }
 
--- each count is less than 2^64
-abbrev pub Fits : Totals → Type 0
-Fits totals = (totals.records < 2 ^ 64) × (totals.ipv4 < 2 ^ 64) × (totals.ipv6 < 2 ^ 64)
-    × (totals.other < 2 ^ 64) × (totals.refused < 2 ^ 64) × (totals.skipped < 2 ^ 64)
-    × (totals.cut < 2 ^ 64) × (totals.wrong < 2 ^ 64)
-
--- there is a record of which one more does not fit
-pub record IsFull (totals : Totals) : Type 0 where
-  pub outcome : Outcome
-  pub full : ¬ Fits (counted outcome totals)
+-- each count is less than 2^64 - 1, so one more record can be counted
+abbrev pub HasRoom : Totals → Type 0
+HasRoom totals = (totals.records < 2 ^ 64 - 1) × (totals.ipv4 < 2 ^ 64 - 1)
+    × (totals.ipv6 < 2 ^ 64 - 1) × (totals.other < 2 ^ 64 - 1) × (totals.refused < 2 ^ 64 - 1)
+    × (totals.skipped < 2 ^ 64 - 1) × (totals.cut < 2 ^ 64 - 1) × (totals.wrong < 2 ^ 64 - 1)

@@ -1,19 +1,18 @@
 //! The line of a record, and the lines at the end.
 
-ghost use Rattle.std.specs.Prelude.{◌≡◌, Some, MatchOption, length};
+ghost use Rattle.std.specs.Prelude.{◌≡◌, ◌++◌, Some, MatchOption};
 ghost use Rattle.std.specs.Fmt.{DisplaysOnOk};
-ghost use Rattle.packet_capture.specs.Capture.{recorded};
 ghost use Rattle.ipcap.specs.Lines.{detail_text, parties_text, payload_text, place_text};
-ghost use Rattle.ipcap.specs.Lines.{damage_text, header_verdict_text, kinds_text};
-ghost use Rattle.ipcap.specs.Lines.{capture_error_line, closing_line, end_text};
-ghost use Rattle.ipcap.specs.Lines.{cut_text, fraction_text, head_text, hex_text, keyword_of};
-ghost use Rattle.ipcap.specs.Lines.{link_type_line, no_packet_text, reading_text, record_line};
-ghost use Rattle.ipcap.specs.Lines.{shown_text, skipped_line, skipped_text, upper_text};
+ghost use Rattle.ipcap.specs.Lines.{capture_error_line, closing_text, cut_text, damage_text};
+ghost use Rattle.ipcap.specs.Lines.{end_text, fraction_text, head_text, header_verdict_text};
+ghost use Rattle.ipcap.specs.Lines.{hex_text, keyword_of, kinds_text, link_type_line};
+ghost use Rattle.ipcap.specs.Lines.{no_packet_text, reading_text, record_line, shown_text};
+ghost use Rattle.ipcap.specs.Lines.{upper_text};
 
-use crate::reading::{NoPacket, Reading};
+use crate::reading::{NoPacket, Reading, is_cut};
 use crate::shown::{Detail, Shown, has_no_length, hops_of, len_of};
 use crate::totals::Totals;
-use packet_capture::capture::{CaptureError, CutOff, Record, Resolution};
+use packet_capture::capture::{CaptureError, CutOff, RecordHead, Resolution};
 use packet_parts::fragment::Fragment;
 use std::fmt;
 use std::fmt::Formatter;
@@ -66,66 +65,28 @@ fn keyword(number: u8) -> Option<&'static str>
     }
 }
 
-/// The line of a record that is read.
+/// The line of a record.
 #[derive(Drop)]
 pub struct RecordLine<'a> {
     /// The unit of the file's fractions of a second.
     pub resolution: Resolution,
     /// The number of the record, from 1.
     pub number: u64,
-    /// The record.
-    pub captured: &'a Record<'a>,
+    /// Its time, and how much of its packet was captured.
+    pub head: RecordHead,
     /// What its frame is found to carry.
     pub reading: Reading<'a>,
 }
 
 impl fmt::Display for RecordLine<'_> {
-    ghost output = { λ line. Some (record_line line.resolution line.number
-        (recorded line.captured.now) line.reading) };
+    ghost output = { λ line. Some (record_line line.resolution line.number line.head
+        line.reading) };
 
     fn fmt<W: fmt::Write>(&self, f: &mut Formatter<W>) -> fmt::Result {
-        let captured = self.captured;
-        let (seconds, nanoseconds) = (captured.seconds, captured.nanoseconds);
-        write_head(f, self.resolution, self.number, seconds, nanoseconds)?;
-        write_reading(f, &self.reading)?;
-        write_cut(f, captured.bytes.len(), captured.original_len)?;
+        write_head(f, self.resolution, self.number, self.head)?;
+        write_reading(f, self.head, &self.reading)?;
         f.write_str("\n")
     }
-}
-
-/// The line of a record that is skipped.
-#[derive(Clone, Copy)]
-pub struct SkippedLine {
-    /// The unit of the file's fractions of a second.
-    pub resolution: Resolution,
-    /// The number of the record, from 1.
-    pub number: u64,
-    /// Seconds since the start of 1970, UTC.
-    pub seconds: u32,
-    /// Nanoseconds of that second.
-    pub nanoseconds: u64,
-    /// The captured length in bytes.
-    pub captured_len: u32,
-}
-
-impl fmt::Display for SkippedLine {
-    ghost output = { λ line. Some (skipped_line line.resolution line.number line.seconds
-        line.nanoseconds line.captured_len) };
-
-    fn fmt<W: fmt::Write>(&self, f: &mut Formatter<W>) -> fmt::Result {
-        let (seconds, nanoseconds) = (self.seconds, self.nanoseconds);
-        write_head(f, self.resolution, self.number, seconds, nanoseconds)?;
-        write_skipped(f, self.captured_len)
-    }
-}
-
-// Writes why a record is skipped.
-#[tactic(auto, unfolding(crate::specs::Lines::skipped_text))]
-fn write_skipped<W: fmt::Write>(f: &mut Formatter<W>, captured_len: u32) -> fmt::Result
-    ensures text { DisplaysOnOk W.write_str_gives f.old result
-        (Some (skipped_text captured_len)) f.new }
-{
-    write!(f, "skipped: {captured_len} bytes are too many\n")
 }
 
 // Writes the number of a record and its time.
@@ -134,15 +95,15 @@ fn write_head<W: fmt::Write>(
     f: &mut Formatter<W>,
     resolution: Resolution,
     number: u64,
-    seconds: u32,
-    nanoseconds: u64,
+    head: RecordHead,
 ) -> fmt::Result
     ensures text { DisplaysOnOk W.write_str_gives f.old result
-        (Some (head_text number seconds nanoseconds resolution)) f.new }
+        (Some (head_text resolution number head)) f.new }
 {
+    let seconds = head.seconds;
     let fraction = Fraction {
         resolution,
-        nanoseconds,
+        nanoseconds: head.nanoseconds,
     };
     write!(f, "{number} {seconds}.{fraction} ")
 }
@@ -172,19 +133,28 @@ impl fmt::Display for Fraction {
     }
 }
 
-// Writes what a frame is found to carry.
+// Writes what the frame of a record is found to carry, and how much of it was captured, if not all.
 #[tactic(auto, unfolding(crate::specs::Lines::reading_text))]
-fn write_reading<W: fmt::Write>(f: &mut Formatter<W>, reading: &Reading) -> fmt::Result
+fn write_reading<W: fmt::Write>(
+    f: &mut Formatter<W>,
+    head: RecordHead,
+    reading: &Reading,
+) -> fmt::Result
     ensures text { DisplaysOnOk W.write_str_gives f.old result
-        (Some (reading_text reading.now)) f.new }
+        (Some (reading_text head reading.now)) f.new }
 {
+    let (captured_len, cut) = (head.captured_len, Cut(head));
     match reading {
-        Reading::Packet(shown) => write_shown(f, shown),
-        Reading::Refused(e) => write!(f, "error: {e}"),
+        Reading::Packet(shown) => {
+            write_shown(f, shown)?;
+            write!(f, "{cut}")
+        }
+        Reading::Refused(e) => write!(f, "error: {e}{cut}"),
         Reading::Other(reason) => {
             let reason = *reason;
-            write!(f, "other: {reason}")
+            write!(f, "other: {reason}{cut}")
         }
+        Reading::Skipped => write!(f, "skipped: {captured_len} bytes are too many"),
     }
 }
 
@@ -317,53 +287,64 @@ impl fmt::Display for HeaderVerdict {
     }
 }
 
-// Writes how much of a packet was captured, if not all of it.
-#[tactic(auto, unfolding(crate::specs::Lines::cut_text))]
-fn write_cut<W: fmt::Write>(
-    f: &mut Formatter<W>,
-    captured_len: usize,
-    original_len: u32,
-) -> fmt::Result
-    ensures text { DisplaysOnOk W.write_str_gives f.old result
-        (Some (cut_text captured_len original_len)) f.new }
+// How much of a packet was captured, if not all of it.
+#[derive(Clone, Copy)]
+struct Cut(RecordHead);
+
+impl fmt::Display for Cut {
+    ghost output = { λ cut. Some (cut_text cut.0) };
+
+    fn fmt<W: fmt::Write>(&self, f: &mut Formatter<W>) -> fmt::Result {
+        let (captured_len, original_len) = (self.0.captured_len, self.0.original_len);
+        if is_cut(&self.0) {
+            write!(f, " cut {captured_len}/{original_len}")
+        } else {
+            Ok(())
+        }
+    }
+}
+
+/// The lines at the end: the one on the last record, if that is cut off, and the closing line.
+#[derive(Clone, Copy)]
+pub struct EndLines {
+    /// How the last record is cut off.
+    pub end: Option<CutOff>,
+    /// What the closing line says; `None` if it goes elsewhere.
+    pub totals: Option<Totals>,
+}
+
+impl fmt::Display for EndLines {
+    ghost output = { λ lines. Some (end_text lines.end ++ closing_text lines.totals) };
+
+    fn fmt<W: fmt::Write>(&self, f: &mut Formatter<W>) -> fmt::Result {
+        write_end(f, self.end)?;
+        write_closing(f, self.totals)
+    }
+}
+
+// Writes that the last record is cut off, if it is.
+#[tactic(auto, unfolding(crate::specs::Lines::cut_off_line))]
+fn write_end<W: fmt::Write>(f: &mut Formatter<W>, end: Option<CutOff>) -> fmt::Result
+    ensures text { DisplaysOnOk W.write_str_gives f.old result (Some (end_text end)) f.new }
 {
-    if captured_len < original_len as usize {
-        write!(f, " cut {captured_len}/{original_len}")
-    } else {
-        Ok(())
-    }
+    let Some(CutOff { required_len, len }) = end else {
+        return Ok(());
+    };
+    write!(
+        f,
+        "error: the last record is cut off: it needs {required_len} bytes, and there are {len}\n"
+    )
 }
 
-/// The line on the end of the capture, if its last record is cut off.
-#[derive(Clone, Copy)]
-pub struct EndLine(pub Option<CutOff>);
-
-impl fmt::Display for EndLine {
-    ghost output = { λ line. Some (end_text line.0) };
-
-    #[tactic(auto, unfolding(crate::specs::Lines::cut_off_line))]
-    fn fmt<W: fmt::Write>(&self, f: &mut Formatter<W>) -> fmt::Result {
-        let Some(CutOff { required_len, len }) = self.0 else {
-            return Ok(());
-        };
-        write!(
-            f,
-            "error: the last record is cut off: it needs {required_len} bytes, and there are {len}\n"
-        )
-    }
-}
-
-/// The closing line.
-#[derive(Clone, Copy)]
-pub struct ClosingLine(pub Totals);
-
-impl fmt::Display for ClosingLine {
-    ghost output = { λ line. Some (closing_line line.0) };
-
-    fn fmt<W: fmt::Write>(&self, f: &mut Formatter<W>) -> fmt::Result {
-        write_kinds(f, self.0)?;
-        write_damage(f, self.0)
-    }
+// Writes the closing line, if there is one.
+fn write_closing<W: fmt::Write>(f: &mut Formatter<W>, totals: Option<Totals>) -> fmt::Result
+    ensures text { DisplaysOnOk W.write_str_gives f.old result (Some (closing_text totals)) f.new }
+{
+    let Some(totals) = totals else {
+        return Ok(());
+    };
+    write_kinds(f, totals)?;
+    write_damage(f, totals)
 }
 
 // Writes how many records there are, and of which kinds.

@@ -22,7 +22,7 @@ pub struct Output<W> {
 }
 
 impl<W: Sink> Output<W> {
-    ghost use Rattle.ipcap.specs.Streams.{Prints, pending};
+    ghost use Rattle.ipcap.specs.Streams.{Gets, GetsFront, Prints, pending};
 
     /// No line.
     pub fn new(sink: W) -> Output<W>
@@ -85,5 +85,17 @@ impl<W: Sink> Output<W> {
         self.text.clear();
         self.passed = 0;
         Ok(())
+    }
+
+    /// Adds the last lines, and passes them to the sink. After an error it has got a front of them.
+    pub fn finish<D: Display + Drop>(&mut self, lines: D) -> Result<(), Failure>
+        requires fresh { pending self.old ≡ [] }
+        ensures gets { OnOk result (IfSome (D.output lines) (Gets W.contents self.old self.new)) }
+        ensures front { OnErr result (IfSome (D.output lines)
+            (GetsFront W.contents self.old self.new)) }
+        ensures failed { OnErr result (W.has_failed self.new.sink) }
+    {
+        self.print(lines)?;
+        self.hand_over()
     }
 }

@@ -2,13 +2,14 @@
 
 ghost use Rattle.std.specs.Prelude.{◌≡◌, ◌↔◌, IsTrue, MatchOption};
 ghost use Rattle.ipcap.specs.Shown.{IsShownAt};
-ghost use Rattle.ipcap.specs.Reading.{ReadsFrame, ReadsPacket, is_read};
+ghost use Rattle.ipcap.specs.Reading.{ReadsFrame, ReadsPacket, is_cut};
 
 use crate::shown::{Shown, has_no_length, shown_of};
 use packet::link::{LinkSlice, LinkType};
 use packet::link_layers::LinkLayers;
+use packet_capture::capture::RecordHead;
 use packet_parts::checksum::Verdict;
-use packet_parts::ip_slice::{IpHeaderSlice, IpSliceError, LaxIpSlice};
+use packet_parts::ip_slice::{IpSliceError, LaxIpSlice};
 
 /// Why a frame carries no IP packet.
 #[derive(Clone, Copy)]
@@ -23,7 +24,7 @@ pub enum NoPacket {
     OtherFamily(u32),
 }
 
-/// What a frame is found to carry.
+/// What the frame of a record is found to carry.
 #[derive(Drop)]
 pub enum Reading<'a> {
     /// An IP packet that is shown.
@@ -32,21 +33,22 @@ pub enum Reading<'a> {
     Refused(IpSliceError),
     /// No IP packet.
     Other(NoPacket),
+    /// It is not read: the record is too long for the buffer.
+    Skipped,
 }
 
-/// Whether frames of a link type are read.
-pub fn is_read(link_type: u32) -> bool
-    ensures value { result ≡ is_read link_type }
+/// Whether fewer bytes were captured than the packet had.
+pub fn is_cut(head: &RecordHead) -> bool
+    ensures value { result ≡ is_cut head.now }
 {
-    LinkType::from_number(link_type).is_some()
+    head.captured_len < head.original_len
 }
 
-/// What a frame of a link type that is read is found to carry. If the capture cut the frame, its
-/// packet can be shorter than its length field says.
-pub fn read_frame(link_type: u32, is_cut: bool, frame: &[u8]) -> Reading
+/// What a frame of a link type is found to carry. If the capture cut the frame, its packet can be
+/// shorter than its length field says.
+pub fn read_frame(link_type: LinkType, is_cut: bool, frame: &[u8]) -> Reading
     ensures reads { ReadsFrame link_type is_cut frame.now result }
 {
-    let link_type = LinkType::from_number(link_type).unwrap_or(LinkType::Ip);
     let layers = match LinkLayers::from_link_type(link_type, frame) {
         Ok(layers) => layers,
         Err(_) => return Reading::Other(NoPacket::NoLinkHeader(frame.len())),
@@ -97,37 +99,7 @@ fn is_shown(is_cut: bool, lax: &LaxIpSlice) -> bool
 }
 
 impl Reading<'_> {
-    ghost use Rattle.std.specs.Prelude.{◌≡◌};
-    ghost use Rattle.ipcap.specs.Reading.{has_wrong_checksum, is_other, is_refused};
-    ghost use Rattle.ipcap.specs.Reading.{is_version_4, is_version_6};
-
-    /// Whether an IPv4 packet is shown.
-    pub fn is_ipv4(&self) -> bool
-        ensures value { result ≡ is_version_4 self.now }
-    {
-        matches!(self, Reading::Packet(shown) if matches!(shown.lax.slice.header, IpHeaderSlice::Ipv4(_)))
-    }
-
-    /// Whether an IPv6 packet is shown.
-    pub fn is_ipv6(&self) -> bool
-        ensures value { result ≡ is_version_6 self.now }
-    {
-        matches!(self, Reading::Packet(shown) if matches!(shown.lax.slice.header, IpHeaderSlice::Ipv6(_)))
-    }
-
-    /// Whether a packet is refused.
-    pub fn is_refused(&self) -> bool
-        ensures value { result ≡ is_refused self.now }
-    {
-        matches!(self, Reading::Refused(_))
-    }
-
-    /// Whether the frame carries no IP packet.
-    pub fn is_other(&self) -> bool
-        ensures value { result ≡ is_other self.now }
-    {
-        matches!(self, Reading::Other(_))
-    }
+    ghost use Rattle.ipcap.specs.Reading.{has_wrong_checksum};
 
     /// Whether a packet is shown with a wrong checksum.
     pub fn has_wrong_checksum(&self) -> bool
@@ -137,8 +109,7 @@ impl Reading<'_> {
             Reading::Packet(shown) => {
                 shown.is_header_right == Some(false) || matches!(shown.verdict, Verdict::Wrong)
             }
-            Reading::Refused(_) => false,
-            Reading::Other(_) => false,
+            _ => false,
         }
     }
 }

@@ -1,25 +1,20 @@
 //! The whole run: a capture in, lines out.
 
-ghost use Rattle.std.specs.Prelude.{◌≡◌, ◌≢◌, ◌<◌, ◌≤◌, ◌⊎◌, [], Err, IfErr, IfOk, IfSome, OnErr};
-ghost use Rattle.std.specs.Prelude.{OnOk, drop, if◌then◌else◌, length};
-ghost use Rattle.std.specs.Io.KnownBytes.{Appends, IsAtEnd};
-ghost use Rattle.packet_capture.specs.Capture.{BeginsWithFileHeader, ReadsFileHeader};
-ghost use Rattle.ipcap.specs.Lines.{closing_line};
-ghost use Rattle.ipcap.specs.Output.{AppendsFront, FailsWith, HasFullCounts, IsFullCapture};
-ghost use Rattle.ipcap.specs.Output.{IsListing, IsOutcome, WritesAll, listed, status_at};
-ghost use Rattle.ipcap.specs.Streams.{CannotRead, Prints, Takes, pending, unread};
+ghost use Rattle.std.specs.Prelude.{◌≡◌, ◌≢◌, ◌<◌, ◌≤◌, ◌⊎◌, [], IfErr, IfOk, IfSome, OnErr, OnOk};
+ghost use Rattle.std.specs.Prelude.{length};
+ghost use Rattle.std.specs.Io.KnownBytes.{IsAtEnd};
+ghost use Rattle.ipcap.specs.Output.{Fails, IsListing, IsOutcome, Writes};
+ghost use Rattle.ipcap.specs.Streams.{CannotRead, Takes, pending, unlisted, unread};
 
 use crate::failure::Failure;
 use crate::input::Input;
-use crate::lines::{ClosingLine, EndLine, LinkTypeLine, NoCaptureLine};
+use crate::lines::{EndLines, LinkTypeLine, NoCaptureLine};
 use crate::listing::Listing;
 use crate::output::Output;
-use crate::reading::is_read;
 use crate::status::Status;
 use crate::streams::{Sink, Source};
-use crate::totals::Totals;
-use packet_capture::capture::{CaptureError, CutOff, FileHeader};
-use std::fmt::Display;
+use packet::link::LinkType;
+use packet_capture::capture::FileHeader;
 
 /// Reads a capture, and writes a line for each record and then, to `errors`, the closing line.
 ///
@@ -34,11 +29,11 @@ pub fn run<R: Source, W: Sink, E: Sink>(
     errors: &mut Output<E>,
 ) -> Status
     requires fresh { (pending output.old ≡ []) × (pending errors.old ≡ []) }
-    ensures output { result ≢ Status.Failed →
-        WritesAll R.remaining W.contents E.contents (IsOutcome is_quiet) result
-        input.old output.old output.new errors.old errors.new }
-    ensures failed { result ≡ Status.Failed → FailsWith R.remaining W.contents E.contents
-        R.has_failed W.has_failed E.has_failed is_quiet (IsOutcome is_quiet) IsFullCapture
+    ensures output { result ≢ Status.Failed → IfSome (unlisted R.remaining input.old) (λ bytes.
+        Writes W.contents E.contents (IsOutcome is_quiet bytes) result
+        output.old output.new errors.old errors.new) }
+    ensures failed { result ≡ Status.Failed → Fails R.remaining W.contents E.contents
+        R.has_failed W.has_failed E.has_failed (IsOutcome is_quiet)
         input.old input.new output.old output.new errors.old errors.new }
 {
     match try_run(is_quiet, input, output, errors) {
@@ -56,15 +51,33 @@ fn try_run<R: Source, W: Sink, E: Sink>(
 ) -> Result<Status, Failure>
     requires fresh { (pending output.old ≡ []) × (pending errors.old ≡ []) }
     ensures status { IfOk result (λ status. status ≢ Status.Failed) }
-    ensures output { IfOk result (λ status.
-        WritesAll R.remaining W.contents E.contents (IsOutcome is_quiet) status
-        input.old output.old output.new errors.old errors.new) }
-    ensures failed { OnErr result (FailsWith R.remaining W.contents E.contents
-        R.has_failed W.has_failed E.has_failed is_quiet (IsOutcome is_quiet) IsFullCapture
+    ensures output { IfOk result (λ status. IfSome (unlisted R.remaining input.old) (λ bytes.
+        Writes W.contents E.contents (IsOutcome is_quiet bytes) status
+        output.old output.new errors.old errors.new)) }
+    ensures failed { OnErr result (Fails R.remaining W.contents E.contents
+        R.has_failed W.has_failed E.has_failed (IsOutcome is_quiet)
         input.old input.new output.old output.new errors.old errors.new) }
 {
     fill_to_file_header(input)?;
-    list_input(is_quiet, input, output, errors)
+    let header = match FileHeader::from_slice(input.unread()) {
+        Ok((header, _)) => header,
+        Err(e) => {
+            errors.finish(NoCaptureLine(e))?;
+            return Ok(Status::NoCapture);
+        }
+    };
+    let number = header.link_type % 65_536;
+    let Some(link_type) = LinkType::from_number(number) else {
+        errors.finish(LinkTypeLine(number))?;
+        return Ok(Status::NoCapture);
+    };
+    input.pass(FileHeader::LEN);
+    let listing = Listing {
+        header,
+        link_type,
+        is_quiet,
+    };
+    list_records(&listing, input, output, errors)
 }
 
 // Reads until there is a whole file header, or the input is at its end.
@@ -83,62 +96,6 @@ fn fill_to_file_header<R: Source>(input: &mut Input<R>) -> Result<(), Failure>
     Ok(())
 }
 
-// Lists an input of which the file header is read, if it has one.
-fn list_input<R: Source, W: Sink, E: Sink>(
-    is_quiet: bool,
-    input: &mut Input<R>,
-    output: &mut Output<W>,
-    errors: &mut Output<E>,
-) -> Result<Status, Failure>
-    requires enough { (24 ≤ length (unread input.old)) ⊎ IsAtEnd (R.remaining input.old.source) }
-    requires fresh { (pending output.old ≡ []) × (pending errors.old ≡ []) }
-    ensures status { IfOk result (λ status. status ≢ Status.Failed) }
-    ensures output { IfOk result (λ status.
-        WritesAll R.remaining W.contents E.contents (IsOutcome is_quiet) status
-        input.old output.old output.new errors.old errors.new) }
-    ensures failed { OnErr result (FailsWith R.remaining W.contents E.contents
-        R.has_failed W.has_failed E.has_failed is_quiet (IsOutcome is_quiet) IsFullCapture
-        input.old input.new output.old output.new errors.old errors.new) }
-{
-    let header = match read_file_header(input.unread()) {
-        Ok(header) => header,
-        Err(e) => return refuse(NoCaptureLine(e), errors),
-    };
-    let link_type = header.link_type % 65_536;
-    if !is_read(link_type) {
-        return refuse(LinkTypeLine(link_type), errors);
-    }
-    input.pass(FileHeader::LEN);
-    list_records(&Listing { header, is_quiet }, input, output, errors)
-}
-
-// The header of a capture file.
-fn read_file_header(bytes: &[u8]) -> Result<FileHeader, CaptureError>
-    ensures found { IfOk result (λ header.
-        BeginsWithFileHeader bytes.now header (drop 24 bytes.now)) }
-    ensures refused { IfErr result (λ e. ReadsFileHeader bytes.now (Err e)) }
-{
-    match FileHeader::from_slice(bytes) {
-        Ok((header, _)) => Ok(header),
-        Err(e) => Err(e),
-    }
-}
-
-// Writes why the records of the input are not listed.
-fn refuse<E: Sink, D: Display + Drop>(line: D, errors: &mut Output<E>) -> Result<Status, Failure>
-    requires fresh { pending errors.old ≡ [] }
-    ensures status { IfOk result (λ status. status ≡ Status.NoCapture) }
-    ensures errors { OnOk result (IfSome (D.output line)
-        (Appends (E.contents errors.old.sink) (E.contents errors.new.sink))) }
-    ensures front { OnErr result (IfSome (D.output line)
-        (AppendsFront (E.contents errors.old.sink) (E.contents errors.new.sink))) }
-    ensures failed { OnErr result (E.has_failed errors.new.sink) }
-{
-    errors.print(line)?;
-    errors.hand_over()?;
-    Ok(Status::NoCapture)
-}
-
 // Lists the records of a capture, and writes the lines at the end.
 fn list_records<R: Source, W: Sink, E: Sink>(
     listing: &Listing,
@@ -148,86 +105,36 @@ fn list_records<R: Source, W: Sink, E: Sink>(
 ) -> Result<Status, Failure>
     requires fresh { (pending output.old ≡ []) × (pending errors.old ≡ []) }
     ensures status { IfOk result (λ status. status ≢ Status.Failed) }
-    ensures output { IfOk result (λ status.
-        WritesAll R.remaining W.contents E.contents
-        (IsListing listing.now.is_quiet listing.now.header) status
-        input.old output.old output.new errors.old errors.new) }
-    ensures failed { OnErr result (FailsWith R.remaining W.contents E.contents
-        R.has_failed W.has_failed E.has_failed listing.now.is_quiet
-        (IsListing listing.now.is_quiet listing.now.header) (HasFullCounts listing.now.header)
+    ensures output { IfOk result (λ status. IfSome (unlisted R.remaining input.old) (λ bytes.
+        Writes W.contents E.contents (IsListing listing.now bytes) status
+        output.old output.new errors.old errors.new)) }
+    ensures failed { OnErr result (Fails R.remaining W.contents E.contents
+        R.has_failed W.has_failed E.has_failed (IsListing listing.now)
         input.old input.new output.old output.new errors.old errors.new) }
 {
-    match listing.list(input, output) {
-        Ok((totals, end)) => {
-            output.hand_over()?;
-            close(listing.is_quiet, totals, end, output, errors)
-        }
-        Err(Failure::Write) => Err(Failure::Write),
+    let (totals, end) = match listing.list(input, output) {
+        Ok(listed) => listed,
+        Err(Failure::Write) => return Err(Failure::Write),
         Err(Failure::Read) => {
             output.hand_over()?;
-            Err(Failure::Read)
+            return Err(Failure::Read);
         }
         Err(Failure::Count) => {
             output.hand_over()?;
-            Err(Failure::Count)
+            return Err(Failure::Count);
         }
-    }
-}
-
-// Writes the lines at the end.
-fn close<W: Sink, E: Sink>(
-    is_quiet: bool,
-    totals: Totals,
-    end: Option<CutOff>,
-    output: &mut Output<W>,
-    errors: &mut Output<E>,
-) -> Result<Status, Failure>
-    requires fresh { (pending output.old ≡ []) × (pending errors.old ≡ []) }
-    ensures status { IfOk result (λ status. status ≡ status_at end) }
-    ensures output { OnOk result
-        (Appends (W.contents output.old.sink) (W.contents output.new.sink)
-        (listed is_quiet [] totals end).output) }
-    ensures errors { OnOk result
-        (Appends (E.contents errors.old.sink) (E.contents errors.new.sink)
-        (listed is_quiet [] totals end).errors) }
-    ensures front { OnErr result
-        (AppendsFront (W.contents output.old.sink) (W.contents output.new.sink)
-        (listed is_quiet [] totals end).output) }
-    ensures front_of_errors { OnErr result
-        (AppendsFront (E.contents errors.old.sink) (E.contents errors.new.sink)
-        (listed is_quiet [] totals end).errors) }
-    ensures failed { OnErr result
-        (W.has_failed output.new.sink ⊎ E.has_failed errors.new.sink) }
-{
-    errors.print(EndLine(end))?;
-    print_closing(is_quiet, totals, output, errors)?;
-    errors.hand_over()?;
+    };
     output.hand_over()?;
+    errors.finish(EndLines {
+        end,
+        totals: (!listing.is_quiet).then_some(totals),
+    })?;
+    output.finish(EndLines {
+        end: None,
+        totals: listing.is_quiet.then_some(totals),
+    })?;
     match end {
         None => Ok(Status::Done),
         Some(_) => Ok(Status::CutOff),
-    }
-}
-
-// Prints the closing line.
-fn print_closing<W: Sink, E: Sink>(
-    is_quiet: bool,
-    totals: Totals,
-    output: &mut Output<W>,
-    errors: &mut Output<E>,
-) -> Result<(), Failure>
-    ensures output { OnOk result (Prints W.contents output.old output.new
-        (if is_quiet then closing_line totals else [])) }
-    ensures errors { OnOk result (Prints E.contents errors.old errors.new
-        (if is_quiet then [] else closing_line totals)) }
-    ensures kept { OnErr result ((Prints W.contents output.old output.new [])
-        × Prints E.contents errors.old errors.new []) }
-    ensures failed { OnErr result
-        (W.has_failed output.new.sink ⊎ E.has_failed errors.new.sink) }
-{
-    if is_quiet {
-        output.print(ClosingLine(totals))
-    } else {
-        errors.print(ClosingLine(totals))
     }
 }

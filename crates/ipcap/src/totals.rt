@@ -1,23 +1,8 @@
 //! What is counted.
 
-/// What is counted for a record.
-#[derive(Clone, Copy)]
-pub struct Outcome {
-    /// It is shown as an IPv4 packet.
-    pub is_ipv4: bool,
-    /// It is shown as an IPv6 packet.
-    pub is_ipv6: bool,
-    /// Its frame carries no IP packet.
-    pub is_other: bool,
-    /// Its packet is refused.
-    pub is_refused: bool,
-    /// It is skipped: it is too long for the buffer.
-    pub is_skipped: bool,
-    /// Fewer bytes were captured than the packet had.
-    pub is_cut: bool,
-    /// One of its checksums is wrong.
-    pub is_wrong: bool,
-}
+use crate::reading::{Reading, is_cut};
+use packet_capture::capture::RecordHead;
+use packet_parts::ip_slice::IpHeaderSlice;
 
 /// How many records there were, and of which kinds.
 #[derive(Clone, Copy)]
@@ -42,7 +27,7 @@ pub struct Totals {
 
 impl Totals {
     ghost use Rattle.std.specs.Prelude.{◌≡◌, IfNone, IfSome};
-    ghost use Rattle.ipcap.specs.Totals.{Fits, counted, nothing_counted};
+    ghost use Rattle.ipcap.specs.Totals.{HasRoom, counted, counted_as, nothing_counted};
 
     /// No record.
     pub fn none() -> Totals
@@ -61,19 +46,36 @@ impl Totals {
     }
 
     /// With one more record; `None` if a count would exceed 2^64 - 1.
-    pub fn count(self, outcome: Outcome) -> Option<Totals>
-        ensures some { IfSome result (λ after. after ≡ counted outcome self) }
-        ensures none { IfNone result (¬ Fits (counted outcome self)) }
+    pub fn count(self, head: &RecordHead, reading: &Reading) -> Option<Totals>
+        ensures some { IfSome result (λ after. after ≡ counted head.now reading.now self) }
+        ensures none { IfNone result (¬ HasRoom self) }
     {
+        let after = self.count_as(reading)?;
         Some(Totals {
             records: self.records.checked_add(1)?,
-            ipv4: self.ipv4.checked_add(u64::from(outcome.is_ipv4))?,
-            ipv6: self.ipv6.checked_add(u64::from(outcome.is_ipv6))?,
-            other: self.other.checked_add(u64::from(outcome.is_other))?,
-            refused: self.refused.checked_add(u64::from(outcome.is_refused))?,
-            skipped: self.skipped.checked_add(u64::from(outcome.is_skipped))?,
-            cut: self.cut.checked_add(u64::from(outcome.is_cut))?,
-            wrong: self.wrong.checked_add(u64::from(outcome.is_wrong))?,
+            cut: self.cut.checked_add(u64::from(is_cut(head)))?,
+            wrong: self
+                .wrong
+                .checked_add(u64::from(reading.has_wrong_checksum()))?,
+            ..after
         })
+    }
+
+    // With one more record of its kind.
+    fn count_as(self, reading: &Reading) -> Option<Totals>
+        ensures some { IfSome result (λ after. after ≡ counted_as reading.now self) }
+        ensures none { IfNone result (¬ HasRoom self) }
+    {
+        let mut after = self;
+        match reading {
+            Reading::Packet(shown) => match shown.lax.slice.header {
+                IpHeaderSlice::Ipv4(_) => after.ipv4 = self.ipv4.checked_add(1)?,
+                IpHeaderSlice::Ipv6(_) => after.ipv6 = self.ipv6.checked_add(1)?,
+            },
+            Reading::Other(_) => after.other = self.other.checked_add(1)?,
+            Reading::Refused(_) => after.refused = self.refused.checked_add(1)?,
+            Reading::Skipped => after.skipped = self.skipped.checked_add(1)?,
+        }
+        Some(after)
     }
 }

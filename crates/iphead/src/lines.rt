@@ -15,7 +15,7 @@ use std::{fmt, io};
 /// Writes the one line that says why there is no header.
 #[tactic(auto, unfolding(crate::specs::Output::line))]
 pub fn write_error<W: Write, D: Display + Drop>(writer: &mut W, reason: D) -> io::Result<()>
-    ensures { OnOk result (IfSome (D.output reason) (λ text.
+    ensures appends { OnOk result (IfSome (D.output reason) (λ text.
         Appends (W.contents writer.old) (W.contents writer.new) (error_line text))) }
 {
     writeln!(writer, "error: {reason}")
@@ -23,7 +23,7 @@ pub fn write_error<W: Write, D: Display + Drop>(writer: &mut W, reason: D) -> io
 
 /// Writes the fields of an IPv6 header, one per line.
 pub fn write_ipv6<W: Write>(writer: &mut W, view: &Ipv6HeaderSlice) -> io::Result<()>
-    ensures { OnOk result (OfIpv6Header view.now.slice.now (λ header.
+    ensures appends { OnOk result (OfIpv6Header view.now.slice.now (λ header.
         Appends (W.contents writer.old) (W.contents writer.new) (ipv6_lines header))) }
 {
     write_field(writer, "version", view.version())?;
@@ -46,7 +46,7 @@ pub fn write_upper_layer<W: Write>(
     place: usize,
     rest_len: usize,
 ) -> io::Result<()>
-    ensures { OnOk result (Appends (W.contents writer.old) (W.contents writer.new)
+    ensures appends { OnOk result (Appends (W.contents writer.old) (W.contents writer.new)
         (upper_layer_lines number place rest_len)) }
 {
     write_field(writer, "upper", number)?;
@@ -62,7 +62,7 @@ pub fn write_ipv4<W: Write>(
     view: &Ipv4HeaderSlice,
     rest_len: usize,
 ) -> io::Result<()>
-    ensures { OnOk result (OfIpv4Header view.now.slice.now (λ header.
+    ensures appends { OnOk result (OfIpv4Header view.now.slice.now (λ header.
         Appends (W.contents writer.old) (W.contents writer.new)
         (ipv4_lines header view.now.slice.now rest_len))) }
 {
@@ -77,7 +77,7 @@ pub fn write_ipv4<W: Write>(
 
 // Writes the fields of an IPv4 header before its options.
 fn write_fixed_fields<W: Write>(writer: &mut W, view: &Ipv4HeaderSlice) -> io::Result<()>
-    ensures { OnOk result (OfIpv4Header view.now.slice.now (λ header.
+    ensures appends { OnOk result (OfIpv4Header view.now.slice.now (λ header.
         Appends (W.contents writer.old) (W.contents writer.new) (fixed_lines header))) }
 {
     write_field(writer, "version", view.version())?;
@@ -130,8 +130,8 @@ impl fmt::Display for Dotted {
 
 // Writes the line with the options.
 fn write_options<W: Write>(writer: &mut W, options: &[u8]) -> io::Result<()>
-    requires { length options.now ≤ 40 }
-    ensures { OnOk result (Appends (W.contents writer.old) (W.contents writer.new)
+    requires short { length options.now ≤ 40 }
+    ensures appends { OnOk result (Appends (W.contents writer.old) (W.contents writer.new)
         (line (codes "options") (options_text options.now))) }
 {
     if options.is_empty() {
@@ -144,7 +144,7 @@ fn write_options<W: Write>(writer: &mut W, options: &[u8]) -> io::Result<()>
 // Writes a line with a value.
 #[tactic(auto, unfolding(crate::specs::Output::line))]
 fn write_field<W: Write, T: Display + Drop>(writer: &mut W, name: &str, value: T) -> io::Result<()>
-    ensures { OnOk result (IfSome (T.output value) (λ text.
+    ensures appends { OnOk result (IfSome (T.output value) (λ text.
         Appends (W.contents writer.old) (W.contents writer.new) (line name.now text))) }
 {
     writeln!(writer, "{name} {value}")
@@ -153,8 +153,8 @@ fn write_field<W: Write, T: Display + Drop>(writer: &mut W, name: &str, value: T
 // Writes a line with at most 40 bytes in hex digits.
 #[tactic(auto, unfolding(crate::specs::Output::line))]
 fn write_hex_field<W: Write>(writer: &mut W, name: &str, bytes: &[u8]) -> io::Result<()>
-    requires { length bytes.now ≤ 40 }
-    ensures { OnOk result (Appends (W.contents writer.old) (W.contents writer.new)
+    requires short { length bytes.now ≤ 40 }
+    ensures appends { OnOk result (Appends (W.contents writer.old) (W.contents writer.new)
         (line name.now (encode_lower bytes.now))) }
 {
     let mut room = [0; 80];

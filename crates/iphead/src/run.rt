@@ -41,7 +41,7 @@ pub fn run<R: Read, W: Write>(reader: &mut R, writer: &mut W) -> Status
 
 // `run`, except that a read or a write that fails is an error.
 fn try_run<R: Read, W: Write>(reader: &mut R, writer: &mut W) -> io::Result<Status>
-    ensures { IfOk result (λ status. IfSome (R.remaining reader.old) (λ input.
+    ensures output { IfOk result (λ status. IfSome (R.remaining reader.old) (λ input.
         Writes (IsOutput input) status (W.contents writer.old) (W.contents writer.new))) }
 {
     let mut text = Text::new();
@@ -58,8 +58,8 @@ fn try_run<R: Read, W: Write>(reader: &mut R, writer: &mut W) -> io::Result<Stat
 
 // Prints what is to be said about the bytes that digits stand for.
 fn report<W: Write>(digits: &[u8], writer: &mut W) -> io::Result<Status>
-    requires { length digits.now ≤ 4096 }
-    ensures { IfOk result (λ status. Writes (ReportsBytes (decode_of digits.now)) status
+    requires short { length digits.now ≤ 4096 }
+    ensures output { IfOk result (λ status. Writes (ReportsBytes (decode_of digits.now)) status
         (W.contents writer.old) (W.contents writer.new)) }
 {
     let mut bytes = [0; 2048];
@@ -76,8 +76,9 @@ fn report<W: Write>(digits: &[u8], writer: &mut W) -> io::Result<Status>
 
 // Prints what is to be said about bytes that are read as IPv6.
 fn report_ipv6<W: Write>(bytes: &[u8], writer: &mut W) -> io::Result<Status>
-    ensures { IfOk result (λ status. Writes (Reports (ReadsIpv6Packet bytes.now) ipv6_outcome)
-        status (W.contents writer.old) (W.contents writer.new)) }
+    ensures output { IfOk result (λ status. Writes
+        (Reports (ReadsIpv6Packet bytes.now) ipv6_outcome) status
+        (W.contents writer.old) (W.contents writer.new)) }
 {
     match Ipv6HeaderSlice::from_slice(bytes) {
         Ok(view) => {
@@ -93,7 +94,7 @@ fn report_ipv6<W: Write>(bytes: &[u8], writer: &mut W) -> io::Result<Status>
 
 // Prints what is to be said about the bytes after an IPv6 header.
 fn report_walk<W: Write>(bytes: &[u8], next_header: IpNumber, writer: &mut W) -> io::Result<Status>
-    ensures { IfOk result (λ status. Writes
+    ensures output { IfOk result (λ status. Writes
         (Reports (WalksUpTo max_extension_headers bytes.now next_header)
         (walk_outcome (length bytes.now))) status (W.contents writer.old) (W.contents writer.new)) }
 {
@@ -112,7 +113,7 @@ fn report_walk<W: Write>(bytes: &[u8], next_header: IpNumber, writer: &mut W) ->
 
 // Prints what is to be said about bytes that are read as IPv4.
 fn report_ipv4<W: Write>(bytes: &[u8], writer: &mut W) -> io::Result<Status>
-    ensures { IfOk result (λ status. Writes
+    ensures output { IfOk result (λ status. Writes
         (Reports (ReadsIpv4 bytes.now) (ipv4_outcome bytes.now)) status
         (W.contents writer.old) (W.contents writer.new)) }
 {

@@ -1,12 +1,12 @@
 -- How much of a capture has been listed.
-use Rattle.std.specs.Prelude.{ℕ, ◌≡◌, ◌<◌, List, [], ◌++◌, Option, Some, None, Err, length}
+use Rattle.std.specs.Prelude.{ℕ, ◌≡◌, ◌<◌, ◌≤◌, List, [], ◌++◌, Option, Some, None, Err, length}
 use Rattle.std.specs.Io.KnownBytes.{IsAtEnd}
 use Rattle.packet_capture.specs.Capture.{ReadsRecord}
 use Rattle.packet_capture.specs.declared.capture.CutOff as cut
 use Rattle.packet_capture.specs.declared.capture.FileHeader.{FileHeader}
-use Rattle.ipcap.specs.Listing.{Lists, unless_quiet}
+use Rattle.ipcap.specs.Listing.{Lists}
 use Rattle.ipcap.specs.Streams.{CannotRead, Prints, Reads, Takes, unread}
-use Rattle.ipcap.specs.Totals.{IsFull}
+use Rattle.ipcap.specs.Totals.{HasRoom}
 use Rattle.ipcap.specs.declared.failure.Failure.{Failure}
 use Rattle.ipcap.specs.declared.failure.Failure.TheVariants as failure
 use Rattle.ipcap.specs.declared.input.Input.{Input}
@@ -26,43 +26,30 @@ Stops header rest (Some e) = ReadsRecord header rest (Err e)
 abbrev pub Because : Type 0 → Type 0 → Failure → Totals → List ℕ → Type 0
 Because read_failed write_failed failure.Read last rest = (rest ≡ []) × read_failed
 Because read_failed write_failed failure.Write last rest = write_failed
-Because read_failed write_failed failure.Count last rest = IsFull last
+Because read_failed write_failed failure.Count last rest = ¬ HasRoom last
 
--- this many bytes were taken
-pub record Skips {R : Type 0} (remaining : R → Option (List ℕ)) (old new : Input R) (len : ℕ)
-    : Type 0 where
+-- this many bytes were taken, of so many that were wanted; if these are fewer, nothing is left
+pub record Skips {R : Type 0} (remaining : R → Option (List ℕ)) (old new : Input R)
+    (wanted len : ℕ) : Type 0 where
   pub taken : List ℕ
   pub takes : Takes remaining old new taken
   pub many : length taken ≡ len
-  pub more : old.count < new.count
-
--- there were fewer bytes, all of which were read
-pub record Lacks {R : Type 0} (remaining : R → Option (List ℕ)) (old new : Input R) (len n : ℕ)
-    : Type 0 where
-  pub got : List ℕ
-  pub reads : Reads remaining old new got
-  pub many : length got ≡ n
-  pub few : n < len
+  pub within : len ≤ wanted
+  pub all : len < wanted → unread new ≡ []
 
 module _ {W : Type 0} (contents : W → Option (List ℕ)) (listing : Listing) where
   -- these are records that have lines, and the lines are printed
   pub record IsTold (before last : Totals) (end : Option cut.CutOff) (old new : Output W)
       (records : List ℕ) : Type 0 where
     pub text : List ℕ
-    pub lists : Lists listing.header before records text last end
-    pub prints : Prints contents old new (unless_quiet listing.is_quiet text)
+    pub lists : Lists listing before records text last end
+    pub prints : Prints contents old new text
 
   -- this data is told: with whatever is told after it, it is the records of all
   abbrev pub Tells : Totals → Totals → List ℕ → Output W → Output W → Type 0
   Tells before after taken old new =
       (last : Totals) (end : Option cut.CutOff) (final : Output W) (more : List ℕ)
       → IsTold after last end new final more → IsTold before last end old final (taken ++ more)
-
-  -- a line that is such a one is printed, but not in a quiet run
-  pub record HasLine (IsLine : List ℕ → Type 0) (old new : Output W) : Type 0 where
-    pub line : List ℕ
-    pub is_line : IsLine line
-    pub prints : Prints contents old new (unless_quiet listing.is_quiet line)
 
   -- a front of the data is told
   pub record TellsFront (before : Totals) (because : Totals → List ℕ → Type 0) (bytes : List ℕ)

@@ -1,11 +1,10 @@
-use Rattle.std.proofs.Common.{◌≡◌, ◌-◌, ◌<◌, ◌≤◌, ◌^◌, List, ℕ, length}
+use Rattle.std.proofs.Common.{◌≡◌, ◌-◌, ◌≤◌, ◌^◌, List, ℕ, length}
 use Rattle.ipcap.specs.Streams.{Takes}
 use Rattle.ipcap.proofs.listing.skip.Given as goal
 
 abbrev pub invariant-turns : goal.invariant-turns
 invariant-turns g l = record {
   within : l.left ≤ l.len;
-  some : 0 < l.left;
   taken : List ℕ;
   takes : Takes g.R.Source.remaining l.fn.input l.input taken;
   many : length taken ≡ l.len - l.left;

@@ -12,7 +12,9 @@ reports_not_hex d h = grind arith
 
 pub returns-in_default : goal.returns-in_default
 returns-in_default g c = record {
-  text = _;
-  outcome = reports_not_hex _ (λ bytes e. let hex = decode_of-ok c.args.digits.now bytes e in grind (arith, c.in_default.ensures.found, hex));
-  appended = c.in_ok-write_error.ensures;
+  output = record {
+    text = _;
+    outcome = reports_not_hex _ (λ bytes e. let hex = decode_of-ok c.args.digits.now bytes e in grind (arith, c.in_default.ensures.found, hex));
+    appended = c.in_ok-write_error.ensures.appends;
+  };
 }

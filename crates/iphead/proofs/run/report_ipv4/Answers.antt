@@ -12,8 +12,8 @@ returns-in_ok-write_ipv4-in-Ok g c =
     let v = c.in-Ok.ensures.views in
     let shown = c.in-Ok.view.slice.now in
     let front : take (ipv4_header_len v.header) c.args.bytes.now ≡ shown = rw v.whole (take_at shown v.rest (ipv4_header_len v.header) v.layout.layout.len) in
-    record { text = _; outcome = record { reading = Ok (v.header, v.rest); reads = record { front = shown; whole = v.whole; layout = v.layout }; outcome_of_it = grind (arith, length-append) }; appended = c.in_ok-write_ipv4-in-Ok.ensures v.header v.layout }
+    record { output = record { text = _; outcome = record { reading = Ok (v.header, v.rest); reads = record { front = shown; whole = v.whole; layout = v.layout }; outcome_of_it = grind (arith, length-append) }; appended = c.in_ok-write_ipv4-in-Ok.ensures.appends v.header v.layout } }
 
 pub returns-in_ok-write_error-in-Err : goal.returns-in_ok-write_error-in-Err
 returns-in_ok-write_error-in-Err g c =
-    record { text = _; outcome = record { reading = Err c.in-Err.e; reads = c.in-Err.ensures.views; outcome_of_it = refl }; appended = c.in_ok-write_error-in-Err.ensures }
+    record { output = record { text = _; outcome = record { reading = Err c.in-Err.e; reads = c.in-Err.ensures.views; outcome_of_it = refl }; appended = c.in_ok-write_error-in-Err.ensures.appends } }

@@ -1,24 +1,26 @@
 use Rattle.std.proofs.Common.{None, Some, arith}
 use Rattle.std.proofs.lemmas.Result.{err_from_is_err_and}
-use Rattle.ipcap.proofs.Runs.{prints_nothing, read_broken, read_more, told_stop}
+use Rattle.ipcap.specs.Private.Progress.{IsTold}
+use Rattle.ipcap.specs.Streams.{unread}
+use Rattle.ipcap.proofs.Runs.{ended, prints_nothing, read_breaks, told_stop}
+use Rattle.ipcap.proofs.listing.Listing.go_on.Goals.{in_default-via-in-Some+else-e-gt-ROOM, in_default-via-in_default}
 use Rattle.ipcap.proofs.listing.Listing.go_on.Goals as goal
 
-pub returns-in_ok-turn-in-None-clause-turns : goal.returns-in_ok-turn-in-None-clause-turns
-returns-in_ok-turn-in-None-clause-turns g c =
-    read_more _ _ _ _ None _ _ _ _ (told_stop _ _ _ None _ _ _ (rw c.in-None.is at c.requires.stops) tt (prints_nothing _ _)) c.in_ok-turn-in-None.ensures.takes c.in_ok-turn-in-None.ensures.turn
+pub returns-else-branch-clause-turns : goal.returns-else-branch-clause-turns
+returns-else-branch-clause-turns g c =
+    let told : IsTold g.W.Sink.contents c.args.self.now c.args.before c.args.before c.in_default.stop c.args.output.now c.args.output.now (unread c.args.input.now) = elim c.in_default.branch [
+      | in_default-via-in-Some+else-e-gt-ROOM w ↦ rw w.stop-is (told_stop _ _ _ (Some w.in-Some.e) _ _ _ (rw w.in-Some.is at c.requires.stops) (omega (arith, w.if-e-gt-ROOM.false)) (prints_nothing _ _))
+      | in_default-via-in_default w ↦ rw (w.stop-is, w.in_default.is) (told_stop _ _ _ None _ _ _ (rw w.in_default.is at c.requires.stops) tt (prints_nothing _ _))
+    ] in
+    let fill = c.in_ok-fill-in_default.ensures in
+    ended _ _ _ _ c.in_default.stop _ _ _ told fill.takes (fill.same c.if-branch.false) (fill.end c.if-branch.false)
 
-pub returns-in_err-turn-in-None-clause-failed : goal.returns-in_err-turn-in-None-clause-failed
-returns-in_err-turn-in-None-clause-failed g c =
+pub returns-in_err-fill-in_default-clause-failed : goal.returns-in_err-fill-in_default-clause-failed
+returns-in_err-fill-in_default-clause-failed g c =
+    let told : IsTold g.W.Sink.contents c.args.self.now c.args.before c.args.before c.in_default.stop c.args.output.now c.args.output.now (unread c.args.input.now) = elim c.in_default.branch [
+      | in_default-via-in-Some+else-e-gt-ROOM w ↦ rw w.stop-is (told_stop _ _ _ (Some w.in-Some.e) _ _ _ (rw w.in-Some.is at c.requires.stops) (omega (arith, w.if-e-gt-ROOM.false)) (prints_nothing _ _))
+      | in_default-via-in_default w ↦ rw (w.stop-is, w.in_default.is) (told_stop _ _ _ None _ _ _ (rw w.in_default.is at c.requires.stops) tt (prints_nothing _ _))
+    ] in
+    let fill = c.in_err-fill-in_default.ensures in
     let p = err_from_is_err_and c.from_residual.result c.from_residual.ensures.1 in
-    let failed = c.in_err-turn-in-None.ensures in
-    rw (p.1, p.2, failed.failed.0) (read_broken _ _ _ g.R.Source.has_failed g.W.Sink.has_failed _ None _ _ _ (told_stop _ _ _ None _ _ _ (rw c.in-None.is at c.requires.stops) tt (prints_nothing _ _)) failed.takes failed.unread failed.failed.1)
-
-pub returns-in_ok-turn-in-Some-clause-turns : goal.returns-in_ok-turn-in-Some-clause-turns
-returns-in_ok-turn-in-Some-clause-turns g c =
-    read_more _ _ _ _ (Some c.in-Some.e) _ _ _ _ (told_stop _ _ _ (Some c.in-Some.e) _ _ _ (rw c.in-Some.is at c.requires.stops) (omega arith) (prints_nothing _ _)) c.in_ok-turn-in-Some.ensures.takes c.in_ok-turn-in-Some.ensures.turn
-
-pub returns-in_err-turn-in-Some-clause-failed : goal.returns-in_err-turn-in-Some-clause-failed
-returns-in_err-turn-in-Some-clause-failed g c =
-    let p = err_from_is_err_and c.from_residual-in_err-turn-in-Some.result c.from_residual-in_err-turn-in-Some.ensures.1 in
-    let failed = c.in_err-turn-in-Some.ensures in
-    rw (p.1, p.2, failed.failed.0) (read_broken _ _ _ g.R.Source.has_failed g.W.Sink.has_failed _ (Some c.in-Some.e) _ _ _ (told_stop _ _ _ (Some c.in-Some.e) _ _ _ (rw c.in-Some.is at c.requires.stops) (omega arith) (prints_nothing _ _)) failed.takes failed.unread failed.failed.1)
+    rw (p.1, p.2, fill.failed.0) (read_breaks _ _ c.args.self.now g.R.Source.has_failed g.W.Sink.has_failed c.args.before c.args.before c.in_default.stop c.args.input.now c.fill.new.self c.args.output.now c.args.output.now fill.takes.got fill.takes.reads (rw (fill.takes.takes, fill.unread) told) fill.failed.1)
