@@ -65,6 +65,7 @@ fn skip<R: Source>(input: &mut Input<R>, len: usize) -> Result<usize, Failure>
 
 impl Listing {
     // Counts a record, and prints its line.
+    #[inline(always)] // A quiet run then makes no value of a reading in memory.
     fn list_record<W: Sink>(
         &self,
         before: Totals,
