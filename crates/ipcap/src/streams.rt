@@ -10,10 +10,10 @@ use std::fmt::Display;
 use std::io;
 use std::io::{ErrorKind, Read, Write};
 
-// The most bytes in a line.
+// The most bytes in a line, or in the lines at the end.
 const LINE_ROOM: usize = 1024;
 
-/// A line.
+/// A line, or the lines at the end.
 pub type Line = ArrayVec<u8, LINE_ROOM>;
 
 /// What a run reads from.
