@@ -242,10 +242,10 @@ lax_once s a b (Some e) None p q = absurd (whole_not_refused s b e q.parts q.sto
 
 -- so slicing has one answer, and slicing as far as it goes
 pub sliced_once : (s : List ℕ) (a b : Result IpSlice IpSliceError) → ReadsIp s a → ReadsIp s b → ip_answer a ≡ ip_answer b
-sliced_once s (Ok a) (Ok b) p q = ap Ok (same_parts s a b p.0 q.0)
+sliced_once s (Ok a) (Ok b) p q = ap Ok (same_parts s a b p.parts q.parts)
 sliced_once s (Err e) (Err f) p q = ap Err (refused_once s e f p q)
-sliced_once s (Ok a) (Err e) p q = absurd (whole_not_refused s a e p.0 p.1 q)
-sliced_once s (Err e) (Ok a) p q = absurd (whole_not_refused s a e q.0 q.1 p)
+sliced_once s (Ok a) (Err e) p q = absurd (whole_not_refused s a e p.parts p.whole q)
+sliced_once s (Err e) (Ok a) p q = absurd (whole_not_refused s a e q.parts q.whole p)
 
 pub lax_sliced_once : (s : List ℕ) (a b : Result LaxIpSlice IpSliceError) → ReadsLaxIp s a → ReadsLaxIp s b → lax_ip_answer a ≡ lax_ip_answer b
 lax_sliced_once s (Ok a) (Ok b) p q = let same = lax_once s a.slice b.slice a.stop b.stop p q in rw (same.0, same.1) refl

@@ -121,8 +121,9 @@ pub record IsWhole (packet : List ℕ) (slice : IpSlice) : Type 0 where
   pub headers : HasWholeHeaders slice.header slice
 
 -- the packet is in these parts
-abbrev pub IsIpPacket : List ℕ → IpSlice → Type 0
-IsIpPacket packet slice = HasIpParts packet slice × IsWhole packet slice
+pub record IsIpPacket (packet : List ℕ) (slice : IpSlice) : Type 0 where
+  pub parts : HasIpParts packet slice
+  pub whole : IsWhole packet slice
 
 -- the total length is below the length of the header
 pub record StatesTooLittle (packet : List ℕ) (e : LenError) : Type 0 where

@@ -59,7 +59,7 @@ fn is_wrong(packet: &[u8]) -> bool
     ensures no { OnFalse result (IsNotWrong packet.now) }
 {
     match IpSlice::from_slice(packet) {
-        Ok(slice) => slice.verdict() == Verdict::Wrong,
+        Ok(slice) => matches!(slice.verdict(), Verdict::Wrong),
         Err(_) => false,
     }
 }
