@@ -97,12 +97,13 @@ abbrev pub address_text : IpHeaderSlice → List ℕ → List ℕ
 address_text (header.Ipv4 view) octets = ipv4_text octets
 address_text (header.Ipv6 view) octets = ipv6_text (segments_of octets)
 
--- sender, receiver and protocol of a packet, and what is shown of the header of its payload
+-- sender, receiver and protocol, and what is shown of the header that the payload begins with
 abbrev pub slice_text : IpSlice → Detail → List ℕ
 slice_text slice detail = address_text slice.header (source_of slice.header) ++ (codes " > "
     ++ (address_text slice.header (destination_of slice.header) ++ (codes " "
     ++ (upper_text slice.upper ++ (codes " " ++ detail_text detail)))))
 
+-- the same of a packet that is shown
 unfoldable pub parties_text : Shown → List ℕ
 parties_text shown = slice_text shown.lax.slice shown.detail
 

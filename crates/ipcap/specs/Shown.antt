@@ -1,7 +1,7 @@
 -- What is shown of a packet.
-use Rattle.std.specs.Prelude.{ℕ, ◌≡◌, ◌-◌, ◌≤◌, ◌==◌, ◌&&◌, ◌↔◌, ◌⊎◌, Bool, false, true, not, MatchBool}
-use Rattle.std.specs.Prelude.{IsTrue, List, MatchOption, Option, Some, None, if◌then◌else◌, length}
-use Rattle.std.specs.Prelude.{slice_index, slice_range}
+use Rattle.std.specs.Prelude.{ℕ, ◌≡◌, ◌-◌, ◌≤◌, ◌==◌, ◌&&◌, ◌↔◌, ◌⊎◌, Bool, false, true, not}
+use Rattle.std.specs.Prelude.{IsTrue, List, MatchBool, MatchOption, Option, Some, None}
+use Rattle.std.specs.Prelude.{if◌then◌else◌, length, slice_index, slice_range}
 use Rattle.std.specs.Int.{from_be_bytes, w16}
 use Rattle.std.specs.Option.{is_none}
 use Rattle.etherparse.specs.WordSums.{SumsToAllOnes}
@@ -19,16 +19,17 @@ use Rattle.ipcap.specs.declared.shown.Detail.{Detail}
 use Rattle.ipcap.specs.declared.shown.Detail.TheVariants.{Ports, Message, Nothing}
 use Rattle.ipcap.specs.declared.shown.Shown.{Shown}
 
--- how many routers it may pass: the time to live in byte 8 (RFC 791 section 3.1), or the hop limit
--- in byte 7 (RFC 8200 section 3)
+-- the hops left: the time to live in byte 8 (RFC 791 section 3.1), or the hop limit in byte 7
+-- (RFC 8200 section 3)
 abbrev pub hops_in : IpHeaderSlice → ℕ
 hops_in (header.Ipv4 view) = slice_index view.slice.now 8
 hops_in (header.Ipv6 view) = slice_index view.slice.now 7
 
+-- the same of a packet
 abbrev pub hops_of : IpSlice → ℕ
 hops_of slice = hops_in slice.header
 
--- the total length is 0, and says nothing
+-- the total length is 0, and says nothing; in IPv6 it never is
 abbrev pub has_no_length : IpSlice → Bool
 has_no_length slice = packet_len_of slice.header == 0
 

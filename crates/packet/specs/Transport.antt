@@ -26,7 +26,7 @@ use Rattle.packet.specs.declared.transport.Protocol.TheVariants as protocol
 use Rattle.packet.specs.declared.transport.TransportSlice.{TransportSlice}
 use Rattle.packet.specs.declared.transport.TransportSlice.TheVariants as transport
 
--- the protocol of a number; ICMP is over IPv4, and ICMPv6 over IPv6
+-- the protocol of a number, with that of ICMP
 abbrev pub protocol_with : ℕ → Protocol → ℕ → Option Protocol
 protocol_with icmp_number icmp number =
     if number == 17 then Some protocol.Udp
@@ -34,6 +34,7 @@ protocol_with icmp_number icmp number =
     else if number == icmp_number then Some icmp
     else None
 
+-- the protocol of a number over the version of this header: ICMP over IPv4, and ICMPv6 over IPv6
 abbrev pub protocol_over : IpHeaderSlice → ℕ → Option Protocol
 protocol_over (header.Ipv4 view) = protocol_with 1 protocol.Icmpv4
 protocol_over (header.Ipv6 view) = protocol_with 58 protocol.Icmpv6

@@ -105,7 +105,8 @@ IsVerdictIpv6 source destination number payload Wrong = (covered : List ℕ)
     × Covers 58 number payload covered × ¬ IsRightIpv6 source destination number covered
 IsVerdictIpv6 source destination number payload (Absent reason) = IsAbsent 58 number payload reason
 
--- the verdict on the payload of a packet with this header that is no fragment
+-- the verdict on the payload of a packet that is no fragment and has this header, whose addresses
+-- are taken as they stand
 abbrev pub IsVerdictOver : IpHeaderSlice → ℕ → List ℕ → Verdict → Type 0
 IsVerdictOver (header.Ipv4 view) =
     IsVerdictIpv4 (source_of (header.Ipv4 view)) (destination_of (header.Ipv4 view))
@@ -118,7 +119,8 @@ IsVerdict slice verdict = MatchOption slice.fragment
     (IsVerdictOver slice.header slice.upper slice.payload.now verdict)
     (λ fragment. verdict ≡ Absent absence.Fragment)
 
--- the same of one that may not be whole: then not all that its checksum covers is there
+-- the same of one that may not be whole: then it is not known that all is there that its checksum
+-- covers
 abbrev pub IsLaxVerdict : LaxIpSlice → Verdict → Type 0
 IsLaxVerdict lax verdict = MatchOption lax.stop (IsVerdict lax.slice verdict)
     (λ e. verdict ≡ Absent absence.Incomplete)

@@ -73,24 +73,24 @@ placed header = record {
 
 -- What there is of the packet is a header with these bytes and a payload of its protocol. The
 -- header says whether that is a fragment, and a later one if its offset is not 0.
-pub record HasIpv4Parts (packet bytes : List ℕ) (slice : IpSlice) : Type 0 where
+pub record HasIpv4Parts (packet front : List ℕ) (slice : IpSlice) : Type 0 where
   pub header : Ipv4Header
   pub begins : BeginsWith IsIpv4Layout (ipv4_bytes header packet) header slice.payload.now
-  pub view : begins.front ≡ bytes
+  pub view : begins.front ≡ front
   pub no_extensions : slice.extensions.now ≡ []
   pub fragment : slice.fragment ≡ ipv4_fragment_of header
   pub is_later : slice.is_later_fragment ≡ not (header.fragment_offset == 0)
   pub upper : slice.upper ≡ header.protocol
 
 -- What there is of the packet is a header with these bytes, whole extension headers, and a payload
--- of the number that the last of them gives. If it ends within an extension header, what there is
--- of that is in the place of the payload. The fragment header that decides says whether the payload
--- is a fragment.
-pub record HasIpv6Parts (packet bytes : List ℕ) (slice : IpSlice) : Type 0 where
+-- of the number that the last header gives. If it ends within an extension header, what there is of
+-- that is in the place of the payload. The fragment header that decides says whether the payload is
+-- a fragment, and the last header whether it is of a later one.
+pub record HasIpv6Parts (packet front : List ℕ) (slice : IpSlice) : Type 0 where
   pub header : Ipv6Header
   pub body : List ℕ
   pub begins : BeginsWith IsIpv6Layout (ipv6_bytes header packet) header body
-  pub view : begins.front ≡ bytes
+  pub view : begins.front ≡ front
   pub parts : body ≡ slice.extensions.now ++ slice.payload.now
   pub decided : Option FragmentHeader
   pub incomplete : Option LenError
@@ -107,7 +107,8 @@ HasPartsWith (header.Ipv6 view) packet slice = HasIpv6Parts packet view.slice.no
 abbrev pub HasIpParts : List ℕ → IpSlice → Type 0
 HasIpParts packet slice = HasPartsWith slice.header packet slice
 
--- no extension header is incomplete: the payload is of a later fragment, or it begins with none
+-- no extension header is incomplete: the payload is of a later fragment, or it begins with no
+-- extension header
 abbrev pub HasWholeHeaders : IpHeaderSlice → IpSlice → Type 0
 HasWholeHeaders (header.Ipv4 view) slice = Unit {0}
 HasWholeHeaders (header.Ipv6 view) slice = IsTrue slice.is_later_fragment
@@ -182,8 +183,8 @@ pub record StatesLessThanHeader (packet : List ℕ) (e : LenError) : Type 0 wher
   pub states : StatesTooLittle packet e
   pub some : states.header.total_len ≢ 0
 
--- why there are no parts at all: for each of these reasons but a missing end, and a total length of
--- 0
+-- why there are no parts at all: for each of these reasons, but not for a missing end, an
+-- incomplete extension header, or a total length of 0
 abbrev pub HasNoIpParts : List ℕ → IpSliceError → Type 0
 HasNoIpParts packet (error.Packet e) = StatesLessThanHeader packet e
 HasNoIpParts packet (error.Extensions e) = ⊥
@@ -229,11 +230,12 @@ IsAddressIn header address octets = ⊥
 abbrev pub header_len_of : IpSlice → ℕ
 header_len_of slice = length (header_bytes slice.header) + length slice.extensions.now
 
--- the header of a packet, apart from where it lies in memory
+-- the header of a packet by its version, apart from where it lies in memory
 pub data IpHeaderParts : Type 0 where
   Ipv4Bytes : List ℕ → IpHeaderParts
   Ipv6Bytes : List ℕ → IpHeaderParts
 
+-- what the view of a header shows
 abbrev pub header_parts : IpHeaderSlice → IpHeaderParts
 header_parts (header.Ipv4 view) = Ipv4Bytes view.slice.now
 header_parts (header.Ipv6 view) = Ipv6Bytes view.slice.now
@@ -247,6 +249,7 @@ pub record IpParts : Type 0 where
   pub upper : ℕ
   pub payload : List ℕ
 
+-- what a slice shows
 abbrev pub ip_parts : IpSlice → IpParts
 ip_parts slice = record {
   header = header_parts slice.header;

@@ -49,7 +49,8 @@ pub enum Absence {
     /// The protocol is none of UDP, TCP, ICMP (over IPv4) and ICMPv6 (over IPv6).
     OtherProtocol,
     /// Not all the bytes that it covers are there: fewer than 8 of UDP, 20 of TCP or 4 of ICMP, or
-    /// than the length field of UDP says; or that field is below 8.
+    /// than the length field of UDP says; or that field is below 8. Or the packet is not whole, or
+    /// its total length of 0 does not say where the payload ends.
     Incomplete,
     /// The sender has computed none: the field of UDP over IPv4 is 0 (RFC 768).
     NotComputed,
@@ -112,8 +113,9 @@ pub fn ipv6_pseudo_header(
 }
 
 /// The verdict on the checksum of an IPv4 packet's payload that is no fragment, from both addresses
-/// and the protocol's number. The payload has to end where the total length says, since each of its
-/// bytes counts, but those after a UDP datagram.
+/// and the protocol's number. That it is a fragment is not seen here. The payload has to end where
+/// the total length says, since each of its bytes counts, but those after a UDP datagram. A TCP
+/// segment of more than 65535 bytes is `Wrong`: the pseudo-header cannot say its length.
 ///
 /// # Example
 ///

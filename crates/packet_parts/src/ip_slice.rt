@@ -45,15 +45,16 @@ pub struct IpSlice<'a> {
     /// The place of the payload, if it is a fragment: more fragments follow it, or its offset is not
     /// 0. In IPv6 the first fragment header that is not atomic tells it (RFC 8200 section 4.5).
     pub fragment: Option<Fragment>,
-    /// Whether the payload is that of a fragment that is not the first: the middle of a payload,
-    /// which does not begin with the header of an upper layer.
+    /// Whether the payload is a later part of one that was fragmented, which begins with no header
+    /// of an upper layer: a fragment offset is not 0. In IPv6 any fragment header can say so, also
+    /// one after that of `fragment`, where a fragment was fragmented again.
     pub is_later_fragment: bool,
     /// The number of the payload. In IPv4 it is the header's `protocol`; in IPv6 the first that is
     /// of no extension header that can be skipped, or any that a fragment header with an offset
     /// other than 0 names.
     pub upper: IpNumber,
-    /// What follows the header and the extension headers. In IPv4 an authentication header (51) is
-    /// in it.
+    /// What follows the header and the extension headers. An encrypted payload (50) begins with its
+    /// own header; in IPv4 an authentication header (51) is in the payload too.
     pub payload: &'a [u8],
 }
 
@@ -133,9 +134,9 @@ impl<'a> IpHeaderSlice<'a> {
         }
     }
 
-    /// How long the packet is by its length field, in bytes and with the header. In IPv4 a total
-    /// length of 0 says nothing: a host writes it that leaves it to its network card to cut a long
-    /// packet (segmentation offload).
+    /// How long the packet is by its length field, in bytes and with the header: a payload length of
+    /// 0 gives 40. A total length of 0, which gives 0, says nothing: a host writes it that leaves it
+    /// to its network card to cut a long packet (segmentation offload).
     pub fn packet_len(&self) -> usize
         ensures value { result ≡ packet_len_of self.now }
     {
@@ -219,8 +220,8 @@ impl<'a> IpSlice<'a> {
         }
     }
 
-    /// The address of the receiver. In IPv6 it is that of the header, which a routing header can
-    /// have changed (RFC 8200 section 4.4).
+    /// The address of the receiver. It is that of the header, which a routing header (RFC 8200
+    /// section 4.4) or a source route option (RFC 791 section 3.1) can have changed.
     pub fn destination(&self) -> IpAddr
         ensures value { IsAddressIn self.now.header result (destination_of self.now.header) }
     {
@@ -230,8 +231,11 @@ impl<'a> IpSlice<'a> {
         }
     }
 
-    /// The verdict on the checksum of the payload: none of a fragment, or else that of
-    /// [`ipv4_verdict`] or [`ipv6_verdict`].
+    /// The verdict on the checksum of the payload: `Absent` of a fragment, or else that of
+    /// [`ipv4_verdict`] or [`ipv6_verdict`] with the addresses of the header. So a packet that a
+    /// routing header or a source route option sends on is `Wrong`, though its last receiver finds
+    /// it right (RFC 8200 section 8.1). The payload is taken for whole: for [`LaxIpSlice::slice`]
+    /// there is [`LaxIpSlice::verdict`].
     pub fn verdict(&self) -> Verdict
         ensures judges { IsVerdict self.now result }
     {
@@ -288,7 +292,7 @@ impl<'a> LaxIpSlice<'a> {
     }
 
     /// The verdict on the checksum of the payload, as [`IpSlice::verdict`] gives it; `Incomplete` if
-    /// the packet is not whole.
+    /// there is a `stop`.
     pub fn verdict(&self) -> Verdict
         ensures judges { IsLaxVerdict self.now result }
     {

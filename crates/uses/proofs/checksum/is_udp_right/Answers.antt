@@ -8,7 +8,9 @@ pub returns-in-Absent : goal.returns-in-Absent
 returns-in-Absent c = record { judged = tt; none = record { parts = c.in-Ok.slice; is_packet = c.in-Ok.ensures.found; why = search rules }; refused = tt }
 
 pub returns-in-Wrong-clause-judged : goal.returns-in-Wrong-clause-judged
-returns-in-Wrong-clause-judged c = record { parts = c.in-Ok.slice; is_packet = c.in-Ok.ensures.found; is_udp = search rules; found = search rules }
+returns-in-Wrong-clause-judged c =
+    record { parts = c.in-Ok.slice; is_packet = c.in-Ok.ensures.found; is_udp = search rules; found = search rules }
 
 pub returns-in-Right-clause-judged : goal.returns-in-Right-clause-judged
-returns-in-Right-clause-judged c = record { parts = c.in-Ok.slice; is_packet = c.in-Ok.ensures.found; is_udp = search rules; found = search rules }
+returns-in-Right-clause-judged c =
+    record { parts = c.in-Ok.slice; is_packet = c.in-Ok.ensures.found; is_udp = search rules; found = search rules }
