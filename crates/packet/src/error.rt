@@ -46,6 +46,8 @@ impl fmt::Display for SliceError {
 }
 
 // The error of a packet that starts this many bytes further on.
+#[cold]
+#[inline(never)] // A frame that nothing stops is then taken apart in registers.
 pub(crate) fn ip_error_moved(offset: usize, e: IpSliceError) -> IpSliceError
     requires fits { ip_error_place e + offset < 2 ^ 64 }
     ensures value { result ≡ ip_error_moved offset e }
@@ -63,6 +65,8 @@ pub(crate) fn ip_error_moved(offset: usize, e: IpSliceError) -> IpSliceError
 }
 
 // The error of a TCP header that starts this many bytes further on.
+#[cold]
+#[inline(never)] // Likewise.
 pub(crate) fn tcp_error_moved(offset: usize, e: TcpError) -> TcpError
     requires fits { tcp_error_place e + offset < 2 ^ 64 }
     ensures value { result ≡ tcp_error_moved offset e }
