@@ -1,6 +1,6 @@
 -- What an expression says of a frame that was taken apart (pcap-filter(7)).
-use Rattle.std.specs.Prelude.{ℕ, ◌≡◌, ◌≢◌, ◌+◌, ◌-◌, ◌^◌, ◌/◌, ◌%◌, ◌≤◌, ◌==◌, ◌&&◌, ◌||◌, ◌⊎◌, Bool}
-use Rattle.std.specs.Prelude.{false, IsFalse, IsNone, IsSome, IsSomeAnd, MatchOption, List, [], ◌∷◌, length}
+use Rattle.std.specs.Prelude.{ℕ, ◌≡◌, ◌+◌, ◌-◌, ◌^◌, ◌/◌, ◌%◌, ◌≤◌, ◌==◌, ◌&&◌, ◌||◌, ◌⊎◌, Bool}
+use Rattle.std.specs.Prelude.{false, IsFalse, IsSome, IsSomeAnd, MatchOption, List, [], ◌∷◌, length}
 use Rattle.std.specs.Prelude.{Option, None, Some, if◌then◌else◌, nat_le, slice_range, take}
 use Rattle.std.specs.Option.{option_map_or}
 use Rattle.std.specs.Int.{from_be_bytes, w32, w128}
@@ -51,7 +51,7 @@ abbrev pub IsIp : Version → SlicedPacket → Type 0
 IsIp v packet = MatchOption packet.net (packet.ether_type ≡ Some (ether_type_of v))
     (λ ip. HasVersion v ip.header)
 
--- The payload of the IP packet, behind all extension headers, has this number (IANA's protocol
+-- The payload of the IP packet, after all extension headers, has this number (IANA's protocol
 -- numbers). So has that of each of its fragments.
 abbrev pub HasProto : Option Version → ℕ → SlicedPacket → Type 0
 HasProto None number packet = IsSomeAnd packet.net (λ ip. ip.upper ≡ number)
@@ -67,7 +67,7 @@ transport_number transport.Sctp = 132
 -- A word for a protocol: an EtherType (RFC 826, RFC 903), or a number of IP's payload. ICMP (RFC
 -- 792) and IGMP (RFC 9776) are over IPv4, ICMPv6 (RFC 4443) is over IPv6; ESP (RFC 4303) and the
 -- authentication header (RFC 4302) are over either. In IPv6 the latter is an extension header, and
--- the payload's number the one behind it.
+-- the payload's number is the one after it.
 abbrev pub IsProtocol : Protocol → SlicedPacket → Type 0
 IsProtocol protocol.Arp packet = packet.ether_type ≡ Some 0x0806
 IsProtocol protocol.Rarp packet = packet.ether_type ≡ Some 0x8035

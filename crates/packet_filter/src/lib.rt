@@ -5,5 +5,10 @@ mod address;
 mod expression;
 mod filter;
 mod holds;
+mod machine;
+mod reading;
+mod text;
+mod token;
 
 pub use filter::Filter;
+pub use reading::{FilterError, one_reading};

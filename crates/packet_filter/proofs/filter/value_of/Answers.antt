@@ -1,8 +1,7 @@
-use Rattle.std.proofs.Common.{ℕ, ◌≡◌, ◌≤◌, ◌<◌, ◌+◌, ◌^◌, ◌*◌, drop, length, arith, [], add-one}
+use Rattle.std.proofs.Common.{◌≤◌, ◌^◌, arith, [], add-one}
 use Rattle.std.proofs.Math.Nat.{two-pow-succ}
 use Rattle.std.proofs.Math.Pow.{pow_mono}
-use Rattle.packet_filter.specs.Program.{expression_of}
-use Rattle.packet_filter.proofs.Runs.{Goes, ends, goes_more}
+use Rattle.packet_filter.proofs.Runs.{ends, goes_more}
 use Rattle.packet_filter.proofs.filter.value_of.Goals as goal
 
 pub after-stack-requires : goal.after-stack-requires
