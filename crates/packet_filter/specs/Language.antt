@@ -1,5 +1,6 @@
 -- The texts that are expressions, and why others are none.
 use Rattle.std.specs.Prelude.{ℕ, ◌≡◌, ◌<◌, ◌≤◌, List, [], ◌∷◌, ◌++◌, length, take}
+use Rattle.std.specs.Prelude.{codes, decimal}
 use Rattle.packet_filter.specs.Grammar.{IsExpression}
 use Rattle.packet_filter.specs.Meaning.{Expression}
 use Rattle.packet_filter.specs.Text.{Spells, words_of}
@@ -52,3 +53,11 @@ Refuses text error.TooLong = (64 < length (words_of text)) × CanGoOn (take 64 (
 Refuses text (error.Unexpected place) = IsUnexpected text place
 Refuses text error.Incomplete = (length (words_of text) ≤ 64) × CanGoOn (words_of text)
     × ((e : Expression) → ¬ IsText text e)
+
+-- the text of a refusal
+abbrev pub filter_error_text : FilterError → List ℕ
+filter_error_text (error.Unexpected place) = codes "Expression Error: The word at byte "
+    ++ (decimal place ++ codes " cannot stand there.")
+filter_error_text error.Incomplete =
+    codes "Expression Error: It ends where more words have to follow."
+filter_error_text error.TooLong = codes "Expression Error: It has more than 64 words."

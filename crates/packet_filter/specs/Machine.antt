@@ -43,6 +43,10 @@ partial_size (Operator c) = 0
 abbrev pub size_of : State → ℕ
 size_of s = partial_size s.doing + length s.waiting + length s.steps
 
+-- how many words wait or are read
+abbrev pub kept : State → ℕ
+kept s = length s.waiting + length s.steps
+
 -- a parenthesis waits first
 abbrev pub is_open : List Waiting → Bool
 is_open [] = false

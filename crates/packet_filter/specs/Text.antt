@@ -1,6 +1,7 @@
 -- The words of a text, and what each says.
 use Rattle.std.specs.Prelude.{ℕ, ◌≡◌, ◌==◌, ◌&&◌, ◌||◌, ◌+◌, ◌-◌, ◌*◌, ◌^◌, not, Bool, cond}
-use Rattle.std.specs.Prelude.{if◌then◌else◌, List, [], ◌∷◌, ◌++◌, codes, length, take, drop, Option, Some}
+use Rattle.std.specs.Prelude.{if◌then◌else◌, List, [], ◌∷◌, ◌++◌, codes, length, take, drop}
+use Rattle.std.specs.Prelude.{Option, Some}
 use Rattle.std.specs.Prelude.{None, MatchOption, nat_le, nat_lt, option_map}
 use Rattle.std.specs.List.{prefix_len}
 use Rattle.std.specs.Net.Addr.{ipv4_bits, ipv6_bits}

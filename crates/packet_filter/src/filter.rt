@@ -11,10 +11,10 @@ use packet::lax_sliced_packet::LaxSlicedPacket;
 use packet::sliced_packet::SlicedPacket;
 use std::marker::Model;
 
-/// A step of a filter.
+/// A step of an expression in postfix form, on a stack of answers.
 #[derive(Clone, Copy, Debug, PartialEq, Eq)]
 pub(crate) enum Step {
-    /// Puts whether a word group holds.
+    /// Puts whether a primitive holds.
     Test(Primitive),
     /// Takes one, and puts whether it does not hold.
     Not,
@@ -30,7 +30,8 @@ impl Default for Step {
     }
 }
 
-/// A packet filter, which contracts see as its expression.
+/// An expression that packets are chosen by. Contracts see its steps, and `expression_of` makes the
+/// expression of them.
 #[derive(Drop)]
 pub struct Filter {
     steps: ArrayVec<Step, 64>,
@@ -51,14 +52,30 @@ impl Model for Filter {
 impl Filter {
     /// The filter of steps that compute an expression.
     pub(crate) fn of_steps(steps: ArrayVec<Step, 64>) -> Filter
-        requires { Computes steps.items (expression_of steps.items) }
-        ensures { result ≡ steps.items }
+        requires computes { Computes steps.items (expression_of steps.items) }
+        ensures value { result ≡ steps.items }
     {
         Filter { steps }
     }
 
-    /// Whether a packet matches the filter. `len` is the length of its frame on the wire, in bytes,
-    /// which can be greater than that of what was captured.
+    /// Whether the expression says something true of a packet. `len` is the length of its frame on
+    /// the wire, in bytes; a capture can have fewer.
+    ///
+    /// What is not there is not found: a primitive about a header or bytes that the packet does not
+    /// have is false, and `not` of it true.
+    ///
+    /// # Example
+    ///
+    /// ```
+    /// // Ethernet, a tag of VLAN 5, IPv4 from 10.0.0.1, and a datagram to port 53.
+    /// let frame = [
+    ///     2, 0, 0, 0, 0, 2, 2, 0, 0, 0, 0, 1, 0x81, 0, 0x60, 5, 8, 0, 0x45, 0, 0, 30, 0, 0, 0, 0, 64,
+    ///     17, 0, 0, 10, 0, 0, 1, 10, 0, 0, 2, 4, 0, 0, 53, 0, 10, 0, 0, b'h', b'i',
+    /// ];
+    /// let lax = LaxSlicedPacket::from_ethernet(&frame)?;
+    /// let filter = Filter::from_text(b"udp port 53 and src net 10.0.0.0/8 and not vlan 6")?;
+    /// assert!(rt; filter.matches(&lax, frame.len()));
+    /// ```
     pub fn matches(&self, packet: &LaxSlicedPacket, len: usize) -> bool
         ensures value { IsTrue result ↔ Matches (expression_of self.now) packet.now.packet len }
     {
@@ -70,7 +87,7 @@ impl Filter {
 fn value_of(steps: &[Step], packet: &SlicedPacket, len: usize) -> bool
     requires few { length steps.now ≤ 64 }
     requires computes { Computes steps.now (expression_of steps.now) }
-    ensures { IsTrue result ↔ Matches (expression_of steps.now) packet.now len }
+    ensures value { IsTrue result ↔ Matches (expression_of steps.now) packet.now len }
 {
     let mut stack = 0;
     for step in steps {
@@ -82,7 +99,7 @@ fn value_of(steps: &[Step], packet: &SlicedPacket, len: usize) -> bool
 // The stack of answers after one step, the top in the lowest bit.
 #[inline(always)]
 fn after(stack: u64, step: &Step, packet: &SlicedPacket, len: usize) -> u64
-    requires { stack < 2 ^ 63 }
+    requires room { stack < 2 ^ 63 }
     ensures bound { result ≤ 2 * stack + 1 }
     ensures agrees { (es next : List Expression) → Agrees packet.now len stack es →
         stepped step.now es ≡ Some next → Agrees packet.now len result next }
@@ -104,7 +121,7 @@ fn after(stack: u64, step: &Step, packet: &SlicedPacket, len: usize) -> u64
 // A stack with one more answer.
 #[inline(always)]
 fn pushed(below: u64, top: bool) -> u64
-    requires { below < 2 ^ 63 }
+    requires room { below < 2 ^ 63 }
     ensures below { result / 2 ≡ below }
     ensures top { (result % 2 ≡ 1) ↔ IsTrue top }
     ensures bound { result ≤ 2 * below + 1 }

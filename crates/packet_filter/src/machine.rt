@@ -3,7 +3,7 @@
 ghost use Rattle.std.specs.Prelude.{◌≡◌, ◌+◌, ◌<◌, ◌≤◌, ◌↔◌, [], ◌∷◌, ◌++◌, IfNone, IfSome};
 ghost use Rattle.std.specs.Prelude.{IsFalse, IsTrue, length};
 ghost use Rattle.packet_filter.specs.Grammar.{bits_of};
-ghost use Rattle.packet_filter.specs.Machine.{after, alone, begin, close, complete, finish};
+ghost use Rattle.packet_filter.specs.Machine.{after, alone, begin, close, complete, finish, kept};
 ghost use Rattle.packet_filter.specs.Machine.{finish_state, is_open, next, next_directed};
 ghost use Rattle.packet_filter.specs.Machine.{next_transport, size_of, start, state_of};
 ghost use Rattle.packet_filter.specs.Machine.{step_of, step_operand, step_operator, step_within};
@@ -114,7 +114,7 @@ impl Model for Stack {
 
 impl Stack {
     fn new() -> Self
-        ensures { result ≡ [] }
+        ensures empty { result ≡ [] }
     {
         Stack {
             items: ArrayVec::new(),
@@ -122,8 +122,8 @@ impl Stack {
     }
 
     fn push(&mut self, waiting: Waiting)
-        requires { length self.old < 64 }
-        ensures { self.new ≡ waiting ∷ self.old }
+        requires room { length self.old < 64 }
+        ensures pushed { self.new ≡ waiting ∷ self.old }
     {
         self.items.push(waiting);
     }
@@ -136,13 +136,13 @@ impl Stack {
     }
 
     fn is_open(&self) -> bool
-        ensures { result ≡ is_open self.now }
+        ensures value { result ≡ is_open self.now }
     {
         matches!(self.items.as_slice().last(), Some(Waiting::Open))
     }
 
     fn is_empty(&self) -> bool
-        ensures { IsTrue result ↔ (self.now ≡ []) }
+        ensures value { IsTrue result ↔ (self.now ≡ []) }
     {
         self.items.is_empty()
     }
@@ -159,7 +159,7 @@ pub(crate) struct Machine {
 impl Machine {
     /// Before the first word.
     pub(crate) fn new() -> Self
-        ensures { state_of result ≡ start }
+        ensures first { state_of result ≡ start }
     {
         Machine {
             doing: Doing::Operand,
@@ -170,10 +170,11 @@ impl Machine {
 
     /// Takes a word. `false`: it cannot stand there.
     pub(crate) fn step(&mut self, token: Token) -> bool
-        requires { size_of (state_of self.old) < 64 }
+        requires room { size_of (state_of self.old) < 64 }
         ensures yes { IsTrue result → step_of (state_of self.old) token ≡ Some (state_of self.new) }
         ensures no { IsFalse result → step_of (state_of self.old) token ≡ None }
-        ensures size { IsTrue result → size_of (state_of self.new) ≤ size_of (state_of self.old) + 1 }
+        ensures size { IsTrue result →
+            size_of (state_of self.new) ≤ size_of (state_of self.old) + 1 }
     {
         match self.doing {
             Doing::Operand => self.step_operand(token),
@@ -184,7 +185,7 @@ impl Machine {
 
     /// Whether the words that were read are an expression. If so, the steps are its.
     pub(crate) fn finish(&mut self) -> bool
-        requires { size_of (state_of self.old) ≤ 64 }
+        requires room { size_of (state_of self.old) ≤ 64 }
         ensures yes { IsTrue result → finish (state_of self.old) ≡ Some self.new.steps.items }
         ensures no { IsFalse result → finish (state_of self.old) ≡ None }
     {
@@ -214,17 +215,19 @@ impl Machine {
 
     /// The steps so far.
     pub(crate) fn into_steps(self) -> ArrayVec<Step, 64>
-        ensures { result.items ≡ self.steps.items }
+        ensures value { result.items ≡ self.steps.items }
     {
         self.steps
     }
 
     // Where an operand may come.
     fn step_operand(&mut self, token: Token) -> bool
-        requires { length self.old.waiting + length self.old.steps.items < 64 }
-        ensures yes { IsTrue result → step_operand token self.old.waiting self.old.steps.items ≡ Some (state_of self.new) }
-        ensures no { IsFalse result → step_operand token self.old.waiting self.old.steps.items ≡ None }
-        ensures size { IsTrue result → size_of (state_of self.new) ≤ length self.old.waiting + length self.old.steps.items + 1 }
+        requires room { kept (state_of self.old) < 64 }
+        ensures yes { IsTrue result →
+            step_operand token self.old.waiting self.old.steps.items ≡ Some (state_of self.new) }
+        ensures no { IsFalse result →
+            step_operand token self.old.waiting self.old.steps.items ≡ None }
+        ensures size { IsTrue result → size_of (state_of self.new) ≤ kept (state_of self.old) + 1 }
     {
         match token {
             Token::Not => self.wait(Waiting::Not),
@@ -245,10 +248,13 @@ impl Machine {
 
     // Within a primitive.
     fn step_within(&mut self, partial: Partial, token: Token) -> bool
-        requires { length self.old.waiting + length self.old.steps.items < 63 }
-        ensures yes { IsTrue result → step_within partial token self.old.waiting self.old.steps.items ≡ Some (state_of self.new) }
-        ensures no { IsFalse result → step_within partial token self.old.waiting self.old.steps.items ≡ None }
-        ensures size { IsTrue result → size_of (state_of self.new) ≤ length self.old.waiting + length self.old.steps.items + 2 }
+        requires room { kept (state_of self.old) < 63 }
+        ensures yes { IsTrue result →
+            step_within partial token self.old.waiting self.old.steps.items
+            ≡ Some (state_of self.new) }
+        ensures no { IsFalse result →
+            step_within partial token self.old.waiting self.old.steps.items ≡ None }
+        ensures size { IsTrue result → size_of (state_of self.new) ≤ kept (state_of self.old) + 2 }
     {
         match next(partial, token) {
             Progress::More(partial) => {
@@ -271,10 +277,10 @@ impl Machine {
 
     // An operator, where one may come.
     fn step_after(&mut self, token: Token) -> bool
-        requires { length self.old.waiting + length self.old.steps.items < 64 }
+        requires room { kept (state_of self.old) < 64 }
         ensures yes { IsTrue result → after token (state_of self.old) ≡ Some (state_of self.new) }
         ensures no { IsFalse result → after token (state_of self.old) ≡ None }
-        ensures size { IsTrue result → size_of (state_of self.new) ≤ length self.old.waiting + length self.old.steps.items + 1 }
+        ensures size { IsTrue result → size_of (state_of self.new) ≤ kept (state_of self.old) + 1 }
     {
         match self.doing {
             Doing::Operator(chain) => self.step_operator(chain, token),
@@ -284,10 +290,13 @@ impl Machine {
 
     // Where an operator may come.
     fn step_operator(&mut self, chain: Chain, token: Token) -> bool
-        requires { length self.old.waiting + length self.old.steps.items < 64 }
-        ensures yes { IsTrue result → step_operator chain token self.old.waiting self.old.steps.items ≡ Some (state_of self.new) }
-        ensures no { IsFalse result → step_operator chain token self.old.waiting self.old.steps.items ≡ None }
-        ensures size { IsTrue result → size_of (state_of self.new) ≤ length self.old.waiting + length self.old.steps.items + 1 }
+        requires room { kept (state_of self.old) < 64 }
+        ensures yes { IsTrue result →
+            step_operator chain token self.old.waiting self.old.steps.items
+            ≡ Some (state_of self.new) }
+        ensures no { IsFalse result →
+            step_operator chain token self.old.waiting self.old.steps.items ≡ None }
+        ensures size { IsTrue result → size_of (state_of self.new) ≤ kept (state_of self.old) + 1 }
     {
         match (token, chain) {
             (Token::And, Chain::Lone | Chain::And) => self.wait(Waiting::And),
@@ -299,10 +308,11 @@ impl Machine {
 
     // A closing parenthesis.
     fn close(&mut self) -> bool
-        requires { length self.old.waiting + length self.old.steps.items ≤ 64 }
-        ensures yes { IsTrue result → close self.old.waiting self.old.steps.items ≡ Some (state_of self.new) }
+        requires room { kept (state_of self.old) ≤ 64 }
+        ensures yes { IsTrue result →
+            close self.old.waiting self.old.steps.items ≡ Some (state_of self.new) }
         ensures no { IsFalse result → close self.old.waiting self.old.steps.items ≡ None }
-        ensures size { IsTrue result → size_of (state_of self.new) ≤ length self.old.waiting + length self.old.steps.items }
+        ensures size { IsTrue result → size_of (state_of self.new) ≤ kept (state_of self.old) }
     {
         match self.waiting.pop() {
             Some(Waiting::Open) => {
@@ -315,10 +325,11 @@ impl Machine {
 
     // Waits for an operand.
     fn wait(&mut self, waiting: Waiting) -> bool
-        requires { length self.old.waiting < 64 }
+        requires room { length self.old.waiting < 64 }
         ensures yes { IsTrue result }
-        ensures state { waits waiting self.old.waiting self.old.steps.items ≡ Some (state_of self.new) }
-        ensures size { size_of (state_of self.new) ≡ length self.old.waiting + length self.old.steps.items + 1 }
+        ensures state { waits waiting self.old.waiting self.old.steps.items
+            ≡ Some (state_of self.new) }
+        ensures size { size_of (state_of self.new) ≡ kept (state_of self.old) + 1 }
     {
         self.waiting.push(waiting);
         self.doing = Doing::Operand;
@@ -327,10 +338,11 @@ impl Machine {
 
     // Takes a primitive.
     fn put(&mut self, primitive: Primitive)
-        requires { length self.old.waiting + length self.old.steps.items < 64 }
-        ensures state { state_of self.new ≡ complete self.old.waiting (self.old.steps.items ++ Step.Test primitive ∷ []) }
-        ensures size { length self.new.waiting + length self.new.steps.items ≡ length self.old.waiting + length self.old.steps.items + 1 }
-        ensures none { size_of (state_of self.new) ≡ length self.new.waiting + length self.new.steps.items }
+        requires room { kept (state_of self.old) < 64 }
+        ensures state { state_of self.new ≡
+            complete self.old.waiting (self.old.steps.items ++ Step.Test primitive ∷ []) }
+        ensures size { kept (state_of self.new) ≡ kept (state_of self.old) + 1 }
+        ensures none { size_of (state_of self.new) ≡ kept (state_of self.new) }
     {
         self.steps.push(Step::Test(primitive));
         self.complete();
@@ -338,10 +350,10 @@ impl Machine {
 
     // An operand is complete.
     fn complete(&mut self)
-        requires { length self.old.waiting + length self.old.steps.items ≤ 64 }
+        requires room { kept (state_of self.old) ≤ 64 }
         ensures state { state_of self.new ≡ complete self.old.waiting self.old.steps.items }
-        ensures size { length self.new.waiting + length self.new.steps.items ≡ length self.old.waiting + length self.old.steps.items }
-        ensures none { size_of (state_of self.new) ≡ length self.new.waiting + length self.new.steps.items }
+        ensures size { kept (state_of self.new) ≡ kept (state_of self.old) }
+        ensures none { size_of (state_of self.new) ≡ kept (state_of self.new) }
     {
         'nots: loop {
             if self.waiting.is_open() {

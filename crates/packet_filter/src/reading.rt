@@ -1,13 +1,14 @@
 //! Filters from text.
 
-ghost use Rattle.std.specs.Prelude.{ℕ, ◌≡◌, IfErr, IfOk, List};
-ghost use Rattle.packet_filter.specs.Language.{IsText, Refuses};
+ghost use Rattle.std.specs.Prelude.{ℕ, ◌≡◌, IfErr, IfOk, List, Some};
+ghost use Rattle.packet_filter.specs.Language.{IsText, Refuses, filter_error_text};
 ghost use Rattle.packet_filter.specs.Meaning.{Expression};
 ghost use Rattle.packet_filter.specs.Program.{expression_of};
 
 use crate::filter::Filter;
 use crate::machine::Machine;
 use crate::text::{first_word, token_of};
+use std::fmt;
 
 /// Why a text is no filter.
 #[derive(Clone, Copy, Debug, PartialEq, Eq)]
@@ -23,16 +24,54 @@ pub enum FilterError {
     TooLong,
 }
 
+impl fmt::Display for FilterError {
+    ghost output = { λ error. Some (filter_error_text error) };
+
+    fn fmt<W: fmt::Write>(&self, f: &mut fmt::Formatter<W>) -> fmt::Result {
+        match self {
+            FilterError::Unexpected { place } => {
+                let place = *place;
+                write!(
+                    f,
+                    "Expression Error: The word at byte {place} cannot stand there."
+                )
+            }
+            FilterError::Incomplete => {
+                write!(
+                    f,
+                    "Expression Error: It ends where more words have to follow."
+                )
+            }
+            FilterError::TooLong => { write!(f, "Expression Error: It has more than 64 words.") }
+        }
+    }
+}
+
 impl Filter {
     /// The number of words that an expression can have.
     pub const MAX_WORDS: usize = 64;
 
-    /// The filter that a text is.
+    /// The filter that a text is, in the words of pcap-filter(7). The crate's page has the language.
     ///
     /// # Errors
     ///
-    /// In this order, by the words: `Unexpected`, with the place of the first word that cannot
-    /// stand where it stands; `TooLong`; `Incomplete`.
+    /// `Unexpected` if one of the first 64 words cannot stand where it stands, for the first such
+    /// word; or else `TooLong` if there are more than 64; or else `Incomplete` if more have to
+    /// follow.
+    ///
+    /// # Example
+    ///
+    /// ```
+    /// assert!(rt; Filter::from_text(b"tcp port 80 or udp port 53").is_ok());
+    /// // `prot` is no word of the language.
+    /// let refused = Filter::from_text(b"tcp prot 80");
+    /// assert!(rt; matches!(refused, Err(FilterError::Unexpected { place: 4 })));
+    /// let refused = Filter::from_text(b"not (tcp or");
+    /// assert!(rt; matches!(refused, Err(FilterError::Incomplete)));
+    /// // Parentheses have to say which of `and` and `or` comes first.
+    /// let refused = Filter::from_text(b"udp or tcp and port 22");
+    /// assert!(rt; matches!(refused, Err(FilterError::Unexpected { place: 11 })));
+    /// ```
     pub fn from_text(text: &[u8]) -> Result<Filter, FilterError>
         ensures read { IfOk result (λ filter. IsText text.now (expression_of filter)) }
         ensures refused { IfErr result (Refuses text.now) }

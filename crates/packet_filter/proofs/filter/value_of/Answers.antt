@@ -20,4 +20,4 @@ loop-step-preserved c = record {
 }
 
 pub returns : goal.returns
-returns c = ends _ _ _ _ _ _ c.loop-step-test.false c.loop-step.invariant.goes
+returns c = record { value = ends _ _ _ _ _ _ c.loop-step-test.false c.loop-step.invariant.goes }

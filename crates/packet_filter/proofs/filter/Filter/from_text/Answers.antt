@@ -3,7 +3,7 @@ use Rattle.packet_filter.proofs.Fronts.{Reached, accepted, from_start, incomplet
 use Rattle.packet_filter.proofs.filter.Filter.from_text.Goals as goal
 
 pub words-init : goal.words-init
-words-init c = let r = from_start _ c.args.text.now c.new-machine.ensures in record { few = omega arith; size = r.0; reached = r.1 }
+words-init c = let r = from_start _ c.args.text.now c.new-machine.ensures.first in record { few = omega arith; size = r.0; reached = r.1 }
 
 pub words-preserved : goal.words-preserved
 words-preserved c = record {
@@ -23,12 +23,12 @@ returns-then-not-step-clause-refused c =
 pub of_steps-requires : goal.of_steps-requires
 of_steps-requires c =
     let r = accepted _ _ _ _ _ c.words.invariant.reached c.in_default.ensures.none (c.finish.ensures.yes c.if-finish.true) in
-    rw c.into_steps.ensures r.1
+    record { computes = rw c.into_steps.ensures.value r.1 }
 
 pub returns-then-finish-clause-read : goal.returns-then-finish-clause-read
 returns-then-finish-clause-read c =
     let r = accepted _ _ _ _ _ c.words.invariant.reached c.in_default.ensures.none (c.finish.ensures.yes c.if-finish.true) in
-    rw (c.of_steps.ensures, c.into_steps.ensures) r.0
+    rw (c.of_steps.ensures.value, c.into_steps.ensures.value) r.0
 
 pub returns-else-finish-clause-refused : goal.returns-else-finish-clause-refused
 returns-else-finish-clause-refused c =
