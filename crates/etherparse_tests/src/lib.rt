@@ -15,6 +15,8 @@ mod examples;
 #[cfg(test)]
 mod fields;
 #[cfg(test)]
+mod filter_examples;
+#[cfg(test)]
 mod frame_examples;
 #[cfg(test)]
 mod frames;

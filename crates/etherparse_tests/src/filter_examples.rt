@@ -1,0 +1,33 @@
+//! The examples in the doc comments of `packet_filter`, line by line as they stand there, and the
+//! texts of its errors.
+
+use packet::lax_sliced_packet::LaxSlicedPacket;
+use packet_filter::{Filter, FilterError};
+use std::test::Fail;
+
+#[test]
+fn texts_and_refusals(rt: HostRuntime) -> Result<(), Fail> {
+    assert!(rt; Filter::from_text(b"tcp port 80 or udp port 53").is_ok());
+    // `prot` is no word of the language.
+    let refused = Filter::from_text(b"tcp prot 80");
+    assert!(rt; matches!(refused, Err(FilterError::Unexpected { place: 4 })));
+    let refused = Filter::from_text(b"not (tcp or");
+    assert!(rt; matches!(refused, Err(FilterError::Incomplete)));
+    // Parentheses have to say which of `and` and `or` comes first.
+    let refused = Filter::from_text(b"udp or tcp and port 22");
+    assert!(rt; matches!(refused, Err(FilterError::Unexpected { place: 11 })));
+    Ok(())
+}
+
+#[test]
+fn a_tagged_datagram(rt: HostRuntime) -> Result<(), Fail> {
+    // Ethernet, a tag of VLAN 5, IPv4 from 10.0.0.1, and a datagram to port 53.
+    let frame = [
+        2, 0, 0, 0, 0, 2, 2, 0, 0, 0, 0, 1, 0x81, 0, 0x60, 5, 8, 0, 0x45, 0, 0, 30, 0, 0, 0, 0, 64,
+        17, 0, 0, 10, 0, 0, 1, 10, 0, 0, 2, 4, 0, 0, 53, 0, 10, 0, 0, b'h', b'i',
+    ];
+    let lax = LaxSlicedPacket::from_ethernet(&frame)?;
+    let filter = Filter::from_text(b"udp port 53 and src net 10.0.0.0/8 and not vlan 6")?;
+    assert!(rt; filter.matches(&lax, frame.len()));
+    Ok(())
+}

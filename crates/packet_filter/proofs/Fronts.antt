@@ -1,0 +1,147 @@
+-- Reading words from the first on.
+use Rattle.std.proofs.Common.{◌≡◌, ℕ, ◌+◌, ◌-◌, ◌<◌, ◌≤◌, List, [], ◌∷◌, ◌++◌, Some, None, refl, sym, ap, ◌∙◌, subst, append_assoc, length, length-append, take, arith}
+use Rattle.std.proofs.Math.Seq.{take-append_seam}
+use Rattle.std.proofs.lemmas.List.{append-nil}
+use Rattle.packet_filter.specs.Meaning.{Expression, one, negation, both, either}
+use Rattle.packet_filter.specs.Program.{and_then, built, Computes, expression_of, top_of}
+use Rattle.packet_filter.specs.Grammar.{IsExpression}
+use Rattle.packet_filter.specs.Language.{AreSpelled, CanGoOn, IsSentence, IsText, Refuses}
+use Rattle.packet_filter.specs.Machine.{State, outcome, finish, size_of, step_of, start}
+use Rattle.packet_filter.specs.Text.{BeginsWithWord, Spells, words_of}
+use Rattle.packet_filter.specs.declared.filter.Step.{Step}
+use Rattle.packet_filter.specs.declared.filter.Step.TheVariants as step
+use Rattle.packet_filter.specs.declared.reading.FilterError.TheVariants as error
+use Rattle.packet_filter.specs.declared.token.Token.{Token}
+use Rattle.packet_filter.proofs.Complete.{postfix, expression_is_read}
+use Rattle.packet_filter.proofs.Follows.{stands_can_go_on}
+use Rattle.packet_filter.proofs.Sound.{Stands, stands_on, stands_first, read_at_end}
+use Rattle.packet_filter.proofs.Spelled.{spelled_apart, spelled_once, spelled_together}
+
+-- the program of an expression puts it on the stack
+built_postfix : (e : Expression) (rest : List Step) (es : List Expression) → built (postfix e ++ rest) es ≡ built rest (e ∷ es)
+built_postfix (one p) rest es = refl
+built_postfix (negation e) rest es =
+    ap (λ l. built l es) (append_assoc (postfix e) (step.Not ∷ []) rest) ∙ built_postfix e (step.Not ∷ rest) es
+built_postfix (both a b) rest es =
+    let flat : (postfix a ++ (postfix b ++ step.And ∷ [])) ++ rest ≡ postfix a ++ (postfix b ++ step.And ∷ rest) = simp append_assoc in
+    ap (λ l. built l es) flat ∙ built_postfix a (postfix b ++ step.And ∷ rest) es ∙ built_postfix b (step.And ∷ rest) (a ∷ es)
+built_postfix (either a b) rest es =
+    let flat : (postfix a ++ (postfix b ++ step.Or ∷ [])) ++ rest ≡ postfix a ++ (postfix b ++ step.Or ∷ rest) = simp append_assoc in
+    ap (λ l. built l es) flat ∙ built_postfix a (postfix b ++ step.Or ∷ rest) es ∙ built_postfix b (step.Or ∷ rest) (a ∷ es)
+
+computes : (e : Expression) → Computes (postfix e) e
+computes e = ap (λ l. built l []) (sym (append-nil (postfix e))) ∙ built_postfix e [] []
+
+some_equal : {A : Type 0} (x y : A) → Some x ≡ Some y → x ≡ y
+some_equal x y h = cc
+
+front_equal : (a b : Expression) → Some (a ∷ []) ≡ Some (b ∷ []) → a ≡ b
+front_equal a b h = cc
+
+one_expression : (words : List Token) (a b : Expression) → IsExpression words a → IsExpression words b → a ≡ b
+one_expression words a b x y =
+    let same : postfix a ≡ postfix b = some_equal _ _ (sym (expression_is_read words a x) ∙ expression_is_read words b y) in
+    front_equal a b (sym (computes a) ∙ ap (λ l. built l []) same ∙ computes b)
+
+pub one_text : (text : List ℕ) (a b : Expression) → IsText text a → IsText text b → a ≡ b
+one_text text a b x y =
+    one_expression y.tokens a b (subst (λ t. IsExpression t a) (spelled_once (words_of text) x.tokens y.tokens x.spelled y.spelled) x.is) y.is
+
+expression_of_computed : (steps : List Step) (e : Expression) → Computes steps e → expression_of steps ≡ e
+unfolding expression_of
+expression_of_computed steps e h = ap top_of h
+
+-- the text is these words, then the rest, and the words lead to the state, whatever follows them
+pub record Reached (s : State) (text rest : List ℕ) (count : ℕ) : Type 0 where
+  pub front : List ℕ
+  pub before : List (List ℕ)
+  pub tokens : List Token
+  pub whole : text ≡ front ++ rest
+  pub words : words_of text ≡ before ++ words_of rest
+  pub counted : count ≡ length before
+  pub spelled : AreSpelled before tokens
+  pub stands : Stands s tokens
+  pub leads : (more : List Token) → outcome (tokens ++ more) start ≡ outcome more s
+
+reached_first : (text : List ℕ) → Reached start text text 0
+reached_first text = record { front = []; before = []; tokens = []; whole = refl; words = refl; counted = refl; spelled = tt; stands = stands_first; leads = λ more. refl }
+
+pub from_start : (s : State) (text : List ℕ) → s ≡ start → (size_of s ≤ 0) × Reached s text text 0
+from_start s text h = subst (λ x. (size_of x ≤ 0) × Reached x text text 0) (sym h) (omega arith, reached_first text)
+
+pub reached_more : (s next : State) (text rest word after : List ℕ) (count : ℕ) (t : Token) → Reached s text rest count → BeginsWithWord rest word after → Spells word t → step_of s t ≡ Some next → Reached next text after (count + 1)
+reached_more s next text rest word after count t r b h e = record {
+  front = r.front ++ (b.space ++ word);
+  before = r.before ++ word ∷ [];
+  tokens = r.tokens ++ t ∷ [];
+  whole =
+      let flat : r.front ++ (b.space ++ (word ++ after)) ≡ (r.front ++ (b.space ++ word)) ++ after = simp append_assoc in
+      r.whole ∙ ap (λ l. r.front ++ l) b.whole ∙ flat;
+  words = r.words ∙ ap (λ l. r.before ++ l) b.words ∙ sym (append_assoc r.before (word ∷ []) (words_of after));
+  counted = omega (arith, r.counted, length-append r.before (word ∷ []));
+  spelled = spelled_together r.before (word ∷ []) r.tokens (t ∷ []) r.spelled (h, tt);
+  stands = stands_on s t r.tokens next r.stands e;
+  leads = λ more. ap (λ l. outcome l start) (append_assoc r.tokens (t ∷ []) more) ∙ r.leads (t ∷ more) ∙ ap (λ o. and_then o (outcome more)) e;
+}
+
+none_some : {A : Type 0} (x : A) → None ≡ Some x → ⊥
+none_some x h = cc
+
+can_go_on : (s : State) (text rest : List ℕ) (count : ℕ) (r : Reached s text rest count) → CanGoOn r.before
+can_go_on s text rest count r =
+    let x = stands_can_go_on s r.tokens r.stands in
+    record { more = x.more; expression = x.expression; sentence = record { tokens = r.tokens ++ x.tokens; spelled = spelled_together r.before (words_of x.more) r.tokens x.tokens r.spelled x.spelled; is = x.is } }
+
+cannot_go_on : (s : State) (text rest word after : List ℕ) (count : ℕ) (t : Token) (r : Reached s text rest count) → Spells word t → step_of s t ≡ None → ¬ CanGoOn (r.before ++ word ∷ [])
+cannot_go_on s text rest word after count t r h e = λ c.
+    let p = spelled_apart (r.before ++ word ∷ []) (words_of c.more) c.sentence.tokens c.sentence.spelled in
+    let same : p.left ≡ r.tokens ++ t ∷ [] = spelled_once (r.before ++ word ∷ []) p.left (r.tokens ++ t ∷ []) p.front (spelled_together r.before (word ∷ []) r.tokens (t ∷ []) r.spelled (h, tt)) in
+    none_some (postfix c.expression)
+    (sym (ap (λ l. outcome l start) (p.whole ∙ ap (λ l. l ++ p.right) same ∙ append_assoc r.tokens (t ∷ []) p.right) ∙ r.leads (t ∷ p.right) ∙ ap (λ o. and_then o (outcome p.right)) e)
+    ∙ expression_is_read c.sentence.tokens c.expression c.sentence.is)
+
+pub unexpected : (s : State) (text rest word after : List ℕ) (count place : ℕ) (t : Token) → Reached s text rest count → count < 64 → BeginsWithWord rest word after → Spells word t → step_of s t ≡ None → place ≡ length text - length after - length word → Refuses text (error.Unexpected place)
+unexpected s text rest word after count place t r few b h e at =
+    let flat : r.front ++ (b.space ++ (word ++ after)) ≡ (r.front ++ b.space) ++ (word ++ after) = simp append_assoc in
+    let whole : text ≡ (r.front ++ b.space) ++ (word ++ after) = r.whole ∙ ap (λ l. r.front ++ l) b.whole ∙ flat in
+    let len : length text ≡ length (r.front ++ b.space) + (length word + length after) = ap length whole ∙ length-append (r.front ++ b.space) (word ++ after) ∙ ap (λ n. length (r.front ++ b.space) + n) (length-append word after) in
+    record {
+      front = r.front ++ b.space;
+      word = word;
+      rest = after;
+      before = r.before;
+      whole = whole;
+      at = omega (arith, at, len);
+      words = r.words ∙ ap (λ l. r.before ++ l) b.words;
+      few = omega (arith, r.counted, few);
+      can = can_go_on s text rest count r;
+      cannot = cannot_go_on s text rest word after count t r h e;
+    }
+
+pub too_long : (s : State) (text rest word after : List ℕ) → Reached s text rest 64 → BeginsWithWord rest word after → Refuses text error.TooLong
+too_long s text rest word after r b =
+    let first : take 64 (words_of text) ≡ r.before = ap (λ l. take 64 l) r.words ∙ ap (λ n. take n (r.before ++ words_of rest)) r.counted ∙ take-append_seam r.before (words_of rest) in (
+      omega (arith, r.counted, ap length r.words, length-append r.before (words_of rest), ap length b.words),
+      subst CanGoOn (sym first) (can_go_on s text rest 64 r),
+    )
+
+all_words : (s : State) (text rest : List ℕ) (count : ℕ) (r : Reached s text rest count) → words_of rest ≡ [] → words_of text ≡ r.before
+all_words s text rest count r h = r.words ∙ ap (λ l. r.before ++ l) h ∙ append-nil r.before
+
+pub accepted : (s : State) (text rest : List ℕ) (count : ℕ) (o : List Step) → Reached s text rest count → words_of rest ≡ [] → finish s ≡ Some o → IsText text (expression_of o) × Computes o (expression_of o)
+accepted s text rest count o r h e =
+    let x = read_at_end s o r.tokens r.stands e in
+    let c : Computes o x.expression = subst (λ l. Computes l x.expression) (sym x.program) (computes x.expression) in
+    let same : x.expression ≡ expression_of o = sym (expression_of_computed o x.expression c) in
+    let is : IsText text x.expression = subst (λ w. IsSentence w x.expression) (sym (all_words s text rest count r h)) (record { tokens = r.tokens; spelled = r.spelled; is = x.text }) in
+    (subst (IsText text) same is, subst (Computes o) same c)
+
+pub incomplete : (s : State) (text rest : List ℕ) (count : ℕ) → Reached s text rest count → count ≤ 64 → words_of rest ≡ [] → finish s ≡ None → Refuses text error.Incomplete
+incomplete s text rest count r few h e =
+    let all = all_words s text rest count r h in (
+      omega (arith, r.counted, ap length all, few),
+      subst CanGoOn (sym all) (can_go_on s text rest count r),
+      λ x t.
+          let same : t.tokens ≡ r.tokens = spelled_once r.before t.tokens r.tokens (subst (λ w. AreSpelled w t.tokens) all t.spelled) r.spelled in
+          none_some (postfix x) (sym (ap (λ l. outcome l start) (same ∙ sym (append-nil r.tokens)) ∙ r.leads [] ∙ e) ∙ expression_is_read t.tokens x t.is),
+    )

@@ -1,0 +1,130 @@
+//! Filters: expressions in postfix form, and their evaluation.
+
+ghost use Rattle.std.specs.Prelude.{ℕ, ◌≡◌, ◌+◌, ◌*◌, ◌/◌, ◌%◌, ◌^◌, ◌<◌, ◌≤◌, ◌↔◌, IsTrue, List};
+ghost use Rattle.std.specs.Prelude.{Some, length};
+ghost use Rattle.packet_filter.specs.Meaning.{Expression, Matches};
+ghost use Rattle.packet_filter.specs.Program.{Agrees, Computes, expression_of, stepped};
+
+use crate::expression::Primitive;
+use arrayvec::ArrayVec;
+use packet::lax_sliced_packet::LaxSlicedPacket;
+use packet::sliced_packet::SlicedPacket;
+use std::marker::Model;
+
+/// A step of an expression in postfix form, on a stack of answers.
+#[derive(Clone, Copy, Debug, PartialEq, Eq)]
+pub(crate) enum Step {
+    /// Puts whether a primitive holds.
+    Test(Primitive),
+    /// Takes one, and puts whether it does not hold.
+    Not,
+    /// Takes two, and puts whether both hold.
+    And,
+    /// Takes two, and puts whether one holds.
+    Or,
+}
+
+impl Default for Step {
+    fn default() -> Self {
+        Step::Test(Primitive::Fragment)
+    }
+}
+
+/// An expression that packets are chosen by. Contracts see its steps, and `expression_of` makes the
+/// expression of them.
+#[derive(Drop)]
+pub struct Filter {
+    steps: ArrayVec<Step, 64>,
+}
+
+impl Model for Filter {
+    ghost use Rattle.std.specs.Prelude.{List};
+    ghost use Rattle.packet_filter.specs.Program.{Computes, expression_of};
+    ghost use Rattle.packet_filter.specs.declared.filter.Step.{Step};
+
+    ghost Value = { List Step };
+
+    ghost view = { λ f. f.steps.items };
+
+    ghost invariant = { λ f. Computes f.steps.items (expression_of f.steps.items) };
+}
+
+impl Filter {
+    /// The filter of steps that compute an expression.
+    pub(crate) fn of_steps(steps: ArrayVec<Step, 64>) -> Filter
+        requires computes { Computes steps.items (expression_of steps.items) }
+        ensures value { result ≡ steps.items }
+    {
+        Filter { steps }
+    }
+
+    /// Whether the expression says something true of a packet. `len` is the length of its frame on
+    /// the wire, in bytes; a capture can have fewer.
+    ///
+    /// What is not there is not found: a primitive about a header or bytes that the packet does not
+    /// have is false, and `not` of it true.
+    ///
+    /// # Example
+    ///
+    /// ```
+    /// // Ethernet, a tag of VLAN 5, IPv4 from 10.0.0.1, and a datagram to port 53.
+    /// let frame = [
+    ///     2, 0, 0, 0, 0, 2, 2, 0, 0, 0, 0, 1, 0x81, 0, 0x60, 5, 8, 0, 0x45, 0, 0, 30, 0, 0, 0, 0, 64,
+    ///     17, 0, 0, 10, 0, 0, 1, 10, 0, 0, 2, 4, 0, 0, 53, 0, 10, 0, 0, b'h', b'i',
+    /// ];
+    /// let lax = LaxSlicedPacket::from_ethernet(&frame)?;
+    /// let filter = Filter::from_text(b"udp port 53 and src net 10.0.0.0/8 and not vlan 6")?;
+    /// assert!(rt; filter.matches(&lax, frame.len()));
+    /// ```
+    pub fn matches(&self, packet: &LaxSlicedPacket, len: usize) -> bool
+        ensures value { IsTrue result ↔ Matches (expression_of self.now) packet.now.packet len }
+    {
+        value_of(self.steps.as_slice(), &packet.packet, len)
+    }
+}
+
+// Whether the expression of these steps matches.
+fn value_of(steps: &[Step], packet: &SlicedPacket, len: usize) -> bool
+    requires few { length steps.now ≤ 64 }
+    requires computes { Computes steps.now (expression_of steps.now) }
+    ensures value { IsTrue result ↔ Matches (expression_of steps.now) packet.now len }
+{
+    let mut stack = 0;
+    for step in steps {
+        stack = after(stack, step, packet, len);
+    }
+    stack % 2 == 1
+}
+
+// The stack of answers after one step, the top in the lowest bit.
+#[inline(always)]
+fn after(stack: u64, step: &Step, packet: &SlicedPacket, len: usize) -> u64
+    requires room { stack < 2 ^ 63 }
+    ensures bound { result ≤ 2 * stack + 1 }
+    ensures agrees { (es next : List Expression) → Agrees packet.now len stack es →
+        stepped step.now es ≡ Some next → Agrees packet.now len result next }
+{
+    match step {
+        Step::Test(primitive) => pushed(stack, primitive.holds(packet, len)),
+        Step::Not => pushed(stack / 2, stack % 2 == 0),
+        Step::And => {
+            let below = stack / 2;
+            pushed(below / 2, below % 2 == 1 && stack % 2 == 1)
+        }
+        Step::Or => {
+            let below = stack / 2;
+            pushed(below / 2, below % 2 == 1 || stack % 2 == 1)
+        }
+    }
+}
+
+// A stack with one more answer.
+#[inline(always)]
+fn pushed(below: u64, top: bool) -> u64
+    requires room { below < 2 ^ 63 }
+    ensures below { result / 2 ≡ below }
+    ensures top { (result % 2 ≡ 1) ↔ IsTrue top }
+    ensures bound { result ≤ 2 * below + 1 }
+{
+    below * 2 + u64::from(top)
+}

@@ -1,0 +1,14 @@
+//! Packets chosen by an expression, in the words of pcap-filter(7). A filter takes no memory.
+#![tactic(auto)]
+
+mod address;
+mod expression;
+mod filter;
+mod holds;
+mod machine;
+mod reading;
+mod text;
+mod token;
+
+pub use filter::Filter;
+pub use reading::{FilterError, one_reading};
