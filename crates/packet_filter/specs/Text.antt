@@ -13,6 +13,7 @@ use Rattle.std.specs.declared.net.ip_addr.IpAddr.TheVariants as Ip
 use Rattle.packet_filter.specs.declared.address.Address.{Address}
 use Rattle.packet_filter.specs.declared.address.Address.TheVariants.{V4, V6}
 use Rattle.packet_filter.specs.declared.expression.Direction.TheVariants as direction
+use Rattle.packet_filter.specs.declared.expression.Operator.TheVariants as operator
 use Rattle.packet_filter.specs.declared.expression.Protocol.TheVariants as protocol
 use Rattle.packet_filter.specs.declared.expression.Transport.TheVariants as transport
 use Rattle.packet_filter.specs.declared.expression.Version.TheVariants as version
@@ -112,8 +113,8 @@ is_either word a b = bytes_eq word a || bytes_eq word b
 unfoldable pub operator_of : List ℕ → Option Token
 operator_of w =
     if is_either w (codes "not") (codes "!") then Some token.Not
-    else if is_either w (codes "and") (codes "&&") then Some token.And
-    else if is_either w (codes "or") (codes "||") then Some token.Or
+    else if is_either w (codes "and") (codes "&&") then Some (token.Operator operator.And)
+    else if is_either w (codes "or") (codes "||") then Some (token.Operator operator.Or)
     else if bytes_eq w (codes "(") then Some token.Open
     else if bytes_eq w (codes ")") then Some token.Close
     else None

@@ -51,7 +51,7 @@ impl Filter {
     /// The number of words that an expression can have.
     pub const MAX_WORDS: usize = 64;
 
-    /// The filter that a text is, in the words of pcap-filter(7). The crate's page has the language.
+    /// The filter that a text is, in the words of pcap-filter(7): the language of the crate's page.
     ///
     /// # Errors
     ///

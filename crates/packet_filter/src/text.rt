@@ -13,7 +13,7 @@ ghost use Rattle.packet_filter.specs.Text.{prefixed, protocol_of, qualifier_of, 
 ghost use Rattle.packet_filter.specs.Text.{words_of};
 
 use crate::address::Address;
-use crate::expression::{Direction, Protocol, Transport, Version};
+use crate::expression::{Direction, Operator, Protocol, Transport, Version};
 use crate::token::Token;
 use std::net::IpAddr;
 
@@ -129,9 +129,9 @@ fn operator_of(word: &[u8]) -> Option<Token>
     if is_either(word, b"not", b"!") {
         Some(Token::Not)
     } else if is_either(word, b"and", b"&&") {
-        Some(Token::And)
+        Some(Token::Operator(Operator::And))
     } else if is_either(word, b"or", b"||") {
-        Some(Token::Or)
+        Some(Token::Operator(Operator::Or))
     } else if is_word(word, b"(") {
         Some(Token::Open)
     } else if is_word(word, b")") {
