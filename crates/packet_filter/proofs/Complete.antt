@@ -6,7 +6,7 @@ use Rattle.std.proofs.lemmas.List.{append-nil}
 use Rattle.packet_filter.specs.Meaning.{Expression, one, negation, compound}
 use Rattle.packet_filter.specs.Program.{and_then}
 use Rattle.packet_filter.specs.Grammar.{IsPrimitive, version, transport, protocol, host, net, port, portrange, proto, any_vlan, vlan, less, greater, fragment, first_fragment, Kind, operand, chain, Reads, primitive, not_, parentheses, first, more, IsExpression, bits_of}
-use Rattle.packet_filter.specs.Machine.{State, complete, outcome, finish, finish_state, after, step_of, step_progress, completed, next, alone, start}
+use Rattle.packet_filter.specs.Private.Machine.{State, complete, outcome, finish, finish_state, after, step_of, step_progress, completed, next, alone, start}
 use Rattle.packet_filter.specs.declared.expression.Operator.{Operator as Joiner}
 use Rattle.packet_filter.specs.declared.expression.Operator.TheVariants.{And, Or}
 use Rattle.packet_filter.specs.declared.expression.Primitive.{Primitive}

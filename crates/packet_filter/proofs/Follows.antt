@@ -12,7 +12,7 @@ use Rattle.packet_filter.proofs.Sound.{Opens, Read, Stands, StandsAt, read_at_en
 use Rattle.packet_filter.specs.Meaning.{Expression}
 use Rattle.packet_filter.proofs.Runs.{then_some}
 use Rattle.packet_filter.specs.Grammar.{IsExpression}
-use Rattle.packet_filter.specs.Machine.{State, complete, outcome, step_of}
+use Rattle.packet_filter.specs.Private.Machine.{State, complete, outcome, step_of}
 use Rattle.packet_filter.specs.declared.address.Address.TheVariants.{V4}
 use Rattle.packet_filter.specs.declared.expression.Operator.{Operator as Joiner}
 use Rattle.packet_filter.specs.declared.expression.Operator.TheVariants.{And, Or}

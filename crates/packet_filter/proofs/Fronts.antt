@@ -6,7 +6,7 @@ use Rattle.packet_filter.specs.Meaning.{Expression, one, negation, compound}
 use Rattle.packet_filter.specs.Program.{and_then, built, Computes, expression_of, top_of}
 use Rattle.packet_filter.specs.Grammar.{IsExpression}
 use Rattle.packet_filter.specs.Language.{AreSpelled, CanGoOn, IsSentence, IsText, Refuses}
-use Rattle.packet_filter.specs.Machine.{State, outcome, finish, size_of, step_of, start}
+use Rattle.packet_filter.specs.Private.Machine.{State, outcome, finish, size_of, step_of, start}
 use Rattle.packet_filter.specs.Text.{BeginsWithWord, Spells, words_of}
 use Rattle.packet_filter.specs.declared.filter.Step.{Step}
 use Rattle.packet_filter.specs.declared.filter.Step.TheVariants as step

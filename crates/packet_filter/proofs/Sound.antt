@@ -6,7 +6,7 @@ use Rattle.packet_filter.proofs.Complete.{postfix, IsBase}
 use Rattle.packet_filter.specs.Meaning.{Expression, one, negation, compound}
 use Rattle.packet_filter.specs.Program.{and_then}
 use Rattle.packet_filter.specs.Grammar.{IsPrimitive, version, transport, protocol, host, net, port, portrange, proto, any_vlan, vlan, less, greater, fragment, first_fragment, Kind, operand, chain, Reads, primitive, not_, parentheses, first, more, IsExpression, bits_of, direction_words, transport_words, version_words}
-use Rattle.packet_filter.specs.Machine.{State, after_doing, step_state, finish_at, finish_doing, next_transport, next_directed, complete, finish, finish_state, after, step_of, step_progress, completed, close, step_operator, step_operand, begin, next, on_progress, alone, start}
+use Rattle.packet_filter.specs.Private.Machine.{State, after_doing, step_state, finish_at, finish_doing, next_transport, next_directed, complete, finish, finish_state, after, step_of, step_progress, completed, close, step_operator, step_operand, begin, next, on_progress, alone, start}
 use Rattle.packet_filter.specs.declared.expression.Direction.{Direction}
 use Rattle.packet_filter.specs.declared.expression.Operator.{Operator as Joiner}
 use Rattle.packet_filter.specs.declared.expression.Operator.TheVariants.{And, Or}

@@ -101,9 +101,15 @@ ranged (Some low) (Some high) = Some (token.Range low high)
 ranged None high = None
 ranged (Some low) None = None
 
+abbrev pub hyphen : ℕ
+hyphen = 45
+
+abbrev pub slash : ℕ
+slash = 47
+
 -- two numbers with a hyphen between them
 abbrev pub range_of : List ℕ → Option Token
-range_of word = ranged (number_of (before 45 word)) (number_of (beyond 45 word))
+range_of word = ranged (number_of (before hyphen word)) (number_of (beyond hyphen word))
 
 -- ---- names
 
@@ -182,9 +188,9 @@ addressed None = token.Unknown
 -- The word is an address, or an address, a slash and a number; or nobody knows it.
 pub record SpellsAddress (word : List ℕ) (t : Token) : Type 0 where
   pub address : Option Address
-  pub is : IsAddress (before 47 word) address
-  pub says : t ≡ (if nat_lt (place_of 47 word) (length word)
-      then prefixed address (number_of (beyond 47 word)) else addressed address)
+  pub is : IsAddress (before slash word) address
+  pub says : t ≡ (if nat_lt (place_of slash word) (length word)
+      then prefixed address (number_of (beyond slash word)) else addressed address)
 
 -- what a word says
 abbrev pub Spells : List ℕ → Token → Type 0

@@ -22,6 +22,7 @@ pub(crate) enum Step {
     Operator(Operator),
 }
 
+// What the unused room of a list of steps has.
 impl Default for Step {
     fn default() -> Self {
         Step::Test(Primitive::Fragment)

@@ -3,11 +3,11 @@
 ghost use Rattle.std.specs.Prelude.{◌≡◌, ◌+◌, ◌<◌, ◌≤◌, ◌↔◌, [], ◌∷◌, ◌++◌, IfNone, IfSome};
 ghost use Rattle.std.specs.Prelude.{IsFalse, IsTrue, length};
 ghost use Rattle.packet_filter.specs.Grammar.{bits_of};
-ghost use Rattle.packet_filter.specs.Machine.{after, alone, begin, close, complete, finish, kept};
-ghost use Rattle.packet_filter.specs.Machine.{finish_state, is_open, next, next_directed};
-ghost use Rattle.packet_filter.specs.Machine.{next_transport, size_of, start, state_of};
-ghost use Rattle.packet_filter.specs.Machine.{step_of, step_operand, step_operator, step_within};
-ghost use Rattle.packet_filter.specs.Machine.{waits};
+ghost use Rattle.packet_filter.specs.Private.Machine.{after, alone, begin, close, complete, finish};
+ghost use Rattle.packet_filter.specs.Private.Machine.{finish_state, is_open, kept, next};
+ghost use Rattle.packet_filter.specs.Private.Machine.{next_directed, next_transport, size_of};
+ghost use Rattle.packet_filter.specs.Private.Machine.{start, state_of, step_of, step_operand};
+ghost use Rattle.packet_filter.specs.Private.Machine.{step_operator, step_within, waits};
 
 use crate::address::Address;
 use crate::expression::{Direction, Operator, Primitive, Transport, Version};
@@ -27,6 +27,7 @@ pub(crate) enum Waiting {
     Open,
 }
 
+// What the unused room of a stack has.
 impl Default for Waiting {
     fn default() -> Self {
         Waiting::Not
