@@ -12,26 +12,20 @@ use packet::sliced_packet::SlicedPacket;
 use std::marker::Model;
 
 /// A step of an expression in postfix form, on a stack of answers.
-#[derive(Clone, Copy, Debug, PartialEq, Eq)]
+#[derive(Clone, Copy, Debug, Default, PartialEq, Eq)]
 pub(crate) enum Step {
     /// Puts whether a primitive holds.
     Test(Primitive),
     /// Takes one, and puts whether it does not hold.
+    #[default]
     Not,
     /// Takes two, and puts what it makes of them.
     Operator(Operator),
 }
 
-// What the unused room of a list of steps has.
-impl Default for Step {
-    fn default() -> Self {
-        Step::Test(Primitive::Fragment)
-    }
-}
-
 /// An expression that packets are chosen by. Contracts see its steps, and `expression_of` makes the
 /// expression of them.
-#[derive(Drop)]
+#[derive(Clone, Debug, Drop)]
 pub struct Filter {
     steps: ArrayVec<Step, 64>,
 }

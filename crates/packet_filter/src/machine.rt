@@ -17,21 +17,15 @@ use arrayvec::ArrayVec;
 use std::marker::Model;
 
 /// What waits for an operand to be complete.
-#[derive(Clone, Copy, Debug, PartialEq, Eq)]
+#[derive(Clone, Copy, Debug, Default, PartialEq, Eq)]
 pub(crate) enum Waiting {
     /// `not`.
+    #[default]
     Not,
     /// `and` or `or`, after its left side.
     Operator(Operator),
     /// `(`.
     Open,
-}
-
-// What the unused room of a stack has.
-impl Default for Waiting {
-    fn default() -> Self {
-        Waiting::Not
-    }
 }
 
 /// A primitive that has begun.
