@@ -23,8 +23,8 @@ fn texts_and_refusals(rt: HostRuntime) -> Result<(), Fail> {
 fn a_tagged_datagram(rt: HostRuntime) -> Result<(), Fail> {
     // Ethernet, a tag of VLAN 5, IPv4 from 10.0.0.1, and a datagram to port 53.
     let frame = [
-        2, 0, 0, 0, 0, 2, 2, 0, 0, 0, 0, 1, 0x81, 0, 0x60, 5, 8, 0, 0x45, 0, 0, 30, 0, 0, 0, 0, 64,
-        17, 0, 0, 10, 0, 0, 1, 10, 0, 0, 2, 4, 0, 0, 53, 0, 10, 0, 0, b'h', b'i',
+        2, 0, 0, 0, 0, 2, 2, 0, 0, 0, 0, 1, 0x81, 0, 0, 5, 8, 0, 0x45, 0, 0, 30, 0, 0, 0, 0, 64,
+        0x11, 0, 0, 10, 0, 0, 1, 10, 0, 0, 2, 4, 0, 0, 53, 0, 10, 0, 0, b'h', b'i',
     ];
     let lax = LaxSlicedPacket::from_ethernet(&frame)?;
     let filter = Filter::from_text(b"udp port 53 and src net 10.0.0.0/8 and not vlan 6")?;

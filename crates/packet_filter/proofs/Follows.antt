@@ -1,5 +1,5 @@
 -- What can follow the words that were read.
-use Rattle.std.proofs.Common.{zero, suc, lit≤, ◌≡◌, ℕ, List, [], ◌∷◌, ◌++◌, Some, None, refl, sym, ap, ◌∙◌, subst, append_assoc}
+use Rattle.std.proofs.Common.{zero, suc, lit≤, ◌≡◌, ℕ, List, [], ◌∷◌, ◌++◌, Option, Some, None, refl, sym, ap, ◌∙◌, subst, append_assoc}
 use Rattle.std.proofs.lemmas.List.{append-nil}
 use Rattle.std.specs.Prelude.{codes}
 use Rattle.std.proofs.lemmas.Fmt.{decimal_digit}
@@ -12,14 +12,14 @@ use Rattle.packet_filter.proofs.Sound.{Opens, Read, Stands, StandsAt, read_at_en
 use Rattle.packet_filter.specs.Meaning.{Expression}
 use Rattle.packet_filter.proofs.Runs.{then_some}
 use Rattle.packet_filter.specs.Grammar.{IsExpression}
-use Rattle.packet_filter.specs.Machine.{State, complete, outcome, step_of}
+use Rattle.packet_filter.specs.Private.Machine.{State, complete, outcome, step_of}
 use Rattle.packet_filter.specs.declared.address.Address.TheVariants.{V4}
+use Rattle.packet_filter.specs.declared.expression.Operator.{Operator as Joiner}
+use Rattle.packet_filter.specs.declared.expression.Operator.TheVariants.{And, Or}
 use Rattle.packet_filter.specs.declared.expression.Primitive.{Primitive}
 use Rattle.packet_filter.specs.declared.expression.Primitive.TheVariants as says
 use Rattle.packet_filter.specs.declared.filter.Step.{Step}
 use Rattle.packet_filter.specs.declared.filter.Step.TheVariants as step
-use Rattle.packet_filter.specs.declared.machine.Chain.{Chain}
-use Rattle.packet_filter.specs.declared.machine.Chain.TheVariants as chain
 use Rattle.packet_filter.specs.declared.machine.Doing.{Doing}
 use Rattle.packet_filter.specs.declared.machine.Doing.TheVariants.{Operand, Within, Operator}
 use Rattle.packet_filter.specs.declared.machine.Partial.{Partial}
@@ -48,33 +48,28 @@ abbrev open_in : List Waiting → ℕ
 open_in [] = zero
 open_in (waiting.Open ∷ ws) = suc (open_in ws)
 open_in (waiting.Not ∷ ws) = open_in ws
-open_in (waiting.And ∷ ws) = open_in ws
-open_in (waiting.Or ∷ ws) = open_in ws
+open_in (waiting.Operator o ∷ ws) = open_in ws
 
 -- they end the expression
 record Ends (us : List Token) (s : State) : Type 0 where
   steps : List Step
   ends : outcome us s ≡ Some steps
 
+closes_first : (c : Option Joiner) (ws : List Waiting) (out : List Step) (us : List Token) → outcome (token.Close ∷ us) (record { doing = Operator c; waiting = waiting.Open ∷ ws; steps = out }) ≡ outcome us (complete ws out)
+closes_first None ws out us = refl
+closes_first (Some And) ws out us = refl
+closes_first (Some Or) ws out us = refl
+
 closed_up : (ws : List Waiting) (ts : List Token) (out x : List Step) → Opens ws ts out → Ends (closings (open_in ws)) (complete ws x)
 closed_up [] ts out x h = record { steps = x; ends = refl }
 closed_up (waiting.Open ∷ ws) ts out x h = let e = closed_up ws h.0 out x h.2 in record { steps = e.steps; ends = e.ends }
 closed_up (waiting.Not ∷ ws) ts out x h = closed_up ws h.0 out (x ++ step.Not ∷ []) h.2
-closed_up (waiting.And ∷ []) ts out x h = record { steps = x ++ step.And ∷ []; ends = refl }
-closed_up (waiting.And ∷ waiting.Open ∷ ws) ts out x h = let e = closed_up ws h.8.0 h.1 (x ++ step.And ∷ []) h.8.2 in record { steps = e.steps; ends = e.ends }
-closed_up (waiting.And ∷ waiting.Not ∷ ws) ts out x h = absurd h.6
-closed_up (waiting.And ∷ waiting.And ∷ ws) ts out x h = absurd h.6
-closed_up (waiting.And ∷ waiting.Or ∷ ws) ts out x h = absurd h.6
-closed_up (waiting.Or ∷ []) ts out x h = record { steps = x ++ step.Or ∷ []; ends = refl }
-closed_up (waiting.Or ∷ waiting.Open ∷ ws) ts out x h = let e = closed_up ws h.8.0 h.1 (x ++ step.Or ∷ []) h.8.2 in record { steps = e.steps; ends = e.ends }
-closed_up (waiting.Or ∷ waiting.Not ∷ ws) ts out x h = absurd h.6
-closed_up (waiting.Or ∷ waiting.And ∷ ws) ts out x h = absurd h.6
-closed_up (waiting.Or ∷ waiting.Or ∷ ws) ts out x h = absurd h.6
-
-closes_first : (c : Chain) (ws : List Waiting) (out : List Step) (us : List Token) → outcome (token.Close ∷ us) (record { doing = Operator c; waiting = waiting.Open ∷ ws; steps = out }) ≡ outcome us (complete ws out)
-closes_first chain.Lone ws out us = refl
-closes_first chain.And ws out us = refl
-closes_first chain.Or ws out us = refl
+closed_up (waiting.Operator o ∷ []) ts out x h = record { steps = x ++ step.Operator o ∷ []; ends = refl }
+closed_up (waiting.Operator o ∷ waiting.Open ∷ ws) ts out x h =
+    let e = closed_up ws h.8.0 h.1 (x ++ step.Operator o ∷ []) h.8.2 in
+    record { steps = e.steps; ends = closes_first (Some o) ws (x ++ step.Operator o ∷ []) (closings (open_in ws)) ∙ e.ends }
+closed_up (waiting.Operator o ∷ waiting.Not ∷ ws) ts out x h = absurd h.6
+closed_up (waiting.Operator o ∷ waiting.Operator p ∷ ws) ts out x h = absurd h.6
 
 -- ---- words that complete a primitive, and their text
 
@@ -171,8 +166,7 @@ rest_after (Operator c) (waiting.Open ∷ ws) out ts b =
     let e = closed_up ws b.opens.0 b.steps out b.opens.2 in
     record { more = parens (suc (open_in ws)); tokens = closings (suc (open_in ws)); spelled = closed (suc (open_in ws)); ends = record { steps = e.steps; ends = closes_first c ws out (closings (open_in ws)) ∙ e.ends } }
 rest_after (Operator c) (waiting.Not ∷ ws) out ts b = absurd b.base
-rest_after (Operator c) (waiting.And ∷ ws) out ts b = absurd b.base
-rest_after (Operator c) (waiting.Or ∷ ws) out ts b = absurd b.base
+rest_after (Operator c) (waiting.Operator o ∷ ws) out ts b = absurd b.base
 
 -- a text whose words make an expression together with what was read
 pub record GoesOn (ts : List Token) : Type 0 where

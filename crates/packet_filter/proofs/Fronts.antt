@@ -2,11 +2,11 @@
 use Rattle.std.proofs.Common.{◌≡◌, ℕ, ◌+◌, ◌-◌, ◌<◌, ◌≤◌, List, [], ◌∷◌, ◌++◌, Some, None, refl, sym, ap, ◌∙◌, subst, append_assoc, length, length-append, take, arith}
 use Rattle.std.proofs.Math.Seq.{take-append_seam}
 use Rattle.std.proofs.lemmas.List.{append-nil}
-use Rattle.packet_filter.specs.Meaning.{Expression, one, negation, both, either}
+use Rattle.packet_filter.specs.Meaning.{Expression, one, negation, compound}
 use Rattle.packet_filter.specs.Program.{and_then, built, Computes, expression_of, top_of}
 use Rattle.packet_filter.specs.Grammar.{IsExpression}
 use Rattle.packet_filter.specs.Language.{AreSpelled, CanGoOn, IsSentence, IsText, Refuses}
-use Rattle.packet_filter.specs.Machine.{State, outcome, finish, size_of, step_of, start}
+use Rattle.packet_filter.specs.Private.Machine.{State, outcome, finish, size_of, step_of, start}
 use Rattle.packet_filter.specs.Text.{BeginsWithWord, Spells, words_of}
 use Rattle.packet_filter.specs.declared.filter.Step.{Step}
 use Rattle.packet_filter.specs.declared.filter.Step.TheVariants as step
@@ -22,12 +22,9 @@ built_postfix : (e : Expression) (rest : List Step) (es : List Expression) → b
 built_postfix (one p) rest es = refl
 built_postfix (negation e) rest es =
     ap (λ l. built l es) (append_assoc (postfix e) (step.Not ∷ []) rest) ∙ built_postfix e (step.Not ∷ rest) es
-built_postfix (both a b) rest es =
-    let flat : (postfix a ++ (postfix b ++ step.And ∷ [])) ++ rest ≡ postfix a ++ (postfix b ++ step.And ∷ rest) = simp append_assoc in
-    ap (λ l. built l es) flat ∙ built_postfix a (postfix b ++ step.And ∷ rest) es ∙ built_postfix b (step.And ∷ rest) (a ∷ es)
-built_postfix (either a b) rest es =
-    let flat : (postfix a ++ (postfix b ++ step.Or ∷ [])) ++ rest ≡ postfix a ++ (postfix b ++ step.Or ∷ rest) = simp append_assoc in
-    ap (λ l. built l es) flat ∙ built_postfix a (postfix b ++ step.Or ∷ rest) es ∙ built_postfix b (step.Or ∷ rest) (a ∷ es)
+built_postfix (compound o a b) rest es =
+    let flat : (postfix a ++ (postfix b ++ step.Operator o ∷ [])) ++ rest ≡ postfix a ++ (postfix b ++ step.Operator o ∷ rest) = simp append_assoc in
+    ap (λ l. built l es) flat ∙ built_postfix a (postfix b ++ step.Operator o ∷ rest) es ∙ built_postfix b (step.Operator o ∷ rest) (a ∷ es)
 
 computes : (e : Expression) → Computes (postfix e) e
 computes e = ap (λ l. built l []) (sym (append-nil (postfix e))) ∙ built_postfix e [] []

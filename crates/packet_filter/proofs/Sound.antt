@@ -3,18 +3,18 @@ use Rattle.std.proofs.Common.{◌≡◌, Bool, true, false, cond, List, [], ◌�
 use Rattle.std.specs.Prelude.{◌⊎◌, nat_le, ◌&&◌}
 use Rattle.std.proofs.lemmas.Bool.{leb-true}
 use Rattle.packet_filter.proofs.Complete.{postfix, IsBase}
-use Rattle.packet_filter.specs.Meaning.{Expression, one, negation, both, either}
+use Rattle.packet_filter.specs.Meaning.{Expression, one, negation, compound}
 use Rattle.packet_filter.specs.Program.{and_then}
-use Rattle.packet_filter.specs.Grammar.{IsPrimitive, version, transport, protocol, host, net, port, portrange, proto, any_vlan, vlan, less, greater, fragment, first_fragment, Kind, operand, conjunction, disjunction, Reads, primitive, not_, parentheses, first_and, more_and, first_or, more_or, IsExpression, bits_of, direction_words, transport_words, version_words}
-use Rattle.packet_filter.specs.Machine.{State, after_doing, step_state, finish_at, finish_doing, next_transport, next_directed, complete, finish, finish_state, after, step_of, step_progress, completed, close, step_operator, step_operand, begin, next, on_progress, alone, start}
+use Rattle.packet_filter.specs.Grammar.{IsPrimitive, version, transport, protocol, host, net, port, portrange, proto, any_vlan, vlan, less, greater, fragment, first_fragment, Kind, operand, chain, Reads, primitive, not_, parentheses, first, more, IsExpression, bits_of, direction_words, transport_words, version_words}
+use Rattle.packet_filter.specs.Private.Machine.{State, after_doing, step_state, finish_at, finish_doing, next_transport, next_directed, complete, finish, finish_state, after, step_of, step_progress, completed, close, step_operator, step_operand, begin, next, on_progress, alone, start}
 use Rattle.packet_filter.specs.declared.expression.Direction.{Direction}
+use Rattle.packet_filter.specs.declared.expression.Operator.{Operator as Joiner}
+use Rattle.packet_filter.specs.declared.expression.Operator.TheVariants.{And, Or}
 use Rattle.packet_filter.specs.declared.expression.Primitive.{Primitive}
 use Rattle.packet_filter.specs.declared.expression.Primitive.TheVariants as says
 use Rattle.packet_filter.specs.declared.expression.Transport.{Transport}
 use Rattle.packet_filter.specs.declared.filter.Step.{Step}
 use Rattle.packet_filter.specs.declared.filter.Step.TheVariants as step
-use Rattle.packet_filter.specs.declared.machine.Chain.{Chain}
-use Rattle.packet_filter.specs.declared.machine.Chain.TheVariants as chain
 use Rattle.packet_filter.specs.declared.machine.Doing.{Doing}
 use Rattle.packet_filter.specs.declared.machine.Doing.TheVariants.{Operand, Within, Operator}
 use Rattle.packet_filter.specs.declared.machine.Partial.{Partial}
@@ -50,16 +50,14 @@ abbrev pub Opens : List Waiting → List Token → List Step → Type 0
 Opens [] ts out = (ts ≡ []) × (out ≡ [])
 Opens (waiting.Not ∷ ws) ts out = (us : List Token) × (ts ≡ us ++ token.Not ∷ []) × Opens ws us out
 Opens (waiting.Open ∷ ws) ts out = (us : List Token) × (ts ≡ us ++ token.Open ∷ []) × Opens ws us out
-Opens (waiting.And ∷ ws) ts out = (us : List Token) × (o : List Step) × (l : List Token) × (a : Expression) × (ts ≡ us ++ (l ++ token.And ∷ [])) × (out ≡ o ++ postfix a) × IsBase ws × LeftOf conjunction l a × Opens ws us o
-Opens (waiting.Or ∷ ws) ts out = (us : List Token) × (o : List Step) × (l : List Token) × (a : Expression) × (ts ≡ us ++ (l ++ token.Or ∷ [])) × (out ≡ o ++ postfix a) × IsBase ws × LeftOf disjunction l a × Opens ws us o
+Opens (waiting.Operator o ∷ ws) ts out = (us : List Token) × (x : List Step) × (l : List Token) × (a : Expression) × (ts ≡ us ++ (l ++ token.Operator o ∷ [])) × (out ≡ x ++ postfix a) × IsBase ws × LeftOf (chain o) l a × Opens ws us x
 
-abbrev pub kind_of : Chain → Kind
-kind_of chain.Lone = operand
-kind_of chain.And = conjunction
-kind_of chain.Or = disjunction
+abbrev pub kind_of : Option Joiner → Kind
+kind_of None = operand
+kind_of (Some o) = chain o
 
 -- an expression stands after the words that wait
-pub record Following (c : Chain) (ws : List Waiting) (out : List Step) (ts : List Token) : Type 0 where
+pub record Following (c : Option Joiner) (ws : List Waiting) (out : List Step) (ts : List Token) : Type 0 where
   pub before : List Token
   pub steps : List Step
   pub words : List Token
@@ -93,27 +91,16 @@ completes (waiting.Not ∷ ws) ts out us a h r =
     let place : h.0 ++ (token.Not ∷ us) ≡ ts ++ us = sym (ap (λ l. l ++ us) h.1 ∙ append_assoc h.0 (token.Not ∷ []) us) in
     subst (λ l. Stands (complete ws ((out ++ postfix a) ++ step.Not ∷ [])) l) place
     (subst (λ o. Stands (complete ws o) (h.0 ++ (token.Not ∷ us))) (sym (append_assoc out (postfix a) (step.Not ∷ []))) done)
-completes (waiting.And ∷ ws) ts out us a h r = record {
+completes (waiting.Operator o ∷ ws) ts out us a h r = record {
   before = h.0;
   steps = h.1;
-  words = h.2 ++ token.And ∷ us;
-  expression = both h.3 a;
-  text = ap (λ l. l ++ us) h.4 ∙ append_assoc h.0 (h.2 ++ token.And ∷ []) us ∙ ap (λ l. h.0 ++ l) (append_assoc h.2 (token.And ∷ []) us);
-  program = append_assoc out (postfix a) (step.And ∷ []) ∙ ap (λ o. o ++ (postfix a ++ step.And ∷ [])) h.5 ∙ append_assoc h.1 (postfix h.3) (postfix a ++ step.And ∷ []);
+  words = h.2 ++ token.Operator o ∷ us;
+  expression = compound o h.3 a;
+  text = ap (λ l. l ++ us) h.4 ∙ append_assoc h.0 (h.2 ++ token.Operator o ∷ []) us ∙ ap (λ l. h.0 ++ l) (append_assoc h.2 (token.Operator o ∷ []) us);
+  program = append_assoc out (postfix a) (step.Operator o ∷ []) ∙ ap (λ x. x ++ (postfix a ++ step.Operator o ∷ [])) h.5 ∙ append_assoc h.1 (postfix h.3) (postfix a ++ step.Operator o ∷ []);
   base = h.6;
   opens = h.8;
-  reads = elim h.7 as (λ _. Reads conjunction (h.2 ++ token.And ∷ us) (both h.3 a)) [ inl x ↦ first_and x r | inr x ↦ more_and x r ];
-}
-completes (waiting.Or ∷ ws) ts out us a h r = record {
-  before = h.0;
-  steps = h.1;
-  words = h.2 ++ token.Or ∷ us;
-  expression = either h.3 a;
-  text = ap (λ l. l ++ us) h.4 ∙ append_assoc h.0 (h.2 ++ token.Or ∷ []) us ∙ ap (λ l. h.0 ++ l) (append_assoc h.2 (token.Or ∷ []) us);
-  program = append_assoc out (postfix a) (step.Or ∷ []) ∙ ap (λ o. o ++ (postfix a ++ step.Or ∷ [])) h.5 ∙ append_assoc h.1 (postfix h.3) (postfix a ++ step.Or ∷ []);
-  base = h.6;
-  opens = h.8;
-  reads = elim h.7 as (λ _. Reads disjunction (h.2 ++ token.Or ∷ us) (either h.3 a)) [ inl x ↦ first_or x r | inr x ↦ more_or x r ];
+  reads = elim h.7 as (λ _. Reads (chain o) (h.2 ++ token.Operator o ∷ us) (compound o h.3 a)) [ inl x ↦ first x r | inr x ↦ more x r ];
 }
 
 some_same : {A : Type 0} (x y : A) → Some x ≡ Some y → x ≡ y
@@ -204,17 +191,13 @@ operand_steps token.Not ws out ts s h e = subst (λ x. Stands x (ts ++ token.Not
 operand_steps token.Open ws out ts s h e = subst (λ x. Stands x (ts ++ token.Open ∷ [])) (some_same _ s e) (ts, refl, h)
 operand_steps w ws out ts s h e = progressed (begin w) ws out ts (w ∷ []) s h (begun w) e
 
-waits_and : (ws : List Waiting) (out : List Step) (ts : List Token) (c : Chain) (b : Following c ws out ts) → LeftOf conjunction b.words b.expression → Opens (waiting.And ∷ ws) (ts ++ token.And ∷ []) out
-waits_and ws out ts c b l = (b.before, b.steps, b.words, b.expression, ap (λ x. x ++ token.And ∷ []) b.text ∙ append_assoc b.before b.words (token.And ∷ []), b.program, b.base, l, b.opens)
+waits_on : (o : Joiner) (ws : List Waiting) (out : List Step) (ts : List Token) (c : Option Joiner) (b : Following c ws out ts) → LeftOf (chain o) b.words b.expression → Opens (waiting.Operator o ∷ ws) (ts ++ token.Operator o ∷ []) out
+waits_on o ws out ts c b l = (b.before, b.steps, b.words, b.expression, ap (λ x. x ++ token.Operator o ∷ []) b.text ∙ append_assoc b.before b.words (token.Operator o ∷ []), b.program, b.base, l, b.opens)
 
-waits_or : (ws : List Waiting) (out : List Step) (ts : List Token) (c : Chain) (b : Following c ws out ts) → LeftOf disjunction b.words b.expression → Opens (waiting.Or ∷ ws) (ts ++ token.Or ∷ []) out
-waits_or ws out ts c b l = (b.before, b.steps, b.words, b.expression, ap (λ x. x ++ token.Or ∷ []) b.text ∙ append_assoc b.before b.words (token.Or ∷ []), b.program, b.base, l, b.opens)
-
-close_steps : (c : Chain) (ws : List Waiting) (out : List Step) (ts : List Token) (s : State) → Following c ws out ts → close ws out ≡ Some s → Stands s (ts ++ token.Close ∷ [])
+close_steps : (c : Option Joiner) (ws : List Waiting) (out : List Step) (ts : List Token) (s : State) → Following c ws out ts → close ws out ≡ Some s → Stands s (ts ++ token.Close ∷ [])
 close_steps c [] out ts s b e = cc
 close_steps c (waiting.Not ∷ ws) out ts s b e = absurd b.base
-close_steps c (waiting.And ∷ ws) out ts s b e = absurd b.base
-close_steps c (waiting.Or ∷ ws) out ts s b e = absurd b.base
+close_steps c (waiting.Operator o ∷ ws) out ts s b e = absurd b.base
 close_steps c (waiting.Open ∷ ws) out ts s b e =
     let us = b.opens.0 in
     let done : Stands (complete ws (b.steps ++ postfix b.expression)) (us ++ (token.Open ∷ (b.words ++ token.Close ∷ []))) = completes ws us b.steps (token.Open ∷ (b.words ++ token.Close ∷ [])) b.expression b.opens.2 (parentheses b.reads) in
@@ -224,11 +207,10 @@ close_steps c (waiting.Open ∷ ws) out ts s b e =
     (subst (λ o. Stands (complete ws o) (ts ++ token.Close ∷ [])) (sym b.program)
     (subst (λ l. Stands (complete ws (b.steps ++ postfix b.expression)) l) place done))
 
-operator_steps : (c : Chain) (w : Token) (ws : List Waiting) (out : List Step) (ts : List Token) (s : State) → Following c ws out ts → step_operator c w ws out ≡ Some s → Stands s (ts ++ w ∷ [])
-operator_steps chain.Lone token.And ws out ts s b e = subst (λ x. Stands x (ts ++ token.And ∷ [])) (some_same _ s e) (waits_and ws out ts chain.Lone b (inl b.reads))
-operator_steps chain.And token.And ws out ts s b e = subst (λ x. Stands x (ts ++ token.And ∷ [])) (some_same _ s e) (waits_and ws out ts chain.And b (inr b.reads))
-operator_steps chain.Lone token.Or ws out ts s b e = subst (λ x. Stands x (ts ++ token.Or ∷ [])) (some_same _ s e) (waits_or ws out ts chain.Lone b (inl b.reads))
-operator_steps chain.Or token.Or ws out ts s b e = subst (λ x. Stands x (ts ++ token.Or ∷ [])) (some_same _ s e) (waits_or ws out ts chain.Or b (inr b.reads))
+operator_steps : (c : Option Joiner) (w : Token) (ws : List Waiting) (out : List Step) (ts : List Token) (s : State) → Following c ws out ts → step_operator c w ws out ≡ Some s → Stands s (ts ++ w ∷ [])
+operator_steps None (token.Operator o) ws out ts s b e = subst (λ x. Stands x (ts ++ token.Operator o ∷ [])) (some_same _ s e) (waits_on o ws out ts None b (inl b.reads))
+operator_steps (Some And) (token.Operator And) ws out ts s b e = subst (λ x. Stands x (ts ++ token.Operator And ∷ [])) (some_same _ s e) (waits_on And ws out ts (Some And) b (inr b.reads))
+operator_steps (Some Or) (token.Operator Or) ws out ts s b e = subst (λ x. Stands x (ts ++ token.Operator Or ∷ [])) (some_same _ s e) (waits_on Or ws out ts (Some Or) b (inr b.reads))
 operator_steps c token.Close ws out ts s b e = close_steps c ws out ts s b e
 operator_steps _ _ ws out ts s b e = cc
 

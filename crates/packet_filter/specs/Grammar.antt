@@ -1,9 +1,10 @@
 -- The language of expressions, over words (pcap-filter(7)).
 use Rattle.std.specs.Prelude.{ℕ, ◌≤◌, List, [], ◌∷◌, ◌++◌, Option, None, Some}
-use Rattle.packet_filter.specs.Meaning.{Expression, one, negation, both, either}
+use Rattle.packet_filter.specs.Meaning.{Expression, one, negation, compound}
 use Rattle.packet_filter.specs.declared.address.Address.{Address}
 use Rattle.packet_filter.specs.declared.address.Address.TheVariants.{V4, V6}
 use Rattle.packet_filter.specs.declared.expression.Direction.{Direction}
+use Rattle.packet_filter.specs.declared.expression.Operator.{Operator}
 use Rattle.packet_filter.specs.declared.expression.Primitive.{Primitive}
 use Rattle.packet_filter.specs.declared.expression.Primitive.TheVariants as says
 use Rattle.packet_filter.specs.declared.expression.Protocol.{Protocol}
@@ -59,11 +60,10 @@ pub data IsPrimitive : List Token → Primitive → Type 0 where
   fragment : IsPrimitive (token.Fragment ∷ []) says.Fragment
   first_fragment : IsPrimitive (token.First ∷ token.Fragment ∷ []) says.FirstFragment
 
--- operands; operands with `and` between them; operands with `or` between them
+-- an operand; operands with this operator between them
 pub data Kind : Type 0 where
   operand : Kind
-  conjunction : Kind
-  disjunction : Kind
+  chain : Operator → Kind
 
 -- The words are an expression of this kind. `not` binds tighter than `and` and `or`, which stand
 -- together only where parentheses keep them apart.
@@ -74,14 +74,12 @@ pub data Reads : Kind → List Token → Expression → Type 0 where
       → Reads operand (token.Not ∷ words) (negation e)
   parentheses : {kind : Kind} {words : List Token} {e : Expression} → Reads kind words e
       → Reads operand (token.Open ∷ (words ++ token.Close ∷ [])) e
-  first_and : {left right : List Token} {a b : Expression} → Reads operand left a
-      → Reads operand right b → Reads conjunction (left ++ token.And ∷ right) (both a b)
-  more_and : {left right : List Token} {a b : Expression} → Reads conjunction left a
-      → Reads operand right b → Reads conjunction (left ++ token.And ∷ right) (both a b)
-  first_or : {left right : List Token} {a b : Expression} → Reads operand left a
-      → Reads operand right b → Reads disjunction (left ++ token.Or ∷ right) (either a b)
-  more_or : {left right : List Token} {a b : Expression} → Reads disjunction left a
-      → Reads operand right b → Reads disjunction (left ++ token.Or ∷ right) (either a b)
+  first : {o : Operator} {left right : List Token} {a b : Expression} → Reads operand left a
+      → Reads operand right b
+      → Reads (chain o) (left ++ token.Operator o ∷ right) (compound o a b)
+  more : {o : Operator} {left right : List Token} {a b : Expression} → Reads (chain o) left a
+      → Reads operand right b
+      → Reads (chain o) (left ++ token.Operator o ∷ right) (compound o a b)
 
 -- the words are this expression
 pub record IsExpression (words : List Token) (e : Expression) : Type 0 where

@@ -1,6 +1,6 @@
-pub mod Meaning
-pub mod Program
 pub mod Grammar
-pub mod Machine
-pub mod Text
 pub mod Language
+pub mod Meaning
+pub mod Private
+pub mod Program
+pub mod Text

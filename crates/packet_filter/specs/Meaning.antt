@@ -16,6 +16,8 @@ use Rattle.packet_filter.specs.declared.address.Address.{Address}
 use Rattle.packet_filter.specs.declared.address.Address.TheVariants.{V4, V6}
 use Rattle.packet_filter.specs.declared.expression.Direction.{Direction}
 use Rattle.packet_filter.specs.declared.expression.Direction.TheVariants.{Destination, Source}
+use Rattle.packet_filter.specs.declared.expression.Operator.{Operator}
+use Rattle.packet_filter.specs.declared.expression.Operator.TheVariants.{And, Or}
 use Rattle.packet_filter.specs.declared.expression.Primitive.{Primitive}
 use Rattle.packet_filter.specs.declared.expression.Primitive.TheVariants as primitive
 use Rattle.packet_filter.specs.declared.expression.Protocol.{Protocol}
@@ -52,7 +54,8 @@ IsIp v packet = MatchOption packet.net (packet.ether_type ≡ Some (ether_type_o
     (λ ip. HasVersion v ip.header)
 
 -- The payload of the IP packet, after all extension headers, has this number (IANA's protocol
--- numbers). So has that of each of its fragments.
+-- numbers), also in each fragment of a packet. If the packet ends within an extension header, it is
+-- the number of that.
 abbrev pub HasProto : Option Version → ℕ → SlicedPacket → Type 0
 HasProto None number packet = IsSomeAnd packet.net (λ ip. ip.upper ≡ number)
 HasProto (Some v) number packet =
@@ -174,12 +177,11 @@ Holds primitive.FirstFragment packet len =
 pub data Expression : Type 0 where
   one : Primitive → Expression
   negation : Expression → Expression
-  both : Expression → Expression → Expression
-  either : Expression → Expression → Expression
+  compound : Operator → Expression → Expression → Expression
 
 -- what an expression says of a packet
 abbrev pub Matches : Expression → SlicedPacket → ℕ → Type 0
 Matches (one p) packet len = Holds p packet len
 Matches (negation e) packet len = ¬ Matches e packet len
-Matches (both a b) packet len = Matches a packet len × Matches b packet len
-Matches (either a b) packet len = Matches a packet len ⊎ Matches b packet len
+Matches (compound And a b) packet len = Matches a packet len × Matches b packet len
+Matches (compound Or a b) packet len = Matches a packet len ⊎ Matches b packet len

@@ -1,24 +1,22 @@
 -- Expressions in postfix form: each step takes its operands from a stack of expressions, and leaves
 -- what it makes of them.
 use Rattle.std.specs.Prelude.{ℕ, ◌≡◌, ◌/◌, ◌%◌, ◌↔◌, Option, Some, None, List, [], ◌∷◌}
-use Rattle.packet_filter.specs.Meaning.{Expression, Matches, one, negation, both, either}
 use Rattle.packet.specs.declared.sliced_packet.SlicedPacket.{SlicedPacket}
+use Rattle.packet_filter.specs.Meaning.{Expression, Matches, one, negation, compound}
+use Rattle.packet_filter.specs.declared.expression.Primitive.TheVariants as primitive
 use Rattle.packet_filter.specs.declared.filter.Step.{Step}
 use Rattle.packet_filter.specs.declared.filter.Step.TheVariants as step
-use Rattle.packet_filter.specs.declared.expression.Primitive.TheVariants as primitive
 
 -- the stack after one step, if it has the operands
 abbrev pub stepped : Step → List Expression → Option (List Expression)
 stepped (step.Test p) es = Some (one p ∷ es)
 stepped step.Not [] = None
 stepped step.Not (e ∷ es) = Some (negation e ∷ es)
-stepped step.And [] = None
-stepped step.And (b ∷ []) = None
-stepped step.And (b ∷ a ∷ es) = Some (both a b ∷ es)
-stepped step.Or [] = None
-stepped step.Or (b ∷ []) = None
-stepped step.Or (b ∷ a ∷ es) = Some (either a b ∷ es)
+stepped (step.Operator o) [] = None
+stepped (step.Operator o) (b ∷ []) = None
+stepped (step.Operator o) (b ∷ a ∷ es) = Some (compound o a b ∷ es)
 
+-- what the function makes of what is there
 abbrev pub and_then : {A B : Type 0} → Option A → (A → Option B) → Option B
 and_then None f = None
 and_then (Some x) f = f x

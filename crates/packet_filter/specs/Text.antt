@@ -13,6 +13,7 @@ use Rattle.std.specs.declared.net.ip_addr.IpAddr.TheVariants as Ip
 use Rattle.packet_filter.specs.declared.address.Address.{Address}
 use Rattle.packet_filter.specs.declared.address.Address.TheVariants.{V4, V6}
 use Rattle.packet_filter.specs.declared.expression.Direction.TheVariants as direction
+use Rattle.packet_filter.specs.declared.expression.Operator.TheVariants as operator
 use Rattle.packet_filter.specs.declared.expression.Protocol.TheVariants as protocol
 use Rattle.packet_filter.specs.declared.expression.Transport.TheVariants as transport
 use Rattle.packet_filter.specs.declared.expression.Version.TheVariants as version
@@ -100,9 +101,15 @@ ranged (Some low) (Some high) = Some (token.Range low high)
 ranged None high = None
 ranged (Some low) None = None
 
+abbrev pub hyphen : ℕ
+hyphen = 45
+
+abbrev pub slash : ℕ
+slash = 47
+
 -- two numbers with a hyphen between them
 abbrev pub range_of : List ℕ → Option Token
-range_of word = ranged (number_of (before 45 word)) (number_of (beyond 45 word))
+range_of word = ranged (number_of (before hyphen word)) (number_of (beyond hyphen word))
 
 -- ---- names
 
@@ -112,8 +119,8 @@ is_either word a b = bytes_eq word a || bytes_eq word b
 unfoldable pub operator_of : List ℕ → Option Token
 operator_of w =
     if is_either w (codes "not") (codes "!") then Some token.Not
-    else if is_either w (codes "and") (codes "&&") then Some token.And
-    else if is_either w (codes "or") (codes "||") then Some token.Or
+    else if is_either w (codes "and") (codes "&&") then Some (token.Operator operator.And)
+    else if is_either w (codes "or") (codes "||") then Some (token.Operator operator.Or)
     else if bytes_eq w (codes "(") then Some token.Open
     else if bytes_eq w (codes ")") then Some token.Close
     else None
@@ -181,9 +188,9 @@ addressed None = token.Unknown
 -- The word is an address, or an address, a slash and a number; or nobody knows it.
 pub record SpellsAddress (word : List ℕ) (t : Token) : Type 0 where
   pub address : Option Address
-  pub is : IsAddress (before 47 word) address
-  pub says : t ≡ (if nat_lt (place_of 47 word) (length word)
-      then prefixed address (number_of (beyond 47 word)) else addressed address)
+  pub is : IsAddress (before slash word) address
+  pub says : t ≡ (if nat_lt (place_of slash word) (length word)
+      then prefixed address (number_of (beyond slash word)) else addressed address)
 
 -- what a word says
 abbrev pub Spells : List ℕ → Token → Type 0

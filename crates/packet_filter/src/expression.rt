@@ -41,6 +41,15 @@ pub(crate) enum Protocol {
     Ah,
 }
 
+/// What joins two expressions.
+#[derive(Clone, Copy, Debug, PartialEq, Eq)]
+pub(crate) enum Operator {
+    /// `and`: both hold.
+    And,
+    /// `or`: one holds.
+    Or,
+}
+
 /// One end of a packet's way.
 #[derive(Clone, Copy, Debug, PartialEq, Eq)]
 pub(crate) enum Direction {

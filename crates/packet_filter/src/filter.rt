@@ -5,34 +5,27 @@ ghost use Rattle.std.specs.Prelude.{Some, length};
 ghost use Rattle.packet_filter.specs.Meaning.{Expression, Matches};
 ghost use Rattle.packet_filter.specs.Program.{Agrees, Computes, expression_of, stepped};
 
-use crate::expression::Primitive;
+use crate::expression::{Operator, Primitive};
 use arrayvec::ArrayVec;
 use packet::lax_sliced_packet::LaxSlicedPacket;
 use packet::sliced_packet::SlicedPacket;
 use std::marker::Model;
 
 /// A step of an expression in postfix form, on a stack of answers.
-#[derive(Clone, Copy, Debug, PartialEq, Eq)]
+#[derive(Clone, Copy, Debug, Default, PartialEq, Eq)]
 pub(crate) enum Step {
     /// Puts whether a primitive holds.
     Test(Primitive),
     /// Takes one, and puts whether it does not hold.
+    #[default]
     Not,
-    /// Takes two, and puts whether both hold.
-    And,
-    /// Takes two, and puts whether one holds.
-    Or,
-}
-
-impl Default for Step {
-    fn default() -> Self {
-        Step::Test(Primitive::Fragment)
-    }
+    /// Takes two, and puts what it makes of them.
+    Operator(Operator),
 }
 
 /// An expression that packets are chosen by. Contracts see its steps, and `expression_of` makes the
 /// expression of them.
-#[derive(Drop)]
+#[derive(Clone, Debug, Drop)]
 pub struct Filter {
     steps: ArrayVec<Step, 64>,
 }
@@ -69,8 +62,8 @@ impl Filter {
     /// ```
     /// // Ethernet, a tag of VLAN 5, IPv4 from 10.0.0.1, and a datagram to port 53.
     /// let frame = [
-    ///     2, 0, 0, 0, 0, 2, 2, 0, 0, 0, 0, 1, 0x81, 0, 0x60, 5, 8, 0, 0x45, 0, 0, 30, 0, 0, 0, 0, 64,
-    ///     17, 0, 0, 10, 0, 0, 1, 10, 0, 0, 2, 4, 0, 0, 53, 0, 10, 0, 0, b'h', b'i',
+    ///     2, 0, 0, 0, 0, 2, 2, 0, 0, 0, 0, 1, 0x81, 0, 0, 5, 8, 0, 0x45, 0, 0, 30, 0, 0, 0, 0, 64,
+    ///     0x11, 0, 0, 10, 0, 0, 1, 10, 0, 0, 2, 4, 0, 0, 53, 0, 10, 0, 0, b'h', b'i',
     /// ];
     /// let lax = LaxSlicedPacket::from_ethernet(&frame)?;
     /// let filter = Filter::from_text(b"udp port 53 and src net 10.0.0.0/8 and not vlan 6")?;
@@ -107,11 +100,11 @@ fn after(stack: u64, step: &Step, packet: &SlicedPacket, len: usize) -> u64
     match step {
         Step::Test(primitive) => pushed(stack, primitive.holds(packet, len)),
         Step::Not => pushed(stack / 2, stack % 2 == 0),
-        Step::And => {
+        Step::Operator(Operator::And) => {
             let below = stack / 2;
             pushed(below / 2, below % 2 == 1 && stack % 2 == 1)
         }
-        Step::Or => {
+        Step::Operator(Operator::Or) => {
             let below = stack / 2;
             pushed(below / 2, below % 2 == 1 || stack % 2 == 1)
         }

@@ -5,10 +5,12 @@ mod address;
 mod expression;
 mod filter;
 mod holds;
+mod laws;
 mod machine;
 mod reading;
 mod text;
 mod token;
 
 pub use filter::Filter;
-pub use reading::{FilterError, one_reading};
+pub use laws::one_reading;
+pub use reading::FilterError;

@@ -3,47 +3,29 @@
 ghost use Rattle.std.specs.Prelude.{◌≡◌, ◌+◌, ◌<◌, ◌≤◌, ◌↔◌, [], ◌∷◌, ◌++◌, IfNone, IfSome};
 ghost use Rattle.std.specs.Prelude.{IsFalse, IsTrue, length};
 ghost use Rattle.packet_filter.specs.Grammar.{bits_of};
-ghost use Rattle.packet_filter.specs.Machine.{after, alone, begin, close, complete, finish, kept};
-ghost use Rattle.packet_filter.specs.Machine.{finish_state, is_open, next, next_directed};
-ghost use Rattle.packet_filter.specs.Machine.{next_transport, size_of, start, state_of};
-ghost use Rattle.packet_filter.specs.Machine.{step_of, step_operand, step_operator, step_within};
-ghost use Rattle.packet_filter.specs.Machine.{waits};
+ghost use Rattle.packet_filter.specs.Private.Machine.{after, alone, begin, close, complete, finish};
+ghost use Rattle.packet_filter.specs.Private.Machine.{finish_state, is_open, kept, next};
+ghost use Rattle.packet_filter.specs.Private.Machine.{next_directed, next_transport, size_of};
+ghost use Rattle.packet_filter.specs.Private.Machine.{start, state_of, step_of, step_operand};
+ghost use Rattle.packet_filter.specs.Private.Machine.{step_operator, step_within, waits};
 
 use crate::address::Address;
-use crate::expression::{Direction, Primitive, Transport, Version};
+use crate::expression::{Direction, Operator, Primitive, Transport, Version};
 use crate::filter::Step;
 use crate::token::Token;
 use arrayvec::ArrayVec;
 use std::marker::Model;
 
 /// What waits for an operand to be complete.
-#[derive(Clone, Copy, Debug, PartialEq, Eq)]
+#[derive(Clone, Copy, Debug, Default, PartialEq, Eq)]
 pub(crate) enum Waiting {
     /// `not`.
+    #[default]
     Not,
-    /// `and`, after its left side.
-    And,
-    /// `or`, after its left side.
-    Or,
+    /// `and` or `or`, after its left side.
+    Operator(Operator),
     /// `(`.
     Open,
-}
-
-impl Default for Waiting {
-    fn default() -> Self {
-        Waiting::Not
-    }
-}
-
-/// The operators on the same level before an operand.
-#[derive(Clone, Copy, Debug, PartialEq, Eq)]
-pub(crate) enum Chain {
-    /// None.
-    Lone,
-    /// `and`.
-    And,
-    /// `or`.
-    Or,
 }
 
 /// A primitive that has begun.
@@ -93,8 +75,9 @@ pub(crate) enum Doing {
     Operand,
     /// The rest of a primitive.
     Within(Partial),
-    /// An operator, or a closing parenthesis.
-    Operator(Chain),
+    /// An operator, or a closing parenthesis. Before it this operator stands on the same level, or
+    /// none.
+    Operator(Option<Operator>),
 }
 
 /// What waits, the last first.
@@ -179,7 +162,7 @@ impl Machine {
         match self.doing {
             Doing::Operand => self.step_operand(token),
             Doing::Within(partial) => self.step_within(partial, token),
-            Doing::Operator(chain) => self.step_operator(chain, token),
+            Doing::Operator(before) => self.step_operator(before, token),
         }
     }
 
@@ -283,25 +266,30 @@ impl Machine {
         ensures size { IsTrue result → size_of (state_of self.new) ≤ kept (state_of self.old) + 1 }
     {
         match self.doing {
-            Doing::Operator(chain) => self.step_operator(chain, token),
+            Doing::Operator(before) => self.step_operator(before, token),
             Doing::Operand | Doing::Within(_) => false,
         }
     }
 
     // Where an operator may come.
-    fn step_operator(&mut self, chain: Chain, token: Token) -> bool
+    fn step_operator(&mut self, before: Option<Operator>, token: Token) -> bool
         requires room { kept (state_of self.old) < 64 }
         ensures yes { IsTrue result →
-            step_operator chain token self.old.waiting self.old.steps.items
+            step_operator before token self.old.waiting self.old.steps.items
             ≡ Some (state_of self.new) }
         ensures no { IsFalse result →
-            step_operator chain token self.old.waiting self.old.steps.items ≡ None }
+            step_operator before token self.old.waiting self.old.steps.items ≡ None }
         ensures size { IsTrue result → size_of (state_of self.new) ≤ kept (state_of self.old) + 1 }
     {
-        match (token, chain) {
-            (Token::And, Chain::Lone | Chain::And) => self.wait(Waiting::And),
-            (Token::Or, Chain::Lone | Chain::Or) => self.wait(Waiting::Or),
-            (Token::Close, _) => self.close(),
+        match (before, token) {
+            (None, Token::Operator(operator)) => self.wait(Waiting::Operator(operator)),
+            (Some(Operator::And), Token::Operator(Operator::And)) => {
+                self.wait(Waiting::Operator(Operator::And))
+            }
+            (Some(Operator::Or), Token::Operator(Operator::Or)) => {
+                self.wait(Waiting::Operator(Operator::Or))
+            }
+            (_, Token::Close) => self.close(),
             _ => false,
         }
     }
@@ -357,23 +345,18 @@ impl Machine {
     {
         'nots: loop {
             if self.waiting.is_open() {
-                self.doing = Doing::Operator(Chain::Lone);
+                self.doing = Doing::Operator(None);
                 return;
             }
             match self.waiting.pop() {
                 Some(Waiting::Not) => self.steps.push(Step::Not),
-                Some(Waiting::And) => {
-                    self.steps.push(Step::And);
-                    self.doing = Doing::Operator(Chain::And);
-                    return;
-                }
-                Some(Waiting::Or) => {
-                    self.steps.push(Step::Or);
-                    self.doing = Doing::Operator(Chain::Or);
+                Some(Waiting::Operator(operator)) => {
+                    self.steps.push(Step::Operator(operator));
+                    self.doing = Doing::Operator(Some(operator));
                     return;
                 }
                 Some(Waiting::Open) | None => {
-                    self.doing = Doing::Operator(Chain::Lone);
+                    self.doing = Doing::Operator(None);
                     return;
                 }
             }

@@ -1,8 +1,7 @@
 //! Filters from text.
 
-ghost use Rattle.std.specs.Prelude.{ℕ, ◌≡◌, IfErr, IfOk, List, Some};
+ghost use Rattle.std.specs.Prelude.{IfErr, IfOk, Some};
 ghost use Rattle.packet_filter.specs.Language.{IsText, Refuses, filter_error_text};
-ghost use Rattle.packet_filter.specs.Meaning.{Expression};
 ghost use Rattle.packet_filter.specs.Program.{expression_of};
 
 use crate::filter::Filter;
@@ -51,7 +50,7 @@ impl Filter {
     /// The number of words that an expression can have.
     pub const MAX_WORDS: usize = 64;
 
-    /// The filter that a text is, in the words of pcap-filter(7). The crate's page has the language.
+    /// The filter that a text is, in the words of pcap-filter(7): the language of the crate's page.
     ///
     /// # Errors
     ///
@@ -98,8 +97,3 @@ impl Filter {
         }
     }
 }
-
-/// A text is one expression at most.
-pub fn one_reading()
-    ensures only { (text : List ℕ) (a b : Expression) → IsText text a → IsText text b → a ≡ b }
-{}

@@ -8,12 +8,11 @@ ghost use Rattle.packet_filter.specs.Text.{BeginsWithWord, IsAddress, Spells, Sp
 ghost use Rattle.packet_filter.specs.Text.{address_of, addressed, before, belongs, beyond};
 ghost use Rattle.packet_filter.specs.Text.{is_digit, is_either, is_mark, is_operator, is_plain};
 ghost use Rattle.packet_filter.specs.Text.{is_space, keyword_of, number_of, operator_of, place_of};
-ghost use Rattle.packet_filter.specs.Text.{with_digits};
 ghost use Rattle.packet_filter.specs.Text.{prefixed, protocol_of, qualifier_of, range_of, ranged};
-ghost use Rattle.packet_filter.specs.Text.{words_of};
+ghost use Rattle.packet_filter.specs.Text.{with_digits, words_of};
 
 use crate::address::Address;
-use crate::expression::{Direction, Protocol, Transport, Version};
+use crate::expression::{Direction, Operator, Protocol, Transport, Version};
 use crate::token::Token;
 use std::net::IpAddr;
 
@@ -50,22 +49,25 @@ fn word_len(operator: bool, text: &[u8]) -> usize
     text.len()
 }
 
+// Whether a byte only parts words.
 fn is_space(byte: u8) -> bool
     ensures value { result ≡ is_space byte }
 {
-    byte == 32 || byte == 9 || byte == 10 || byte == 13
+    matches!(byte, b' ' | b'\t' | b'\n' | b'\r')
 }
 
+// Whether a byte is a word wherever it stands.
 fn is_mark(byte: u8) -> bool
     ensures value { result ≡ is_mark byte }
 {
-    byte == 40 || byte == 41 || byte == 33
+    matches!(byte, b'(' | b')' | b'!')
 }
 
+// Whether a byte stands in no word with other bytes.
 fn is_operator(byte: u8) -> bool
     ensures value { result ≡ is_operator byte }
 {
-    byte == 38 || byte == 124
+    matches!(byte, b'&' | b'|')
 }
 
 // Whether a byte goes on with a word of `&` and `|`, or with one of other bytes.
@@ -110,18 +112,21 @@ fn keyword_of(word: &[u8]) -> Option<Token>
     }
 }
 
+// Whether a word is this name.
 fn is_word(word: &[u8], name: &[u8]) -> bool
     ensures value { result ≡ bytes_eq word.now name.now }
 {
     word == name
 }
 
+// Whether a word is one of these names.
 fn is_either(word: &[u8], a: &[u8], b: &[u8]) -> bool
     ensures value { result ≡ is_either word.now a.now b.now }
 {
     is_word(word, a) || is_word(word, b)
 }
 
+// `not`, `and`, `or` and parentheses.
 #[tactic(auto, unfolding(crate::specs::Text::operator_of))]
 fn operator_of(word: &[u8]) -> Option<Token>
     ensures value { result ≡ operator_of word.now }
@@ -129,9 +134,9 @@ fn operator_of(word: &[u8]) -> Option<Token>
     if is_either(word, b"not", b"!") {
         Some(Token::Not)
     } else if is_either(word, b"and", b"&&") {
-        Some(Token::And)
+        Some(Token::Operator(Operator::And))
     } else if is_either(word, b"or", b"||") {
-        Some(Token::Or)
+        Some(Token::Operator(Operator::Or))
     } else if is_word(word, b"(") {
         Some(Token::Open)
     } else if is_word(word, b")") {
@@ -141,6 +146,7 @@ fn operator_of(word: &[u8]) -> Option<Token>
     }
 }
 
+// The names of protocols.
 #[tactic(auto, unfolding(crate::specs::Text::protocol_of))]
 fn protocol_of(word: &[u8]) -> Option<Token>
     ensures value { result ≡ protocol_of word.now }
@@ -174,6 +180,7 @@ fn protocol_of(word: &[u8]) -> Option<Token>
     }
 }
 
+// The other names.
 #[tactic(auto, unfolding(crate::specs::Text::qualifier_of))]
 fn qualifier_of(word: &[u8]) -> Option<Token>
     ensures value { result ≡ qualifier_of word.now }
@@ -241,10 +248,10 @@ fn with_digit(number: u32, digit: u8) -> Option<u32>
     ensures none { IfNone result
         (IsFalse (is_digit digit && nat_lt (10 * number + (digit - 48)) (2 ^ 32))) }
 {
-    if digit < 48 || 57 < digit {
+    if digit < b'0' || b'9' < digit {
         return None;
     }
-    number.checked_mul(10)?.checked_add(u32::from(digit - 48))
+    number.checked_mul(10)?.checked_add(u32::from(digit - b'0'))
 }
 
 // Where a byte first stands in a word.

@@ -1,17 +1,15 @@
 //! The words of an expression, each as what it says.
 
 use crate::address::Address;
-use crate::expression::{Direction, Protocol, Transport, Version};
+use crate::expression::{Direction, Operator, Protocol, Transport, Version};
 
 /// A word of an expression.
 #[derive(Clone, Copy, Debug, PartialEq, Eq)]
 pub(crate) enum Token {
     /// `not` or `!`.
     Not,
-    /// `and` or `&&`.
-    And,
-    /// `or` or `||`.
-    Or,
+    /// `and` or `&&`; `or` or `||`.
+    Operator(Operator),
     /// `(`.
     Open,
     /// `)`.

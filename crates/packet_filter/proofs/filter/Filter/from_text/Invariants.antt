@@ -1,5 +1,5 @@
 use Rattle.std.proofs.Common.{◌≤◌, length}
-use Rattle.packet_filter.specs.Machine.{size_of, state_of}
+use Rattle.packet_filter.specs.Private.Machine.{size_of, state_of}
 use Rattle.packet_filter.proofs.Fronts.{Reached}
 use Rattle.packet_filter.proofs.filter.Filter.from_text.Given as goal
 

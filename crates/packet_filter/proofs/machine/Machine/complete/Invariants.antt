@@ -1,5 +1,5 @@
 use Rattle.std.proofs.Common.{◌≡◌, ◌+◌, length}
-use Rattle.packet_filter.specs.Machine.{complete}
+use Rattle.packet_filter.specs.Private.Machine.{complete}
 use Rattle.packet_filter.proofs.machine.Machine.complete.Given as goal
 
 abbrev pub invariant-nots : goal.invariant-nots

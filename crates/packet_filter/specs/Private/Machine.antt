@@ -4,13 +4,13 @@ use Rattle.std.specs.Prelude.{if◌then◌else◌, List, [], ◌∷◌, ◌++◌
 use Rattle.packet_filter.specs.Grammar.{bits_of}
 use Rattle.packet_filter.specs.Program.{and_then}
 use Rattle.packet_filter.specs.declared.expression.Direction.{Direction}
+use Rattle.packet_filter.specs.declared.expression.Operator.{Operator as Joiner}
+use Rattle.packet_filter.specs.declared.expression.Operator.TheVariants.{And, Or}
 use Rattle.packet_filter.specs.declared.expression.Primitive.{Primitive}
 use Rattle.packet_filter.specs.declared.expression.Primitive.TheVariants as says
 use Rattle.packet_filter.specs.declared.expression.Transport.{Transport}
 use Rattle.packet_filter.specs.declared.filter.Step.{Step}
 use Rattle.packet_filter.specs.declared.filter.Step.TheVariants as step
-use Rattle.packet_filter.specs.declared.machine.Chain.{Chain}
-use Rattle.packet_filter.specs.declared.machine.Chain.TheVariants as chain
 use Rattle.packet_filter.specs.declared.machine.Doing.{Doing}
 use Rattle.packet_filter.specs.declared.machine.Doing.TheVariants.{Operand, Within, Operator}
 use Rattle.packet_filter.specs.declared.machine.Machine.{Machine}
@@ -52,8 +52,7 @@ abbrev pub is_open : List Waiting → Bool
 is_open [] = false
 is_open (waiting.Open ∷ ws) = true
 is_open (waiting.Not ∷ ws) = false
-is_open (waiting.And ∷ ws) = false
-is_open (waiting.Or ∷ ws) = false
+is_open (waiting.Operator o ∷ ws) = false
 
 -- the first word of a primitive
 abbrev pub begin : Token → Progress
@@ -116,14 +115,12 @@ alone _ = None
 
 -- an operand is complete
 abbrev pub complete : List Waiting → List Step → State
-complete [] out = record { doing = Operator chain.Lone; waiting = []; steps = out }
+complete [] out = record { doing = Operator None; waiting = []; steps = out }
 complete (waiting.Open ∷ ws) out =
-    record { doing = Operator chain.Lone; waiting = waiting.Open ∷ ws; steps = out }
+    record { doing = Operator None; waiting = waiting.Open ∷ ws; steps = out }
 complete (waiting.Not ∷ ws) out = complete ws (out ++ step.Not ∷ [])
-complete (waiting.And ∷ ws) out =
-    record { doing = Operator chain.And; waiting = ws; steps = out ++ step.And ∷ [] }
-complete (waiting.Or ∷ ws) out =
-    record { doing = Operator chain.Or; waiting = ws; steps = out ++ step.Or ∷ [] }
+complete (waiting.Operator o ∷ ws) out =
+    record { doing = Operator (Some o); waiting = ws; steps = out ++ step.Operator o ∷ [] }
 
 abbrev pub on_progress : Progress → List Waiting → List Step → Option State
 on_progress (More p) ws out = Some (record { doing = Within p; waiting = ws; steps = out })
@@ -141,19 +138,15 @@ step_operand w ws out = on_progress (begin w) ws out
 abbrev pub close : List Waiting → List Step → Option State
 close (waiting.Open ∷ ws) out = Some (complete ws out)
 close (waiting.Not ∷ ws) out = None
-close (waiting.And ∷ ws) out = None
-close (waiting.Or ∷ ws) out = None
+close (waiting.Operator o ∷ ws) out = None
 close [] out = None
 
-abbrev pub step_operator : Chain → Token → List Waiting → List Step → Option State
-step_operator chain.Lone token.And ws out = waits waiting.And ws out
-step_operator chain.And token.And ws out = waits waiting.And ws out
-step_operator chain.Or token.And ws out = None
-step_operator chain.Lone token.Or ws out = waits waiting.Or ws out
-step_operator chain.Or token.Or ws out = waits waiting.Or ws out
-step_operator chain.And token.Or ws out = None
-step_operator c token.Close ws out = close ws out
-step_operator c _ ws out = None
+abbrev pub step_operator : Option Joiner → Token → List Waiting → List Step → Option State
+step_operator None (token.Operator o) ws out = waits (waiting.Operator o) ws out
+step_operator (Some And) (token.Operator And) ws out = waits (waiting.Operator And) ws out
+step_operator (Some Or) (token.Operator Or) ws out = waits (waiting.Operator Or) ws out
+step_operator before token.Close ws out = close ws out
+step_operator before _ ws out = None
 
 -- the operand is complete
 abbrev pub completed : Option Primitive → List Waiting → List Step → Option State

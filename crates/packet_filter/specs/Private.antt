@@ -1,0 +1,2 @@
+-- What private functions keep on their way. No public clause cites it: a reader may skip it.
+pub mod Machine
