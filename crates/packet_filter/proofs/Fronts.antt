@@ -10,6 +10,7 @@ use Rattle.packet_filter.specs.Private.Machine.{State, outcome, finish, size_of,
 use Rattle.packet_filter.specs.Text.{BeginsWithWord, Spells, words_of}
 use Rattle.packet_filter.specs.declared.filter.Step.{Step}
 use Rattle.packet_filter.specs.declared.filter.Step.TheVariants as step
+use Rattle.packet_filter.specs.declared.reading.FilterError.{FilterError}
 use Rattle.packet_filter.specs.declared.reading.FilterError.TheVariants as error
 use Rattle.packet_filter.specs.declared.token.Token.{Token}
 use Rattle.packet_filter.proofs.Complete.{postfix, expression_is_read}
@@ -142,3 +143,10 @@ incomplete s text rest count r few h e =
           let same : t.tokens ≡ r.tokens = spelled_once r.before t.tokens r.tokens (subst (λ w. AreSpelled w t.tokens) all t.spelled) r.spelled in
           none_some (postfix x) (sym (ap (λ l. outcome l start) (same ∙ sym (append-nil r.tokens)) ∙ r.leads [] ∙ e) ∙ expression_is_read t.tokens x t.is),
     )
+
+-- a text of the language that is not too long is not refused
+pub not_refused : (text : List ℕ) (e : Expression) (x : FilterError) → IsText text e → length (words_of text) ≤ 64 → Refuses text x → ⊥
+not_refused text e error.TooLong t few r = omega (arith, few, r.0)
+not_refused text e (error.Unexpected place) t few u =
+    u.cannot (record { more = u.rest; expression = e; sentence = subst (λ w. IsSentence w e) (u.words ∙ sym (append_assoc u.before (u.word ∷ []) (words_of u.rest))) t })
+not_refused text e error.Incomplete t few r = r.2 e t

@@ -1,8 +1,7 @@
 -- The words of a text, and what each says.
 use Rattle.std.specs.Prelude.{ℕ, ◌≡◌, ◌==◌, ◌&&◌, ◌||◌, ◌+◌, ◌-◌, ◌*◌, ◌^◌, not, Bool, cond}
 use Rattle.std.specs.Prelude.{if◌then◌else◌, List, [], ◌∷◌, ◌++◌, codes, length, take, drop}
-use Rattle.std.specs.Prelude.{Option, Some}
-use Rattle.std.specs.Prelude.{None, MatchOption, nat_le, nat_lt, option_map}
+use Rattle.std.specs.Prelude.{Option, Some, None, MatchOption, nat_le, nat_lt, option_map}
 use Rattle.std.specs.List.{prefix_len}
 use Rattle.std.specs.Net.Addr.{ipv4_bits, ipv6_bits}
 use Rattle.std.specs.Net.Grammar.{IsIpText}
@@ -30,6 +29,7 @@ is_space c = (c == 32) || (c == 9) || (c == 10) || (c == 13)
 abbrev pub is_mark : ℕ → Bool
 is_mark c = (c == 40) || (c == 41) || (c == 33)
 
+-- any other byte
 abbrev pub is_plain : ℕ → Bool
 is_plain c = not (is_space c || is_mark c)
 
@@ -41,17 +41,18 @@ is_operator c = (c == 38) || (c == 124)
 abbrev pub belongs : Bool → ℕ → Bool
 belongs operator c = is_plain c && cond operator (is_operator c) (not (is_operator c))
 
--- the byte before the first word
+-- the words, of which the first has this byte at its front too
 abbrev pub extended : ℕ → List (List ℕ) → List (List ℕ)
 extended c [] = (c ∷ []) ∷ []
 extended c (w ∷ ws) = (c ∷ w) ∷ ws
 
--- a byte of a word before a text with these words
+-- the words of a text that has a byte of a word before a text with these words
 abbrev pub front : ℕ → List ℕ → List (List ℕ) → List (List ℕ)
 front c [] ws = (c ∷ []) ∷ ws
 front c (d ∷ s) ws = cond (belongs (is_operator c) d) (extended c ws) ((c ∷ []) ∷ ws)
 
--- the words of a text
+-- The words of a text: `(`, `)` and `!`, each alone; `&` and `|`, as many as stand together; and
+-- other bytes, as many as stand together without space.
 abbrev pub words_of : List ℕ → List (List ℕ)
 words_of [] = []
 words_of (c ∷ s) = cond (is_space c) (words_of s)
@@ -65,6 +66,7 @@ pub record BeginsWithWord (text word rest : List ℕ) : Type 0 where
 
 -- ---- numbers
 
+-- a digit, `0` to `9`
 abbrev pub is_digit : ℕ → Bool
 is_digit c = nat_le 48 c && nat_le c 57
 
@@ -101,6 +103,7 @@ ranged (Some low) (Some high) = Some (token.Range low high)
 ranged None high = None
 ranged (Some low) None = None
 
+-- the bytes `-` and `/`
 abbrev pub hyphen : ℕ
 hyphen = 45
 
@@ -113,9 +116,11 @@ range_of word = ranged (number_of (before hyphen word)) (number_of (beyond hyphe
 
 -- ---- names
 
+-- the word is one of two
 abbrev pub is_either : List ℕ → List ℕ → List ℕ → Bool
 is_either word a b = bytes_eq word a || bytes_eq word b
 
+-- words that join expressions, and parentheses
 unfoldable pub operator_of : List ℕ → Option Token
 operator_of w =
     if is_either w (codes "not") (codes "!") then Some token.Not
@@ -125,6 +130,7 @@ operator_of w =
     else if bytes_eq w (codes ")") then Some token.Close
     else None
 
+-- the names of protocols
 unfoldable pub protocol_of : List ℕ → Option Token
 protocol_of w =
     if bytes_eq w (codes "ip") then Some (token.Version version.Ipv4)
@@ -141,6 +147,7 @@ protocol_of w =
     else if bytes_eq w (codes "ah") then Some (token.Protocol protocol.Ah)
     else None
 
+-- the other names
 unfoldable pub qualifier_of : List ℕ → Option Token
 qualifier_of w =
     if bytes_eq w (codes "src") then Some (token.Direction direction.Source)
@@ -157,7 +164,7 @@ qualifier_of w =
     else if bytes_eq w (codes "first") then Some token.First
     else None
 
--- what a word is that is no address
+-- what a word is that is a name, a number or two numbers
 abbrev pub keyword_of : List ℕ → Option Token
 keyword_of w = option_or (operator_of w) (option_or (protocol_of w) (option_or (qualifier_of w)
     (option_or (option_map token.Number (number_of w)) (range_of w))))
@@ -181,6 +188,7 @@ prefixed (Some a) (Some bits) = token.Prefix a bits
 prefixed (Some a) None = token.Unknown
 prefixed None bits = token.Unknown
 
+-- an address alone, if it is there
 abbrev pub addressed : Option Address → Token
 addressed (Some a) = token.Address a
 addressed None = token.Unknown

@@ -1,8 +1,10 @@
 //! Filters from text.
 
-ghost use Rattle.std.specs.Prelude.{IfErr, IfOk, Some};
+ghost use Rattle.std.specs.Prelude.{◌≡◌, ◌≤◌, IfErr, IfOk, IsOkAnd, Some, length};
 ghost use Rattle.packet_filter.specs.Language.{IsText, Refuses, filter_error_text};
+ghost use Rattle.packet_filter.specs.Meaning.{Expression};
 ghost use Rattle.packet_filter.specs.Program.{expression_of};
+ghost use Rattle.packet_filter.specs.Text.{words_of};
 
 use crate::filter::Filter;
 use crate::machine::Machine;
@@ -46,6 +48,8 @@ impl fmt::Display for FilterError {
     }
 }
 
+const _: () = prove!(Filter::MAX_WORDS == 64);
+
 impl Filter {
     /// The number of words that an expression can have.
     pub const MAX_WORDS: usize = 64;
@@ -74,6 +78,8 @@ impl Filter {
     pub fn from_text(text: &[u8]) -> Result<Filter, FilterError>
         ensures read { IfOk result (λ filter. IsText text.now (expression_of filter)) }
         ensures refused { IfErr result (Refuses text.now) }
+        ensures accepted { (e : Expression) → IsText text.now e → length (words_of text.now) ≤ 64 →
+            IsOkAnd result (λ filter. expression_of filter ≡ e) }
     {
         let mut machine = Machine::new();
         let mut rest = text;

@@ -1,5 +1,8 @@
-use Rattle.std.proofs.Common.{arith, refl, subst}
-use Rattle.packet_filter.proofs.Fronts.{Reached, accepted, from_start, incomplete, reached_more, too_long, unexpected}
+use Rattle.std.proofs.Common.{◌-◌, arith, length, refl, subst}
+use Rattle.packet_filter.specs.Language.{IsText, Refuses}
+use Rattle.packet_filter.specs.Program.{expression_of}
+use Rattle.packet_filter.specs.declared.reading.FilterError.TheVariants as error
+use Rattle.packet_filter.proofs.Fronts.{Reached, accepted, from_start, incomplete, not_refused, one_text, reached_more, too_long, unexpected}
 use Rattle.packet_filter.proofs.filter.Filter.from_text.Goals as goal
 
 pub words-init : goal.words-init
@@ -12,24 +15,29 @@ words-preserved c = record {
   reached = reached_more _ _ _ _ _ _ _ _ c.words.invariant.reached c.in-Some.ensures.some c.token_of.ensures.says (c.step.ensures.yes c.if-not-step.false);
 }
 
-pub returns-then-count-eq-MAX_WORDS-clause-refused : goal.returns-then-count-eq-MAX_WORDS-clause-refused
-returns-then-count-eq-MAX_WORDS-clause-refused c =
-    too_long _ _ _ _ _ (subst (Reached _ c.args.text.now c.words.rest.now) c.if-count-eq-MAX_WORDS.true c.words.invariant.reached) c.in-Some.ensures.some
+pub returns-then-count-eq-MAX_WORDS : goal.returns-then-count-eq-MAX_WORDS
+returns-then-count-eq-MAX_WORDS c =
+    let r = too_long _ _ _ _ _ (subst (Reached _ c.args.text.now c.words.rest.now) c.if-count-eq-MAX_WORDS.true c.words.invariant.reached) c.in-Some.ensures.some in
+    record { read = tt; refused = r; accepted = λ e t few. absurd (not_refused c.args.text.now e error.TooLong t few r) }
 
-pub returns-then-not-step-clause-refused : goal.returns-then-not-step-clause-refused
-returns-then-not-step-clause-refused c =
-    unexpected _ _ _ _ _ _ _ _ c.words.invariant.reached (omega (arith, c.words.invariant.few, c.if-count-eq-MAX_WORDS.false)) c.in-Some.ensures.some c.token_of.ensures.says (c.step.ensures.no c.if-not-step.true) refl
+pub returns-then-not-step : goal.returns-then-not-step
+returns-then-not-step c =
+    let place = length c.args.text.now - length c.in-Some.after.now - length c.in-Some.word.now in
+    let r : Refuses c.args.text.now (error.Unexpected place) = unexpected _ _ _ _ _ _ _ _ c.words.invariant.reached (omega (arith, c.words.invariant.few, c.if-count-eq-MAX_WORDS.false)) c.in-Some.ensures.some c.token_of.ensures.says (c.step.ensures.no c.if-not-step.true) refl in
+    record { read = tt; refused = r; accepted = λ e t few. absurd (not_refused c.args.text.now e (error.Unexpected place) t few r) }
 
 pub of_steps-requires : goal.of_steps-requires
 of_steps-requires c =
     let r = accepted _ _ _ _ _ c.words.invariant.reached c.in_default.ensures.none (c.finish.ensures.yes c.if-finish.true) in
     record { computes = rw c.into_steps.ensures.value r.1 }
 
-pub returns-then-finish-clause-read : goal.returns-then-finish-clause-read
-returns-then-finish-clause-read c =
+pub returns-then-finish : goal.returns-then-finish
+returns-then-finish c =
     let r = accepted _ _ _ _ _ c.words.invariant.reached c.in_default.ensures.none (c.finish.ensures.yes c.if-finish.true) in
-    rw (c.of_steps.ensures.value, c.into_steps.ensures.value) r.0
+    let is : IsText c.args.text.now (expression_of c.of_steps.result) = rw (c.of_steps.ensures.value, c.into_steps.ensures.value) r.0 in
+    record { read = is; refused = tt; accepted = λ e t few. one_text c.args.text.now (expression_of c.of_steps.result) e is t }
 
-pub returns-else-finish-clause-refused : goal.returns-else-finish-clause-refused
-returns-else-finish-clause-refused c =
-    incomplete _ _ _ _ c.words.invariant.reached c.words.invariant.few c.in_default.ensures.none (c.finish.ensures.no c.if-finish.false)
+pub returns-else-finish : goal.returns-else-finish
+returns-else-finish c =
+    let r = incomplete _ _ _ _ c.words.invariant.reached c.words.invariant.few c.in_default.ensures.none (c.finish.ensures.no c.if-finish.false) in
+    record { read = tt; refused = r; accepted = λ e t few. absurd (not_refused c.args.text.now e error.Incomplete t few r) }
