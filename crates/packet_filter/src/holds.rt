@@ -14,6 +14,7 @@ ghost use Rattle.packet_filter.specs.Meaning.{source_address, transport_number};
 
 use crate::address::Address;
 use crate::expression::{Direction, Primitive, Protocol, Transport, Version};
+use etherparse::IpNumber;
 use packet::ether_type::EtherType;
 use packet::single_vlan_header_slice::SingleVlanHeaderSlice;
 use packet::sliced_packet::SlicedPacket;
@@ -41,7 +42,7 @@ impl Primitive {
                 Some(ip) => has_ports(*transport, *direction, *low, *high, ip),
                 None => false,
             },
-            Primitive::Proto(version, number) => has_proto(*version, *number, packet),
+            Primitive::Proto(version, number) => has_proto(*version, IpNumber(*number), packet),
             Primitive::Vlan(identifier) => has_tag(*identifier, &packet.vlan),
             Primitive::Less(limit) => len <= *limit as usize,
             Primitive::Greater(limit) => *limit as usize <= len,
@@ -103,24 +104,24 @@ fn is_ip(version: Version, packet: &SlicedPacket) -> bool
 }
 
 // Whether the payload of the IP packet has this number.
-fn has_proto(version: Option<Version>, number: u8, packet: &SlicedPacket) -> bool
+fn has_proto(version: Option<Version>, number: IpNumber, packet: &SlicedPacket) -> bool
     ensures value { IsTrue result ↔ HasProto version number packet.now }
 {
     match (&packet.net, version) {
-        (Some(ip), None) => ip.upper.0 == number,
-        (Some(ip), Some(version)) => has_version(version, &ip.header) && ip.upper.0 == number,
+        (Some(ip), None) => ip.upper == number,
+        (Some(ip), Some(version)) => has_version(version, &ip.header) && ip.upper == number,
         (None, _) => false,
     }
 }
 
 // The number of a transport protocol.
-fn transport_number(transport: Transport) -> u8
+fn transport_number(transport: Transport) -> IpNumber
     ensures value { result ≡ transport_number transport }
 {
     match transport {
-        Transport::Tcp => 6,
-        Transport::Udp => 17,
-        Transport::Sctp => 132,
+        Transport::Tcp => IpNumber::TCP,
+        Transport::Udp => IpNumber::UDP,
+        Transport::Sctp => IpNumber::SCTP,
     }
 }
 
@@ -131,11 +132,11 @@ fn is_protocol(protocol: Protocol, packet: &SlicedPacket) -> bool
     match protocol {
         Protocol::Arp => packet.ether_type == Some(EtherType::ARP),
         Protocol::Rarp => packet.ether_type == Some(EtherType(0x8035)),
-        Protocol::Icmp => has_proto(Some(Version::Ipv4), 1, packet),
-        Protocol::Igmp => has_proto(Some(Version::Ipv4), 2, packet),
-        Protocol::Icmp6 => has_proto(Some(Version::Ipv6), 58, packet),
-        Protocol::Esp => has_proto(None, 50, packet),
-        Protocol::Ah => has_proto(None, 51, packet),
+        Protocol::Icmp => has_proto(Some(Version::Ipv4), IpNumber::ICMP, packet),
+        Protocol::Igmp => has_proto(Some(Version::Ipv4), IpNumber::IGMP, packet),
+        Protocol::Icmp6 => has_proto(Some(Version::Ipv6), IpNumber::IPV6_ICMP, packet),
+        Protocol::Esp => has_proto(None, IpNumber::ENCAPSULATING_SECURITY_PAYLOAD, packet),
+        Protocol::Ah => has_proto(None, IpNumber::AUTHENTICATION_HEADER, packet),
     }
 }
 
@@ -256,8 +257,8 @@ fn carries(transport: Option<Transport>, ip: &IpSlice) -> bool
     ensures value { IsTrue result ↔ Carries transport ip.now }
 {
     match transport {
-        Some(transport) => ip.upper.0 == transport_number(transport),
-        None => ip.upper.0 == 6 || ip.upper.0 == 17 || ip.upper.0 == 132,
+        Some(transport) => ip.upper == transport_number(transport),
+        None => matches!(ip.upper, IpNumber::TCP | IpNumber::UDP | IpNumber::SCTP),
     }
 }
 
