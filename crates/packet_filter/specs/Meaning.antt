@@ -1,37 +1,56 @@
 -- What an expression says of a frame that was taken apart (pcap-filter(7)).
-use Rattle.std.specs.Prelude.{ℕ, ◌≡◌, ◌+◌, ◌-◌, ◌^◌, ◌/◌, ◌%◌, ◌≤◌, ◌==◌, ◌&&◌, ◌||◌, ◌⊎◌, Bool}
-use Rattle.std.specs.Prelude.{false, IsFalse, IsSome, IsSomeAnd, MatchOption, List, [], ◌∷◌, length}
-use Rattle.std.specs.Prelude.{Option, None, Some, if◌then◌else◌, nat_le, slice_range, take}
+use Rattle.std.specs.Prelude.{ℕ, ◌≡◌, ◌≢◌, ◌+◌, ◌-◌, ◌^◌, ◌/◌, ◌%◌, ◌<◌, ◌≤◌, ◌==◌, ◌&&◌, ◌||◌, ◌⊎◌}
+use Rattle.std.specs.Prelude.{Bool, false, IsFalse, IsSome, IsSomeAnd, MatchOption, List, [], ◌∷◌}
+use Rattle.std.specs.Prelude.{◌++◌, Option, None, Some, bit_and, if◌then◌else◌, length, nat_le}
+use Rattle.std.specs.Prelude.{slice_range, take}
 use Rattle.std.specs.Option.{option_map_or}
-use Rattle.std.specs.Int.{from_be_bytes, w32, w128}
+use Rattle.std.specs.List.{concat}
+use Rattle.std.specs.Int.{from_be_bytes, w8, w16, w32, w128}
 use Rattle.std.specs.Str.{bytes_eq}
+use Rattle.etherparse.specs.WordSums.{SumsToAllOnes}
 use Rattle.packet.specs.Bytes.{number_at}
+use Rattle.packet.specs.SlicedPacket.{IsVerdictOn}
 use Rattle.packet.specs.Vlan.{tags_of}
+use Rattle.packet.specs.declared.lax_sliced_packet.LaxSlicedPacket.{LaxSlicedPacket}
+use Rattle.packet.specs.declared.link.LinkSlice.{LinkSlice}
+use Rattle.packet.specs.declared.link.LinkSlice.TheVariants as link
 use Rattle.packet.specs.declared.sliced_packet.SlicedPacket.{SlicedPacket}
 use Rattle.packet_parts.specs.IpSlice.{destination_of, source_of}
+use Rattle.packet_parts.specs.declared.checksum.Verdict.TheVariants.{Wrong}
 use Rattle.packet_parts.specs.declared.ip_slice.IpHeaderSlice.{IpHeaderSlice}
 use Rattle.packet_parts.specs.declared.ip_slice.IpHeaderSlice.TheVariants as header
 use Rattle.packet_parts.specs.declared.ip_slice.IpSlice.{IpSlice}
 use Rattle.packet_filter.specs.declared.address.Address.{Address}
 use Rattle.packet_filter.specs.declared.address.Address.TheVariants.{V4, V6}
 use Rattle.packet_filter.specs.declared.expression.Direction.{Direction}
-use Rattle.packet_filter.specs.declared.expression.Direction.TheVariants.{Destination, Source}
+use Rattle.packet_filter.specs.declared.expression.Direction.TheVariants.{Both, Destination}
+use Rattle.packet_filter.specs.declared.expression.Direction.TheVariants.{Either, Source}
+use Rattle.packet_filter.specs.declared.expression.Layer.{Layer}
+use Rattle.packet_filter.specs.declared.expression.Layer.TheVariants as layer
+use Rattle.packet_filter.specs.declared.expression.Network.{Network}
+use Rattle.packet_filter.specs.declared.expression.Network.TheVariants as network
 use Rattle.packet_filter.specs.declared.expression.Operator.{Operator}
 use Rattle.packet_filter.specs.declared.expression.Operator.TheVariants.{And, Or}
 use Rattle.packet_filter.specs.declared.expression.Primitive.{Primitive}
 use Rattle.packet_filter.specs.declared.expression.Primitive.TheVariants as primitive
-use Rattle.packet_filter.specs.declared.expression.Protocol.{Protocol}
-use Rattle.packet_filter.specs.declared.expression.Protocol.TheVariants as protocol
+use Rattle.packet_filter.specs.declared.expression.Quantity.{Quantity}
+use Rattle.packet_filter.specs.declared.expression.Quantity.TheVariants.{Length, Load}
+use Rattle.packet_filter.specs.declared.expression.Relation.{Relation}
+use Rattle.packet_filter.specs.declared.expression.Relation.TheVariants as relation
+use Rattle.packet_filter.specs.declared.expression.Size.{Size}
+use Rattle.packet_filter.specs.declared.expression.Size.TheVariants.{Four, One, Two}
 use Rattle.packet_filter.specs.declared.expression.Transport.{Transport}
 use Rattle.packet_filter.specs.declared.expression.Transport.TheVariants as transport
 use Rattle.packet_filter.specs.declared.expression.Version.{Version}
 use Rattle.packet_filter.specs.declared.expression.Version.TheVariants as version
 
--- The end that the direction names has the property; without a direction, one of the two has it.
+-- The ends that the direction names have the property; without a direction, one of the two has it.
 abbrev pub OfEnds : {A : Type 0} → Option Direction → A → A → (A → Type 0) → Type 0
+OfEnds None source destination P = P source ⊎ P destination
 OfEnds (Some Source) source destination P = P source
 OfEnds (Some Destination) source destination P = P destination
-OfEnds None source destination P = P source ⊎ P destination
+OfEnds (Some Either) source destination P = P source ⊎ P destination
+OfEnds (Some Both) source destination P = P source × P destination
 
 -- ---- IP
 
@@ -66,19 +85,6 @@ abbrev pub transport_number : Transport → ℕ
 transport_number transport.Tcp = 6
 transport_number transport.Udp = 17
 transport_number transport.Sctp = 132
-
--- A word for a protocol: an EtherType (RFC 826, RFC 903), or a number of IP's payload. ICMP (RFC
--- 792) and IGMP (RFC 9776) are over IPv4, ICMPv6 (RFC 4443) is over IPv6; ESP (RFC 4303) and the
--- authentication header (RFC 4302) are over either. In IPv6 the latter is an extension header, and
--- the payload's number is the one after it.
-abbrev pub IsProtocol : Protocol → SlicedPacket → Type 0
-IsProtocol protocol.Arp packet = packet.ether_type ≡ Some 0x0806
-IsProtocol protocol.Rarp packet = packet.ether_type ≡ Some 0x8035
-IsProtocol protocol.Icmp packet = HasProto (Some version.Ipv4) 1 packet
-IsProtocol protocol.Igmp packet = HasProto (Some version.Ipv4) 2 packet
-IsProtocol protocol.Icmp6 packet = HasProto (Some version.Ipv6) 58 packet
-IsProtocol protocol.Esp packet = HasProto None 50 packet
-IsProtocol protocol.Ah packet = HasProto None 51 packet
 
 -- ---- addresses
 
@@ -117,6 +123,13 @@ abbrev pub destination_address : SlicedPacket → Option Address
 destination_address packet =
     option_map_or (λ ip. Some (ip_destination ip.header)) packet.net (arp_address 24 packet)
 
+-- the packet is of a protocol that a qualifier names: IP of a version, ARP or RARP
+abbrev pub IsOf : Option Network → SlicedPacket → Type 0
+IsOf None packet = Unit {0}
+IsOf (Some (network.Ip v)) packet = IsIp v packet
+IsOf (Some network.Arp) packet = packet.ether_type ≡ Some 0x0806
+IsOf (Some network.Rarp) packet = packet.ether_type ≡ Some 0x8035
+
 -- the first `len` bits of both addresses, which are of one version, are equal
 abbrev pub IsWithin : Address → ℕ → Address → Type 0
 IsWithin (V4 a) len (V4 b) = a / 2 ^ (32 - len) ≡ b / 2 ^ (32 - len)
@@ -153,25 +166,107 @@ abbrev pub IsTagOf : Option ℕ → List ℕ → Type 0
 IsTagOf None tag = Unit {0}
 IsTagOf (Some identifier) tag = number_at 0 tag % 2 ^ 12 ≡ identifier
 
+-- ---- Ethernet
+
+-- the bytes of an Ethernet header
+abbrev pub ethernet_header : Option LinkSlice → Option (List ℕ)
+ethernet_header (Some (link.Ethernet2 view)) = Some view.slice.now
+ethernet_header (Some (link.LinuxSll view)) = None
+ethernet_header (Some (link.LinuxSll2 view)) = None
+ethernet_header (Some (link.Loopback family)) = None
+ethernet_header None = None
+
+-- The ends that the direction names have this address: the destination is the first six bytes of
+-- the header, the source the six after it (IEEE 802.3 section 3.1.1).
+abbrev pub HasHardware : Option Direction → List ℕ → List ℕ → Type 0
+HasHardware d address bytes = OfEnds d (slice_range bytes 6 12) (slice_range bytes 0 6)
+    (λ found. found ≡ address)
+
+-- ---- numbers
+
+-- the bytes of an IP packet from its header on
+abbrev pub ip_bytes : IpHeaderSlice → List ℕ → List ℕ → List ℕ
+ip_bytes (header.Ipv4 view) extensions payload = view.slice.now ++ (extensions ++ payload)
+ip_bytes (header.Ipv6 view) extensions payload = view.slice.now ++ (extensions ++ payload)
+
+-- The bytes that a load counts from the first on: those of the frame, from its Ethernet header on,
+-- its tags included; of the IP packet, as far as its length field says; of its payload, unless it is
+-- a later fragment, which begins with no header.
+abbrev pub Loads : Layer → SlicedPacket → List ℕ → Type 0
+Loads layer.Ether packet bytes = IsSomeAnd (ethernet_header packet.link)
+    (λ front. bytes ≡ front ++ (concat (tags_of packet.vlan) ++ packet.payload.now))
+Loads (layer.Ip v) packet bytes = IsSomeAnd packet.net (λ ip. HasVersion v ip.header
+    × (bytes ≡ ip_bytes ip.header ip.extensions.now ip.payload.now))
+Loads (layer.Payload v number) packet bytes = HasProto v number packet
+    × IsSomeAnd packet.net (λ ip. IsFalse ip.is_later_fragment × (bytes ≡ ip.payload.now))
+
+-- how many bytes are loaded, and how many bits these are
+abbrev pub size_len : Size → ℕ
+size_len One = 1
+size_len Two = 2
+size_len Four = 4
+
+-- the bytes at a place as a number, in network byte order
+abbrev pub loaded : Size → List ℕ → ℕ
+loaded One bytes = from_be_bytes w8 bytes
+loaded Two bytes = from_be_bytes w16 bytes
+loaded Four bytes = from_be_bytes w32 bytes
+
+-- The packet tells this number: the length of its frame, or bytes that are all there.
+abbrev pub Tells : Quantity → SlicedPacket → ℕ → ℕ → Type 0
+Tells Length packet len number = number ≡ len
+Tells (Load l place size) packet len number = (bytes : List ℕ) × Loads l packet bytes
+    × (place + size_len size ≤ length bytes)
+    × (number ≡ loaded size (slice_range bytes place (place + size_len size)))
+
+-- the bits of a number that the mask has
+abbrev pub masked : Option ℕ → ℕ → ℕ
+masked None number = number
+masked (Some mask) number = bit_and number mask
+
+-- the first number is in this relation to the second
+abbrev pub Compares : Relation → ℕ → ℕ → Type 0
+Compares relation.Equal a b = a ≡ b
+Compares relation.NotEqual a b = a ≢ b
+Compares relation.Less a b = a < b
+Compares relation.LessOrEqual a b = a ≤ b
+Compares relation.Greater a b = b < a
+Compares relation.GreaterOrEqual a b = b ≤ a
+
+-- ---- checksums
+
+-- the checksum of the header is wrong; IPv6 has none (RFC 791 section 3.1)
+abbrev pub HasWrongHeader : IpHeaderSlice → Type 0
+HasWrongHeader (header.Ipv4 view) = ¬ SumsToAllOnes view.slice.now
+HasWrongHeader (header.Ipv6 view) = ⊥
+
+-- The checksum of its IPv4 header is wrong, or that of its payload, which is there whole.
+abbrev pub HasWrongChecksum : LaxSlicedPacket → Type 0
+HasWrongChecksum lax = IsSomeAnd lax.packet.net (λ ip. HasWrongHeader ip.header)
+    ⊎ IsVerdictOn lax.packet.net lax.stop (Some Wrong)
+
 -- ---- expressions
 
 -- What a primitive says of a packet, of which the frame had `len` bytes on the wire.
-abbrev pub Holds : Primitive → SlicedPacket → ℕ → Type 0
-Holds (primitive.Version v) packet len = IsIp v packet
-Holds (primitive.Transport t) packet len = HasProto None (transport_number t) packet
-Holds (primitive.Protocol p) packet len = IsProtocol p packet
-Holds (primitive.Net d address bits) packet len =
-    OfEnds d (source_address packet) (destination_address packet)
+abbrev pub Holds : Primitive → LaxSlicedPacket → ℕ → Type 0
+Holds (primitive.Version v) lax len = IsIp v lax.packet
+Holds (primitive.EtherType number) lax len = lax.packet.ether_type ≡ Some number
+Holds (primitive.Proto v number) lax len = HasProto v number lax.packet
+Holds (primitive.Net n d address bits) lax len = IsOf n lax.packet
+    × OfEnds d (source_address lax.packet) (destination_address lax.packet)
     (λ found. IsSomeAnd found (IsWithin address bits))
-Holds (primitive.Ports t d low high) packet len =
-    IsSomeAnd packet.net (HasPorts t d (λ port. (low ≤ port) × (port ≤ high)))
-Holds (primitive.Proto v number) packet len = HasProto v number packet
-Holds (primitive.Vlan identifier) packet len = SomeTag (IsTagOf identifier) (tags_of packet.vlan)
-Holds (primitive.Less limit) packet len = len ≤ limit
-Holds (primitive.Greater limit) packet len = limit ≤ len
-Holds primitive.Fragment packet len = IsSomeAnd packet.net (λ ip. IsSome ip.fragment)
-Holds primitive.FirstFragment packet len =
-    IsSomeAnd packet.net (λ ip. IsSome ip.fragment × IsFalse ip.is_later_fragment)
+Holds (primitive.Ports t d low high) lax len =
+    IsSomeAnd lax.packet.net (HasPorts t d (λ port. (low ≤ port) × (port ≤ high)))
+Holds (primitive.Hardware d address) lax len =
+    IsSomeAnd (ethernet_header lax.packet.link) (HasHardware d address)
+Holds (primitive.Vlan identifier) lax len =
+    SomeTag (IsTagOf identifier) (tags_of lax.packet.vlan)
+Holds (primitive.Compare quantity mask r limit) lax len = (number : ℕ)
+    × Tells quantity lax.packet len number × Compares r (masked mask number) limit
+Holds primitive.Fragment lax len = IsSomeAnd lax.packet.net (λ ip. IsSome ip.fragment)
+Holds primitive.FirstFragment lax len =
+    IsSomeAnd lax.packet.net (λ ip. IsSome ip.fragment × IsFalse ip.is_later_fragment)
+Holds primitive.WrongChecksum lax len = HasWrongChecksum lax
 
 -- an expression, without its parentheses
 pub data Expression : Type 0 where
@@ -180,8 +275,8 @@ pub data Expression : Type 0 where
   compound : Operator → Expression → Expression → Expression
 
 -- what an expression says of a packet
-abbrev pub Matches : Expression → SlicedPacket → ℕ → Type 0
-Matches (one p) packet len = Holds p packet len
-Matches (negation e) packet len = ¬ Matches e packet len
-Matches (compound And a b) packet len = Matches a packet len × Matches b packet len
-Matches (compound Or a b) packet len = Matches a packet len ⊎ Matches b packet len
+abbrev pub Matches : Expression → LaxSlicedPacket → ℕ → Type 0
+Matches (one p) lax len = Holds p lax len
+Matches (negation e) lax len = ¬ Matches e lax len
+Matches (compound And a b) lax len = Matches a lax len × Matches b lax len
+Matches (compound Or a b) lax len = Matches a lax len ⊎ Matches b lax len

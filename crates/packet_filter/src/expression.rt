@@ -11,6 +11,17 @@ pub(crate) enum Version {
     Ipv6,
 }
 
+/// A protocol with addresses that a qualifier names.
+#[derive(Clone, Copy, Debug, PartialEq, Eq)]
+pub(crate) enum Network {
+    /// `ip` or `ip6`.
+    Ip(Version),
+    /// `arp`.
+    Arp,
+    /// `rarp`.
+    Rarp,
+}
+
 /// A transport protocol with ports.
 #[derive(Clone, Copy, Debug, PartialEq, Eq)]
 pub(crate) enum Transport {
@@ -22,25 +33,6 @@ pub(crate) enum Transport {
     Sctp,
 }
 
-/// Another protocol that a word names.
-#[derive(Clone, Copy, Debug, PartialEq, Eq)]
-pub(crate) enum Protocol {
-    /// `arp`.
-    Arp,
-    /// `rarp`.
-    Rarp,
-    /// `icmp`: over IPv4.
-    Icmp,
-    /// `icmp6`: over IPv6.
-    Icmp6,
-    /// `igmp`: over IPv4.
-    Igmp,
-    /// `esp`.
-    Esp,
-    /// `ah`.
-    Ah,
-}
-
 /// What joins two expressions.
 #[derive(Clone, Copy, Debug, PartialEq, Eq)]
 pub(crate) enum Operator {
@@ -50,13 +42,66 @@ pub(crate) enum Operator {
     Or,
 }
 
-/// One end of a packet's way.
+/// Which ends of a packet's way are asked about.
 #[derive(Clone, Copy, Debug, PartialEq, Eq)]
 pub(crate) enum Direction {
     /// `src`.
     Source,
     /// `dst`.
     Destination,
+    /// `src or dst`: one of them at least.
+    Either,
+    /// `src and dst`: both.
+    Both,
+}
+
+/// What a number is compared for.
+#[derive(Clone, Copy, Debug, PartialEq, Eq)]
+pub(crate) enum Relation {
+    /// `=` or `==`.
+    Equal,
+    /// `!=`.
+    NotEqual,
+    /// `<`.
+    Less,
+    /// `<=`.
+    LessOrEqual,
+    /// `>`.
+    Greater,
+    /// `>=`.
+    GreaterOrEqual,
+}
+
+/// Which bytes of a frame are loaded from.
+#[derive(Clone, Copy, Debug, PartialEq, Eq)]
+pub(crate) enum Layer {
+    /// `ether`: the frame, from its Ethernet header on.
+    Ether,
+    /// `ip` or `ip6`: the IP packet, from its header on.
+    Ip(Version),
+    /// The name of a protocol: the payload of an IP packet of that version or either, if it has
+    /// this number.
+    Payload(Option<Version>, u8),
+}
+
+/// How many bytes are loaded.
+#[derive(Clone, Copy, Debug, PartialEq, Eq)]
+pub(crate) enum Size {
+    /// `1`.
+    One,
+    /// `2`.
+    Two,
+    /// `4`.
+    Four,
+}
+
+/// A number that a packet tells.
+#[derive(Clone, Copy, Debug, PartialEq, Eq)]
+pub(crate) enum Quantity {
+    /// `len`: how many bytes the frame had on the wire.
+    Length,
+    /// Bytes from a place on, as a number in network byte order.
+    Load(Layer, u32, Size),
 }
 
 /// What one primitive of an expression says of a packet (pcap-filter(7)).
@@ -64,25 +109,26 @@ pub(crate) enum Direction {
 pub(crate) enum Primitive {
     /// It is an IP packet of this version.
     Version(Version),
-    /// It carries this transport protocol.
-    Transport(Transport),
-    /// It is of this protocol.
-    Protocol(Protocol),
-    /// Of its addresses, this one or either begins with so many bits of this address.
-    Net(Option<Direction>, Address, u8),
-    /// It carries this transport protocol or any, and this port or either is from the first number
-    /// to the second.
-    Ports(Option<Transport>, Option<Direction>, u16, u16),
+    /// Its EtherType, after all tags, is this.
+    EtherType(u16),
     /// The payload of the IP packet, of this version or either, has this number.
     Proto(Option<Version>, u8),
+    /// Of the addresses that a packet of this protocol or any has, these ends begin with so many
+    /// bits of this address.
+    Net(Option<Network>, Option<Direction>, Address, u8),
+    /// It carries this transport protocol or any, and at these ends the port is from the first
+    /// number to the second.
+    Ports(Option<Transport>, Option<Direction>, u16, u16),
+    /// Its Ethernet addresses at these ends are this.
+    Hardware(Option<Direction>, [u8; 6]),
     /// It has a VLAN tag, of this identifier or any.
     Vlan(Option<u16>),
-    /// It has at most so many bytes.
-    Less(u32),
-    /// It has at least so many bytes.
-    Greater(u32),
+    /// The number, of which only the bits of a mask count, is in this relation to another.
+    Compare(Quantity, Option<u32>, Relation, u32),
     /// It is a fragment.
     Fragment,
     /// It is the first fragment of an IP packet.
     FirstFragment,
+    /// The checksum of its IPv4 header is wrong, or that of UDP, TCP, ICMP or ICMPv6.
+    WrongChecksum,
 }
