@@ -1,7 +1,7 @@
 //! The words of an expression, each as what it says.
 
 use crate::address::Address;
-use crate::expression::{Direction, Operator, Protocol, Transport, Version};
+use crate::expression::{Network, Operator, Relation, Size, Transport, Version};
 
 /// A word of an expression.
 #[derive(Clone, Copy, Debug, PartialEq, Eq)]
@@ -14,24 +14,48 @@ pub(crate) enum Token {
     Open,
     /// `)`.
     Close,
-    /// `ip` or `ip6`.
-    Version(Version),
+    /// `[`.
+    OpenBracket,
+    /// `]`.
+    CloseBracket,
+    /// `&`.
+    BitAnd,
+    /// `|`.
+    BitOr,
+    /// `=`, `==`, `!=`, `<`, `<=`, `>` or `>=`.
+    Relation(Relation),
+    /// `ip`, `ip6`, `arp` or `rarp`.
+    Network(Network),
     /// `tcp`, `udp` or `sctp`.
     Transport(Transport),
-    /// The name of another protocol.
-    Protocol(Protocol),
-    /// `src` or `dst`.
-    Direction(Direction),
+    /// The name of another protocol that IP carries, by its version and number.
+    Protocol(Option<Version>, u8),
+    /// The name of another protocol, by its EtherType.
+    EtherType(u16),
+    /// `ether`.
+    Ether,
+    /// `src`.
+    Source,
+    /// `dst`.
+    Destination,
     /// `host`.
     Host,
     /// `net`.
     Net,
+    /// `mask`.
+    Mask,
     /// `port`.
     Port,
     /// `portrange`.
     PortRange,
     /// `proto`.
     Proto,
+    /// `broadcast`.
+    Broadcast,
+    /// `multicast`.
+    Multicast,
+    /// `len`.
+    Length,
     /// `vlan`.
     Vlan,
     /// `less`.
@@ -42,14 +66,30 @@ pub(crate) enum Token {
     Fragment,
     /// `first`.
     First,
-    /// A number.
+    /// `checksum`.
+    Checksum,
+    /// `wrong`.
+    Wrong,
+    /// A number, or the name of a place, a flag or a type, such as `tcpflags`.
     Number(u32),
+    /// A place and a size with a colon between them.
+    Place(u32, Size),
     /// Two numbers with a hyphen between them.
     Range(u32, u32),
+    /// The name of a port.
+    Service(u16),
+    /// The name of a number of IP's payload after `proto`, such as `\tcp` or `gre`.
+    IpNumber(u8),
+    /// The name of an EtherType after `ether proto`, such as `\arp`.
+    TypeName(u16),
     /// An address.
     Address(Address),
     /// An address, and how many of its bits count.
     Prefix(Address, u32),
+    /// An Ethernet address.
+    Hardware([u8; 6]),
+    /// A word of pcap-filter(7) that this language does not have.
+    Foreign,
     /// Any other word, which stands in no expression.
     Unknown,
 }
