@@ -1,23 +1,40 @@
 -- Each expression of the grammar is read, to its steps.
-use Rattle.std.proofs.Common.{◌≡◌, ℕ, ◌≤◌, cond, List, [], ◌∷◌, ◌++◌, Option, Some, None, refl, sym, ap, ◌∙◌, append_assoc}
-use Rattle.std.specs.Prelude.{nat_le, ◌&&◌}
+use Rattle.std.proofs.Common.{◌≡◌, ℕ, ◌≤◌, cond, List, [], ◌∷◌, ◌++◌, Option, Some, None, refl, sym, ap, ◌∙◌, subst, append_assoc}
+use Rattle.std.specs.Prelude.{nat_le}
 use Rattle.std.proofs.lemmas.Bool.{le-leb}
 use Rattle.std.proofs.lemmas.List.{append-nil}
 use Rattle.packet_filter.specs.Meaning.{Expression, one, negation, compound}
 use Rattle.packet_filter.specs.Program.{and_then}
-use Rattle.packet_filter.specs.Grammar.{IsPrimitive, version, transport, protocol, host, net, port, portrange, proto, any_vlan, vlan, less, greater, fragment, first_fragment, Kind, operand, chain, Reads, primitive, not_, parentheses, first, more, IsExpression, bits_of}
-use Rattle.packet_filter.specs.Private.Machine.{State, complete, outcome, finish, finish_state, after, step_of, step_progress, completed, next, alone, start}
+use Rattle.packet_filter.specs.Grammar.{IsHead, host, directed, net, port, portrange, proto, ether_host, ether_directed, ether_proto, IsPrimitive, word, vlan, less, greater, ether_broadcast, ether_multicast, multicast, first_fragment, checksum_wrong, comparison, AreBits, single, with, IsConstant, number, list, IsTerm, len, load, masked_, grouped, Kind, operand, chain, Reads, primitive, headed, value, not_, parentheses, first, more, IsExpression, direction_words, network_words, transport_words, first_head, value_of, alone, layer_of, place_of}
+use Rattle.packet_filter.specs.Private.Machine.{State, complete, put, found, after_word, outcome, finish, finish_state, after, step_of, step_operand, step_progress, on_progress, completed, start}
+use Rattle.packet_filter.specs.declared.address.Address.{Address}
+use Rattle.packet_filter.specs.declared.expression.Direction.{Direction}
+use Rattle.packet_filter.specs.declared.expression.Direction.TheVariants as direction
+use Rattle.packet_filter.specs.declared.expression.Layer.{Layer}
+use Rattle.packet_filter.specs.declared.expression.Layer.TheVariants as layer
+use Rattle.packet_filter.specs.declared.expression.Network.{Network}
+use Rattle.packet_filter.specs.declared.expression.Network.TheVariants as network
 use Rattle.packet_filter.specs.declared.expression.Operator.{Operator as Joiner}
 use Rattle.packet_filter.specs.declared.expression.Operator.TheVariants.{And, Or}
 use Rattle.packet_filter.specs.declared.expression.Primitive.{Primitive}
+use Rattle.packet_filter.specs.declared.expression.Primitive.TheVariants as says
+use Rattle.packet_filter.specs.declared.expression.Quantity.{Quantity}
+use Rattle.packet_filter.specs.declared.expression.Quantity.TheVariants as quantity
+use Rattle.packet_filter.specs.declared.expression.Size.{Size}
 use Rattle.packet_filter.specs.declared.filter.Step.{Step}
 use Rattle.packet_filter.specs.declared.filter.Step.TheVariants as step
+use Rattle.packet_filter.specs.declared.head.Head.{Head}
+use Rattle.packet_filter.specs.declared.head.Head.TheVariants as head
 use Rattle.packet_filter.specs.declared.machine.Doing.TheVariants.{Operand, Within, Operator}
-use Rattle.packet_filter.specs.declared.machine.Partial.{Partial}
-use Rattle.packet_filter.specs.declared.machine.Partial.TheVariants as partial
-use Rattle.packet_filter.specs.declared.machine.Progress.TheVariants.{Done, Foreign}
 use Rattle.packet_filter.specs.declared.machine.Waiting.{Waiting}
 use Rattle.packet_filter.specs.declared.machine.Waiting.TheVariants as waiting
+use Rattle.packet_filter.specs.declared.partial.Partial.{Partial}
+use Rattle.packet_filter.specs.declared.partial.Partial.TheVariants as partial
+use Rattle.packet_filter.specs.declared.partial.Progress.TheVariants.{Done, Foreign}
+use Rattle.packet_filter.specs.declared.partial.Scope.{Scope}
+use Rattle.packet_filter.specs.declared.partial.Scope.TheVariants as scope
+use Rattle.packet_filter.specs.declared.partial.Use.{Use}
+use Rattle.packet_filter.specs.declared.partial.Use.TheVariants.{Limit, Masking}
 use Rattle.packet_filter.specs.declared.token.Token.{Token}
 use Rattle.packet_filter.specs.declared.token.Token.TheVariants as token
 
@@ -27,155 +44,309 @@ postfix (one p) = step.Test p ∷ []
 postfix (negation e) = postfix e ++ step.Not ∷ []
 postfix (compound o a b) = postfix a ++ (postfix b ++ step.Operator o ∷ [])
 
-abbrev pub expects : List Waiting → List Step → State
-expects ws out = record { doing = Operand; waiting = ws; steps = out }
+abbrev pub expects : Head → List Waiting → List Step → State
+expects h ws out = record { doing = Operand h; waiting = ws; steps = out }
 
-abbrev pub has_read : Option Joiner → List Waiting → List Step → State
-has_read c ws out = record { doing = Operator c; waiting = ws; steps = out }
+abbrev pub amid : Partial → List Waiting → List Step → State
+amid p ws out = record { doing = Within p; waiting = ws; steps = out }
+
+abbrev pub has_read : Option Joiner → Head → List Waiting → List Step → State
+has_read c h ws out = record { doing = Operator c h; waiting = ws; steps = out }
+
+pub some_same : {A : Type 0} (x y : A) → Some x ≡ Some y → x ≡ y
+some_same x y h = cc
 
 -- no operator waits
 abbrev pub IsBase : List Waiting → Type 0
 IsBase [] = Unit {0}
-IsBase (waiting.Open ∷ ws) = Unit {0}
+IsBase (waiting.Open h ∷ ws) = Unit {0}
 IsBase (waiting.Not ∷ ws) = ⊥
 IsBase (waiting.Operator o ∷ ws) = ⊥
 
 -- the words can follow an operand
-abbrev EndsOperand : List Token → Type 0
+abbrev pub EndsOperand : List Token → Type 0
 EndsOperand [] = Unit {0}
 EndsOperand (token.Operator o ∷ words) = Unit {0}
 EndsOperand (token.Close ∷ words) = Unit {0}
 EndsOperand _ = ⊥
 
--- where an expression of this kind can begin
+-- ---- heads
+
+-- where a direction can stand
+abbrev at_scope : Scope → Head → List Waiting → List Step → State
+at_scope scope.Any g ws out = expects g ws out
+at_scope (scope.Network n) g ws out = amid (partial.Word (token.Network n)) ws out
+at_scope (scope.Transport t) g ws out = amid (partial.Word (token.Transport t)) ws out
+at_scope scope.Ether g ws out = amid partial.Ether ws out
+
+source_read : (s : Scope) (g : Head) (ws : List Waiting) (out : List Step) (rest : List Token) → outcome (token.Source ∷ rest) (at_scope s g ws out) ≡ outcome rest (amid (partial.Directed s direction.Source) ws out)
+source_read scope.Any g ws out rest = refl
+source_read (scope.Network n) g ws out rest = refl
+source_read (scope.Transport t) g ws out rest = refl
+source_read scope.Ether g ws out rest = refl
+
+destination_read : (s : Scope) (g : Head) (ws : List Waiting) (out : List Step) (rest : List Token) → outcome (token.Destination ∷ rest) (at_scope s g ws out) ≡ outcome rest (amid (partial.Directed s direction.Destination) ws out)
+destination_read scope.Any g ws out rest = refl
+destination_read (scope.Network n) g ws out rest = refl
+destination_read (scope.Transport t) g ws out rest = refl
+destination_read scope.Ether g ws out rest = refl
+
+direction_read : (d : Direction) (s : Scope) (g : Head) (ws : List Waiting) (out : List Step) (rest : List Token) → outcome (direction_words (Some d) ++ rest) (at_scope s g ws out) ≡ outcome rest (amid (partial.Directed s d) ws out)
+direction_read direction.Source s g ws out rest = source_read s g ws out rest
+direction_read direction.Destination s g ws out rest = destination_read s g ws out rest
+direction_read direction.Either s g ws out rest = source_read s g ws out (token.Operator Or ∷ token.Destination ∷ rest)
+direction_read direction.Both s g ws out rest = source_read s g ws out (token.Operator And ∷ token.Destination ∷ rest)
+
+-- a direction, and the word after it
+then_read : (d : Direction) (k : Token) (s : Scope) (g : Head) (ws : List Waiting) (out : List Step) (rest : List Token) → outcome ((direction_words (Some d) ++ k ∷ []) ++ rest) (at_scope s g ws out) ≡ outcome (k ∷ rest) (amid (partial.Directed s d) ws out)
+then_read d k s g ws out rest = ap (λ l. outcome l (at_scope s g ws out)) (append_assoc (direction_words (Some d)) (k ∷ []) rest) ∙ direction_read d s g ws out (k ∷ rest)
+
+-- a value after its head
+value_read : (h : Head) (w : Token) (p : Primitive) → value_of w h ≡ Some p → (ws : List Waiting) (out : List Step) (rest : List Token) → outcome (w ∷ rest) (amid (partial.Value h) ws out) ≡ outcome rest (put p h ws out)
+value_read h w p e ws out rest = ap (λ o. and_then (step_progress (found h o) None w ws out) (outcome rest)) e
+
+-- which words are addresses
+host_value : (w : Token) (n : Option Network) (d : Option Direction) (p : Primitive) → value_of w (head.Host n d) ≡ Some p → (a : Address) × (w ≡ token.Address a)
+host_value (token.Address a) n d p e = (a, refl)
+host_value _ n d p e = cc
+
+ether_value : (w : Token) (d : Option Direction) (p : Primitive) → value_of w (head.Ether d) ≡ Some p → (a : List ℕ) × (w ≡ token.Hardware a)
+ether_value (token.Hardware a) d p e = (a, refl)
+ether_value _ d p e = cc
+
+head_read : (words : List Token) (h : Head) → IsHead words h → (w : Token) (p : Primitive) → value_of w h ≡ Some p → (g : Head) (ws : List Waiting) (out : List Step) (rest : List Token) → outcome (words ++ w ∷ rest) (expects g ws out) ≡ outcome rest (put p h ws out)
+head_read words h (host None None) w p e g ws out rest = value_read h w p e ws out rest
+head_read words h (host None (Some d)) w p e g ws out rest = then_read d token.Host scope.Any g ws out (w ∷ rest) ∙ value_read h w p e ws out rest
+head_read words h (host (Some n) None) w p e g ws out rest = value_read h w p e ws out rest
+head_read words h (host (Some n) (Some d)) w p e g ws out rest = then_read d token.Host (scope.Network n) g ws out (w ∷ rest) ∙ value_read h w p e ws out rest
+head_read words h (net None None) w p e g ws out rest = value_read h w p e ws out rest
+head_read words h (net None (Some d)) w p e g ws out rest = then_read d token.Net scope.Any g ws out (w ∷ rest) ∙ value_read h w p e ws out rest
+head_read words h (net (Some n) None) w p e g ws out rest = value_read h w p e ws out rest
+head_read words h (net (Some n) (Some d)) w p e g ws out rest = then_read d token.Net (scope.Network n) g ws out (w ∷ rest) ∙ value_read h w p e ws out rest
+head_read words h (port None None) w p e g ws out rest = value_read h w p e ws out rest
+head_read words h (port None (Some d)) w p e g ws out rest = then_read d token.Port scope.Any g ws out (w ∷ rest) ∙ value_read h w p e ws out rest
+head_read words h (port (Some t) None) w p e g ws out rest = value_read h w p e ws out rest
+head_read words h (port (Some t) (Some d)) w p e g ws out rest = then_read d token.Port (scope.Transport t) g ws out (w ∷ rest) ∙ value_read h w p e ws out rest
+head_read words h (portrange None None) w p e g ws out rest = value_read h w p e ws out rest
+head_read words h (portrange None (Some d)) w p e g ws out rest = then_read d token.PortRange scope.Any g ws out (w ∷ rest) ∙ value_read h w p e ws out rest
+head_read words h (portrange (Some t) None) w p e g ws out rest = value_read h w p e ws out rest
+head_read words h (portrange (Some t) (Some d)) w p e g ws out rest = then_read d token.PortRange (scope.Transport t) g ws out (w ∷ rest) ∙ value_read h w p e ws out rest
+head_read words h (proto None) w p e g ws out rest = value_read h w p e ws out rest
+head_read words h (proto (Some v)) w p e g ws out rest = value_read h w p e ws out rest
+head_read words h (ether_host None) w p e g ws out rest = value_read h w p e ws out rest
+head_read words h (ether_host (Some d)) w p e g ws out rest = then_read d token.Host scope.Ether g ws out (w ∷ rest) ∙ value_read h w p e ws out rest
+head_read words h ether_proto w p e g ws out rest = value_read h w p e ws out rest
+head_read words h (directed None d) w p e g ws out rest =
+    let x = host_value w None (Some d) p e in
+    direction_read d scope.Any g ws out (w ∷ rest)
+    ∙ subst (λ u. value_of u h ≡ Some p → outcome (u ∷ rest) (amid (partial.Directed scope.Any d) ws out) ≡ outcome rest (put p h ws out)) (sym x.1) (λ f. ap (λ o. and_then (step_progress (found h o) None (token.Address x.0) ws out) (outcome rest)) f) e
+head_read words h (directed (Some n) d) w p e g ws out rest =
+    let x = host_value w (Some n) (Some d) p e in
+    direction_read d (scope.Network n) g ws out (w ∷ rest)
+    ∙ subst (λ u. value_of u h ≡ Some p → outcome (u ∷ rest) (amid (partial.Directed (scope.Network n) d) ws out) ≡ outcome rest (put p h ws out)) (sym x.1) (λ f. ap (λ o. and_then (step_progress (found h o) None (token.Address x.0) ws out) (outcome rest)) f) e
+head_read words h (ether_directed d) w p e g ws out rest =
+    let x = ether_value w (Some d) p e in
+    direction_read d scope.Ether g ws out (w ∷ rest)
+    ∙ subst (λ u. value_of u h ≡ Some p → outcome (u ∷ rest) (amid (partial.Directed scope.Ether d) ws out) ≡ outcome rest (put p h ws out)) (sym x.1) (λ f. ap (λ o. and_then (step_progress (found h o) None (token.Hardware x.0) ws out) (outcome rest)) f) e
+
+-- a value alone begins nothing else
+value_alone : (w : Token) (h : Head) (p : Primitive) → value_of w h ≡ Some p → (ws : List Waiting) (out : List Step) → step_operand h w ws out ≡ Some (put p h ws out)
+value_alone (token.Address a) h p e ws out = ap (λ o. on_progress (found h o) ws out) e
+value_alone (token.Prefix a n) h p e ws out = ap (λ o. on_progress (found h o) ws out) e
+value_alone (token.Number n) h p e ws out = ap (λ o. on_progress (found h o) ws out) e
+value_alone (token.Service n) h p e ws out = ap (λ o. on_progress (found h o) ws out) e
+value_alone (token.Range l n) h p e ws out = ap (λ o. on_progress (found h o) ws out) e
+value_alone (token.IpNumber n) h p e ws out = ap (λ o. on_progress (found h o) ws out) e
+value_alone (token.Hardware a) h p e ws out = ap (λ o. on_progress (found h o) ws out) e
+value_alone (token.TypeName n) h p e ws out = ap (λ o. on_progress (found h o) ws out) e
+value_alone _ h p e ws out = cc
+
+-- ---- words that stand alone
+
+-- the state after an expression of a kind
+abbrev state_after : Kind → Head → List Waiting → List Step → State
+state_after operand h ws out = complete h ws out
+state_after (chain o) h ws out = has_read (Some o) h ws out
+
+after_complete : (h : Head) (ws : List Waiting) (out : List Step) (w : Token) → after w (complete h ws out) ≡ step_of (complete h ws out) w
+after_complete h [] out w = refl
+after_complete h (waiting.Open g ∷ ws) out w = refl
+after_complete h (waiting.Not ∷ ws) out w = after_complete h ws (out ++ step.Not ∷ []) w
+after_complete h (waiting.Operator o ∷ ws) out w = refl
+
+finish_complete : (h : Head) (ws : List Waiting) (out : List Step) → finish_state (complete h ws out) ≡ finish (complete h ws out)
+finish_complete h [] out = refl
+finish_complete h (waiting.Open g ∷ ws) out = refl
+finish_complete h (waiting.Not ∷ ws) out = finish_complete h ws (out ++ step.Not ∷ [])
+finish_complete h (waiting.Operator o ∷ ws) out = refl
+
+not_operator : (w : Token) (o : Joiner) → after_word w (token.Operator o) ≡ Foreign
+not_operator (token.Network n) o = refl
+not_operator (token.Transport t) o = refl
+not_operator (token.Protocol v k) o = refl
+not_operator token.Vlan o = refl
+not_operator _ o = refl
+
+not_close : (w : Token) → after_word w token.Close ≡ Foreign
+not_close (token.Network n) = refl
+not_close (token.Transport t) = refl
+not_close (token.Protocol v k) = refl
+not_close token.Vlan = refl
+not_close _ = refl
+
+foreign_ends : (f w : Token) (a : Primitive) (ws : List Waiting) (out : List Step) (rest : List Token) → alone f ≡ Some a → after_word f w ≡ Foreign → and_then (step_progress (after_word f w) (alone f) w ws out) (outcome rest) ≡ outcome (w ∷ rest) (put a first_head ws out)
+foreign_ends f w a ws out rest e g =
+    ap (λ x. and_then (step_progress x (alone f) w ws out) (outcome rest)) g
+    ∙ ap (λ o. and_then (and_then (completed o ws out) (after w)) (outcome rest)) e
+    ∙ ap (λ o. and_then o (outcome rest)) (after_complete first_head ws (out ++ step.Test a ∷ []) w)
+
+-- such a word ends before one that can follow an operand
+pub alone_ends : (f : Token) (a : Primitive) (ws : List Waiting) (out : List Step) (rest : List Token) → alone f ≡ Some a → EndsOperand rest → outcome rest (amid (partial.Word f) ws out) ≡ outcome rest (put a first_head ws out)
+alone_ends f a ws out [] e k = ap (λ o. and_then (completed o ws out) finish_state) e ∙ finish_complete first_head ws (out ++ step.Test a ∷ [])
+alone_ends f a ws out (token.Operator o ∷ rest) e k = foreign_ends f (token.Operator o) a ws out rest e (not_operator f o)
+alone_ends f a ws out (token.Close ∷ rest) e k = foreign_ends f token.Close a ws out rest e (not_close f)
+alone_ends f a ws out (_ ∷ rest) e k = absurd k
+
+alone_begins : (w : Token) (a : Primitive) → alone w ≡ Some a → (g : Head) (ws : List Waiting) (out : List Step) (rest : List Token) → outcome (w ∷ rest) (expects g ws out) ≡ outcome rest (amid (partial.Word w) ws out)
+alone_begins (token.Network n) a e g ws out rest = refl
+alone_begins (token.Transport t) a e g ws out rest = refl
+alone_begins (token.Protocol v k) a e g ws out rest = refl
+alone_begins (token.EtherType k) a e g ws out rest = refl
+alone_begins token.Broadcast a e g ws out rest = refl
+alone_begins token.Multicast a e g ws out rest = refl
+alone_begins token.Vlan a e g ws out rest = refl
+alone_begins token.Fragment a e g ws out rest = refl
+alone_begins _ a e g ws out rest = cc
+
+-- ---- comparisons
+
+bracket_read : (w : Token) (l : Layer) → layer_of w ≡ Some l → (g : Head) (ws : List Waiting) (out : List Step) (rest : List Token) → outcome (w ∷ token.OpenBracket ∷ rest) (expects g ws out) ≡ outcome rest (amid (partial.Bracket l) ws out)
+bracket_read token.Ether l e g ws out rest = ap (λ x. outcome rest (amid (partial.Bracket x) ws out)) (some_same _ l e)
+bracket_read (token.Network (network.Ip v)) l e g ws out rest = ap (λ x. outcome rest (amid (partial.Bracket x) ws out)) (some_same _ l e)
+bracket_read (token.Transport t) l e g ws out rest = ap (λ x. outcome rest (amid (partial.Bracket x) ws out)) (some_same _ l e)
+bracket_read (token.Protocol v k) l e g ws out rest = ap (λ x. outcome rest (amid (partial.Bracket x) ws out)) (some_same _ l e)
+bracket_read _ l e g ws out rest = cc
+
+place_read : (w : Token) (place : ℕ) (size : Size) → place_of w ≡ Some (place, size) → (l : Layer) (ws : List Waiting) (out : List Step) (rest : List Token) → outcome (w ∷ token.CloseBracket ∷ rest) (amid (partial.Bracket l) ws out) ≡ outcome rest (amid (partial.Term (quantity.Load l place size) None) ws out)
+place_read (token.Number k) place size e l ws out rest = let x = some_same _ (place, size) e in ap (λ (z : ℕ × Size). outcome rest (amid (partial.Term (quantity.Load l z.0 z.1) None) ws out)) x
+place_read (token.Place k s) place size e l ws out rest = let x = some_same _ (place, size) e in ap (λ (z : ℕ × Size). outcome rest (amid (partial.Term (quantity.Load l z.0 z.1) None) ws out)) x
+place_read _ place size e l ws out rest = cc
+
+bits_read : (u : Use) (words : List Token) (bits : ℕ) → AreBits words bits → (ws : List Waiting) (out : List Step) (rest : List Token) → outcome (words ++ rest) (amid (partial.Opened u) ws out) ≡ outcome rest (amid (partial.Listed u bits) ws out)
+bits_read u words bits (single k) ws out rest = refl
+bits_read u words bits (with {words = us} {bits = b} x k) ws out rest =
+    ap (λ l. outcome l (amid (partial.Opened u) ws out)) (append_assoc us (token.BitOr ∷ token.Number k ∷ []) rest)
+    ∙ bits_read u us b x ws out (token.BitOr ∷ token.Number k ∷ rest)
+
+-- the state after a constant
+abbrev after_constant : Use → ℕ → List Waiting → List Step → State
+after_constant (Masking q) k ws out = amid (partial.Term q (Some k)) ws out
+after_constant (Limit q mask r) k ws out = put (says.Compare q mask r k) first_head ws out
+
+constant_read : (u : Use) (words : List Token) (k : ℕ) → IsConstant words k → (ws : List Waiting) (out : List Step) (rest : List Token) → outcome (words ++ rest) (amid (partial.Constant u) ws out) ≡ outcome rest (after_constant u k ws out)
+constant_read (Masking q) words k (number n) ws out rest = refl
+constant_read (Limit q mask r) words k (number n) ws out rest = refl
+constant_read (Masking q) words k (list {words = us} x) ws out rest =
+    ap (λ l. outcome l (amid (partial.Opened (Masking q)) ws out)) (append_assoc us (token.Close ∷ []) rest)
+    ∙ bits_read (Masking q) us k x ws out (token.Close ∷ rest)
+constant_read (Limit q mask r) words k (list {words = us} x) ws out rest =
+    ap (λ l. outcome l (amid (partial.Opened (Limit q mask r)) ws out)) (append_assoc us (token.Close ∷ []) rest)
+    ∙ bits_read (Limit q mask r) us k x ws out (token.Close ∷ rest)
+
+term_read : (words : List Token) (q : Quantity) (mask : Option ℕ) → IsTerm words q mask → (g : Head) (ws : List Waiting) (out : List Step) (rest : List Token) → outcome (words ++ rest) (expects g ws out) ≡ outcome rest (amid (partial.Term q mask) ws out)
+term_read words q mask len g ws out rest = refl
+term_read words q mask (load {word = w} {at = a} {l = l} {place = p} {size = s} e f) g ws out rest =
+    bracket_read w l e g ws out (a ∷ token.CloseBracket ∷ rest) ∙ place_read a p s f l ws out rest
+term_read words q mask (masked_ {words = us} {bits = vs} {mask = m} x c) g ws out rest =
+    ap (λ l. outcome l (expects g ws out)) (append_assoc us (token.BitAnd ∷ vs) rest)
+    ∙ term_read us q None x g ws out (token.BitAnd ∷ (vs ++ rest))
+    ∙ constant_read (Masking q) vs m c ws out rest
+term_read words q mask (grouped {words = us} x) g ws out rest =
+    ap (λ l. outcome l (expects g (waiting.Open g ∷ ws) out)) (append_assoc us (token.Close ∷ []) rest)
+    ∙ term_read us q mask x g (waiting.Open g ∷ ws) out (token.Close ∷ rest)
+
+-- ---- expressions
+
+primitive_read : (words : List Token) (p : Primitive) → IsPrimitive words p → (g : Head) (ws : List Waiting) (out : List Step) (rest : List Token) → EndsOperand rest → outcome (words ++ rest) (expects g ws out) ≡ outcome rest (put p first_head ws out)
+primitive_read words p (word {w = w} e) g ws out rest k = alone_begins w p e g ws out rest ∙ alone_ends w p ws out rest e k
+primitive_read words p (vlan n h) g ws out rest k =
+    ap (λ b. and_then (step_progress (cond b (Done (says.Vlan (Some n)) first_head) Foreign) (Some (says.Vlan None)) (token.Number n) ws out) (outcome rest)) (le-leb n 4095 h)
+primitive_read words p (less n) g ws out rest k = refl
+primitive_read words p (greater n) g ws out rest k = refl
+primitive_read words p ether_broadcast g ws out rest k = refl
+primitive_read words p ether_multicast g ws out rest k = refl
+primitive_read words p (multicast v) g ws out rest k = refl
+primitive_read words p first_fragment g ws out rest k = refl
+primitive_read words p checksum_wrong g ws out rest k = refl
+primitive_read words p (comparison {words = us} {limit = vs} {q = q} {mask = m} {k = n} x r c) g ws out rest k =
+    ap (λ l. outcome l (expects g ws out)) (append_assoc us (token.Relation r ∷ vs) rest)
+    ∙ term_read us q m x g ws out (token.Relation r ∷ (vs ++ rest))
+    ∙ constant_read (Limit q m r) vs n c ws out rest
+
+-- where an expression of a kind can begin
 abbrev CanBegin : Kind → List Waiting → Type 0
 CanBegin operand ws = Unit {0}
 CanBegin (chain o) ws = IsBase ws
 
--- the state after an expression of this kind
-abbrev state_after : Kind → List Waiting → List Step → State
-state_after operand ws out = complete ws out
-state_after (chain o) ws out = has_read (Some o) ws out
-
-at_base : (ws : List Waiting) (out : List Step) → IsBase ws → complete ws out ≡ has_read None ws out
-at_base [] out h = refl
-at_base (waiting.Open ∷ ws) out h = refl
-at_base (waiting.Not ∷ ws) out h = absurd h
-at_base (waiting.Operator o ∷ ws) out h = absurd h
-
-after_complete : (ws : List Waiting) (out : List Step) (w : Token) → after w (complete ws out) ≡ step_of (complete ws out) w
-after_complete [] out w = refl
-after_complete (waiting.Open ∷ ws) out w = refl
-after_complete (waiting.Not ∷ ws) out w = after_complete ws (out ++ step.Not ∷ []) w
-after_complete (waiting.Operator o ∷ ws) out w = refl
-
-finish_complete : (ws : List Waiting) (out : List Step) → finish_state (complete ws out) ≡ finish (complete ws out)
-finish_complete [] out = refl
-finish_complete (waiting.Open ∷ ws) out = refl
-finish_complete (waiting.Not ∷ ws) out = finish_complete ws (out ++ step.Not ∷ [])
-finish_complete (waiting.Operator o ∷ ws) out = refl
-
-abbrev Within' : Partial → List Waiting → List Step → State
-Within' p ws out = record { doing = Within p; waiting = ws; steps = out }
-
-foreign_ends : (p : Partial) (a : Primitive) (w : Token) (ws : List Waiting) (out : List Step) (rest : List Token) → alone p ≡ Some a → next p w ≡ Foreign → outcome (w ∷ rest) (Within' p ws out) ≡ outcome (w ∷ rest) (complete ws (out ++ step.Test a ∷ []))
-foreign_ends p a w ws out rest e f =
-    ap (λ g. and_then (step_progress g (alone p) w ws out) (outcome rest)) f
-    ∙ ap (λ o. and_then (and_then (completed o ws out) (after w)) (outcome rest)) e
-    ∙ ap (λ o. and_then o (outcome rest)) (after_complete ws (out ++ step.Test a ∷ []) w)
-
--- a primitive that can go on ends before a word that does not belong to it
-alone_ends : (p : Partial) (a : Primitive) (ws : List Waiting) (out : List Step) (rest : List Token) → alone p ≡ Some a → ((o : Joiner) → next p (token.Operator o) ≡ Foreign) → next p token.Close ≡ Foreign → EndsOperand rest → outcome rest (Within' p ws out) ≡ outcome rest (complete ws (out ++ step.Test a ∷ []))
-alone_ends p a ws out [] e f h k = ap (λ o. and_then (completed o ws out) finish_state) e ∙ finish_complete ws (out ++ step.Test a ∷ [])
-alone_ends p a ws out (token.Operator o ∷ rest) e f h k = foreign_ends p a (token.Operator o) ws out rest e (f o)
-alone_ends p a ws out (token.Close ∷ rest) e f h k = foreign_ends p a token.Close ws out rest e h
-alone_ends p a ws out (_ ∷ rest) e f h k = absurd k
-
--- the last word of a primitive
-done_ends : (p : Partial) (w : Token) (q : Primitive) (ws : List Waiting) (out : List Step) (rest : List Token) → next p w ≡ Done q → outcome (w ∷ rest) (Within' p ws out) ≡ outcome rest (complete ws (out ++ step.Test q ∷ []))
-done_ends p w q ws out rest e = ap (λ g. and_then (step_progress g (alone p) w ws out) (outcome rest)) e
-
-within_limit : (n limit : ℕ) (q : Primitive) → n ≤ limit → cond (nat_le n limit) (Done q) Foreign ≡ Done q
-within_limit n limit q h = ap (λ b. cond b (Done q) Foreign) (le-leb n limit h)
-
-within_range : (low high limit : ℕ) (q : Primitive) → low ≤ high → high ≤ limit → cond (nat_le low high && nat_le high limit) (Done q) Foreign ≡ Done q
-within_range low high limit q h k = ap (λ b. cond (b && nat_le high limit) (Done q) Foreign) (le-leb low high h) ∙ ap (λ b. cond b (Done q) Foreign) (le-leb high limit k)
-
-primitive_ends : (words : List Token) (p : Primitive) → IsPrimitive words p → (ws : List Waiting) (out : List Step) (rest : List Token) → EndsOperand rest → outcome (words ++ rest) (expects ws out) ≡ outcome rest (complete ws (out ++ step.Test p ∷ []))
-primitive_ends words p (version v) ws out rest h = alone_ends (partial.Version v) _ ws out rest refl (λ o. refl) refl h
-primitive_ends words p (transport t) ws out rest h = alone_ends (partial.Transport t) _ ws out rest refl (λ o. refl) refl h
-primitive_ends words p any_vlan ws out rest h = alone_ends partial.Vlan _ ws out rest refl (λ o. refl) refl h
-primitive_ends words p (protocol x) ws out rest h = refl
-primitive_ends words p fragment ws out rest h = refl
-primitive_ends words p first_fragment ws out rest h = refl
-primitive_ends words p (less n) ws out rest h = refl
-primitive_ends words p (greater n) ws out rest h = refl
-primitive_ends words p (host None a) ws out rest h = refl
-primitive_ends words p (host (Some d) a) ws out rest h = refl
-primitive_ends words p (vlan n k) ws out rest h = done_ends partial.Vlan (token.Number n) _ ws out rest (within_limit n 4095 _ k)
-primitive_ends words p (net None a n k) ws out rest h = done_ends (partial.Net None) (token.Prefix a n) _ ws out rest (within_limit n (bits_of a) _ k)
-primitive_ends words p (net (Some d) a n k) ws out rest h = done_ends (partial.Net (Some d)) (token.Prefix a n) _ ws out rest (within_limit n (bits_of a) _ k)
-primitive_ends words p (proto None n k) ws out rest h = done_ends (partial.Proto None) (token.Number n) _ ws out rest (within_limit n 255 _ k)
-primitive_ends words p (proto (Some v) n k) ws out rest h = done_ends (partial.Proto (Some v)) (token.Number n) _ ws out rest (within_limit n 255 _ k)
-primitive_ends words p (port None None n k) ws out rest h = done_ends (partial.Port None None) (token.Number n) _ ws out rest (within_limit n 65535 _ k)
-primitive_ends words p (portrange None None l n j k) ws out rest h = done_ends (partial.PortRange None None) (token.Range l n) _ ws out rest (within_range l n 65535 _ j k)
-primitive_ends words p (port None (Some d) n k) ws out rest h = done_ends (partial.Port None (Some d)) (token.Number n) _ ws out rest (within_limit n 65535 _ k)
-primitive_ends words p (portrange None (Some d) l n j k) ws out rest h = done_ends (partial.PortRange None (Some d)) (token.Range l n) _ ws out rest (within_range l n 65535 _ j k)
-primitive_ends words p (port (Some t) None n k) ws out rest h = done_ends (partial.Port (Some t) None) (token.Number n) _ ws out rest (within_limit n 65535 _ k)
-primitive_ends words p (portrange (Some t) None l n j k) ws out rest h = done_ends (partial.PortRange (Some t) None) (token.Range l n) _ ws out rest (within_range l n 65535 _ j k)
-primitive_ends words p (port (Some t) (Some d) n k) ws out rest h = done_ends (partial.Port (Some t) (Some d)) (token.Number n) _ ws out rest (within_limit n 65535 _ k)
-primitive_ends words p (portrange (Some t) (Some d) l n j k) ws out rest h = done_ends (partial.PortRange (Some t) (Some d)) (token.Range l n) _ ws out rest (within_range l n 65535 _ j k)
+at_base : (h : Head) (ws : List Waiting) (out : List Step) → IsBase ws → complete h ws out ≡ has_read None h ws out
+at_base h [] out b = refl
+at_base h (waiting.Open g ∷ ws) out b = refl
+at_base h (waiting.Not ∷ ws) out b = absurd b
+at_base h (waiting.Operator o ∷ ws) out b = absurd b
 
 -- the right side of an operator, and what is made of both
-right_ends : (o : Joiner) (words rest : List Token) (ws : List Waiting) (out : List Step) (a b : Expression) → ((ws' : List Waiting) (out' : List Step) → outcome (words ++ rest) (expects ws' out') ≡ outcome rest (complete ws' (out' ++ postfix b))) → outcome (words ++ rest) (expects (waiting.Operator o ∷ ws) (out ++ postfix a)) ≡ outcome rest (has_read (Some o) ws (out ++ postfix (compound o a b)))
-right_ends o words rest ws out a b ih =
+right_read : (o : Joiner) (g h : Head) (words rest : List Token) (ws : List Waiting) (out : List Step) (a b : Expression) → ((ws' : List Waiting) (out' : List Step) → outcome (words ++ rest) (expects g ws' out') ≡ outcome rest (complete h ws' (out' ++ postfix b))) → outcome (words ++ rest) (expects g (waiting.Operator o ∷ ws) (out ++ postfix a)) ≡ outcome rest (has_read (Some o) h ws (out ++ postfix (compound o a b)))
+right_read o g h words rest ws out a b ih =
     ih (waiting.Operator o ∷ ws) (out ++ postfix a)
-    ∙ ap (λ x. outcome rest (has_read (Some o) ws x)) (append_assoc (out ++ postfix a) (postfix b) (step.Operator o ∷ []) ∙ append_assoc out (postfix a) (postfix b ++ step.Operator o ∷ []))
+    ∙ ap (λ x. outcome rest (has_read (Some o) h ws x)) (append_assoc (out ++ postfix a) (postfix b) (step.Operator o ∷ []) ∙ append_assoc out (postfix a) (postfix b ++ step.Operator o ∷ []))
 
-same_operator : (o : Joiner) (us : List Token) (ws : List Waiting) (out : List Step) → outcome (token.Operator o ∷ us) (has_read (Some o) ws out) ≡ outcome us (expects (waiting.Operator o ∷ ws) out)
-same_operator And us ws out = refl
-same_operator Or us ws out = refl
+same_operator : (o : Joiner) (h : Head) (us : List Token) (ws : List Waiting) (out : List Step) → outcome (token.Operator o ∷ us) (has_read (Some o) h ws out) ≡ outcome us (expects h (waiting.Operator o ∷ ws) out)
+same_operator And h us ws out = refl
+same_operator Or h us ws out = refl
 
-can_begin_open : (k : Kind) (ws : List Waiting) → CanBegin k (waiting.Open ∷ ws)
-can_begin_open operand ws = tt
-can_begin_open (chain o) ws = tt
+can_begin_open : (k : Kind) (g : Head) (ws : List Waiting) → CanBegin k (waiting.Open g ∷ ws)
+can_begin_open operand g ws = tt
+can_begin_open (chain o) g ws = tt
 
-closes : (k : Kind) (ws : List Waiting) (out : List Step) (rest : List Token) → outcome (token.Close ∷ rest) (state_after k (waiting.Open ∷ ws) out) ≡ outcome rest (complete ws out)
-closes operand ws out rest = refl
-closes (chain And) ws out rest = refl
-closes (chain Or) ws out rest = refl
+closes : (k : Kind) (g h : Head) (ws : List Waiting) (out : List Step) (rest : List Token) → outcome (token.Close ∷ rest) (state_after k h (waiting.Open g ∷ ws) out) ≡ outcome rest (complete g ws out)
+closes operand g h ws out rest = refl
+closes (chain And) g h ws out rest = refl
+closes (chain Or) g h ws out rest = refl
 
-pub read_ends : (k : Kind) (words : List Token) (e : Expression) → Reads k words e → (ws : List Waiting) (out : List Step) (rest : List Token) → CanBegin k ws → EndsOperand rest → outcome (words ++ rest) (expects ws out) ≡ outcome rest (state_after k ws (out ++ postfix e))
-read_ends k words e (primitive {words = us} {p = p} g) ws out rest h r = primitive_ends us p g ws out rest r
-read_ends k words e (not_ {words = us} {e = a} x) ws out rest h r =
-    read_ends operand us a x (waiting.Not ∷ ws) out rest tt r
-    ∙ ap (λ o. outcome rest (complete ws o)) (append_assoc out (postfix a) (step.Not ∷ []))
-read_ends k words e (parentheses {kind = j} {words = us} {e = a} x) ws out rest h r =
-    ap (λ l. outcome l (expects (waiting.Open ∷ ws) out)) (append_assoc us (token.Close ∷ []) rest)
-    ∙ read_ends j us a x (waiting.Open ∷ ws) out (token.Close ∷ rest) (can_begin_open j ws) tt
-    ∙ closes j ws (out ++ postfix a) rest
-read_ends k words e (first {o = o} {left = l} {right = m} {a = a} {b = b} x y) ws out rest h r =
-    ap (λ l. outcome l (expects ws out)) (append_assoc l (token.Operator o ∷ m) rest)
-    ∙ read_ends operand l a x ws out (token.Operator o ∷ (m ++ rest)) tt tt
-    ∙ ap (outcome (token.Operator o ∷ (m ++ rest))) (at_base ws (out ++ postfix a) h)
-    ∙ right_ends o m rest ws out a b (λ ws' out'. read_ends operand m b y ws' out' rest tt r)
-read_ends k words e (more {o = o} {left = l} {right = m} {a = a} {b = b} x y) ws out rest h r =
-    ap (λ l. outcome l (expects ws out)) (append_assoc l (token.Operator o ∷ m) rest)
-    ∙ read_ends (chain o) l a x ws out (token.Operator o ∷ (m ++ rest)) h tt
-    ∙ same_operator o (m ++ rest) ws (out ++ postfix a)
-    ∙ right_ends o m rest ws out a b (λ ws' out'. read_ends operand m b y ws' out' rest tt r)
+pub read_ends : (k : Kind) (g h : Head) (words : List Token) (e : Expression) → Reads k g words e h → (ws : List Waiting) (out : List Step) (rest : List Token) → CanBegin k ws → EndsOperand rest → outcome (words ++ rest) (expects g ws out) ≡ outcome rest (state_after k h ws (out ++ postfix e))
+read_ends k g h words e (primitive {words = us} {p = p} x) ws out rest b r = primitive_read us p x g ws out rest r
+read_ends k g h words e (headed {words = us} {p = p} x w v) ws out rest b r =
+    ap (λ l. outcome l (expects g ws out)) (append_assoc us (w ∷ []) rest) ∙ head_read us h x w p v g ws out rest
+read_ends k g h words e (value {p = p} w v) ws out rest b r = ap (λ o. and_then o (outcome rest)) (value_alone w h p v ws out)
+read_ends k g h words e (not_ {words = us} {e = a} x) ws out rest b r =
+    read_ends operand g h us a x (waiting.Not ∷ ws) out rest tt r
+    ∙ ap (λ o. outcome rest (complete h ws o)) (append_assoc out (postfix a) (step.Not ∷ []))
+read_ends k g h words e (parentheses {kind = j} {after = i} {words = us} {e = a} x) ws out rest b r =
+    ap (λ l. outcome l (expects g (waiting.Open g ∷ ws) out)) (append_assoc us (token.Close ∷ []) rest)
+    ∙ read_ends j g i us a x (waiting.Open g ∷ ws) out (token.Close ∷ rest) (can_begin_open j g ws) tt
+    ∙ closes j g i ws (out ++ postfix a) rest
+read_ends k g h words e (first {amid = i} {o = o} {left = l} {right = m} {a = a} {b = c} x y) ws out rest b r =
+    ap (λ z. outcome z (expects g ws out)) (append_assoc l (token.Operator o ∷ m) rest)
+    ∙ read_ends operand g i l a x ws out (token.Operator o ∷ (m ++ rest)) tt tt
+    ∙ ap (outcome (token.Operator o ∷ (m ++ rest))) (at_base i ws (out ++ postfix a) b)
+    ∙ right_read o i h m rest ws out a c (λ ws' out'. read_ends operand i h m c y ws' out' rest tt r)
+read_ends k g h words e (more {amid = i} {o = o} {left = l} {right = m} {a = a} {b = c} x y) ws out rest b r =
+    ap (λ z. outcome z (expects g ws out)) (append_assoc l (token.Operator o ∷ m) rest)
+    ∙ read_ends (chain o) g i l a x ws out (token.Operator o ∷ (m ++ rest)) b tt
+    ∙ same_operator o i (m ++ rest) ws (out ++ postfix a)
+    ∙ right_read o i h m rest ws out a c (λ ws' out'. read_ends operand i h m c y ws' out' rest tt r)
 
 can_begin : (k : Kind) → CanBegin k []
 can_begin operand = tt
 can_begin (chain o) = tt
 
-finishes : (k : Kind) (out : List Step) → outcome [] (state_after k [] out) ≡ Some out
-finishes operand out = refl
-finishes (chain o) out = refl
+finishes : (k : Kind) (h : Head) (out : List Step) → outcome [] (state_after k h [] out) ≡ Some out
+finishes operand h out = refl
+finishes (chain o) h out = refl
 
 -- an expression is read
 pub expression_is_read : (words : List Token) (e : Expression) → IsExpression words e → outcome words start ≡ Some (postfix e)
 expression_is_read words e t =
     ap (λ l. outcome l start) (sym (append-nil words))
-    ∙ read_ends t.kind words e t.reads [] [] [] (can_begin t.kind) tt
-    ∙ finishes t.kind (postfix e)
+    ∙ read_ends t.kind first_head t.last words e t.reads [] [] [] (can_begin t.kind) tt
+    ∙ finishes t.kind t.last (postfix e)

@@ -1,87 +1,262 @@
 -- The language of expressions, over words (pcap-filter(7)).
-use Rattle.std.specs.Prelude.{ℕ, ◌≤◌, List, [], ◌∷◌, ◌++◌, Option, None, Some}
-use Rattle.packet_filter.specs.Meaning.{Expression, one, negation, compound}
+use Rattle.std.specs.Prelude.{ℕ, ◌*◌, ◌^◌, ◌&&◌, ◌≡◌, ◌≤◌, Bool, true, false, not, List}
+use Rattle.std.specs.Prelude.{[], ◌∷◌, ◌++◌, Option, None, Some, bit_or, if◌then◌else◌, nat_le}
+use Rattle.std.specs.Prelude.{nat_lt}
+use Rattle.packet_filter.specs.Meaning.{Expression, one, negation, compound, transport_number}
 use Rattle.packet_filter.specs.declared.address.Address.{Address}
 use Rattle.packet_filter.specs.declared.address.Address.TheVariants.{V4, V6}
 use Rattle.packet_filter.specs.declared.expression.Direction.{Direction}
+use Rattle.packet_filter.specs.declared.expression.Direction.TheVariants as direction
+use Rattle.packet_filter.specs.declared.expression.Layer.{Layer}
+use Rattle.packet_filter.specs.declared.expression.Layer.TheVariants as layer
+use Rattle.packet_filter.specs.declared.expression.Network.{Network}
+use Rattle.packet_filter.specs.declared.expression.Network.TheVariants as network
 use Rattle.packet_filter.specs.declared.expression.Operator.{Operator}
+use Rattle.packet_filter.specs.declared.expression.Operator.TheVariants.{And, Or}
 use Rattle.packet_filter.specs.declared.expression.Primitive.{Primitive}
 use Rattle.packet_filter.specs.declared.expression.Primitive.TheVariants as says
-use Rattle.packet_filter.specs.declared.expression.Protocol.{Protocol}
+use Rattle.packet_filter.specs.declared.expression.Quantity.{Quantity}
+use Rattle.packet_filter.specs.declared.expression.Quantity.TheVariants.{Length, Load}
+use Rattle.packet_filter.specs.declared.expression.Relation.{Relation}
+use Rattle.packet_filter.specs.declared.expression.Relation.TheVariants as relation
+use Rattle.packet_filter.specs.declared.expression.Size.{Size}
+use Rattle.packet_filter.specs.declared.expression.Size.TheVariants.{One}
 use Rattle.packet_filter.specs.declared.expression.Transport.{Transport}
 use Rattle.packet_filter.specs.declared.expression.Version.{Version}
+use Rattle.packet_filter.specs.declared.expression.Version.TheVariants.{Ipv4, Ipv6}
+use Rattle.packet_filter.specs.declared.head.Head.{Head}
+use Rattle.packet_filter.specs.declared.head.Head.TheVariants as head
 use Rattle.packet_filter.specs.declared.token.Token.{Token}
 use Rattle.packet_filter.specs.declared.token.Token.TheVariants as token
 
--- qualifiers, each of which can be left out
+-- ---- qualifiers
+
+-- each can be left out
 abbrev pub version_words : Option Version → List Token
 version_words None = []
-version_words (Some v) = token.Version v ∷ []
+version_words (Some v) = token.Network (network.Ip v) ∷ []
+
+abbrev pub network_words : Option Network → List Token
+network_words None = []
+network_words (Some n) = token.Network n ∷ []
 
 abbrev pub transport_words : Option Transport → List Token
 transport_words None = []
 transport_words (Some t) = token.Transport t ∷ []
 
+-- `src`, `dst`, `src or dst` or `src and dst`
 abbrev pub direction_words : Option Direction → List Token
 direction_words None = []
-direction_words (Some d) = token.Direction d ∷ []
+direction_words (Some direction.Source) = token.Source ∷ []
+direction_words (Some direction.Destination) = token.Destination ∷ []
+direction_words (Some direction.Either) =
+    token.Source ∷ token.Operator Or ∷ token.Destination ∷ []
+direction_words (Some direction.Both) =
+    token.Source ∷ token.Operator And ∷ token.Destination ∷ []
+
+-- The words of a primitive up to its value. After a direction `host` can be left out.
+pub data IsHead : List Token → Head → Type 0 where
+  host : (n : Option Network) (d : Option Direction)
+      → IsHead (network_words n ++ (direction_words d ++ token.Host ∷ [])) (head.Host n d)
+  directed : (n : Option Network) (d : Direction)
+      → IsHead (network_words n ++ direction_words (Some d)) (head.Host n (Some d))
+  net : (n : Option Network) (d : Option Direction)
+      → IsHead (network_words n ++ (direction_words d ++ token.Net ∷ [])) (head.Net n d)
+  port : (t : Option Transport) (d : Option Direction)
+      → IsHead (transport_words t ++ (direction_words d ++ token.Port ∷ [])) (head.Port t d)
+  portrange : (t : Option Transport) (d : Option Direction)
+      → IsHead (transport_words t ++ (direction_words d ++ token.PortRange ∷ []))
+      (head.PortRange t d)
+  proto : (v : Option Version) → IsHead (version_words v ++ token.Proto ∷ []) (head.Proto v)
+  ether_host : (d : Option Direction)
+      → IsHead (token.Ether ∷ (direction_words d ++ token.Host ∷ [])) (head.Ether d)
+  ether_directed : (d : Direction)
+      → IsHead (token.Ether ∷ direction_words (Some d)) (head.Ether (Some d))
+  ether_proto : IsHead (token.Ether ∷ token.Proto ∷ []) head.EtherProto
+
+-- ---- values
 
 -- how many bits an address has
 abbrev pub bits_of : Address → ℕ
 bits_of (V4 a) = 32
 bits_of (V6 a) = 128
 
--- The words are this primitive. A port has 16 bits, a number of IP's payload 8 (RFC 791 section
--- 3.1, RFC 8200 section 3), the identifier of a VLAN 12 (IEEE 802.1Q section 9.6).
+abbrev pub is_version_4 : Address → Bool
+is_version_4 (V4 a) = true
+is_version_4 (V6 a) = false
+
+-- a primitive, if the condition holds
+abbrev pub provided : Bool → Primitive → Option Primitive
+provided is p = if is then Some p else None
+
+-- an address of a version that the protocol has: ARP and RARP are asked for IPv4 addresses
+abbrev pub fits : Option Network → Address → Bool
+fits None a = true
+fits (Some (network.Ip Ipv4)) a = is_version_4 a
+fits (Some (network.Ip Ipv6)) a = not (is_version_4 a)
+fits (Some network.Arp) a = is_version_4 a
+fits (Some network.Rarp) a = is_version_4 a
+
+-- What a value says after a head. A port has 16 bits, a number of IP's payload 8 (RFC 791 section
+-- 3.1, RFC 8200 section 3). Up to 1500 what stands in the place of an EtherType is a length (IEEE
+-- 802.3 section 3.2.6). One number alone is the first eight bits of an IPv4 network.
+abbrev pub value_of : Token → Head → Option Primitive
+value_of (token.Address a) (head.Host n d) = provided (fits n a) (says.Net n d a (bits_of a))
+value_of (token.Address a) (head.Net n d) = provided (fits n a) (says.Net n d a (bits_of a))
+value_of (token.Prefix a bits) (head.Net n d) =
+    provided (fits n a && nat_le bits (bits_of a)) (says.Net n d a bits)
+value_of (token.Number k) (head.Net n d) =
+    provided (fits n (V4 0) && nat_le k 255) (says.Net n d (V4 (k * 2 ^ 24)) 8)
+value_of (token.Number k) (head.Port t d) = provided (nat_le k 65535) (says.Ports t d k k)
+value_of (token.Number k) (head.Proto v) = provided (nat_le k 255) (says.Proto v k)
+value_of (token.Number k) head.EtherProto =
+    provided (nat_lt 1500 k && nat_le k 65535) (says.EtherType k)
+value_of (token.Service k) (head.Port t d) = Some (says.Ports t d k k)
+value_of (token.Range low high) (head.PortRange t d) =
+    provided (nat_le low high && nat_le high 65535) (says.Ports t d low high)
+value_of (token.IpNumber k) (head.Proto v) = Some (says.Proto v k)
+value_of (token.Hardware address) (head.Ether d) = Some (says.Hardware d address)
+value_of (token.TypeName k) head.EtherProto = Some (says.EtherType k)
+value_of _ _ = None
+
+-- ---- words that stand alone
+
+-- the group bit of an Ethernet destination, the lowest of its first byte (IEEE 802 section 8.2.2)
+abbrev pub ethernet_multicast : Primitive
+ethernet_multicast =
+    says.Compare (Load layer.Ether 0 One) (Some 1) relation.NotEqual 0
+
+-- the destination of all stations (IEEE 802 section 8.2.2)
+abbrev pub ethernet_broadcast : Primitive
+ethernet_broadcast =
+    says.Hardware (Some direction.Destination) (255 ∷ 255 ∷ 255 ∷ 255 ∷ 255 ∷ 255 ∷ [])
+
+-- 224.0.0.0/4 (RFC 1112 section 4) and ff00::/8 (RFC 4291 section 2.7)
+abbrev pub ip_multicast : Version → Primitive
+ip_multicast v = says.Net (Some (network.Ip v)) (Some direction.Destination) (prefix v) (bits v)
+  where
+  prefix : Version → Address
+  prefix Ipv4 = V4 (224 * 2 ^ 24)
+  prefix Ipv6 = V6 (255 * 2 ^ 120)
+  bits : Version → ℕ
+  bits Ipv4 = 4
+  bits Ipv6 = 8
+
+-- the EtherTypes of ARP (RFC 826) and RARP (RFC 903)
+abbrev pub network_primitive : Network → Primitive
+network_primitive (network.Ip v) = says.Version v
+network_primitive network.Arp = says.EtherType 0x0806
+network_primitive network.Rarp = says.EtherType 0x8035
+
+-- what a word says that is a primitive by itself
+abbrev pub alone : Token → Option Primitive
+alone (token.Network n) = Some (network_primitive n)
+alone (token.Transport t) = Some (says.Proto None (transport_number t))
+alone (token.Protocol v number) = Some (says.Proto v number)
+alone (token.EtherType number) = Some (says.EtherType number)
+alone token.Broadcast = Some ethernet_broadcast
+alone token.Multicast = Some ethernet_multicast
+alone token.Vlan = Some (says.Vlan None)
+alone token.Fragment = Some says.Fragment
+alone _ = None
+
+-- ---- comparisons
+
+-- what bytes are loaded from
+abbrev pub layer_of : Token → Option Layer
+layer_of token.Ether = Some layer.Ether
+layer_of (token.Network (network.Ip v)) = Some (layer.Ip v)
+layer_of (token.Transport t) = Some (layer.Payload None (transport_number t))
+layer_of (token.Protocol v number) = Some (layer.Payload v number)
+layer_of _ = None
+
+-- where, and how many bytes: one if the size is left out
+abbrev pub place_of : Token → Option (ℕ × Size)
+place_of (token.Number place) = Some (place, One)
+place_of (token.Place place size) = Some (place, size)
+place_of _ = None
+
+-- numbers with `|` between them, of whose bits each has one of them
+pub data AreBits : List Token → ℕ → Type 0 where
+  single : (k : ℕ) → AreBits (token.Number k ∷ []) k
+  with : {words : List Token} {bits : ℕ} → AreBits words bits → (k : ℕ)
+      → AreBits (words ++ token.BitOr ∷ token.Number k ∷ []) (bit_or bits k)
+
+-- a number, or such a list in parentheses
+pub data IsConstant : List Token → ℕ → Type 0 where
+  number : (k : ℕ) → IsConstant (token.Number k ∷ []) k
+  list : {words : List Token} {bits : ℕ} → AreBits words bits
+      → IsConstant (token.Open ∷ (words ++ token.Close ∷ [])) bits
+
+-- `len` or a load, with a mask or without, perhaps in parentheses
+pub data IsTerm : List Token → Quantity → Option ℕ → Type 0 where
+  len : IsTerm (token.Length ∷ []) Length None
+  load : {word at : Token} {l : Layer} {place : ℕ} {size : Size} → layer_of word ≡ Some l
+      → place_of at ≡ Some (place, size)
+      → IsTerm (word ∷ token.OpenBracket ∷ at ∷ token.CloseBracket ∷ []) (Load l place size) None
+  masked_ : {words bits : List Token} {q : Quantity} {mask : ℕ} → IsTerm words q None
+      → IsConstant bits mask → IsTerm (words ++ token.BitAnd ∷ bits) q (Some mask)
+  grouped : {words : List Token} {q : Quantity} {mask : Option ℕ} → IsTerm words q mask
+      → IsTerm (token.Open ∷ (words ++ token.Close ∷ [])) q mask
+
+-- ---- primitives
+
+-- The words are this primitive, which has no value that another can follow. The identifier of a
+-- VLAN has 12 bits (IEEE 802.1Q section 9.6).
 pub data IsPrimitive : List Token → Primitive → Type 0 where
-  version : (v : Version) → IsPrimitive (token.Version v ∷ []) (says.Version v)
-  transport : (t : Transport) → IsPrimitive (token.Transport t ∷ []) (says.Transport t)
-  protocol : (p : Protocol) → IsPrimitive (token.Protocol p ∷ []) (says.Protocol p)
-  host : (d : Option Direction) (a : Address)
-      → IsPrimitive (direction_words d ++ token.Host ∷ token.Address a ∷ [])
-      (says.Net d a (bits_of a))
-  net : (d : Option Direction) (a : Address) (bits : ℕ) → bits ≤ bits_of a
-      → IsPrimitive (direction_words d ++ token.Net ∷ token.Prefix a bits ∷ [])
-      (says.Net d a bits)
-  port : (t : Option Transport) (d : Option Direction) (n : ℕ) → n ≤ 65535
-      → IsPrimitive (transport_words t ++ (direction_words d ++ token.Port ∷ token.Number n ∷ []))
-      (says.Ports t d n n)
-  portrange : (t : Option Transport) (d : Option Direction) (low high : ℕ) → low ≤ high
-      → high ≤ 65535
-      → IsPrimitive
-      (transport_words t ++ (direction_words d ++ token.PortRange ∷ token.Range low high ∷ []))
-      (says.Ports t d low high)
-  proto : (v : Option Version) (n : ℕ) → n ≤ 255
-      → IsPrimitive (version_words v ++ token.Proto ∷ token.Number n ∷ []) (says.Proto v n)
-  any_vlan : IsPrimitive (token.Vlan ∷ []) (says.Vlan None)
-  vlan : (n : ℕ) → n ≤ 4095 → IsPrimitive (token.Vlan ∷ token.Number n ∷ []) (says.Vlan (Some n))
-  less : (n : ℕ) → IsPrimitive (token.Less ∷ token.Number n ∷ []) (says.Less n)
-  greater : (n : ℕ) → IsPrimitive (token.Greater ∷ token.Number n ∷ []) (says.Greater n)
-  fragment : IsPrimitive (token.Fragment ∷ []) says.Fragment
+  word : {w : Token} {p : Primitive} → alone w ≡ Some p → IsPrimitive (w ∷ []) p
+  vlan : (k : ℕ) → k ≤ 4095 → IsPrimitive (token.Vlan ∷ token.Number k ∷ []) (says.Vlan (Some k))
+  less : (k : ℕ) → IsPrimitive (token.Less ∷ token.Number k ∷ [])
+      (says.Compare Length None relation.LessOrEqual k)
+  greater : (k : ℕ) → IsPrimitive (token.Greater ∷ token.Number k ∷ [])
+      (says.Compare Length None relation.GreaterOrEqual k)
+  ether_broadcast : IsPrimitive (token.Ether ∷ token.Broadcast ∷ []) ethernet_broadcast
+  ether_multicast : IsPrimitive (token.Ether ∷ token.Multicast ∷ []) ethernet_multicast
+  multicast : (v : Version)
+      → IsPrimitive (token.Network (network.Ip v) ∷ token.Multicast ∷ []) (ip_multicast v)
   first_fragment : IsPrimitive (token.First ∷ token.Fragment ∷ []) says.FirstFragment
+  checksum_wrong : IsPrimitive (token.Checksum ∷ token.Wrong ∷ []) says.WrongChecksum
+  comparison : {words limit : List Token} {q : Quantity} {mask : Option ℕ} {k : ℕ}
+      → IsTerm words q mask → (r : Relation) → IsConstant limit k
+      → IsPrimitive (words ++ token.Relation r ∷ limit) (says.Compare q mask r k)
+
+-- ---- expressions
 
 -- an operand; operands with this operator between them
 pub data Kind : Type 0 where
   operand : Kind
   chain : Operator → Kind
 
+-- the head of a value alone that has no value before it
+abbrev pub first_head : Head
+first_head = head.Host None None
+
 -- The words are an expression of this kind. `not` binds tighter than `and` and `or`, which stand
--- together only where parentheses keep them apart.
-pub data Reads : Kind → List Token → Expression → Type 0 where
-  primitive : {words : List Token} {p : Primitive} → IsPrimitive words p
-      → Reads operand words (one p)
-  not_ : {words : List Token} {e : Expression} → Reads operand words e
-      → Reads operand (token.Not ∷ words) (negation e)
-  parentheses : {kind : Kind} {words : List Token} {e : Expression} → Reads kind words e
-      → Reads operand (token.Open ∷ (words ++ token.Close ∷ [])) e
-  first : {o : Operator} {left right : List Token} {a b : Expression} → Reads operand left a
-      → Reads operand right b
-      → Reads (chain o) (left ++ token.Operator o ∷ right) (compound o a b)
-  more : {o : Operator} {left right : List Token} {a b : Expression} → Reads (chain o) left a
-      → Reads operand right b
-      → Reads (chain o) (left ++ token.Operator o ∷ right) (compound o a b)
+-- together only where parentheses keep them apart. A value alone has the head of the primitive
+-- before it, past any parentheses: in place of the words its head would be `before`, and after them
+-- `after`.
+pub data Reads : Kind → Head → List Token → Expression → Head → Type 0 where
+  primitive : {before : Head} {words : List Token} {p : Primitive} → IsPrimitive words p
+      → Reads operand before words (one p) first_head
+  headed : {before h : Head} {words : List Token} {p : Primitive} → IsHead words h
+      → (w : Token) → value_of w h ≡ Some p → Reads operand before (words ++ w ∷ []) (one p) h
+  value : {h : Head} {p : Primitive} → (w : Token) → value_of w h ≡ Some p
+      → Reads operand h (w ∷ []) (one p) h
+  not_ : {before after : Head} {words : List Token} {e : Expression}
+      → Reads operand before words e after
+      → Reads operand before (token.Not ∷ words) (negation e) after
+  parentheses : {kind : Kind} {before after : Head} {words : List Token} {e : Expression}
+      → Reads kind before words e after
+      → Reads operand before (token.Open ∷ (words ++ token.Close ∷ [])) e before
+  first : {before amid after : Head} {o : Operator} {left right : List Token} {a b : Expression}
+      → Reads operand before left a amid → Reads operand amid right b after
+      → Reads (chain o) before (left ++ token.Operator o ∷ right) (compound o a b) after
+  more : {before amid after : Head} {o : Operator} {left right : List Token} {a b : Expression}
+      → Reads (chain o) before left a amid → Reads operand amid right b after
+      → Reads (chain o) before (left ++ token.Operator o ∷ right) (compound o a b) after
 
 -- the words are this expression
 pub record IsExpression (words : List Token) (e : Expression) : Type 0 where
   pub kind : Kind
-  pub reads : Reads kind words e
+  pub last : Head
+  pub reads : Reads kind first_head words e last

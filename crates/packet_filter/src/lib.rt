@@ -4,9 +4,11 @@
 mod address;
 mod expression;
 mod filter;
+mod head;
 mod holds;
 mod laws;
 mod machine;
+mod partial;
 mod reading;
 mod text;
 mod token;

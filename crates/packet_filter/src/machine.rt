@@ -2,82 +2,42 @@
 
 ghost use Rattle.std.specs.Prelude.{◌≡◌, ◌+◌, ◌<◌, ◌≤◌, ◌↔◌, [], ◌∷◌, ◌++◌, IfNone, IfSome};
 ghost use Rattle.std.specs.Prelude.{IsFalse, IsTrue, length};
-ghost use Rattle.packet_filter.specs.Grammar.{bits_of};
-ghost use Rattle.packet_filter.specs.Private.Machine.{after, alone, begin, close, complete, finish};
-ghost use Rattle.packet_filter.specs.Private.Machine.{finish_state, is_open, kept, next};
-ghost use Rattle.packet_filter.specs.Private.Machine.{next_directed, next_transport, size_of};
-ghost use Rattle.packet_filter.specs.Private.Machine.{start, state_of, step_of, step_operand};
-ghost use Rattle.packet_filter.specs.Private.Machine.{step_operator, step_within, waits};
+ghost use Rattle.packet_filter.specs.Private.Machine.{after, close, closes_term, complete, finish};
+ghost use Rattle.packet_filter.specs.Private.Machine.{finish_state, is_open, kept, on_progress};
+ghost use Rattle.packet_filter.specs.Private.Machine.{or_value, put, size_of, start, state_of};
+ghost use Rattle.packet_filter.specs.Private.Machine.{step_of, step_operand, step_operator};
+ghost use Rattle.packet_filter.specs.Private.Machine.{step_within, waiting_of, waits};
 
-use crate::address::Address;
-use crate::expression::{Direction, Operator, Primitive, Transport, Version};
+use crate::expression::{Operator, Primitive};
 use crate::filter::Step;
+use crate::head::Head;
+use crate::partial::{FIRST_HEAD, Partial, Progress, begin, next, valued, whole};
 use crate::token::Token;
 use arrayvec::ArrayVec;
 use std::marker::Model;
 
 /// What waits for an operand to be complete.
-#[derive(Clone, Copy, Debug, Default, PartialEq, Eq)]
+#[derive(Clone, Copy, Default)]
 pub(crate) enum Waiting {
     /// `not`.
     #[default]
     Not,
     /// `and` or `or`, after its left side.
     Operator(Operator),
-    /// `(`.
-    Open,
-}
-
-/// A primitive that has begun.
-#[derive(Clone, Copy, Debug, PartialEq, Eq)]
-pub(crate) enum Partial {
-    /// `ip` or `ip6`, which can stand alone.
-    Version(Version),
-    /// `tcp`, `udp` or `sctp`, which can stand alone.
-    Transport(Transport),
-    /// `src` or `dst`.
-    Directed(Option<Transport>, Direction),
-    /// `host`.
-    Host(Option<Direction>),
-    /// `net`.
-    Net(Option<Direction>),
-    /// `port`.
-    Port(Option<Transport>, Option<Direction>),
-    /// `portrange`.
-    PortRange(Option<Transport>, Option<Direction>),
-    /// `proto`.
-    Proto(Option<Version>),
-    /// `vlan`, which can stand alone.
-    Vlan,
-    /// `less`.
-    Less,
-    /// `greater`.
-    Greater,
-    /// `first`.
-    First,
-}
-
-/// What a word makes of a primitive.
-#[derive(Clone, Copy, Debug, PartialEq, Eq)]
-pub(crate) enum Progress {
-    /// It goes on.
-    More(Partial),
-    /// It is complete.
-    Done(Primitive),
-    /// The word does not belong to it.
-    Foreign,
+    /// `(`, and the head of a value alone before it.
+    Open(Head),
 }
 
 /// What may come next.
-#[derive(Clone, Copy, Debug, PartialEq, Eq)]
+#[derive(Clone, Copy)]
 pub(crate) enum Doing {
-    /// An operand.
-    Operand,
+    /// An operand, which has this head if it is a value alone.
+    Operand(Head),
     /// The rest of a primitive.
     Within(Partial),
     /// An operator, or a closing parenthesis. Before it this operator stands on the same level, or
-    /// none.
-    Operator(Option<Operator>),
+    /// none; a value alone after it would have this head.
+    Operator(Option<Operator>, Head),
 }
 
 /// What waits, the last first.
@@ -121,7 +81,7 @@ impl Stack {
     fn is_open(&self) -> bool
         ensures value { result ≡ is_open self.now }
     {
-        matches!(self.items.as_slice().last(), Some(Waiting::Open))
+        matches!(self.items.as_slice().last(), Some(Waiting::Open(_)))
     }
 
     fn is_empty(&self) -> bool
@@ -145,7 +105,7 @@ impl Machine {
         ensures first { state_of result ≡ start }
     {
         Machine {
-            doing: Doing::Operand,
+            doing: Doing::Operand(FIRST_HEAD),
             waiting: Stack::new(),
             steps: ArrayVec::new(),
         }
@@ -160,9 +120,9 @@ impl Machine {
             size_of (state_of self.new) ≤ size_of (state_of self.old) + 1 }
     {
         match self.doing {
-            Doing::Operand => self.step_operand(token),
+            Doing::Operand(head) => self.step_operand(head, token),
             Doing::Within(partial) => self.step_within(partial, token),
-            Doing::Operator(before) => self.step_operator(before, token),
+            Doing::Operator(before, head) => self.step_operator(before, head, token),
         }
     }
 
@@ -173,15 +133,15 @@ impl Machine {
         ensures no { IsFalse result → finish (state_of self.old) ≡ None }
     {
         match self.doing {
-            Doing::Operand => false,
-            Doing::Within(partial) => match alone(partial) {
+            Doing::Operand(_) => false,
+            Doing::Within(partial) => match whole(partial) {
                 Some(primitive) => {
-                    self.put(primitive);
+                    self.put(primitive, FIRST_HEAD);
                     self.is_whole()
                 }
                 None => false,
             },
-            Doing::Operator(_) => self.waiting.is_empty(),
+            Doing::Operator(_, _) => self.waiting.is_empty(),
         }
     }
 
@@ -191,8 +151,8 @@ impl Machine {
         ensures no { IsFalse result → finish_state (state_of self.now) ≡ None }
     {
         match self.doing {
-            Doing::Operator(_) => self.waiting.is_empty(),
-            Doing::Operand | Doing::Within(_) => false,
+            Doing::Operator(_, _) => self.waiting.is_empty(),
+            Doing::Operand(_) | Doing::Within(_) => false,
         }
     }
 
@@ -204,33 +164,47 @@ impl Machine {
     }
 
     // Where an operand may come.
-    fn step_operand(&mut self, token: Token) -> bool
+    fn step_operand(&mut self, head: Head, token: Token) -> bool
         requires room { kept (state_of self.old) < 64 }
         ensures yes { IsTrue result →
-            step_operand token self.old.waiting self.old.steps.items ≡ Some (state_of self.new) }
+            step_operand head token self.old.waiting self.old.steps.items
+            ≡ Some (state_of self.new) }
         ensures no { IsFalse result →
-            step_operand token self.old.waiting self.old.steps.items ≡ None }
+            step_operand head token self.old.waiting self.old.steps.items ≡ None }
         ensures size { IsTrue result → size_of (state_of self.new) ≤ kept (state_of self.old) + 1 }
     {
-        match token {
-            Token::Not => self.wait(Waiting::Not),
-            Token::Open => self.wait(Waiting::Open),
-            _ => match begin(token) {
-                Progress::More(partial) => {
-                    self.doing = Doing::Within(partial);
-                    true
-                }
-                Progress::Done(primitive) => {
-                    self.put(primitive);
-                    true
-                }
-                Progress::Foreign => false,
-            },
+        match waiting_of(head, token) {
+            Some(waiting) => self.wait(waiting, head),
+            None => self.go_on(or_value(head, token, begin(token))),
+        }
+    }
+
+    // What a word makes of a primitive that it begins, or that has begun.
+    fn go_on(&mut self, progress: Progress) -> bool
+        requires room { kept (state_of self.old) < 64 }
+        ensures yes { IsTrue result →
+            on_progress progress self.old.waiting self.old.steps.items
+            ≡ Some (state_of self.new) }
+        ensures no { IsFalse result →
+            on_progress progress self.old.waiting self.old.steps.items ≡ None }
+        ensures size { IsTrue result → size_of (state_of self.new) ≤ kept (state_of self.old) + 1 }
+    {
+        match progress {
+            Progress::More(partial) => {
+                self.doing = Doing::Within(partial);
+                true
+            }
+            Progress::Done(primitive, head) => {
+                self.put(primitive, head);
+                true
+            }
+            Progress::Foreign => false,
         }
     }
 
     // Within a primitive.
     fn step_within(&mut self, partial: Partial, token: Token) -> bool
+        requires at { self.old.doing ≡ Doing.Within partial }
         requires room { kept (state_of self.old) < 63 }
         ensures yes { IsTrue result →
             step_within partial token self.old.waiting self.old.steps.items
@@ -239,23 +213,27 @@ impl Machine {
             step_within partial token self.old.waiting self.old.steps.items ≡ None }
         ensures size { IsTrue result → size_of (state_of self.new) ≤ kept (state_of self.old) + 2 }
     {
+        if self.closes_term(partial, token) {
+            self.waiting.pop();
+            return true;
+        }
         match next(partial, token) {
-            Progress::More(partial) => {
-                self.doing = Doing::Within(partial);
-                true
-            }
-            Progress::Done(primitive) => {
-                self.put(primitive);
-                true
-            }
-            Progress::Foreign => match alone(partial) {
+            Progress::Foreign => match whole(partial) {
                 Some(primitive) => {
-                    self.put(primitive);
+                    self.put(primitive, FIRST_HEAD);
                     self.step_after(token)
                 }
                 None => false,
             },
+            progress => self.go_on(progress),
         }
+    }
+
+    // Whether a word closes a parenthesis round a term.
+    fn closes_term(&self, partial: Partial, token: Token) -> bool
+        ensures value { result ≡ closes_term partial token self.now.waiting }
+    {
+        matches!((partial, token), (Partial::Term(_, _), Token::Close)) && self.waiting.is_open()
     }
 
     // An operator, where one may come.
@@ -266,28 +244,28 @@ impl Machine {
         ensures size { IsTrue result → size_of (state_of self.new) ≤ kept (state_of self.old) + 1 }
     {
         match self.doing {
-            Doing::Operator(before) => self.step_operator(before, token),
-            Doing::Operand | Doing::Within(_) => false,
+            Doing::Operator(before, head) => self.step_operator(before, head, token),
+            Doing::Operand(_) | Doing::Within(_) => false,
         }
     }
 
     // Where an operator may come.
-    fn step_operator(&mut self, before: Option<Operator>, token: Token) -> bool
+    fn step_operator(&mut self, before: Option<Operator>, head: Head, token: Token) -> bool
         requires room { kept (state_of self.old) < 64 }
         ensures yes { IsTrue result →
-            step_operator before token self.old.waiting self.old.steps.items
+            step_operator before head token self.old.waiting self.old.steps.items
             ≡ Some (state_of self.new) }
         ensures no { IsFalse result →
-            step_operator before token self.old.waiting self.old.steps.items ≡ None }
+            step_operator before head token self.old.waiting self.old.steps.items ≡ None }
         ensures size { IsTrue result → size_of (state_of self.new) ≤ kept (state_of self.old) + 1 }
     {
         match (before, token) {
-            (None, Token::Operator(operator)) => self.wait(Waiting::Operator(operator)),
+            (None, Token::Operator(operator)) => self.wait(Waiting::Operator(operator), head),
             (Some(Operator::And), Token::Operator(Operator::And)) => {
-                self.wait(Waiting::Operator(Operator::And))
+                self.wait(Waiting::Operator(Operator::And), head)
             }
             (Some(Operator::Or), Token::Operator(Operator::Or)) => {
-                self.wait(Waiting::Operator(Operator::Or))
+                self.wait(Waiting::Operator(Operator::Or), head)
             }
             (_, Token::Close) => self.close(),
             _ => false,
@@ -303,8 +281,8 @@ impl Machine {
         ensures size { IsTrue result → size_of (state_of self.new) ≤ kept (state_of self.old) }
     {
         match self.waiting.pop() {
-            Some(Waiting::Open) => {
-                self.complete();
+            Some(Waiting::Open(head)) => {
+                self.complete(head);
                 true
             }
             _ => false,
@@ -312,51 +290,51 @@ impl Machine {
     }
 
     // Waits for an operand.
-    fn wait(&mut self, waiting: Waiting) -> bool
+    fn wait(&mut self, waiting: Waiting, head: Head) -> bool
         requires room { length self.old.waiting < 64 }
         ensures yes { IsTrue result }
-        ensures state { waits waiting self.old.waiting self.old.steps.items
+        ensures state { waits waiting head self.old.waiting self.old.steps.items
             ≡ Some (state_of self.new) }
         ensures size { size_of (state_of self.new) ≡ kept (state_of self.old) + 1 }
     {
         self.waiting.push(waiting);
-        self.doing = Doing::Operand;
+        self.doing = Doing::Operand(head);
         true
     }
 
     // Takes a primitive.
-    fn put(&mut self, primitive: Primitive)
+    fn put(&mut self, primitive: Primitive, head: Head)
         requires room { kept (state_of self.old) < 64 }
         ensures state { state_of self.new ≡
-            complete self.old.waiting (self.old.steps.items ++ Step.Test primitive ∷ []) }
+            put primitive head self.old.waiting self.old.steps.items }
         ensures size { kept (state_of self.new) ≡ kept (state_of self.old) + 1 }
         ensures none { size_of (state_of self.new) ≡ kept (state_of self.new) }
     {
         self.steps.push(Step::Test(primitive));
-        self.complete();
+        self.complete(head);
     }
 
     // An operand is complete.
-    fn complete(&mut self)
+    fn complete(&mut self, head: Head)
         requires room { kept (state_of self.old) ≤ 64 }
-        ensures state { state_of self.new ≡ complete self.old.waiting self.old.steps.items }
+        ensures state { state_of self.new ≡ complete head self.old.waiting self.old.steps.items }
         ensures size { kept (state_of self.new) ≡ kept (state_of self.old) }
         ensures none { size_of (state_of self.new) ≡ kept (state_of self.new) }
     {
         'nots: loop {
             if self.waiting.is_open() {
-                self.doing = Doing::Operator(None);
+                self.doing = Doing::Operator(None, head);
                 return;
             }
             match self.waiting.pop() {
                 Some(Waiting::Not) => self.steps.push(Step::Not),
                 Some(Waiting::Operator(operator)) => {
                     self.steps.push(Step::Operator(operator));
-                    self.doing = Doing::Operator(Some(operator));
+                    self.doing = Doing::Operator(Some(operator), head);
                     return;
                 }
-                Some(Waiting::Open) | None => {
-                    self.doing = Doing::Operator(None);
+                Some(Waiting::Open(_)) | None => {
+                    self.doing = Doing::Operator(None, head);
                     return;
                 }
             }
@@ -364,114 +342,23 @@ impl Machine {
     }
 }
 
-// What the first word begins.
-fn begin(token: Token) -> Progress
-    ensures value { result ≡ begin token }
+// What waits after a word, if an operand is still to come.
+fn waiting_of(head: Head, token: Token) -> Option<Waiting>
+    ensures value { result ≡ waiting_of head token }
 {
     match token {
-        Token::Version(version) => Progress::More(Partial::Version(version)),
-        Token::Transport(transport) => Progress::More(Partial::Transport(transport)),
-        Token::Protocol(protocol) => Progress::Done(Primitive::Protocol(protocol)),
-        Token::Direction(direction) => Progress::More(Partial::Directed(None, direction)),
-        Token::Host => Progress::More(Partial::Host(None)),
-        Token::Net => Progress::More(Partial::Net(None)),
-        Token::Port => Progress::More(Partial::Port(None, None)),
-        Token::PortRange => Progress::More(Partial::PortRange(None, None)),
-        Token::Proto => Progress::More(Partial::Proto(None)),
-        Token::Vlan => Progress::More(Partial::Vlan),
-        Token::Less => Progress::More(Partial::Less),
-        Token::Greater => Progress::More(Partial::Greater),
-        Token::Fragment => Progress::Done(Primitive::Fragment),
-        Token::First => Progress::More(Partial::First),
-        _ => Progress::Foreign,
-    }
-}
-
-// What a primitive is that is complete though it could go on.
-fn alone(partial: Partial) -> Option<Primitive>
-    ensures value { result ≡ alone partial }
-{
-    match partial {
-        Partial::Version(version) => Some(Primitive::Version(version)),
-        Partial::Transport(transport) => Some(Primitive::Transport(transport)),
-        Partial::Vlan => Some(Primitive::Vlan(None)),
+        Token::Not => Some(Waiting::Not),
+        Token::Open => Some(Waiting::Open(head)),
         _ => None,
     }
 }
 
-// What a further word makes of a primitive.
-fn next(partial: Partial, token: Token) -> Progress
-    ensures value { result ≡ next partial token }
+// A word that begins no primitive can be a value alone.
+fn or_value(head: Head, token: Token, progress: Progress) -> Progress
+    ensures value { result ≡ or_value head token progress }
 {
-    match (partial, token) {
-        (Partial::Version(version), Token::Proto) => {
-            Progress::More(Partial::Proto(Some(version)))
-        }
-        (Partial::Transport(transport), token) => next_transport(transport, token),
-        (Partial::Directed(transport, direction), token) => {
-            next_directed(transport, direction, token)
-        }
-        (Partial::Host(direction), Token::Address(address)) => {
-            Progress::Done(Primitive::Net(direction, address, bits_of(address)))
-        }
-        (Partial::Net(direction), Token::Prefix(address, bits))
-            if bits <= u32::from(bits_of(address)) => {
-            Progress::Done(Primitive::Net(direction, address, bits as u8))
-        }
-        (Partial::Port(transport, direction), Token::Number(port)) if port <= 65535 => {
-            let port = port as u16;
-            Progress::Done(Primitive::Ports(transport, direction, port, port))
-        }
-        (Partial::PortRange(transport, direction), Token::Range(low, high))
-            if low <= high && high <= 65535 => {
-            Progress::Done(Primitive::Ports(transport, direction, low as u16, high as u16))
-        }
-        (Partial::Proto(version), Token::Number(number)) if number <= 255 => {
-            Progress::Done(Primitive::Proto(version, number as u8))
-        }
-        (Partial::Vlan, Token::Number(identifier)) if identifier <= 4095 => {
-            Progress::Done(Primitive::Vlan(Some(identifier as u16)))
-        }
-        (Partial::Less, Token::Number(len)) => Progress::Done(Primitive::Less(len)),
-        (Partial::Greater, Token::Number(len)) => Progress::Done(Primitive::Greater(len)),
-        (Partial::First, Token::Fragment) => Progress::Done(Primitive::FirstFragment),
-        _ => Progress::Foreign,
-    }
-}
-
-// What a word makes of `tcp`, `udp` or `sctp`.
-fn next_transport(transport: Transport, token: Token) -> Progress
-    ensures value { result ≡ next_transport transport token }
-{
-    match token {
-        Token::Direction(direction) => {
-            Progress::More(Partial::Directed(Some(transport), direction))
-        }
-        Token::Port => Progress::More(Partial::Port(Some(transport), None)),
-        Token::PortRange => Progress::More(Partial::PortRange(Some(transport), None)),
-        _ => Progress::Foreign,
-    }
-}
-
-// What a word makes of `src` or `dst`.
-fn next_directed(transport: Option<Transport>, direction: Direction, token: Token) -> Progress
-    ensures value { result ≡ next_directed transport direction token }
-{
-    match (transport, token) {
-        (_, Token::Port) => Progress::More(Partial::Port(transport, Some(direction))),
-        (_, Token::PortRange) => Progress::More(Partial::PortRange(transport, Some(direction))),
-        (None, Token::Host) => Progress::More(Partial::Host(Some(direction))),
-        (None, Token::Net) => Progress::More(Partial::Net(Some(direction))),
-        _ => Progress::Foreign,
-    }
-}
-
-// How many bits an address has.
-fn bits_of(address: Address) -> u8
-    ensures value { result ≡ bits_of address }
-{
-    match address {
-        Address::V4(_) => 32,
-        Address::V6(_) => 128,
+    match progress {
+        Progress::Foreign => valued(head, token),
+        _ => progress,
     }
 }

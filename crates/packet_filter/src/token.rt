@@ -4,7 +4,7 @@ use crate::address::Address;
 use crate::expression::{Network, Operator, Relation, Size, Transport, Version};
 
 /// A word of an expression.
-#[derive(Clone, Copy, Debug, PartialEq, Eq)]
+#[derive(Clone, Copy)]
 pub(crate) enum Token {
     /// `not` or `!`.
     Not,

@@ -1,27 +1,261 @@
 -- Reading an expression a word at a time.
-use Rattle.std.specs.Prelude.{ℕ, ◌+◌, nat_le, Bool, true, false, ◌&&◌, Option, Some, None}
-use Rattle.std.specs.Prelude.{if◌then◌else◌, List, [], ◌∷◌, ◌++◌, length}
-use Rattle.packet_filter.specs.Grammar.{bits_of}
+use Rattle.std.specs.Prelude.{ℕ, ◌+◌, Bool, true, false, Option, Some, None, List, [], ◌∷◌, ◌++◌}
+use Rattle.std.specs.Prelude.{bit_or, if◌then◌else◌, length, nat_le}
+use Rattle.packet_filter.specs.Grammar.{alone, ethernet_broadcast, ethernet_multicast, first_head}
+use Rattle.packet_filter.specs.Grammar.{ip_multicast, value_of}
+use Rattle.packet_filter.specs.Meaning.{transport_number}
 use Rattle.packet_filter.specs.Program.{and_then}
 use Rattle.packet_filter.specs.declared.expression.Direction.{Direction}
+use Rattle.packet_filter.specs.declared.expression.Direction.TheVariants as direction
+use Rattle.packet_filter.specs.declared.expression.Layer.{Layer}
+use Rattle.packet_filter.specs.declared.expression.Layer.TheVariants as layer
+use Rattle.packet_filter.specs.declared.expression.Network.{Network}
+use Rattle.packet_filter.specs.declared.expression.Network.TheVariants as network
 use Rattle.packet_filter.specs.declared.expression.Operator.{Operator as Joiner}
 use Rattle.packet_filter.specs.declared.expression.Operator.TheVariants.{And, Or}
 use Rattle.packet_filter.specs.declared.expression.Primitive.{Primitive}
 use Rattle.packet_filter.specs.declared.expression.Primitive.TheVariants as says
+use Rattle.packet_filter.specs.declared.expression.Quantity.{Quantity}
+use Rattle.packet_filter.specs.declared.expression.Quantity.TheVariants as quantity
+use Rattle.packet_filter.specs.declared.expression.Relation.TheVariants as relation
+use Rattle.packet_filter.specs.declared.expression.Size.{Size}
+use Rattle.packet_filter.specs.declared.expression.Size.TheVariants.{One}
 use Rattle.packet_filter.specs.declared.expression.Transport.{Transport}
 use Rattle.packet_filter.specs.declared.filter.Step.{Step}
 use Rattle.packet_filter.specs.declared.filter.Step.TheVariants as step
+use Rattle.packet_filter.specs.declared.head.Head.{Head}
+use Rattle.packet_filter.specs.declared.head.Head.TheVariants as head
 use Rattle.packet_filter.specs.declared.machine.Doing.{Doing}
 use Rattle.packet_filter.specs.declared.machine.Doing.TheVariants.{Operand, Within, Operator}
 use Rattle.packet_filter.specs.declared.machine.Machine.{Machine}
-use Rattle.packet_filter.specs.declared.machine.Partial.{Partial}
-use Rattle.packet_filter.specs.declared.machine.Partial.TheVariants as partial
-use Rattle.packet_filter.specs.declared.machine.Progress.{Progress}
-use Rattle.packet_filter.specs.declared.machine.Progress.TheVariants.{More, Done, Foreign}
 use Rattle.packet_filter.specs.declared.machine.Waiting.{Waiting}
 use Rattle.packet_filter.specs.declared.machine.Waiting.TheVariants as waiting
+use Rattle.packet_filter.specs.declared.partial.Partial.{Partial}
+use Rattle.packet_filter.specs.declared.partial.Partial.TheVariants as partial
+use Rattle.packet_filter.specs.declared.partial.Progress.{Progress}
+use Rattle.packet_filter.specs.declared.partial.Progress.TheVariants.{More, Done, Foreign}
+use Rattle.packet_filter.specs.declared.partial.Scope.{Scope}
+use Rattle.packet_filter.specs.declared.partial.Scope.TheVariants as scope
+use Rattle.packet_filter.specs.declared.partial.Use.{Use}
+use Rattle.packet_filter.specs.declared.partial.Use.TheVariants.{Limit, Masking}
 use Rattle.packet_filter.specs.declared.token.Token.{Token}
 use Rattle.packet_filter.specs.declared.token.Token.TheVariants as token
+
+-- ---- primitives
+
+-- the first word of a primitive
+abbrev pub begin : Token → Progress
+begin (token.Network n) = More (partial.Word (token.Network n))
+begin (token.Transport t) = More (partial.Word (token.Transport t))
+begin (token.Protocol v k) = More (partial.Word (token.Protocol v k))
+begin (token.EtherType k) = More (partial.Word (token.EtherType k))
+begin token.Broadcast = More (partial.Word token.Broadcast)
+begin token.Multicast = More (partial.Word token.Multicast)
+begin token.Vlan = More (partial.Word token.Vlan)
+begin token.Fragment = More (partial.Word token.Fragment)
+begin token.Ether = More partial.Ether
+begin token.Source = More (partial.Directed scope.Any direction.Source)
+begin token.Destination = More (partial.Directed scope.Any direction.Destination)
+begin token.Host = More (partial.Value (head.Host None None))
+begin token.Net = More (partial.Value (head.Net None None))
+begin token.Port = More (partial.Value (head.Port None None))
+begin token.PortRange = More (partial.Value (head.PortRange None None))
+begin token.Proto = More (partial.Value (head.Proto None))
+begin token.Length = More (partial.Term quantity.Length None)
+begin token.Less = More partial.Less
+begin token.Greater = More partial.Greater
+begin token.First = More partial.First
+begin token.Checksum = More partial.Checksum
+begin _ = Foreign
+
+-- a value after a head, or a word that is none
+abbrev pub found : Head → Option Primitive → Progress
+found h (Some p) = Done p h
+found h None = Foreign
+
+abbrev pub valued : Head → Token → Progress
+valued h w = found h (value_of w h)
+
+-- what is read of a primitive that has no value
+abbrev pub made : Primitive → Progress
+made p = Done p first_head
+
+-- the words after `ip`, `ip6`, `arp` and `rarp`
+abbrev pub after_network : Network → Token → Progress
+after_network n token.Source = More (partial.Directed (scope.Network n) direction.Source)
+after_network n token.Destination =
+    More (partial.Directed (scope.Network n) direction.Destination)
+after_network n token.Host = More (partial.Value (head.Host (Some n) None))
+after_network n token.Net = More (partial.Value (head.Net (Some n) None))
+after_network (network.Ip v) token.Proto = More (partial.Value (head.Proto (Some v)))
+after_network (network.Ip v) token.Multicast = made (ip_multicast v)
+after_network (network.Ip v) token.OpenBracket = More (partial.Bracket (layer.Ip v))
+after_network n _ = Foreign
+
+abbrev pub after_transport : Transport → Token → Progress
+after_transport t token.Source = More (partial.Directed (scope.Transport t) direction.Source)
+after_transport t token.Destination =
+    More (partial.Directed (scope.Transport t) direction.Destination)
+after_transport t token.Port = More (partial.Value (head.Port (Some t) None))
+after_transport t token.PortRange = More (partial.Value (head.PortRange (Some t) None))
+after_transport t token.OpenBracket =
+    More (partial.Bracket (layer.Payload None (transport_number t)))
+after_transport t _ = Foreign
+
+abbrev pub after_protocol : Layer → Token → Progress
+after_protocol l token.OpenBracket = More (partial.Bracket l)
+after_protocol l _ = Foreign
+
+abbrev pub after_vlan : Token → Progress
+after_vlan (token.Number k) = if nat_le k 4095 then made (says.Vlan (Some k)) else Foreign
+after_vlan _ = Foreign
+
+abbrev pub after_word : Token → Token → Progress
+after_word (token.Network n) w = after_network n w
+after_word (token.Transport t) w = after_transport t w
+after_word (token.Protocol v k) w = after_protocol (layer.Payload v k) w
+after_word token.Vlan w = after_vlan w
+after_word _ w = Foreign
+
+abbrev pub after_ether : Token → Progress
+after_ether token.Source = More (partial.Directed scope.Ether direction.Source)
+after_ether token.Destination = More (partial.Directed scope.Ether direction.Destination)
+after_ether token.Host = More (partial.Value (head.Ether None))
+after_ether token.Proto = More (partial.Value head.EtherProto)
+after_ether token.Broadcast = made ethernet_broadcast
+after_ether token.Multicast = made ethernet_multicast
+after_ether token.OpenBracket = More (partial.Bracket layer.Ether)
+after_ether _ = Foreign
+
+-- the words after a direction
+abbrev pub after_any : Direction → Token → Progress
+after_any d token.Host = More (partial.Value (head.Host None (Some d)))
+after_any d token.Net = More (partial.Value (head.Net None (Some d)))
+after_any d token.Port = More (partial.Value (head.Port None (Some d)))
+after_any d token.PortRange = More (partial.Value (head.PortRange None (Some d)))
+after_any d w = valued (head.Host None (Some d)) w
+
+abbrev pub after_of_network : Network → Direction → Token → Progress
+after_of_network n d token.Host = More (partial.Value (head.Host (Some n) (Some d)))
+after_of_network n d token.Net = More (partial.Value (head.Net (Some n) (Some d)))
+after_of_network n d w = valued (head.Host (Some n) (Some d)) w
+
+abbrev pub after_of_transport : Transport → Direction → Token → Progress
+after_of_transport t d token.Port = More (partial.Value (head.Port (Some t) (Some d)))
+after_of_transport t d token.PortRange = More (partial.Value (head.PortRange (Some t) (Some d)))
+after_of_transport t d _ = Foreign
+
+abbrev pub after_of_ether : Direction → Token → Progress
+after_of_ether d token.Host = More (partial.Value (head.Ether (Some d)))
+after_of_ether d w = valued (head.Ether (Some d)) w
+
+abbrev pub after_scope : Scope → Direction → Token → Progress
+after_scope scope.Any d w = after_any d w
+after_scope (scope.Network n) d w = after_of_network n d w
+after_scope (scope.Transport t) d w = after_of_transport t d w
+after_scope scope.Ether d w = after_of_ether d w
+
+-- `src` can go on with `or dst` and `and dst`
+abbrev pub after_source : Scope → Direction → Joiner → Progress
+after_source s direction.Source o = More (partial.Joined s o)
+after_source s d o = Foreign
+
+abbrev pub after_direction : Scope → Direction → Token → Progress
+after_direction s d (token.Operator o) = after_source s d o
+after_direction s d w = after_scope s d w
+
+abbrev pub joined : Joiner → Direction
+joined Or = direction.Either
+joined And = direction.Both
+
+abbrev pub after_joined : Scope → Joiner → Token → Progress
+after_joined s o token.Destination = More (partial.Directed s (joined o))
+after_joined s o _ = Foreign
+
+-- a number where one ends a mask or a comparison
+abbrev pub given : Use → ℕ → Progress
+given (Masking q) k = More (partial.Term q (Some k))
+given (Limit q mask r) k = made (says.Compare q mask r k)
+
+abbrev pub after_bracket : Layer → Token → Progress
+after_bracket l (token.Number place) = More (partial.Placed l place One)
+after_bracket l (token.Place place size) = More (partial.Placed l place size)
+after_bracket l _ = Foreign
+
+abbrev pub after_placed : Layer → ℕ → Size → Token → Progress
+after_placed l place size token.CloseBracket =
+    More (partial.Term (quantity.Load l place size) None)
+after_placed l place size _ = Foreign
+
+abbrev pub after_and : Quantity → Option ℕ → Progress
+after_and q None = More (partial.Constant (Masking q))
+after_and q (Some mask) = Foreign
+
+abbrev pub after_term : Quantity → Option ℕ → Token → Progress
+after_term q mask token.BitAnd = after_and q mask
+after_term q mask (token.Relation r) = More (partial.Constant (Limit q mask r))
+after_term q mask _ = Foreign
+
+abbrev pub after_use : Use → Token → Progress
+after_use u (token.Number k) = given u k
+after_use u token.Open = More (partial.Opened u)
+after_use u _ = Foreign
+
+abbrev pub after_opened : Use → Token → Progress
+after_opened u (token.Number k) = More (partial.Listed u k)
+after_opened u _ = Foreign
+
+abbrev pub after_listed : Use → ℕ → Token → Progress
+after_listed u bits token.BitOr = More (partial.Bar u bits)
+after_listed u bits token.Close = given u bits
+after_listed u bits _ = Foreign
+
+abbrev pub after_bar : Use → ℕ → Token → Progress
+after_bar u bits (token.Number k) = More (partial.Listed u (bit_or bits k))
+after_bar u bits _ = Foreign
+
+abbrev pub after_first : Token → Progress
+after_first token.Fragment = made says.FirstFragment
+after_first _ = Foreign
+
+abbrev pub after_checksum : Token → Progress
+after_checksum token.Wrong = made says.WrongChecksum
+after_checksum _ = Foreign
+
+abbrev pub after_less : Token → Progress
+after_less (token.Number k) = made (says.Compare quantity.Length None relation.LessOrEqual k)
+after_less _ = Foreign
+
+abbrev pub after_greater : Token → Progress
+after_greater (token.Number k) =
+    made (says.Compare quantity.Length None relation.GreaterOrEqual k)
+after_greater _ = Foreign
+
+-- a further word
+abbrev pub next : Partial → Token → Progress
+next (partial.Word first) w = after_word first w
+next partial.Ether w = after_ether w
+next (partial.Directed s d) w = after_direction s d w
+next (partial.Joined s o) w = after_joined s o w
+next (partial.Value h) w = valued h w
+next partial.Less w = after_less w
+next partial.Greater w = after_greater w
+next partial.First w = after_first w
+next partial.Checksum w = after_checksum w
+next (partial.Bracket l) w = after_bracket l w
+next (partial.Placed l place size) w = after_placed l place size w
+next (partial.Term q mask) w = after_term q mask w
+next (partial.Constant u) w = after_use u w
+next (partial.Opened u) w = after_opened u w
+next (partial.Listed u bits) w = after_listed u bits w
+next (partial.Bar u bits) w = after_bar u bits w
+
+-- what a primitive is that is complete though it could go on
+abbrev pub whole : Partial → Option Primitive
+whole (partial.Word w) = alone w
+whole _ = None
+
+-- ---- expressions
 
 pub record State : Type 0 where
   pub doing : Doing
@@ -32,13 +266,13 @@ abbrev pub state_of : Machine → State
 state_of m = record { doing = m.doing; waiting = m.waiting; steps = m.steps.items }
 
 abbrev pub start : State
-start = record { doing = Operand; waiting = []; steps = [] }
+start = record { doing = Operand first_head; waiting = []; steps = [] }
 
 -- how many words the state stands for at least
 abbrev pub partial_size : Doing → ℕ
-partial_size Operand = 0
+partial_size (Operand h) = 0
 partial_size (Within p) = 1
-partial_size (Operator c) = 0
+partial_size (Operator c h) = 0
 
 abbrev pub size_of : State → ℕ
 size_of s = partial_size s.doing + length s.waiting + length s.steps
@@ -50,151 +284,121 @@ kept s = length s.waiting + length s.steps
 -- a parenthesis waits first
 abbrev pub is_open : List Waiting → Bool
 is_open [] = false
-is_open (waiting.Open ∷ ws) = true
+is_open (waiting.Open h ∷ ws) = true
 is_open (waiting.Not ∷ ws) = false
 is_open (waiting.Operator o ∷ ws) = false
 
--- the first word of a primitive
-abbrev pub begin : Token → Progress
-begin (token.Version v) = More (partial.Version v)
-begin (token.Transport t) = More (partial.Transport t)
-begin (token.Protocol p) = Done (says.Protocol p)
-begin (token.Direction d) = More (partial.Directed None d)
-begin token.Host = More (partial.Host None)
-begin token.Net = More (partial.Net None)
-begin token.Port = More (partial.Port None None)
-begin token.PortRange = More (partial.PortRange None None)
-begin token.Proto = More (partial.Proto None)
-begin token.Vlan = More partial.Vlan
-begin token.Less = More partial.Less
-begin token.Greater = More partial.Greater
-begin token.Fragment = Done says.Fragment
-begin token.First = More partial.First
-begin _ = Foreign
-
--- a further word
-abbrev pub next_transport : Transport → Token → Progress
-next_transport t (token.Direction d) = More (partial.Directed (Some t) d)
-next_transport t token.Port = More (partial.Port (Some t) None)
-next_transport t token.PortRange = More (partial.PortRange (Some t) None)
-next_transport t _ = Foreign
-
-abbrev pub next_directed : Option Transport → Direction → Token → Progress
-next_directed t d token.Port = More (partial.Port t (Some d))
-next_directed t d token.PortRange = More (partial.PortRange t (Some d))
-next_directed None d token.Host = More (partial.Host (Some d))
-next_directed None d token.Net = More (partial.Net (Some d))
-next_directed t d _ = Foreign
-
-abbrev pub next : Partial → Token → Progress
-next (partial.Version v) token.Proto = More (partial.Proto (Some v))
-next (partial.Transport t) w = next_transport t w
-next (partial.Directed t d) w = next_directed t d w
-next (partial.Host d) (token.Address a) = Done (says.Net d a (bits_of a))
-next (partial.Net d) (token.Prefix a n) =
-    if nat_le n (bits_of a) then Done (says.Net d a n) else Foreign
-next (partial.Port t d) (token.Number n) =
-    if nat_le n 65535 then Done (says.Ports t d n n) else Foreign
-next (partial.PortRange t d) (token.Range low high) =
-    if nat_le low high && nat_le high 65535 then Done (says.Ports t d low high) else Foreign
-next (partial.Proto v) (token.Number n) =
-    if nat_le n 255 then Done (says.Proto v n) else Foreign
-next partial.Vlan (token.Number n) =
-    if nat_le n 4095 then Done (says.Vlan (Some n)) else Foreign
-next partial.Less (token.Number n) = Done (says.Less n)
-next partial.Greater (token.Number n) = Done (says.Greater n)
-next partial.First token.Fragment = Done says.FirstFragment
-next _ _ = Foreign
-
--- what a primitive is that is complete though it could go on
-abbrev pub alone : Partial → Option Primitive
-alone (partial.Version v) = Some (says.Version v)
-alone (partial.Transport t) = Some (says.Transport t)
-alone partial.Vlan = Some (says.Vlan None)
-alone _ = None
-
 -- an operand is complete
-abbrev pub complete : List Waiting → List Step → State
-complete [] out = record { doing = Operator None; waiting = []; steps = out }
-complete (waiting.Open ∷ ws) out =
-    record { doing = Operator None; waiting = waiting.Open ∷ ws; steps = out }
-complete (waiting.Not ∷ ws) out = complete ws (out ++ step.Not ∷ [])
-complete (waiting.Operator o ∷ ws) out =
-    record { doing = Operator (Some o); waiting = ws; steps = out ++ step.Operator o ∷ [] }
+abbrev pub complete : Head → List Waiting → List Step → State
+complete h [] out = record { doing = Operator None h; waiting = []; steps = out }
+complete h (waiting.Open g ∷ ws) out =
+    record { doing = Operator None h; waiting = waiting.Open g ∷ ws; steps = out }
+complete h (waiting.Not ∷ ws) out = complete h ws (out ++ step.Not ∷ [])
+complete h (waiting.Operator o ∷ ws) out =
+    record { doing = Operator (Some o) h; waiting = ws; steps = out ++ step.Operator o ∷ [] }
+
+-- a primitive is complete
+abbrev pub put : Primitive → Head → List Waiting → List Step → State
+put p h ws out = complete h ws (out ++ step.Test p ∷ [])
 
 abbrev pub on_progress : Progress → List Waiting → List Step → Option State
 on_progress (More p) ws out = Some (record { doing = Within p; waiting = ws; steps = out })
-on_progress (Done p) ws out = Some (complete ws (out ++ step.Test p ∷ []))
+on_progress (Done p h) ws out = Some (put p h ws out)
 on_progress Foreign ws out = None
 
-abbrev pub waits : Waiting → List Waiting → List Step → Option State
-waits w ws out = Some (record { doing = Operand; waiting = w ∷ ws; steps = out })
+abbrev pub waits : Waiting → Head → List Waiting → List Step → Option State
+waits w h ws out = Some (record { doing = Operand h; waiting = w ∷ ws; steps = out })
 
-abbrev pub step_operand : Token → List Waiting → List Step → Option State
-step_operand token.Not ws out = waits waiting.Not ws out
-step_operand token.Open ws out = waits waiting.Open ws out
-step_operand w ws out = on_progress (begin w) ws out
+-- a word that begins no primitive can be a value
+abbrev pub or_value : Head → Token → Progress → Progress
+or_value h w (More p) = More p
+or_value h w (Done p after) = Done p after
+or_value h w Foreign = valued h w
+
+-- a word after which an operand is still to come
+abbrev pub waiting_of : Head → Token → Option Waiting
+waiting_of h token.Not = Some waiting.Not
+waiting_of h token.Open = Some (waiting.Open h)
+waiting_of h _ = None
+
+abbrev pub operand_at : Option Waiting → Head → Token → List Waiting → List Step → Option State
+operand_at (Some x) h w ws out = waits x h ws out
+operand_at None h w ws out = on_progress (or_value h w (begin w)) ws out
+
+abbrev pub step_operand : Head → Token → List Waiting → List Step → Option State
+step_operand h w ws out = operand_at (waiting_of h w) h w ws out
 
 abbrev pub close : List Waiting → List Step → Option State
-close (waiting.Open ∷ ws) out = Some (complete ws out)
+close (waiting.Open h ∷ ws) out = Some (complete h ws out)
 close (waiting.Not ∷ ws) out = None
 close (waiting.Operator o ∷ ws) out = None
 close [] out = None
 
-abbrev pub step_operator : Option Joiner → Token → List Waiting → List Step → Option State
-step_operator None (token.Operator o) ws out = waits (waiting.Operator o) ws out
-step_operator (Some And) (token.Operator And) ws out = waits (waiting.Operator And) ws out
-step_operator (Some Or) (token.Operator Or) ws out = waits (waiting.Operator Or) ws out
-step_operator before token.Close ws out = close ws out
-step_operator before _ ws out = None
-
--- the operand is complete
-abbrev pub completed : Option Primitive → List Waiting → List Step → Option State
-completed None ws out = None
-completed (Some p) ws out = Some (complete ws (out ++ step.Test p ∷ []))
+abbrev pub step_operator : Option Joiner → Head → Token → List Waiting → List Step → Option State
+step_operator None h (token.Operator o) ws out = waits (waiting.Operator o) h ws out
+step_operator (Some And) h (token.Operator And) ws out = waits (waiting.Operator And) h ws out
+step_operator (Some Or) h (token.Operator Or) ws out = waits (waiting.Operator Or) h ws out
+step_operator before h token.Close ws out = close ws out
+step_operator before h _ ws out = None
 
 -- an operator, where one may come
 abbrev pub after_doing : Doing → Token → List Waiting → List Step → Option State
-after_doing Operand w ws out = None
+after_doing (Operand h) w ws out = None
 after_doing (Within p) w ws out = None
-after_doing (Operator c) w ws out = step_operator c w ws out
+after_doing (Operator c h) w ws out = step_operator c h w ws out
 
 abbrev pub after : Token → State → Option State
 after w s = after_doing s.doing w s.waiting s.steps
+
+-- the primitive is complete
+abbrev pub completed : Option Primitive → List Waiting → List Step → Option State
+completed None ws out = None
+completed (Some p) ws out = Some (put p first_head ws out)
 
 -- a word that does not belong to the primitive comes after it
 abbrev pub step_progress : Progress → Option Primitive → Token → List Waiting → List Step
     → Option State
 step_progress (More p) a w ws out =
     Some (record { doing = Within p; waiting = ws; steps = out })
-step_progress (Done p) a w ws out = Some (complete ws (out ++ step.Test p ∷ []))
+step_progress (Done p h) a w ws out = Some (put p h ws out)
 step_progress Foreign a w ws out = and_then (completed a ws out) (after w)
 
+-- a parenthesis round a term
+abbrev pub closes_term : Partial → Token → List Waiting → Bool
+closes_term (partial.Term q mask) token.Close (waiting.Open h ∷ ws) = true
+closes_term _ _ _ = false
+
+abbrev pub tail_of : List Waiting → List Waiting
+tail_of [] = []
+tail_of (w ∷ ws) = ws
+
 abbrev pub step_within : Partial → Token → List Waiting → List Step → Option State
-step_within p w ws out = step_progress (next p w) (alone p) w ws out
+step_within p w ws out = if closes_term p w ws
+    then Some (record { doing = Within p; waiting = tail_of ws; steps = out })
+    else step_progress (next p w) (whole p) w ws out
 
 abbrev pub step_state : Doing → Token → List Waiting → List Step → Option State
-step_state Operand w ws out = step_operand w ws out
+step_state (Operand h) w ws out = step_operand h w ws out
 step_state (Within p) w ws out = step_within p w ws out
-step_state (Operator c) w ws out = step_operator c w ws out
+step_state (Operator c h) w ws out = step_operator c h w ws out
 
 abbrev pub step_of : State → Token → Option State
 step_of s w = step_state s.doing w s.waiting s.steps
 
 -- the steps of an expression that is complete
 abbrev pub finish_at : Doing → List Waiting → List Step → Option (List Step)
-finish_at (Operator c) [] out = Some out
-finish_at (Operator c) (w ∷ ws) out = None
-finish_at Operand ws out = None
+finish_at (Operator c h) [] out = Some out
+finish_at (Operator c h) (w ∷ ws) out = None
+finish_at (Operand h) ws out = None
 finish_at (Within p) ws out = None
 
 abbrev pub finish_state : State → Option (List Step)
 finish_state s = finish_at s.doing s.waiting s.steps
 
 abbrev pub finish_doing : Doing → List Waiting → List Step → Option (List Step)
-finish_doing Operand ws out = None
-finish_doing (Within p) ws out = and_then (completed (alone p) ws out) finish_state
-finish_doing (Operator c) ws out = finish_at (Operator c) ws out
+finish_doing (Operand h) ws out = None
+finish_doing (Within p) ws out = and_then (completed (whole p) ws out) finish_state
+finish_doing (Operator c h) ws out = finish_at (Operator c h) ws out
 
 abbrev pub finish : State → Option (List Step)
 finish s = finish_doing s.doing s.waiting s.steps
