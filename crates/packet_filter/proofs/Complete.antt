@@ -1,12 +1,12 @@
 -- Each expression of the grammar is read, to its steps.
-use Rattle.std.proofs.Common.{◌≡◌, ℕ, ◌≤◌, cond, List, [], ◌∷◌, ◌++◌, Option, Some, None, refl, sym, ap, ◌∙◌, subst, append_assoc}
+use Rattle.std.proofs.Common.{◌≡◌, ℕ, ◌≤◌, Bool, true, false, cond, List, [], ◌∷◌, ◌++◌, Option, Some, None, refl, sym, ap, ◌∙◌, subst, append_assoc}
 use Rattle.std.specs.Prelude.{nat_le}
 use Rattle.std.proofs.lemmas.Bool.{le-leb}
 use Rattle.std.proofs.lemmas.List.{append-nil}
 use Rattle.packet_filter.specs.Meaning.{Expression, one, negation, compound}
 use Rattle.packet_filter.specs.Program.{and_then}
 use Rattle.packet_filter.specs.Grammar.{IsHead, host, directed, net, port, portrange, proto, ether_host, ether_directed, ether_proto, IsPrimitive, word, vlan, less, greater, ether_broadcast, ether_multicast, multicast, first_fragment, checksum_wrong, comparison, AreBits, single, with, IsConstant, number, list, IsTerm, len, load, masked_, grouped, Kind, operand, chain, Reads, primitive, headed, value, not_, parentheses, first, more, IsExpression, direction_words, network_words, transport_words, first_head, value_of, alone, layer_of, place_of}
-use Rattle.packet_filter.specs.Private.Machine.{State, complete, put, found, after_word, outcome, finish, finish_state, after, step_of, step_operand, step_progress, on_progress, completed, start}
+use Rattle.packet_filter.specs.Private.Machine.{State, complete, put, found, after_word, outcome, finish, finish_state, after, step_of, step_operand, step_progress, on_progress, completed, head_of, is_only, start, values_after, within_at}
 use Rattle.packet_filter.specs.declared.address.Address.{Address}
 use Rattle.packet_filter.specs.declared.expression.Direction.{Direction}
 use Rattle.packet_filter.specs.declared.expression.Direction.TheVariants as direction
@@ -44,8 +44,8 @@ postfix (one p) = step.Test p ∷ []
 postfix (negation e) = postfix e ++ step.Not ∷ []
 postfix (compound o a b) = postfix a ++ (postfix b ++ step.Operator o ∷ [])
 
-abbrev pub expects : Head → List Waiting → List Step → State
-expects h ws out = record { doing = Operand h; waiting = ws; steps = out }
+abbrev pub expects : Head → Bool → List Waiting → List Step → State
+expects h only ws out = record { doing = Operand h only; waiting = ws; steps = out }
 
 abbrev pub amid : Partial → List Waiting → List Step → State
 amid p ws out = record { doing = Within p; waiting = ws; steps = out }
@@ -59,8 +59,9 @@ some_same x y h = cc
 -- no operator waits
 abbrev pub IsBase : List Waiting → Type 0
 IsBase [] = Unit {0}
-IsBase (waiting.Open h ∷ ws) = Unit {0}
+IsBase (waiting.Open h only ∷ ws) = Unit {0}
 IsBase (waiting.Not ∷ ws) = ⊥
+IsBase (waiting.Head ∷ ws) = ⊥
 IsBase (waiting.Operator o ∷ ws) = ⊥
 
 -- the words can follow an operand
@@ -74,7 +75,7 @@ EndsOperand _ = ⊥
 
 -- where a direction can stand
 abbrev at_scope : Scope → Head → List Waiting → List Step → State
-at_scope scope.Any g ws out = expects g ws out
+at_scope scope.Any g ws out = expects g false ws out
 at_scope (scope.Network n) g ws out = amid (partial.Word (token.Network n)) ws out
 at_scope (scope.Transport t) g ws out = amid (partial.Word (token.Transport t)) ws out
 at_scope scope.Ether g ws out = amid partial.Ether ws out
@@ -101,10 +102,6 @@ direction_read direction.Both s g ws out rest = source_read s g ws out (token.Op
 then_read : (d : Direction) (k : Token) (s : Scope) (g : Head) (ws : List Waiting) (out : List Step) (rest : List Token) → outcome ((direction_words (Some d) ++ k ∷ []) ++ rest) (at_scope s g ws out) ≡ outcome (k ∷ rest) (amid (partial.Directed s d) ws out)
 then_read d k s g ws out rest = ap (λ l. outcome l (at_scope s g ws out)) (append_assoc (direction_words (Some d)) (k ∷ []) rest) ∙ direction_read d s g ws out (k ∷ rest)
 
--- a value after its head
-value_read : (h : Head) (w : Token) (p : Primitive) → value_of w h ≡ Some p → (ws : List Waiting) (out : List Step) (rest : List Token) → outcome (w ∷ rest) (amid (partial.Value h) ws out) ≡ outcome rest (put p h ws out)
-value_read h w p e ws out rest = ap (λ o. and_then (step_progress (found h o) None w ws out) (outcome rest)) e
-
 -- which words are addresses
 host_value : (w : Token) (n : Option Network) (d : Option Direction) (p : Primitive) → value_of w (head.Host n d) ≡ Some p → (a : Address) × (w ≡ token.Address a)
 host_value (token.Address a) n d p e = (a, refl)
@@ -114,53 +111,108 @@ ether_value : (w : Token) (d : Option Direction) (p : Primitive) → value_of w 
 ether_value (token.Hardware a) d p e = (a, refl)
 ether_value _ d p e = cc
 
-head_read : (words : List Token) (h : Head) → IsHead words h → (w : Token) (p : Primitive) → value_of w h ≡ Some p → (g : Head) (ws : List Waiting) (out : List Step) (rest : List Token) → outcome (words ++ w ∷ rest) (expects g ws out) ≡ outcome rest (put p h ws out)
-head_read words h (host None None) w p e g ws out rest = value_read h w p e ws out rest
-head_read words h (host None (Some d)) w p e g ws out rest = then_read d token.Host scope.Any g ws out (w ∷ rest) ∙ value_read h w p e ws out rest
-head_read words h (host (Some n) None) w p e g ws out rest = value_read h w p e ws out rest
-head_read words h (host (Some n) (Some d)) w p e g ws out rest = then_read d token.Host (scope.Network n) g ws out (w ∷ rest) ∙ value_read h w p e ws out rest
-head_read words h (net None None) w p e g ws out rest = value_read h w p e ws out rest
-head_read words h (net None (Some d)) w p e g ws out rest = then_read d token.Net scope.Any g ws out (w ∷ rest) ∙ value_read h w p e ws out rest
-head_read words h (net (Some n) None) w p e g ws out rest = value_read h w p e ws out rest
-head_read words h (net (Some n) (Some d)) w p e g ws out rest = then_read d token.Net (scope.Network n) g ws out (w ∷ rest) ∙ value_read h w p e ws out rest
-head_read words h (port None None) w p e g ws out rest = value_read h w p e ws out rest
-head_read words h (port None (Some d)) w p e g ws out rest = then_read d token.Port scope.Any g ws out (w ∷ rest) ∙ value_read h w p e ws out rest
-head_read words h (port (Some t) None) w p e g ws out rest = value_read h w p e ws out rest
-head_read words h (port (Some t) (Some d)) w p e g ws out rest = then_read d token.Port (scope.Transport t) g ws out (w ∷ rest) ∙ value_read h w p e ws out rest
-head_read words h (portrange None None) w p e g ws out rest = value_read h w p e ws out rest
-head_read words h (portrange None (Some d)) w p e g ws out rest = then_read d token.PortRange scope.Any g ws out (w ∷ rest) ∙ value_read h w p e ws out rest
-head_read words h (portrange (Some t) None) w p e g ws out rest = value_read h w p e ws out rest
-head_read words h (portrange (Some t) (Some d)) w p e g ws out rest = then_read d token.PortRange (scope.Transport t) g ws out (w ∷ rest) ∙ value_read h w p e ws out rest
-head_read words h (proto None) w p e g ws out rest = value_read h w p e ws out rest
-head_read words h (proto (Some v)) w p e g ws out rest = value_read h w p e ws out rest
-head_read words h (ether_host None) w p e g ws out rest = value_read h w p e ws out rest
-head_read words h (ether_host (Some d)) w p e g ws out rest = then_read d token.Host scope.Ether g ws out (w ∷ rest) ∙ value_read h w p e ws out rest
-head_read words h ether_proto w p e g ws out rest = value_read h w p e ws out rest
-head_read words h (directed None d) w p e g ws out rest =
-    let x = host_value w None (Some d) p e in
-    direction_read d scope.Any g ws out (w ∷ rest)
-    ∙ subst (λ u. value_of u h ≡ Some p → outcome (u ∷ rest) (amid (partial.Directed scope.Any d) ws out) ≡ outcome rest (put p h ws out)) (sym x.1) (λ f. ap (λ o. and_then (step_progress (found h o) None (token.Address x.0) ws out) (outcome rest)) f) e
-head_read words h (directed (Some n) d) w p e g ws out rest =
-    let x = host_value w (Some n) (Some d) p e in
-    direction_read d (scope.Network n) g ws out (w ∷ rest)
-    ∙ subst (λ u. value_of u h ≡ Some p → outcome (u ∷ rest) (amid (partial.Directed (scope.Network n) d) ws out) ≡ outcome rest (put p h ws out)) (sym x.1) (λ f. ap (λ o. and_then (step_progress (found h o) None (token.Address x.0) ws out) (outcome rest)) f) e
-head_read words h (ether_directed d) w p e g ws out rest =
+-- a primitive that has begun takes values with a head
+record Takes (q : Partial) (h : Head) : Type 0 where
+  value : (w : Token) (p : Primitive) → value_of w h ≡ Some p → (ws : List Waiting) (out : List Step) (rest : List Token) → outcome (w ∷ rest) (amid q ws out) ≡ outcome rest (put p h ws out)
+  negation : (ws : List Waiting) (out : List Step) (rest : List Token) → outcome (token.Not ∷ rest) (amid q ws out) ≡ outcome rest (expects h true (waiting.Not ∷ waiting.Head ∷ ws) out)
+  group : (ws : List Waiting) (out : List Step) (rest : List Token) → outcome (token.Open ∷ rest) (amid q ws out) ≡ outcome rest (expects h true (waiting.Open h true ∷ waiting.Head ∷ ws) out)
+
+value_read : (h : Head) (w : Token) (p : Primitive) → value_of w h ≡ Some p → (ws : List Waiting) (out : List Step) (rest : List Token) → outcome (w ∷ rest) (amid (partial.Value h) ws out) ≡ outcome rest (put p h ws out)
+value_read h (token.Address a) p e ws out rest = ap (λ o. and_then (step_progress (found h o) None (token.Address a) ws out) (outcome rest)) e
+value_read h (token.Prefix a n) p e ws out rest = ap (λ o. and_then (step_progress (found h o) None (token.Prefix a n) ws out) (outcome rest)) e
+value_read h (token.Number n) p e ws out rest = ap (λ o. and_then (step_progress (found h o) None (token.Number n) ws out) (outcome rest)) e
+value_read h (token.Service n) p e ws out rest = ap (λ o. and_then (step_progress (found h o) None (token.Service n) ws out) (outcome rest)) e
+value_read h (token.Range l n) p e ws out rest = ap (λ o. and_then (step_progress (found h o) None (token.Range l n) ws out) (outcome rest)) e
+value_read h (token.IpNumber n) p e ws out rest = ap (λ o. and_then (step_progress (found h o) None (token.IpNumber n) ws out) (outcome rest)) e
+value_read h (token.Hardware a) p e ws out rest = ap (λ o. and_then (step_progress (found h o) None (token.Hardware a) ws out) (outcome rest)) e
+value_read h (token.TypeName n) p e ws out rest = ap (λ o. and_then (step_progress (found h o) None (token.TypeName n) ws out) (outcome rest)) e
+value_read h _ p e ws out rest = cc
+
+head_takes : (h : Head) → Takes (partial.Value h) h
+head_takes h = record { value = value_read h; negation = λ ws out rest. refl; group = λ ws out rest. refl }
+
+-- an address after a direction
+host_read : (s : Scope) (d : Direction) (n : Option Network) → ((a : Address) (o : Option Primitive) (ws : List Waiting) (out : List Step) (rest : List Token) → value_of (token.Address a) (head.Host n (Some d)) ≡ o → outcome (token.Address a ∷ rest) (amid (partial.Directed s d) ws out) ≡ and_then (step_progress (found (head.Host n (Some d)) o) None (token.Address a) ws out) (outcome rest)) → (w : Token) (p : Primitive) → value_of w (head.Host n (Some d)) ≡ Some p → (ws : List Waiting) (out : List Step) (rest : List Token) → outcome (w ∷ rest) (amid (partial.Directed s d) ws out) ≡ outcome rest (put p (head.Host n (Some d)) ws out)
+host_read s d n f w p e ws out rest =
+    let x = host_value w n (Some d) p e in
+    subst (λ u. value_of u (head.Host n (Some d)) ≡ Some p → outcome (u ∷ rest) (amid (partial.Directed s d) ws out) ≡ outcome rest (put p (head.Host n (Some d)) ws out)) (sym x.1) (λ g. f x.0 (Some p) ws out rest g) e
+
+any_takes : (d : Direction) → Takes (partial.Directed scope.Any d) (head.Host None (Some d))
+any_takes d = record {
+  value = host_read scope.Any d None (λ a o ws out rest e. ap (λ y. and_then (step_progress (found (head.Host None (Some d)) y) None (token.Address a) ws out) (outcome rest)) e);
+  negation = λ ws out rest. refl;
+  group = λ ws out rest. refl;
+}
+
+network_takes : (n : Network) (d : Direction) → Takes (partial.Directed (scope.Network n) d) (head.Host (Some n) (Some d))
+network_takes n d = record {
+  value = host_read (scope.Network n) d (Some n) (λ a o ws out rest e. ap (λ y. and_then (step_progress (found (head.Host (Some n) (Some d)) y) None (token.Address a) ws out) (outcome rest)) e);
+  negation = λ ws out rest. refl;
+  group = λ ws out rest. refl;
+}
+
+station_read : (d : Direction) (w : Token) (p : Primitive) → value_of w (head.Ether (Some d)) ≡ Some p → (ws : List Waiting) (out : List Step) (rest : List Token) → outcome (w ∷ rest) (amid (partial.Directed scope.Ether d) ws out) ≡ outcome rest (put p (head.Ether (Some d)) ws out)
+station_read d w p e ws out rest =
     let x = ether_value w (Some d) p e in
-    direction_read d scope.Ether g ws out (w ∷ rest)
-    ∙ subst (λ u. value_of u h ≡ Some p → outcome (u ∷ rest) (amid (partial.Directed scope.Ether d) ws out) ≡ outcome rest (put p h ws out)) (sym x.1) (λ f. ap (λ o. and_then (step_progress (found h o) None (token.Hardware x.0) ws out) (outcome rest)) f) e
+    subst (λ u. value_of u (head.Ether (Some d)) ≡ Some p → outcome (u ∷ rest) (amid (partial.Directed scope.Ether d) ws out) ≡ outcome rest (put p (head.Ether (Some d)) ws out)) (sym x.1) (λ f. ap (λ o. and_then (step_progress (found (head.Ether (Some d)) o) None (token.Hardware x.0) ws out) (outcome rest)) f) e
+
+ether_takes : (d : Direction) → Takes (partial.Directed scope.Ether d) (head.Ether (Some d))
+ether_takes d = record { value = station_read d; negation = λ ws out rest. refl; group = λ ws out rest. refl }
+
+-- the words of a head lead to a primitive that takes its values
+record Leads (words : List Token) (h : Head) : Type 0 where
+  to : Partial
+  takes : Takes to h
+  read : (g : Head) (ws : List Waiting) (out : List Step) (rest : List Token) → outcome (words ++ rest) (expects g false ws out) ≡ outcome rest (amid to ws out)
+
+at_value : (words : List Token) (h : Head) → ((g : Head) (ws : List Waiting) (out : List Step) (rest : List Token) → outcome (words ++ rest) (expects g false ws out) ≡ outcome rest (amid (partial.Value h) ws out)) → Leads words h
+at_value words h f = record { to = partial.Value h; takes = head_takes h; read = f }
+
+head_read : (words : List Token) (h : Head) → IsHead words h → Leads words h
+head_read words h (host None None) = at_value words h (λ g ws out rest. refl)
+head_read words h (host None (Some d)) = at_value words h (λ g ws out rest. then_read d token.Host scope.Any g ws out rest)
+head_read words h (host (Some n) None) = at_value words h (λ g ws out rest. refl)
+head_read words h (host (Some n) (Some d)) = at_value words h (λ g ws out rest. then_read d token.Host (scope.Network n) g ws out rest)
+head_read words h (net None None) = at_value words h (λ g ws out rest. refl)
+head_read words h (net None (Some d)) = at_value words h (λ g ws out rest. then_read d token.Net scope.Any g ws out rest)
+head_read words h (net (Some n) None) = at_value words h (λ g ws out rest. refl)
+head_read words h (net (Some n) (Some d)) = at_value words h (λ g ws out rest. then_read d token.Net (scope.Network n) g ws out rest)
+head_read words h (port None None) = at_value words h (λ g ws out rest. refl)
+head_read words h (port None (Some d)) = at_value words h (λ g ws out rest. then_read d token.Port scope.Any g ws out rest)
+head_read words h (port (Some t) None) = at_value words h (λ g ws out rest. refl)
+head_read words h (port (Some t) (Some d)) = at_value words h (λ g ws out rest. then_read d token.Port (scope.Transport t) g ws out rest)
+head_read words h (portrange None None) = at_value words h (λ g ws out rest. refl)
+head_read words h (portrange None (Some d)) = at_value words h (λ g ws out rest. then_read d token.PortRange scope.Any g ws out rest)
+head_read words h (portrange (Some t) None) = at_value words h (λ g ws out rest. refl)
+head_read words h (portrange (Some t) (Some d)) = at_value words h (λ g ws out rest. then_read d token.PortRange (scope.Transport t) g ws out rest)
+head_read words h (proto None) = at_value words h (λ g ws out rest. refl)
+head_read words h (proto (Some v)) = at_value words h (λ g ws out rest. refl)
+head_read words h (ether_host None) = at_value words h (λ g ws out rest. refl)
+head_read words h (ether_host (Some d)) = at_value words h (λ g ws out rest. then_read d token.Host scope.Ether g ws out rest)
+head_read words h ether_proto = at_value words h (λ g ws out rest. refl)
+head_read words h (directed None d) = record { to = partial.Directed scope.Any d; takes = any_takes d; read = λ g ws out rest. direction_read d scope.Any g ws out rest }
+head_read words h (directed (Some n) d) = record { to = partial.Directed (scope.Network n) d; takes = network_takes n d; read = λ g ws out rest. direction_read d (scope.Network n) g ws out rest }
+head_read words h (ether_directed d) = record { to = partial.Directed scope.Ether d; takes = ether_takes d; read = λ g ws out rest. direction_read d scope.Ether g ws out rest }
 
 -- a value alone begins nothing else
-value_alone : (w : Token) (h : Head) (p : Primitive) → value_of w h ≡ Some p → (ws : List Waiting) (out : List Step) → step_operand h w ws out ≡ Some (put p h ws out)
-value_alone (token.Address a) h p e ws out = ap (λ o. on_progress (found h o) ws out) e
-value_alone (token.Prefix a n) h p e ws out = ap (λ o. on_progress (found h o) ws out) e
-value_alone (token.Number n) h p e ws out = ap (λ o. on_progress (found h o) ws out) e
-value_alone (token.Service n) h p e ws out = ap (λ o. on_progress (found h o) ws out) e
-value_alone (token.Range l n) h p e ws out = ap (λ o. on_progress (found h o) ws out) e
-value_alone (token.IpNumber n) h p e ws out = ap (λ o. on_progress (found h o) ws out) e
-value_alone (token.Hardware a) h p e ws out = ap (λ o. on_progress (found h o) ws out) e
-value_alone (token.TypeName n) h p e ws out = ap (λ o. on_progress (found h o) ws out) e
-value_alone _ h p e ws out = cc
-
+value_alone : (only : Bool) (w : Token) (h : Head) (p : Primitive) → value_of w h ≡ Some p → (ws : List Waiting) (out : List Step) → step_operand h only w ws out ≡ Some (put p h ws out)
+value_alone true (token.Address a) h p e ws out = ap (λ o. on_progress (found h o) ws out) e
+value_alone true (token.Prefix a n) h p e ws out = ap (λ o. on_progress (found h o) ws out) e
+value_alone true (token.Number n) h p e ws out = ap (λ o. on_progress (found h o) ws out) e
+value_alone true (token.Service n) h p e ws out = ap (λ o. on_progress (found h o) ws out) e
+value_alone true (token.Range l n) h p e ws out = ap (λ o. on_progress (found h o) ws out) e
+value_alone true (token.IpNumber n) h p e ws out = ap (λ o. on_progress (found h o) ws out) e
+value_alone true (token.Hardware a) h p e ws out = ap (λ o. on_progress (found h o) ws out) e
+value_alone true (token.TypeName n) h p e ws out = ap (λ o. on_progress (found h o) ws out) e
+value_alone false (token.Address a) h p e ws out = ap (λ o. on_progress (found h o) ws out) e
+value_alone false (token.Prefix a n) h p e ws out = ap (λ o. on_progress (found h o) ws out) e
+value_alone false (token.Number n) h p e ws out = ap (λ o. on_progress (found h o) ws out) e
+value_alone false (token.Service n) h p e ws out = ap (λ o. on_progress (found h o) ws out) e
+value_alone false (token.Range l n) h p e ws out = ap (λ o. on_progress (found h o) ws out) e
+value_alone false (token.IpNumber n) h p e ws out = ap (λ o. on_progress (found h o) ws out) e
+value_alone false (token.Hardware a) h p e ws out = ap (λ o. on_progress (found h o) ws out) e
+value_alone false (token.TypeName n) h p e ws out = ap (λ o. on_progress (found h o) ws out) e
+value_alone _ _ h p e ws out = cc
 -- ---- words that stand alone
 
 -- the state after an expression of a kind
@@ -170,14 +222,16 @@ state_after (chain o) h ws out = has_read (Some o) h ws out
 
 after_complete : (h : Head) (ws : List Waiting) (out : List Step) (w : Token) → after w (complete h ws out) ≡ step_of (complete h ws out) w
 after_complete h [] out w = refl
-after_complete h (waiting.Open g ∷ ws) out w = refl
+after_complete h (waiting.Open g only ∷ ws) out w = refl
 after_complete h (waiting.Not ∷ ws) out w = after_complete h ws (out ++ step.Not ∷ []) w
+after_complete h (waiting.Head ∷ ws) out w = after_complete h ws out w
 after_complete h (waiting.Operator o ∷ ws) out w = refl
 
 finish_complete : (h : Head) (ws : List Waiting) (out : List Step) → finish_state (complete h ws out) ≡ finish (complete h ws out)
 finish_complete h [] out = refl
-finish_complete h (waiting.Open g ∷ ws) out = refl
+finish_complete h (waiting.Open g only ∷ ws) out = refl
 finish_complete h (waiting.Not ∷ ws) out = finish_complete h ws (out ++ step.Not ∷ [])
+finish_complete h (waiting.Head ∷ ws) out = finish_complete h ws out
 finish_complete h (waiting.Operator o ∷ ws) out = refl
 
 not_operator : (w : Token) (o : Joiner) → after_word w (token.Operator o) ≡ Foreign
@@ -207,7 +261,7 @@ alone_ends f a ws out (token.Operator o ∷ rest) e k = foreign_ends f (token.Op
 alone_ends f a ws out (token.Close ∷ rest) e k = foreign_ends f token.Close a ws out rest e (not_close f)
 alone_ends f a ws out (_ ∷ rest) e k = absurd k
 
-alone_begins : (w : Token) (a : Primitive) → alone w ≡ Some a → (g : Head) (ws : List Waiting) (out : List Step) (rest : List Token) → outcome (w ∷ rest) (expects g ws out) ≡ outcome rest (amid (partial.Word w) ws out)
+alone_begins : (w : Token) (a : Primitive) → alone w ≡ Some a → (g : Head) (ws : List Waiting) (out : List Step) (rest : List Token) → outcome (w ∷ rest) (expects g false ws out) ≡ outcome rest (amid (partial.Word w) ws out)
 alone_begins (token.Network n) a e g ws out rest = refl
 alone_begins (token.Transport t) a e g ws out rest = refl
 alone_begins (token.Protocol v k) a e g ws out rest = refl
@@ -220,7 +274,7 @@ alone_begins _ a e g ws out rest = cc
 
 -- ---- comparisons
 
-bracket_read : (w : Token) (l : Layer) → layer_of w ≡ Some l → (g : Head) (ws : List Waiting) (out : List Step) (rest : List Token) → outcome (w ∷ token.OpenBracket ∷ rest) (expects g ws out) ≡ outcome rest (amid (partial.Bracket l) ws out)
+bracket_read : (w : Token) (l : Layer) → layer_of w ≡ Some l → (g : Head) (ws : List Waiting) (out : List Step) (rest : List Token) → outcome (w ∷ token.OpenBracket ∷ rest) (expects g false ws out) ≡ outcome rest (amid (partial.Bracket l) ws out)
 bracket_read token.Ether l e g ws out rest = ap (λ x. outcome rest (amid (partial.Bracket x) ws out)) (some_same _ l e)
 bracket_read (token.Network (network.Ip v)) l e g ws out rest = ap (λ x. outcome rest (amid (partial.Bracket x) ws out)) (some_same _ l e)
 bracket_read (token.Transport t) l e g ws out rest = ap (λ x. outcome rest (amid (partial.Bracket x) ws out)) (some_same _ l e)
@@ -253,21 +307,21 @@ constant_read (Limit q mask r) words k (list {words = us} x) ws out rest =
     ap (λ l. outcome l (amid (partial.Opened (Limit q mask r)) ws out)) (append_assoc us (token.Close ∷ []) rest)
     ∙ bits_read (Limit q mask r) us k x ws out (token.Close ∷ rest)
 
-term_read : (words : List Token) (q : Quantity) (mask : Option ℕ) → IsTerm words q mask → (g : Head) (ws : List Waiting) (out : List Step) (rest : List Token) → outcome (words ++ rest) (expects g ws out) ≡ outcome rest (amid (partial.Term q mask) ws out)
+term_read : (words : List Token) (q : Quantity) (mask : Option ℕ) → IsTerm words q mask → (g : Head) (ws : List Waiting) (out : List Step) (rest : List Token) → outcome (words ++ rest) (expects g false ws out) ≡ outcome rest (amid (partial.Term q mask) ws out)
 term_read words q mask len g ws out rest = refl
 term_read words q mask (load {word = w} {at = a} {l = l} {place = p} {size = s} e f) g ws out rest =
     bracket_read w l e g ws out (a ∷ token.CloseBracket ∷ rest) ∙ place_read a p s f l ws out rest
 term_read words q mask (masked_ {words = us} {bits = vs} {mask = m} x c) g ws out rest =
-    ap (λ l. outcome l (expects g ws out)) (append_assoc us (token.BitAnd ∷ vs) rest)
+    ap (λ l. outcome l (expects g false ws out)) (append_assoc us (token.BitAnd ∷ vs) rest)
     ∙ term_read us q None x g ws out (token.BitAnd ∷ (vs ++ rest))
     ∙ constant_read (Masking q) vs m c ws out rest
 term_read words q mask (grouped {words = us} x) g ws out rest =
-    ap (λ l. outcome l (expects g (waiting.Open g ∷ ws) out)) (append_assoc us (token.Close ∷ []) rest)
-    ∙ term_read us q mask x g (waiting.Open g ∷ ws) out (token.Close ∷ rest)
+    ap (λ l. outcome l (expects g false (waiting.Open g false ∷ ws) out)) (append_assoc us (token.Close ∷ []) rest)
+    ∙ term_read us q mask x g (waiting.Open g false ∷ ws) out (token.Close ∷ rest)
 
 -- ---- expressions
 
-primitive_read : (words : List Token) (p : Primitive) → IsPrimitive words p → (g : Head) (ws : List Waiting) (out : List Step) (rest : List Token) → EndsOperand rest → outcome (words ++ rest) (expects g ws out) ≡ outcome rest (put p first_head ws out)
+primitive_read : (words : List Token) (p : Primitive) → IsPrimitive words p → (g : Head) (ws : List Waiting) (out : List Step) (rest : List Token) → EndsOperand rest → outcome (words ++ rest) (expects g false ws out) ≡ outcome rest (put p first_head ws out)
 primitive_read words p (word {w = w} e) g ws out rest k = alone_begins w p e g ws out rest ∙ alone_ends w p ws out rest e k
 primitive_read words p (vlan n h) g ws out rest k =
     ap (λ b. and_then (step_progress (cond b (Done (says.Vlan (Some n)) first_head) Foreign) (Some (says.Vlan None)) (token.Number n) ws out) (outcome rest)) (le-leb n 4095 h)
@@ -279,66 +333,87 @@ primitive_read words p (multicast v) g ws out rest k = refl
 primitive_read words p first_fragment g ws out rest k = refl
 primitive_read words p checksum_wrong g ws out rest k = refl
 primitive_read words p (comparison {words = us} {limit = vs} {q = q} {mask = m} {k = n} x r c) g ws out rest k =
-    ap (λ l. outcome l (expects g ws out)) (append_assoc us (token.Relation r ∷ vs) rest)
+    ap (λ l. outcome l (expects g false ws out)) (append_assoc us (token.Relation r ∷ vs) rest)
     ∙ term_read us q m x g ws out (token.Relation r ∷ (vs ++ rest))
     ∙ constant_read (Limit q m r) vs n c ws out rest
 
 -- where an expression of a kind can begin
-abbrev CanBegin : Kind → List Waiting → Type 0
-CanBegin operand ws = Unit {0}
-CanBegin (chain o) ws = IsBase ws
+abbrev CanBegin : Kind → Bool → List Waiting → Type 0
+CanBegin operand only ws = Unit {0}
+CanBegin (chain o) only ws = IsBase ws × (is_only ws ≡ only)
 
 at_base : (h : Head) (ws : List Waiting) (out : List Step) → IsBase ws → complete h ws out ≡ has_read None h ws out
 at_base h [] out b = refl
-at_base h (waiting.Open g ∷ ws) out b = refl
+at_base h (waiting.Open g only ∷ ws) out b = refl
 at_base h (waiting.Not ∷ ws) out b = absurd b
+at_base h (waiting.Head ∷ ws) out b = absurd b
 at_base h (waiting.Operator o ∷ ws) out b = absurd b
 
 -- the right side of an operator, and what is made of both
-right_read : (o : Joiner) (g h : Head) (words rest : List Token) (ws : List Waiting) (out : List Step) (a b : Expression) → ((ws' : List Waiting) (out' : List Step) → outcome (words ++ rest) (expects g ws' out') ≡ outcome rest (complete h ws' (out' ++ postfix b))) → outcome (words ++ rest) (expects g (waiting.Operator o ∷ ws) (out ++ postfix a)) ≡ outcome rest (has_read (Some o) h ws (out ++ postfix (compound o a b)))
-right_read o g h words rest ws out a b ih =
+right_read : (o : Joiner) (g h : Head) (only : Bool) (words rest : List Token) (ws : List Waiting) (out : List Step) (a b : Expression) → ((ws' : List Waiting) (out' : List Step) → outcome (words ++ rest) (expects g only ws' out') ≡ outcome rest (complete h ws' (out' ++ postfix b))) → outcome (words ++ rest) (expects g only (waiting.Operator o ∷ ws) (out ++ postfix a)) ≡ outcome rest (has_read (Some o) h ws (out ++ postfix (compound o a b)))
+right_read o g h only words rest ws out a b ih =
     ih (waiting.Operator o ∷ ws) (out ++ postfix a)
     ∙ ap (λ x. outcome rest (has_read (Some o) h ws x)) (append_assoc (out ++ postfix a) (postfix b) (step.Operator o ∷ []) ∙ append_assoc out (postfix a) (postfix b ++ step.Operator o ∷ []))
 
-same_operator : (o : Joiner) (h : Head) (us : List Token) (ws : List Waiting) (out : List Step) → outcome (token.Operator o ∷ us) (has_read (Some o) h ws out) ≡ outcome us (expects h (waiting.Operator o ∷ ws) out)
-same_operator And h us ws out = refl
-same_operator Or h us ws out = refl
+first_operator : (o : Joiner) (h : Head) (only : Bool) (us : List Token) (ws : List Waiting) (out : List Step) → is_only ws ≡ only → outcome (token.Operator o ∷ us) (has_read None h ws out) ≡ outcome us (expects h only (waiting.Operator o ∷ ws) out)
+first_operator o h only us ws out e = ap (λ b. outcome us (expects h b (waiting.Operator o ∷ ws) out)) e
 
-can_begin_open : (k : Kind) (g : Head) (ws : List Waiting) → CanBegin k (waiting.Open g ∷ ws)
-can_begin_open operand g ws = tt
-can_begin_open (chain o) g ws = tt
+same_operator : (o : Joiner) (h : Head) (only : Bool) (us : List Token) (ws : List Waiting) (out : List Step) → is_only ws ≡ only → outcome (token.Operator o ∷ us) (has_read (Some o) h ws out) ≡ outcome us (expects h only (waiting.Operator o ∷ ws) out)
+same_operator And h only us ws out e = ap (λ b. outcome us (expects h b (waiting.Operator And ∷ ws) out)) e
+same_operator Or h only us ws out e = ap (λ b. outcome us (expects h b (waiting.Operator Or ∷ ws) out)) e
 
-closes : (k : Kind) (g h : Head) (ws : List Waiting) (out : List Step) (rest : List Token) → outcome (token.Close ∷ rest) (state_after k h (waiting.Open g ∷ ws) out) ≡ outcome rest (complete g ws out)
-closes operand g h ws out rest = refl
-closes (chain And) g h ws out rest = refl
-closes (chain Or) g h ws out rest = refl
+can_begin_open : (k : Kind) (g : Head) (only : Bool) (ws : List Waiting) → CanBegin k only (waiting.Open g only ∷ ws)
+can_begin_open operand g only ws = tt
+can_begin_open (chain o) g only ws = (tt, refl)
 
-pub read_ends : (k : Kind) (g h : Head) (words : List Token) (e : Expression) → Reads k g words e h → (ws : List Waiting) (out : List Step) (rest : List Token) → CanBegin k ws → EndsOperand rest → outcome (words ++ rest) (expects g ws out) ≡ outcome rest (state_after k h ws (out ++ postfix e))
-read_ends k g h words e (primitive {words = us} {p = p} x) ws out rest b r = primitive_read us p x g ws out rest r
-read_ends k g h words e (headed {words = us} {p = p} x w v) ws out rest b r =
-    ap (λ l. outcome l (expects g ws out)) (append_assoc us (w ∷ []) rest) ∙ head_read us h x w p v g ws out rest
-read_ends k g h words e (value {p = p} w v) ws out rest b r = ap (λ o. and_then o (outcome rest)) (value_alone w h p v ws out)
-read_ends k g h words e (not_ {words = us} {e = a} x) ws out rest b r =
-    read_ends operand g h us a x (waiting.Not ∷ ws) out rest tt r
+closes : (k : Kind) (g h : Head) (only : Bool) (ws : List Waiting) (out : List Step) (rest : List Token) → outcome (token.Close ∷ rest) (state_after k h (waiting.Open g only ∷ ws) out) ≡ outcome rest (complete g ws out)
+closes operand g h only ws out rest = refl
+closes (chain And) g h only ws out rest = refl
+closes (chain Or) g h only ws out rest = refl
+
+pub read_ends : (k : Kind) (only : Bool) (g h : Head) (words : List Token) (e : Expression) → Reads k only g words e h → (ws : List Waiting) (out : List Step) (rest : List Token) → CanBegin k only ws → EndsOperand rest → outcome (words ++ rest) (expects g only ws out) ≡ outcome rest (state_after k h ws (out ++ postfix e))
+read_ends k only g h words e (primitive {words = us} {p = p} x) ws out rest b r = primitive_read us p x g ws out rest r
+read_ends k only g h words e (headed {h = i} {words = us} {values = vs} x (value {p = p} w v)) ws out rest b r =
+    let l = head_read us i x in
+    ap (λ z. outcome z (expects g false ws out)) (append_assoc us (w ∷ []) rest) ∙ l.read g ws out (w ∷ rest) ∙ l.takes.value w p v ws out rest
+read_ends k only g h words e (headed {h = i} {words = us} x (not_ {words = vs} {e = a} y)) ws out rest b r =
+    let l = head_read us i x in
+    ap (λ z. outcome z (expects g false ws out)) (append_assoc us (token.Not ∷ vs) rest)
+    ∙ l.read g ws out (token.Not ∷ (vs ++ rest))
+    ∙ l.takes.negation ws out (vs ++ rest)
+    ∙ read_ends operand true i h vs a y (waiting.Not ∷ waiting.Head ∷ ws) out rest tt r
     ∙ ap (λ o. outcome rest (complete h ws o)) (append_assoc out (postfix a) (step.Not ∷ []))
-read_ends k g h words e (parentheses {kind = j} {after = i} {words = us} {e = a} x) ws out rest b r =
-    ap (λ l. outcome l (expects g (waiting.Open g ∷ ws) out)) (append_assoc us (token.Close ∷ []) rest)
-    ∙ read_ends j g i us a x (waiting.Open g ∷ ws) out (token.Close ∷ rest) (can_begin_open j g ws) tt
-    ∙ closes j g i ws (out ++ postfix a) rest
-read_ends k g h words e (first {amid = i} {o = o} {left = l} {right = m} {a = a} {b = c} x y) ws out rest b r =
-    ap (λ z. outcome z (expects g ws out)) (append_assoc l (token.Operator o ∷ m) rest)
-    ∙ read_ends operand g i l a x ws out (token.Operator o ∷ (m ++ rest)) tt tt
-    ∙ ap (outcome (token.Operator o ∷ (m ++ rest))) (at_base i ws (out ++ postfix a) b)
-    ∙ right_read o i h m rest ws out a c (λ ws' out'. read_ends operand i h m c y ws' out' rest tt r)
-read_ends k g h words e (more {amid = i} {o = o} {left = l} {right = m} {a = a} {b = c} x y) ws out rest b r =
-    ap (λ z. outcome z (expects g ws out)) (append_assoc l (token.Operator o ∷ m) rest)
-    ∙ read_ends (chain o) g i l a x ws out (token.Operator o ∷ (m ++ rest)) b tt
-    ∙ same_operator o i (m ++ rest) ws (out ++ postfix a)
-    ∙ right_read o i h m rest ws out a c (λ ws' out'. read_ends operand i h m c y ws' out' rest tt r)
+read_ends k only g h words e (headed {h = i} {words = us} x (parentheses {kind = j} {after = m} {words = vs} {e = a} y)) ws out rest b r =
+    let l = head_read us i x in
+    ap (λ z. outcome z (expects g false ws out)) (append_assoc us (token.Open ∷ (vs ++ token.Close ∷ [])) rest)
+    ∙ l.read g ws out (token.Open ∷ ((vs ++ token.Close ∷ []) ++ rest))
+    ∙ l.takes.group ws out ((vs ++ token.Close ∷ []) ++ rest)
+    ∙ ap (λ z. outcome z (expects i true (waiting.Open i true ∷ waiting.Head ∷ ws) out)) (append_assoc vs (token.Close ∷ []) rest)
+    ∙ read_ends j true i m vs a y (waiting.Open i true ∷ waiting.Head ∷ ws) out (token.Close ∷ rest) (can_begin_open j i true (waiting.Head ∷ ws)) tt
+    ∙ closes j i m true (waiting.Head ∷ ws) (out ++ postfix a) rest
+read_ends k only g h words e (value {p = p} w v) ws out rest b r = ap (λ o. and_then o (outcome rest)) (value_alone only w h p v ws out)
+read_ends k only g h words e (not_ {words = us} {e = a} x) ws out rest b r =
+    read_ends operand only g h us a x (waiting.Not ∷ ws) out rest tt r
+    ∙ ap (λ o. outcome rest (complete h ws o)) (append_assoc out (postfix a) (step.Not ∷ []))
+read_ends k only g h words e (parentheses {kind = j} {after = i} {words = us} {e = a} x) ws out rest b r =
+    ap (λ l. outcome l (expects g only (waiting.Open g only ∷ ws) out)) (append_assoc us (token.Close ∷ []) rest)
+    ∙ read_ends j only g i us a x (waiting.Open g only ∷ ws) out (token.Close ∷ rest) (can_begin_open j g only ws) tt
+    ∙ closes j g i only ws (out ++ postfix a) rest
+read_ends k only g h words e (first {amid = i} {o = o} {left = l} {right = m} {a = a} {b = c} x y) ws out rest b r =
+    ap (λ z. outcome z (expects g only ws out)) (append_assoc l (token.Operator o ∷ m) rest)
+    ∙ read_ends operand only g i l a x ws out (token.Operator o ∷ (m ++ rest)) tt tt
+    ∙ ap (outcome (token.Operator o ∷ (m ++ rest))) (at_base i ws (out ++ postfix a) b.0)
+    ∙ first_operator o i only (m ++ rest) ws (out ++ postfix a) b.1
+    ∙ right_read o i h only m rest ws out a c (λ ws' out'. read_ends operand only i h m c y ws' out' rest tt r)
+read_ends k only g h words e (more {amid = i} {o = o} {left = l} {right = m} {a = a} {b = c} x y) ws out rest b r =
+    ap (λ z. outcome z (expects g only ws out)) (append_assoc l (token.Operator o ∷ m) rest)
+    ∙ read_ends (chain o) only g i l a x ws out (token.Operator o ∷ (m ++ rest)) b tt
+    ∙ same_operator o i only (m ++ rest) ws (out ++ postfix a) b.1
+    ∙ right_read o i h only m rest ws out a c (λ ws' out'. read_ends operand only i h m c y ws' out' rest tt r)
 
-can_begin : (k : Kind) → CanBegin k []
+can_begin : (k : Kind) → CanBegin k false []
 can_begin operand = tt
-can_begin (chain o) = tt
+can_begin (chain o) = (tt, refl)
 
 finishes : (k : Kind) (h : Head) (out : List Step) → outcome [] (state_after k h [] out) ≡ Some out
 finishes operand h out = refl
@@ -348,5 +423,5 @@ finishes (chain o) h out = refl
 pub expression_is_read : (words : List Token) (e : Expression) → IsExpression words e → outcome words start ≡ Some (postfix e)
 expression_is_read words e t =
     ap (λ l. outcome l start) (sym (append-nil words))
-    ∙ read_ends t.kind first_head t.last words e t.reads [] [] [] (can_begin t.kind) tt
+    ∙ read_ends t.kind false first_head t.last words e t.reads [] [] [] (can_begin t.kind) tt
     ∙ finishes t.kind t.last (postfix e)

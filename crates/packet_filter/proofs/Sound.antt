@@ -6,7 +6,7 @@ use Rattle.packet_filter.proofs.Complete.{postfix, IsBase, some_same}
 use Rattle.packet_filter.specs.Meaning.{Expression, one, negation, compound}
 use Rattle.packet_filter.specs.Program.{and_then}
 use Rattle.packet_filter.specs.Grammar.{IsHead, host, directed, net, port, portrange, proto, ether_host, ether_directed, ether_proto, IsPrimitive, word, vlan, less, greater, ether_broadcast, ether_multicast, multicast, first_fragment, checksum_wrong, comparison, AreBits, single, with, IsConstant, number, list, IsTerm, len, load, masked_, grouped, Kind, operand, chain, Reads, primitive, headed, value, not_, parentheses, first, more, IsExpression, direction_words, network_words, transport_words, first_head, value_of, alone, layer_of, place_of}
-use Rattle.packet_filter.specs.Private.Machine.{State, complete, put, found, valued, finish, finish_state, finish_at, finish_doing, after, after_doing, step_of, step_state, step_operand, step_operator, step_progress, step_within, completed, close, closes_term, tail_of, on_progress, or_value, operand_at, waiting_of, begin, next, whole, given, joined, start, after_network, after_transport, after_protocol, after_vlan, after_word, after_ether, after_any, after_of_network, after_of_transport, after_of_ether, after_scope, after_source, after_direction, after_joined, after_bracket, after_placed, after_and, after_term, after_use, after_opened, after_listed, after_bar}
+use Rattle.packet_filter.specs.Private.Machine.{State, complete, put, found, valued, finish, finish_state, finish_at, finish_doing, after, after_doing, step_of, step_state, step_operand, step_operator, step_progress, step_within, completed, close, closes_term, tail_of, on_progress, or_value, chosen, operand_at, waiting_of, head_of, is_only, values_after, within_at, begin, next, whole, given, joined, start, after_network, after_transport, after_protocol, after_vlan, after_word, after_ether, after_any, after_of_network, after_of_transport, after_of_ether, after_scope, after_source, after_direction, after_joined, after_bracket, after_placed, after_and, after_term, after_use, after_opened, after_listed, after_bar}
 use Rattle.packet_filter.specs.declared.expression.Direction.{Direction}
 use Rattle.packet_filter.specs.declared.expression.Direction.TheVariants as direction
 use Rattle.packet_filter.specs.declared.expression.Layer.{Layer}
@@ -79,7 +79,7 @@ Begun (partial.Bar u bits) words = (ts : List Token) × Uses u ts × (bs : List 
 -- what the words make of a primitive, where a value alone has the head g
 abbrev Made : Head → Progress → List Token → Type 0
 Made g (More p) words = Begun p words
-Made g (Done p h) words = Reads operand g words (one p) h
+Made g (Done p h) words = Reads operand false g words (one p) h
 Made g Foreign words = Unit {0}
 
 begun : (g : Head) (w : Token) → Made g (begin w) (w ∷ [])
@@ -108,12 +108,8 @@ begun g _ = tt
 
 -- a value after its head
 value_made : (g h : Head) (words : List Token) (w : Token) (o : Option Primitive) → IsHead words h → value_of w h ≡ o → Made g (found h o) (words ++ w ∷ [])
-value_made g h words w (Some p) x e = headed x w e
+value_made g h words w (Some p) x e = headed x (value w e)
 value_made g h words w None x e = tt
-
-value_alone : (h : Head) (w : Token) (o : Option Primitive) → value_of w h ≡ o → Made h (found h o) (w ∷ [])
-value_alone h w (Some p) e = value w e
-value_alone h w None e = tt
 
 network_made : (g : Head) (n : Network) (w : Token) → Made g (after_network n w) (token.Network n ∷ w ∷ [])
 network_made g n token.Source = refl
@@ -213,7 +209,7 @@ given_made : (g : Head) (u : Use) (ts bs : List Token) (k : ℕ) → Uses u ts �
 given_made g (Masking q) ts bs k x c =
     subst (λ l. IsTerm l q (Some k)) (sym (ap (λ l. l ++ bs) x.2 ∙ append_assoc x.0 (token.BitAnd ∷ []) bs)) (masked_ x.1 c)
 given_made g (Limit q mask r) ts bs k x c =
-    subst (λ l. Reads operand g l (one (says.Compare q mask r k)) first_head) (sym (ap (λ l. l ++ bs) x.2 ∙ append_assoc x.0 (token.Relation r ∷ []) bs)) (primitive (comparison x.1 r c))
+    subst (λ l. Reads operand false g l (one (says.Compare q mask r k)) first_head) (sym (ap (λ l. l ++ bs) x.2 ∙ append_assoc x.0 (token.Relation r ∷ []) bs)) (primitive (comparison x.1 r c))
 
 bracket_made : (g : Head) (l : Layer) (ts : List Token) (w : Token) → Loads l ts → Made g (after_bracket l w) (ts ++ w ∷ [])
 bracket_made g l ts (token.Number k) x = (ts, x, token.Number k, refl, refl)
@@ -294,16 +290,17 @@ continued g (partial.Bar u bits) words w x = bar_made g u bits words w x
 -- ---- states
 
 -- the left side of an operator
-abbrev pub LeftOf : Kind → Head → List Token → Expression → Head → Type 0
-LeftOf k g words e h = Reads operand g words e h ⊎ Reads k g words e h
+abbrev pub LeftOf : Kind → Bool → Head → List Token → Expression → Head → Type 0
+LeftOf k only g words e h = Reads operand only g words e h ⊎ Reads k only g words e h
 
--- the words before an operand that is to come, whose head would be h, with what waits for it, and
--- the steps so far
-abbrev pub Opens : List Waiting → Head → List Token → List Step → Type 0
-Opens [] h ts out = (ts ≡ []) × (out ≡ []) × (h ≡ first_head)
-Opens (waiting.Not ∷ ws) h ts out = (us : List Token) × (ts ≡ us ++ token.Not ∷ []) × Opens ws h us out
-Opens (waiting.Open g ∷ ws) h ts out = (us : List Token) × (ts ≡ us ++ token.Open ∷ []) × Opens ws g us out × (h ≡ g)
-Opens (waiting.Operator o ∷ ws) h ts out = (us : List Token) × (x : List Step) × (l : List Token) × (a : Expression) × (ts ≡ us ++ (l ++ token.Operator o ∷ [])) × (out ≡ x ++ postfix a) × IsBase ws × (g : Head) × LeftOf (chain o) g l a h × Opens ws g us x
+-- the words before an operand that is to come, which has the head h if it is a value alone, as it
+-- has to be if `only` is true; with what waits for it, and the steps so far
+abbrev pub Opens : List Waiting → Head → Bool → List Token → List Step → Type 0
+Opens [] h only ts out = (ts ≡ []) × (out ≡ []) × (h ≡ first_head) × (only ≡ false)
+Opens (waiting.Not ∷ ws) h only ts out = (us : List Token) × (ts ≡ us ++ token.Not ∷ []) × Opens ws h only us out
+Opens (waiting.Open g values ∷ ws) h only ts out = (us : List Token) × (ts ≡ us ++ token.Open ∷ []) × Opens ws g values us out × (h ≡ g) × (only ≡ values)
+Opens (waiting.Head ∷ ws) h only ts out = (us : List Token) × (vs : List Token) × (ts ≡ us ++ vs) × IsHead vs h × (only ≡ true) × (g : Head) × Opens ws g false us out
+Opens (waiting.Operator o ∷ ws) h only ts out = (us : List Token) × (x : List Step) × (l : List Token) × (a : Expression) × (ts ≡ us ++ (l ++ token.Operator o ∷ [])) × (out ≡ x ++ postfix a) × IsBase ws × (g : Head) × LeftOf (chain o) only g l a h × Opens ws g only us x
 
 abbrev pub kind_of : Option Joiner → Kind
 kind_of None = operand
@@ -316,11 +313,12 @@ pub record Following (c : Option Joiner) (h : Head) (ws : List Waiting) (out : L
   pub words : List Token
   pub expression : Expression
   pub head : Head
+  pub only : Bool
   pub text : ts ≡ before ++ words
   pub program : out ≡ steps ++ postfix expression
   pub base : IsBase ws
-  pub opens : Opens ws head before steps
-  pub reads : Reads (kind_of c) head words expression h
+  pub opens : Opens ws head only before steps
+  pub reads : Reads (kind_of c) only head words expression h
 
 pub record Amid (p : Partial) (ws : List Waiting) (out : List Step) (ts : List Token) : Type 0 where
   pub before : List Token
@@ -328,10 +326,10 @@ pub record Amid (p : Partial) (ws : List Waiting) (out : List Step) (ts : List T
   pub head : Head
   pub text : ts ≡ before ++ words
   pub begun : Begun p words
-  pub opens : Opens ws head before out
+  pub opens : Opens ws head false before out
 
 abbrev pub StandsAt : Doing → List Waiting → List Step → List Token → Type 0
-StandsAt (Operand h) ws out ts = Opens ws h ts out
+StandsAt (Operand h only) ws out ts = Opens ws h only ts out
 StandsAt (Within p) ws out ts = Amid p ws out ts
 StandsAt (Operator c h) ws out ts = Following c h ws out ts
 
@@ -340,59 +338,84 @@ abbrev pub Stands : State → List Token → Type 0
 Stands s ts = StandsAt s.doing s.waiting s.steps ts
 
 -- an operand is complete
-completes : (ws : List Waiting) (ts : List Token) (out : List Step) (us : List Token) (a : Expression) (g h : Head) → Opens ws g ts out → Reads operand g us a h → Stands (complete h ws (out ++ postfix a)) (ts ++ us)
-completes [] ts out us a g h x r = record { before = ts; steps = out; words = us; expression = a; head = g; text = refl; program = refl; base = tt; opens = x; reads = r }
-completes (waiting.Open i ∷ ws) ts out us a g h x r = record { before = ts; steps = out; words = us; expression = a; head = g; text = refl; program = refl; base = tt; opens = x; reads = r }
-completes (waiting.Not ∷ ws) ts out us a g h x r =
-    let done : Stands (complete h ws (out ++ (postfix a ++ step.Not ∷ []))) (x.0 ++ (token.Not ∷ us)) = completes ws x.0 out (token.Not ∷ us) (negation a) g h x.2 (not_ r) in
+completes : (ws : List Waiting) (ts : List Token) (out : List Step) (us : List Token) (a : Expression) (only : Bool) (g h : Head) → Opens ws g only ts out → Reads operand only g us a h → Stands (complete h ws (out ++ postfix a)) (ts ++ us)
+completes [] ts out us a only g h x r = record { before = ts; steps = out; words = us; expression = a; head = g; only = only; text = refl; program = refl; base = tt; opens = x; reads = r }
+completes (waiting.Open i v ∷ ws) ts out us a only g h x r = record { before = ts; steps = out; words = us; expression = a; head = g; only = only; text = refl; program = refl; base = tt; opens = x; reads = r }
+completes (waiting.Not ∷ ws) ts out us a only g h x r =
+    let done : Stands (complete h ws (out ++ (postfix a ++ step.Not ∷ []))) (x.0 ++ (token.Not ∷ us)) = completes ws x.0 out (token.Not ∷ us) (negation a) only g h x.2 (not_ r) in
     let place : x.0 ++ (token.Not ∷ us) ≡ ts ++ us = sym (ap (λ l. l ++ us) x.1 ∙ append_assoc x.0 (token.Not ∷ []) us) in
     subst (λ l. Stands (complete h ws ((out ++ postfix a) ++ step.Not ∷ [])) l) place
     (subst (λ o. Stands (complete h ws o) (x.0 ++ (token.Not ∷ us))) (sym (append_assoc out (postfix a) (step.Not ∷ []))) done)
-completes (waiting.Operator o ∷ ws) ts out us a g h x r = record {
+completes (waiting.Head ∷ ws) ts out us a only g h x r =
+    let inner : Reads operand true g us a h = subst (λ b. Reads operand b g us a h) x.4 r in
+    let done : Stands (complete h ws (out ++ postfix a)) (x.0 ++ (x.1 ++ us)) = completes ws x.0 out (x.1 ++ us) a false x.5 h x.6 (headed x.3 inner) in
+    subst (λ l. Stands (complete h ws (out ++ postfix a)) l) (sym (ap (λ l. l ++ us) x.2 ∙ append_assoc x.0 x.1 us)) done
+completes (waiting.Operator o ∷ ws) ts out us a only g h x r = record {
   before = x.0;
   steps = x.1;
   words = x.2 ++ token.Operator o ∷ us;
   expression = compound o x.3 a;
   head = x.7;
+  only = only;
   text = ap (λ l. l ++ us) x.4 ∙ append_assoc x.0 (x.2 ++ token.Operator o ∷ []) us ∙ ap (λ l. x.0 ++ l) (append_assoc x.2 (token.Operator o ∷ []) us);
   program = append_assoc out (postfix a) (step.Operator o ∷ []) ∙ ap (λ y. y ++ (postfix a ++ step.Operator o ∷ [])) x.5 ∙ append_assoc x.1 (postfix x.3) (postfix a ++ step.Operator o ∷ []);
   base = x.6;
   opens = x.9;
-  reads = elim x.8 as (λ _. Reads (chain o) x.7 (x.2 ++ token.Operator o ∷ us) (compound o x.3 a) h) [ inl y ↦ first y r | inr y ↦ more y r ];
+  reads = elim x.8 as (λ _. Reads (chain o) only x.7 (x.2 ++ token.Operator o ∷ us) (compound o x.3 a) h) [ inl y ↦ first y r | inr y ↦ more y r ];
 }
 
-progressed : (y : Progress) (ws : List Waiting) (out : List Step) (ts us : List Token) (g : Head) (s : State) → Opens ws g ts out → Made g y us → on_progress y ws out ≡ Some s → Stands s (ts ++ us)
+progressed : (y : Progress) (ws : List Waiting) (out : List Step) (ts us : List Token) (g : Head) (s : State) → Opens ws g false ts out → Made g y us → on_progress y ws out ≡ Some s → Stands s (ts ++ us)
 progressed (More p) ws out ts us g s x m e =
     subst (λ z. Stands z (ts ++ us)) (some_same _ s e) (record { before = ts; words = us; head = g; text = refl; begun = m; opens = x })
 progressed (Done p h) ws out ts us g s x m e =
-    subst (λ z. Stands z (ts ++ us)) (some_same _ s e) (completes ws ts out us (one p) g h x m)
+    subst (λ z. Stands z (ts ++ us)) (some_same _ s e) (completes ws ts out us (one p) false g h x m)
 progressed Foreign ws out ts us g s x m e = cc
 
-or_value_made : (g : Head) (w : Token) (y : Progress) → Made g y (w ∷ []) → Made g (or_value g w y) (w ∷ [])
-or_value_made g w (More p) m = m
-or_value_made g w (Done p h) m = m
-or_value_made g w Foreign m = value_alone g w (value_of w g) refl
+-- a value alone
+valued_stands : (o : Option Primitive) (w : Token) (only : Bool) (g : Head) (ws : List Waiting) (out : List Step) (ts : List Token) (s : State) → value_of w g ≡ o → Opens ws g only ts out → on_progress (found g o) ws out ≡ Some s → Stands s (ts ++ w ∷ [])
+valued_stands (Some p) w only g ws out ts s f x e = subst (λ z. Stands z (ts ++ w ∷ [])) (some_same _ s e) (completes ws ts out (w ∷ []) (one p) only g g x (value w f))
+valued_stands None w only g ws out ts s f x e = cc
 
-waits_on : (w : Token) (y : Waiting) (g : Head) (ws : List Waiting) (out : List Step) (ts : List Token) → waiting_of g w ≡ Some y → Opens ws g ts out → Opens (y ∷ ws) g (ts ++ w ∷ []) out
-waits_on token.Not y g ws out ts e x = subst (λ z. Opens (z ∷ ws) g (ts ++ token.Not ∷ []) out) (some_same waiting.Not y e) (ts, refl, x)
-waits_on token.Open y g ws out ts e x = subst (λ z. Opens (z ∷ ws) g (ts ++ token.Open ∷ []) out) (some_same (waiting.Open g) y e) (ts, refl, x, refl)
-waits_on _ y g ws out ts e x = cc
+or_value_stands : (y : Progress) (w : Token) (g : Head) (ws : List Waiting) (out : List Step) (ts : List Token) (s : State) → Made g y (w ∷ []) → Opens ws g false ts out → on_progress (or_value g w y) ws out ≡ Some s → Stands s (ts ++ w ∷ [])
+or_value_stands (More p) w g ws out ts s m x e = progressed (More p) ws out ts (w ∷ []) g s x m e
+or_value_stands (Done p h) w g ws out ts s m x e = progressed (Done p h) ws out ts (w ∷ []) g s x m e
+or_value_stands Foreign w g ws out ts s m x e = valued_stands (value_of w g) w false g ws out ts s refl x e
 
-operand_steps : (o : Option Waiting) (w : Token) (g : Head) (ws : List Waiting) (out : List Step) (ts : List Token) (s : State) → waiting_of g w ≡ o → Opens ws g ts out → operand_at o g w ws out ≡ Some s → Stands s (ts ++ w ∷ [])
-operand_steps (Some y) w g ws out ts s f x e = subst (λ z. Stands z (ts ++ w ∷ [])) (some_same _ s e) (waits_on w y g ws out ts f x)
-operand_steps None w g ws out ts s f x e = progressed (or_value g w (begin w)) ws out ts (w ∷ []) g s x (or_value_made g w (begin w) (begun g w)) e
+chosen_stands : (only : Bool) (w : Token) (g : Head) (ws : List Waiting) (out : List Step) (ts : List Token) (s : State) → Opens ws g only ts out → on_progress (chosen only g w) ws out ≡ Some s → Stands s (ts ++ w ∷ [])
+chosen_stands true w g ws out ts s x e = valued_stands (value_of w g) w true g ws out ts s refl x e
+chosen_stands false w g ws out ts s x e = or_value_stands (begin w) w g ws out ts s (begun g w) x e
 
-joins_on : (o : Joiner) (h : Head) (ws : List Waiting) (out : List Step) (ts : List Token) (c : Option Joiner) (b : Following c h ws out ts) → LeftOf (chain o) b.head b.words b.expression h → Opens (waiting.Operator o ∷ ws) h (ts ++ token.Operator o ∷ []) out
-joins_on o h ws out ts c b l = (b.before, b.steps, b.words, b.expression, ap (λ x. x ++ token.Operator o ∷ []) b.text ∙ append_assoc b.before b.words (token.Operator o ∷ []), b.program, b.base, b.head, l, b.opens)
+waits_on : (w : Token) (y : Waiting) (only : Bool) (g : Head) (ws : List Waiting) (out : List Step) (ts : List Token) → waiting_of g only w ≡ Some y → Opens ws g only ts out → Opens (y ∷ ws) g only (ts ++ w ∷ []) out
+waits_on token.Not y only g ws out ts e x = subst (λ z. Opens (z ∷ ws) g only (ts ++ token.Not ∷ []) out) (some_same waiting.Not y e) (ts, refl, x)
+waits_on token.Open y only g ws out ts e x = subst (λ z. Opens (z ∷ ws) g only (ts ++ token.Open ∷ []) out) (some_same (waiting.Open g only) y e) (ts, refl, x, refl, refl)
+waits_on _ y only g ws out ts e x = cc
+
+operand_steps : (o : Option Waiting) (w : Token) (only : Bool) (g : Head) (ws : List Waiting) (out : List Step) (ts : List Token) (s : State) → waiting_of g only w ≡ o → Opens ws g only ts out → operand_at o g only w ws out ≡ Some s → Stands s (ts ++ w ∷ [])
+operand_steps (Some y) w only g ws out ts s f x e = subst (λ z. Stands z (ts ++ w ∷ [])) (some_same _ s e) (waits_on w y only g ws out ts f x)
+operand_steps None w only g ws out ts s f x e = chosen_stands only w g ws out ts s x e
+
+-- values alone are what can follow, if they stand in a group of such
+only_within : (ws : List Waiting) (h : Head) (only : Bool) (ts : List Token) (out : List Step) → IsBase ws → Opens ws h only ts out → only ≡ is_only ws
+only_within [] h only ts out b x = x.3
+only_within (waiting.Open g v ∷ ws) h only ts out b x = x.4
+only_within (waiting.Not ∷ ws) h only ts out b x = absurd b
+only_within (waiting.Head ∷ ws) h only ts out b x = absurd b
+only_within (waiting.Operator o ∷ ws) h only ts out b x = absurd b
+
+joins_on : (o : Joiner) (h : Head) (ws : List Waiting) (out : List Step) (ts : List Token) (c : Option Joiner) (b : Following c h ws out ts) → LeftOf (chain o) b.only b.head b.words b.expression h → Opens (waiting.Operator o ∷ ws) h (is_only ws) (ts ++ token.Operator o ∷ []) out
+joins_on o h ws out ts c b l =
+    subst (λ v. Opens (waiting.Operator o ∷ ws) h v (ts ++ token.Operator o ∷ []) out) (only_within ws b.head b.only b.before b.steps b.base b.opens)
+    (b.before, b.steps, b.words, b.expression, ap (λ x. x ++ token.Operator o ∷ []) b.text ∙ append_assoc b.before b.words (token.Operator o ∷ []), b.program, b.base, b.head, l, b.opens)
 
 close_steps : (c : Option Joiner) (h : Head) (ws : List Waiting) (out : List Step) (ts : List Token) (s : State) → Following c h ws out ts → close ws out ≡ Some s → Stands s (ts ++ token.Close ∷ [])
 close_steps c h [] out ts s b e = cc
 close_steps c h (waiting.Not ∷ ws) out ts s b e = absurd b.base
+close_steps c h (waiting.Head ∷ ws) out ts s b e = absurd b.base
 close_steps c h (waiting.Operator o ∷ ws) out ts s b e = absurd b.base
-close_steps c h (waiting.Open g ∷ ws) out ts s b e =
+close_steps c h (waiting.Open g v ∷ ws) out ts s b e =
     let us = b.opens.0 in
-    let inner : Reads (kind_of c) g b.words b.expression h = subst (λ i. Reads (kind_of c) i b.words b.expression h) b.opens.3 b.reads in
-    let done : Stands (complete g ws (b.steps ++ postfix b.expression)) (us ++ (token.Open ∷ (b.words ++ token.Close ∷ []))) = completes ws us b.steps (token.Open ∷ (b.words ++ token.Close ∷ [])) b.expression g g b.opens.2 (parentheses inner) in
+    let inner : Reads (kind_of c) v g b.words b.expression h = subst (λ i. Reads (kind_of c) v i b.words b.expression h) b.opens.3 (subst (λ z. Reads (kind_of c) z b.head b.words b.expression h) b.opens.4 b.reads) in
+    let done : Stands (complete g ws (b.steps ++ postfix b.expression)) (us ++ (token.Open ∷ (b.words ++ token.Close ∷ []))) = completes ws us b.steps (token.Open ∷ (b.words ++ token.Close ∷ [])) b.expression v g g b.opens.2 (parentheses inner) in
     let place : us ++ (token.Open ∷ (b.words ++ token.Close ∷ [])) ≡ ts ++ token.Close ∷ [] =
     sym (ap (λ l. l ++ token.Close ∷ []) (b.text ∙ ap (λ l. l ++ b.words) b.opens.1) ∙ ap (λ l. l ++ token.Close ∷ []) (append_assoc us (token.Open ∷ []) b.words) ∙ append_assoc us (token.Open ∷ b.words) (token.Close ∷ [])) in
     subst (λ x. Stands x (ts ++ token.Close ∷ [])) (some_same _ s e)
@@ -407,7 +430,7 @@ operator_steps c h token.Close ws out ts s b e = close_steps c h ws out ts s b e
 operator_steps _ _ _ ws out ts s b e = cc
 
 after_steps : (d : Doing) (w : Token) (ws : List Waiting) (out : List Step) (ts : List Token) (s : State) → StandsAt d ws out ts → after_doing d w ws out ≡ Some s → Stands s (ts ++ w ∷ [])
-after_steps (Operand h) w ws out ts s x e = cc
+after_steps (Operand h only) w ws out ts s x e = cc
 after_steps (Within p) w ws out ts s x e = cc
 after_steps (Operator c h) w ws out ts s x e = operator_steps c h w ws out ts s x e
 
@@ -418,7 +441,7 @@ amid_more p us ws out ts m = sym (ap (λ l. l ++ us) m.text ∙ append_assoc m.b
 whole_stands : (p : Partial) (a : Primitive) (ws : List Waiting) (out : List Step) (ts : List Token) → whole p ≡ Some a → Amid p ws out ts → Stands (put a first_head ws out) ts
 whole_stands (partial.Word w) a ws out ts e m =
     subst (Stands (put a first_head ws out)) (sym m.text)
-    (completes ws m.before out m.words (one a) m.head first_head m.opens (subst (λ l. Reads operand m.head l (one a) first_head) (sym m.begun.2) (primitive (word e))))
+    (completes ws m.before out m.words (one a) false m.head first_head m.opens (subst (λ l. Reads operand false m.head l (one a) first_head) (sym m.begun.2) (primitive (word e))))
 whole_stands _ a ws out ts e m = cc
 
 whole_steps : (o : Option Primitive) (p : Partial) (w : Token) (ws : List Waiting) (out : List Step) (ts : List Token) (s : State) → whole p ≡ o → Amid p ws out ts → and_then (completed o ws out) (after w) ≡ Some s → Stands s (ts ++ w ∷ [])
@@ -432,12 +455,12 @@ within_progress (More q) p w ws out ts s m made e =
     subst (λ x. Stands x (ts ++ w ∷ [])) (some_same _ s e) (record { before = m.before; words = m.words ++ w ∷ []; head = m.head; text = sym (amid_more p (w ∷ []) ws out ts m); begun = made; opens = m.opens })
 within_progress (Done q h) p w ws out ts s m made e =
     subst (λ x. Stands x (ts ++ w ∷ [])) (some_same _ s e)
-    (subst (λ l. Stands (put q h ws out) l) (amid_more p (w ∷ []) ws out ts m) (completes ws m.before out (m.words ++ w ∷ []) (one q) m.head h m.opens made))
+    (subst (λ l. Stands (put q h ws out) l) (amid_more p (w ∷ []) ws out ts m) (completes ws m.before out (m.words ++ w ∷ []) (one q) false m.head h m.opens made))
 within_progress Foreign p w ws out ts s m made e = whole_steps (whole p) p w ws out ts s refl m e
 
 -- a parenthesis round a term
 group_steps : (p : Partial) (w : Token) (ws : List Waiting) (out : List Step) (ts : List Token) → closes_term p w ws ≡ true → Amid p ws out ts → Amid p (tail_of ws) out (ts ++ w ∷ [])
-group_steps (partial.Term q mask) token.Close (waiting.Open g ∷ ws) out ts e m =
+group_steps (partial.Term q mask) token.Close (waiting.Open g v ∷ ws) out ts e m =
     let us = m.opens.0 in
     record {
       before = us;
@@ -445,16 +468,44 @@ group_steps (partial.Term q mask) token.Close (waiting.Open g ∷ ws) out ts e m
       head = g;
       text = ap (λ l. l ++ token.Close ∷ []) (m.text ∙ ap (λ l. l ++ m.words) m.opens.1 ∙ append_assoc us (token.Open ∷ []) m.words) ∙ append_assoc us (token.Open ∷ m.words) (token.Close ∷ []);
       begun = grouped m.begun;
-      opens = m.opens.2;
+      opens = subst (λ b. Opens ws g b us out) (sym m.opens.4) m.opens.2;
     }
 group_steps _ _ _ out ts e m = cc
 
-within_steps : (b : Bool) (p : Partial) (w : Token) (ws : List Waiting) (out : List Step) (ts : List Token) (s : State) → closes_term p w ws ≡ b → Amid p ws out ts → cond b (Some (record { doing = Within p; waiting = tail_of ws; steps = out })) (step_progress (next p w) (whole p) w ws out) ≡ Some s → Stands s (ts ++ w ∷ [])
+-- the words of a head that has begun
+head_begun : (p : Partial) (h : Head) (words : List Token) → head_of p ≡ Some h → Begun p words → IsHead words h
+head_begun (partial.Value i) h words e x = subst (IsHead words) (some_same i h e) x
+head_begun (partial.Directed scope.Any d) h words e x = subst (IsHead words) (some_same _ h e) (subst (λ l. IsHead l (head.Host None (Some d))) (sym x) (directed None d))
+head_begun (partial.Directed (scope.Network n) d) h words e x = subst (IsHead words) (some_same _ h e) (subst (λ l. IsHead l (head.Host (Some n) (Some d))) (sym x) (directed (Some n) d))
+head_begun (partial.Directed (scope.Transport t) d) h words e x = cc
+head_begun (partial.Directed scope.Ether d) h words e x = subst (IsHead words) (some_same _ h e) (subst (λ l. IsHead l (head.Ether (Some d))) (sym x) (ether_directed d))
+head_begun _ h words e x = cc
+
+-- `not` or a parenthesis after it
+values_open : (h : Head) (w : Token) (x : Head × Waiting) (p : Partial) (ws : List Waiting) (out : List Step) (ts : List Token) → head_of p ≡ Some h → values_after w (Some h) ≡ Some x → Amid p ws out ts → Opens (x.1 ∷ waiting.Head ∷ ws) x.0 true (ts ++ w ∷ []) out
+values_open h token.Not x p ws out ts f e m = subst (λ (z : Head × Waiting). Opens (z.1 ∷ waiting.Head ∷ ws) z.0 true (ts ++ token.Not ∷ []) out) (some_same (h, waiting.Not) x e) (ts, refl, (m.before, m.words, m.text, head_begun p h m.words f m.begun, refl, m.head, m.opens))
+values_open h token.Open x p ws out ts f e m = subst (λ (z : Head × Waiting). Opens (z.1 ∷ waiting.Head ∷ ws) z.0 true (ts ++ token.Open ∷ []) out) (some_same (h, waiting.Open h true) x e) (ts, refl, (m.before, m.words, m.text, head_begun p h m.words f m.begun, refl, m.head, m.opens), refl, refl)
+values_open h _ x p ws out ts f e m = cc
+
+no_values : (w : Token) (x : Head × Waiting) → values_after w None ≡ Some x → ⊥
+no_values token.Not x e = cc
+no_values token.Open x e = cc
+no_values _ x e = cc
+
+values_opened : (o : Option Head) (w : Token) (x : Head × Waiting) (p : Partial) (ws : List Waiting) (out : List Step) (ts : List Token) → head_of p ≡ o → values_after w o ≡ Some x → Amid p ws out ts → Opens (x.1 ∷ waiting.Head ∷ ws) x.0 true (ts ++ w ∷ []) out
+values_opened None w x p ws out ts f e m = absurd (no_values w x e)
+values_opened (Some h) w x p ws out ts f e m = values_open h w x p ws out ts f e m
+
+at_steps : (o : Option (Head × Waiting)) (p : Partial) (w : Token) (ws : List Waiting) (out : List Step) (ts : List Token) (s : State) → values_after w (head_of p) ≡ o → Amid p ws out ts → within_at o p w ws out ≡ Some s → Stands s (ts ++ w ∷ [])
+at_steps (Some x) p w ws out ts s f m e = subst (λ z. Stands z (ts ++ w ∷ [])) (some_same _ s e) (values_opened (head_of p) w x p ws out ts refl f m)
+at_steps None p w ws out ts s f m e = within_progress (next p w) p w ws out ts s m (continued m.head p m.words w m.begun) e
+
+within_steps : (b : Bool) (p : Partial) (w : Token) (ws : List Waiting) (out : List Step) (ts : List Token) (s : State) → closes_term p w ws ≡ b → Amid p ws out ts → cond b (Some (record { doing = Within p; waiting = tail_of ws; steps = out })) (within_at (values_after w (head_of p)) p w ws out) ≡ Some s → Stands s (ts ++ w ∷ [])
 within_steps true p w ws out ts s f m e = subst (λ x. Stands x (ts ++ w ∷ [])) (some_same _ s e) (group_steps p w ws out ts f m)
-within_steps false p w ws out ts s f m e = within_progress (next p w) p w ws out ts s m (continued m.head p m.words w m.begun) e
+within_steps false p w ws out ts s f m e = at_steps (values_after w (head_of p)) p w ws out ts s refl m e
 
 steps_at : (d : Doing) (w : Token) (ws : List Waiting) (out : List Step) (ts : List Token) (s : State) → StandsAt d ws out ts → step_state d w ws out ≡ Some s → Stands s (ts ++ w ∷ [])
-steps_at (Operand h) w ws out ts s x e = operand_steps (waiting_of h w) w h ws out ts s refl x e
+steps_at (Operand h only) w ws out ts s x e = operand_steps (waiting_of h only w) w only h ws out ts s refl x e
 steps_at (Within p) w ws out ts s x e = within_steps (closes_term p w ws) p w ws out ts s refl x e
 steps_at (Operator c h) w ws out ts s x e = operator_steps c h w ws out ts s x e
 
@@ -462,7 +513,7 @@ pub stands_on : (x : State) (w : Token) (ts : List Token) (s : State) → Stands
 stands_on x w ts s h e = steps_at x.doing w x.waiting x.steps ts s h e
 
 pub stands_first : Stands start []
-stands_first = (refl, refl, refl)
+stands_first = (refl, refl, refl, refl)
 
 -- what is read at the end
 pub record Read (ts : List Token) (out : List Step) : Type 0 where
@@ -471,12 +522,12 @@ pub record Read (ts : List Token) (out : List Step) : Type 0 where
   pub program : out ≡ postfix expression
 
 ends_at : (d : Doing) (ws : List Waiting) (out o : List Step) (ts : List Token) → StandsAt d ws out ts → finish_at d ws out ≡ Some o → Read ts o
-ends_at (Operand h) ws out o ts x e = cc
+ends_at (Operand h only) ws out o ts x e = cc
 ends_at (Within p) ws out o ts x e = cc
 ends_at (Operator c h) (w ∷ ws) out o ts x e = cc
 ends_at (Operator c h) [] out o ts b e = record {
   expression = b.expression;
-  text = record { kind = kind_of c; last = h; reads = subst (λ g. Reads (kind_of c) g ts b.expression h) b.opens.2 (subst (λ l. Reads (kind_of c) b.head l b.expression h) (sym (b.text ∙ ap (λ l. l ++ b.words) b.opens.0)) b.reads) };
+  text = record { kind = kind_of c; last = h; reads = subst (λ v. Reads (kind_of c) v first_head ts b.expression h) b.opens.3 (subst (λ g. Reads (kind_of c) b.only g ts b.expression h) b.opens.2 (subst (λ l. Reads (kind_of c) b.only b.head l b.expression h) (sym (b.text ∙ ap (λ l. l ++ b.words) b.opens.0)) b.reads)) };
   program = sym (some_same out o e) ∙ b.program ∙ ap (λ l. l ++ postfix b.expression) b.opens.1;
 }
 
@@ -487,7 +538,7 @@ whole_ends (Some a) p ws out o ts h m e =
     ends_at x.doing x.waiting x.steps o ts (whole_stands p a ws out ts h m) e
 
 finishes_at : (d : Doing) (ws : List Waiting) (out o : List Step) (ts : List Token) → StandsAt d ws out ts → finish_doing d ws out ≡ Some o → Read ts o
-finishes_at (Operand h) ws out o ts x e = cc
+finishes_at (Operand h only) ws out o ts x e = cc
 finishes_at (Within p) ws out o ts x e = whole_ends (whole p) p ws out o ts refl x e
 finishes_at (Operator c h) ws out o ts x e = ends_at (Operator c h) ws out o ts x e
 

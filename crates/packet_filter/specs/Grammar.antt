@@ -234,29 +234,31 @@ first_head = head.Host None None
 -- The words are an expression of this kind. `not` binds tighter than `and` and `or`, which stand
 -- together only where parentheses keep them apart. A value alone has the head of the primitive
 -- before it, past any parentheses: in place of the words its head would be `before`, and after them
--- `after`.
-pub data Reads : Kind → Head → List Token → Expression → Head → Type 0 where
+-- `after`. If `only` is true, all primitives are values alone: so after a head.
+pub data Reads : Kind → Bool → Head → List Token → Expression → Head → Type 0 where
   primitive : {before : Head} {words : List Token} {p : Primitive} → IsPrimitive words p
-      → Reads operand before words (one p) first_head
-  headed : {before h : Head} {words : List Token} {p : Primitive} → IsHead words h
-      → (w : Token) → value_of w h ≡ Some p → Reads operand before (words ++ w ∷ []) (one p) h
-  value : {h : Head} {p : Primitive} → (w : Token) → value_of w h ≡ Some p
-      → Reads operand h (w ∷ []) (one p) h
-  not_ : {before after : Head} {words : List Token} {e : Expression}
-      → Reads operand before words e after
-      → Reads operand before (token.Not ∷ words) (negation e) after
-  parentheses : {kind : Kind} {before after : Head} {words : List Token} {e : Expression}
-      → Reads kind before words e after
-      → Reads operand before (token.Open ∷ (words ++ token.Close ∷ [])) e before
-  first : {before amid after : Head} {o : Operator} {left right : List Token} {a b : Expression}
-      → Reads operand before left a amid → Reads operand amid right b after
-      → Reads (chain o) before (left ++ token.Operator o ∷ right) (compound o a b) after
-  more : {before amid after : Head} {o : Operator} {left right : List Token} {a b : Expression}
-      → Reads (chain o) before left a amid → Reads operand amid right b after
-      → Reads (chain o) before (left ++ token.Operator o ∷ right) (compound o a b) after
+      → Reads operand false before words (one p) first_head
+  headed : {before h after : Head} {words values : List Token} {e : Expression} → IsHead words h
+      → Reads operand true h values e after → Reads operand false before (words ++ values) e after
+  value : {only : Bool} {h : Head} {p : Primitive} → (w : Token) → value_of w h ≡ Some p
+      → Reads operand only h (w ∷ []) (one p) h
+  not_ : {only : Bool} {before after : Head} {words : List Token} {e : Expression}
+      → Reads operand only before words e after
+      → Reads operand only before (token.Not ∷ words) (negation e) after
+  parentheses : {kind : Kind} {only : Bool} {before after : Head} {words : List Token}
+      {e : Expression} → Reads kind only before words e after
+      → Reads operand only before (token.Open ∷ (words ++ token.Close ∷ [])) e before
+  first : {only : Bool} {before amid after : Head} {o : Operator} {left right : List Token}
+      {a b : Expression} → Reads operand only before left a amid
+      → Reads operand only amid right b after
+      → Reads (chain o) only before (left ++ token.Operator o ∷ right) (compound o a b) after
+  more : {only : Bool} {before amid after : Head} {o : Operator} {left right : List Token}
+      {a b : Expression} → Reads (chain o) only before left a amid
+      → Reads operand only amid right b after
+      → Reads (chain o) only before (left ++ token.Operator o ∷ right) (compound o a b) after
 
 -- the words are this expression
 pub record IsExpression (words : List Token) (e : Expression) : Type 0 where
   pub kind : Kind
   pub last : Head
-  pub reads : Reads kind first_head words e last
+  pub reads : Reads kind false first_head words e last

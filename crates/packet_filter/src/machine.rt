@@ -2,8 +2,9 @@
 
 ghost use Rattle.std.specs.Prelude.{◌≡◌, ◌+◌, ◌<◌, ◌≤◌, ◌↔◌, [], ◌∷◌, ◌++◌, IfNone, IfSome};
 ghost use Rattle.std.specs.Prelude.{IsFalse, IsTrue, length};
-ghost use Rattle.packet_filter.specs.Private.Machine.{after, close, closes_term, complete, finish};
-ghost use Rattle.packet_filter.specs.Private.Machine.{finish_state, is_open, kept, on_progress};
+ghost use Rattle.packet_filter.specs.Private.Machine.{after, chosen, close, closes_term, complete};
+ghost use Rattle.packet_filter.specs.Private.Machine.{finish, finish_state, is_only, is_open, kept};
+ghost use Rattle.packet_filter.specs.Private.Machine.{on_progress, values_after};
 ghost use Rattle.packet_filter.specs.Private.Machine.{or_value, put, size_of, start, state_of};
 ghost use Rattle.packet_filter.specs.Private.Machine.{step_of, step_operand, step_operator};
 ghost use Rattle.packet_filter.specs.Private.Machine.{step_within, waiting_of, waits};
@@ -11,7 +12,7 @@ ghost use Rattle.packet_filter.specs.Private.Machine.{step_within, waiting_of, w
 use crate::expression::{Operator, Primitive};
 use crate::filter::Step;
 use crate::head::Head;
-use crate::partial::{FIRST_HEAD, Partial, Progress, begin, next, valued, whole};
+use crate::partial::{FIRST_HEAD, Partial, Progress, begin, head_of, next, valued, whole};
 use crate::token::Token;
 use arrayvec::ArrayVec;
 use std::marker::Model;
@@ -24,15 +25,17 @@ pub(crate) enum Waiting {
     Not,
     /// `and` or `or`, after its left side.
     Operator(Operator),
-    /// `(`, and the head of a value alone before it.
-    Open(Head),
+    /// `(`: the head of a value alone in its place, and whether all within are values.
+    Open(Head, bool),
+    /// A head: `not` or `(` follows it, and values alone.
+    Head,
 }
 
 /// What may come next.
 #[derive(Clone, Copy)]
 pub(crate) enum Doing {
-    /// An operand, which has this head if it is a value alone.
-    Operand(Head),
+    /// An operand: a value alone, which has this head, or if that is false any other.
+    Operand(Head, bool),
     /// The rest of a primitive.
     Within(Partial),
     /// An operator, or a closing parenthesis. Before it this operator stands on the same level, or
@@ -81,7 +84,13 @@ impl Stack {
     fn is_open(&self) -> bool
         ensures value { result ≡ is_open self.now }
     {
-        matches!(self.items.as_slice().last(), Some(Waiting::Open(_)))
+        matches!(self.items.as_slice().last(), Some(Waiting::Open(_, _)))
+    }
+
+    fn is_only(&self) -> bool
+        ensures value { result ≡ is_only self.now }
+    {
+        matches!(self.items.as_slice().last(), Some(Waiting::Open(_, true)))
     }
 
     fn is_empty(&self) -> bool
@@ -105,7 +114,7 @@ impl Machine {
         ensures first { state_of result ≡ start }
     {
         Machine {
-            doing: Doing::Operand(FIRST_HEAD),
+            doing: Doing::Operand(FIRST_HEAD, false),
             waiting: Stack::new(),
             steps: ArrayVec::new(),
         }
@@ -120,7 +129,7 @@ impl Machine {
             size_of (state_of self.new) ≤ size_of (state_of self.old) + 1 }
     {
         match self.doing {
-            Doing::Operand(head) => self.step_operand(head, token),
+            Doing::Operand(head, only) => self.step_operand(head, only, token),
             Doing::Within(partial) => self.step_within(partial, token),
             Doing::Operator(before, head) => self.step_operator(before, head, token),
         }
@@ -133,7 +142,7 @@ impl Machine {
         ensures no { IsFalse result → finish (state_of self.old) ≡ None }
     {
         match self.doing {
-            Doing::Operand(_) => false,
+            Doing::Operand(_, _) => false,
             Doing::Within(partial) => match whole(partial) {
                 Some(primitive) => {
                     self.put(primitive, FIRST_HEAD);
@@ -152,7 +161,7 @@ impl Machine {
     {
         match self.doing {
             Doing::Operator(_, _) => self.waiting.is_empty(),
-            Doing::Operand(_) | Doing::Within(_) => false,
+            Doing::Operand(_, _) | Doing::Within(_) => false,
         }
     }
 
@@ -164,18 +173,18 @@ impl Machine {
     }
 
     // Where an operand may come.
-    fn step_operand(&mut self, head: Head, token: Token) -> bool
+    fn step_operand(&mut self, head: Head, only: bool, token: Token) -> bool
         requires room { kept (state_of self.old) < 64 }
         ensures yes { IsTrue result →
-            step_operand head token self.old.waiting self.old.steps.items
+            step_operand head only token self.old.waiting self.old.steps.items
             ≡ Some (state_of self.new) }
         ensures no { IsFalse result →
-            step_operand head token self.old.waiting self.old.steps.items ≡ None }
+            step_operand head only token self.old.waiting self.old.steps.items ≡ None }
         ensures size { IsTrue result → size_of (state_of self.new) ≤ kept (state_of self.old) + 1 }
     {
-        match waiting_of(head, token) {
-            Some(waiting) => self.wait(waiting, head),
-            None => self.go_on(or_value(head, token, begin(token))),
+        match waiting_of(head, only, token) {
+            Some(waiting) => self.wait(waiting, head, only),
+            None => self.go_on(chosen(only, head, token)),
         }
     }
 
@@ -217,6 +226,10 @@ impl Machine {
             self.waiting.pop();
             return true;
         }
+        if let Some((head, waiting)) = values_after(token, head_of(partial)) {
+            self.waiting.push(Waiting::Head);
+            return self.wait(waiting, head, true);
+        }
         match next(partial, token) {
             Progress::Foreign => match whole(partial) {
                 Some(primitive) => {
@@ -245,7 +258,7 @@ impl Machine {
     {
         match self.doing {
             Doing::Operator(before, head) => self.step_operator(before, head, token),
-            Doing::Operand(_) | Doing::Within(_) => false,
+            Doing::Operand(_, _) | Doing::Within(_) => false,
         }
     }
 
@@ -259,13 +272,16 @@ impl Machine {
             step_operator before head token self.old.waiting self.old.steps.items ≡ None }
         ensures size { IsTrue result → size_of (state_of self.new) ≤ kept (state_of self.old) + 1 }
     {
+        let only = self.waiting.is_only();
         match (before, token) {
-            (None, Token::Operator(operator)) => self.wait(Waiting::Operator(operator), head),
+            (None, Token::Operator(operator)) => {
+                self.wait(Waiting::Operator(operator), head, only)
+            }
             (Some(Operator::And), Token::Operator(Operator::And)) => {
-                self.wait(Waiting::Operator(Operator::And), head)
+                self.wait(Waiting::Operator(Operator::And), head, only)
             }
             (Some(Operator::Or), Token::Operator(Operator::Or)) => {
-                self.wait(Waiting::Operator(Operator::Or), head)
+                self.wait(Waiting::Operator(Operator::Or), head, only)
             }
             (_, Token::Close) => self.close(),
             _ => false,
@@ -281,7 +297,7 @@ impl Machine {
         ensures size { IsTrue result → size_of (state_of self.new) ≤ kept (state_of self.old) }
     {
         match self.waiting.pop() {
-            Some(Waiting::Open(head)) => {
+            Some(Waiting::Open(head, _)) => {
                 self.complete(head);
                 true
             }
@@ -290,15 +306,15 @@ impl Machine {
     }
 
     // Waits for an operand.
-    fn wait(&mut self, waiting: Waiting, head: Head) -> bool
+    fn wait(&mut self, waiting: Waiting, head: Head, only: bool) -> bool
         requires room { length self.old.waiting < 64 }
         ensures yes { IsTrue result }
-        ensures state { waits waiting head self.old.waiting self.old.steps.items
+        ensures state { waits waiting head only self.old.waiting self.old.steps.items
             ≡ Some (state_of self.new) }
         ensures size { size_of (state_of self.new) ≡ kept (state_of self.old) + 1 }
     {
         self.waiting.push(waiting);
-        self.doing = Doing::Operand(head);
+        self.doing = Doing::Operand(head, only);
         true
     }
 
@@ -307,7 +323,7 @@ impl Machine {
         requires room { kept (state_of self.old) < 64 }
         ensures state { state_of self.new ≡
             put primitive head self.old.waiting self.old.steps.items }
-        ensures size { kept (state_of self.new) ≡ kept (state_of self.old) + 1 }
+        ensures size { kept (state_of self.new) ≤ kept (state_of self.old) + 1 }
         ensures none { size_of (state_of self.new) ≡ kept (state_of self.new) }
     {
         self.steps.push(Step::Test(primitive));
@@ -318,7 +334,7 @@ impl Machine {
     fn complete(&mut self, head: Head)
         requires room { kept (state_of self.old) ≤ 64 }
         ensures state { state_of self.new ≡ complete head self.old.waiting self.old.steps.items }
-        ensures size { kept (state_of self.new) ≡ kept (state_of self.old) }
+        ensures size { kept (state_of self.new) ≤ kept (state_of self.old) }
         ensures none { size_of (state_of self.new) ≡ kept (state_of self.new) }
     {
         'nots: loop {
@@ -328,12 +344,13 @@ impl Machine {
             }
             match self.waiting.pop() {
                 Some(Waiting::Not) => self.steps.push(Step::Not),
+                Some(Waiting::Head) => {}
                 Some(Waiting::Operator(operator)) => {
                     self.steps.push(Step::Operator(operator));
                     self.doing = Doing::Operator(Some(operator), head);
                     return;
                 }
-                Some(Waiting::Open(_)) | None => {
+                Some(Waiting::Open(_, _)) | None => {
                     self.doing = Doing::Operator(None, head);
                     return;
                 }
@@ -343,13 +360,35 @@ impl Machine {
 }
 
 // What waits after a word, if an operand is still to come.
-fn waiting_of(head: Head, token: Token) -> Option<Waiting>
-    ensures value { result ≡ waiting_of head token }
+fn waiting_of(head: Head, only: bool, token: Token) -> Option<Waiting>
+    ensures value { result ≡ waiting_of head only token }
 {
     match token {
         Token::Not => Some(Waiting::Not),
-        Token::Open => Some(Waiting::Open(head)),
+        Token::Open => Some(Waiting::Open(head, only)),
         _ => None,
+    }
+}
+
+// What waits after a head, if values alone are still to come.
+fn values_after(token: Token, head: Option<Head>) -> Option<(Head, Waiting)>
+    ensures value { result ≡ values_after token head }
+{
+    match (token, head) {
+        (Token::Not, Some(head)) => Some((head, Waiting::Not)),
+        (Token::Open, Some(head)) => Some((head, Waiting::Open(head, true))),
+        _ => None,
+    }
+}
+
+// What a word makes of a primitive that it is the first of.
+fn chosen(only: bool, head: Head, token: Token) -> Progress
+    ensures value { result ≡ chosen only head token }
+{
+    if only {
+        valued(head, token)
+    } else {
+        or_value(head, token, begin(token))
     }
 }
 

@@ -10,7 +10,8 @@ ghost use Rattle.packet_filter.specs.Private.Machine.{after_listed, after_networ
 ghost use Rattle.packet_filter.specs.Private.Machine.{after_of_network, after_of_transport};
 ghost use Rattle.packet_filter.specs.Private.Machine.{after_scope, after_term, after_transport};
 ghost use Rattle.packet_filter.specs.Private.Machine.{after_use, after_word, begin, given, joined};
-ghost use Rattle.packet_filter.specs.Private.Machine.{made, next, valued, whole};
+ghost use Rattle.packet_filter.specs.Private.Machine.{head_of, made, next, scope_head, valued};
+ghost use Rattle.packet_filter.specs.Private.Machine.{whole};
 
 use crate::address::Address;
 use crate::expression::{Direction, Layer, Network, Operator, Primitive, Quantity, Relation, Size};
@@ -191,6 +192,30 @@ pub(crate) fn whole(partial: Partial) -> Option<Primitive>
     match partial {
         Partial::Word(word) => alone(word),
         _ => None,
+    }
+}
+
+/// The head whose value is to follow.
+pub(crate) fn head_of(partial: Partial) -> Option<Head>
+    ensures value { result ≡ head_of partial }
+{
+    match partial {
+        Partial::Value(head) => Some(head),
+        Partial::Directed(scope, direction) => scope_head(scope, direction),
+        _ => None,
+    }
+}
+
+// The head that a direction alone is.
+fn scope_head(scope: Scope, direction: Direction) -> Option<Head>
+    ensures value { result ≡ scope_head scope direction }
+{
+    let direction = Some(direction);
+    match scope {
+        Scope::Any => Some(Head::Host(None, direction)),
+        Scope::Network(network) => Some(Head::Host(Some(network), direction)),
+        Scope::Transport(_) => None,
+        Scope::Ether => Some(Head::Ether(direction)),
     }
 }
 

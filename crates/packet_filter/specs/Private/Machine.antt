@@ -266,11 +266,11 @@ abbrev pub state_of : Machine → State
 state_of m = record { doing = m.doing; waiting = m.waiting; steps = m.steps.items }
 
 abbrev pub start : State
-start = record { doing = Operand first_head; waiting = []; steps = [] }
+start = record { doing = Operand first_head false; waiting = []; steps = [] }
 
 -- how many words the state stands for at least
 abbrev pub partial_size : Doing → ℕ
-partial_size (Operand h) = 0
+partial_size (Operand h only) = 0
 partial_size (Within p) = 1
 partial_size (Operator c h) = 0
 
@@ -284,16 +284,23 @@ kept s = length s.waiting + length s.steps
 -- a parenthesis waits first
 abbrev pub is_open : List Waiting → Bool
 is_open [] = false
-is_open (waiting.Open h ∷ ws) = true
+is_open (waiting.Open h only ∷ ws) = true
 is_open (waiting.Not ∷ ws) = false
+is_open (waiting.Head ∷ ws) = false
 is_open (waiting.Operator o ∷ ws) = false
+
+-- whether values alone are what stands within it
+abbrev pub is_only : List Waiting → Bool
+is_only (waiting.Open h only ∷ ws) = only
+is_only _ = false
 
 -- an operand is complete
 abbrev pub complete : Head → List Waiting → List Step → State
 complete h [] out = record { doing = Operator None h; waiting = []; steps = out }
-complete h (waiting.Open g ∷ ws) out =
-    record { doing = Operator None h; waiting = waiting.Open g ∷ ws; steps = out }
+complete h (waiting.Open g only ∷ ws) out =
+    record { doing = Operator None h; waiting = waiting.Open g only ∷ ws; steps = out }
 complete h (waiting.Not ∷ ws) out = complete h ws (out ++ step.Not ∷ [])
+complete h (waiting.Head ∷ ws) out = complete h ws out
 complete h (waiting.Operator o ∷ ws) out =
     record { doing = Operator (Some o) h; waiting = ws; steps = out ++ step.Operator o ∷ [] }
 
@@ -306,8 +313,8 @@ on_progress (More p) ws out = Some (record { doing = Within p; waiting = ws; ste
 on_progress (Done p h) ws out = Some (put p h ws out)
 on_progress Foreign ws out = None
 
-abbrev pub waits : Waiting → Head → List Waiting → List Step → Option State
-waits w h ws out = Some (record { doing = Operand h; waiting = w ∷ ws; steps = out })
+abbrev pub waits : Waiting → Head → Bool → List Waiting → List Step → Option State
+waits w h only ws out = Some (record { doing = Operand h only; waiting = w ∷ ws; steps = out })
 
 -- a word that begins no primitive can be a value
 abbrev pub or_value : Head → Token → Progress → Progress
@@ -315,35 +322,40 @@ or_value h w (More p) = More p
 or_value h w (Done p after) = Done p after
 or_value h w Foreign = valued h w
 
+abbrev pub chosen : Bool → Head → Token → Progress
+chosen true h w = valued h w
+chosen false h w = or_value h w (begin w)
+
 -- a word after which an operand is still to come
-abbrev pub waiting_of : Head → Token → Option Waiting
-waiting_of h token.Not = Some waiting.Not
-waiting_of h token.Open = Some (waiting.Open h)
-waiting_of h _ = None
+abbrev pub waiting_of : Head → Bool → Token → Option Waiting
+waiting_of h only token.Not = Some waiting.Not
+waiting_of h only token.Open = Some (waiting.Open h only)
+waiting_of h only _ = None
 
-abbrev pub operand_at : Option Waiting → Head → Token → List Waiting → List Step → Option State
-operand_at (Some x) h w ws out = waits x h ws out
-operand_at None h w ws out = on_progress (or_value h w (begin w)) ws out
+abbrev pub operand_at : Option Waiting → Head → Bool → Token → List Waiting → List Step
+    → Option State
+operand_at (Some x) h only w ws out = waits x h only ws out
+operand_at None h only w ws out = on_progress (chosen only h w) ws out
 
-abbrev pub step_operand : Head → Token → List Waiting → List Step → Option State
-step_operand h w ws out = operand_at (waiting_of h w) h w ws out
+abbrev pub step_operand : Head → Bool → Token → List Waiting → List Step → Option State
+step_operand h only w ws out = operand_at (waiting_of h only w) h only w ws out
 
 abbrev pub close : List Waiting → List Step → Option State
-close (waiting.Open h ∷ ws) out = Some (complete h ws out)
-close (waiting.Not ∷ ws) out = None
-close (waiting.Operator o ∷ ws) out = None
-close [] out = None
+close (waiting.Open h only ∷ ws) out = Some (complete h ws out)
+close _ out = None
 
 abbrev pub step_operator : Option Joiner → Head → Token → List Waiting → List Step → Option State
-step_operator None h (token.Operator o) ws out = waits (waiting.Operator o) h ws out
-step_operator (Some And) h (token.Operator And) ws out = waits (waiting.Operator And) h ws out
-step_operator (Some Or) h (token.Operator Or) ws out = waits (waiting.Operator Or) h ws out
+step_operator None h (token.Operator o) ws out = waits (waiting.Operator o) h (is_only ws) ws out
+step_operator (Some And) h (token.Operator And) ws out =
+    waits (waiting.Operator And) h (is_only ws) ws out
+step_operator (Some Or) h (token.Operator Or) ws out =
+    waits (waiting.Operator Or) h (is_only ws) ws out
 step_operator before h token.Close ws out = close ws out
 step_operator before h _ ws out = None
 
 -- an operator, where one may come
 abbrev pub after_doing : Doing → Token → List Waiting → List Step → Option State
-after_doing (Operand h) w ws out = None
+after_doing (Operand h only) w ws out = None
 after_doing (Within p) w ws out = None
 after_doing (Operator c h) w ws out = step_operator c h w ws out
 
@@ -365,20 +377,43 @@ step_progress Foreign a w ws out = and_then (completed a ws out) (after w)
 
 -- a parenthesis round a term
 abbrev pub closes_term : Partial → Token → List Waiting → Bool
-closes_term (partial.Term q mask) token.Close (waiting.Open h ∷ ws) = true
+closes_term (partial.Term q mask) token.Close (waiting.Open h only ∷ ws) = true
 closes_term _ _ _ = false
 
 abbrev pub tail_of : List Waiting → List Waiting
 tail_of [] = []
 tail_of (w ∷ ws) = ws
 
+-- the head whose value is to follow
+abbrev pub scope_head : Scope → Direction → Option Head
+scope_head scope.Any d = Some (head.Host None (Some d))
+scope_head (scope.Network n) d = Some (head.Host (Some n) (Some d))
+scope_head (scope.Transport t) d = None
+scope_head scope.Ether d = Some (head.Ether (Some d))
+
+abbrev pub head_of : Partial → Option Head
+head_of (partial.Value h) = Some h
+head_of (partial.Directed s d) = scope_head s d
+head_of _ = None
+
+-- `not` or a parenthesis after a head: the head of the values, and what waits for them
+abbrev pub values_after : Token → Option Head → Option (Head × Waiting)
+values_after token.Not (Some h) = Some (h, waiting.Not)
+values_after token.Open (Some h) = Some (h, waiting.Open h true)
+values_after _ _ = None
+
+abbrev pub within_at : Option (Head × Waiting) → Partial → Token → List Waiting → List Step
+    → Option State
+within_at (Some x) p w ws out = waits x.1 x.0 true (waiting.Head ∷ ws) out
+within_at None p w ws out = step_progress (next p w) (whole p) w ws out
+
 abbrev pub step_within : Partial → Token → List Waiting → List Step → Option State
 step_within p w ws out = if closes_term p w ws
     then Some (record { doing = Within p; waiting = tail_of ws; steps = out })
-    else step_progress (next p w) (whole p) w ws out
+    else within_at (values_after w (head_of p)) p w ws out
 
 abbrev pub step_state : Doing → Token → List Waiting → List Step → Option State
-step_state (Operand h) w ws out = step_operand h w ws out
+step_state (Operand h only) w ws out = step_operand h only w ws out
 step_state (Within p) w ws out = step_within p w ws out
 step_state (Operator c h) w ws out = step_operator c h w ws out
 
@@ -389,14 +424,14 @@ step_of s w = step_state s.doing w s.waiting s.steps
 abbrev pub finish_at : Doing → List Waiting → List Step → Option (List Step)
 finish_at (Operator c h) [] out = Some out
 finish_at (Operator c h) (w ∷ ws) out = None
-finish_at (Operand h) ws out = None
+finish_at (Operand h only) ws out = None
 finish_at (Within p) ws out = None
 
 abbrev pub finish_state : State → Option (List Step)
 finish_state s = finish_at s.doing s.waiting s.steps
 
 abbrev pub finish_doing : Doing → List Waiting → List Step → Option (List Step)
-finish_doing (Operand h) ws out = None
+finish_doing (Operand h only) ws out = None
 finish_doing (Within p) ws out = and_then (completed (whole p) ws out) finish_state
 finish_doing (Operator c h) ws out = finish_at (Operator c h) ws out
 
