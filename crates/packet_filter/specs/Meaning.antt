@@ -15,7 +15,7 @@ use Rattle.packet.specs.declared.lax_sliced_packet.LaxSlicedPacket.{LaxSlicedPac
 use Rattle.packet.specs.declared.link.LinkSlice.{LinkSlice}
 use Rattle.packet.specs.declared.link.LinkSlice.TheVariants as link
 use Rattle.packet.specs.declared.sliced_packet.SlicedPacket.{SlicedPacket}
-use Rattle.packet_parts.specs.IpSlice.{destination_of, source_of}
+use Rattle.packet_parts.specs.IpSlice.{destination_of, header_bytes, source_of}
 use Rattle.packet_parts.specs.declared.checksum.Verdict.TheVariants.{Wrong}
 use Rattle.packet_parts.specs.declared.ip_slice.IpHeaderSlice.{IpHeaderSlice}
 use Rattle.packet_parts.specs.declared.ip_slice.IpHeaderSlice.TheVariants as header
@@ -185,9 +185,8 @@ HasHardware d address bytes = OfEnds d (slice_range bytes 6 12) (slice_range byt
 -- ---- numbers
 
 -- the bytes of an IP packet from its header on
-abbrev pub ip_bytes : IpHeaderSlice → List ℕ → List ℕ → List ℕ
-ip_bytes (header.Ipv4 view) extensions payload = view.slice.now ++ (extensions ++ payload)
-ip_bytes (header.Ipv6 view) extensions payload = view.slice.now ++ (extensions ++ payload)
+abbrev pub ip_bytes : IpSlice → List ℕ
+ip_bytes ip = header_bytes ip.header ++ (ip.extensions.now ++ ip.payload.now)
 
 -- The bytes that a load counts from the first on: those of the frame, from its Ethernet header on,
 -- its tags included; of the IP packet, as far as its length field says; of its payload, unless it is
@@ -195,29 +194,33 @@ ip_bytes (header.Ipv6 view) extensions payload = view.slice.now ++ (extensions +
 abbrev pub Loads : Layer → SlicedPacket → List ℕ → Type 0
 Loads layer.Ether packet bytes = IsSomeAnd (ethernet_header packet.link)
     (λ front. bytes ≡ front ++ (concat (tags_of packet.vlan) ++ packet.payload.now))
-Loads (layer.Ip v) packet bytes = IsSomeAnd packet.net (λ ip. HasVersion v ip.header
-    × (bytes ≡ ip_bytes ip.header ip.extensions.now ip.payload.now))
+Loads (layer.Ip v) packet bytes =
+    IsSomeAnd packet.net (λ ip. HasVersion v ip.header × (bytes ≡ ip_bytes ip))
 Loads (layer.Payload v number) packet bytes = HasProto v number packet
     × IsSomeAnd packet.net (λ ip. IsFalse ip.is_later_fragment × (bytes ≡ ip.payload.now))
 
--- how many bytes are loaded, and how many bits these are
+-- how many bytes are loaded
 abbrev pub size_len : Size → ℕ
 size_len One = 1
 size_len Two = 2
 size_len Four = 4
 
--- the bytes at a place as a number, in network byte order
-abbrev pub loaded : Size → List ℕ → ℕ
-loaded One bytes = from_be_bytes w8 bytes
-loaded Two bytes = from_be_bytes w16 bytes
-loaded Four bytes = from_be_bytes w32 bytes
+-- so many bytes as a number, in network byte order
+abbrev pub number_of : Size → List ℕ → ℕ
+number_of One bytes = from_be_bytes w8 bytes
+number_of Two bytes = from_be_bytes w16 bytes
+number_of Four bytes = from_be_bytes w32 bytes
 
--- The packet tells this number: the length of its frame, or bytes that are all there.
+-- the bytes at a place, which are all there, are this number
+abbrev pub IsNumberAt : Size → ℕ → List ℕ → ℕ → Type 0
+IsNumberAt size place bytes number = (place + size_len size ≤ length bytes)
+    × (number ≡ number_of size (slice_range bytes place (place + size_len size)))
+
+-- The packet tells this number: the length of its frame, or bytes that are loaded.
 abbrev pub Tells : Quantity → SlicedPacket → ℕ → ℕ → Type 0
 Tells Length packet len number = number ≡ len
-Tells (Load l place size) packet len number = (bytes : List ℕ) × Loads l packet bytes
-    × (place + size_len size ≤ length bytes)
-    × (number ≡ loaded size (slice_range bytes place (place + size_len size)))
+Tells (Load l place size) packet len number =
+    (bytes : List ℕ) × Loads l packet bytes × IsNumberAt size place bytes number
 
 -- the bits of a number that the mask has
 abbrev pub masked : Option ℕ → ℕ → ℕ
@@ -235,7 +238,8 @@ Compares relation.GreaterOrEqual a b = b ≤ a
 
 -- ---- checksums
 
--- the checksum of the header is wrong; IPv6 has none (RFC 791 section 3.1)
+-- the checksum of the header is wrong (RFC 791 section 3.1); a header of IPv6 has none (RFC 8200
+-- section 3)
 abbrev pub HasWrongHeader : IpHeaderSlice → Type 0
 HasWrongHeader (header.Ipv4 view) = ¬ SumsToAllOnes view.slice.now
 HasWrongHeader (header.Ipv6 view) = ⊥

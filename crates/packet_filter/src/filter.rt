@@ -8,7 +8,6 @@ ghost use Rattle.packet_filter.specs.Program.{Agrees, Computes, expression_of, s
 use crate::expression::{Operator, Primitive};
 use arrayvec::ArrayVec;
 use packet::lax_sliced_packet::LaxSlicedPacket;
-use packet::sliced_packet::SlicedPacket;
 use std::marker::Model;
 
 /// A step of an expression in postfix form, on a stack of answers.
@@ -70,14 +69,14 @@ impl Filter {
     /// assert!(rt; filter.matches(&lax, frame.len()));
     /// ```
     pub fn matches(&self, packet: &LaxSlicedPacket, len: usize) -> bool
-        ensures value { IsTrue result ↔ Matches (expression_of self.now) packet.now.packet len }
+        ensures value { IsTrue result ↔ Matches (expression_of self.now) packet.now len }
     {
-        value_of(self.steps.as_slice(), &packet.packet, len)
+        value_of(self.steps.as_slice(), packet, len)
     }
 }
 
 // Whether the expression of these steps matches.
-fn value_of(steps: &[Step], packet: &SlicedPacket, len: usize) -> bool
+fn value_of(steps: &[Step], packet: &LaxSlicedPacket, len: usize) -> bool
     requires few { length steps.now ≤ 64 }
     requires computes { Computes steps.now (expression_of steps.now) }
     ensures value { IsTrue result ↔ Matches (expression_of steps.now) packet.now len }
@@ -91,7 +90,7 @@ fn value_of(steps: &[Step], packet: &SlicedPacket, len: usize) -> bool
 
 // The stack of answers after one step, the top in the lowest bit.
 #[inline(always)]
-fn after(stack: u64, step: &Step, packet: &SlicedPacket, len: usize) -> u64
+fn after(stack: u64, step: &Step, packet: &LaxSlicedPacket, len: usize) -> u64
     requires room { stack < 2 ^ 63 }
     ensures bound { result ≤ 2 * stack + 1 }
     ensures agrees { (es next : List Expression) → Agrees packet.now len stack es →
