@@ -1,7 +1,14 @@
 -- The words of a text, and what each says.
 use Rattle.std.specs.Prelude.{ℕ, zero, suc, ◌≡◌, ◌==◌, ◌&&◌, ◌||◌, not, Bool, false, cond}
-use Rattle.std.specs.Prelude.{List, [], ◌∷◌, ◌++◌, take}
+use Rattle.std.specs.Prelude.{List, [], ◌∷◌, ◌++◌, take, Option, MatchOption, option_map}
 use Rattle.std.specs.List.{prefix_len}
+use Rattle.std.specs.Option.{option_or}
+use Rattle.packet_filter.specs.Addresses.{SpellsAddress, hardware_of, short_net_of}
+use Rattle.packet_filter.specs.Names.{names, token_in}
+use Rattle.packet_filter.specs.Numbers.{place_of, range_of, sized_place_of}
+use Rattle.packet_filter.specs.Values.{values}
+use Rattle.packet_filter.specs.declared.token.Token.{Token}
+use Rattle.packet_filter.specs.declared.token.Token.TheVariants as token
 
 -- ---- words
 
@@ -57,3 +64,19 @@ pub record BeginsWithWord (text word rest : List ℕ) : Type 0 where
   pub space : List ℕ
   pub whole : text ≡ space ++ (word ++ rest)
   pub words : words_of text ≡ word ∷ words_of rest
+
+-- ---- what they say
+
+-- What a word says that is no address: the first of these that it is. A name; a number, or the name
+-- of a place; a place and its size; two numbers; a network in short; an Ethernet address. Only a
+-- single octet is two of them, a number and a network in short, and here it is the number; no name
+-- begins with a digit, and no other two have the same of `:`, `-`, `.` and `/` in them.
+abbrev pub keyword_of : List ℕ → Option Token
+keyword_of w = option_or (token_in names w) (option_or (token_in values w)
+    (option_or (option_map token.Number (place_of w)) (option_or (sized_place_of w)
+    (option_or (range_of w) (option_or (short_net_of w) (hardware_of w))))))
+
+-- What a word says. An address is none of the words above: one of IPv4 has three dots, and one of
+-- IPv6 has two colons that stand together, or seven groups of hexadecimal digits at least.
+abbrev pub Spells : List ℕ → Token → Type 0
+Spells word t = MatchOption (keyword_of word) (SpellsAddress word t) (λ k. t ≡ k)
