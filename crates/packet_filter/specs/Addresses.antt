@@ -37,9 +37,9 @@ with_octets (Some a) (Some b) None = None
 abbrev pub short_address : List ℕ → Option ℕ
 short_address word =
     if has dot (beyond dot word) then with_octets (octet_of (before dot word))
-        (octet_of (before dot (beyond dot word))) (octet_of (beyond dot (beyond dot word)))
+    (octet_of (before dot (beyond dot word))) (octet_of (beyond dot (beyond dot word)))
     else if has dot word then
-        with_octets (octet_of (before dot word)) (octet_of (beyond dot word)) (Some 0)
+    with_octets (octet_of (before dot word)) (octet_of (beyond dot word)) (Some 0)
     else with_octets (octet_of word) (Some 0) (Some 0)
 
 -- how many bits these octets are
@@ -56,7 +56,7 @@ networked (Some address) None = None
 abbrev pub short_net_of : List ℕ → Option Token
 short_net_of word =
     if has slash word then
-        networked (short_address (before slash word)) (number_of (beyond slash word))
+    networked (short_address (before slash word)) (number_of (beyond slash word))
     else networked (short_address word) (Some (short_len word))
 
 -- ---- Ethernet addresses

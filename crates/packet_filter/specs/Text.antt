@@ -68,15 +68,15 @@ pub record BeginsWithWord (text word rest : List ℕ) : Type 0 where
 -- ---- what they say
 
 -- What a word says that is no address: the first of these that it is. A name; a number, or the name
--- of a place; a place and its size; two numbers; a network in short; an Ethernet address. Only a
--- single octet is two of them, a number and a network in short, and here it is the number; no name
--- begins with a digit, and no other two have the same of `:`, `-`, `.` and `/` in them.
+-- of a place; a place and its size; two numbers; a network in short; an Ethernet address. Only one
+-- octet alone is two of them, and here it is a number: no name begins with a digit or has `:`, `.`
+-- or `/` in it, and the others differ in how many of `:`, `-`, `.` and `/` they have.
 abbrev pub keyword_of : List ℕ → Option Token
 keyword_of w = option_or (token_in names w) (option_or (token_in values w)
     (option_or (option_map token.Number (place_of w)) (option_or (sized_place_of w)
     (option_or (range_of w) (option_or (short_net_of w) (hardware_of w))))))
 
--- What a word says. An address is none of the words above: one of IPv4 has three dots, and one of
--- IPv6 has two colons that stand together, or seven groups of hexadecimal digits at least.
+-- What a word says. An address is none of the above: one of IPv4 has three dots, and one of IPv6
+-- has two colons side by side, or six at least.
 abbrev pub Spells : List ℕ → Token → Type 0
 Spells word t = MatchOption (keyword_of word) (SpellsAddress word t) (λ k. t ≡ k)

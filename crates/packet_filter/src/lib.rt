@@ -2,14 +2,18 @@
 #![tactic(auto)]
 
 mod address;
+mod addresses;
 mod expression;
 mod filter;
 mod holds;
 mod laws;
 mod machine;
+mod names;
+mod numbers;
 mod reading;
 mod text;
 mod token;
+mod values;
 
 pub use filter::Filter;
 pub use laws::one_reading;

@@ -2,8 +2,15 @@
 
 ghost use Rattle.std.specs.Prelude.{◌≡◌, ◌+◌, ◌<◌, ◌≤◌, [], IfNone, IfSome, length};
 ghost use Rattle.std.specs.List.{prefix_len};
-ghost use Rattle.packet_filter.specs.Text.{BeginsWithWord, begins_pair, is_bracket, is_operator};
-ghost use Rattle.packet_filter.specs.Text.{is_pair, is_plain, is_space, len_after, words_of};
+ghost use Rattle.packet_filter.specs.Text.{BeginsWithWord, Spells, begins_pair, is_bracket};
+ghost use Rattle.packet_filter.specs.Text.{is_operator, is_pair, is_plain, is_space, keyword_of};
+ghost use Rattle.packet_filter.specs.Text.{len_after, words_of};
+
+use crate::addresses::{address_token, hardware_of, short_net_of};
+use crate::names::name_token;
+use crate::numbers::{place_of, range_of, sized_place_of};
+use crate::token::Token;
+use crate::values::value_token;
 
 /// The first word of a text, and what comes after it.
 pub(crate) fn first_word(text: &[u8]) -> Option<(&[u8], &[u8])>
@@ -95,4 +102,39 @@ fn is_pair(byte: u8, next: u8) -> bool
         b'=' => matches!(byte, b'=' | b'!' | b'<' | b'>'),
         _ => false,
     }
+}
+
+/// What a word says.
+pub(crate) fn token_of(word: &[u8]) -> Token
+    ensures says { Spells word.now result }
+{
+    match keyword_of(word) {
+        Some(token) => token,
+        None => address_token(word),
+    }
+}
+
+// What a word says that is no address.
+fn keyword_of(word: &[u8]) -> Option<Token>
+    ensures value { result ≡ keyword_of word.now }
+{
+    if let Some(token) = name_token(word) {
+        return Some(token);
+    }
+    if let Some(token) = value_token(word) {
+        return Some(token);
+    }
+    if let Some(number) = place_of(word) {
+        return Some(Token::Number(number));
+    }
+    if let Some(token) = sized_place_of(word) {
+        return Some(token);
+    }
+    if let Some(token) = range_of(word) {
+        return Some(token);
+    }
+    if let Some(token) = short_net_of(word) {
+        return Some(token);
+    }
+    hardware_of(word)
 }
