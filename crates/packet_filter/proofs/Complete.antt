@@ -112,10 +112,10 @@ ether_value (token.Hardware a) d p e = (a, refl)
 ether_value _ d p e = cc
 
 -- a primitive that has begun takes values with a head
-record Takes (q : Partial) (h : Head) : Type 0 where
-  value : (w : Token) (p : Primitive) → value_of w h ≡ Some p → (ws : List Waiting) (out : List Step) (rest : List Token) → outcome (w ∷ rest) (amid q ws out) ≡ outcome rest (put p h ws out)
-  negation : (ws : List Waiting) (out : List Step) (rest : List Token) → outcome (token.Not ∷ rest) (amid q ws out) ≡ outcome rest (expects h true (waiting.Not ∷ waiting.Head ∷ ws) out)
-  group : (ws : List Waiting) (out : List Step) (rest : List Token) → outcome (token.Open ∷ rest) (amid q ws out) ≡ outcome rest (expects h true (waiting.Open h true ∷ waiting.Head ∷ ws) out)
+pub record Takes (q : Partial) (h : Head) : Type 0 where
+  pub value : (w : Token) (p : Primitive) → value_of w h ≡ Some p → (ws : List Waiting) (out : List Step) (rest : List Token) → outcome (w ∷ rest) (amid q ws out) ≡ outcome rest (put p h ws out)
+  pub negation : (ws : List Waiting) (out : List Step) (rest : List Token) → outcome (token.Not ∷ rest) (amid q ws out) ≡ outcome rest (expects h true (waiting.Not ∷ waiting.Head ∷ ws) out)
+  pub group : (ws : List Waiting) (out : List Step) (rest : List Token) → outcome (token.Open ∷ rest) (amid q ws out) ≡ outcome rest (expects h true (waiting.Open h true ∷ waiting.Head ∷ ws) out)
 
 value_read : (h : Head) (w : Token) (p : Primitive) → value_of w h ≡ Some p → (ws : List Waiting) (out : List Step) (rest : List Token) → outcome (w ∷ rest) (amid (partial.Value h) ws out) ≡ outcome rest (put p h ws out)
 value_read h (token.Address a) p e ws out rest = ap (λ o. and_then (step_progress (found h o) None (token.Address a) ws out) (outcome rest)) e
@@ -128,7 +128,7 @@ value_read h (token.Hardware a) p e ws out rest = ap (λ o. and_then (step_progr
 value_read h (token.TypeName n) p e ws out rest = ap (λ o. and_then (step_progress (found h o) None (token.TypeName n) ws out) (outcome rest)) e
 value_read h _ p e ws out rest = cc
 
-head_takes : (h : Head) → Takes (partial.Value h) h
+pub head_takes : (h : Head) → Takes (partial.Value h) h
 head_takes h = record { value = value_read h; negation = λ ws out rest. refl; group = λ ws out rest. refl }
 
 -- an address after a direction
@@ -137,14 +137,14 @@ host_read s d n f w p e ws out rest =
     let x = host_value w n (Some d) p e in
     subst (λ u. value_of u (head.Host n (Some d)) ≡ Some p → outcome (u ∷ rest) (amid (partial.Directed s d) ws out) ≡ outcome rest (put p (head.Host n (Some d)) ws out)) (sym x.1) (λ g. f x.0 (Some p) ws out rest g) e
 
-any_takes : (d : Direction) → Takes (partial.Directed scope.Any d) (head.Host None (Some d))
+pub any_takes : (d : Direction) → Takes (partial.Directed scope.Any d) (head.Host None (Some d))
 any_takes d = record {
   value = host_read scope.Any d None (λ a o ws out rest e. ap (λ y. and_then (step_progress (found (head.Host None (Some d)) y) None (token.Address a) ws out) (outcome rest)) e);
   negation = λ ws out rest. refl;
   group = λ ws out rest. refl;
 }
 
-network_takes : (n : Network) (d : Direction) → Takes (partial.Directed (scope.Network n) d) (head.Host (Some n) (Some d))
+pub network_takes : (n : Network) (d : Direction) → Takes (partial.Directed (scope.Network n) d) (head.Host (Some n) (Some d))
 network_takes n d = record {
   value = host_read (scope.Network n) d (Some n) (λ a o ws out rest e. ap (λ y. and_then (step_progress (found (head.Host (Some n) (Some d)) y) None (token.Address a) ws out) (outcome rest)) e);
   negation = λ ws out rest. refl;
@@ -156,7 +156,7 @@ station_read d w p e ws out rest =
     let x = ether_value w (Some d) p e in
     subst (λ u. value_of u (head.Ether (Some d)) ≡ Some p → outcome (u ∷ rest) (amid (partial.Directed scope.Ether d) ws out) ≡ outcome rest (put p (head.Ether (Some d)) ws out)) (sym x.1) (λ f. ap (λ o. and_then (step_progress (found (head.Ether (Some d)) o) None (token.Hardware x.0) ws out) (outcome rest)) f) e
 
-ether_takes : (d : Direction) → Takes (partial.Directed scope.Ether d) (head.Ether (Some d))
+pub ether_takes : (d : Direction) → Takes (partial.Directed scope.Ether d) (head.Ether (Some d))
 ether_takes d = record { value = station_read d; negation = λ ws out rest. refl; group = λ ws out rest. refl }
 
 -- the words of a head lead to a primitive that takes its values
@@ -195,7 +195,7 @@ head_read words h (directed (Some n) d) = record { to = partial.Directed (scope.
 head_read words h (ether_directed d) = record { to = partial.Directed scope.Ether d; takes = ether_takes d; read = λ g ws out rest. direction_read d scope.Ether g ws out rest }
 
 -- a value alone begins nothing else
-value_alone : (only : Bool) (w : Token) (h : Head) (p : Primitive) → value_of w h ≡ Some p → (ws : List Waiting) (out : List Step) → step_operand h only w ws out ≡ Some (put p h ws out)
+pub value_alone : (only : Bool) (w : Token) (h : Head) (p : Primitive) → value_of w h ≡ Some p → (ws : List Waiting) (out : List Step) → step_operand h only w ws out ≡ Some (put p h ws out)
 value_alone true (token.Address a) h p e ws out = ap (λ o. on_progress (found h o) ws out) e
 value_alone true (token.Prefix a n) h p e ws out = ap (λ o. on_progress (found h o) ws out) e
 value_alone true (token.Number n) h p e ws out = ap (λ o. on_progress (found h o) ws out) e

@@ -1,35 +1,57 @@
 -- What can follow the words that were read.
-use Rattle.std.proofs.Common.{zero, suc, lit≤, ◌≡◌, ℕ, List, [], ◌∷◌, ◌++◌, Option, Some, None, refl, sym, ap, ◌∙◌, subst, append_assoc}
+use Rattle.std.proofs.Common.{zero, suc, lit≤, ◌≡◌, ℕ, Bool, true, false, List, [], ◌∷◌, ◌++◌, Option, Some, None, refl, sym, ap, ◌∙◌, subst, append_assoc, inr, arith}
 use Rattle.std.proofs.lemmas.List.{append-nil}
-use Rattle.std.specs.Prelude.{codes}
+use Rattle.std.specs.Prelude.{bit_or, codes}
 use Rattle.std.proofs.lemmas.Fmt.{decimal_digit}
-use Rattle.std.specs.Net.Addr.{ipv4_bits}
+use Rattle.std.specs.Net.Addr.{ipv4_bits, ipv6_bits}
 use Rattle.std.specs.Net.Text.{dotted_text}
 use Rattle.std.specs.declared.net.ip_addr.IpAddr.TheVariants as Ip
+use Rattle.packet_filter.specs.Addresses.{IsAddress, SpellsAddress}
 use Rattle.packet_filter.specs.Language.{AreSpelled}
-use Rattle.packet_filter.specs.Text.{IsAddress, operator_of, protocol_of, qualifier_of, words_of}
-use Rattle.packet_filter.proofs.Sound.{Opens, Read, Stands, StandsAt, read_at_end, stands_on}
+use Rattle.packet_filter.specs.Names.{names}
+use Rattle.packet_filter.specs.Text.{Spells, words_of}
+use Rattle.packet_filter.specs.Values.{values}
+use Rattle.packet_filter.proofs.Complete.{EndsOperand, Takes, alone_ends, amid, any_takes, ether_takes, expects, head_takes, network_takes, value_alone}
+use Rattle.packet_filter.proofs.Sound.{Amid, Begun, Opens, Read, Stands, StandsAt, read_at_end, stands_on}
 use Rattle.packet_filter.specs.Meaning.{Expression}
 use Rattle.packet_filter.proofs.Runs.{then_some}
-use Rattle.packet_filter.specs.Grammar.{IsExpression}
-use Rattle.packet_filter.specs.Private.Machine.{State, complete, outcome, step_of}
-use Rattle.packet_filter.specs.declared.address.Address.TheVariants.{V4}
+use Rattle.packet_filter.specs.Program.{and_then}
+use Rattle.packet_filter.specs.Grammar.{IsExpression, ethernet_broadcast, first_head, value_of}
+use Rattle.packet_filter.specs.Private.Machine.{State, complete, joined, outcome, put, step_of}
+use Rattle.packet_filter.specs.declared.address.Address.TheVariants.{V4, V6}
+use Rattle.packet_filter.specs.declared.expression.Direction.{Direction}
+use Rattle.packet_filter.specs.declared.expression.Layer.{Layer}
+use Rattle.packet_filter.specs.declared.expression.Network.{Network}
+use Rattle.packet_filter.specs.declared.expression.Network.TheVariants as network
 use Rattle.packet_filter.specs.declared.expression.Operator.{Operator as Joiner}
 use Rattle.packet_filter.specs.declared.expression.Operator.TheVariants.{And, Or}
 use Rattle.packet_filter.specs.declared.expression.Primitive.{Primitive}
 use Rattle.packet_filter.specs.declared.expression.Primitive.TheVariants as says
+use Rattle.packet_filter.specs.declared.expression.Quantity.{Quantity}
+use Rattle.packet_filter.specs.declared.expression.Quantity.TheVariants.{Length, Load}
+use Rattle.packet_filter.specs.declared.expression.Relation.TheVariants as relation
+use Rattle.packet_filter.specs.declared.expression.Size.{Size}
+use Rattle.packet_filter.specs.declared.expression.Size.TheVariants.{One}
+use Rattle.packet_filter.specs.declared.expression.Version.TheVariants as version
 use Rattle.packet_filter.specs.declared.filter.Step.{Step}
 use Rattle.packet_filter.specs.declared.filter.Step.TheVariants as step
+use Rattle.packet_filter.specs.declared.head.Head.{Head}
+use Rattle.packet_filter.specs.declared.head.Head.TheVariants as head
 use Rattle.packet_filter.specs.declared.machine.Doing.{Doing}
 use Rattle.packet_filter.specs.declared.machine.Doing.TheVariants.{Operand, Within, Operator}
-use Rattle.packet_filter.specs.declared.machine.Partial.{Partial}
-use Rattle.packet_filter.specs.declared.machine.Partial.TheVariants as partial
 use Rattle.packet_filter.specs.declared.machine.Waiting.{Waiting}
 use Rattle.packet_filter.specs.declared.machine.Waiting.TheVariants as waiting
+use Rattle.packet_filter.specs.declared.partial.Partial.{Partial}
+use Rattle.packet_filter.specs.declared.partial.Partial.TheVariants as partial
+use Rattle.packet_filter.specs.declared.partial.Scope.{Scope}
+use Rattle.packet_filter.specs.declared.partial.Scope.TheVariants as scope
+use Rattle.packet_filter.specs.declared.partial.Use.{Use}
+use Rattle.packet_filter.specs.declared.partial.Use.TheVariants.{Limit, Masking}
 use Rattle.packet_filter.specs.declared.token.Token.{Token}
 use Rattle.packet_filter.specs.declared.token.Token.TheVariants as token
 
--- closing parentheses, and their text
+-- ---- closing parentheses, and their text
+
 abbrev closings : ℕ → List Token
 closings zero = []
 closings (suc n) = token.Close ∷ closings n
@@ -39,15 +61,20 @@ parens zero = []
 parens (suc n) = 41 ∷ parens n
 
 closed : (n : ℕ) → AreSpelled (words_of (parens n)) (closings n)
-unfolding operator_of
+unfolding names
 closed zero = tt
 closed (suc n) = (refl, closed n)
+
+closing : (n : ℕ) → EndsOperand (closings n)
+closing zero = tt
+closing (suc n) = tt
 
 -- how many close what waits
 abbrev open_in : List Waiting → ℕ
 open_in [] = zero
-open_in (waiting.Open ∷ ws) = suc (open_in ws)
+open_in (waiting.Open h only ∷ ws) = suc (open_in ws)
 open_in (waiting.Not ∷ ws) = open_in ws
+open_in (waiting.Head ∷ ws) = open_in ws
 open_in (waiting.Operator o ∷ ws) = open_in ws
 
 -- they end the expression
@@ -55,92 +82,106 @@ record Ends (us : List Token) (s : State) : Type 0 where
   steps : List Step
   ends : outcome us s ≡ Some steps
 
-closes_first : (c : Option Joiner) (ws : List Waiting) (out : List Step) (us : List Token) → outcome (token.Close ∷ us) (record { doing = Operator c; waiting = waiting.Open ∷ ws; steps = out }) ≡ outcome us (complete ws out)
-closes_first None ws out us = refl
-closes_first (Some And) ws out us = refl
-closes_first (Some Or) ws out us = refl
+closes_first : (c : Option Joiner) (h g : Head) (only : Bool) (ws : List Waiting) (out : List Step) (us : List Token) → outcome (token.Close ∷ us) (record { doing = Operator c h; waiting = waiting.Open g only ∷ ws; steps = out }) ≡ outcome us (complete g ws out)
+closes_first None h g only ws out us = refl
+closes_first (Some And) h g only ws out us = refl
+closes_first (Some Or) h g only ws out us = refl
 
-closed_up : (ws : List Waiting) (ts : List Token) (out x : List Step) → Opens ws ts out → Ends (closings (open_in ws)) (complete ws x)
-closed_up [] ts out x h = record { steps = x; ends = refl }
-closed_up (waiting.Open ∷ ws) ts out x h = let e = closed_up ws h.0 out x h.2 in record { steps = e.steps; ends = e.ends }
-closed_up (waiting.Not ∷ ws) ts out x h = closed_up ws h.0 out (x ++ step.Not ∷ []) h.2
-closed_up (waiting.Operator o ∷ []) ts out x h = record { steps = x ++ step.Operator o ∷ []; ends = refl }
-closed_up (waiting.Operator o ∷ waiting.Open ∷ ws) ts out x h =
-    let e = closed_up ws h.8.0 h.1 (x ++ step.Operator o ∷ []) h.8.2 in
-    record { steps = e.steps; ends = closes_first (Some o) ws (x ++ step.Operator o ∷ []) (closings (open_in ws)) ∙ e.ends }
-closed_up (waiting.Operator o ∷ waiting.Not ∷ ws) ts out x h = absurd h.6
-closed_up (waiting.Operator o ∷ waiting.Operator p ∷ ws) ts out x h = absurd h.6
+closed_up : (ws : List Waiting) (g h : Head) (only : Bool) (ts : List Token) (out x : List Step) → Opens ws g only ts out → Ends (closings (open_in ws)) (complete h ws x)
+closed_up [] g h only ts out x o = record { steps = x; ends = refl }
+closed_up (waiting.Open i v ∷ ws) g h only ts out x o = let e = closed_up ws i i v o.0 out x o.2 in record { steps = e.steps; ends = e.ends }
+closed_up (waiting.Not ∷ ws) g h only ts out x o = closed_up ws g h only o.0 out (x ++ step.Not ∷ []) o.2
+closed_up (waiting.Head ∷ ws) g h only ts out x o = closed_up ws o.5 h false o.0 out x o.6
+closed_up (waiting.Operator j ∷ []) g h only ts out x o = record { steps = x ++ step.Operator j ∷ []; ends = refl }
+closed_up (waiting.Operator j ∷ waiting.Open i v ∷ ws) g h only ts out x o =
+    let e = closed_up ws i i v o.9.0 o.1 (x ++ step.Operator j ∷ []) o.9.2 in
+    record { steps = e.steps; ends = closes_first (Some j) h i v ws (x ++ step.Operator j ∷ []) (closings (open_in ws)) ∙ e.ends }
+closed_up (waiting.Operator j ∷ waiting.Not ∷ ws) g h only ts out x o = absurd o.6
+closed_up (waiting.Operator j ∷ waiting.Head ∷ ws) g h only ts out x o = absurd o.6
+closed_up (waiting.Operator j ∷ waiting.Operator p ∷ ws) g h only ts out x o = absurd o.6
 
 -- ---- words that complete a primitive, and their text
-
-abbrev rest_of : Partial → List Token
-rest_of (partial.Version v) = token.Proto ∷ token.Number 0 ∷ []
-rest_of (partial.Transport t) = token.Port ∷ token.Number 0 ∷ []
-rest_of (partial.Directed t d) = token.Port ∷ token.Number 0 ∷ []
-rest_of (partial.Host d) = token.Address (V4 0) ∷ []
-rest_of (partial.Net d) = token.Prefix (V4 0) 0 ∷ []
-rest_of (partial.PortRange t d) = token.Range 0 0 ∷ []
-rest_of partial.First = token.Fragment ∷ []
-rest_of _ = token.Number 0 ∷ []
-
-abbrev rest_text : Partial → List ℕ
-rest_text (partial.Version v) = codes "proto 0 "
-rest_text (partial.Transport t) = codes "port 0 "
-rest_text (partial.Directed t d) = codes "port 0 "
-rest_text (partial.Host d) = codes "0.0.0.0 "
-rest_text (partial.Net d) = codes "0.0.0.0/0 "
-rest_text (partial.PortRange t d) = codes "0-0 "
-rest_text partial.First = codes "fragment "
-rest_text _ = codes "0 "
 
 dotted : codes "0.0.0.0" ≡ dotted_text 0 0 0 0
 dotted = ap (λ z. z ++ codes "." ++ z ++ codes "." ++ z ++ codes "." ++ z) (sym (decimal_digit 0 (lit≤ tt)))
 
-zeros : IsAddress (codes "0.0.0.0") (Some (V4 0))
+zeros_4 : IsAddress (codes "0.0.0.0") (Some (V4 0))
 unfolding ipv4_bits
-zeros = (
+zeros_4 = (
   Ip.V4 (record { octets = 0 ∷ 0 ∷ 0 ∷ 0 ∷ [] }),
   record { a = 0; b = 0; c = 0; d = 0; fit = (lit≤ tt, lit≤ tt, lit≤ tt, lit≤ tt); value = refl; spelled = dotted },
   refl,
 )
 
-rest_spelled : (p : Partial) (n : ℕ) → AreSpelled (words_of (rest_text p ++ parens n)) (rest_of p ++ closings n)
-unfolding operator_of protocol_of qualifier_of
-rest_spelled (partial.Version v) n = (refl, (refl, closed n))
-rest_spelled (partial.Transport t) n = (refl, (refl, closed n))
-rest_spelled (partial.Directed t d) n = (refl, (refl, closed n))
-rest_spelled (partial.Host d) n = (record { address = Some (V4 0); is = zeros; says = refl }, closed n)
-rest_spelled (partial.Net d) n = (record { address = Some (V4 0); is = zeros; says = refl }, closed n)
-rest_spelled _ n = (refl, closed n)
+zeros_6 : IsAddress (codes "::") (Some (V6 0))
+unfolding ipv6_bits
+zeros_6 = (
+  Ip.V6 (record { segments = 0 ∷ 0 ∷ 0 ∷ 0 ∷ 0 ∷ 0 ∷ 0 ∷ 0 ∷ [] }),
+  inr (record { head_text = []; tail_text = []; head = []; tail = []; spelled = refl; head_groups = refl; tail_groups = refl; room = lit≤ tt; value = refl }),
+  refl,
+)
 
--- the primitive is complete
-record Completes (p : Partial) : Type 0 where
-  made : Primitive
-  read : (ws : List Waiting) (out : List Step) (us : List Token) → outcome (rest_of p ++ us) (record { doing = Within p; waiting = ws; steps = out }) ≡ outcome us (complete ws (out ++ step.Test made ∷ []))
+-- a word, its text and a space, before any other text
+abbrev Says : List ℕ → Token → Type 0
+Says text w = (more : List ℕ) (ts : List Token) → AreSpelled (words_of more) ts → AreSpelled (words_of (text ++ more)) (w ∷ ts)
 
-completed_by : (p : Partial) → Completes p
-completed_by (partial.Version v) = record { made = says.Proto (Some v) 0; read = λ ws out us. refl }
-completed_by (partial.Transport t) = record { made = says.Ports (Some t) None 0 0; read = λ ws out us. refl }
-completed_by (partial.Directed None d) = record { made = says.Ports None (Some d) 0 0; read = λ ws out us. refl }
-completed_by (partial.Directed (Some t) d) = record { made = says.Ports (Some t) (Some d) 0 0; read = λ ws out us. refl }
-completed_by (partial.Host d) = record { made = says.Net d (V4 0) 32; read = λ ws out us. refl }
-completed_by (partial.Net d) = record { made = says.Net d (V4 0) 0; read = λ ws out us. refl }
-completed_by (partial.Port t d) = record { made = says.Ports t d 0 0; read = λ ws out us. refl }
-completed_by (partial.PortRange t d) = record { made = says.Ports t d 0 0; read = λ ws out us. refl }
-completed_by (partial.Proto v) = record { made = says.Proto v 0; read = λ ws out us. refl }
-completed_by partial.Vlan = record { made = says.Vlan (Some 0); read = λ ws out us. refl }
-completed_by partial.Less = record { made = says.Less 0; read = λ ws out us. refl }
-completed_by partial.Greater = record { made = says.Greater 0; read = λ ws out us. refl }
-completed_by partial.First = record { made = says.FirstFragment; read = λ ws out us. refl }
+says_4 : Says (codes "0.0.0.0 ") (token.Address (V4 0))
+unfolding names values
+says_4 more ts h = (record { address = Some (V4 0); is = zeros_4; says = refl }, h)
+
+says_6 : Says (codes ":: ") (token.Address (V6 0))
+unfolding names values
+says_6 more ts h = (record { address = Some (V6 0); is = zeros_6; says = refl }, h)
+
+says_number : Says (codes "0 ") (token.Number 0)
+unfolding names values
+says_number more ts h = (refl, h)
+
+says_range : Says (codes "0-0 ") (token.Range 0 0)
+unfolding names values
+says_range more ts h = (refl, h)
+
+says_type : Says (codes "2048 ") (token.Number 2048)
+unfolding names values
+says_type more ts h = (refl, h)
+
+says_hardware : Says (codes "00:00:00:00:00:00 ") (token.Hardware (0 ∷ 0 ∷ 0 ∷ 0 ∷ 0 ∷ 0 ∷ []))
+unfolding names values
+says_hardware more ts h = (refl, h)
+
+says_port : Says (codes "port ") token.Port
+unfolding names
+says_port more ts h = (refl, h)
+
+says_dst : Says (codes "dst ") token.Destination
+unfolding names
+says_dst more ts h = (refl, h)
+
+says_fragment : Says (codes "fragment ") token.Fragment
+unfolding names
+says_fragment more ts h = (refl, h)
+
+says_broadcast : Says (codes "broadcast ") token.Broadcast
+unfolding names
+says_broadcast more ts h = (refl, h)
+
+says_wrong : Says (codes "wrong ") token.Wrong
+unfolding names
+says_wrong more ts h = (refl, h)
+
+says_bracket : Says (codes "] ") token.CloseBracket
+unfolding names
+says_bracket more ts h = (refl, h)
+
+says_equal : Says (codes "= ") (token.Relation relation.Equal)
+unfolding names
+says_equal more ts h = (refl, h)
+
+says_close : Says (codes ") ") token.Close
+unfolding names
+says_close more ts h = (refl, h)
 
 -- ---- any state
-
--- what was read, and words that end the expression after it, are one
-ends_reading : (us ts : List Token) (s : State) (o : List Step) → Stands s ts → outcome us s ≡ Some o → Read (ts ++ us) o
-ends_reading [] ts s o h e = subst (λ l. Read l o) (sym (append-nil ts)) (read_at_end s o ts h e)
-ends_reading (u ∷ us) ts s o h e =
-    let n = then_some (step_of s u) (outcome us) o e in
-    subst (λ l. Read l o) (append_assoc ts (u ∷ []) us) (ends_reading us (ts ++ u ∷ []) n.0 o (stands_on s u ts n.0 h n.1) n.2)
 
 -- a text whose words end the expression
 record Rest (s : State) : Type 0 where
@@ -149,24 +190,132 @@ record Rest (s : State) : Type 0 where
   spelled : AreSpelled (words_of more) tokens
   ends : Ends tokens s
 
-fragment_spelled : (n : ℕ) → AreSpelled (words_of (codes "fragment " ++ parens n)) (token.Fragment ∷ closings n)
-unfolding operator_of protocol_of qualifier_of
-fragment_spelled n = (refl, closed n)
+-- one word, and then such a text
+go : (s next : State) (w : Token) (text : List ℕ) → ((us : List Token) → outcome (w ∷ us) s ≡ outcome us next) → Says text w → Rest next → Rest s
+go s next w text read x r = record {
+  more = text ++ r.more;
+  tokens = w ∷ r.tokens;
+  spelled = x r.more r.tokens r.spelled;
+  ends = record { steps = r.ends.steps; ends = read r.tokens ∙ r.ends.ends };
+}
+
+-- an operand is complete
+closed_rest : (ws : List Waiting) (g h : Head) (only : Bool) (ts : List Token) (out x : List Step) → Opens ws g only ts out → Rest (complete h ws x)
+closed_rest ws g h only ts out x o = record { more = parens (open_in ws); tokens = closings (open_in ws); spelled = closed (open_in ws); ends = closed_up ws g h only ts out x o }
+
+abbrev Closes : List Waiting → Type 0
+Closes ws = (h : Head) (x : List Step) → Rest (complete h ws x)
+
+-- a value of a head
+record HasValue (h : Head) : Type 0 where
+  word : Token
+  text : List ℕ
+  says : Says text word
+  primitive : Primitive
+  is : value_of word h ≡ Some primitive
+
+a_value : (h : Head) (w : Token) (text : List ℕ) → Says text w → (p : Primitive) → value_of w h ≡ Some p → HasValue h
+a_value h w text x p e = record { word = w; text = text; says = x; primitive = p; is = e }
+
+host_value : (n : Option Network) (d : Option Direction) → HasValue (head.Host n d)
+host_value None d = a_value _ (token.Address (V4 0)) (codes "0.0.0.0 ") says_4 _ refl
+host_value (Some (network.Ip version.Ipv4)) d = a_value _ (token.Address (V4 0)) (codes "0.0.0.0 ") says_4 _ refl
+host_value (Some (network.Ip version.Ipv6)) d = a_value _ (token.Address (V6 0)) (codes ":: ") says_6 _ refl
+host_value (Some network.Arp) d = a_value _ (token.Address (V4 0)) (codes "0.0.0.0 ") says_4 _ refl
+host_value (Some network.Rarp) d = a_value _ (token.Address (V4 0)) (codes "0.0.0.0 ") says_4 _ refl
+
+net_value : (n : Option Network) (d : Option Direction) → HasValue (head.Net n d)
+net_value None d = a_value _ (token.Address (V4 0)) (codes "0.0.0.0 ") says_4 _ refl
+net_value (Some (network.Ip version.Ipv4)) d = a_value _ (token.Address (V4 0)) (codes "0.0.0.0 ") says_4 _ refl
+net_value (Some (network.Ip version.Ipv6)) d = a_value _ (token.Address (V6 0)) (codes ":: ") says_6 _ refl
+net_value (Some network.Arp) d = a_value _ (token.Address (V4 0)) (codes "0.0.0.0 ") says_4 _ refl
+net_value (Some network.Rarp) d = a_value _ (token.Address (V4 0)) (codes "0.0.0.0 ") says_4 _ refl
+
+has_value : (h : Head) → HasValue h
+has_value (head.Host n d) = host_value n d
+has_value (head.Net n d) = net_value n d
+has_value (head.Port t d) = a_value _ (token.Number 0) (codes "0 ") says_number _ refl
+has_value (head.PortRange t d) = a_value _ (token.Range 0 0) (codes "0-0 ") says_range _ refl
+has_value (head.Proto v) = a_value _ (token.Number 0) (codes "0 ") says_number _ refl
+has_value (head.Ether d) = a_value _ (token.Hardware (0 ∷ 0 ∷ 0 ∷ 0 ∷ 0 ∷ 0 ∷ [])) (codes "00:00:00:00:00:00 ") says_hardware _ refl
+has_value head.EtherProto = a_value _ (token.Number 2048) (codes "2048 ") says_type _ refl
+
+value_rest : (q : Partial) (h : Head) (ws : List Waiting) (out : List Step) → Takes q h → Closes ws → Rest (amid q ws out)
+value_rest q h ws out t k = let v = has_value h in go _ (put v.primitive h ws out) v.word v.text (λ us. t.value v.word v.primitive v.is ws out us) v.says (k _ _)
+
+directed_rest : (s : Scope) (d : Direction) (ws : List Waiting) (out : List Step) → Closes ws → Rest (amid (partial.Directed s d) ws out)
+directed_rest scope.Any d ws out k = value_rest _ _ ws out (any_takes d) k
+directed_rest (scope.Network n) d ws out k = value_rest _ _ ws out (network_takes n d) k
+directed_rest (scope.Transport t) d ws out k = go _ (amid (partial.Value (head.Port (Some t) (Some d))) ws out) _ _ (λ us. refl) says_port (value_rest _ _ ws out (head_takes _) k)
+directed_rest scope.Ether d ws out k = value_rest _ _ ws out (ether_takes d) k
+
+joined_rest : (s : Scope) (o : Joiner) (ws : List Waiting) (out : List Step) → Closes ws → Rest (amid (partial.Joined s o) ws out)
+joined_rest s o ws out k = go _ (amid (partial.Directed s (joined o)) ws out) _ _ (λ us. refl) says_dst (directed_rest s (joined o) ws out k)
+
+term_rest : (q : Quantity) (mask : Option ℕ) (ws : List Waiting) (out : List Step) → Closes ws → Rest (amid (partial.Term q mask) ws out)
+term_rest q mask ws out k = go _ (amid (partial.Constant (Limit q mask relation.Equal)) ws out) _ _ (λ us. refl) says_equal (go _ (put (says.Compare q mask relation.Equal 0) first_head ws out) _ _ (λ us. refl) says_number (k _ _))
+
+constant_rest : (u : Use) (ws : List Waiting) (out : List Step) → Closes ws → Rest (amid (partial.Constant u) ws out)
+constant_rest (Masking q) ws out k = go _ (amid (partial.Term q (Some 0)) ws out) _ _ (λ us. refl) says_number (term_rest q (Some 0) ws out k)
+constant_rest (Limit q mask r) ws out k = go _ (put (says.Compare q mask r 0) first_head ws out) _ _ (λ us. refl) says_number (k _ _)
+
+listed_rest : (u : Use) (bits : ℕ) (ws : List Waiting) (out : List Step) → Closes ws → Rest (amid (partial.Listed u bits) ws out)
+listed_rest (Masking q) bits ws out k = go _ (amid (partial.Term q (Some bits)) ws out) _ _ (λ us. refl) says_close (term_rest q (Some bits) ws out k)
+listed_rest (Limit q mask r) bits ws out k = go _ (put (says.Compare q mask r bits) first_head ws out) _ _ (λ us. refl) says_close (k _ _)
+
+placed_rest : (l : Layer) (place : ℕ) (size : Size) (ws : List Waiting) (out : List Step) → Closes ws → Rest (amid (partial.Placed l place size) ws out)
+placed_rest l place size ws out k = go _ (amid (partial.Term (Load l place size) None) ws out) _ _ (λ us. refl) says_bracket (term_rest _ None ws out k)
+
+rest_within : (p : Partial) (ws : List Waiting) (out : List Step) (words : List Token) → Begun p words → Closes ws → ((w : Token) → p ≡ partial.Word w → Rest (amid p ws out)) → Rest (amid p ws out)
+rest_within (partial.Word w) ws out words b k f = f w refl
+rest_within partial.Ether ws out words b k f = go _ (put ethernet_broadcast first_head ws out) _ _ (λ us. refl) says_broadcast (k _ _)
+rest_within (partial.Directed s d) ws out words b k f = directed_rest s d ws out k
+rest_within (partial.Joined s o) ws out words b k f = joined_rest s o ws out k
+rest_within (partial.Value h) ws out words b k f = value_rest _ h ws out (head_takes h) k
+rest_within partial.Less ws out words b k f = go _ (put (says.Compare Length None relation.LessOrEqual 0) first_head ws out) _ _ (λ us. refl) says_number (k _ _)
+rest_within partial.Greater ws out words b k f = go _ (put (says.Compare Length None relation.GreaterOrEqual 0) first_head ws out) _ _ (λ us. refl) says_number (k _ _)
+rest_within partial.First ws out words b k f = go _ (put says.FirstFragment first_head ws out) _ _ (λ us. refl) says_fragment (k _ _)
+rest_within partial.Checksum ws out words b k f = go _ (put says.WrongChecksum first_head ws out) _ _ (λ us. refl) says_wrong (k _ _)
+rest_within (partial.Bracket l) ws out words b k f = go _ (amid (partial.Placed l 0 One) ws out) _ _ (λ us. refl) says_number (placed_rest l 0 One ws out k)
+rest_within (partial.Placed l place size) ws out words b k f = placed_rest l place size ws out k
+rest_within (partial.Term q mask) ws out words b k f = term_rest q mask ws out k
+rest_within (partial.Constant u) ws out words b k f = constant_rest u ws out k
+rest_within (partial.Opened u) ws out words b k f = go _ (amid (partial.Listed u 0) ws out) _ _ (λ us. refl) says_number (listed_rest u 0 ws out k)
+rest_within (partial.Listed u bits) ws out words b k f = listed_rest u bits ws out k
+rest_within (partial.Bar u bits) ws out words b k f = go _ (amid (partial.Listed u (bit_or bits 0)) ws out) _ _ (λ us. refl) says_number (listed_rest u (bit_or bits 0) ws out k)
+
+-- a word that stands alone is complete
+word_rest : (p : Partial) (ws : List Waiting) (out : List Step) (ts : List Token) (m : Amid p ws out ts) (w : Token) → p ≡ partial.Word w → Rest (amid p ws out)
+word_rest p ws out ts m w e =
+    let b : Begun (partial.Word w) m.words = subst (λ q. Begun q m.words) e m.begun in
+    let c = closed_up ws m.head first_head false m.before out (out ++ step.Test b.0 ∷ []) m.opens in
+    record {
+      more = parens (open_in ws);
+      tokens = closings (open_in ws);
+      spelled = closed (open_in ws);
+      ends = record { steps = c.steps; ends = subst (λ q. outcome (closings (open_in ws)) (amid q ws out) ≡ Some c.steps) (sym e) (alone_ends w b.0 ws out (closings (open_in ws)) b.1 (closing (open_in ws)) ∙ c.ends) };
+    }
+
+operand_rest : (only : Bool) (h : Head) (ws : List Waiting) (out : List Step) → Closes ws → Rest (expects h only ws out)
+operand_rest only h ws out k = let v = has_value h in go _ (put v.primitive h ws out) v.word v.text (λ us. ap (λ o. and_then o (outcome us)) (value_alone only v.word h v.primitive v.is ws out)) v.says (k _ _)
 
 rest_after : (d : Doing) (ws : List Waiting) (out : List Step) (ts : List Token) → StandsAt d ws out ts → Rest (record { doing = d; waiting = ws; steps = out })
-rest_after Operand ws out ts h =
-    let e = closed_up ws ts out (out ++ step.Test says.Fragment ∷ []) h in
-    record { more = codes "fragment " ++ parens (open_in ws); tokens = token.Fragment ∷ closings (open_in ws); spelled = fragment_spelled (open_in ws); ends = record { steps = e.steps; ends = e.ends } }
-rest_after (Within p) ws out ts m =
-    let c = completed_by p in
-    let e = closed_up ws m.before out (out ++ step.Test c.made ∷ []) m.opens in
-    record { more = rest_text p ++ parens (open_in ws); tokens = rest_of p ++ closings (open_in ws); spelled = rest_spelled p (open_in ws); ends = record { steps = e.steps; ends = c.read ws out (closings (open_in ws)) ∙ e.ends } }
-rest_after (Operator c) [] out ts b = record { more = []; tokens = []; spelled = tt; ends = record { steps = out; ends = refl } }
-rest_after (Operator c) (waiting.Open ∷ ws) out ts b =
-    let e = closed_up ws b.opens.0 b.steps out b.opens.2 in
-    record { more = parens (suc (open_in ws)); tokens = closings (suc (open_in ws)); spelled = closed (suc (open_in ws)); ends = record { steps = e.steps; ends = closes_first c ws out (closings (open_in ws)) ∙ e.ends } }
-rest_after (Operator c) (waiting.Not ∷ ws) out ts b = absurd b.base
-rest_after (Operator c) (waiting.Operator o ∷ ws) out ts b = absurd b.base
+rest_after (Operand h only) ws out ts o = operand_rest only h ws out (λ i x. closed_rest ws h i only ts out x o)
+rest_after (Within p) ws out ts m = rest_within p ws out m.words m.begun (λ i x. closed_rest ws m.head i false m.before out x m.opens) (word_rest p ws out ts m)
+rest_after (Operator c h) [] out ts b = record { more = []; tokens = []; spelled = tt; ends = record { steps = out; ends = refl } }
+rest_after (Operator c h) (waiting.Open g only ∷ ws) out ts b =
+    let e = closed_up ws g g only b.opens.0 b.steps out b.opens.2 in
+    record { more = parens (suc (open_in ws)); tokens = closings (suc (open_in ws)); spelled = closed (suc (open_in ws)); ends = record { steps = e.steps; ends = closes_first c h g only ws out (closings (open_in ws)) ∙ e.ends } }
+rest_after (Operator c h) (waiting.Not ∷ ws) out ts b = absurd b.base
+rest_after (Operator c h) (waiting.Head ∷ ws) out ts b = absurd b.base
+rest_after (Operator c h) (waiting.Operator o ∷ ws) out ts b = absurd b.base
+
+-- what was read, and words that end the expression after it, are one
+ends_reading : (us ts : List Token) (s : State) (o : List Step) → Stands s ts → outcome us s ≡ Some o → Read (ts ++ us) o
+ends_reading [] ts s o h e = subst (λ l. Read l o) (sym (append-nil ts)) (read_at_end s o ts h e)
+ends_reading (u ∷ us) ts s o h e =
+    let n = then_some (step_of s u) (outcome us) o e in
+    subst (λ l. Read l o) (append_assoc ts (u ∷ []) us) (ends_reading us (ts ++ u ∷ []) n.0 o (stands_on s u ts n.0 h n.1) n.2)
 
 -- a text whose words make an expression together with what was read
 pub record GoesOn (ts : List Token) : Type 0 where

@@ -1,9 +1,11 @@
 -- Words say one thing each.
 use Rattle.std.proofs.Common.{◌≡◌, ℕ, List, [], ◌∷◌, ◌++◌, Option, Some, None, refl, sym, ap, ◌∙◌}
-use Rattle.std.specs.Prelude.{if◌then◌else◌, length, MatchOption, nat_lt}
+use Rattle.std.specs.Prelude.{if◌then◌else◌, MatchOption}
 use Rattle.std.proofs.NetLemmas.Theorems.{IsIpText_unique}
+use Rattle.packet_filter.specs.Addresses.{IsAddress, SpellsAddress, address_of, addressed, prefixed}
 use Rattle.packet_filter.specs.Language.{AreSpelled}
-use Rattle.packet_filter.specs.Text.{IsAddress, Spells, SpellsAddress, address_of, addressed, before, beyond, keyword_of, number_of, place_of, prefixed, slash}
+use Rattle.packet_filter.specs.Numbers.{before, beyond, has, number_of, slash}
+use Rattle.packet_filter.specs.Text.{Spells, keyword_of}
 use Rattle.packet_filter.specs.declared.address.Address.{Address}
 use Rattle.packet_filter.specs.declared.token.Token.{Token}
 
@@ -14,7 +16,7 @@ one_address word None (Some b) x y = absurd (x y.0 y.1)
 one_address word (Some a) (Some b) x y = ap Some (x.2 ∙ ap address_of (IsIpText_unique word x.0 y.0 x.1 y.1) ∙ sym y.2)
 
 abbrev spelling : List ℕ → Option Address → Token
-spelling word a = if nat_lt (place_of slash word) (length word) then prefixed a (number_of (beyond slash word)) else addressed a
+spelling word a = if has slash word then prefixed a (number_of (beyond slash word)) else addressed a
 
 one_of : (k : Option Token) (word : List ℕ) (t u : Token) → MatchOption k (SpellsAddress word t) (λ k. t ≡ k) → MatchOption k (SpellsAddress word u) (λ k. u ≡ k) → t ≡ u
 one_of (Some k) word t u x y = x ∙ sym y

@@ -1,6 +1,10 @@
+pub mod Addresses
 pub mod Grammar
 pub mod Language
 pub mod Meaning
+pub mod Names
+pub mod Numbers
 pub mod Private
 pub mod Program
 pub mod Text
+pub mod Values

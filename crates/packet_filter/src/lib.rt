@@ -2,16 +2,21 @@
 #![tactic(auto)]
 
 mod address;
+mod addresses;
 mod expression;
 mod filter;
 mod head;
 mod holds;
 mod laws;
 mod machine;
+mod names;
+mod number;
+mod numbers;
 mod partial;
 mod reading;
 mod text;
 mod token;
+mod values;
 
 pub use filter::Filter;
 pub use laws::one_reading;
