@@ -122,64 +122,64 @@ zeros_6 = (
 )
 
 -- a word, its text and a space, before any other text
-abbrev Says : List ℕ → Token → Type 0
-Says text w = (more : List ℕ) (ts : List Token) → AreSpelled (words_of more) ts → AreSpelled (words_of (text ++ more)) (w ∷ ts)
+record Says (text : List ℕ) (w : Token) : Type 0 where
+  spells : (more : List ℕ) (ts : List Token) → AreSpelled (words_of more) ts → AreSpelled (words_of (text ++ more)) (w ∷ ts)
 
 says_4 : Says (codes "0.0.0.0 ") (token.Address (V4 0))
 unfolding names values
-says_4 more ts h = (record { address = Some (V4 0); is = zeros_4; says = refl }, h)
+says_4 = record { spells = λ more ts h. (record { address = Some (V4 0); is = zeros_4; says = refl }, h) }
 
 says_6 : Says (codes ":: ") (token.Address (V6 0))
 unfolding names values
-says_6 more ts h = (record { address = Some (V6 0); is = zeros_6; says = refl }, h)
+says_6 = record { spells = λ more ts h. (record { address = Some (V6 0); is = zeros_6; says = refl }, h) }
 
 says_number : Says (codes "0 ") (token.Number 0)
 unfolding names values
-says_number more ts h = (refl, h)
+says_number = record { spells = λ more ts h. (refl, h) }
 
 says_range : Says (codes "0-0 ") (token.Range 0 0)
 unfolding names values
-says_range more ts h = (refl, h)
+says_range = record { spells = λ more ts h. (refl, h) }
 
 says_type : Says (codes "2048 ") (token.Number 2048)
 unfolding names values
-says_type more ts h = (refl, h)
+says_type = record { spells = λ more ts h. (refl, h) }
 
 says_hardware : Says (codes "00:00:00:00:00:00 ") (token.Hardware (0 ∷ 0 ∷ 0 ∷ 0 ∷ 0 ∷ 0 ∷ []))
 unfolding names values
-says_hardware more ts h = (refl, h)
+says_hardware = record { spells = λ more ts h. (refl, h) }
 
 says_port : Says (codes "port ") token.Port
 unfolding names
-says_port more ts h = (refl, h)
+says_port = record { spells = λ more ts h. (refl, h) }
 
 says_dst : Says (codes "dst ") token.Destination
 unfolding names
-says_dst more ts h = (refl, h)
+says_dst = record { spells = λ more ts h. (refl, h) }
 
 says_fragment : Says (codes "fragment ") token.Fragment
 unfolding names
-says_fragment more ts h = (refl, h)
+says_fragment = record { spells = λ more ts h. (refl, h) }
 
 says_broadcast : Says (codes "broadcast ") token.Broadcast
 unfolding names
-says_broadcast more ts h = (refl, h)
+says_broadcast = record { spells = λ more ts h. (refl, h) }
 
 says_wrong : Says (codes "wrong ") token.Wrong
 unfolding names
-says_wrong more ts h = (refl, h)
+says_wrong = record { spells = λ more ts h. (refl, h) }
 
 says_bracket : Says (codes "] ") token.CloseBracket
 unfolding names
-says_bracket more ts h = (refl, h)
+says_bracket = record { spells = λ more ts h. (refl, h) }
 
 says_equal : Says (codes "= ") (token.Relation relation.Equal)
 unfolding names
-says_equal more ts h = (refl, h)
+says_equal = record { spells = λ more ts h. (refl, h) }
 
 says_close : Says (codes ") ") token.Close
 unfolding names
-says_close more ts h = (refl, h)
+says_close = record { spells = λ more ts h. (refl, h) }
 
 -- ---- any state
 
@@ -195,7 +195,7 @@ go : (s next : State) (w : Token) (text : List ℕ) → ((us : List Token) → o
 go s next w text read x r = record {
   more = text ++ r.more;
   tokens = w ∷ r.tokens;
-  spelled = x r.more r.tokens r.spelled;
+  spelled = x.spells r.more r.tokens r.spelled;
   ends = record { steps = r.ends.steps; ends = read r.tokens ∙ r.ends.ends };
 }
 
