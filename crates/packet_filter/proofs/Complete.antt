@@ -5,7 +5,7 @@ use Rattle.std.proofs.lemmas.Bool.{le-leb}
 use Rattle.std.proofs.lemmas.List.{append-nil}
 use Rattle.packet_filter.specs.Meaning.{Expression, one, negation, compound}
 use Rattle.packet_filter.specs.Program.{and_then}
-use Rattle.packet_filter.specs.Grammar.{IsHead, host, directed, net, port, portrange, proto, ether_host, ether_directed, ether_proto, IsPrimitive, word, vlan, less, greater, ether_broadcast, ether_multicast, multicast, first_fragment, checksum_wrong, comparison, AreBits, single, with, IsConstant, number, list, IsTerm, len, load, masked_, grouped, Kind, operand, chain, Reads, primitive, headed, value, not_, parentheses, first, more, IsExpression, direction_words, network_words, transport_words, first_head, value_of, alone, layer_of, place_of}
+use Rattle.packet_filter.specs.Grammar.{IsHead, host, directed, net, port, portrange, proto, ether_host, ether_directed, ether_proto, IsPrimitive, word, vlan, less, greater, ether_broadcast, ether_multicast, multicast, first_fragment, checksum_wrong, comparison, AreBits, single, with, IsConstant, number, list, IsTerm, len, load, masked_, grouped, Kind, operand, chain, Reads, primitive, headed, value, not_, parentheses, first, more, IsExpression, direction_words, network_words, transport_words, first_head, value_of, alone, layer_of, loads_at}
 use Rattle.packet_filter.specs.Private.Machine.{State, complete, put, found, after_word, outcome, finish, finish_state, after, step_of, step_operand, step_progress, on_progress, completed, head_of, is_only, start, values_after, within_at}
 use Rattle.packet_filter.specs.declared.address.Address.{Address}
 use Rattle.packet_filter.specs.declared.expression.Direction.{Direction}
@@ -276,12 +276,12 @@ alone_begins _ a e g ws out rest = cc
 
 bracket_read : (w : Token) (l : Layer) → layer_of w ≡ Some l → (g : Head) (ws : List Waiting) (out : List Step) (rest : List Token) → outcome (w ∷ token.OpenBracket ∷ rest) (expects g false ws out) ≡ outcome rest (amid (partial.Bracket l) ws out)
 bracket_read token.Ether l e g ws out rest = ap (λ x. outcome rest (amid (partial.Bracket x) ws out)) (some_same _ l e)
-bracket_read (token.Network (network.Ip v)) l e g ws out rest = ap (λ x. outcome rest (amid (partial.Bracket x) ws out)) (some_same _ l e)
+bracket_read (token.Network n) l e g ws out rest = ap (λ x. outcome rest (amid (partial.Bracket x) ws out)) (some_same _ l e)
 bracket_read (token.Transport t) l e g ws out rest = ap (λ x. outcome rest (amid (partial.Bracket x) ws out)) (some_same _ l e)
 bracket_read (token.Protocol v k) l e g ws out rest = ap (λ x. outcome rest (amid (partial.Bracket x) ws out)) (some_same _ l e)
 bracket_read _ l e g ws out rest = cc
 
-place_read : (w : Token) (place : ℕ) (size : Size) → place_of w ≡ Some (place, size) → (l : Layer) (ws : List Waiting) (out : List Step) (rest : List Token) → outcome (w ∷ token.CloseBracket ∷ rest) (amid (partial.Bracket l) ws out) ≡ outcome rest (amid (partial.Term (quantity.Load l place size) None) ws out)
+place_read : (w : Token) (place : ℕ) (size : Size) → loads_at w ≡ Some (place, size) → (l : Layer) (ws : List Waiting) (out : List Step) (rest : List Token) → outcome (w ∷ token.CloseBracket ∷ rest) (amid (partial.Bracket l) ws out) ≡ outcome rest (amid (partial.Term (quantity.Load l place size) None) ws out)
 place_read (token.Number k) place size e l ws out rest = let x = some_same _ (place, size) e in ap (λ (z : ℕ × Size). outcome rest (amid (partial.Term (quantity.Load l z.0 z.1) None) ws out)) x
 place_read (token.Place k s) place size e l ws out rest = let x = some_same _ (place, size) e in ap (λ (z : ℕ × Size). outcome rest (amid (partial.Term (quantity.Load l z.0 z.1) None) ws out)) x
 place_read _ place size e l ws out rest = cc

@@ -5,7 +5,7 @@ use Rattle.std.proofs.lemmas.Bool.{leb-true}
 use Rattle.packet_filter.proofs.Complete.{postfix, IsBase, some_same}
 use Rattle.packet_filter.specs.Meaning.{Expression, one, negation, compound}
 use Rattle.packet_filter.specs.Program.{and_then}
-use Rattle.packet_filter.specs.Grammar.{IsHead, host, directed, net, port, portrange, proto, ether_host, ether_directed, ether_proto, IsPrimitive, word, vlan, less, greater, ether_broadcast, ether_multicast, multicast, first_fragment, checksum_wrong, comparison, AreBits, single, with, IsConstant, number, list, IsTerm, len, load, masked_, grouped, Kind, operand, chain, Reads, primitive, headed, value, not_, parentheses, first, more, IsExpression, direction_words, network_words, transport_words, first_head, value_of, alone, layer_of, place_of}
+use Rattle.packet_filter.specs.Grammar.{IsHead, host, directed, net, port, portrange, proto, ether_host, ether_directed, ether_proto, IsPrimitive, word, vlan, less, greater, ether_broadcast, ether_multicast, multicast, first_fragment, checksum_wrong, comparison, AreBits, single, with, IsConstant, number, list, IsTerm, len, load, masked_, grouped, Kind, operand, chain, Reads, primitive, headed, value, not_, parentheses, first, more, IsExpression, direction_words, network_words, transport_words, first_head, value_of, alone, layer_of, loads_at}
 use Rattle.packet_filter.specs.Private.Machine.{State, complete, put, found, valued, finish, finish_state, finish_at, finish_doing, after, after_doing, step_of, step_state, step_operand, step_operator, step_progress, step_within, completed, close, closes_term, tail_of, on_progress, or_value, chosen, operand_at, waiting_of, head_of, is_only, values_after, within_at, begin, next, whole, given, joined, start, after_network, after_transport, after_protocol, after_vlan, after_word, after_ether, after_any, after_of_network, after_of_transport, after_of_ether, after_scope, after_source, after_direction, after_joined, after_bracket, after_placed, after_and, after_term, after_use, after_opened, after_listed, after_bar}
 use Rattle.packet_filter.specs.declared.expression.Direction.{Direction}
 use Rattle.packet_filter.specs.declared.expression.Direction.TheVariants as direction
@@ -69,7 +69,7 @@ Begun partial.Greater words = words ≡ token.Greater ∷ []
 Begun partial.First words = words ≡ token.First ∷ []
 Begun partial.Checksum words = words ≡ token.Checksum ∷ []
 Begun (partial.Bracket l) words = Loads l words
-Begun (partial.Placed l place size) words = (ts : List Token) × Loads l ts × (at : Token) × (place_of at ≡ Some (place, size)) × (words ≡ ts ++ at ∷ [])
+Begun (partial.Placed l place size) words = (ts : List Token) × Loads l ts × (at : Token) × (loads_at at ≡ Some (place, size)) × (words ≡ ts ++ at ∷ [])
 Begun (partial.Term q mask) words = IsTerm words q mask
 Begun (partial.Constant u) words = Uses u words
 Begun (partial.Opened u) words = (ts : List Token) × Uses u ts × (words ≡ ts ++ token.Open ∷ [])
@@ -118,7 +118,7 @@ network_made g n token.Host = host (Some n) None
 network_made g n token.Net = net (Some n) None
 network_made g (network.Ip v) token.Proto = proto (Some v)
 network_made g (network.Ip v) token.Multicast = primitive (multicast v)
-network_made g (network.Ip v) token.OpenBracket = (token.Network (network.Ip v), refl, refl)
+network_made g n token.OpenBracket = (token.Network n, refl, refl)
 network_made g network.Arp _ = tt
 network_made g network.Rarp _ = tt
 network_made g (network.Ip v) _ = tt

@@ -163,18 +163,23 @@ alone _ = None
 -- ---- comparisons
 
 -- what bytes are loaded from
+abbrev pub network_layer : Network → Layer
+network_layer (network.Ip v) = layer.Ip v
+network_layer network.Arp = layer.Type 0x0806
+network_layer network.Rarp = layer.Type 0x8035
+
 abbrev pub layer_of : Token → Option Layer
 layer_of token.Ether = Some layer.Ether
-layer_of (token.Network (network.Ip v)) = Some (layer.Ip v)
+layer_of (token.Network n) = Some (network_layer n)
 layer_of (token.Transport t) = Some (layer.Payload None (transport_number t))
 layer_of (token.Protocol v number) = Some (layer.Payload v number)
 layer_of _ = None
 
 -- where, and how many bytes: one if the size is left out
-abbrev pub place_of : Token → Option (ℕ × Size)
-place_of (token.Number place) = Some (place, One)
-place_of (token.Place place size) = Some (place, size)
-place_of _ = None
+abbrev pub loads_at : Token → Option (ℕ × Size)
+loads_at (token.Number place) = Some (place, One)
+loads_at (token.Place place size) = Some (place, size)
+loads_at _ = None
 
 -- numbers with `|` between them, of whose bits each has one of them
 pub data AreBits : List Token → ℕ → Type 0 where
@@ -192,7 +197,7 @@ pub data IsConstant : List Token → ℕ → Type 0 where
 pub data IsTerm : List Token → Quantity → Option ℕ → Type 0 where
   len : IsTerm (token.Length ∷ []) Length None
   load : {word at : Token} {l : Layer} {place : ℕ} {size : Size} → layer_of word ≡ Some l
-      → place_of at ≡ Some (place, size)
+      → loads_at at ≡ Some (place, size)
       → IsTerm (word ∷ token.OpenBracket ∷ at ∷ token.CloseBracket ∷ []) (Load l place size) None
   masked_ : {words bits : List Token} {q : Quantity} {mask : ℕ} → IsTerm words q None
       → IsConstant bits mask → IsTerm (words ++ token.BitAnd ∷ bits) q (Some mask)

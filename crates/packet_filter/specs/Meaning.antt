@@ -196,6 +196,8 @@ Loads layer.Ether packet bytes = IsSomeAnd (ethernet_header packet.link)
     (λ front. bytes ≡ front ++ (concat (tags_of packet.vlan) ++ packet.payload.now))
 Loads (layer.Ip v) packet bytes =
     IsSomeAnd packet.net (λ ip. HasVersion v ip.header × (bytes ≡ ip_bytes ip))
+Loads (layer.Type number) packet bytes =
+    (packet.ether_type ≡ Some number) × (bytes ≡ packet.payload.now)
 Loads (layer.Payload v number) packet bytes = HasProto v number packet
     × IsSomeAnd packet.net (λ ip. IsFalse ip.is_later_fragment × (bytes ≡ ip.payload.now))
 

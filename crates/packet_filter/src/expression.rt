@@ -79,6 +79,8 @@ pub(crate) enum Layer {
     Ether,
     /// `ip` or `ip6`: the IP packet, from its header on.
     Ip(Version),
+    /// `arp` or `rarp`: what follows an EtherType of this number.
+    Type(u16),
     /// The name of a protocol: the payload of an IP packet of that version or either, if it has
     /// this number.
     Payload(Option<Version>, u8),

@@ -8,6 +8,7 @@ ghost use Rattle.packet_filter.specs.Meaning.{Compares, IsNumberAt, Loads, Tells
 use crate::expression::{Layer, Quantity, Relation, Size};
 use crate::holds::{has_proto, has_version};
 use etherparse::IpNumber;
+use packet::ether_type::EtherType;
 use packet::link::LinkSlice;
 use packet::sliced_packet::SlicedPacket;
 use packet::vlan::VlanSlice;
@@ -107,6 +108,17 @@ fn loads<'a>(layer: Layer, packet: &SlicedPacket<'a>) -> Option<Bytes<'a>>
                 second: ip.extensions,
                 third: &[],
                 last: ip.payload,
+            })
+        }
+        (Layer::Type(number), _, _) => {
+            if packet.ether_type != Some(EtherType(number)) {
+                return None;
+            }
+            Some(Bytes {
+                first: packet.payload,
+                second: &[],
+                third: &[],
+                last: &[],
             })
         }
         (Layer::Payload(version, number), Some(ip), _) => {

@@ -3,7 +3,7 @@
 ghost use Rattle.std.specs.Prelude.{◌≡◌};
 ghost use Rattle.packet_filter.specs.Grammar.{alone, bits_of, ethernet_broadcast};
 ghost use Rattle.packet_filter.specs.Grammar.{ethernet_multicast, fits, ip_multicast};
-ghost use Rattle.packet_filter.specs.Grammar.{network_primitive, value_of};
+ghost use Rattle.packet_filter.specs.Grammar.{network_layer, network_primitive, value_of};
 ghost use Rattle.packet_filter.specs.Meaning.{transport_number};
 ghost use Rattle.packet_filter.specs.Private.Machine.{after_any, after_direction, after_ether};
 ghost use Rattle.packet_filter.specs.Private.Machine.{after_listed, after_network, after_of_ether};
@@ -256,6 +256,17 @@ fn network_primitive(network: Network) -> Primitive
     }
 }
 
+// What is loaded from after a protocol's name.
+fn network_layer(network: Network) -> Layer
+    ensures value { result ≡ network_layer network }
+{
+    match network {
+        Network::Ip(version) => Layer::Ip(version),
+        Network::Arp => Layer::Type(0x0806),
+        Network::Rarp => Layer::Type(0x8035),
+    }
+}
+
 // The number of a transport protocol.
 fn transport_number(transport: Transport) -> u8
     ensures value { result ≡ transport_number transport }
@@ -407,9 +418,7 @@ fn after_network(network: Network, token: Token) -> Progress
             Progress::More(Partial::Value(Head::Proto(Some(version))))
         }
         (Network::Ip(version), Token::Multicast) => made(ip_multicast(version)),
-        (Network::Ip(version), Token::OpenBracket) => {
-            Progress::More(Partial::Bracket(Layer::Ip(version)))
-        }
+        (_, Token::OpenBracket) => Progress::More(Partial::Bracket(network_layer(network))),
         _ => Progress::Foreign,
     }
 }

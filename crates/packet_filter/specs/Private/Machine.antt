@@ -2,7 +2,7 @@
 use Rattle.std.specs.Prelude.{ℕ, ◌+◌, Bool, true, false, Option, Some, None, List, [], ◌∷◌, ◌++◌}
 use Rattle.std.specs.Prelude.{bit_or, if◌then◌else◌, length, nat_le}
 use Rattle.packet_filter.specs.Grammar.{alone, ethernet_broadcast, ethernet_multicast, first_head}
-use Rattle.packet_filter.specs.Grammar.{ip_multicast, value_of}
+use Rattle.packet_filter.specs.Grammar.{ip_multicast, network_layer, value_of}
 use Rattle.packet_filter.specs.Meaning.{transport_number}
 use Rattle.packet_filter.specs.Program.{and_then}
 use Rattle.packet_filter.specs.declared.expression.Direction.{Direction}
@@ -89,7 +89,7 @@ after_network n token.Host = More (partial.Value (head.Host (Some n) None))
 after_network n token.Net = More (partial.Value (head.Net (Some n) None))
 after_network (network.Ip v) token.Proto = More (partial.Value (head.Proto (Some v)))
 after_network (network.Ip v) token.Multicast = made (ip_multicast v)
-after_network (network.Ip v) token.OpenBracket = More (partial.Bracket (layer.Ip v))
+after_network n token.OpenBracket = More (partial.Bracket (network_layer n))
 after_network n _ = Foreign
 
 abbrev pub after_transport : Transport → Token → Progress
