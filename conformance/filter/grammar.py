@@ -262,7 +262,8 @@ NOT, AND, OR = ['not', '!'], ['and', '&&'], ['or', '||']
 class Network:
     """States and ways between them: a word to read, or an event to note without one."""
 
-    def __init__(self):
+    def __init__(self, host_left_out=True):
+        self.host_left_out = host_left_out
         self.by_word, self.silent, self.calls = [], [], []
         self.start = self.state()
         self.ends = set()
@@ -329,7 +330,8 @@ class Network:
         kinds = ['none', *ALONE_AFTER]
         first = {kind: self.state() for kind in kinds}
         self.operands(self.start, first)
-        self.lead(self.add(HOST_LEFT_OUT, self.nots(self.start)), first['host'])
+        if self.host_left_out:
+            self.lead(self.add(HOST_LEFT_OUT, self.nots(self.start)), first['host'])
         levels = [first]
         for name, operator in ('and', AND), ('or', OR):
             chain = {kind: self.state() for kind in kinds}
@@ -341,7 +343,8 @@ class Network:
                     self.lead(read, before, ('operator', name))
                 self.operands(before, chain)
                 if kind == 'none':
-                    self.lead(self.add(HOST_LEFT_OUT, self.nots(before)), chain['host'])
+                    if self.host_left_out:
+                        self.lead(self.add(HOST_LEFT_OUT, self.nots(before)), chain['host'])
                 else:
                     value_alone = ('primitive', 'listed', ALONE_AFTER[kind])
                     self.lead(self.add(value_alone, self.nots(before)), chain[kind])
@@ -390,36 +393,36 @@ def terminals(word):
 
 # ---- reading
 
-def step(ways, word):
+def step(network, ways, word):
     """all ways on with a word. A way is a state, the states to return to, and what was noted."""
     found = []
     for state, returns, noted in ways:
-        table = NETWORK.next_words[state]
+        table = network.next_words[state]
         for terminal in terminals(word):
             for after, events in table.get(terminal, ()):
                 found.append((after, returns, (noted, events, word)))
         if word == '(':
-            for after, events in NETWORK.next_calls[state]:
-                found.append((NETWORK.start, (returns, after), (noted, events, '(')))
+            for after, events in network.next_calls[state]:
+                found.append((network.start, (returns, after), (noted, events, '(')))
         elif word == ')' and returns:
             outer, after = returns
-            for events in NETWORK.at_end[state]:
+            for events in network.at_end[state]:
                 found.append((after, outer, (noted, events, ')')))
     return found
 
 
-def read(text):
+def read(text, network=NETWORK):
     """('ok', tree), ('unexpected', place), ('incomplete',) or ('too long',)"""
     words = words_of(text)
-    ways = [(NETWORK.start, None, None)]
+    ways = [(network.start, None, None)]
     for at, word in words[:MAX_WORDS]:
-        ways = step(ways, word)
+        ways = step(network, ways, word)
         if not ways:
             return 'unexpected', at
     if len(words) > MAX_WORDS:
         return 'too long',
     whole = [(noted, events, None) for state, returns, noted in ways if returns is None
-             for events in NETWORK.at_end[state]]
+             for events in network.at_end[state]]
     if not whole:
         return 'incomplete',
     trees = {tree_of(one) for one in whole}

@@ -1,0 +1,336 @@
+#!/usr/bin/env python3
+"""compare.py [--program ANSWERS] [--show N] < CASES
+
+Cases of the operation `filter` (random_cases.py), answered by the model here (grammar.py and
+meaning.py) and by libpcap. Without `--program` it tells where the two differ: for each intended
+difference how many pairs it is about, how many of them differ, and one that does. A difference that
+is not intended is shown, and the exit code is 1. So it is if `--program` is given, the file with
+the answers of crates/conformance to the same cases, and one of them is not the model's.
+
+libpcap reads the text itself. Where it refuses a text of the language, it gets the tree in its own
+words, and the refusal is counted by its reason. It knows nothing like `checksum wrong`."""
+import argparse
+import collections
+import ipaddress
+import re
+import socket
+import sys
+
+import grammar
+import meaning
+from libpcap import CompileError, Libpcap
+
+WITHOUT_ADDRESS_ALONE = grammar.Network(host_left_out=False).build()
+# words that libpcap would take for names of hosts, and ask the network for
+OWN_WORDS = {'fragment', 'first', 'checksum', 'wrong'}
+
+# ---- a tree in libpcap's words
+
+ENDS = {'either': 'src or dst', 'both': 'src and dst', 'src': 'src', 'dst': 'dst'}
+VERSIONS = {4: 'ip ', 6: 'ip6 ', None: ''}
+
+
+def net_text(protocol, direction, version, address, bits):
+    width = meaning.WIDTH[version]
+    address = address >> (width - bits) << (width - bits)
+    kind = ipaddress.IPv4Address if version == 4 else ipaddress.IPv6Address
+    front = f'{protocol} ' if protocol else ''
+    value = f'host {kind(address)}' if bits == width else f'net {kind(address)}/{bits}'
+    return f'{front}{ENDS[direction]} {value}'
+
+
+def ports_text(transport, direction, low, high):
+    front = f'{transport} ' if transport else ''
+    value = f'port {low}' if low == high else f'portrange {low}-{high}'
+    return f'{front}{ENDS[direction]} {value}'
+
+
+def masked_text(front, mask, relation, value):
+    return f'{front} ' + ('' if mask is None else f'& {mask} ') + f'{relation} {value}'
+
+
+TEXTS = {
+    'version': lambda version: VERSIONS[version],
+    'ether-type': lambda number: f'ether proto {number}',
+    'proto': lambda version, number: f'{VERSIONS[version]}proto {number}',
+    'net': net_text,
+    'ports': ports_text,
+    'ether-host': lambda direction, address: f'ether {ENDS[direction]} host ' + ':'.join(
+        '%02x' % byte for byte in address.to_bytes(6, 'big')),
+    'broadcast': lambda: 'ether broadcast',
+    'multicast': lambda: 'ether multicast',
+    'ip-multicast': lambda: 'ip multicast',
+    'ip6-multicast': lambda: 'ip6 multicast',
+    # without extension headers only IPv4 has fragments
+    'fragment': lambda: 'ip[6:2] & 0x3fff != 0',
+    'first-fragment': lambda: 'ip[6:2] & 0x3fff = 0x2000',
+    'less': lambda limit: f'less {limit}',
+    'greater': lambda limit: f'greater {limit}',
+    'len': lambda *rest: masked_text('len', *rest),
+    'vlan': lambda identifier: 'vlan' if identifier is None else f'vlan {identifier}',
+    'load': lambda protocol, at, size, *rest: masked_text(f'{protocol}[{at}:{size}]', *rest)}
+
+
+def text_of(tree):
+    if tree[0] == 'not':
+        return f'not ({text_of(tree[1])})'
+    if tree[0] in ('and', 'or'):
+        return f'({text_of(tree[1])}) {tree[0]} ({text_of(tree[2])})'
+    return TEXTS[tree[0]](*tree[1:])
+
+
+def primitives(tree):
+    """those of a tree, in the order of the text"""
+    if tree[0] in ('not', 'and', 'or'):
+        return [one for part in tree[1:] for one in primitives(part)]
+    return [tree]
+
+
+# ---- where the answers are to differ
+
+ARP = 0x806, 0x8035
+
+def port_of_one_protocol(name):
+    """whether the names of services here have it for TCP alone or for UDP alone"""
+    found = set()
+    for protocol in 'tcp', 'udp':
+        try:
+            found.add(socket.getservbyname(name, protocol))
+        except OSError:
+            found.add(None)
+    return len(found) > 1
+
+
+ONE_PROTOCOL = {name for name in grammar.PORT_NAMES if port_of_one_protocol(name)}
+
+
+class Pair:
+    """an expression and a frame"""
+
+    def __init__(self, text, tree, frame):
+        self.text, self.tree, self.frame = text, tree, frame
+        self.words = {word for _, word in grammar.words_of(text)}
+        self.primitives = primitives(tree)
+
+    def has(self, name):
+        return any(one[0] == name for one in self.primitives)
+
+    def number(self, *numbers):
+        return self.frame.ip is not None and self.frame.ip.upper in numbers
+
+
+def more_after_vlan(pair):
+    return 'vlan' in [one[0] for one in pair.primitives[:-1]]
+
+
+def transport_load_over_ipv6(pair):
+    ip = pair.frame.ip
+    return ip is not None and ip.version == 6 and any(
+        one[0] == 'load' and one[1] in meaning.NUMBERS and meaning.NUMBERS[one[1]] == ip.upper
+        for one in pair.primitives)
+
+
+def load_past_the_end(pair):
+    for one in pair.primitives:
+        if one[0] == 'load':
+            data = meaning.bytes_of_load(pair.frame, one[1])
+            if data is not None and len(data) < one[2] + one[3]:
+                return True
+    return False
+
+
+def reserved_address(pair):
+    ip = pair.frame.ip
+    return (pair.has('ip-multicast') and ip is not None and ip.version == 4
+            and ip.destination >> 28 == 0xf)
+
+
+def all_32_bits(pair):
+    return any(one[0] in ('load', 'len') and 0xffffffff in one[1:] and one[-1] == 0
+               for one in pair.primitives)
+
+
+def name_of_one_protocol(pair):
+    return bool(pair.words & ONE_PROTOCOL)
+
+
+def address_alone(pair):
+    return grammar.read(pair.text, WITHOUT_ADDRESS_ALONE)[0] != 'ok'
+
+
+def small_ether_type(pair):
+    return any(one[0] == 'ether-type' and one[1] <= 1500 for one in pair.primitives)
+
+
+# ---- frames that are not plain
+
+def tagged(pair):
+    return bool(pair.frame.tags) or pair.frame.ether_type in meaning.TAGS
+
+
+def extended(pair):
+    ip = pair.frame.ip
+    return ip is not None and ip.version == 6 and (
+        bool(ip.chain) or ip.upper in meaning.EXTENSIONS)
+
+
+def padded(pair):
+    """bytes after what the length field says, or after an ARP packet"""
+    frame, ip = pair.frame, pair.frame.ip
+    if ip is not None:
+        return len(ip.whole) < len(frame.payload)
+    return frame.ether_type in ARP and len(frame.payload) > 28
+
+
+def cut(pair):
+    """fewer bytes than the length field says, or than an ARP packet has, or no IP header"""
+    frame, ip = pair.frame, pair.frame.ip
+    if ip is not None:
+        return not ip.complete
+    return frame.ether_type in (0x800, 0x86dd) or (
+        frame.ether_type in ARP and len(frame.payload) < 28)
+
+
+def other_version(pair):
+    ip = pair.frame.ip
+    return ip is not None and pair.frame.ether_type != {4: 0x800, 6: 0x86dd}[ip.version]
+
+
+def without_ports(pair):
+    ip = pair.frame.ip
+    return ip is not None and not ip.later and pair.number(6, 17, 132) and len(ip.payload) < 4
+
+
+def other_arp(pair):
+    """ARP or RARP that is not for Ethernet and IPv4"""
+    return pair.frame.ether_type in ARP and pair.frame.payload[:6] != bytes([0, 1, 8, 0, 6, 4])
+
+
+INTENDED = [
+    ('more after vlan: libpcap then looks for it 4 bytes further', more_after_vlan),
+    ('a load of TCP, UDP or SCTP over IPv6: libpcap has none', transport_load_over_ipv6),
+    ('a load past the end of the packet: libpcap rejects the packet', load_past_the_end),
+    ('ip multicast, and 240.0.0.0/4: libpcap takes it for multicast', reserved_address),
+    ('`& 0xffffffff` and 0: the optimiser of libpcap forgets the comparison', all_32_bits),
+    ('a port name that services have for one protocol: libpcap then asks for that', name_of_one_protocol),
+    ('an address alone: libpcap refuses it, or takes it for another value', address_alone),
+    ('ether proto up to 1500: libpcap looks for an LLC header', small_ether_type),
+    ('a VLAN tag', tagged),
+    ('an extension header of IPv6', extended),
+    ('bytes after the packet', padded),
+    ('a packet that is not all there', cut),
+    ('another version than the EtherType says', other_version),
+    ('too short for ports', without_ports),
+    ('ARP or RARP that is not for Ethernet and IPv4', other_arp)]
+
+
+class Libpcaps:
+    """the programs of the last text"""
+
+    def __init__(self):
+        self.library, self.text, self.program, self.why = Libpcap(), None, None, None
+
+    def program_of(self, text, tree):
+        """the program, and why libpcap refuses the text itself"""
+        if text != self.text:
+            if self.program is not None:
+                self.library.free(self.program)
+            self.text, self.why = text, None
+            self.program = None if OWN_WORDS & {word for _, word in grammar.words_of(text)} else (
+                self.compiled(text))
+            if self.program is None:
+                own, self.why = self.why, None
+                self.program = self.compiled(text_of(tree).encode())
+                self.why = own
+        return self.program, self.why
+
+    def compiled(self, text):
+        try:
+            return self.library.compile(text)
+        except CompileError as error:
+            # nothing can match: the optimiser says so, and gives no program
+            if 'rejects all packets' in str(error):
+                return self.library.compile(text, optimised=False)
+            self.why = re.sub('"[^"]*"|\'[^\']*\'|[0-9]{3,}', '..', str(error))
+            return None
+
+    def matches(self, frame, wire):
+        return self.library.matches(self.program, frame, wire)
+
+
+def main():
+    parser = argparse.ArgumentParser(usage=__doc__)
+    parser.add_argument('--program')
+    parser.add_argument('--show', type=int, default=10)
+    asked = parser.parse_args()
+    answers = open(asked.program, encoding='ascii').read().splitlines() if asked.program else None
+    tally, example, refusals = collections.Counter(), {}, collections.Counter()
+    libpcaps, shown = Libpcaps(), 0
+
+    def wrong(what, case, ours, theirs):
+        nonlocal shown
+        tally[what] += 1
+        shown += 1
+        if shown <= asked.show:
+            print(f'{what}: {case[3]!r}\n  {case[1].hex()} {case[2]}\n  {ours} and {theirs}')
+
+    read_last = None, None
+    for at, line in enumerate(sys.stdin):
+        _, link, data, wire, text = line.split()
+        text, data = bytes.fromhex('' if text == '-' else text), bytes.fromhex(data)
+        case = link, data, int(wire), text
+        tally['cases'] += 1
+        if read_last[0] != text:
+            read_last = text, grammar.read(text)
+        kind, *rest = read_last[1]
+        if kind != 'ok':
+            ours = ' '.join([kind.replace(' ', '_'), *map(str, rest)])
+            tally['refused texts'] += 1
+        else:
+            frame = meaning.read_frame(data)
+            ours = 'true' if meaning.matches(rest[0], frame, int(wire)) else 'false'
+        if answers is not None and answers[at] != ours:
+            wrong('program and model', case, answers[at], ours)
+        if kind != 'ok':
+            continue
+        pair = Pair(text, rest[0], frame)
+        if pair.has('checksum-wrong'):
+            tally['no counterpart in libpcap'] += 1
+            continue
+        program, why = libpcaps.program_of(text, rest[0])
+        if why:
+            refusals[why] += 1
+        theirs = 'true' if libpcaps.matches(data, int(wire)) else 'false'
+        tally['pairs'] += 1
+        tally['pairs that match'] += ours == 'true'
+        classes = [name for name, applies in INTENDED if applies(pair)]
+        for name in classes:
+            tally['about', name] += 1
+            if ours != theirs:
+                tally['differ', name] += 1
+                # the best example differs for this reason alone, and is short
+                worth = len(classes), len(text)
+                if name not in example or worth < example[name][0]:
+                    example[name] = worth, *case, ours, theirs
+        if not classes and ours != theirs:
+            wrong('libpcap and model', case, theirs, ours)
+        if not classes:
+            tally['pairs without an intended difference'] += 1
+    for name, _ in INTENDED:
+        if ('about', name) in tally:
+            print(f'{name}\n  {tally["about", name]} pairs, {tally["differ", name]} differ')
+        if name in example:
+            _, _, data, wire, text, ours, theirs = example[name]
+            print(f'  {text.decode("latin-1")!r} {data.hex()} {wire}: libpcap {theirs}, here {ours}')
+    for why, count in refusals.most_common():
+        print(f'refused by libpcap, asked in its words: {count}  {why}')
+    bad = tally['program and model'] + tally['libpcap and model']
+    for name in ('cases', 'refused texts', 'no counterpart in libpcap', 'pairs', 'pairs that match',
+                 'pairs without an intended difference'):
+        print(f'{tally[name]} {name}')
+    print(f'{bad} differ without intention')
+    sys.exit(1 if bad else 0)
+
+
+if __name__ == '__main__':
+    main()
