@@ -23,6 +23,8 @@ NUMBERS = {'tcp': 6, 'udp': 17, 'sctp': 132}
 CARRIED = {'tcp': (None, 6), 'udp': (None, 17), 'sctp': (None, 132), 'icmp': (4, 1),
            'igmp': (4, 2), 'icmp6': (6, 58)}
 WIDTH = {4: 32, 6: 128}
+LINK_HEADERS = {1: 14, 101: 0, 113: 16, 276: 20}
+ETHER_TYPE_AT = {1: 12, 113: 14, 276: 0}
 
 # ---- frames
 
@@ -48,7 +50,8 @@ class Ip:
 
 @dataclass
 class Frame:
-    bytes: bytes
+    # all of it, if it is of Ethernet
+    ethernet: bytes
     tags: list
     ether_type: int
     payload: bytes
@@ -99,16 +102,20 @@ def read_ipv6(data):
               later, complete, chain)
 
 
-def read_frame(data):
-    """an Ethernet frame of 14 bytes or more"""
-    ether_type, payload, tags, ip = number_at(data, 12), data[14:], [], None
+def read_frame(data, link_type=1):
+    """A frame by the number of its link type: Ethernet (1), an IP packet alone (101), a Linux cooked
+    capture (113, 276). None if it is shorter than its link header."""
+    if len(data) < LINK_HEADERS[link_type]:
+        return None
+    payload, tags, ip = data[LINK_HEADERS[link_type]:], [], None
+    ether_type = number_at(data, ETHER_TYPE_AT[link_type]) if link_type != 101 else None
     while ether_type in TAGS and len(tags) < 2 and len(payload) >= 4:
         tags.append(payload[:4])
         ether_type, payload = number_at(payload, 2), payload[4:]
     # the version is told by the packet itself
-    if ether_type in (0x800, 0x86dd):
+    if ether_type in (0x800, 0x86dd, None):
         ip = read_ipv4(payload) or read_ipv6(payload)
-    return Frame(data, tags, ether_type, payload, ip)
+    return Frame(data if link_type == 1 else b'', tags, ether_type, payload, ip)
 
 
 # ---- parts
@@ -153,7 +160,7 @@ def bytes_of_load(frame, protocol):
     """what a load counts from, or None where the packet has no such header"""
     ip = frame.ip
     if protocol == 'ether':
-        return frame.bytes
+        return frame.ethernet or None
     if ip is None:
         return None
     if protocol in ('ip', 'ip6'):
@@ -246,11 +253,11 @@ PRIMITIVES = {
     'proto': lambda frame, wire, version, number: has_number(frame, version, number),
     'net': is_net,
     'ports': has_port,
-    'ether-host': lambda frame, wire, direction, address: of_ends(
-        direction, number_at(frame.bytes, 6, 6), number_at(frame.bytes, 0, 6),
+    'ether-host': lambda frame, wire, direction, address: bool(frame.ethernet) and of_ends(
+        direction, number_at(frame.ethernet, 6, 6), number_at(frame.ethernet, 0, 6),
         lambda found: found == address),
-    'broadcast': lambda frame, wire: frame.bytes[:6] == bytes([0xff] * 6),
-    'multicast': lambda frame, wire: frame.bytes[0] % 2 == 1,
+    'broadcast': lambda frame, wire: frame.ethernet[:6] == bytes([0xff] * 6),
+    'multicast': lambda frame, wire: bool(frame.ethernet) and frame.ethernet[0] % 2 == 1,
     'ip-multicast': lambda frame, wire: frame.ip is not None and frame.ip.version == 4
     and frame.ip.destination >> 28 == 0xe,
     'ip6-multicast': lambda frame, wire: frame.ip is not None and frame.ip.version == 6
@@ -279,14 +286,19 @@ def matches(tree, frame, wire):
     return PRIMITIVES[kind](frame, wire, *tree[1:])
 
 
-def answer(text, data, wire):
-    """`true` or `false`; else why the text is refused, or `no frame` below 14 bytes"""
-    kind, *rest = grammar.read(text)
-    if kind != 'ok':
-        return ' '.join([kind, *map(str, rest)])
-    if len(data) < 14:
-        return 'no frame'
-    return 'true' if matches(rest[0], read_frame(data), wire) else 'false'
+def refusal(kind, *rest):
+    """why a text is refused, as the conformance program writes it"""
+    return ' '.join(['err', kind.replace(' ', '_'), *(f'place={place}' for place in rest)])
+
+
+def answer(read, data, wire, link_type=1):
+    """`true` or `false`; else why the text, which was read by grammar.py, or the frame is refused"""
+    if read[0] != 'ok':
+        return refusal(*read)
+    frame = read_frame(data, link_type)
+    if frame is None:
+        return f'err link required={LINK_HEADERS[link_type]} len={len(data)}'
+    return 'true' if matches(read[1], frame, wire) else 'false'
 
 
 def main(arguments):
@@ -295,7 +307,7 @@ def main(arguments):
     data = bytes.fromhex(arguments[0])
     wire = int(arguments[1]) if len(arguments) == 2 else len(data)
     for line in sys.stdin.buffer.read().split(b'\n')[:-1]:
-        print(answer(line, data, wire))
+        print(answer(grammar.read(line), data, wire))
 
 
 if __name__ == '__main__':

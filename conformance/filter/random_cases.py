@@ -278,9 +278,10 @@ class Cases:
             bits = self.pick([0, 8, 16, 24, 32])
             mask = 2**32 - 2**(32 - bits)
             number = grammar.ipv4(address)[1] & mask
-            return [*front, str(ipaddress.IPv4Address(number)), 'mask',
-                    str(ipaddress.IPv4Address(mask))], None
-        return [*front, self.net_word(address)], lambda: self.net_word(
+            words = [str(ipaddress.IPv4Address(number)), 'mask', str(ipaddress.IPv4Address(mask))]
+        else:
+            words = [self.net_word(address)]
+        return [*front, *words], lambda: self.net_word(
             self.pick(ADDRESSES6) if protocol == ['ip6'] else
             self.pick(ADDRESSES4) if protocol else self.address())
 
