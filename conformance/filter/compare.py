@@ -213,7 +213,8 @@ INTENDED = [
     ('a load past the end of the packet: libpcap rejects the packet', load_past_the_end),
     ('ip multicast, and 240.0.0.0/4: libpcap takes it for multicast', reserved_address),
     ('`& 0xffffffff` and 0: the optimiser of libpcap forgets the comparison', all_32_bits),
-    ('a port name that services have for one protocol: libpcap then asks for that', name_of_one_protocol),
+    ('a port name that services have for one protocol: libpcap then asks for that',
+     name_of_one_protocol),
     ('an address alone: libpcap refuses it, or takes it for another value', address_alone),
     ('ether proto up to 1500: libpcap looks for an LLC header', small_ether_type),
     ('a VLAN tag', tagged),
@@ -337,7 +338,8 @@ def main():
             print(f'{name}\n  {tally["about", name]} pairs, {tally["differ", name]} differ')
         if name in example:
             _, _, data, wire, text, ours, theirs = example[name]
-            print(f'  {text.decode("latin-1")!r} {data.hex()} {wire}: libpcap {theirs}, here {ours}')
+            print(f'  {text.decode("latin-1")!r} {data.hex()} {wire}: '
+                  f'libpcap {theirs}, here {ours}')
     for why, count in refusals.most_common():
         print(f'refused by libpcap, asked in its words: {count}  {why}')
     for name in ('cases', 'refused', 'no counterpart in libpcap', 'pairs', 'pairs that match',

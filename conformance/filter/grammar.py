@@ -11,7 +11,7 @@ A text is read by following all ways at once, so a word is unexpected exactly if
 it: each state leads to the end by some words, since every kind of value has one.
 
 A tree is a tuple: ('not', E), ('and', E, E), ('or', E, E), or a primitive with its arguments, as
-('ports', 'tcp', 'dst', 80, 80). Value lists are written out: `port 80 or 443` has two primitives."""
+('ports', 'tcp', 'dst', 80, 80). Value lists are written out: `port 80 or 443` is two primitives."""
 import ipaddress
 import re
 import sys
@@ -119,8 +119,9 @@ def port_range(word):
     return (low, high) if hyphen and None not in (low, high) and low <= high else None
 
 
-IP_NUMBERS = {'\\icmp': 1, '\\igmp': 2, '\\tcp': 6, '\\igrp': 9, '\\udp': 17, 'gre': 47, '\\esp': 50,
-              '\\ah': 51, '\\icmp6': 58, 'ospf': 89, '\\pim': 103, '\\vrrp': 112, '\\sctp': 132}
+IP_NUMBERS = {'\\icmp': 1, '\\igmp': 2, '\\tcp': 6, '\\igrp': 9, '\\udp': 17, 'gre': 47,
+              '\\esp': 50, '\\ah': 51, '\\icmp6': 58, 'ospf': 89, '\\pim': 103,
+              '\\vrrp': 112, '\\sctp': 132}
 ETHER_TYPES = {'\\ip': 0x800, '\\arp': 0x806, '\\rarp': 0x8035, '\\ip6': 0x86dd, '\\mopdl': 0x6001,
                '\\moprc': 0x6002, '\\decnet': 0x6003, '\\lat': 0x6004, '\\sca': 0x6007}
 
@@ -173,8 +174,8 @@ VALUES = {
     'quad': ipv4, 'host': host_of(address), 'host4': host_of(ipv4), 'host6': host_of(ipv6),
     'net': lambda word: net4(word) or net6(word), 'net4': net4, 'net6': net6}
 
-# ---- phrases: the words of a primitive. A string is a fixed word, `<kind>` a value of that kind.
-# A list is a choice, a tuple one after the other, '' nothing. ('put', NAME, PHRASE) keeps the words.
+# ---- phrases: the words of a primitive. A string is a fixed word, `<kind>` a value of that kind,
+# '' nothing. A list is a choice, a tuple one after the other. ('put', NAME, PHRASE) notes the name.
 
 DIRECTION = [('put', 'src', 'src'), ('put', 'dst', 'dst'),
              ('put', 'either', ('src', 'or', 'dst')), ('put', 'both', ('src', 'and', 'dst'))]

@@ -103,8 +103,8 @@ def read_ipv6(data):
 
 
 def read_frame(data, link_type=1):
-    """A frame by the number of its link type: Ethernet (1), an IP packet alone (101), a Linux cooked
-    capture (113, 276). None if it is shorter than its link header."""
+    """A frame by the number of its link type: Ethernet (1), an IP packet alone (101), a Linux
+    cooked capture (113, 276). None if it is shorter than its link header."""
     if len(data) < LINK_HEADERS[link_type]:
         return None
     payload, tags, ip = data[LINK_HEADERS[link_type]:], [], None
@@ -292,7 +292,7 @@ def refusal(kind, *rest):
 
 
 def answer(read, data, wire, link_type=1):
-    """`true` or `false`; else why the text, which was read by grammar.py, or the frame is refused"""
+    """`true` or `false`; else why the text, as grammar.py read it, or the frame is refused"""
     if read[0] != 'ok':
         return refusal(*read)
     frame = read_frame(data, link_type)

@@ -37,12 +37,21 @@ ICMP6_TYPES = [1, 2, 3, 4, 128, 129, 130, 133, 134, 135, 136, 143]
 FLAGS = [0x02, 0x12, 0x10, 0x18, 0x11, 0x04, 0x14, 0x01, 0xc2, 0x20, 0x00, 0x29]
 EXTENSIONS = [0, 43, 44, 51, 60, 135, 139, 140]
 
+# values and what is nearly one
+SOME_WORDS = r"""80 443 0x50 65535 65536 4294967295 4294967296 080 0 00 0x 255 256 4095 4096 80-90
+    90-80 80- -80 10.0.0.1 10.0.0.256 10.0.0 10 10/8 10/33 10.0.0.0/8 10.0.0.1/8 10.0.0.0/33 /8 10.0.0.0/
+    255.0.0.0 255.0.255.0 :: ::1 fe80::1 fe80::/10 ::/129 ::1:: 1:2:3:4:5:6 0:0:0:0:0:0:0:1
+    a:b:c:d:e:f 00:11:22:33:44:55 0:1:2:3:4:g 12:2 12:3 0:1 13 tcpflags tcpflags:1 icmptype tcp-syn icmp-echo
+    http domain ftp-data \tcp \ip gre \gre""".split()
+
 
 class Cases:
     def __init__(self, seed):
         self.dice = random.Random(seed)
         self.pick = self.dice.choice
         self.facts = {}
+        self.hardware, self.ports = HARDWARE, PORTS
+        self.addresses4, self.addresses6 = ADDRESSES4, ADDRESSES6
         here = os.path.dirname(os.path.abspath(__file__))
         with open(os.path.join(here, 'real.txt'), encoding='ascii') as file:
             self.real = [line.split('\t')[1] for line in file.read().splitlines()]
@@ -68,7 +77,7 @@ class Cases:
         known = ['tcp', 'tcp', 'tcp', 'udp', 'udp', 'udp', 'icmp', 'sctp', 'igmp', 'esp', 'other']
         name = self.pick(known if version == 4 else [*known, 'icmp', 'icmp'])
         body = self.some_bytes(self.pick([0, 1, 8, 12, 20, 33, 60]))
-        source, destination = self.pick(PORTS), self.pick(PORTS)
+        source, destination = self.pick(self.ports), self.pick(self.ports)
         if name in ('tcp', 'udp', 'sctp'):
             self.facts['ports'] = [source, destination]
         if name == 'tcp':
@@ -108,7 +117,7 @@ class Cases:
         return self.pick(OTHER_NUMBERS), struct.pack('>HH', source, destination) + body
 
     def ipv4(self, plain):
-        source, destination = self.pick(ADDRESSES4), self.pick(ADDRESSES4)
+        source, destination = self.pick(self.addresses4), self.pick(self.addresses4)
         self.facts.update(addresses=[source, destination], version=4)
         packed = b''.join(bytes(map(int, one.split('.'))) for one in (source, destination))
         number, data = self.transport(4, lambda number, length: packed + struct.pack(
@@ -136,7 +145,7 @@ class Cases:
         return header + data
 
     def ipv6(self, plain):
-        source, destination = self.pick(ADDRESSES6), self.pick(ADDRESSES6)
+        source, destination = self.pick(self.addresses6), self.pick(self.addresses6)
         self.facts.update(addresses=[source, destination], version=6)
         packed = b''.join(grammar.ipv6(one)[1].to_bytes(16, 'big') for one in (source, destination))
         number, data = self.transport(6, lambda number, length: packed + struct.pack(
@@ -163,17 +172,18 @@ class Cases:
 
     def arp(self, plain):
         """ARP or RARP, if plain for Ethernet and IPv4"""
-        source, destination = self.pick(ADDRESSES4), self.pick(ADDRESSES4)
+        source, destination = self.pick(self.addresses4), self.pick(self.addresses4)
         self.facts.update(addresses=[source, destination], version=4)
         parts = [bytes(map(int, one.split('.'))) for one in (source, destination)]
         kind = (1, 0x800, 6, 4) if plain or self.chance(0.6) else self.pick([
             (6, 0x800, 6, 4), (1, 0x806, 6, 4), (1, 0x800, 4, 4), (1, 0x800, 6, 16)])
-        return (struct.pack('>HHBBH', *kind, self.pick([1, 2])) + self.some_bytes(6) + parts[0] + self.some_bytes(6) + parts[1])
+        return (struct.pack('>HHBBH', *kind, self.pick([1, 2])) + self.some_bytes(6) + parts[0]
+                + self.some_bytes(6) + parts[1])
 
     def frame(self, plain=True):
         """(bytes, length on the wire), and `facts` of what is in it"""
         self.facts = {}
-        to, by = self.pick(HARDWARE), self.pick(HARDWARE)
+        to, by = self.pick(self.hardware), self.pick(self.hardware)
         self.facts['hardware'] = [by, to]
         kind = self.dice.random()
         if kind < 0.5:
@@ -209,8 +219,8 @@ class Cases:
         wire = len(whole)
         self.facts['length'] = wire
         if not plain and self.chance(0.3):
-            whole = whole[:max(14, self.pick([14, 16, 18, 33, 34, 36, 37, 38, 42, 53, 54, 58, 62, 68,
-                                              wire - 1, wire // 2]))]
+            whole = whole[:max(14, self.pick([14, 16, 18, 33, 34, 36, 37, 38, 42, 53, 54, 58, 62,
+                                              68, wire - 1, wire // 2]))]
         return whole, wire
 
     # ---- expressions
@@ -223,7 +233,7 @@ class Cases:
         return self.pick(pool)
 
     def address(self):
-        return self.fact('addresses', ADDRESSES4 + ADDRESSES6)
+        return self.fact('addresses', self.addresses4 + self.addresses6)
 
     def direction(self, optional=True):
         if optional and self.chance(0.6):
@@ -237,6 +247,12 @@ class Cases:
             return []
         return ['ip6'] if ':' in address else [self.pick(['ip', 'ip', 'arp', 'rarp'])]
 
+    def other_address(self, protocol):
+        """an address that the qualifier of another can have"""
+        if not protocol:
+            return self.address()
+        return self.pick(self.addresses6 if protocol == ['ip6'] else self.addresses4)
+
     def host(self):
         address = self.address()
         protocol = self.protocol_of(address)
@@ -246,8 +262,7 @@ class Cases:
             front = [*protocol, *self.direction(optional=False)]
         else:
             front = [*protocol, *self.direction(), 'host']
-        return [*front, address], lambda: (self.pick(ADDRESSES6) if protocol == ['ip6'] else
-                                           self.pick(ADDRESSES4) if protocol else self.address())
+        return [*front, address], lambda: self.other_address(protocol)
 
     def net_word(self, address):
         """a net with an address, now and then with bits after its prefix, which libpcap refuses"""
@@ -281,12 +296,10 @@ class Cases:
             words = [str(ipaddress.IPv4Address(number)), 'mask', str(ipaddress.IPv4Address(mask))]
         else:
             words = [self.net_word(address)]
-        return [*front, *words], lambda: self.net_word(
-            self.pick(ADDRESSES6) if protocol == ['ip6'] else
-            self.pick(ADDRESSES4) if protocol else self.address())
+        return [*front, *words], lambda: self.net_word(self.other_address(protocol))
 
     def port_word(self):
-        number = self.fact('ports', PORTS)
+        number = self.fact('ports', self.ports)
         named = [name for name, found in grammar.PORT_NAMES.items() if found == number]
         if named and self.chance(0.15):
             return self.pick(named)
@@ -299,7 +312,7 @@ class Cases:
         return [*front, 'port', self.port_word()], self.port_word
 
     def range_word(self):
-        low = self.fact('ports', PORTS)
+        low = self.fact('ports', self.ports)
         return f'{low}-{self.pick([low, low, min(65535, low + 1000), 65535])}'
 
     def word(self):
@@ -329,8 +342,8 @@ class Cases:
         front = self.direction()
         if not front or self.chance(0.3):
             front = [*front, 'host']
-        return ['ether', *front, self.fact('hardware', HARDWARE)], lambda: self.fact(
-            'hardware', HARDWARE)
+        return ['ether', *front, self.fact('hardware', self.hardware)], lambda: self.fact(
+            'hardware', self.hardware)
 
     def cast(self):
         return self.pick([['broadcast'], ['ether', 'broadcast'], ['multicast'],
@@ -356,8 +369,9 @@ class Cases:
     def load(self):
         protocol, place, found = self.pick([
             *self.facts.get('loads', []), *self.facts.get('loads', []), ('tcp', 'tcpflags', 2),
-            ('tcp', '13', 18), ('icmp', 'icmptype', 8), ('icmp6', 'icmp6type', 128), ('ip', '6:2', 0),
-            ('ip', '0', 0x45), ('ip', '12:4', 0x0a000001), ('ip6', '6', 6), ('ip6', '40', 128),
+            ('tcp', '13', 18), ('icmp', 'icmptype', 8), ('icmp6', 'icmp6type', 128),
+            ('ip', '6:2', 0), ('ip', '0', 0x45), ('ip', '12:4', 0x0a000001), ('ip6', '6', 6),
+            ('ip6', '40', 128),
             ('udp', '2:2', 53), ('udp', '10', 0), ('ether', '0', 255), ('sctp', '0:2', 80),
             ('igmp', '0', 0x16), ('ip', '20', 8), ('tcp', '0:4', 0x00500050), ('ip', '120', 0),
             ('tcp', '20:4', 0), ('ether', '60:2', 0), ('icmp', '8:4', 0), ('sctp', '12', 0)])
@@ -442,10 +456,10 @@ class Cases:
         text = ''
         for left, right in zip(['', *words], words):
             # libpcap takes what follows an escaped word for a part of it
-            apart = left and (not tight or left.startswith('\\') or (left not in marks and right not in marks)
-                              or left + right in marks or (left in marks and right in marks
-                                                           and left not in '()[]!'
-                                                           and right not in '()[]!'))
+            both = left in marks, right in marks
+            apart = left and (not tight or left.startswith('\\') or both == (False, False)
+                              or left + right in marks
+                              or all(both) and left not in '()[]!' and right not in '()[]!')
             if apart:
                 text += ' ' if self.chance(0.98) else self.pick(['  ', '\t', '\n', ' \r\n '])
             text += right
@@ -488,16 +502,8 @@ class Cases:
         if kind < 0.7:
             return self.pick(sorted(grammar.FIXED))
         if kind < 0.95:
-            return self.pick(['80', '443', '0x50', '65535', '65536', '4294967295', '4294967296', '080',
-                              '0', '00', '0x', '255', '256', '4095', '4096', '80-90', '90-80', '80-',
-                              '-80', '10.0.0.1', '10.0.0.256', '10.0.0', '10', '10/8', '10/33',
-                              '10.0.0.0/8', '10.0.0.1/8', '10.0.0.0/33', '/8', '10.0.0.0/',
-                              '255.0.0.0', '255.0.255.0', '::', '::1', 'fe80::1', 'fe80::/10', '::/129',
-                              '::1::', '1:2:3:4:5:6', '0:0:0:0:0:0:0:1', 'a:b:c:d:e:f',
-                              '00:11:22:33:44:55', '0:1:2:3:4:g', '12:2', '12:3', '0:1', '13',
-                              'tcpflags', 'tcpflags:1', 'icmptype', 'tcp-syn', 'icmp-echo', 'http',
-                              'domain', 'ftp-data', '\\tcp', '\\ip', 'gre', '\\gre'])
-        return self.pick(['foo', 'IP', 'Tcp', 'ether proto', 'ip.', '_', '\\', '*', '+', '%', '"', ','])
+            return self.pick(SOME_WORDS)
+        return self.pick('foo IP Tcp ip. _ \\ * + % " ,'.split())
 
 
 def main():

@@ -20,7 +20,7 @@ import compare
 import grammar
 import meaning
 from libpcap import CompileError, Libpcap
-from random_cases import Cases
+from random_cases import ADDRESSES4, ADDRESSES6, HARDWARE, PORTS, Cases
 
 HERE = os.path.dirname(os.path.abspath(__file__))
 FILES = [os.path.join(HERE, '../../crates/conformance', name) for name in ('stdin', 'stdout')]
@@ -63,8 +63,7 @@ class Sample:
         self.cases, self.today = Cases(seed), today
         self.libraries = {number: Libpcap(compare.OWN_NUMBER.get(number, number))
                           for number in meaning.LINK_HEADERS}
-        self.lines = {}
-        self.kinds = collections.Counter()
+        self.lines, self.kinds = {}, collections.Counter()
 
     def libpcap_answer(self, text, frame, wire, link_type):
         """what both programs say, or None if libpcap does not read the text or they differ"""
@@ -139,22 +138,16 @@ class Sample:
         return done
 
     def aim(self, text):
-        """the pools of frames for the values of a text, half of the time"""
-        import random_cases as pools
-        for name in 'ADDRESSES4', 'ADDRESSES6', 'PORTS', 'HARDWARE':
-            setattr(pools, name, POOLS[name])
-        if self.cases.chance(0.3):
-            return
-        words = [word for _, word in grammar.words_of(text)]
-        found = {'ADDRESSES4': [word.partition('/')[0] for word in words
-                                if grammar.ipv4(word.partition('/')[0])],
-                 'ADDRESSES6': [word.partition('/')[0] for word in words
-                                if grammar.ipv6(word.partition('/')[0])],
-                 'PORTS': [grammar.port(word) for word in words if grammar.port(word)],
-                 'HARDWARE': [word for word in words if grammar.hardware_address(word)]}
-        for name, values in found.items():
-            if values:
-                setattr(pools, name, values * 3 + POOLS[name][:2])
+        """most of the time, lets frames have the values of a text"""
+        words = [] if self.cases.chance(0.3) else [
+            word.partition('/')[0] for _, word in grammar.words_of(text)]
+        for pool, usual, kind in (('addresses4', ADDRESSES4, grammar.ipv4),
+                                  ('addresses6', ADDRESSES6, grammar.ipv6),
+                                  ('hardware', HARDWARE, grammar.hardware_address)):
+            found = [word for word in words if kind(word)]
+            setattr(self.cases, pool, found * 3 + usual[:2] if found else usual)
+        found = [grammar.port(word) for word in words if grammar.port(word)]
+        self.cases.ports = found * 3 + PORTS[:2] if found else PORTS
 
     def refused(self, count):
         done = 0
@@ -193,7 +186,4 @@ def main():
 
 
 if __name__ == '__main__':
-    import random_cases
-    POOLS = {name: list(getattr(random_cases, name))
-             for name in ('ADDRESSES4', 'ADDRESSES6', 'PORTS', 'HARDWARE')}
     main()
