@@ -216,7 +216,8 @@ class Cases:
         if not plain and self.chance(0.4):
             whole += self.pick([bytes(1), bytes(8), bytes(max(0, 60 - len(whole))),
                                 self.some_bytes(6)])
-        wire = len(whole)
+        # a frame check sequence, or padding, that was not captured
+        wire = len(whole) + (self.pick([4, 46, 1000]) if self.chance(0.1) else 0)
         self.facts['length'] = wire
         if not plain and self.chance(0.3):
             whole = whole[:max(14, self.pick([14, 16, 18, 33, 34, 36, 37, 38, 42, 53, 54, 58, 62,
