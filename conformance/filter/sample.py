@@ -107,6 +107,14 @@ class Sample:
             if len(frame) <= LONGEST_FRAME:
                 done += self.take(self.cases.expression(), frame, wire, wanted=done % 2 == 0)
 
+    def lengths(self):
+        """lengths on the wire beside a limit, of a frame with all bytes and one with fewer"""
+        frame, _ = self.cases.frame()
+        for wire in len(frame), len(frame) + 46:
+            for limit in wire - 1, wire, wire + 1:
+                for word in 'less', 'greater':
+                    self.take(f'{word} {limit}'.encode(), frame, wire)
+
     def other_links(self, count):
         """IP packets without a link header, and after those of Linux cooked captures"""
         done = 0
@@ -169,6 +177,7 @@ def main():
     sample.random(RANDOM)
     sample.other_links(OTHER_LINKS)
     sample.real(REAL)
+    sample.lengths()
     if not asked.today:
         sample.refused(REFUSED)
     lines = [*sample.lines.items(), *NO_FRAMES, *((case, 'bad line') for case in NO_CASES)]
