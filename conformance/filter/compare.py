@@ -1,11 +1,15 @@
 #!/usr/bin/env python3
-"""compare.py [--program ANSWERS] [--show N] < CASES
+"""compare.py [--program ANSWERS] [--covered] [--show N] < CASES
 
 Cases of the operation `filter` (random_cases.py), answered by the model here (grammar.py and
 meaning.py) and by libpcap. Without `--program` it tells where the two differ: for each intended
 difference how many pairs it is about, how many of them differ, and one that does. A difference that
 is not intended is shown, and the exit code is 1. So it is if `--program` is given, the file with
 the answers of crates/conformance to the same cases, and one of them is not the model's.
+
+With `--covered` each two cases are a plain frame and the same one with tags, extension headers and
+padding (random_cases.py --kind covered). An expression that is not about these has to say the same
+of both, so what libpcap says of the plain one holds for the other.
 
 libpcap reads the text itself. Where it refuses a text of the language, it gets the tree in its own
 words, and the refusal is counted by its reason. It knows nothing like `checksum wrong`."""
@@ -207,6 +211,13 @@ def other_arp(pair):
     return pair.frame.ether_type in ARP and pair.frame.payload[:6] != bytes([0, 1, 8, 0, 6, 4])
 
 
+def is_about_cover(pair):
+    """whether an expression is about the headers that cover a packet, or about lengths"""
+    return any(one[0] in ('vlan', 'less', 'greater', 'len', 'fragment', 'first-fragment',
+                          'checksum-wrong')
+               or one[0] == 'load' and one[1] in ('ether', 'ip6') for one in pair.primitives)
+
+
 INTENDED = [
     ('more after vlan: libpcap then looks for it 4 bytes further', more_after_vlan),
     ('a load of TCP, UDP or SCTP over IPv6: libpcap has none', transport_load_over_ipv6),
@@ -277,6 +288,7 @@ class Libpcaps:
 def main():
     parser = argparse.ArgumentParser(usage=__doc__)
     parser.add_argument('--program')
+    parser.add_argument('--covered', action='store_true')
     parser.add_argument('--show', type=int, default=10)
     asked = parser.parse_args()
     answers = open(asked.program, encoding='ascii').read().splitlines() if asked.program else None
@@ -306,6 +318,11 @@ def main():
             tally['refused'] += 1
             continue
         pair = Pair(text, read[1], meaning.read_frame(data, int(link)))
+        if asked.covered and at % 2 == 1 and not is_about_cover(pair):
+            tally['pairs of a plain and a covered frame'] += 1
+            if ours != of_plain:
+                wrong('plain and covered', case, of_plain, ours)
+        of_plain = ours
         if pair.has('checksum-wrong'):
             tally['no counterpart in libpcap'] += 1
             continue
@@ -343,7 +360,7 @@ def main():
     for why, count in refusals.most_common():
         print(f'refused by libpcap, asked in its words: {count}  {why}')
     for name in ('cases', 'refused', 'no counterpart in libpcap', 'pairs', 'pairs that match',
-                 'pairs without an intended difference'):
+                 'pairs without an intended difference', 'pairs of a plain and a covered frame'):
         print(f'{tally[name]} {name}')
     print(f'{tally["wrong"]} differ without intention')
     sys.exit(1 if tally['wrong'] else 0)

@@ -13,4 +13,8 @@ room=$(mktemp -d)
 trap 'rm -rf "$room"' EXIT
 python3 "$here/random_cases.py" "$@" > "$room/cases"
 "$program" < "$room/cases" > "$room/answers"
-python3 "$here/compare.py" --program "$room/answers" < "$room/cases"
+case " $* " in
+  *" covered "*) covered=--covered ;;
+  *) covered= ;;
+esac
+python3 "$here/compare.py" --program "$room/answers" $covered < "$room/cases"

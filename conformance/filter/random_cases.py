@@ -8,6 +8,8 @@ text in hex. The same arguments give the same cases. KIND is
     other    expressions, and frames with those
     bytes    texts of random bytes
     words    texts of words of the language in random order
+    covered  expressions, each first on a plain frame and then on the same with tags, extension
+             headers and padding, where it has to say the same
     changed  expressions, and those of real.txt, with a word changed, and some that are too long
 
 `--frames` is how many frames an expression gets. The addresses, ports and flags come from small
@@ -159,11 +161,11 @@ class Cases:
         self.facts.setdefault('loads', []).extend([('ip6', '6', number), ('ip6', '4:2', length)])
         return struct.pack('>IHBB', 0x60000000, length, number, 64) + packed + data
 
-    def extension(self, number, data):
-        """an extension header before what IP carries"""
+    def extension(self, number, data, is_first=False):
+        """an extension header before what IP carries, if it is so in the first fragment"""
         kind = self.pick([0, 0, 44, 44, 44, 60, 60, 43, 51, 135, 139, 140])
         if kind == 44:
-            place = self.pick([0, 0, 1, 1, 0xb8, 0x5c8, 0x5c9])
+            place = self.pick([0, 0, 1, 1] if is_first else [0, 0, 1, 1, 0xb8, 0x5c8, 0x5c9])
             return 44, struct.pack('>BxHI', number, place, 5) + data
         units = self.pick([0, 0, 1, 2])
         if kind == 51:
@@ -223,6 +225,19 @@ class Cases:
             whole = whole[:max(14, self.pick([14, 16, 18, 33, 34, 36, 37, 38, 42, 53, 54, 58, 62,
                                               68, wire - 1, wire // 2]))]
         return whole, wire
+
+    def covered(self, plain):
+        """a plain frame with tags, with extension headers before what IPv6 carries, and padding"""
+        front, ether_type, data = plain[:12], plain[12:14], plain[14:]
+        tags = b''
+        for _ in range(self.pick([0, 1, 1, 2])):
+            tags += struct.pack('>HH', self.pick([0x8100, 0x88a8, 0x9100]), self.pick([5, 0xa006]))
+        if ether_type == b'\x86\xdd':
+            number, rest = data[6], data[40:]
+            for _ in range(self.pick([0, 1, 2, 3])):
+                number, rest = self.extension(number, rest, is_first=True)
+            data = data[:4] + struct.pack('>HB', len(rest), number) + data[7:40] + rest
+        return front + tags + ether_type + data + self.pick([b'', b'', b'', bytes(20)])
 
     # ---- expressions
 
@@ -512,18 +527,22 @@ def main():
     parser.add_argument('--seed', type=int, default=1)
     parser.add_argument('--count', type=int, default=10000)
     parser.add_argument('--kind', default='plain',
-                        choices=['plain', 'other', 'bytes', 'words', 'changed'])
+                        choices=['plain', 'other', 'covered', 'bytes', 'words', 'changed'])
     parser.add_argument('--frames', type=int, default=2)
     asked = parser.parse_args()
     cases = Cases(asked.seed)
     done = 0
     while done < asked.count:
-        frames = []
-        is_pair = asked.kind in ('plain', 'other')
         first = cases.frame(asked.kind != 'other')
-        text = cases.expression() if is_pair else cases.text(asked.kind)
-        frames = [first] + [cases.frame(asked.kind != 'other')
-                            for _ in range(asked.frames - 1 if is_pair else 0)]
+        if asked.kind in ('plain', 'other'):
+            text = cases.expression()
+            frames = [first] + [cases.frame(asked.kind != 'other')
+                                for _ in range(asked.frames - 1)]
+        elif asked.kind == 'covered':
+            text = cases.expression()
+            frames = [(frame, len(frame)) for frame in (first[0], cases.covered(first[0]))]
+        else:
+            text, frames = cases.text(asked.kind), [first]
         for frame, wire in frames[:asked.count - done]:
             print('filter 1', frame.hex(), wire, text.hex() or '-')
         done += len(frames)
