@@ -8,6 +8,7 @@ mod comparison;
 mod constants;
 mod equality;
 mod fields;
+mod filters;
 mod ipv4;
 mod ipv6;
 mod offsets;

@@ -1,0 +1,370 @@
+#!/usr/bin/env python3
+"""compare.py [--program ANSWERS] [--covered] [--show N] < CASES
+
+Cases of the operation `filter` (random_cases.py), answered by the model here (grammar.py and
+meaning.py) and by libpcap. Without `--program` it tells where the two differ: for each intended
+difference how many pairs it is about, how many of them differ, and one that does. A difference that
+is not intended is shown, and the exit code is 1. So it is if `--program` is given, the file with
+the answers of crates/conformance to the same cases, and one of them is not the model's.
+
+With `--covered` each two cases are a plain frame and the same one with tags, extension headers and
+padding (random_cases.py --kind covered). An expression that is not about these has to say the same
+of both, so what libpcap says of the plain one holds for the other.
+
+libpcap reads the text itself. Where it refuses a text of the language, it gets the tree in its own
+words, and the refusal is counted by its reason. It knows nothing like `checksum wrong`."""
+import argparse
+import collections
+import ipaddress
+import re
+import socket
+import sys
+
+import grammar
+import meaning
+from libpcap import CompileError, Libpcap
+
+WITHOUT_ADDRESS_ALONE = grammar.Network(host_left_out=False).build()
+# words that libpcap would take for names of hosts, and ask the network for
+OWN_WORDS = {'fragment', 'first', 'checksum', 'wrong'}
+
+# ---- a tree in libpcap's words
+
+ENDS = {'either': 'src or dst', 'both': 'src and dst', 'src': 'src', 'dst': 'dst'}
+VERSIONS = {4: 'ip ', 6: 'ip6 ', None: ''}
+
+
+def net_text(protocol, direction, version, address, bits):
+    width = meaning.WIDTH[version]
+    address = address >> (width - bits) << (width - bits)
+    kind = ipaddress.IPv4Address if version == 4 else ipaddress.IPv6Address
+    front = f'{protocol} ' if protocol else ''
+    value = f'host {kind(address)}' if bits == width else f'net {kind(address)}/{bits}'
+    return f'{front}{ENDS[direction]} {value}'
+
+
+def ports_text(transport, direction, low, high):
+    front = f'{transport} ' if transport else ''
+    value = f'port {low}' if low == high else f'portrange {low}-{high}'
+    return f'{front}{ENDS[direction]} {value}'
+
+
+def masked_text(front, mask, relation, value):
+    return f'{front} ' + ('' if mask is None else f'& {mask} ') + f'{relation} {value}'
+
+
+TEXTS = {
+    'version': lambda version: VERSIONS[version],
+    'ether-type': lambda number: f'ether proto {number}',
+    'proto': lambda version, number: f'{VERSIONS[version]}proto {number}',
+    'net': net_text,
+    'ports': ports_text,
+    'ether-host': lambda direction, address: f'ether {ENDS[direction]} host ' + ':'.join(
+        '%02x' % byte for byte in address.to_bytes(6, 'big')),
+    'broadcast': lambda: 'ether broadcast',
+    'multicast': lambda: 'ether multicast',
+    'ip-multicast': lambda: 'ip multicast',
+    'ip6-multicast': lambda: 'ip6 multicast',
+    # without extension headers only IPv4 has fragments
+    'fragment': lambda: 'ip[6:2] & 0x3fff != 0',
+    'first-fragment': lambda: 'ip[6:2] & 0x3fff = 0x2000',
+    'less': lambda limit: f'less {limit}',
+    'greater': lambda limit: f'greater {limit}',
+    'len': lambda *rest: masked_text('len', *rest),
+    'vlan': lambda identifier: 'vlan' if identifier is None else f'vlan {identifier}',
+    'load': lambda protocol, at, size, *rest: masked_text(f'{protocol}[{at}:{size}]', *rest)}
+
+
+def text_of(tree):
+    if tree[0] == 'not':
+        return f'not ({text_of(tree[1])})'
+    if tree[0] in ('and', 'or'):
+        return f'({text_of(tree[1])}) {tree[0]} ({text_of(tree[2])})'
+    return TEXTS[tree[0]](*tree[1:])
+
+
+def primitives(tree):
+    """those of a tree, in the order of the text"""
+    if tree[0] in ('not', 'and', 'or'):
+        return [one for part in tree[1:] for one in primitives(part)]
+    return [tree]
+
+
+# ---- where the answers are to differ
+
+ARP = 0x806, 0x8035
+
+def port_of_one_protocol(name):
+    """whether the names of services here have it for TCP alone or for UDP alone"""
+    found = set()
+    for protocol in 'tcp', 'udp':
+        try:
+            found.add(socket.getservbyname(name, protocol))
+        except OSError:
+            found.add(None)
+    return len(found) > 1
+
+
+ONE_PROTOCOL = {name for name in grammar.PORT_NAMES if port_of_one_protocol(name)}
+
+
+class Pair:
+    """an expression and a frame"""
+
+    def __init__(self, text, tree, frame):
+        self.text, self.tree, self.frame = text, tree, frame
+        self.words = {word for _, word in grammar.words_of(text)}
+        self.primitives = primitives(tree)
+
+    def has(self, name):
+        return any(one[0] == name for one in self.primitives)
+
+    def number(self, *numbers):
+        return self.frame.ip is not None and self.frame.ip.upper in numbers
+
+
+def more_after_vlan(pair):
+    return 'vlan' in [one[0] for one in pair.primitives[:-1]]
+
+
+def transport_load_over_ipv6(pair):
+    ip = pair.frame.ip
+    return ip is not None and ip.version == 6 and any(
+        one[0] == 'load' and one[1] in meaning.NUMBERS and meaning.NUMBERS[one[1]] == ip.upper
+        for one in pair.primitives)
+
+
+def load_past_the_end(pair):
+    for one in pair.primitives:
+        if one[0] == 'load':
+            data = meaning.bytes_of_load(pair.frame, one[1])
+            if data is not None and len(data) < one[2] + one[3]:
+                return True
+    return False
+
+
+def reserved_address(pair):
+    ip = pair.frame.ip
+    return (pair.has('ip-multicast') and ip is not None and ip.version == 4
+            and ip.destination >> 28 == 0xf)
+
+
+def all_32_bits(pair):
+    return any(one[0] in ('load', 'len') and 0xffffffff in one[1:] and one[-1] == 0
+               for one in pair.primitives)
+
+
+def name_of_one_protocol(pair):
+    return bool(pair.words & ONE_PROTOCOL)
+
+
+def address_alone(pair):
+    return grammar.read(pair.text, WITHOUT_ADDRESS_ALONE)[0] != 'ok'
+
+
+def small_ether_type(pair):
+    return any(one[0] == 'ether-type' and one[1] <= 1500 for one in pair.primitives)
+
+
+# ---- frames that are not plain
+
+def tagged(pair):
+    return bool(pair.frame.tags) or pair.frame.ether_type in meaning.TAGS
+
+
+def extended(pair):
+    ip = pair.frame.ip
+    return ip is not None and ip.version == 6 and (
+        bool(ip.chain) or ip.upper in meaning.EXTENSIONS)
+
+
+def padded(pair):
+    """bytes after what the length field says, or after an ARP packet"""
+    frame, ip = pair.frame, pair.frame.ip
+    if ip is not None:
+        return len(ip.whole) < len(frame.payload)
+    return frame.ether_type in ARP and len(frame.payload) > 28
+
+
+def cut(pair):
+    """fewer bytes than the length field says, or than an ARP packet has, or no IP header"""
+    frame, ip = pair.frame, pair.frame.ip
+    if ip is not None:
+        return not ip.complete
+    return frame.ether_type in (0x800, 0x86dd) or (
+        frame.ether_type in ARP and len(frame.payload) < 28)
+
+
+def other_version(pair):
+    ip = pair.frame.ip
+    return ip is not None and pair.frame.ether_type not in (
+        None, {4: 0x800, 6: 0x86dd}[ip.version])
+
+
+def without_ports(pair):
+    ip = pair.frame.ip
+    return ip is not None and not ip.later and pair.number(6, 17, 132) and len(ip.payload) < 4
+
+
+def other_arp(pair):
+    """ARP or RARP that is not for Ethernet and IPv4"""
+    return pair.frame.ether_type in ARP and pair.frame.payload[:6] != bytes([0, 1, 8, 0, 6, 4])
+
+
+def is_about_cover(pair):
+    """whether an expression is about the headers that cover a packet, or about lengths"""
+    return any(one[0] in ('vlan', 'less', 'greater', 'len', 'fragment', 'first-fragment',
+                          'checksum-wrong')
+               or one[0] == 'load' and one[1] in ('ether', 'ip6') for one in pair.primitives)
+
+
+INTENDED = [
+    ('more after vlan: libpcap then looks for it 4 bytes further', more_after_vlan),
+    ('a load of TCP, UDP or SCTP over IPv6: libpcap has none', transport_load_over_ipv6),
+    ('a load past the end of the packet: libpcap rejects the packet', load_past_the_end),
+    ('ip multicast, and 240.0.0.0/4: libpcap takes it for multicast', reserved_address),
+    ('`& 0xffffffff` and 0: the optimiser of libpcap forgets the comparison', all_32_bits),
+    ('a port name that services have for one protocol: libpcap then asks for that',
+     name_of_one_protocol),
+    ('an address alone: libpcap refuses it, or takes it for another value', address_alone),
+    ('ether proto up to 1500: libpcap looks for an LLC header', small_ether_type),
+    ('a VLAN tag', tagged),
+    ('an extension header of IPv6', extended),
+    ('bytes after the packet', padded),
+    ('a packet that is not all there', cut),
+    ('another version than the EtherType says', other_version),
+    ('too short for ports', without_ports),
+    ('ARP or RARP that is not for Ethernet and IPv4', other_arp)]
+
+
+# libpcap's own number of a link type, where it is not that of captures
+OWN_NUMBER = {101: 12}
+OPTIMISER = 'the optimiser of libpcap changes the answer: without it the two agree'
+
+
+class Libpcaps:
+    """libpcap, with the programs of the last text"""
+
+    def __init__(self):
+        self.libraries, self.library = {}, None
+        self.last, self.programs, self.why = None, [], None
+
+    def read(self, text, tree, link_type=1):
+        """Compiles a text, with and without the optimiser; the tree in libpcap's own words if the
+        text is refused. Gives the reason of that."""
+        if (text, link_type) == self.last:
+            return self.why
+        for program in self.programs:
+            self.library.free(program)
+        if link_type not in self.libraries:
+            self.libraries[link_type] = Libpcap(OWN_NUMBER.get(link_type, link_type))
+        self.library, self.last, self.why = self.libraries[link_type], (text, link_type), None
+        self.programs = []
+        if not OWN_WORDS & {word for _, word in grammar.words_of(text)}:
+            try:
+                self.compile(text)
+                return None
+            except CompileError as error:
+                self.why = re.sub('"[^"]*"|\'[^\']*\'|[0-9]{3,}', '..', str(error))
+        self.compile(text_of(tree).encode())
+        return self.why
+
+    def compile(self, text):
+        plain = self.library.compile(text, optimised=False)
+        try:
+            self.programs = [self.library.compile(text), plain]
+        except CompileError as error:
+            # nothing can match: the optimiser says so, and gives no program
+            if 'rejects all packets' not in str(error):
+                self.library.free(plain)
+                raise
+            self.programs = [plain]
+
+    def answers(self, frame, wire):
+        """with the optimiser, if it gave a program, and without"""
+        return [self.library.matches(program, frame, wire) for program in self.programs]
+
+
+def main():
+    parser = argparse.ArgumentParser(usage=__doc__)
+    parser.add_argument('--program')
+    parser.add_argument('--covered', action='store_true')
+    parser.add_argument('--show', type=int, default=10)
+    asked = parser.parse_args()
+    answers = open(asked.program, encoding='ascii').read().splitlines() if asked.program else None
+    tally, example, refusals = collections.Counter(), {}, collections.Counter()
+    libpcaps, shown = Libpcaps(), 0
+
+    def wrong(what, case, ours, theirs):
+        nonlocal shown
+        tally['wrong'] += 1
+        shown += 1
+        if shown <= asked.show:
+            print(f'{what}: {case[3]!r}\n  {case[1].hex()} {case[2]}\n  {ours} and {theirs}')
+
+    read_last = None, None
+    for at, line in enumerate(sys.stdin):
+        _, link, data, wire, text = line.split()
+        text, data = bytes.fromhex('' if text == '-' else text), bytes.fromhex(data)
+        case = link, data, int(wire), text
+        tally['cases'] += 1
+        if read_last[0] != text:
+            read_last = text, grammar.read(text)
+        read = read_last[1]
+        ours = meaning.answer(read, data, int(wire), int(link))
+        if answers is not None and answers[at] != ours:
+            wrong('program and model', case, answers[at], ours)
+        if ours.startswith('err'):
+            tally['refused'] += 1
+            continue
+        pair = Pair(text, read[1], meaning.read_frame(data, int(link)))
+        if asked.covered and at % 2 == 1 and not is_about_cover(pair):
+            tally['pairs of a plain and a covered frame'] += 1
+            if ours != of_plain:
+                wrong('plain and covered', case, of_plain, ours)
+        of_plain = ours
+        if pair.has('checksum-wrong'):
+            tally['no counterpart in libpcap'] += 1
+            continue
+        why = libpcaps.read(text, read[1], int(link))
+        if why:
+            refusals[why] += 1
+        said = libpcaps.answers(data, int(wire))
+        theirs = 'true' if said[0] else 'false'
+        tally['pairs'] += 1
+        tally['pairs that match'] += ours == 'true'
+        classes = [name for name, applies in INTENDED if applies(pair)]
+        if not classes and said[0] != said[-1]:
+            classes = [OPTIMISER]
+            if ours != ('true' if said[-1] else 'false'):
+                wrong('libpcap without its optimiser and model', case, theirs, ours)
+        for name in classes:
+            tally['about', name] += 1
+            if ours != theirs:
+                tally['differ', name] += 1
+                # the best example differs for this reason alone, and is short
+                worth = len(classes), len(text)
+                if name not in example or worth < example[name][0]:
+                    example[name] = worth, *case, ours, theirs
+        if not classes and ours != theirs:
+            wrong('libpcap and model', case, theirs, ours)
+        if not classes:
+            tally['pairs without an intended difference'] += 1
+    for name in [*(name for name, _ in INTENDED), OPTIMISER]:
+        if ('about', name) in tally:
+            print(f'{name}\n  {tally["about", name]} pairs, {tally["differ", name]} differ')
+        if name in example:
+            _, _, data, wire, text, ours, theirs = example[name]
+            print(f'  {text.decode("latin-1")!r} {data.hex()} {wire}: '
+                  f'libpcap {theirs}, here {ours}')
+    for why, count in refusals.most_common():
+        print(f'refused by libpcap, asked in its words: {count}  {why}')
+    for name in ('cases', 'refused', 'no counterpart in libpcap', 'pairs', 'pairs that match',
+                 'pairs without an intended difference', 'pairs of a plain and a covered frame'):
+        print(f'{tally[name]} {name}')
+    print(f'{tally["wrong"]} differ without intention')
+    sys.exit(1 if tally['wrong'] else 0)
+
+
+if __name__ == '__main__':
+    main()

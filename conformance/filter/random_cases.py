@@ -1,0 +1,552 @@
+#!/usr/bin/env python3
+"""random_cases.py [--seed S] [--count N] [--kind KIND] [--frames N]
+
+Random cases of the operation `filter`, one a line: `filter 1 FRAME LENGTH TEXT`, the frame and the
+text in hex. The same arguments give the same cases. KIND is
+
+    plain    expressions, and frames without tags, extension headers, padding or missing bytes
+    other    expressions, and frames with those
+    bytes    texts of random bytes
+    words    texts of words of the language in random order
+    covered  expressions, each first on a plain frame and then on the same with tags, extension
+             headers and padding, where it has to say the same
+    changed  expressions, and those of real.txt, with a word changed, and some that are too long
+
+`--frames` is how many frames an expression gets. The addresses, ports and flags come from small
+pools, and half of what an expression names is taken from its first frame, so that about half of the
+pairs match."""
+import argparse
+import ipaddress
+import os
+import random
+import struct
+
+import grammar
+from meaning import ones_complement_sum
+
+HARDWARE = ['00:11:22:33:44:55', '00:11:22:33:44:66', 'a:b:c:d:e:f', 'ff:ff:ff:ff:ff:ff',
+            '01:00:5e:00:00:fb', '33:33:00:00:00:01']
+ADDRESSES4 = ['10.0.0.1', '10.0.0.2', '10.1.2.3', '192.168.1.1', '192.168.1.200', '172.16.0.5',
+              '224.0.0.251', '239.1.2.3', '240.0.0.1', '255.255.255.255', '0.0.0.0']
+ADDRESSES6 = ['::1', '2001:db8::1', '2001:db8::2', '2001:db8:0:1::5', 'fe80::1', 'ff02::1',
+              'ff02::fb', '::ffff:10.0.0.1', '::']
+PORTS = [20, 21, 22, 25, 53, 67, 68, 80, 81, 90, 123, 443, 1024, 5353, 8080, 65535]
+ETHER_TYPES = [0x6001, 0x6002, 0x6003, 0x6004, 0x6007, 0x8863, 0x888e, 0x88a2, 0x88cc, 0x88d9]
+# IP protocols that have no header of their own here
+OTHER_NUMBERS = [4, 8, 9, 41, 47, 88, 89, 103, 112, 115, 255]
+ICMP_TYPES = [0, 3, 4, 5, 8, 9, 10, 11, 12, 13, 14]
+ICMP6_TYPES = [1, 2, 3, 4, 128, 129, 130, 133, 134, 135, 136, 143]
+FLAGS = [0x02, 0x12, 0x10, 0x18, 0x11, 0x04, 0x14, 0x01, 0xc2, 0x20, 0x00, 0x29]
+EXTENSIONS = [0, 43, 44, 51, 60, 135, 139, 140]
+
+# values and what is nearly one
+SOME_WORDS = r"""80 443 0x50 65535 65536 4294967295 4294967296 080 0 00 0x 255 256 4095 4096
+    80-90 90-80 80- -80 10.0.0.1 10.0.0.256 10.0.0 10 10/8 10/33 10.0.0.0/8 10.0.0.1/8
+    10.0.0.0/33 /8 10.0.0.0/ 255.0.0.0 255.0.255.0 :: ::1 fe80::1 fe80::/10 ::/129 ::1::
+    1:2:3:4:5:6 0:0:0:0:0:0:0:1 a:b:c:d:e:f 00:11:22:33:44:55 0:1:2:3:4:g 12:2 12:3 0:1 13
+    tcpflags tcpflags:1 icmptype tcp-syn icmp-echo http domain ftp-data \tcp \ip gre \gre""".split()
+
+
+class Cases:
+    def __init__(self, seed):
+        self.dice = random.Random(seed)
+        self.pick = self.dice.choice
+        self.facts = {}
+        self.hardware, self.ports = HARDWARE, PORTS
+        self.addresses4, self.addresses6 = ADDRESSES4, ADDRESSES6
+        here = os.path.dirname(os.path.abspath(__file__))
+        with open(os.path.join(here, 'real.txt'), encoding='ascii') as file:
+            self.real = [line.split('\t')[1] for line in file.read().splitlines()]
+
+    def chance(self, part):
+        return self.dice.random() < part
+
+    def some_bytes(self, length):
+        return self.dice.randbytes(length)
+
+    # ---- frames
+
+    def checksum(self, front, data, at):
+        """data with its checksum at a place, wrong once in eight"""
+        data = data[:at] + b'\0\0' + data[at + 2:]
+        right = 0xffff - ones_complement_sum(front + data)
+        if self.chance(0.125):
+            right ^= 1 << self.dice.randrange(16)
+        return data[:at] + struct.pack('>H', right) + data[at + 2:]
+
+    def transport(self, version, pseudo):
+        """(number, bytes) of what IP carries; `pseudo` makes a pseudo-header"""
+        known = ['tcp', 'tcp', 'tcp', 'udp', 'udp', 'udp', 'icmp', 'sctp', 'igmp', 'esp', 'other']
+        name = self.pick(known if version == 4 else [*known, 'icmp', 'icmp'])
+        body = self.some_bytes(self.pick([0, 1, 8, 12, 20, 33, 60]))
+        source, destination = self.pick(self.ports), self.pick(self.ports)
+        if name in ('tcp', 'udp', 'sctp'):
+            self.facts['ports'] = [source, destination]
+        if name == 'tcp':
+            flags, options = self.pick(FLAGS), b'\1' * 4 * self.pick([0, 0, 0, 1, 5])
+            data = struct.pack('>HHIIBBHHH', source, destination, self.dice.getrandbits(32),
+                               self.dice.getrandbits(32), (5 + len(options) // 4) << 4, flags, 1024,
+                               0, 0) + options + body
+            self.facts['loads'] = [('tcp', 'tcpflags', flags), ('tcp', '0:2', source)]
+            return 6, self.checksum(pseudo(6, len(data)), data, 16)
+        if name == 'udp':
+            body = body or b'\0' * 4
+            data = struct.pack('>HHHH', source, destination, 8 + len(body), 0) + body
+            self.facts['loads'] = [('udp', '2:2', destination), ('udp', '4:2', 8 + len(body))]
+            if version == 4 and self.chance(0.1):
+                return 17, data
+            return 17, self.checksum(pseudo(17, len(data)), data, 6)
+        if name == 'sctp':
+            self.facts['loads'] = [('sctp', '2:2', destination)]
+            return 132, struct.pack('>HHII', source, destination, 1, 0) + body
+        if name == 'icmp' and version == 4:
+            kind = self.pick(ICMP_TYPES)
+            data = struct.pack('>BBHI', kind, self.pick([0, 0, 1, 3]), 0, 7) + body
+            self.facts['loads'] = [('icmp', 'icmptype', kind), ('icmp', '0', kind)]
+            return 1, self.checksum(b'', data, 2)
+        if name == 'icmp':
+            kind = self.pick(ICMP6_TYPES)
+            data = struct.pack('>BBHI', kind, self.pick([0, 0, 1, 4]), 0, 7) + body
+            self.facts['loads'] = [('icmp6', 'icmp6type', kind), ('ip6', '40', kind)]
+            return 58, self.checksum(pseudo(58, len(data)), data, 2)
+        if name == 'igmp':
+            kind = self.pick([0x11, 0x16, 0x17, 0x22])
+            self.facts['loads'] = [('igmp', '0', kind)]
+            return 2, struct.pack('>BBHI', kind, 0, 0, 0xe00000fb) + body
+        if name == 'esp':
+            return (50 if version == 6 or self.chance(0.5) else 51), b'\0\0\1\0' * 4 + body
+        # the first bytes look like ports, which they are not
+        return self.pick(OTHER_NUMBERS), struct.pack('>HH', source, destination) + body
+
+    def ipv4(self, plain):
+        source, destination = self.pick(self.addresses4), self.pick(self.addresses4)
+        self.facts.update(addresses=[source, destination], version=4)
+        packed = b''.join(bytes(map(int, one.split('.'))) for one in (source, destination))
+        number, data = self.transport(4, lambda number, length: packed + struct.pack(
+            '>xBH', number, length))
+        place = 0x4000 if self.chance(0.4) else 0
+        if self.chance(0.2):
+            # a fragment: the first, one in the middle, or the last
+            place = self.pick([0x2000, 0x2000, 0x2001, 0x20b9, 0x0001, 0x00b9, 0x1fff])
+            if place & 0x2000:
+                data = data[:max(8, len(data) // 8 * 8)]
+            if place & 0x1fff and self.chance(0.5):
+                data = self.some_bytes(len(data))
+        options = b'\1' * 4 * self.pick([0, 0, 0, 0, 0, 1, 3, 10])
+        total = 20 + len(options) + len(data)
+        if not plain and self.chance(0.04):
+            total = self.pick([0, 19, 20, total - 4])
+        time_to_live = self.pick([1, 4, 64, 128, 255])
+        header = struct.pack('>BBHHHBBH', 0x45 + len(options) // 4, self.pick([0, 0, 0x10, 0xb8]),
+                             total, self.dice.getrandbits(16), place, time_to_live, number, 0)
+        header = self.checksum(b'', header + packed + options, 10)
+        self.facts.setdefault('loads', []).extend([
+            ('ip', '2:2', total), ('ip', '6:2', place), ('ip', '8', time_to_live),
+            ('ip', '9', number), ('ip', '16', int(destination.split('.')[0]))])
+        self.facts['number'] = number
+        return header + data
+
+    def ipv6(self, plain):
+        source, destination = self.pick(self.addresses6), self.pick(self.addresses6)
+        self.facts.update(addresses=[source, destination], version=6)
+        packed = b''.join(grammar.ipv6(one)[1].to_bytes(16, 'big') for one in (source, destination))
+        number, data = self.transport(6, lambda number, length: packed + struct.pack(
+            '>I3xB', length, number))
+        self.facts['number'] = number
+        for _ in range(0 if plain else self.pick([0, 1, 1, 1, 2, 3])):
+            number, data = self.extension(number, data)
+        length = len(data)
+        if not plain and self.chance(0.03):
+            length = 0
+        self.facts.setdefault('loads', []).extend([('ip6', '6', number), ('ip6', '4:2', length)])
+        return struct.pack('>IHBB', 0x60000000, length, number, 64) + packed + data
+
+    def extension(self, number, data, is_first=False):
+        """an extension header before what IP carries, if it is so in the first fragment"""
+        kind = self.pick([0, 0, 44, 44, 44, 60, 60, 43, 51, 135, 139, 140])
+        if kind == 44:
+            place = self.pick([0, 0, 1, 1] if is_first else [0, 0, 1, 1, 0xb8, 0x5c8, 0x5c9])
+            return 44, struct.pack('>BxHI', number, place, 5) + data
+        units = self.pick([0, 0, 1, 2])
+        if kind == 51:
+            return 51, bytes([number, units + 1]) + self.some_bytes(10 + 4 * units) + data
+        return kind, bytes([number, units]) + self.some_bytes(6 + 8 * units) + data
+
+    def arp(self, plain):
+        """ARP or RARP, if plain for Ethernet and IPv4"""
+        source, destination = self.pick(self.addresses4), self.pick(self.addresses4)
+        self.facts.update(addresses=[source, destination], version=4)
+        parts = [bytes(map(int, one.split('.'))) for one in (source, destination)]
+        kind = (1, 0x800, 6, 4) if plain or self.chance(0.6) else self.pick([
+            (6, 0x800, 6, 4), (1, 0x806, 6, 4), (1, 0x800, 4, 4), (1, 0x800, 6, 16)])
+        return (struct.pack('>HHBBH', *kind, self.pick([1, 2])) + self.some_bytes(6) + parts[0]
+                + self.some_bytes(6) + parts[1])
+
+    def frame(self, plain=True):
+        """(bytes, length on the wire), and `facts` of what is in it"""
+        self.facts = {}
+        to, by = self.pick(self.hardware), self.pick(self.hardware)
+        self.facts['hardware'] = [by, to]
+        kind = self.dice.random()
+        if kind < 0.5:
+            ether_type, data = 0x800, self.ipv4(plain)
+        elif kind < 0.85:
+            ether_type, data = 0x86dd, self.ipv6(plain)
+        elif kind < 0.95:
+            ether_type, data = self.pick([0x806, 0x806, 0x8035]), self.arp(plain)
+        else:
+            ether_type, data = self.pick(ETHER_TYPES), self.some_bytes(50)
+        self.facts['ether type'] = ether_type
+        self.facts['words'] = [word for word, tree in grammar.ALONE.items() if tree in (
+            ('version', self.facts.get('version')), ('ether-type', ether_type),
+            ('proto', None, self.facts.get('number')),
+            ('proto', self.facts.get('version'), self.facts.get('number')))]
+        self.facts.setdefault('loads', []).extend([
+            ('ether', '0', int(to.split(':')[0], 16)), ('ether', '12:2', ether_type)])
+        front = b''.join(grammar.hardware_address(one).to_bytes(6, 'big') for one in (to, by))
+        tags = []
+        if not plain:
+            for _ in range(self.pick([0, 0, 1, 1, 2, 3])):
+                identifier = self.pick([0, 5, 6, 100, 4095])
+                tags.append((self.pick([0x8100, 0x8100, 0x88a8, 0x9100]),
+                             self.pick([0, 0xa000]) + identifier))
+            if tags:
+                self.facts['vlan'] = self.pick(tags)[1] % 4096
+        for number, control in reversed(tags):
+            data, ether_type = struct.pack('>HH', control, ether_type) + data, number
+        whole = front + struct.pack('>H', ether_type) + data
+        if not plain and self.chance(0.4):
+            whole += self.pick([bytes(1), bytes(8), bytes(max(0, 60 - len(whole))),
+                                self.some_bytes(6)])
+        # a frame check sequence, or padding, that was not captured
+        wire = len(whole) + (self.pick([4, 46, 1000]) if self.chance(0.1) else 0)
+        self.facts['length'] = wire
+        if not plain and self.chance(0.3):
+            whole = whole[:max(14, self.pick([14, 16, 18, 33, 34, 36, 37, 38, 42, 53, 54, 58, 62,
+                                              68, wire - 1, wire // 2]))]
+        return whole, wire
+
+    def covered(self, plain):
+        """a plain frame with tags, with extension headers before what IPv6 carries, and padding"""
+        front, ether_type, data = plain[:12], plain[12:14], plain[14:]
+        tags = b''
+        for _ in range(self.pick([0, 1, 1, 2])):
+            tags += struct.pack('>HH', self.pick([0x8100, 0x88a8, 0x9100]), self.pick([5, 0xa006]))
+        if ether_type == b'\x86\xdd':
+            number, rest = data[6], data[40:]
+            for _ in range(self.pick([0, 1, 2, 3])):
+                number, rest = self.extension(number, rest, is_first=True)
+            data = data[:4] + struct.pack('>HB', len(rest), number) + data[7:40] + rest
+        return front + tags + ether_type + data + self.pick([b'', b'', b'', bytes(20)])
+
+    # ---- expressions
+
+    def fact(self, name, pool):
+        """half of the time what the frame has, else anything"""
+        found = self.facts.get(name)
+        if found is not None and self.chance(0.7):
+            return self.pick(found) if isinstance(found, list) else found
+        return self.pick(pool)
+
+    def address(self):
+        return self.fact('addresses', self.addresses4 + self.addresses6)
+
+    def direction(self, optional=True):
+        if optional and self.chance(0.6):
+            return []
+        return self.pick([['src'], ['src'], ['dst'], ['dst'], ['src', 'or', 'dst'],
+                          ['src', 'and', 'dst']])
+
+    def protocol_of(self, address):
+        """a qualifier that an address can have"""
+        if self.chance(0.85):
+            return []
+        return ['ip6'] if ':' in address else [self.pick(['ip', 'ip', 'arp', 'rarp'])]
+
+    def other_address(self, protocol):
+        """an address that the qualifier of another can have"""
+        if not protocol:
+            return self.address()
+        return self.pick(self.addresses6 if protocol == ['ip6'] else self.addresses4)
+
+    def host(self):
+        address = self.address()
+        protocol = self.protocol_of(address)
+        if self.chance(0.1):
+            return [address], self.address
+        if self.chance(0.2):
+            front = [*protocol, *self.direction(optional=False)]
+        else:
+            front = [*protocol, *self.direction(), 'host']
+        return [*front, address], lambda: self.other_address(protocol)
+
+    def net_word(self, address):
+        """a net with an address, now and then with bits after its prefix, which libpcap refuses"""
+        version, number = grammar.address(address)
+        width = 32 if version == 4 else 128
+        bits = self.pick([0, 4, 8, 12, 16, 24, 25, 32] if version == 4 else
+                         [0, 3, 8, 10, 32, 64, 128])
+        if not self.chance(0.05):
+            number = number >> (width - bits) << (width - bits)
+        kind = ipaddress.IPv4Address if version == 4 else ipaddress.IPv6Address
+        if version == 6:
+            return f'{kind(number)}/{bits}'
+        parts = address.split('.')
+        form = self.dice.random()
+        if form < 0.5:
+            return f'{kind(number)}/{bits}'
+        if form < 0.6:
+            return address
+        count = self.pick([1, 2, 3])
+        front = '.'.join(parts[:count])
+        return front if form < 0.9 else f'{front}/{8 * count}'
+
+    def net(self):
+        address = self.address()
+        protocol = self.protocol_of(address)
+        front = [*protocol, *self.direction(), 'net']
+        if ':' not in address and self.chance(0.15):
+            bits = self.pick([0, 8, 16, 24, 32])
+            mask = 2**32 - 2**(32 - bits)
+            number = grammar.ipv4(address)[1] & mask
+            words = [str(ipaddress.IPv4Address(number)), 'mask', str(ipaddress.IPv4Address(mask))]
+        else:
+            words = [self.net_word(address)]
+        return [*front, *words], lambda: self.net_word(self.other_address(protocol))
+
+    def port_word(self):
+        number = self.fact('ports', self.ports)
+        named = [name for name, found in grammar.PORT_NAMES.items() if found == number]
+        if named and self.chance(0.15):
+            return self.pick(named)
+        return hex(number) if self.chance(0.03) else str(number)
+
+    def port(self):
+        front = [*self.pick([[], [], ['tcp'], ['tcp'], ['udp'], ['sctp']]), *self.direction()]
+        if self.chance(0.1):
+            return [*front, 'portrange', self.range_word()], self.range_word
+        return [*front, 'port', self.port_word()], self.port_word
+
+    def range_word(self):
+        low = self.fact('ports', self.ports)
+        return f'{low}-{self.pick([low, low, min(65535, low + 1000), 65535])}'
+
+    def word(self):
+        if self.chance(0.5) and self.facts.get('words'):
+            return [self.pick(self.facts['words'])], None
+        if self.chance(0.7):
+            return [self.pick(['tcp', 'udp', 'ip', 'icmp', 'arp', 'ip6', 'icmp6'])], None
+        return [self.pick(['rarp', 'sctp', 'igmp', 'esp', 'ah', 'igrp', 'pim', 'vrrp', 'carp',
+                           'decnet', 'lat', 'moprc', 'mopdl', 'sca'])], None
+
+    def ip_number(self):
+        return self.pick([*grammar.IP_NUMBERS, str(self.fact('number', [1, 6, 17, 47, 58, 89]))])
+
+    def proto(self):
+        return [*self.pick([[], ['ip'], ['ip6']]), 'proto', self.ip_number()], self.ip_number
+
+    def ether_type(self):
+        if self.chance(0.3):
+            return self.pick([*grammar.ETHER_TYPES])
+        number = self.fact('ether type', [0x800, 0x806, 0x86dd, 0x888e, 0x88cc])
+        return hex(number) if self.chance(0.8) else str(number)
+
+    def ether_proto(self):
+        return ['ether', 'proto', self.ether_type()], self.ether_type
+
+    def ether_host(self):
+        front = self.direction()
+        if not front or self.chance(0.3):
+            front = [*front, 'host']
+        return ['ether', *front, self.fact('hardware', self.hardware)], lambda: self.fact(
+            'hardware', self.hardware)
+
+    def cast(self):
+        return self.pick([['broadcast'], ['ether', 'broadcast'], ['multicast'],
+                          ['ether', 'multicast'], ['ip', 'multicast'], ['ip6', 'multicast']]), None
+
+    def length(self):
+        limit = str(self.pick([60, 64, 100, 128, self.facts.get('length', 74)]))
+        if self.chance(0.5):
+            return [self.pick(['less', 'greater']), limit], None
+        masked = ['&', '1'] if self.chance(0.1) else []
+        return ['len', *masked, self.pick(['=', '==', '!=', '<', '>', '<=', '>=']), limit], None
+
+    def vlan(self):
+        return ['vlan', *([str(self.fact('vlan', [0, 5, 6, 100, 4095]))]
+                          if self.chance(0.6) else [])], None
+
+    def fragment(self):
+        return self.pick([['fragment'], ['first', 'fragment']]), None
+
+    def checksum_wrong(self):
+        return ['checksum', 'wrong'], None
+
+    def load(self):
+        protocol, place, found = self.pick([
+            *self.facts.get('loads', []), *self.facts.get('loads', []), ('tcp', 'tcpflags', 2),
+            ('tcp', '13', 18), ('icmp', 'icmptype', 8), ('icmp6', 'icmp6type', 128),
+            ('ip', '6:2', 0), ('ip', '0', 0x45), ('ip', '12:4', 0x0a000001), ('ip6', '6', 6),
+            ('ip6', '40', 128),
+            ('udp', '2:2', 53), ('udp', '10', 0), ('ether', '0', 255), ('sctp', '0:2', 80),
+            ('igmp', '0', 0x16), ('ip', '20', 8), ('tcp', '0:4', 0x00500050), ('ip', '120', 0),
+            ('tcp', '20:4', 0), ('ether', '60:2', 0), ('icmp', '8:4', 0), ('sctp', '12', 0)])
+        size = place.partition(':')[2] or '1'
+        most = 2**(8 * int(size)) - 1
+        mask = []
+        if self.chance(0.5):
+            kind = self.dice.random()
+            if place in ('tcpflags', '13') and kind < 0.9:
+                names = self.dice.sample([name for name in grammar.VALUE_NAMES
+                                          if name.startswith('tcp-')], self.pick([1, 1, 2, 3]))
+                mask = names if len(names) == 1 else ['(', *' | '.join(names).split(), ')']
+                bits = 0
+                for name in names:
+                    bits |= grammar.VALUE_NAMES[name]
+            else:
+                bits = self.pick([1, 2, 0xf, 0xf0, 0x1fff, 0x3fff, most]) & most
+                mask = [hex(bits) if self.chance(0.6) else str(bits)]
+            found = self.pick([0, bits, found & bits])
+            mask = ['&', *mask]
+        value = str(found) if self.chance(0.7) else hex(found)
+        if not mask and place in ('icmptype', 'icmp6type'):
+            named = [name for name, number in grammar.VALUE_NAMES.items()
+                     if number == found and name.startswith('icmp6-' if '6' in place else 'icmp-')]
+            value = self.pick([value, *named])
+        front = [protocol, '[', place, ']', *mask]
+        if self.chance(0.1):
+            front = ['(', *front, ')']
+        return [*front, self.pick(['=', '=', '==', '!=', '!=', '<', '>', '<=', '>=']), value], None
+
+    def primitive(self):
+        makers = [self.word] * 45 + [self.port] * 35 + [self.host] * 27 + [self.load] * 20 + [
+            self.ether_host] * 6 + [self.net] * 7 + [self.ether_proto] * 4 + [self.vlan] * 4 + [
+            self.proto] * 4 + [self.length] * 3 + [self.cast] * 3 + [self.fragment] * 2 + [
+            self.checksum_wrong]
+        return self.pick(makers)()
+
+    def negated(self, words):
+        return [self.pick(['not', 'not', '!']), *words] if self.chance(0.1) else words
+
+    def level(self, count):
+        """the words of an expression of some primitives"""
+        if count == 1:
+            words, _ = self.primitive()
+            if self.chance(0.05):
+                words = ['(', *words, ')']
+            return self.negated(words)
+        operator = ['or', 'or', '||'] if self.chance(0.6) else ['and', 'and', '&&']
+        words, value = [], None
+        while count > 0:
+            if words:
+                words.append(self.pick(operator))
+            if value is not None and self.chance(0.2):
+                words += self.negated([value()])
+                count -= 1
+            elif count > 1 and self.chance(0.3):
+                inner = self.dice.randint(2, count)
+                words += self.negated(['(', *self.level(inner), ')'])
+                count, value = count - inner, None
+            else:
+                primitive, after = self.primitive()
+                # after a value, an address alone would be another value
+                while value is not None and len(primitive) == 1 and ':' in primitive[0] + (
+                        ':' if '.' in primitive[0] else ''):
+                    primitive, after = self.primitive()
+                value = after
+                words += self.negated(primitive)
+                count -= 1
+        return words
+
+    def expression(self):
+        """a text of the language"""
+        count = self.pick([1, 1, 1, 2, 2, 2, 3, 3, 4, 5, 8])
+        while True:
+            words = self.level(count)
+            if len(words) <= grammar.MAX_WORDS:
+                return self.spaced(words)
+
+    def spaced(self, words):
+        marks = set('()[]&|=<>!') | {'&&', '||', '==', '!=', '<=', '>='}
+        tight = self.chance(0.5)
+        text = ''
+        for left, right in zip(['', *words], words):
+            # libpcap takes what follows an escaped word for a part of it
+            both = left in marks, right in marks
+            apart = left and (not tight or left.startswith('\\') or both == (False, False)
+                              or left + right in marks
+                              or all(both) and left not in '()[]!' and right not in '()[]!')
+            if apart:
+                text += ' ' if self.chance(0.98) else self.pick(['  ', '\t', '\n', ' \r\n '])
+            text += right
+        return text.encode('latin-1')
+
+    # ---- texts that need not be expressions
+
+    def text(self, kind):
+        if kind == 'bytes':
+            pool = self.pick([range(256), range(32, 127), b'ipno and(or)!&|=<>[]0123456789 :./-\\'])
+            return bytes(self.dice.choices(pool, k=self.pick([0, 1, 2, 5, 20, 80])))
+        if kind == 'words':
+            count = self.pick([1, 2, 3, 4, 5, 8, 12])
+            return self.spaced([self.some_word() for _ in range(count)])
+        if self.chance(0.02):
+            one = self.pick([['ip'], ['(', 'ip', ')'], ['not', 'ip'], ['port', '80'], ['80', '80']])
+            words = one.copy()
+            while len(words) < grammar.MAX_WORDS + self.pick([-1, 0, 1, 2]):
+                words += ['or', *one]
+            return self.spaced(words)
+        source = self.expression() if self.chance(0.7) else self.pick(self.real).encode('ascii')
+        words = [word for _, word in grammar.words_of(source)]
+        at = self.dice.randrange(len(words))
+        change = self.dice.random()
+        if change < 0.4:
+            words[at] = self.some_word()
+        elif change < 0.6:
+            words.insert(at, self.some_word())
+        elif change < 0.8:
+            del words[at]
+        elif change < 0.9:
+            words = words[:at]
+        else:
+            other = self.dice.randrange(len(words))
+            words[at], words[other] = words[other], words[at]
+        return self.spaced(words)
+
+    def some_word(self):
+        kind = self.dice.random()
+        if kind < 0.7:
+            return self.pick(sorted(grammar.FIXED))
+        if kind < 0.95:
+            return self.pick(SOME_WORDS)
+        return self.pick('foo IP Tcp ip. _ \\ * + % " ,'.split())
+
+
+def main():
+    parser = argparse.ArgumentParser(usage=__doc__)
+    parser.add_argument('--seed', type=int, default=1)
+    parser.add_argument('--count', type=int, default=10000)
+    parser.add_argument('--kind', default='plain',
+                        choices=['plain', 'other', 'covered', 'bytes', 'words', 'changed'])
+    parser.add_argument('--frames', type=int, default=2)
+    asked = parser.parse_args()
+    cases = Cases(asked.seed)
+    done = 0
+    while done < asked.count:
+        first = cases.frame(asked.kind != 'other')
+        if asked.kind in ('plain', 'other'):
+            text = cases.expression()
+            frames = [first] + [cases.frame(asked.kind != 'other')
+                                for _ in range(asked.frames - 1)]
+        elif asked.kind == 'covered':
+            text = cases.expression()
+            frames = [(frame, len(frame)) for frame in (first[0], cases.covered(first[0]))]
+        else:
+            text, frames = cases.text(asked.kind), [first]
+        for frame, wire in frames[:asked.count - done]:
+            print('filter 1', frame.hex(), wire, text.hex() or '-')
+        done += len(frames)
+
+
+if __name__ == '__main__':
+    main()
