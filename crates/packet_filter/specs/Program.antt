@@ -1,8 +1,7 @@
 -- Expressions in postfix form: each step takes its operands from a stack of expressions, and leaves
 -- what it makes of them.
-use Rattle.std.specs.Prelude.{ℕ, ◌≡◌, ◌/◌, ◌%◌, ◌↔◌, Option, Some, None, List, [], ◌∷◌}
-use Rattle.packet.specs.declared.lax_sliced_packet.LaxSlicedPacket.{LaxSlicedPacket}
-use Rattle.packet_filter.specs.Meaning.{Expression, Matches, one, negation, compound}
+use Rattle.std.specs.Prelude.{◌≡◌, Option, Some, None, List, [], ◌∷◌}
+use Rattle.packet_filter.specs.Meaning.{Expression, compound, negation, one}
 use Rattle.packet_filter.specs.declared.expression.Primitive.TheVariants as primitive
 use Rattle.packet_filter.specs.declared.filter.Step.{Step}
 use Rattle.packet_filter.specs.declared.filter.Step.TheVariants as step
@@ -39,9 +38,3 @@ expression_of steps = top_of (built steps [])
 -- the program computes this expression, and never lacks an operand
 abbrev pub Computes : List Step → Expression → Type 0
 Computes steps e = built steps [] ≡ Some (e ∷ [])
-
--- the bits of a number, the lowest first, say which of the expressions match
-abbrev pub Agrees : LaxSlicedPacket → ℕ → ℕ → List Expression → Type 0
-Agrees packet len bits [] = Unit {0}
-Agrees packet len bits (e ∷ es) =
-    ((bits % 2 ≡ 1) ↔ Matches e packet len) × Agrees packet len (bits / 2) es

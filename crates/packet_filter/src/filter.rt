@@ -1,11 +1,12 @@
 //! Filters: expressions in postfix form, and their evaluation.
 
-ghost use Rattle.std.specs.Prelude.{ℕ, ◌≡◌, ◌+◌, ◌*◌, ◌/◌, ◌%◌, ◌^◌, ◌<◌, ◌≤◌, ◌↔◌, IsTrue, List};
-ghost use Rattle.std.specs.Prelude.{Some, length};
-ghost use Rattle.packet_filter.specs.Meaning.{Expression, Matches};
-ghost use Rattle.packet_filter.specs.Program.{Agrees, Computes, expression_of, stepped};
+ghost use Rattle.std.specs.Prelude.{◌≡◌, ◌↔◌, IsTrue};
+ghost use Rattle.packet_filter.specs.Jumps.{jumps_of};
+ghost use Rattle.packet_filter.specs.Meaning.{Matches};
+ghost use Rattle.packet_filter.specs.Program.{Computes, expression_of};
 
 use crate::expression::{Operator, Primitive};
+use crate::jumps::{Jump, jumps_of};
 use arrayvec::ArrayVec;
 use packet::lax_sliced_packet::LaxSlicedPacket;
 use std::marker::Model;
@@ -27,10 +28,12 @@ pub(crate) enum Step {
 #[derive(Clone, Debug, Drop)]
 pub struct Filter {
     steps: ArrayVec<Step, 64>,
+    jumps: ArrayVec<Jump, 64>,
 }
 
 impl Model for Filter {
-    ghost use Rattle.std.specs.Prelude.{List};
+    ghost use Rattle.std.specs.Prelude.{◌≡◌, List};
+    ghost use Rattle.packet_filter.specs.Jumps.{jumps_of};
     ghost use Rattle.packet_filter.specs.Program.{Computes, expression_of};
     ghost use Rattle.packet_filter.specs.declared.filter.Step.{Step};
 
@@ -38,7 +41,8 @@ impl Model for Filter {
 
     ghost view = { λ f. f.steps.items };
 
-    ghost invariant = { λ f. Computes f.steps.items (expression_of f.steps.items) };
+    ghost invariant = { λ f. Computes f.steps.items (expression_of f.steps.items)
+        × (f.jumps.items ≡ jumps_of f.steps.items) };
 }
 
 impl Filter {
@@ -47,7 +51,8 @@ impl Filter {
         requires computes { Computes steps.items (expression_of steps.items) }
         ensures value { result ≡ steps.items }
     {
-        Filter { steps }
+        let jumps = jumps_of(steps.as_slice());
+        Filter { steps, jumps }
     }
 
     /// Whether the expression says something true of a packet. `len` is the length of its frame on
@@ -71,52 +76,27 @@ impl Filter {
     pub fn matches(&self, packet: &LaxSlicedPacket, len: usize) -> bool
         ensures value { IsTrue result ↔ Matches (expression_of self.now) packet.now len }
     {
-        value_of(self.steps.as_slice(), packet, len)
+        value_of(self.steps.as_slice(), self.jumps.as_slice(), packet, len)
     }
 }
 
 // Whether the expression of these steps matches.
-fn value_of(steps: &[Step], packet: &LaxSlicedPacket, len: usize) -> bool
-    requires few { length steps.now ≤ 64 }
+fn value_of(steps: &[Step], jumps: &[Jump], packet: &LaxSlicedPacket, len: usize) -> bool
     requires computes { Computes steps.now (expression_of steps.now) }
+    requires jumps { jumps.now ≡ jumps_of steps.now }
     ensures value { IsTrue result ↔ Matches (expression_of steps.now) packet.now len }
 {
-    let mut stack = 0;
-    for step in steps {
-        stack = after(stack, step, packet, len);
-    }
-    stack % 2 == 1
-}
-
-// The stack of answers after one step, the top in the lowest bit.
-#[inline(always)]
-fn after(stack: u64, step: &Step, packet: &LaxSlicedPacket, len: usize) -> u64
-    requires room { stack < 2 ^ 63 }
-    ensures bound { result ≤ 2 * stack + 1 }
-    ensures agrees { (es next : List Expression) → Agrees packet.now len stack es →
-        stepped step.now es ≡ Some next → Agrees packet.now len result next }
-{
-    match step {
-        Step::Test(primitive) => pushed(stack, primitive.holds(packet, len)),
-        Step::Not => pushed(stack / 2, stack % 2 == 0),
-        Step::Operator(Operator::And) => {
-            let below = stack / 2;
-            pushed(below / 2, below % 2 == 1 && stack % 2 == 1)
+    let mut rest = steps;
+    'steps: while let Some((step, after)) = rest.split_first() {
+        let Step::Test(primitive) = step else {
+            unreachable!();
+        };
+        let jump = jumps[after.len()];
+        let place = jump.place(primitive.holds(packet, len));
+        if place == 0 {
+            return false;
         }
-        Step::Operator(Operator::Or) => {
-            let below = stack / 2;
-            pushed(below / 2, below % 2 == 1 || stack % 2 == 1)
-        }
+        rest = &after[after.len() + 1 - place..];
     }
-}
-
-// A stack with one more answer.
-#[inline(always)]
-fn pushed(below: u64, top: bool) -> u64
-    requires room { below < 2 ^ 63 }
-    ensures below { result / 2 ≡ below }
-    ensures top { (result % 2 ≡ 1) ↔ IsTrue top }
-    ensures bound { result ≤ 2 * below + 1 }
-{
-    below * 2 + u64::from(top)
+    true
 }
