@@ -1,5 +1,6 @@
 pub mod Addresses
 pub mod Grammar
+pub mod Jumps
 pub mod Language
 pub mod Meaning
 pub mod Names

@@ -7,6 +7,7 @@ mod expression;
 mod filter;
 mod head;
 mod holds;
+mod jumps;
 mod laws;
 mod machine;
 mod names;
