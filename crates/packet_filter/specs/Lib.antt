@@ -1,3 +1,4 @@
+pub mod Frame
 pub mod Grammar
 pub mod Language
 pub mod Meaning

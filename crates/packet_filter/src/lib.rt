@@ -4,6 +4,7 @@
 mod address;
 mod expression;
 mod filter;
+mod frame;
 mod holds;
 mod laws;
 mod machine;

@@ -1,0 +1,41 @@
+-- What an expression says of a frame, and where a text is refused.
+use Rattle.std.specs.Prelude.{ℕ, ◌≡◌, ◌<◌, ◌⊎◌, List, [], length, Option, None, Some}
+use Rattle.packet.specs.Link.{link_len}
+use Rattle.packet.specs.SlicedPacket.{IsFrame, Layers, layers_of}
+use Rattle.packet.specs.declared.error.SliceError.{SliceError}
+use Rattle.packet.specs.declared.link.LinkType.{LinkType}
+use Rattle.packet.specs.declared.sliced_packet.SlicedPacket.{SlicedPacket}
+use Rattle.packet_filter.specs.Meaning.{Expression, Matches}
+use Rattle.packet_filter.specs.declared.reading.FilterError.{FilterError}
+use Rattle.packet_filter.specs.declared.reading.FilterError.TheVariants as error
+
+-- a packet of nothing: no header, no tag, no EtherType, and no byte
+abbrev pub nothing : Layers
+nothing = record {
+  link = None;
+  tags = [];
+  ether_type = None;
+  payload = [];
+  net = None;
+  transport = None;
+}
+
+-- The packet in a frame: its layers as far as they can be read. A frame that ends within its link
+-- header has a packet of nothing.
+abbrev pub IsPacketIn : LinkType → List ℕ → SlicedPacket → Type 0
+IsPacketIn link_type frame packet =
+    ((stop : Option SliceError) × IsFrame link_type frame packet stop)
+    ⊎ ((length frame < link_len link_type) × (layers_of packet ≡ nothing))
+
+-- the expression is true of the packet in a frame that had `len` bytes on the wire
+pub record MatchesFrame (expression : Expression) (link_type : LinkType) (frame : List ℕ)
+    (len : ℕ) : Type 0 where
+  pub packet : SlicedPacket
+  pub carried : IsPacketIn link_type frame packet
+  pub matches : Matches expression packet len
+
+-- where the word begins that a refusal is about; none if it is about the end of the text
+abbrev pub place_in_text : FilterError → Option ℕ
+place_in_text (error.Unexpected place) = Some place
+place_in_text error.Incomplete = None
+place_in_text error.TooLong = None
