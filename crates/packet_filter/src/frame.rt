@@ -2,7 +2,9 @@
 
 ghost use Rattle.std.specs.Prelude.{◌≡◌, ◌↔◌, IsTrue};
 ghost use Rattle.packet.specs.SlicedPacket.{layers_of};
+ghost use Rattle.packet.specs.declared.sliced_packet.SlicedPacket.{SlicedPacket as Packet};
 ghost use Rattle.packet_filter.specs.Frame.{MatchesFrame, nothing};
+ghost use Rattle.packet_filter.specs.Meaning.{Matches};
 ghost use Rattle.packet_filter.specs.Program.{expression_of};
 
 use crate::filter::Filter;
@@ -37,13 +39,22 @@ impl Filter {
     {
         match LaxSlicedPacket::from_link_type(link_type, frame) {
             Ok(lax) => self.matches(&lax, len),
-            Err(_) => self.matches(&nothing(), len),
+            Err(_) => self.matches_nothing(len),
         }
+    }
+
+    // Whether the expression says something true of a packet of nothing.
+    #[cold]
+    #[inline(never)] // A frame that has a packet then needs no room for this one.
+    fn matches_nothing(&self, len: usize) -> bool
+        ensures value { (packet : Packet) × (layers_of packet ≡ nothing)
+            × (IsTrue result ↔ Matches (expression_of self.now) packet len) }
+    {
+        self.matches(&nothing(), len)
     }
 }
 
 // A packet of nothing.
-#[cold]
 fn nothing() -> LaxSlicedPacket<'static>
     ensures layers { layers_of result.packet ≡ nothing }
 {

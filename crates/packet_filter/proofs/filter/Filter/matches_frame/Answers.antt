@@ -8,5 +8,6 @@ returns-in-Ok c =
 
 pub returns-in-Err : goal.returns-in-Err
 returns-in-Err c =
-    let frame = matches_nothing _ _ _ _ _ _ c.in-Err.ensures.reads c.nothing.ensures.layers in
-    record { value = (λ t. frame.0 (c.matches-in-Err.ensures.value.0 t), λ f. c.matches-in-Err.ensures.value.1 (frame.1 f)) }
+    let none = c.matches_nothing.ensures.value in
+    let frame = matches_nothing _ _ _ _ _ _ c.in-Err.ensures.reads none.1 in
+    record { value = (λ t. frame.0 (none.2.0 t), λ f. none.2.1 (frame.1 f)) }
