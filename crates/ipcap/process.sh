@@ -2,9 +2,9 @@
 # Runs the built program as a process, and compares its exit code and all its output with what is
 # expected: on the capture in `stdin`, on that capture cut at each of its bytes and with bytes
 # changed, on its packets in each format and after the headers of each other link type, on its
-# records 11000 times over, on the longest records that are read and on longer ones, with arguments
-# that are refused, with standard input or output that is closed, full or read by nobody, and with
-# reads that fail after some records.
+# records 11000 times over, on the longest records that are read and on longer ones, with expressions,
+# with arguments that are refused, with standard input or output that is closed, full or read by
+# nobody, and with reads that fail after some records.
 #
 #     ./process.sh            both builds that `rt ci` leaves in out/: ipcap, and ipcap.by-rattle,
 #                             which Rattle's own compiler makes after it
@@ -60,14 +60,15 @@ run() {
     "$program" "$@" <"$room/input" >"$room/output" 2>"$room/errors"
 }
 
-# in_pieces LENGTH: the same, but each read gets so many bytes and no more, since `direct` keeps the
-# writes to a pipe apart. Each read must have room for them: what does not fit is lost.
+# in_pieces LENGTH ARGUMENT..: the same, but each read gets so many bytes and no more, since `direct`
+# keeps the writes to a pipe apart. Each read must have room for them: what does not fit is lost.
 in_pieces() {
     dd if="$room/input" bs="$1" oflag=direct 2>/dev/null |
-        "$program" >"$room/output" 2>"$room/errors"
+        "$program" "${@:2}" >"$room/output" 2>"$room/errors"
 }
 
-# closing RECORDS IPV4 IPV6 OTHER CUT WRONG: the closing line of a capture.
+# closing RECORDS IPV4 IPV6 OTHER CUT WRONG: the closing line of a capture. With an expression
+# RECORDS is 'N of M'.
 closing() {
     echo "$1 packets: $2 IPv4, $3 IPv6, $4 other, 0 refused, 0 skipped, $5 cut," \
         "$6 with a wrong checksum"
@@ -121,23 +122,136 @@ many_records() {
     judge 'many records, quiet' $? 0
 }
 
-# The name of a capture is refused too, where standard input is that capture, another or empty.
+# An option that is not known, also one that stands before an expression.
 arguments() {
     : >"$room/wanted"
-    echo 'usage: ipcap [--quiet] < CAPTURE' >"$room/wanted.errors"
+    echo 'usage: ipcap [--quiet] [EXPRESSION] < CAPTURE' >"$room/wanted.errors"
     for len in "$size" 176 0; do
         bytes 0 "$len" >"$room/input"
-        for argument in --version -q '' --quiet= no/such/file stdin "$PWD/stdin" "$room/input"; do
+        for argument in --version -q - -- --quiet= -r '-r stdin' '--quiet tcp'; do
             run "$argument"
             judge "the argument '$argument', with $len bytes of input" $? 2
+            run "$argument" tcp
+            judge "the arguments '$argument' and 'tcp', with $len bytes of input" $? 2
+            run --quiet "$argument"
+            judge "the arguments '--quiet' and '$argument', with $len bytes of input" $? 2
         done
-        for argument in --quiet -r stdin; do
-            run "$argument" stdin
-            judge "the arguments '$argument' and 'stdin', with $len bytes of input" $? 2
-            run "$argument" --quiet
-            judge "the arguments '$argument' and '--quiet', with $len bytes of input" $? 2
-        done
+        run --quiet --quiet
+        judge "'--quiet' twice, with $len bytes of input" $? 2
     done
+}
+
+# numbered NUMBER..: the lines of `stdout` with these numbers.
+numbered() {
+    local number
+    for number; do
+        echo "${lines[number - 1]}"
+    done
+}
+
+# chosen NUMBERS CLOSING ARGUMENT..: the expression is true of the records of `stdin` with these
+# numbers, and this is the closing line. The same with `--quiet`.
+chosen() {
+    numbered $1 >"$room/wanted"
+    echo "$2" >"$room/wanted.errors"
+    run "${@:3}"
+    judge "the expression '${*:3}'" $? 0
+    cp "$room/wanted.errors" "$room/wanted"
+    : >"$room/wanted.errors"
+    run --quiet "${@:3}"
+    judge "the expression '${*:3}', quiet" $? 0
+}
+
+# The frames of `stdin` are a datagram to port 40000, TCP and ICMPv6 behind a tag, ICMP, ARP, and 13
+# bytes of a frame that had 60. The one of ICMPv6 has 74 bytes, and each other 60.
+expressions() {
+    cp stdin "$room/input"
+    chosen 2 "$(closing '1 of 6' 1 0 0 0 0)" tcp
+    for words in 'udp port 53 or icmp' 'udp  port 53|| icmp '; do
+        chosen '1 4' "$(closing '2 of 6' 2 0 0 0 1)" "$words"
+        chosen '1 4' "$(closing '2 of 6' 2 0 0 0 1)" $words
+    done
+    chosen '1 4' "$(closing '2 of 6' 2 0 0 0 1)" 'udp port' '53 or' '' icmp
+    chosen '2 3' "$(closing '2 of 6' 1 1 0 0 0)" vlan
+    chosen '1 2 4 5' "$(closing '4 of 6' 3 0 1 0 1)" host 192.0.2.1
+    chosen '1 3 4 5 6' "$(closing '5 of 6' 2 1 2 1 1)" not tcp
+    chosen '1 2 4 5 6' "$(closing '5 of 6' 3 0 2 1 1)" less 60
+    chosen 3 "$(closing '1 of 6' 0 1 0 0 0)" greater 61
+    chosen 6 "$(closing '1 of 6' 0 0 1 1 0)" not '(ip or ip6 or arp)'
+    chosen '1 2 3 4 5 6' "$(closing '6 of 6' 3 1 2 1 1)" less 1000
+    chosen '' "$(closing '0 of 6' 0 0 0 0 0)" port 9
+    chosen '' "$(closing '0 of 6' 0 0 0 0 0)" less 13
+    printf -v blanks '%4093s' ''
+    chosen 2 "$(closing '1 of 6' 1 0 0 0 0)" "${blanks}tcp"
+    chosen 2 "$(closing '1 of 6' 1 0 0 0 0)" "${blanks:1}" tcp
+    for words in '' ' ' $' \t\r\n'; do
+        chosen '1 2 3 4 5 6' "$(closing 6 3 1 2 1 1)" "$words"
+        chosen '1 2 3 4 5 6' "$(closing 6 3 1 2 1 1)" "$words" ''
+    done
+    bytes 0 430 >"$room/input"
+    numbered 5 >"$room/wanted"
+    {
+        echo 'error: the last record is cut off: it needs 16 bytes, and there are 12'
+        closing '1 of 5' 0 0 1 0 0
+    } >"$room/wanted.errors"
+    run arp
+    judge "the expression 'arp', on a capture that is cut off" $? 1
+}
+
+# Every sixth record of many, which have more lines than the program keeps before it writes them.
+many_chosen() {
+    cp "$room/many" "$room/input"
+    awk 'NR % 6 == 3' "$room/many.wanted" >"$room/wanted"
+    closing '11000 of 66000' 0 11000 0 0 0 >"$room/wanted.errors"
+    run icmp6
+    judge 'many records with an expression' $? 0
+    in_pieces 64 icmp6
+    judge 'many records with an expression, in pieces of 64 bytes' $? 0
+}
+
+# no_expression ERROR SHOWN MARK ARGUMENT..: these arguments are no expression, for this reason; they
+# are shown like this, and the mark stands under this byte. Nothing is read.
+no_expression() {
+    : >"$room/wanted"
+    {
+        echo "Expression Error: $1"
+        echo "$2"
+        printf '%*s^\n' "$3" ''
+    } >"$room/wanted.errors"
+    run "${@:4}"
+    judge "the expression '$2'" $? 2
+    run --quiet "${@:4}"
+    judge "the expression '$2', quiet" $? 2
+    cp "$room/input" "$room/wanted"
+    {
+        "$program" "${@:4}" 2>"$room/errors"
+        cat >"$room/output"
+    } <"$room/input"
+    judge "what the expression '$2' leaves of the input" 2 2
+}
+
+no_expressions() {
+    cp stdin "$room/input"
+    no_expression 'The word at byte 4 cannot stand there.' 'tcp prot 80' 4 tcp prot 80
+    no_expression 'The word at byte 4 cannot stand there.' 'tcp prot 80' 4 'tcp prot 80'
+    no_expression 'The word at byte 5 cannot stand there.' 'tcp  prot 80' 5 tcp '' prot 80
+    no_expression 'The word at byte 0 cannot stand there.' 'no/such/file' 0 no/such/file
+    no_expression 'The word at byte 0 cannot stand there.' 'stdin' 0 stdin
+    no_expression 'The word at byte 4 cannot stand there.' 'tcp -r' 4 tcp -r
+    no_expression 'The word at byte 1 cannot stand there.' ' --quiet' 1 '' --quiet
+    no_expression 'It ends where more words have to follow.' 'not (tcp or' 11 'not (tcp or'
+    no_expression 'It ends where more words have to follow.' 'not ' 4 not ''
+    no_expression 'The word at byte 5 cannot stand there.' 'tcp  ?[2J? ~ ????' 5 \
+        $'tcp\n\t\e[2J\a\r~ \303\251\377\177'
+    printf -v blanks '%4093s' ''
+    : >"$room/wanted"
+    echo 'error: the expression has more than 4096 bytes' >"$room/wanted.errors"
+    run "${blanks}arp "
+    judge 'an expression of 4097 bytes' $? 2
+    run "$blanks" arp
+    judge 'an expression of 4097 bytes in two arguments' $? 2
+    run "${blanks}arp" ''
+    judge 'an expression of 4096 bytes and an empty argument' $? 2
 }
 
 # first_lines COUNT: so many lines of `stdout`.
@@ -481,6 +595,25 @@ long_records() {
     judge 'records that are too long' $? 1
     in_pieces 128
     judge 'records that are too long, in pieces of 128 bytes' $? 1
+    too_long '1 of 3' 1 2 udp
+    too_long '1 of 3' 1 2 less 1000
+    too_long '0 of 3' 0 '' greater 262145
+    too_long '0 of 3' 0 '' not udp
+}
+
+# too_long COUNT IPV4 NUMBER ARGUMENT..: no expression is true of a record that is too long.
+too_long() {
+    if [ -n "$3" ]; then
+        echo "$3 1700000001.001001 192.0.2.1 > 198.51.100.7 UDP 53>40000 length 13 hops 64" \
+            'fragment - checksums right right'
+    fi >"$room/wanted"
+    {
+        echo 'error: the last record is cut off: it needs 262161 bytes, and there are 25'
+        echo "$1 packets: $2 IPv4, 0 IPv6, 0 other, 0 refused, 2 skipped, 0 cut," \
+            '0 with a wrong checksum'
+    } >"$room/wanted.errors"
+    run "${@:4}"
+    judge "records that are too long, and the expression '${*:4}'" $? 1
 }
 
 # long_record LENGTH: a record of so many bytes: the first packet of `stdin`, and zeros.
@@ -604,9 +737,9 @@ failing_ends() {
     rm "$room/pipe"
 }
 
-# failing_read LENGTH RECORDS ARGUMENT..: the first LENGTH bytes of `stdin`, with so many whole
-# records, come from a pipe that is still open for writing. The next read fails: it does not wait for
-# more, since `dd` leaves the pipe `nonblock`.
+# failing_read LENGTH NUMBERS ARGUMENT..: the first LENGTH bytes of `stdin` come from a pipe that is
+# still open for writing, and have the lines with these numbers. The next read fails: it does not
+# wait for more, since `dd` leaves the pipe `nonblock`.
 failing_read() {
     mkfifo "$room/pipe"
     exec 3<>"$room/pipe"
@@ -616,19 +749,22 @@ failing_read() {
     code=$?
     exec 3<&-
     rm "$room/pipe"
-    first_lines "$2" >"$room/wanted"
-    judge "a read that fails after $1 bytes" "$code" 3
+    numbered $2 >"$room/wanted"
+    judge "a read that fails after $1 bytes, with '${*:3}'" "$code" 3
 }
 
 # The lines of the records before a read that fails are written all the same.
 failing_reads() {
     echo 'error: a read or a write failed' >"$room/wanted.errors"
-    failing_read 0 0
-    failing_read 20 0
-    failing_read 24 0
-    failing_read 400 4
-    failing_read 447 6
-    failing_read 447 0 --quiet
+    failing_read 0 ''
+    failing_read 20 ''
+    failing_read 24 ''
+    failing_read 400 '1 2 3 4'
+    failing_read 447 '1 2 3 4 5 6'
+    failing_read 447 '' --quiet
+    failing_read 400 '1 4' udp or icmp
+    failing_read 447 '1 4 5 6' not vlan
+    failing_read 447 '' --quiet not vlan
 }
 
 [ $# -gt 0 ] || set -- ipcap ipcap.by-rattle
@@ -642,6 +778,9 @@ for build; do
     whole_capture
     many_records
     arguments
+    expressions
+    many_chosen
+    no_expressions
     cut_captures
     formats
     no_captures

@@ -2,6 +2,7 @@
 //! texts of its errors.
 
 use packet::lax_sliced_packet::LaxSlicedPacket;
+use packet::link::LinkType;
 use packet_filter::{Filter, FilterError};
 use std::test::Fail;
 
@@ -29,5 +30,19 @@ fn a_tagged_datagram(rt: HostRuntime) -> Result<(), Fail> {
     let lax = LaxSlicedPacket::from_ethernet(&frame)?;
     let filter = Filter::from_text(b"udp port 53 and src net 10.0.0.0/8 and not vlan 6")?;
     assert!(rt; filter.matches(&lax, frame.len()));
+    Ok(())
+}
+
+#[test]
+fn frames(rt: HostRuntime) -> Result<(), Fail> {
+    // Ethernet, IPv4 from 10.0.0.1, and a datagram to port 53.
+    let frame = [
+        2, 0, 0, 0, 0, 2, 2, 0, 0, 0, 0, 1, 8, 0, 0x45, 0, 0, 30, 0, 0, 0, 0, 64, 0x11, 0, 0, 10,
+        0, 0, 1, 10, 0, 0, 2, 4, 0, 0, 53, 0, 10, 0, 0, b'h', b'i',
+    ];
+    let filter = Filter::from_text(b"udp port 53 or (not ip and less 60)")?;
+    assert!(rt; filter.matches_frame(LinkType::Ethernet2, &frame, frame.len()));
+    // A frame that ends within its link header.
+    assert!(rt; filter.matches_frame(LinkType::Ethernet2, &frame[..13], 13));
     Ok(())
 }

@@ -1,5 +1,5 @@
 -- What a run writes, and what one that fails has written.
-use Rattle.std.proofs.Common.{ℕ, ◌≡◌, ◌<◌, ◌≤◌, ◌⊎◌, inl, inr, Bool, List, [], ◌++◌, length, take, drop, Option, Some, None, Result, Ok, Err, IfOk, OnErr, refl, sym, ◌∙◌, append_assoc, append-nil, arith, IfSome}
+use Rattle.std.proofs.Common.{ℕ, ◌≡◌, ◌<◌, ◌≤◌, ◌⊎◌, inl, inr, List, [], ◌++◌, length, take, drop, Option, Some, None, Result, Ok, Err, IfOk, OnErr, refl, sym, ◌∙◌, append_assoc, append-nil, arith, IfSome}
 use Rattle.std.specs.Io.KnownBytes.{Consumes, IsAtEnd, prepend_known}
 use Rattle.std.proofs.KnownBytes.{Appends-nil, Appends-trans, Consumes-whole}
 use Rattle.packet.specs.Link.{link_type_of}
@@ -18,6 +18,7 @@ use Rattle.ipcap.specs.declared.failure.Failure.TheVariants as failure
 use Rattle.ipcap.specs.declared.input.Input.{Input}
 use Rattle.ipcap.specs.declared.listing.Listing.{Listing}
 use Rattle.ipcap.specs.declared.output.Output.{Output}
+use Rattle.ipcap.specs.declared.request.Request.{Request}
 use Rattle.ipcap.specs.declared.status.Status.{Status}
 use Rattle.ipcap.specs.declared.totals.Totals.{Totals}
 use Rattle.ipcap.proofs.Runs.{prints_then, reads_both, takes_both}
@@ -79,24 +80,24 @@ all_read a b u got c = all a b u got (u ++ got) c refl
 
 -- ---- outcomes
 
-pub is_no_capture : (is_quiet : Bool) (u : List ℕ) (e : CaptureError) → ReadsFileHeader u (Err e) → IsOutcome is_quiet u (refused (capture_error_line e))
-is_no_capture is_quiet u e none = let refusal : IsNoCapture u (refused (capture_error_line e)) = record { error = e; reads = none; outcome_of = refl } in inr (inr refusal)
+pub is_no_capture : (request : Request) (u : List ℕ) (e : CaptureError) → ReadsFileHeader u (Err e) → IsOutcome request u (refused (capture_error_line e))
+is_no_capture request u e none = let refusal : IsNoCapture u (refused (capture_error_line e)) = record { error = e; reads = none; outcome_of = refl } in inr (inr refusal)
 
-pub no_capture : (is_quiet : Bool) (r : Option (List ℕ)) (u : List ℕ) (e : CaptureError) → (24 ≤ length u) ⊎ IsAtEnd r → ReadsFileHeader u (Err e)
-    → IfSome (prepend_known u r) (λ input. IsOutcome is_quiet input (refused (capture_error_line e)))
-no_capture is_quiet None u e enough none = tt
-no_capture is_quiet (Some more) u e enough none = is_no_capture is_quiet (u ++ more) e (reads_no_file_header-append u more e enough none)
+pub no_capture : (request : Request) (r : Option (List ℕ)) (u : List ℕ) (e : CaptureError) → (24 ≤ length u) ⊎ IsAtEnd r → ReadsFileHeader u (Err e)
+    → IfSome (prepend_known u r) (λ input. IsOutcome request input (refused (capture_error_line e)))
+no_capture request None u e enough none = tt
+no_capture request (Some more) u e enough none = is_no_capture request (u ++ more) e (reads_no_file_header-append u more e enough none)
 
-pub has_other_frames : (is_quiet : Bool) (u rest : List ℕ) (header : FileHeader) → BeginsWithFileHeader u header rest → link_type_of (number_of header) ≡ None
-    → IsOutcome is_quiet u (refused (link_type_line (number_of header)))
-has_other_frames is_quiet u rest header begins other =
+pub has_other_frames : (request : Request) (u rest : List ℕ) (header : FileHeader) → BeginsWithFileHeader u header rest → link_type_of (number_of header) ≡ None
+    → IsOutcome request u (refused (link_type_line (number_of header)))
+has_other_frames request u rest header begins other =
     let refusal : HasOtherFrames u (refused (link_type_line (number_of header))) = record { header = header; records = rest; begins = begins; other = other; outcome_of = refl } in
     inr (inl refusal)
 
-pub other_frames : (is_quiet : Bool) (r : Option (List ℕ)) (u rest : List ℕ) (header : FileHeader) → BeginsWithFileHeader u header rest → link_type_of (number_of header) ≡ None
-    → IfSome (prepend_known u r) (λ input. IsOutcome is_quiet input (refused (link_type_line (number_of header))))
-other_frames is_quiet None u rest header begins other = tt
-other_frames is_quiet (Some more) u rest header begins other = has_other_frames is_quiet (u ++ more) (rest ++ more) header (begins_with_file_header-append u more header rest begins) other
+pub other_frames : (request : Request) (r : Option (List ℕ)) (u rest : List ℕ) (header : FileHeader) → BeginsWithFileHeader u header rest → link_type_of (number_of header) ≡ None
+    → IfSome (prepend_known u r) (λ input. IsOutcome request input (refused (link_type_line (number_of header))))
+other_frames request None u rest header begins other = tt
+other_frames request (Some more) u rest header begins other = has_other_frames request (u ++ more) (rest ++ more) header (begins_with_file_header-append u more header rest begins) other
 
 module _ {R W V : Type 0} (remaining : R → Option (List ℕ)) (contents : W → Option (List ℕ)) (also : V → Option (List ℕ)) (P : R → Type 0) (Q : W → Type 0) (Q' : V → Type 0) where
   -- ---- a listing
@@ -108,8 +109,8 @@ module _ {R W V : Type 0} (remaining : R → Option (List ℕ)) (contents : W �
 
     -- some records are told, and then a call failed or a count was full
     fails_at : (a c : Input R) (o m n : Output W) (p q : Output V) (got front rest : List ℕ) (last : Totals) (end : Option cut.CutOff) → Reads remaining a c got → unread a ++ got ≡ front ++ rest
-        → (told : IsTold contents listing nothing_counted last end o m front) → GetsFront contents o n (told.text ++ (listed listing.is_quiet told.text last end).closing)
-        → GetsFront also p q (listed listing.is_quiet told.text last end).errors
+        → (told : IsTold contents listing nothing_counted last end o m front) → GetsFront contents o n (told.text ++ (listed listing.request.now told.text last end).closing)
+        → GetsFront also p q (listed listing.request.now told.text last end).errors
         → Q n.sink ⊎ Q' q.sink ⊎ (((CannotRead P c × (rest ≡ [])) ⊎ ¬ HasRoom last) × Gets contents o n told.text × Gets also p q []) → FailsListing a c o n p q
     fails_at a c o m n p q got front rest last end reads whole told out err why = record {
       got = got;
@@ -117,7 +118,7 @@ module _ {R W V : Type 0} (remaining : R → Option (List ℕ)) (contents : W �
       front = front;
       rest = rest;
       whole = whole;
-      outcome = listed listing.is_quiet told.text last end;
+      outcome = listed listing.request.now told.text last end;
       is_outcome = record { text = told.text; totals = last; end = end; lists = told.lists; outcome_of = refl };
       output = out;
       errors = err;
@@ -146,7 +147,7 @@ module _ {R W V : Type 0} (remaining : R → Option (List ℕ)) (contents : W �
       told = prints_then contents o m n b.told.text b.told.prints handed
 
       -- and then a write failed
-      not_closed : (n' : Output W) (p q : Output V) → GetsFront contents o n' (b.told.text ++ (listed listing.is_quiet [] t end).closing) → GetsFront also p q (listed listing.is_quiet [] t end).errors
+      not_closed : (n' : Output W) (p q : Output V) → GetsFront contents o n' (b.told.text ++ (listed listing.request.now [] t end).closing) → GetsFront also p q (listed listing.request.now [] t end).errors
           → Q n'.sink ⊎ Q' q.sink → FailsListing a c o n' p q
       not_closed n' p q out err w = fails_at a c o m n' p q b.got (unread a ++ b.got) [] t end b.reads (sym (append-nil (unread a ++ b.got))) b.told out err (elim w [ inl w ↦ inl w | inr w ↦ inr (inl w) ])
 
@@ -157,18 +158,18 @@ module _ {R W V : Type 0} (remaining : R → Option (List ℕ)) (contents : W �
         wrote : Gets contents o n b.told.text
         wrote = printed_all contents o n b.told.text fresh told all
 
-        pub errors_fail : GetsFront also p q (listed listing.is_quiet [] t end).errors → Q' q.sink → FailsListing a c o n p q
+        pub errors_fail : GetsFront also p q (listed listing.request.now [] t end).errors → Q' q.sink → FailsListing a c o n p q
         errors_fail err w = not_closed n p q (printed_front contents o n b.told.text _ fresh told) err (inr w)
 
-        pub closing_fails : (n' : Output W) → Gets also p q (listed listing.is_quiet [] t end).errors → GetsFront contents n n' (listed listing.is_quiet [] t end).closing → Q n'.sink → FailsListing a c o n' p q
+        pub closing_fails : (n' : Output W) → Gets also p q (listed listing.request.now [] t end).errors → GetsFront contents n n' (listed listing.request.now [] t end).closing → Q n'.sink → FailsListing a c o n' p q
         closing_fails n' err out w = not_closed n' p q (gets_more contents o n n' b.told.text _ wrote out) (gets_whole also p q _ err) (inl w)
 
         -- or all lines are written
-        pub closed : (n' : Output W) (status : Status) → status ≡ status_at end → Gets also p q (listed listing.is_quiet [] t end).errors → Gets contents n n' (listed listing.is_quiet [] t end).closing
+        pub closed : (n' : Output W) (status : Status) → status ≡ status_at end → Gets also p q (listed listing.request.now [] t end).errors → Gets contents n n' (listed listing.request.now [] t end).closing
             → IfSome (unlisted remaining a) (λ records. Writes contents also (IsListing listing records) status o n' p q)
         closed n' status ended err out =
             Consumes-whole (unlisted remaining a) (remaining c.source) (unread a ++ b.got) _ (all_read (remaining a.source) (remaining c.source) (unread a) b.got b.reads.gave) b.at_end (record {
-              outcome = listed listing.is_quiet b.told.text t end;
+              outcome = listed listing.request.now b.told.text t end;
               is_outcome = record { text = b.told.text; totals = t; end = end; lists = b.told.lists; outcome_of = refl };
               ended = ended;
               output = gets_both contents o n n' b.told.text _ wrote out;
@@ -177,10 +178,10 @@ module _ {R W V : Type 0} (remaining : R → Option (List ℕ)) (contents : W �
 
   -- ---- a run, whose file header is read from what `a` had, and is left to `b`
 
-  module _ (is_quiet : Bool) (a b : Input R) (t : Takes remaining a b []) where
+  module _ (request : Request) (a b : Input R) (t : Takes remaining a b []) where
     -- this is how a run fails
     abbrev FailsRun : Input R → Output W → Output W → Output V → Output V → Type 0
-    FailsRun c o n p q = Fails remaining contents also P Q Q' (IsOutcome is_quiet) a c o n p q
+    FailsRun c o n p q = Fails remaining contents also P Q Q' (IsOutcome request) a c o n p q
 
     -- a read fails before there is a file header
     pub header_broken : (o : Output W) (p : Output V) → length (unread b) < 24 → CannotRead P b → FailsRun b o o p p
@@ -193,15 +194,15 @@ module _ {R W V : Type 0} (remaining : R → Option (List ℕ)) (contents : W �
           rest = [];
           whole = t.takes ∙ sym (append-nil (unread b));
           outcome = refused (capture_error_line (capture.CutOff e));
-          is_outcome = is_no_capture is_quiet (unread b) (capture.CutOff e) (record { short = few; error = refl });
+          is_outcome = is_no_capture request (unread b) (capture.CutOff e) (record { short = few; error = refl });
           output = gets_nothing contents o [];
           errors = gets_nothing also p _;
           cause = inr (inr (inl (failed, refl), Appends-nil (contents o.sink), Appends-nil (also p.sink)));
         }
 
     -- the run ends with this line
-    pub refuses : (o : Output W) (p q : Output V) (line : List ℕ) → IfSome (unlisted remaining b) (λ input. IsOutcome is_quiet input (refused line)) → Gets also p q line
-        → IfSome (unlisted remaining a) (λ input. Writes contents also (IsOutcome is_quiet input) (refused line).status o o p q)
+    pub refuses : (o : Output W) (p q : Output V) (line : List ℕ) → IfSome (unlisted remaining b) (λ input. IsOutcome request input (refused line)) → Gets also p q line
+        → IfSome (unlisted remaining a) (λ input. Writes contents also (IsOutcome request input) (refused line).status o o p q)
     refuses o p q line is wrote = from_records (remaining a.source) (remaining b.source) (unread a) (unread b) t.got [] _ _ t.reads.gave t.takes (λ input found. record {
       outcome = refused line;
       is_outcome = found;
@@ -210,7 +211,7 @@ module _ {R W V : Type 0} (remaining : R → Option (List ℕ)) (contents : W �
       errors = wrote;
     }) is
 
-    pub refusal_fails : (o : Output W) (p q : Output V) (line : List ℕ) → IsOutcome is_quiet (unread b) (refused line) → GetsFront also p q line → Q' q.sink → FailsRun b o o p q
+    pub refusal_fails : (o : Output W) (p q : Output V) (line : List ℕ) → IsOutcome request (unread b) (refused line) → GetsFront also p q line → Q' q.sink → FailsRun b o o p q
     refusal_fails o p q line is wrote w = record {
       got = t.got;
       reads = t.reads;
@@ -225,13 +226,13 @@ module _ {R W V : Type 0} (remaining : R → Option (List ℕ)) (contents : W �
     }
 
     -- the records are listed after the file header
-    module _ (d c : Input R) (o n : Output W) (p q : Output V) (listing : Listing) (quiet : listing.is_quiet ≡ is_quiet) (u : Takes remaining b d (take 24 (unread b)))
+    module _ (d c : Input R) (o n : Output W) (p q : Output V) (listing : Listing) (asked : listing.request.now ≡ request) (u : Takes remaining b d (take 24 (unread b)))
         (begins : BeginsWithFileHeader (unread b) listing.header (drop 24 (unread b))) (known : link_type_of (number_of listing.header) ≡ Some listing.link_type) where
-      is_listed : (records : List ℕ) (outcome : Outcome) → IsListing listing records outcome → IsOutcome is_quiet (take 24 (unread b) ++ records) outcome
+      is_listed : (records : List ℕ) (outcome : Outcome) → IsListing listing records outcome → IsOutcome request (take 24 (unread b) ++ records) outcome
       is_listed records outcome l =
-          let found : IsListed is_quiet (take 24 (unread b) ++ records) outcome = record {
+          let found : IsListed request (take 24 (unread b) ++ records) outcome = record {
             listing = listing;
-            quiet = quiet;
+            asked = asked;
             records = records;
             begins = begins_with_file_header-front (unread b) records listing.header _ begins;
             is_read = known;
@@ -244,7 +245,7 @@ module _ {R W V : Type 0} (remaining : R → Option (List ℕ)) (contents : W �
 
       -- what a call on the records returned, as what is returned of the input
       pub lists_by : (r : Result Status Failure) → IfOk r (λ status. IfSome (unlisted remaining d) (λ records. Writes contents also (IsListing listing records) status o n p q))
-          → IfOk r (λ status. IfSome (unlisted remaining a) (λ input. Writes contents also (IsOutcome is_quiet input) status o n p q))
+          → IfOk r (λ status. IfSome (unlisted remaining a) (λ input. Writes contents also (IsOutcome request input) status o n p q))
       lists_by (Err e) w = tt
       lists_by (Ok status) w = from_records (remaining a.source) (remaining d.source) (unread a) (unread d) takes.got (take 24 (unread b)) _ _ takes.reads.gave takes.takes
           (λ records x. record { outcome = x.outcome; is_outcome = is_listed records x.outcome x.is_outcome; ended = x.ended; output = x.output; errors = x.errors }) w

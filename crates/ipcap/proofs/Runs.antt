@@ -1,12 +1,13 @@
 -- What is read, taken, printed and told in parts.
-use Rattle.std.proofs.Common.{ℕ, ◌≡◌, ◌<◌, ◌≤◌, ◌+◌, inr, List, [], ◌++◌, length, drop, Option, Some, None, Result, Ok, Err, OnErr, IfSome, refl, sym, ap, ◌∙◌, append_assoc, append-nil, arith, length-append}
+use Rattle.std.proofs.Common.{ℕ, ◌≡◌, ◌<◌, ◌≤◌, ◌+◌, inr, List, [], ◌++◌, length, drop, Option, Some, None, Result, Ok, Err, OnErr, OnOk, IfOk, IfSome, refl, sym, ap, ◌∙◌, append_assoc, append-nil, arith, length-append}
 use Rattle.std.specs.Io.KnownBytes.{IsAtEnd}
 use Rattle.std.proofs.KnownBytes.{Appends-nil, Appends-trans, Consumes-nil, Consumes-trans}
 use Rattle.packet_capture.specs.Capture.{BeginsWithRecord, ReadsRecord, Recorded, record_head}
 use Rattle.packet_capture.specs.declared.capture.CutOff as cut
 use Rattle.packet_capture.specs.declared.capture.RecordHead.{RecordHead}
-use Rattle.ipcap.specs.Listing.{Lists, ReadsBytes, ends, is_cut_off, is_cut_off_long, line_after, lists, max_captured_len}
-use Rattle.ipcap.specs.Private.Progress.{Because, Breaks, Ends, GoesOn, IsTold, Skips, Stops, Tells, TellsFront, Turns}
+use Rattle.ipcap.specs.Listing.{Lists, ReadsBytes, ReadsChosen, ends, if_too_long, is_cut_off, is_cut_off_long, line_after, lists}
+use Rattle.ipcap.specs.Reading.{max_captured_len}
+use Rattle.ipcap.specs.Private.Progress.{Because, Breaks, Ends, GoesOn, IsTold, Skips, Stops, Tells, TellsFrame, TellsFront, Turns}
 use Rattle.ipcap.specs.Streams.{CannotRead, Prints, Reads, Takes, pending, unread}
 use Rattle.ipcap.specs.Totals.{counted}
 use Rattle.ipcap.specs.declared.failure.Failure.{Failure}
@@ -17,7 +18,6 @@ use Rattle.ipcap.specs.declared.listing.Turn.{Turn}
 use Rattle.ipcap.specs.declared.listing.Turn.TheVariants as turn
 use Rattle.ipcap.specs.declared.output.Output.{Output}
 use Rattle.ipcap.specs.declared.reading.Reading.{Reading}
-use Rattle.ipcap.specs.declared.reading.Reading.TheVariants.{Skipped}
 use Rattle.ipcap.specs.declared.totals.Totals.{Totals}
 use Rattle.ipcap.proofs.Fronts.{begins_with_record-append, record_head-append}
 
@@ -71,37 +71,44 @@ module _ {W : Type 0} (contents : W → Option (List ℕ)) where
     pub tells_both : (t u v : Totals) (s r : List ℕ) (o m n : Output W) → Tells contents listing t u s o m → Tells contents listing u v r m n → Tells contents listing t v (s ++ r) o n
     tells_both t u v s r o m n a b = λ last end final more x. rw (append_assoc s r more) (a last end final (r ++ more) (b last end final more x))
 
-    lists_at : (t last : Totals) (s rest text : List ℕ) (found : Recorded) (reading : Reading) (end : Option cut.CutOff) (head : RecordHead)
-        → head ≡ record_head listing.header s → BeginsWithRecord listing.header s found rest → ReadsBytes listing.link_type head found.bytes reading
-        → Lists listing (counted head reading t) rest text last end → Lists listing t s (line_after listing t head reading ++ text) last end
-    lists_at t last s rest text found reading end head e begins reads l = rw e (lists begins (rw e at reads) (rw e at l))
+    lists_at : (t last : Totals) (s rest text : List ℕ) (recorded : Recorded) (found : Option Reading) (end : Option cut.CutOff) (head : RecordHead)
+        → head ≡ record_head listing.header s → BeginsWithRecord listing.header s recorded rest → ReadsBytes listing head recorded.bytes found
+        → Lists listing (counted head found t) rest text last end → Lists listing t s (line_after listing t head found ++ text) last end
+    lists_at t last s rest text recorded found end head e begins reads l = rw e (lists begins (rw e at reads) (rw e at l))
 
     -- the bytes of one record
-    pub told_one : (t : Totals) (s bytes : List ℕ) (head : RecordHead) (reading : Reading) (o m : Output W)
+    pub told_one : (t : Totals) (s bytes : List ℕ) (head : RecordHead) (found : Option Reading) (o m : Output W)
         → head ≡ record_head listing.header s → bytes ≡ drop 16 s → 16 ≤ length s → length s ≡ 16 + head.captured_len
-        → ReadsBytes listing.link_type head bytes reading → Prints contents o m (line_after listing t head reading)
-        → Tells contents listing t (counted head reading t) s o m
-    told_one t s bytes head reading o m e rest enough whole reads wrote = λ last end final more r.
+        → ReadsBytes listing head bytes found → Prints contents o m (line_after listing t head found)
+        → Tells contents listing t (counted head found t) s o m
+    told_one t s bytes head found o m e rest enough whole reads wrote = λ last end final more r.
         let same = e ∙ sym (record_head-append listing.header s more enough) in
         record {
-          text = line_after listing t head reading ++ r.text;
-          lists = lists_at t last (s ++ more) more r.text _ reading end head same (begins_with_record-append listing.header s more bytes head same rest enough whole) reads r.lists;
-          prints = prints_both o m final (line_after listing t head reading) r.text wrote r.prints;
+          text = line_after listing t head found ++ r.text;
+          lists = lists_at t last (s ++ more) more r.text _ found end head same (begins_with_record-append listing.header s more bytes head same rest enough whole) reads r.lists;
+          prints = prints_both o m final (line_after listing t head found) r.text wrote r.prints;
         }
 
+    -- a frame is listed, with what it is found to carry, unless a call failed
+    pub told_frame : (t : Totals) (head : RecordHead) (frame : List ℕ) (found : Option Reading) (o m : Output W) (r : Result Totals Failure)
+        → ReadsChosen listing head frame found → IfOk r (λ after. after ≡ counted head found t) → OnOk r (Prints contents o m (line_after listing t head found))
+        → IfOk r (λ after. TellsFrame contents listing t after head frame o m)
+    told_frame t head frame found o m (Ok after) reads counts wrote = record { found = found; reads = reads; counts = counts; prints = wrote }
+    told_frame t head frame found o m (Err e) reads counts wrote = tt
+
     last_at : (t : Totals) (s : List ℕ) (head : RecordHead) (e : cut.CutOff) → head ≡ record_head listing.header s → ReadsRecord listing.header s (Err e) → 16 + max_captured_len < e.required_len
-        → Lists listing t s (line_after listing t head Skipped) (counted head Skipped t) (Some e)
+        → Lists listing t s (line_after listing t head (if_too_long listing)) (counted head (if_too_long listing) t) (Some e)
     last_at t s head e same cut long = rw same (is_cut_off_long cut long)
 
     -- a record that is too long, whose bytes are not there to their end
     pub told_cut : (t : Totals) (s : List ℕ) (head : RecordHead) (e : cut.CutOff) (o m : Output W)
         → head ≡ record_head listing.header s → 16 ≤ length s → max_captured_len < head.captured_len → e.required_len ≡ 16 + head.captured_len → e.len ≡ length s → e.len < e.required_len
-        → Prints contents o m (line_after listing t head Skipped) → IsTold contents listing t (counted head Skipped t) (Some e) o m s
+        → Prints contents o m (line_after listing t head (if_too_long listing)) → IsTold contents listing t (counted head (if_too_long listing) t) (Some e) o m s
     told_cut t s head e o m same enough long needs there less wrote =
         let error : e ≡ record { required_len = 16 + head.captured_len; len = length s } = cut_is e _ _ needs there in
         let short : length s < 16 + head.captured_len = omega (arith, needs, there, less) in
         record {
-          text = line_after listing t head Skipped;
+          text = line_after listing t head (if_too_long listing);
           lists = last_at t s head e same (inr (enough, record { short = rw same at short; error = rw same at error })) (omega (arith, needs, long));
           prints = wrote;
         }
@@ -188,15 +195,15 @@ module _ {R W : Type 0} (remaining : R → Option (List ℕ)) (contents : W → 
   -- a record that is too long has its line, and is skipped, or all that there is of it
   module _ (t : Totals) (head : RecordHead) (n wanted : ℕ) (a b c : Input R) (o m : Output W) (p : Takes remaining a b (unread a)) (none : unread b ≡ []) (enough : 16 ≤ length (unread a))
       (is : head ≡ record_head listing.header (unread a)) (long : max_captured_len < head.captured_len) (whole : length (unread a) + wanted ≡ 16 + head.captured_len)
-      (wrote : Prints contents o m (line_after listing t head Skipped)) (k : Skips remaining b c wanted n) where
+      (wrote : Prints contents o m (line_after listing t head (if_too_long listing))) (k : Skips remaining b c wanted n) where
     head_is : head ≡ record_head listing.header (unread a ++ k.taken)
     head_is = is ∙ sym (record_head-append listing.header (unread a) k.taken enough)
 
-    pub past_skipped : n ≡ wanted → 0 < n → GoesOn remaining contents listing t (counted head Skipped t) a c o m
+    pub past_skipped : n ≡ wanted → 0 < n → GoesOn remaining contents listing t (counted head (if_too_long listing) t) a c o m
     past_skipped all some = record {
       taken = unread a ++ k.taken;
       takes = takes_both remaining a b c (unread a) k.taken p k.takes;
-      tells = told_one contents listing t (unread a ++ k.taken) _ head Skipped o m head_is refl (omega (arith, enough, length-append (unread a) k.taken))
+      tells = told_one contents listing t (unread a ++ k.taken) _ head (if_too_long listing) o m head_is refl (omega (arith, enough, length-append (unread a) k.taken))
           (omega (arith, whole, all, k.many, length-append (unread a) k.taken)) (inr (long, refl)) wrote;
       more = omega (arith, p.reads.count, k.takes.reads.count, some, k.many, ap length k.takes.takes, ap length none, length-append (unread b) k.takes.got, length-append k.taken (unread c));
     }
@@ -205,7 +212,7 @@ module _ {R W : Type 0} (remaining : R → Option (List ℕ)) (contents : W → 
     all_read : n < wanted → unread a ++ (p.got ++ k.takes.got) ≡ unread a ++ k.taken
     all_read few = let over = k.all few in grind (arith, append_assoc, append-nil, p.takes, k.takes.takes)
 
-    pub told_past : (e : cut.CutOff) → n < wanted → e.required_len ≡ 16 + head.captured_len → e.len ≡ length (unread a) + n → IsTold contents listing t (counted head Skipped t) (Some e) o m (unread a ++ (p.got ++ k.takes.got))
+    pub told_past : (e : cut.CutOff) → n < wanted → e.required_len ≡ 16 + head.captured_len → e.len ≡ length (unread a) + n → IsTold contents listing t (counted head (if_too_long listing) t) (Some e) o m (unread a ++ (p.got ++ k.takes.got))
     told_past e few needs there = rw (all_read few) (told_cut contents listing t (unread a ++ k.taken) head e o m head_is (omega (arith, enough, length-append (unread a) k.taken)) long needs
         (omega (arith, there, k.many, length-append (unread a) k.taken)) (omega (arith, whole, few, needs, there)) wrote)
 

@@ -3,6 +3,7 @@ pub mod Listing
 pub mod Output
 pub mod Private
 pub mod Reading
+pub mod Refusal
 pub mod Shown
 pub mod Status
 pub mod Streams

@@ -162,10 +162,17 @@ abbrev pub end_text : Option cut.CutOff → List ℕ
 end_text None = []
 end_text (Some e) = cut_off_line e
 
--- the first half of the closing line: how many records there are, and of which kinds
-unfoldable pub kinds_text : Totals → List ℕ
-kinds_text totals =
-    decimal totals.records ++ (codes " packets: " ++ (decimal totals.ipv4
+-- how many records there are, and with an expression how many of them match
+abbrev pub count_text : Bool → Totals → List ℕ
+count_text has_filter totals =
+    if has_filter then decimal totals.listed ++ (codes " of " ++ decimal totals.records)
+    else decimal totals.records
+
+-- the first half of the closing line: how many records there are, and of which kinds those are that
+-- are listed
+unfoldable pub kinds_text : Bool → Totals → List ℕ
+kinds_text has_filter totals =
+    count_text has_filter totals ++ (codes " packets: " ++ (decimal totals.ipv4
     ++ (codes " IPv4, " ++ (decimal totals.ipv6 ++ (codes " IPv6, "
     ++ (decimal totals.other ++ (codes " other, "
     ++ (decimal totals.refused ++ codes " refused, "))))))))
@@ -177,9 +184,9 @@ damage_text totals =
     ++ (decimal totals.wrong ++ codes " with a wrong checksum\n"))))
 
 -- the closing line, if it is written
-abbrev pub closing_text : Option Totals → List ℕ
-closing_text None = []
-closing_text (Some totals) = kinds_text totals ++ damage_text totals
+abbrev pub closing_text : Bool → Option Totals → List ℕ
+closing_text has_filter None = []
+closing_text has_filter (Some totals) = kinds_text has_filter totals ++ damage_text totals
 
 -- why an input is no capture
 unfoldable pub capture_error_line : CaptureError → List ℕ

@@ -1,7 +1,8 @@
 -- What the program writes.
-use Rattle.std.specs.Prelude.{ℕ, ◌≡◌, ◌⊎◌, ◌%◌, ◌^◌, Bool, not, List, [], ◌++◌, Option, Some, None}
+use Rattle.std.specs.Prelude.{ℕ, ◌≡◌, ◌⊎◌, ◌%◌, ◌^◌, not, List, [], ◌++◌, Option, Some, None}
 use Rattle.std.specs.Prelude.{Err}
 use Rattle.std.specs.Bool.{then_some}
+use Rattle.std.specs.Option.{is_some}
 use Rattle.packet.specs.Link.{link_type_of}
 use Rattle.packet_capture.specs.Capture.{BeginsWithFileHeader, ReadsFileHeader}
 use Rattle.packet_capture.specs.declared.capture.CaptureError.{CaptureError}
@@ -14,6 +15,7 @@ use Rattle.ipcap.specs.Totals.{HasRoom, nothing_counted}
 use Rattle.ipcap.specs.declared.input.Input.{Input}
 use Rattle.ipcap.specs.declared.listing.Listing.{Listing}
 use Rattle.ipcap.specs.declared.output.Output.{Output}
+use Rattle.ipcap.specs.declared.request.Request.{Request}
 use Rattle.ipcap.specs.declared.status.Status.{Status}
 use Rattle.ipcap.specs.declared.status.Status.TheVariants as status
 use Rattle.ipcap.specs.declared.totals.Totals.{Totals}
@@ -34,13 +36,14 @@ status_at (Some e) = status.CutOff
 
 -- The line on the end and the closing line go to standard error; in a quiet run the closing line
 -- goes to standard output.
-abbrev pub listed : Bool → List ℕ → Totals → Option cut.CutOff → Outcome
-listed is_quiet text totals end = record {
+abbrev pub listed : Request → List ℕ → Totals → Option cut.CutOff → Outcome
+listed request text totals end = record {
   status = status_at end;
   totals = totals;
   lines = text;
-  closing = closing_text (then_some is_quiet totals);
-  errors = end_text end ++ closing_text (then_some (not is_quiet) totals);
+  closing = closing_text (is_some request.filter) (then_some request.is_quiet totals);
+  errors = end_text end
+      ++ closing_text (is_some request.filter) (then_some (not request.is_quiet) totals);
 }
 
 -- a run that ends before any record
@@ -59,16 +62,16 @@ pub record IsListing (listing : Listing) (records : List ℕ) (outcome : Outcome
   pub totals : Totals
   pub end : Option cut.CutOff
   pub lists : Lists listing nothing_counted records text totals end
-  pub outcome_of : outcome ≡ listed listing.is_quiet text totals end
+  pub outcome_of : outcome ≡ listed listing.request.now text totals end
 
 -- the number of the link type, without the bits above it, which are about a frame check sequence
 abbrev pub number_of : FileHeader → ℕ
 number_of header = header.link_type % 2 ^ 16
 
 -- The input is a capture of a link type that is read: a file header and records.
-pub record IsListed (is_quiet : Bool) (input : List ℕ) (outcome : Outcome) : Type 0 where
+pub record IsListed (request : Request) (input : List ℕ) (outcome : Outcome) : Type 0 where
   pub listing : Listing
-  pub quiet : listing.is_quiet ≡ is_quiet
+  pub asked : listing.request.now ≡ request
   pub records : List ℕ
   pub begins : BeginsWithFileHeader input listing.header records
   pub is_read : link_type_of (number_of listing.header) ≡ Some listing.link_type
@@ -88,9 +91,9 @@ pub record IsNoCapture (input : List ℕ) (outcome : Outcome) : Type 0 where
   pub reads : ReadsFileHeader input (Err error)
   pub outcome_of : outcome ≡ refused (capture_error_line error)
 
--- the outcome for an input
-abbrev pub IsOutcome : Bool → List ℕ → Outcome → Type 0
-IsOutcome is_quiet input outcome = IsListed is_quiet input outcome
+-- the outcome of a request for an input
+abbrev pub IsOutcome : Request → List ℕ → Outcome → Type 0
+IsOutcome request input outcome = IsListed request input outcome
     ⊎ HasOtherFrames input outcome ⊎ IsNoCapture input outcome
 
 -- the sinks get the texts of such an outcome

@@ -58,6 +58,14 @@ ReadsFrame link_type is_cut frame reading =
 abbrev pub is_cut : RecordHead → Bool
 is_cut head = nat_lt head.captured_len head.original_len
 
+-- the greatest number of captured bytes in a record that is read
+abbrev pub max_captured_len : ℕ
+max_captured_len = 262144
+
+-- more were captured than are read
+abbrev pub is_too_long : RecordHead → Bool
+is_too_long head = nat_lt max_captured_len head.captured_len
+
 -- whether one of its checksums is wrong
 abbrev pub has_wrong_checksum : Reading → Bool
 has_wrong_checksum (Packet shown) =

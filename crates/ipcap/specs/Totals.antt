@@ -1,10 +1,10 @@
 -- What is counted.
-use Rattle.std.specs.Prelude.{◌+◌, ◌-◌, ◌^◌, ◌<◌}
+use Rattle.std.specs.Prelude.{◌+◌, ◌-◌, ◌^◌, ◌<◌, Option, Some, None}
 use Rattle.std.specs.Int.{from_bool}
 use Rattle.packet_capture.specs.declared.capture.RecordHead.{RecordHead}
 use Rattle.packet_parts.specs.declared.ip_slice.IpHeaderSlice.{IpHeaderSlice}
 use Rattle.packet_parts.specs.declared.ip_slice.IpHeaderSlice.TheVariants as header
-use Rattle.ipcap.specs.Reading.{has_wrong_checksum, is_cut}
+use Rattle.ipcap.specs.Reading.{has_wrong_checksum, is_cut, is_too_long}
 use Rattle.ipcap.specs.declared.reading.Reading.{Reading}
 use Rattle.ipcap.specs.declared.reading.Reading.TheVariants.{Other, Packet, Refused, Skipped}
 use Rattle.ipcap.specs.declared.totals.Totals.{Totals}
@@ -13,6 +13,7 @@ use Rattle.ipcap.specs.declared.totals.Totals.{Totals}
 abbrev pub nothing_counted : Totals
 nothing_counted = record {
   records = 0;
+  listed = 0;
   ipv4 = 0;
   ipv6 = 0;
   other = 0;
@@ -34,16 +35,23 @@ counted_as (Other e) totals = record totals { other = totals.other + 1 }
 counted_as (Refused e) totals = record totals { refused = totals.refused + 1 }
 counted_as Skipped totals = record totals { skipped = totals.skipped + 1 }
 
--- with one more record, which has this head and this reading
-abbrev pub counted : RecordHead → Reading → Totals → Totals
-counted head reading totals = record (counted_as reading totals) {
+-- with one more record, which has this head, and this reading if it is listed; any that is too long
+-- counts as skipped
+abbrev pub counted : RecordHead → Option Reading → Totals → Totals
+counted head (Some reading) totals = record (counted_as reading totals) {
   records = totals.records + 1;
+  listed = totals.listed + 1;
   cut = totals.cut + from_bool (is_cut head);
   wrong = totals.wrong + from_bool (has_wrong_checksum reading);
+}
+counted head None totals = record totals {
+  records = totals.records + 1;
+  skipped = totals.skipped + from_bool (is_too_long head);
 }
 
 -- each count is less than 2^64 - 1, so one more record can be counted
 abbrev pub HasRoom : Totals → Type 0
-HasRoom totals = (totals.records < 2 ^ 64 - 1) × (totals.ipv4 < 2 ^ 64 - 1)
-    × (totals.ipv6 < 2 ^ 64 - 1) × (totals.other < 2 ^ 64 - 1) × (totals.refused < 2 ^ 64 - 1)
-    × (totals.skipped < 2 ^ 64 - 1) × (totals.cut < 2 ^ 64 - 1) × (totals.wrong < 2 ^ 64 - 1)
+HasRoom totals = (totals.records < 2 ^ 64 - 1) × (totals.listed < 2 ^ 64 - 1)
+    × (totals.ipv4 < 2 ^ 64 - 1) × (totals.ipv6 < 2 ^ 64 - 1) × (totals.other < 2 ^ 64 - 1)
+    × (totals.refused < 2 ^ 64 - 1) × (totals.skipped < 2 ^ 64 - 1) × (totals.cut < 2 ^ 64 - 1)
+    × (totals.wrong < 2 ^ 64 - 1)

@@ -3,7 +3,8 @@
 ghost use Rattle.std.specs.Prelude.{◌≡◌, ◌++◌, Some, MatchOption};
 ghost use Rattle.std.specs.Fmt.{DisplaysOnOk};
 ghost use Rattle.ipcap.specs.Lines.{detail_text, parties_text, payload_text, place_text};
-ghost use Rattle.ipcap.specs.Lines.{capture_error_line, closing_text, cut_text, damage_text};
+ghost use Rattle.ipcap.specs.Lines.{capture_error_line, closing_text, count_text, cut_text};
+ghost use Rattle.ipcap.specs.Lines.{damage_text};
 ghost use Rattle.ipcap.specs.Lines.{end_text, fraction_text, head_text, header_verdict_text};
 ghost use Rattle.ipcap.specs.Lines.{hex_text, keyword_of, kinds_text, link_type_line};
 ghost use Rattle.ipcap.specs.Lines.{no_packet_text, reading_text, record_line, shown_text};
@@ -311,14 +312,17 @@ pub struct EndLines {
     pub end: Option<CutOff>,
     /// What the closing line says; `None` if it goes elsewhere.
     pub totals: Option<Totals>,
+    /// Whether records were chosen by an expression.
+    pub has_filter: bool,
 }
 
 impl fmt::Display for EndLines {
-    ghost output = { λ lines. Some (end_text lines.end ++ closing_text lines.totals) };
+    ghost output = { λ lines. Some (end_text lines.end
+        ++ closing_text lines.has_filter lines.totals) };
 
     fn fmt<W: fmt::Write>(&self, f: &mut Formatter<W>) -> fmt::Result {
         write_end(f, self.end)?;
-        write_closing(f, self.totals)
+        write_closing(f, self.has_filter, self.totals)
     }
 }
 
@@ -337,27 +341,50 @@ fn write_end<W: fmt::Write>(f: &mut Formatter<W>, end: Option<CutOff>) -> fmt::R
 }
 
 // Writes the closing line, if there is one.
-fn write_closing<W: fmt::Write>(f: &mut Formatter<W>, totals: Option<Totals>) -> fmt::Result
-    ensures text { DisplaysOnOk W.write_str_gives f.old result (Some (closing_text totals)) f.new }
+fn write_closing<W: fmt::Write>(
+    f: &mut Formatter<W>,
+    has_filter: bool,
+    totals: Option<Totals>,
+) -> fmt::Result
+    ensures text { DisplaysOnOk W.write_str_gives f.old result
+        (Some (closing_text has_filter totals)) f.new }
 {
     let Some(totals) = totals else {
         return Ok(());
     };
-    write_kinds(f, totals)?;
+    write_kinds(f, has_filter, totals)?;
     write_damage(f, totals)
 }
 
 // Writes how many records there are, and of which kinds.
 #[tactic(auto, unfolding(crate::specs::Lines::kinds_text))]
-fn write_kinds<W: fmt::Write>(f: &mut Formatter<W>, totals: Totals) -> fmt::Result
-    ensures text { DisplaysOnOk W.write_str_gives f.old result (Some (kinds_text totals)) f.new }
+fn write_kinds<W: fmt::Write>(f: &mut Formatter<W>, has_filter: bool, totals: Totals) -> fmt::Result
+    ensures text { DisplaysOnOk W.write_str_gives f.old result
+        (Some (kinds_text has_filter totals)) f.new }
 {
-    let (records, ipv4, ipv6) = (totals.records, totals.ipv4, totals.ipv6);
+    let (count, ipv4, ipv6) = (Count(has_filter, totals), totals.ipv4, totals.ipv6);
     let (other, refused) = (totals.other, totals.refused);
     write!(
         f,
-        "{records} packets: {ipv4} IPv4, {ipv6} IPv6, {other} other, {refused} refused, "
+        "{count} packets: {ipv4} IPv4, {ipv6} IPv6, {other} other, {refused} refused, "
     )
+}
+
+// How many records there are, and with an expression how many of them match.
+#[derive(Clone, Copy)]
+struct Count(bool, Totals);
+
+impl fmt::Display for Count {
+    ghost output = { λ count. Some (count_text count.0 count.1) };
+
+    fn fmt<W: fmt::Write>(&self, f: &mut Formatter<W>) -> fmt::Result {
+        let (records, listed) = (self.1.records, self.1.listed);
+        if self.0 {
+            write!(f, "{listed} of {records}")
+        } else {
+            write!(f, "{records}")
+        }
+    }
 }
 
 // Writes how many are skipped, cut, or have a wrong checksum.

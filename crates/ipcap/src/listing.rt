@@ -1,12 +1,13 @@
 //! The lines of the records, in their order.
 
-ghost use Rattle.std.specs.Prelude.{ℕ, ◌≡◌, ◌≤◌, ◌<◌, ◌+◌, ◌-◌, ◌⊎◌, [], IfErr, IfOk, OnErr, OnOk};
-ghost use Rattle.std.specs.Prelude.{drop, length, take};
+ghost use Rattle.std.specs.Prelude.{ℕ, ◌≡◌, ◌≤◌, ◌<◌, ◌+◌, ◌-◌, ◌⊎◌, ◌↔◌, [], IfErr, IfOk, IsTrue};
+ghost use Rattle.std.specs.Prelude.{OnErr, OnOk, Some, drop, length, take};
 ghost use Rattle.std.specs.Io.KnownBytes.{IsAtEnd};
 ghost use Rattle.packet_capture.specs.Capture.{record_len};
-ghost use Rattle.ipcap.specs.Listing.{line_after, max_captured_len};
+ghost use Rattle.ipcap.specs.Listing.{IsChosen, if_too_long, line_after};
 ghost use Rattle.ipcap.specs.Private.Progress.{Because, Breaks, Ends, Skips, Stops, Tells};
-ghost use Rattle.ipcap.specs.Private.Progress.{TellsFront, Turns};
+ghost use Rattle.ipcap.specs.Private.Progress.{TellsFrame, TellsFront, Turns};
+ghost use Rattle.ipcap.specs.Reading.{max_captured_len};
 ghost use Rattle.ipcap.specs.Streams.{CannotRead, Prints, unread};
 ghost use Rattle.ipcap.specs.Totals.{counted, nothing_counted};
 
@@ -15,6 +16,7 @@ use crate::input::{Input, ROOM};
 use crate::lines::RecordLine;
 use crate::output::Output;
 use crate::reading::{Reading, is_cut, read_frame};
+use crate::request::Request;
 use crate::streams::{Sink, Source};
 use crate::totals::Totals;
 use packet::link::LinkType;
@@ -31,13 +33,13 @@ pub enum Turn {
 
 /// A capture that is listed.
 #[derive(Clone, Copy)]
-pub struct Listing {
+pub struct Listing<'a> {
     /// Its header.
     pub header: FileHeader,
     /// The type of its frames.
     pub link_type: LinkType,
-    /// Whether its records are counted alone, and have no lines.
-    pub is_quiet: bool,
+    /// What is asked for: which records are listed, and whether they have lines.
+    pub request: &'a Request,
 }
 
 // Skips `len` bytes, or all that the input has if these are fewer; returns how many.
@@ -63,8 +65,8 @@ fn skip<R: Source>(input: &mut Input<R>, len: usize) -> Result<usize, Failure>
     }
 }
 
-impl Listing {
-    // Counts a record, and prints its line.
+impl Listing<'_> {
+    // Counts a record that is listed, and prints its line.
     #[inline(always)] // A quiet run then makes no value of a reading in memory.
     fn list_record<W: Sink>(
         &self,
@@ -73,16 +75,17 @@ impl Listing {
         reading: Reading,
         output: &mut Output<W>,
     ) -> Result<Totals, Failure>
-        ensures counts { IfOk result (λ after. after ≡ counted head reading.entry before) }
+        ensures counts { IfOk result (λ after.
+            after ≡ counted head (Some reading.entry) before) }
         ensures prints { OnOk result (Prints W.contents output.old output.new
-            (line_after self.now before head reading.entry)) }
+            (line_after self.now before head (Some reading.entry))) }
         ensures kept { OnErr result (Prints W.contents output.old output.new []) }
         ensures failed { IfErr result (λ e. Because ⊥ (W.has_failed output.new.sink) e before []) }
     {
         let Some(after) = before.count(&head, &reading) else {
             return Err(Failure::Count);
         };
-        if self.is_quiet {
+        if self.request.is_quiet {
             return Ok(after);
         }
         output.print(RecordLine {
@@ -92,6 +95,61 @@ impl Listing {
             reading,
         })?;
         Ok(after)
+    }
+
+    // Whether a record is listed.
+    fn is_chosen(&self, head: &RecordHead, frame: &[u8]) -> bool
+        ensures value { IsChosen self.now head.now frame.now result }
+    {
+        match &self.request.filter {
+            None => true,
+            Some(filter) => {
+                filter.matches_frame(self.link_type, frame, head.original_len as usize)
+            }
+        }
+    }
+
+    // Counts a record, and prints its line if it is listed. The expression is asked first, since
+    // most of what a line says takes longer.
+    #[inline(always)]
+    fn list_frame<W: Sink>(
+        &self,
+        before: Totals,
+        head: RecordHead,
+        frame: &[u8],
+        output: &mut Output<W>,
+    ) -> Result<Totals, Failure>
+        ensures told { IfOk result (λ after. TellsFrame W.contents self.now before after head
+            frame.now output.old output.new) }
+        ensures kept { OnErr result (Prints W.contents output.old output.new []) }
+        ensures failed { IfErr result (λ e. Because ⊥ (W.has_failed output.new.sink) e before []) }
+    {
+        if self.is_chosen(&head, frame) {
+            let reading = read_frame(self.link_type, is_cut(&head), frame);
+            self.list_record(before, head, reading, output)
+        } else {
+            before.pass(&head).ok_or(Failure::Count)
+        }
+    }
+
+    // Counts a record that is too long, and prints its line if it is listed.
+    fn list_too_long<W: Sink>(
+        &self,
+        before: Totals,
+        head: RecordHead,
+        output: &mut Output<W>,
+    ) -> Result<Totals, Failure>
+        ensures counts { IfOk result (λ after.
+            after ≡ counted head (if_too_long self.now) before) }
+        ensures prints { OnOk result (Prints W.contents output.old output.new
+            (line_after self.now before head (if_too_long self.now))) }
+        ensures kept { OnErr result (Prints W.contents output.old output.new []) }
+        ensures failed { IfErr result (λ e. Because ⊥ (W.has_failed output.new.sink) e before []) }
+    {
+        match &self.request.filter {
+            None => self.list_record(before, head, Reading::Skipped, output),
+            Some(_) => before.pass(&head).ok_or(Failure::Count),
+        }
     }
 
     // Lists the whole records at the front of the data. Returns the rest, the totals after them,
@@ -117,8 +175,7 @@ impl Listing {
             match next_record(&self.header, rest) {
                 Ok(Some((record, after))) => {
                     let head = self.header.record_head(rest);
-                    let reading = read_frame(self.link_type, is_cut(&head), record.bytes);
-                    totals = self.list_record(totals, head, reading, output)?;
+                    totals = self.list_frame(totals, head, record.bytes, output)?;
                     rest = after;
                 }
                 Ok(None) => return Ok((rest, totals, None)),
@@ -146,7 +203,7 @@ impl Listing {
             R.has_failed W.has_failed before e input.old input.new output.old output.new) }
     {
         let head = self.header.record_head(input.unread());
-        let after = self.list_record(before, head, Reading::Skipped, output)?;
+        let after = self.list_too_long(before, head, output)?;
         let CutOff { required_len, len } = cut_off;
         input.pass(len);
         let skipped = skip(input, required_len - len)?;

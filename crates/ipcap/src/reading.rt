@@ -2,7 +2,7 @@
 
 ghost use Rattle.std.specs.Prelude.{◌≡◌, ◌↔◌, IsTrue, MatchOption};
 ghost use Rattle.ipcap.specs.Shown.{IsShownAt};
-ghost use Rattle.ipcap.specs.Reading.{ReadsFrame, ReadsPacket, is_cut};
+ghost use Rattle.ipcap.specs.Reading.{ReadsFrame, ReadsPacket, is_cut, is_too_long};
 
 use crate::shown::{Shown, has_no_length, shown_of};
 use packet::link::{LinkSlice, LinkType};
@@ -42,6 +42,13 @@ pub fn is_cut(head: &RecordHead) -> bool
     ensures value { result ≡ is_cut head.now }
 {
     head.captured_len < head.original_len
+}
+
+/// Whether more bytes were captured than are read.
+pub fn is_too_long(head: &RecordHead) -> bool
+    ensures value { result ≡ is_too_long head.now }
+{
+    head.captured_len > 262_144
 }
 
 /// What a frame of a link type is found to carry. If the capture cut the frame, its packet can be

@@ -11,6 +11,7 @@ use crate::input::Input;
 use crate::lines::{EndLines, LinkTypeLine, NoCaptureLine};
 use crate::listing::Listing;
 use crate::output::Output;
+use crate::request::Request;
 use crate::status::Status;
 use crate::streams::{Sink, Source};
 use packet::link::LinkType;
@@ -18,25 +19,27 @@ use packet_capture::capture::FileHeader;
 
 /// Reads a capture, and writes a line for each record and then, to `errors`, the closing line.
 ///
-/// A quiet run writes the closing line alone, to `output`. If the input is no capture, or one of a
+/// With an expression only the records have a line whose frame it is true of; the lines have the
+/// numbers that the records have in the capture, and the closing line says how many of how many it
+/// is true of. A quiet run writes the closing line alone, to `output`. If the input is no capture, or one of a
 /// link type that is not read, or its last record is cut off, `errors` gets a line on that. The run
 /// ends as soon as a read or a write fails; the lines of what was read before a read that fails are
 /// written. It allocates no memory.
 pub fn run<R: Source, W: Sink, E: Sink>(
-    is_quiet: bool,
+    request: &Request,
     input: &mut Input<R>,
     output: &mut Output<W>,
     errors: &mut Output<E>,
 ) -> Status
     requires fresh { (pending output.old ≡ []) × (pending errors.old ≡ []) }
     ensures output { result ≢ Status.Failed → IfSome (unlisted R.remaining input.old) (λ bytes.
-        Writes W.contents E.contents (IsOutcome is_quiet bytes) result
+        Writes W.contents E.contents (IsOutcome request.now bytes) result
         output.old output.new errors.old errors.new) }
     ensures failed { result ≡ Status.Failed → Fails R.remaining W.contents E.contents
-        R.has_failed W.has_failed E.has_failed (IsOutcome is_quiet)
+        R.has_failed W.has_failed E.has_failed (IsOutcome request.now)
         input.old input.new output.old output.new errors.old errors.new }
 {
-    match try_run(is_quiet, input, output, errors) {
+    match try_run(request, input, output, errors) {
         Ok(status) => status,
         Err(_) => Status::Failed,
     }
@@ -44,7 +47,7 @@ pub fn run<R: Source, W: Sink, E: Sink>(
 
 // `run`, with what failed.
 fn try_run<R: Source, W: Sink, E: Sink>(
-    is_quiet: bool,
+    request: &Request,
     input: &mut Input<R>,
     output: &mut Output<W>,
     errors: &mut Output<E>,
@@ -52,10 +55,10 @@ fn try_run<R: Source, W: Sink, E: Sink>(
     requires fresh { (pending output.old ≡ []) × (pending errors.old ≡ []) }
     ensures status { IfOk result (λ status. status ≢ Status.Failed) }
     ensures output { IfOk result (λ status. IfSome (unlisted R.remaining input.old) (λ bytes.
-        Writes W.contents E.contents (IsOutcome is_quiet bytes) status
+        Writes W.contents E.contents (IsOutcome request.now bytes) status
         output.old output.new errors.old errors.new)) }
     ensures failed { OnErr result (Fails R.remaining W.contents E.contents
-        R.has_failed W.has_failed E.has_failed (IsOutcome is_quiet)
+        R.has_failed W.has_failed E.has_failed (IsOutcome request.now)
         input.old input.new output.old output.new errors.old errors.new) }
 {
     fill_to_file_header(input)?;
@@ -75,7 +78,7 @@ fn try_run<R: Source, W: Sink, E: Sink>(
     let listing = Listing {
         header,
         link_type,
-        is_quiet,
+        request,
     };
     list_records(&listing, input, output, errors)
 }
@@ -125,13 +128,17 @@ fn list_records<R: Source, W: Sink, E: Sink>(
         }
     };
     output.hand_over()?;
+    let Request { is_quiet, filter } = listing.request;
+    let (is_quiet, has_filter) = (*is_quiet, filter.is_some());
     errors.finish(EndLines {
         end,
-        totals: (!listing.is_quiet).then_some(totals),
+        totals: (!is_quiet).then_some(totals),
+        has_filter,
     })?;
     output.finish(EndLines {
         end: None,
-        totals: listing.is_quiet.then_some(totals),
+        totals: is_quiet.then_some(totals),
+        has_filter,
     })?;
     match end {
         None => Ok(Status::Done),

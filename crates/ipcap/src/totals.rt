@@ -1,14 +1,16 @@
 //! What is counted.
 
-use crate::reading::{Reading, is_cut};
+use crate::reading::{Reading, is_cut, is_too_long};
 use packet_capture::capture::RecordHead;
 use packet_parts::ip_slice::IpHeaderSlice;
 
-/// How many records there were, and of which kinds.
+/// How many records there were, how many of them are listed, and of which kinds these are.
 #[derive(Clone, Copy)]
 pub struct Totals {
     /// All of them.
     pub records: u64,
+    /// Those that are listed: all, or those that match the expression.
+    pub listed: u64,
     /// Those that are shown as IPv4 packets.
     pub ipv4: u64,
     /// Those that are shown as IPv6 packets.
@@ -17,7 +19,7 @@ pub struct Totals {
     pub other: u64,
     /// Those that are refused.
     pub refused: u64,
-    /// Those that are skipped.
+    /// Those that are skipped, listed or not.
     pub skipped: u64,
     /// Those with fewer captured bytes than the packet had.
     pub cut: u64,
@@ -26,7 +28,7 @@ pub struct Totals {
 }
 
 impl Totals {
-    ghost use Rattle.std.specs.Prelude.{◌≡◌, IfNone, IfSome};
+    ghost use Rattle.std.specs.Prelude.{◌≡◌, IfNone, IfSome, None, Some};
     ghost use Rattle.ipcap.specs.Totals.{HasRoom, counted, counted_as, nothing_counted};
 
     /// No record.
@@ -35,6 +37,7 @@ impl Totals {
     {
         Totals {
             records: 0,
+            listed: 0,
             ipv4: 0,
             ipv6: 0,
             other: 0,
@@ -45,19 +48,32 @@ impl Totals {
         }
     }
 
-    /// With one more record; `None` if a count would exceed 2^64 - 1.
+    /// With one more record that is listed; `None` if a count would exceed 2^64 - 1.
     pub fn count(self, head: &RecordHead, reading: &Reading) -> Option<Totals>
-        ensures some { IfSome result (λ after. after ≡ counted head.now reading.now self) }
+        ensures some { IfSome result (λ after. after ≡ counted head.now (Some reading.now) self) }
         ensures none { IfNone result (¬ HasRoom self) }
     {
         let after = self.count_as(reading)?;
         Some(Totals {
             records: self.records.checked_add(1)?,
+            listed: self.listed.checked_add(1)?,
             cut: self.cut.checked_add(u64::from(is_cut(head)))?,
             wrong: self
                 .wrong
                 .checked_add(u64::from(reading.has_wrong_checksum()))?,
             ..after
+        })
+    }
+
+    /// With one more record that is not listed; `None` if a count would exceed 2^64 - 1.
+    pub fn pass(self, head: &RecordHead) -> Option<Totals>
+        ensures some { IfSome result (λ after. after ≡ counted head.now None self) }
+        ensures none { IfNone result (¬ HasRoom self) }
+    {
+        Some(Totals {
+            records: self.records.checked_add(1)?,
+            skipped: self.skipped.checked_add(u64::from(is_too_long(head)))?,
+            ..self
         })
     }
 

@@ -5,6 +5,7 @@ mod address;
 mod addresses;
 mod expression;
 mod filter;
+mod frame;
 mod head;
 mod holds;
 mod jumps;

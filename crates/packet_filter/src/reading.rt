@@ -48,6 +48,21 @@ impl fmt::Display for FilterError {
     }
 }
 
+impl FilterError {
+    ghost use Rattle.packet_filter.specs.Frame.{place_in_text};
+
+    /// Where the word begins that the refusal is about, in bytes from the start of the text; `None`
+    /// for the end of the text.
+    pub fn place(&self) -> Option<usize>
+        ensures value { result ≡ place_in_text self.now }
+    {
+        match self {
+            FilterError::Unexpected { place } => Some(*place),
+            FilterError::Incomplete | FilterError::TooLong => None,
+        }
+    }
+}
+
 const _: () = prove!(Filter::MAX_WORDS == 64);
 
 impl Filter {

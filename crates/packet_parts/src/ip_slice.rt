@@ -282,6 +282,7 @@ impl<'a> LaxIpSlice<'a> {
     /// let lax = LaxIpSlice::from_slice(&packet)?;
     /// assert!(rt; lax.slice.payload.len() == 8 && lax.stop.is_some());
     /// ```
+    #[inline(always)]
     pub fn from_slice(packet: &'a [u8]) -> Result<LaxIpSlice<'a>, IpSliceError>
         ensures found { IfOk result (HasLaxIpParts packet.now) }
         ensures refused { IfErr result (HasNoIpParts packet.now) }
@@ -317,6 +318,7 @@ fn whole_slice(packet: &[u8]) -> Result<IpSlice, IpSliceError>
 }
 
 // The parts of a packet as far as they are there.
+#[inline(always)]
 fn lax_slice(packet: &[u8]) -> Result<LaxIpSlice, IpSliceError>
     ensures reads { ReadsLaxIp packet.now result }
 {
@@ -331,6 +333,7 @@ fn lax_slice(packet: &[u8]) -> Result<LaxIpSlice, IpSliceError>
 }
 
 // The parts of a packet of version 4.
+#[inline(always)]
 fn ipv4_slice(packet: &[u8]) -> Result<LaxIpSlice, IpSliceError>
     requires some { 0 < length packet.now }
     requires version { version_of packet.now ≡ 4 }
@@ -380,6 +383,7 @@ fn ipv4_parts<'a>(header: Ipv4HeaderSlice<'a>, payload: &'a [u8]) -> IpSlice<'a>
 }
 
 // The parts of a packet of version 6.
+#[inline(always)]
 fn ipv6_slice(packet: &[u8]) -> Result<LaxIpSlice, IpSliceError>
     requires some { 0 < length packet.now }
     requires version { version_of packet.now ≡ 6 }

@@ -4,9 +4,10 @@ use Rattle.std.specs.Io.KnownBytes.{IsAtEnd}
 use Rattle.packet_capture.specs.Capture.{ReadsRecord}
 use Rattle.packet_capture.specs.declared.capture.CutOff as cut
 use Rattle.packet_capture.specs.declared.capture.FileHeader.{FileHeader}
-use Rattle.ipcap.specs.Listing.{Lists}
+use Rattle.packet_capture.specs.declared.capture.RecordHead.{RecordHead}
+use Rattle.ipcap.specs.Listing.{Lists, ReadsChosen, line_after}
 use Rattle.ipcap.specs.Streams.{CannotRead, Prints, Reads, Takes, unread}
-use Rattle.ipcap.specs.Totals.{HasRoom}
+use Rattle.ipcap.specs.Totals.{HasRoom, counted}
 use Rattle.ipcap.specs.declared.failure.Failure.{Failure}
 use Rattle.ipcap.specs.declared.failure.Failure.TheVariants as failure
 use Rattle.ipcap.specs.declared.input.Input.{Input}
@@ -14,6 +15,7 @@ use Rattle.ipcap.specs.declared.listing.Listing.{Listing}
 use Rattle.ipcap.specs.declared.listing.Turn.{Turn}
 use Rattle.ipcap.specs.declared.listing.Turn.TheVariants as turn
 use Rattle.ipcap.specs.declared.output.Output.{Output}
+use Rattle.ipcap.specs.declared.reading.Reading.{Reading}
 use Rattle.ipcap.specs.declared.totals.Totals.{Totals}
 
 -- why no whole record is at the front of the data: it is empty, or begins with an incomplete one
@@ -38,6 +40,14 @@ pub record Skips {R : Type 0} (remaining : R → Option (List ℕ)) (old new : I
   pub all : len < wanted → unread new ≡ []
 
 module _ {W : Type 0} (contents : W → Option (List ℕ)) (listing : Listing) where
+  -- a record with this head and this frame is counted, and its line is printed, if it is listed
+  pub record TellsFrame (before after : Totals) (head : RecordHead) (frame : List ℕ)
+      (old new : Output W) : Type 0 where
+    pub found : Option Reading
+    pub reads : ReadsChosen listing head frame found
+    pub counts : after ≡ counted head found before
+    pub prints : Prints contents old new (line_after listing before head found)
+
   -- these are records that have lines, and the lines are printed
   pub record IsTold (before last : Totals) (end : Option cut.CutOff) (old new : Output W)
       (records : List ℕ) : Type 0 where

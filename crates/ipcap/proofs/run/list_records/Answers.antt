@@ -38,23 +38,23 @@ pub returns-in_err-finish-clause-failed : goal.returns-in_err-finish-clause-fail
 returns-in_err-finish-clause-failed g c =
     let handed = c.in_ok-hand_over.ensures in
     let failed = c.in_err-finish.ensures in
-    on_err _ (errors_fail _ _ _ g.R.Source.has_failed g.W.Sink.has_failed g.E.Sink.has_failed c.args.listing.now _ _ _ _ _ _ _ c.requires.fresh.0 c.in-Ok.ensures.ends handed.kept handed.all _ _ (rw c.then_some.ensures at failed.front) failed.failed)
+    on_err _ (errors_fail _ _ _ g.R.Source.has_failed g.W.Sink.has_failed g.E.Sink.has_failed c.args.listing.now _ _ _ _ _ _ _ c.requires.fresh.0 c.in-Ok.ensures.ends handed.kept handed.all _ _ (rw (c.then_some.ensures, c.is_some-has_filter.ensures) at failed.front) failed.failed)
 
 pub returns-in_err-finish-2-clause-failed : goal.returns-in_err-finish-2-clause-failed
 returns-in_err-finish-2-clause-failed g c =
     let handed = c.in_ok-hand_over.ensures in
     let failed = c.in_err-finish-2.ensures in
     on_err _ (closing_fails _ _ _ g.R.Source.has_failed g.W.Sink.has_failed g.E.Sink.has_failed c.args.listing.now _ _ _ _ _ _ _ c.requires.fresh.0 c.in-Ok.ensures.ends handed.kept handed.all _ _ _
-    (rw c.then_some.ensures at c.in_ok-finish.ensures.gets) (rw c.then_some-2.ensures at failed.front) failed.failed)
+    (rw (c.then_some.ensures, c.is_some-has_filter.ensures) at c.in_ok-finish.ensures.gets) (rw (c.then_some-2.ensures, c.is_some-has_filter.ensures) at failed.front) failed.failed)
 
 pub returns-in-None-clause-output : goal.returns-in-None-clause-output
 returns-in-None-clause-output g c =
     let handed = c.in_ok-hand_over.ensures in
     closed _ _ _ g.R.Source.has_failed g.W.Sink.has_failed g.E.Sink.has_failed c.args.listing.now _ _ _ _ _ _ _ c.requires.fresh.0 c.in-Ok.ensures.ends handed.kept handed.all _ _ _ _ (rw c.in-None.is refl)
-    (rw c.then_some.ensures at c.in_ok-finish.ensures.gets) (rw c.then_some-2.ensures at c.in_ok-finish-2.ensures.gets)
+    (rw (c.then_some.ensures, c.is_some-has_filter.ensures) at c.in_ok-finish.ensures.gets) (rw (c.then_some-2.ensures, c.is_some-has_filter.ensures) at c.in_ok-finish-2.ensures.gets)
 
 pub returns-in-Some-clause-output : goal.returns-in-Some-clause-output
 returns-in-Some-clause-output g c =
     let handed = c.in_ok-hand_over.ensures in
     closed _ _ _ g.R.Source.has_failed g.W.Sink.has_failed g.E.Sink.has_failed c.args.listing.now _ _ _ _ _ _ _ c.requires.fresh.0 c.in-Ok.ensures.ends handed.kept handed.all _ _ _ _ (rw c.in-Some.is refl)
-    (rw c.then_some.ensures at c.in_ok-finish.ensures.gets) (rw c.then_some-2.ensures at c.in_ok-finish-2.ensures.gets)
+    (rw (c.then_some.ensures, c.is_some-has_filter.ensures) at c.in_ok-finish.ensures.gets) (rw (c.then_some-2.ensures, c.is_some-has_filter.ensures) at c.in_ok-finish-2.ensures.gets)

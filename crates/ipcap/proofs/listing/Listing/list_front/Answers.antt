@@ -25,13 +25,13 @@ returns-in_err-totals-in-Ok-Some-clause-failed g c =
       last = c.records.totals;
       end = None;
       told = told_so_far _ _ _ _ _ _ _ _ was.tells c.in_err-totals-in-Ok-Some.ensures.kept;
-      cause = any_rest ⊥ (g.W.Sink.has_failed c.list_record.new.output.sink) c.in_err-totals-in-Ok-Some.field-0.0 c.records.totals _ c.records.rest.now c.in_err-totals-in-Ok-Some.ensures.failed;
+      cause = any_rest ⊥ (g.W.Sink.has_failed c.list_frame.new.output.sink) c.in_err-totals-in-Ok-Some.field-0.0 c.records.totals _ c.records.rest.now c.in_err-totals-in-Ok-Some.ensures.failed;
     })
 
 pub records-preserved : goal.records-preserved
 records-preserved g c =
     let was = c.records.invariant in
-    let told = c.in_ok-totals-in-Ok-Some.ensures in
+    let told = c.in_ok-totals-in-Ok-Some.ensures.told in
     let found = rw c.in-Ok-Some.field-0-is at c.in-Ok-Some.ensures.reads in
     let s = take (record_len c.args.self.now.header c.records.rest.now) c.records.rest.now in
     let parts : s ++ c.in-Ok-Some.after.now ≡ c.records.rest.now = ap (λ r. s ++ r) found.after ∙ take-append-drop _ c.records.rest.now in
@@ -42,9 +42,9 @@ records-preserved g c =
     record {
       taken = was.taken ++ s;
       whole = grind (arith, was.whole, append_assoc, parts);
-      tells = tells_both _ _ _ _ _ _ _ _ _ _ was.tells (rw told.counts (told_one _ _ _ s c.in-Ok-Some.record.bytes.now c.record_head-head.result c.read_frame-reading.result _ _
+      tells = tells_both _ _ _ _ _ _ _ _ _ _ was.tells (rw told.counts (told_one _ _ _ s c.in-Ok-Some.record.bytes.now c.record_head-head.result told.found _ _
           (same ∙ ap (record_head c.args.self.now.header) (sym parts) ∙ record_head-append c.args.self.now.header s c.in-Ok-Some.after.now (omega (arith, len)))
           (found.bytes ∙ ap (λ k. take k (drop 16 c.records.rest.now)) cut ∙ sym (drop-take 16 captured c.records.rest.now)) (omega (arith, len)) (len ∙ ap (λ h. 16 + h.captured_len) (sym same))
-          (inl (omega (arith, found.whole, ap (λ h. 16 + h.captured_len) same, ap length was.whole, length-append was.taken c.records.rest.now, c.requires.room), rw c.is_cut.ensures.value at c.read_frame-reading.ensures.reads))
+          (inl (omega (arith, found.whole, ap (λ h. 16 + h.captured_len) same, ap length was.whole, length-append was.taken c.records.rest.now, c.requires.room), told.reads))
           told.prints));
     }

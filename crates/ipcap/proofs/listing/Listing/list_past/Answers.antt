@@ -22,7 +22,7 @@ returns-in_err-after-clause-failed g c =
       last = c.args.before;
       end = None;
       told = told_stop _ _ _ None _ _ _ refl tt failed.kept;
-      cause = any_rest ⊥ (g.W.Sink.has_failed c.list_record.new.output.sink) c.in_err-after.field-0.0 c.args.before [] (unread c.args.input.now) failed.failed;
+      cause = any_rest ⊥ (g.W.Sink.has_failed c.list_too_long.new.output.sink) c.in_err-after.field-0.0 c.args.before [] (unread c.args.input.now) failed.failed;
     }))
 
 pub returns-then-len-required_len-clause-turns : goal.returns-then-len-required_len-clause-turns

@@ -1,0 +1,26 @@
+-- The lines on arguments that are refused.
+use Rattle.std.specs.Prelude.{ℕ, ◌&&◌, List, ◌++◌, codes, if◌then◌else◌, length, map, nat_lt}
+use Rattle.std.specs.Prelude.{replicate, unwrap_or}
+use Rattle.packet_filter.specs.Frame.{place_in_text}
+use Rattle.packet_filter.specs.Language.{filter_error_text}
+use Rattle.packet_filter.specs.Text.{is_space}
+use Rattle.packet_filter.specs.declared.reading.FilterError.{FilterError}
+use Rattle.ipcap.specs.declared.arguments.ArgumentError.{ArgumentError}
+use Rattle.ipcap.specs.declared.arguments.ArgumentError.TheVariants.{TooLong, Unknown}
+
+-- the line on other arguments than an expression
+abbrev pub argument_error_line : ArgumentError → List ℕ
+argument_error_line Unknown = codes "usage: ipcap [--quiet] [EXPRESSION] < CAPTURE\n"
+argument_error_line TooLong = codes "error: the expression has more than 4096 bytes\n"
+
+-- A byte of an expression as it is shown: printable ASCII as it is, and a blank for what parts
+-- words, so that the text is one line; a question mark for any other, which could drive a terminal.
+abbrev pub shown_byte : ℕ → ℕ
+shown_byte c = if is_space c then 32 else if nat_lt 32 c && nat_lt c 127 then c else 63
+
+-- The lines on a text that is no expression: why, the text, and a mark under the place where the
+-- word begins that cannot stand there, or after the end.
+unfoldable pub refusal_lines : List ℕ → FilterError → List ℕ
+refusal_lines text error = filter_error_text error ++ (codes "\n" ++ (map shown_byte text
+    ++ (codes "\n" ++ (replicate (unwrap_or (place_in_text error) (length text)) 32
+    ++ codes "^\n"))))
