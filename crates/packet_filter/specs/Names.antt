@@ -1,6 +1,7 @@
 -- The names that expressions are made of, and what each says.
 use Rattle.std.specs.Prelude.{ℕ, Option, Some, None, List, [], ◌∷◌, ◌++◌, codes, map}
 use Rattle.std.specs.Prelude.{if◌then◌else◌}
+use Rattle.std.specs.Option.{option_or}
 use Rattle.std.specs.Str.{bytes_eq}
 use Rattle.packet_filter.specs.declared.expression.Network.TheVariants as network
 use Rattle.packet_filter.specs.declared.expression.Operator.TheVariants as operator
@@ -113,7 +114,8 @@ foreign =
     codes "metac" ∷ codes "metaconnect" ∷ codes "oam" ∷ codes "oamf4" ∷ codes "oamf4e" ∷
     codes "oamf4s" ∷ codes "sc" ∷ codes "vci" ∷ codes "vpi" ∷ []
 
--- All names but those of values, each of which stands here once.
-unfoldable pub names : List Name
-names = operators ++ (protocols ++ (ether_types ++ (qualifiers
-    ++ map (λ word. (word, token.Foreign)) foreign)))
+-- what a name says, each of which stands in one of these tables, once
+unfoldable pub name_of : List ℕ → Option Token
+name_of word =
+    option_or (token_in (operators ++ (protocols ++ (ether_types ++ qualifiers))) word)
+    (token_in (map (λ name. (name, token.Foreign)) foreign) word)

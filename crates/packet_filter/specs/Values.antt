@@ -1,6 +1,8 @@
 -- The names of values: numbers of protocols, flags and types, and ports.
-use Rattle.std.specs.Prelude.{List, [], ◌∷◌, ◌++◌, codes}
-use Rattle.packet_filter.specs.Names.{Name}
+use Rattle.std.specs.Prelude.{ℕ, Option, List, [], ◌∷◌, ◌++◌, codes}
+use Rattle.std.specs.Option.{option_or}
+use Rattle.packet_filter.specs.Names.{Name, token_in}
+use Rattle.packet_filter.specs.declared.token.Token.{Token}
 use Rattle.packet_filter.specs.declared.token.Token.TheVariants as token
 
 -- numbers of IP's payload after `proto` (IANA, Assigned Internet Protocol Numbers)
@@ -175,6 +177,8 @@ services =
     (codes "redis", token.Service 6379) ∷
     (codes "http-alt", token.Service 8080) ∷ []
 
--- all names of values, each of which stands here once, and in no other table
-unfoldable pub values : List Name
-values = ip_numbers ++ (type_names ++ (tcp_flags ++ (icmp_types ++ (icmp6_types ++ services))))
+-- what the name of a value says, each of which stands in one of these tables, once, and is no other
+-- name
+unfoldable pub value_of : List ℕ → Option Token
+value_of word = option_or (option_or (token_in (ip_numbers ++ type_names) word)
+    (token_in (tcp_flags ++ (icmp_types ++ icmp6_types)) word)) (token_in services word)

@@ -1,10 +1,9 @@
 //! Words that are addresses, or networks.
 
-ghost use Rattle.std.specs.Prelude.{◌≡◌, ◌+◌, ◌≤◌, IfSome, length};
-ghost use Rattle.packet_filter.specs.Addresses.{IsAddress, SpellsAddress, address_of, addressed};
-ghost use Rattle.packet_filter.specs.Addresses.{hardware_of, has_colons, hexadecimal_octet};
-ghost use Rattle.packet_filter.specs.Addresses.{networked, octet_at, octet_of, octets_at, prefixed};
-ghost use Rattle.packet_filter.specs.Addresses.{short_address, short_len, short_net_of};
+ghost use Rattle.std.specs.Prelude.{◌≡◌, ◌+◌, ◌≤◌, length};
+ghost use Rattle.packet_filter.specs.Addresses.{IsAddress, SpellsAddress, addressed, hardware_of};
+ghost use Rattle.packet_filter.specs.Addresses.{has_colons, networked, octet_at, octet_of};
+ghost use Rattle.packet_filter.specs.Addresses.{prefixed, short_address, short_len, short_net_of};
 ghost use Rattle.packet_filter.specs.Addresses.{with_octets};
 
 use crate::address::Address;

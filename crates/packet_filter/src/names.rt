@@ -2,12 +2,13 @@
 
 ghost use Rattle.std.specs.Prelude.{◌≡◌, map};
 ghost use Rattle.std.specs.Str.{bytes_eq};
-ghost use Rattle.packet_filter.specs.Names.{names, token_in};
+ghost use Rattle.packet_filter.specs.Names.{name_of, token_in};
 
 use crate::expression::{Network, Operator, Relation, Transport, Version};
 use crate::token::Token;
 
-static NAMES: [(&[u8], Token); 129] = [
+// The words of the language.
+static WORDS: [(&[u8], Token); 59] = [
     // Words that join expressions, brackets, and what numbers are compared by.
     (b"not", Token::Not),
     (b"!", Token::Not),
@@ -71,7 +72,10 @@ static NAMES: [(&[u8], Token); 129] = [
     (b"first", Token::First),
     (b"checksum", Token::Checksum),
     (b"wrong", Token::Wrong),
-    // Words of pcap-filter(7) that this language does not have.
+];
+
+// Words of pcap-filter(7) that this language does not have.
+static FOREIGN: [(&[u8], Token); 70] = [
     (b"\\aarp", Token::Foreign),
     (b"\\atalk", Token::Foreign),
     (b"\\ipx", Token::Foreign),
@@ -144,16 +148,16 @@ static NAMES: [(&[u8], Token); 129] = [
     (b"vpi", Token::Foreign),
 ];
 
-/// What a name says that is a word of the language, or one of pcap-filter(7) alone.
-pub(crate) fn name_token(word: &[u8]) -> Option<Token>
-    ensures value { result ≡ token_in names word.now }
+/// What a name says, of this language or of pcap-filter(7) alone.
+pub(crate) fn name_of(word: &[u8]) -> Option<Token>
+    ensures value { result ≡ name_of word.now }
 {
-    token_in(&NAMES, word)
+    token_in(&WORDS, word).or(token_in(&FOREIGN, word))
 }
 
 /// What a word says that is one of these names.
 pub(crate) fn token_in(mut names: &[(&[u8], Token)], word: &[u8]) -> Option<Token>
-    ensures value { result ≡ token_in (map (λ name. (name.0.now, name.1)) names.entry.now) word.now }
+    ensures value { result ≡ token_in (map (λ n. (n.0.now, n.1)) names.entry.now) word.now }
 {
     while let [name, rest @ ..] = names {
         if is_word(word, name.0) {

@@ -4,9 +4,9 @@ ghost use Rattle.std.specs.Prelude.{◌≡◌, ◌+◌, ◌*◌, ◌^◌, ◌<�
 ghost use Rattle.std.specs.Prelude.{IsFalse, length, nat_lt};
 ghost use Rattle.std.specs.Char.{digit_value};
 ghost use Rattle.packet_filter.specs.Numbers.{before, beyond, decimal_of, digits_of, field_of, has};
-ghost use Rattle.packet_filter.specs.Numbers.{has_leading_zero, index_of, is_hexadecimal, number_of};
-ghost use Rattle.packet_filter.specs.Numbers.{place_of, range_of, ranged, size_of, sized};
-ghost use Rattle.packet_filter.specs.Numbers.{sized_place_of, with_digits};
+ghost use Rattle.packet_filter.specs.Numbers.{has_leading_zero, index_of, is_hexadecimal};
+ghost use Rattle.packet_filter.specs.Numbers.{number_of, place_of, range_of, size_of};
+ghost use Rattle.packet_filter.specs.Numbers.{sized_place_of};
 
 use crate::expression::Size;
 use crate::names::is_word;
@@ -71,8 +71,8 @@ fn with_digit(base: u32, number: u32, digit: u8) -> Option<u32>
     requires base { (2 ≤ base) × (base ≤ 36) }
     ensures some { IfSome result (λ n. (digit_value digit < base)
         × (n ≡ base * number + digit_value digit) × (n < 2 ^ 32)) }
-    ensures none { IfNone result
-        (IsFalse (nat_lt (digit_value digit) base && nat_lt (base * number + digit_value digit) (2 ^ 32))) }
+    ensures none { IfNone result (IsFalse (nat_lt (digit_value digit) base
+        && nat_lt (base * number + digit_value digit) (2 ^ 32))) }
 {
     let digit = char::from(digit).to_digit(base)?;
     base.checked_mul(number)?.checked_add(digit)

@@ -7,10 +7,10 @@ ghost use Rattle.packet_filter.specs.Text.{is_operator, is_pair, is_plain, is_sp
 ghost use Rattle.packet_filter.specs.Text.{len_after, words_of};
 
 use crate::addresses::{address_token, hardware_of, short_net_of};
-use crate::names::name_token;
+use crate::names::name_of;
 use crate::numbers::{place_of, range_of, sized_place_of};
 use crate::token::Token;
-use crate::values::value_token;
+use crate::values::value_of;
 
 /// The first word of a text, and what comes after it.
 pub(crate) fn first_word(text: &[u8]) -> Option<(&[u8], &[u8])>
@@ -118,10 +118,10 @@ pub(crate) fn token_of(word: &[u8]) -> Token
 fn keyword_of(word: &[u8]) -> Option<Token>
     ensures value { result ≡ keyword_of word.now }
 {
-    if let Some(token) = name_token(word) {
+    if let Some(token) = name_of(word) {
         return Some(token);
     }
-    if let Some(token) = value_token(word) {
+    if let Some(token) = value_of(word) {
         return Some(token);
     }
     if let Some(number) = place_of(word) {

@@ -1,13 +1,13 @@
 //! The names of values: numbers of protocols, flags and types, and ports.
 
 ghost use Rattle.std.specs.Prelude.{◌≡◌};
-ghost use Rattle.packet_filter.specs.Names.{token_in};
-ghost use Rattle.packet_filter.specs.Values.{values};
+ghost use Rattle.packet_filter.specs.Values.{value_of};
 
 use crate::names::token_in;
 use crate::token::Token;
 
-static VALUES: [(&[u8], Token); 147] = [
+// Numbers of protocols.
+static PROTOCOLS: [(&[u8], Token); 25] = [
     // Numbers of IP's payload after `proto`.
     (b"\\icmp", Token::IpNumber(1)),
     (b"\\igmp", Token::IpNumber(2)),
@@ -35,6 +35,10 @@ static VALUES: [(&[u8], Token); 147] = [
     (b"\\rarp", Token::TypeName(0x8035)),
     (b"\\ip6", Token::TypeName(0x86dd)),
     (b"loopback", Token::TypeName(0x9000)),
+];
+
+// What fields of headers have.
+static FIELDS: [(&[u8], Token); 52] = [
     // Flags of TCP.
     (b"tcp-fin", Token::Number(1)),
     (b"tcp-syn", Token::Number(2)),
@@ -90,7 +94,10 @@ static VALUES: [(&[u8], Token); 147] = [
     (b"icmp6-multicastrouteradvert", Token::Number(151)),
     (b"icmp6-multicastroutersolicit", Token::Number(152)),
     (b"icmp6-multicastrouterterm", Token::Number(153)),
-    // Ports.
+];
+
+// Ports.
+static SERVICES: [(&[u8], Token); 70] = [
     (b"echo", Token::Service(7)),
     (b"discard", Token::Service(9)),
     (b"daytime", Token::Service(13)),
@@ -164,8 +171,10 @@ static VALUES: [(&[u8], Token); 147] = [
 ];
 
 /// What the name of a value says.
-pub(crate) fn value_token(word: &[u8]) -> Option<Token>
-    ensures value { result ≡ token_in values word.now }
+pub(crate) fn value_of(word: &[u8]) -> Option<Token>
+    ensures value { result ≡ value_of word.now }
 {
-    token_in(&VALUES, word)
+    token_in(&PROTOCOLS, word)
+        .or(token_in(&FIELDS, word))
+        .or(token_in(&SERVICES, word))
 }
