@@ -8,9 +8,9 @@ use Rattle.std.specs.Net.Text.{dotted_text}
 use Rattle.std.specs.declared.net.ip_addr.IpAddr.TheVariants as Ip
 use Rattle.packet_filter.specs.Addresses.{IsAddress, SpellsAddress}
 use Rattle.packet_filter.specs.Language.{AreSpelled}
-use Rattle.packet_filter.specs.Names.{names}
+use Rattle.packet_filter.specs.Names.{name_of}
 use Rattle.packet_filter.specs.Text.{Spells, words_of}
-use Rattle.packet_filter.specs.Values.{values}
+use Rattle.packet_filter.specs.Values.{named_value_of}
 use Rattle.packet_filter.proofs.Complete.{EndsOperand, Takes, alone_ends, amid, any_takes, ether_takes, expects, head_takes, network_takes, value_alone}
 use Rattle.packet_filter.proofs.Sound.{Amid, Begun, Opens, Read, Stands, StandsAt, read_at_end, stands_on}
 use Rattle.packet_filter.specs.Meaning.{Expression}
@@ -61,7 +61,7 @@ parens zero = []
 parens (suc n) = 41 ∷ parens n
 
 closed : (n : ℕ) → AreSpelled (words_of (parens n)) (closings n)
-unfolding names
+unfolding name_of
 closed zero = tt
 closed (suc n) = (refl, closed n)
 
@@ -126,59 +126,59 @@ record Says (text : List ℕ) (w : Token) : Type 0 where
   spells : (more : List ℕ) (ts : List Token) → AreSpelled (words_of more) ts → AreSpelled (words_of (text ++ more)) (w ∷ ts)
 
 says_4 : Says (codes "0.0.0.0 ") (token.Address (V4 0))
-unfolding names values
+unfolding name_of named_value_of
 says_4 = record { spells = λ more ts h. (record { address = Some (V4 0); is = zeros_4; says = refl }, h) }
 
 says_6 : Says (codes ":: ") (token.Address (V6 0))
-unfolding names values
+unfolding name_of named_value_of
 says_6 = record { spells = λ more ts h. (record { address = Some (V6 0); is = zeros_6; says = refl }, h) }
 
 says_number : Says (codes "0 ") (token.Number 0)
-unfolding names values
+unfolding name_of named_value_of
 says_number = record { spells = λ more ts h. (refl, h) }
 
 says_range : Says (codes "0-0 ") (token.Range 0 0)
-unfolding names values
+unfolding name_of named_value_of
 says_range = record { spells = λ more ts h. (refl, h) }
 
 says_type : Says (codes "2048 ") (token.Number 2048)
-unfolding names values
+unfolding name_of named_value_of
 says_type = record { spells = λ more ts h. (refl, h) }
 
 says_hardware : Says (codes "00:00:00:00:00:00 ") (token.Hardware (0 ∷ 0 ∷ 0 ∷ 0 ∷ 0 ∷ 0 ∷ []))
-unfolding names values
+unfolding name_of named_value_of
 says_hardware = record { spells = λ more ts h. (refl, h) }
 
 says_port : Says (codes "port ") token.Port
-unfolding names
+unfolding name_of
 says_port = record { spells = λ more ts h. (refl, h) }
 
 says_dst : Says (codes "dst ") token.Destination
-unfolding names
+unfolding name_of
 says_dst = record { spells = λ more ts h. (refl, h) }
 
 says_fragment : Says (codes "fragment ") token.Fragment
-unfolding names
+unfolding name_of
 says_fragment = record { spells = λ more ts h. (refl, h) }
 
 says_broadcast : Says (codes "broadcast ") token.Broadcast
-unfolding names
+unfolding name_of
 says_broadcast = record { spells = λ more ts h. (refl, h) }
 
 says_wrong : Says (codes "wrong ") token.Wrong
-unfolding names
+unfolding name_of
 says_wrong = record { spells = λ more ts h. (refl, h) }
 
 says_bracket : Says (codes "] ") token.CloseBracket
-unfolding names
+unfolding name_of
 says_bracket = record { spells = λ more ts h. (refl, h) }
 
 says_equal : Says (codes "= ") (token.Relation relation.Equal)
-unfolding names
+unfolding name_of
 says_equal = record { spells = λ more ts h. (refl, h) }
 
 says_close : Says (codes ") ") token.Close
-unfolding names
+unfolding name_of
 says_close = record { spells = λ more ts h. (refl, h) }
 
 -- ---- any state

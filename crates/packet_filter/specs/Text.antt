@@ -6,7 +6,7 @@ use Rattle.std.specs.Option.{option_or}
 use Rattle.packet_filter.specs.Addresses.{SpellsAddress, hardware_of, short_net_of}
 use Rattle.packet_filter.specs.Names.{name_of}
 use Rattle.packet_filter.specs.Numbers.{place_of, range_of, sized_place_of}
-use Rattle.packet_filter.specs.Values.{value_of}
+use Rattle.packet_filter.specs.Values.{named_value_of}
 use Rattle.packet_filter.specs.declared.token.Token.{Token}
 use Rattle.packet_filter.specs.declared.token.Token.TheVariants as token
 
@@ -72,7 +72,7 @@ pub record BeginsWithWord (text word rest : List ℕ) : Type 0 where
 -- octet alone is two of them, and here it is a number: no name begins with a digit or has `:`, `.`
 -- or `/` in it, and the others differ in how many of `:`, `-`, `.` and `/` they have.
 abbrev pub keyword_of : List ℕ → Option Token
-keyword_of w = option_or (name_of w) (option_or (value_of w)
+keyword_of w = option_or (name_of w) (option_or (named_value_of w)
     (option_or (option_map token.Number (place_of w)) (option_or (sized_place_of w)
     (option_or (range_of w) (option_or (short_net_of w) (hardware_of w))))))
 

@@ -179,6 +179,6 @@ services =
 
 -- what the name of a value says, each of which stands in one of these tables, once, and is no other
 -- name
-unfoldable pub value_of : List ℕ → Option Token
-value_of word = option_or (option_or (token_in (ip_numbers ++ type_names) word)
+unfoldable pub named_value_of : List ℕ → Option Token
+named_value_of word = option_or (option_or (token_in (ip_numbers ++ type_names) word)
     (token_in (tcp_flags ++ (icmp_types ++ icmp6_types)) word)) (token_in services word)

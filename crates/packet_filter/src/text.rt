@@ -10,7 +10,7 @@ use crate::addresses::{address_token, hardware_of, short_net_of};
 use crate::names::name_of;
 use crate::numbers::{place_of, range_of, sized_place_of};
 use crate::token::Token;
-use crate::values::value_of;
+use crate::values::named_value_of;
 
 /// The first word of a text, and what comes after it.
 pub(crate) fn first_word(text: &[u8]) -> Option<(&[u8], &[u8])>
@@ -121,7 +121,7 @@ fn keyword_of(word: &[u8]) -> Option<Token>
     if let Some(token) = name_of(word) {
         return Some(token);
     }
-    if let Some(token) = value_of(word) {
+    if let Some(token) = named_value_of(word) {
         return Some(token);
     }
     if let Some(number) = place_of(word) {

@@ -42,8 +42,6 @@ pub(crate) enum Token {
     Host,
     /// `net`.
     Net,
-    /// `mask`.
-    Mask,
     /// `port`.
     Port,
     /// `portrange`.

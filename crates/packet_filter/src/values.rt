@@ -1,7 +1,7 @@
 //! The names of values: numbers of protocols, flags and types, and ports.
 
 ghost use Rattle.std.specs.Prelude.{◌≡◌};
-ghost use Rattle.packet_filter.specs.Values.{value_of};
+ghost use Rattle.packet_filter.specs.Values.{named_value_of};
 
 use crate::names::token_in;
 use crate::token::Token;
@@ -171,8 +171,8 @@ static SERVICES: [(&[u8], Token); 70] = [
 ];
 
 /// What the name of a value says.
-pub(crate) fn value_of(word: &[u8]) -> Option<Token>
-    ensures value { result ≡ value_of word.now }
+pub(crate) fn named_value_of(word: &[u8]) -> Option<Token>
+    ensures value { result ≡ named_value_of word.now }
 {
     token_in(&PROTOCOLS, word)
         .or(token_in(&FIELDS, word))
