@@ -182,7 +182,7 @@ def padded(pair):
     """bytes after what the length field says, or after an ARP packet"""
     frame, ip = pair.frame, pair.frame.ip
     if ip is not None:
-        return len(ip.whole) < len(frame.payload)
+        return len(ip.whole) < len(frame.payload) and not without_length(pair)
     return frame.ether_type in ARP and len(frame.payload) > 28
 
 
@@ -190,9 +190,16 @@ def cut(pair):
     """fewer bytes than the length field says, or than an ARP packet has, or no IP header"""
     frame, ip = pair.frame, pair.frame.ip
     if ip is not None:
-        return not ip.complete
+        return not ip.complete and not without_length(pair)
     return frame.ether_type in (0x800, 0x86dd) or (
         frame.ether_type in ARP and len(frame.payload) < 28)
+
+
+def without_length(pair):
+    """a length field of 0: a long packet that the network card cuts, or a jumbogram"""
+    ip, payload = pair.frame.ip, pair.frame.payload
+    return ip is not None and meaning.number_at(payload, 2 if ip.version == 4 else 4) == 0 and (
+        ip.version == 4 or len(payload) > 40)
 
 
 def other_version(pair):
@@ -231,6 +238,7 @@ INTENDED = [
     ('a VLAN tag', tagged),
     ('an extension header of IPv6', extended),
     ('bytes after the packet', padded),
+    ('a length field of 0', without_length),
     ('a packet that is not all there', cut),
     ('another version than the EtherType says', other_version),
     ('too short for ports', without_ports),

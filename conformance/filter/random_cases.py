@@ -196,6 +196,9 @@ class Cases:
             ether_type, data = self.pick([0x806, 0x806, 0x8035]), self.arp(plain)
         else:
             ether_type, data = self.pick(ETHER_TYPES), self.some_bytes(50)
+            if self.chance(0.2):
+                # a length in its place, and an LLC header (IEEE 802.3 section 3.2.6)
+                ether_type, data = 50, b'\x42\x42\3' + self.some_bytes(47)
         self.facts['ether type'] = ether_type
         self.facts['words'] = [word for word, tree in grammar.ALONE.items() if tree in (
             ('version', self.facts.get('version')), ('ether-type', ether_type),
@@ -348,7 +351,7 @@ class Cases:
     def ether_type(self):
         if self.chance(0.3):
             return self.pick([*grammar.ETHER_TYPES])
-        number = self.fact('ether type', [0x800, 0x806, 0x86dd, 0x888e, 0x88cc])
+        number = self.fact('ether type', [0x800, 0x806, 0x86dd, 0x888e, 0x88cc, 50, 0x42])
         return hex(number) if self.chance(0.8) else str(number)
 
     def ether_proto(self):
