@@ -1,4 +1,5 @@
 pub mod Addresses
+pub mod Expected
 pub mod Grammar
 pub mod Language
 pub mod Meaning
