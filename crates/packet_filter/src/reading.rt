@@ -2,7 +2,7 @@
 
 ghost use Rattle.std.specs.Prelude.{◌≡◌, ◌≤◌, IfErr, IfOk, IsOkAnd, Some, length};
 ghost use Rattle.packet_filter.specs.Language.{IsText, Refuses, filter_error_place};
-ghost use Rattle.packet_filter.specs.Language.{filter_error_text};
+ghost use Rattle.packet_filter.specs.Language.{filter_error_text, readings_text};
 ghost use Rattle.packet_filter.specs.Meaning.{Expression};
 ghost use Rattle.packet_filter.specs.Private.Machine.{refusal};
 ghost use Rattle.packet_filter.specs.Program.{expression_of};
@@ -82,24 +82,11 @@ impl fmt::Display for FilterError {
                     "Expression Error: The word at byte {place} cannot stand there: expected {expected}."
                 )
             }
-            FilterError::Mixed {
-                place,
-                operator: Operator::And,
-            } => {
-                let place = *place;
+            FilterError::Mixed { place, operator } => {
+                let (place, readings) = (*place, Readings(*operator));
                 write!(
                     f,
-                    "Expression Error: `and` and `or` stand together at byte {place}: parentheses have to say which comes first, as in `(a or b) and c` or `a or (b and c)`."
-                )
-            }
-            FilterError::Mixed {
-                place,
-                operator: Operator::Or,
-            } => {
-                let place = *place;
-                write!(
-                    f,
-                    "Expression Error: `and` and `or` stand together at byte {place}: parentheses have to say which comes first, as in `(a and b) or c` or `a and (b or c)`."
+                    "Expression Error: `and` and `or` stand together at byte {place}: parentheses have to say which comes first, as in {readings}."
                 )
             }
             FilterError::Unsupported { place } => {
@@ -118,6 +105,21 @@ impl fmt::Display for FilterError {
             }
             FilterError::TooLong => { write!(f, "Expression Error: It has more than 64 words.") }
         }
+    }
+}
+
+// Both readings of three expressions with two operators between them, of which this is the second.
+#[derive(Clone, Copy)]
+struct Readings(Operator);
+
+impl fmt::Display for Readings {
+    ghost output = { λ readings. Some (readings_text readings.0) };
+
+    fn fmt<W: fmt::Write>(&self, f: &mut fmt::Formatter<W>) -> fmt::Result {
+        f.write_str(match self.0 {
+            Operator::And => "`(a or b) and c` or `a or (b and c)`",
+            Operator::Or => "`(a and b) or c` or `a and (b or c)`",
+        })
     }
 }
 
