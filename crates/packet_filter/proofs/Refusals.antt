@@ -9,7 +9,7 @@ use Rattle.std.specs.Net.Addr.{ipv4_bits, ipv6_bits}
 use Rattle.std.specs.Net.Grammar.{IsGroup}
 use Rattle.std.specs.Net.Text.{dotted_text}
 use Rattle.std.specs.declared.net.ip_addr.IpAddr.TheVariants as Ip
-use Rattle.packet_filter.specs.Addresses.{IsAddress, SpellsAddress}
+use Rattle.packet_filter.specs.Addresses.{IsAddress}
 use Rattle.packet_filter.specs.Expected.{examples}
 use Rattle.packet_filter.specs.Grammar.{alone, first_head, value_of}
 use Rattle.packet_filter.specs.Language.{AreSpelled, CanFollow, CanGoOn, operator_word, other}
@@ -42,14 +42,13 @@ use Rattle.packet_filter.specs.declared.machine.Waiting.{Waiting}
 use Rattle.packet_filter.specs.declared.machine.Waiting.TheVariants as waiting
 use Rattle.packet_filter.specs.declared.partial.Partial.{Partial}
 use Rattle.packet_filter.specs.declared.partial.Partial.TheVariants as partial
-use Rattle.packet_filter.specs.declared.partial.Progress.TheVariants.{Foreign}
 use Rattle.packet_filter.specs.declared.partial.Scope.{Scope}
 use Rattle.packet_filter.specs.declared.partial.Scope.TheVariants as scope
 use Rattle.packet_filter.specs.declared.partial.Use.{Use}
 use Rattle.packet_filter.specs.declared.partial.Use.TheVariants.{Limit, Masking}
 use Rattle.packet_filter.specs.declared.token.Token.{Token}
 use Rattle.packet_filter.specs.declared.token.Token.TheVariants as token
-use Rattle.packet_filter.proofs.Complete.{Takes, amid, any_takes, ether_takes, expects, has_read, head_takes, network_takes, not_operator, after_complete, some_same, value_alone}
+use Rattle.packet_filter.proofs.Complete.{Takes, amid, ether_takes, expects, has_read, head_takes, network_takes, not_operator, after_complete, some_same, value_alone}
 use Rattle.packet_filter.proofs.Follows.{closed_up, closings, open_in, stands_can_go_on}
 use Rattle.packet_filter.proofs.Runs.{then_some}
 use Rattle.packet_filter.proofs.Sound.{Amid, Stands, StandsAt, stands_on, whole_stands}

@@ -73,18 +73,38 @@ impl fmt::Display for Expected {
     fn fmt<W: fmt::Write>(&self, f: &mut fmt::Formatter<W>) -> fmt::Result {
         f.write_str(match self {
             Expected::Operand => "`not`, `(` or a primitive, such as `tcp` or `host`",
-            Expected::Operator { before: None, open: false } => "`and` or `or`",
-            Expected::Operator { before: None, open: true } => "`and`, `or` or `)`",
-            Expected::Operator { before: Some(Operator::And), open: false } => "`and`",
-            Expected::Operator { before: Some(Operator::And), open: true } => "`and` or `)`",
-            Expected::Operator { before: Some(Operator::Or), open: false } => "`or`",
-            Expected::Operator { before: Some(Operator::Or), open: true } => "`or` or `)`",
+            Expected::Operator {
+                before: None,
+                open: false,
+            } => "`and` or `or`",
+            Expected::Operator {
+                before: None,
+                open: true,
+            } => "`and`, `or` or `)`",
+            Expected::Operator {
+                before: Some(Operator::And),
+                open: false,
+            } => "`and`",
+            Expected::Operator {
+                before: Some(Operator::And),
+                open: true,
+            } => "`and` or `)`",
+            Expected::Operator {
+                before: Some(Operator::Or),
+                open: false,
+            } => "`or`",
+            Expected::Operator {
+                before: Some(Operator::Or),
+                open: true,
+            } => "`or` or `)`",
             Expected::AfterNetwork => "`src`, `dst`, `host`, `net`, `[` or an operator",
             Expected::AfterTransport => "`src`, `dst`, `port`, `portrange`, `[` or an operator",
             Expected::AfterVlan => "the identifier of a VLAN, such as `5`, or an operator",
-            Expected::AfterDirection => "`host`, `net`, `port`, `portrange` or an address, such as `10.0.0.1`",
+            Expected::AfterDirection =>
+                "`host`, `net`, `port`, `portrange` or an address, such as `10.0.0.1`",
             Expected::AfterTransportDirection => "`port` or `portrange`",
-            Expected::AfterEther => "`src`, `dst`, `host`, `proto`, `broadcast`, `multicast` or `[`",
+            Expected::AfterEther =>
+                "`src`, `dst`, `host`, `proto`, `broadcast`, `multicast` or `[`",
             Expected::Destination => "`dst`",
             Expected::Address(None) => "an address, such as `10.0.0.1` or `fe80::1`",
             Expected::Address(Some(Version::Ipv4)) => "an IPv4 address, such as `10.0.0.1`",
@@ -99,7 +119,8 @@ impl fmt::Display for Expected {
             Expected::EtherType => "an EtherType, such as `0x0806` or `\\arp`",
             Expected::Fragment => "`fragment`",
             Expected::Wrong => "`wrong`",
-            Expected::Place => "a place, such as `13` or `tcpflags`, or one with a size, such as `2:4`",
+            Expected::Place =>
+                "a place, such as `13` or `tcpflags`, or one with a size, such as `2:4`",
             Expected::CloseBracket => "`]`",
             Expected::Relation => "a relation, such as `=`, `!=` or `<`",
             Expected::Number => "a number, such as `64`",

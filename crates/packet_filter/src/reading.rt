@@ -125,12 +125,7 @@ impl fmt::Display for Readings {
 
 // Why a word cannot stand at a place, by what it says, by the operator before it on its level, and
 // by what can stand there.
-fn refusal(
-    place: usize,
-    token: Token,
-    before: Option<Operator>,
-    expected: Expected,
-) -> FilterError
+fn refusal(place: usize, token: Token, before: Option<Operator>, expected: Expected) -> FilterError
     ensures value { result ≡ refusal place token before expected }
 {
     match (token, before) {

@@ -1,4 +1,4 @@
-use Rattle.std.proofs.Common.{◌-◌, arith, length, refl, subst}
+use Rattle.std.proofs.Common.{arith, refl, subst}
 use Rattle.packet_filter.specs.Language.{IsText, Refuses}
 use Rattle.packet_filter.specs.Program.{expression_of}
 use Rattle.packet_filter.specs.declared.reading.FilterError.TheVariants as error
