@@ -27,8 +27,10 @@ pub fn answer(arguments: &mut Arguments, answer: &mut String) -> Written {
 impl Shown for FilterError {
     fn show<W: fmt::Write>(&self, f: &mut fmt::Formatter<W>) -> fmt::Result {
         match self {
-            FilterError::Unexpected { place } => write!(f, "err unexpected place={place}"),
-            FilterError::Incomplete => f.write_str("err incomplete"),
+            FilterError::Unexpected { place, .. } => write!(f, "err unexpected place={place}"),
+            FilterError::Mixed { place, .. } => write!(f, "err mixed place={place}"),
+            FilterError::Unsupported { place } => write!(f, "err unsupported place={place}"),
+            FilterError::Incomplete { .. } => f.write_str("err incomplete"),
             FilterError::TooLong => f.write_str("err too_long"),
         }
     }

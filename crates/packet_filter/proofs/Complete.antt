@@ -220,7 +220,7 @@ abbrev state_after : Kind → Head → List Waiting → List Step → State
 state_after operand h ws out = complete h ws out
 state_after (chain o) h ws out = has_read (Some o) h ws out
 
-after_complete : (h : Head) (ws : List Waiting) (out : List Step) (w : Token) → after w (complete h ws out) ≡ step_of (complete h ws out) w
+pub after_complete : (h : Head) (ws : List Waiting) (out : List Step) (w : Token) → after w (complete h ws out) ≡ step_of (complete h ws out) w
 after_complete h [] out w = refl
 after_complete h (waiting.Open g only ∷ ws) out w = refl
 after_complete h (waiting.Not ∷ ws) out w = after_complete h ws (out ++ step.Not ∷ []) w
@@ -234,7 +234,7 @@ finish_complete h (waiting.Not ∷ ws) out = finish_complete h ws (out ++ step.N
 finish_complete h (waiting.Head ∷ ws) out = finish_complete h ws out
 finish_complete h (waiting.Operator o ∷ ws) out = refl
 
-not_operator : (w : Token) (o : Joiner) → after_word w (token.Operator o) ≡ Foreign
+pub not_operator : (w : Token) (o : Joiner) → after_word w (token.Operator o) ≡ Foreign
 not_operator (token.Network n) o = refl
 not_operator (token.Transport t) o = refl
 not_operator (token.Protocol v k) o = refl

@@ -52,7 +52,7 @@ use Rattle.packet_filter.specs.declared.token.Token.TheVariants as token
 
 -- ---- closing parentheses, and their text
 
-abbrev closings : ℕ → List Token
+abbrev pub closings : ℕ → List Token
 closings zero = []
 closings (suc n) = token.Close ∷ closings n
 
@@ -70,7 +70,7 @@ closing zero = tt
 closing (suc n) = tt
 
 -- how many close what waits
-abbrev open_in : List Waiting → ℕ
+abbrev pub open_in : List Waiting → ℕ
 open_in [] = zero
 open_in (waiting.Open h only ∷ ws) = suc (open_in ws)
 open_in (waiting.Not ∷ ws) = open_in ws
@@ -78,16 +78,16 @@ open_in (waiting.Head ∷ ws) = open_in ws
 open_in (waiting.Operator o ∷ ws) = open_in ws
 
 -- they end the expression
-record Ends (us : List Token) (s : State) : Type 0 where
-  steps : List Step
-  ends : outcome us s ≡ Some steps
+pub record Ends (us : List Token) (s : State) : Type 0 where
+  pub steps : List Step
+  pub ends : outcome us s ≡ Some steps
 
 closes_first : (c : Option Joiner) (h g : Head) (only : Bool) (ws : List Waiting) (out : List Step) (us : List Token) → outcome (token.Close ∷ us) (record { doing = Operator c h; waiting = waiting.Open g only ∷ ws; steps = out }) ≡ outcome us (complete g ws out)
 closes_first None h g only ws out us = refl
 closes_first (Some And) h g only ws out us = refl
 closes_first (Some Or) h g only ws out us = refl
 
-closed_up : (ws : List Waiting) (g h : Head) (only : Bool) (ts : List Token) (out x : List Step) → Opens ws g only ts out → Ends (closings (open_in ws)) (complete h ws x)
+pub closed_up : (ws : List Waiting) (g h : Head) (only : Bool) (ts : List Token) (out x : List Step) → Opens ws g only ts out → Ends (closings (open_in ws)) (complete h ws x)
 closed_up [] g h only ts out x o = record { steps = x; ends = refl }
 closed_up (waiting.Open i v ∷ ws) g h only ts out x o = let e = closed_up ws i i v o.0 out x o.2 in record { steps = e.steps; ends = e.ends }
 closed_up (waiting.Not ∷ ws) g h only ts out x o = closed_up ws g h only o.0 out (x ++ step.Not ∷ []) o.2

@@ -1,22 +1,27 @@
 -- Reading words from the first on.
-use Rattle.std.proofs.Common.{◌≡◌, ℕ, ◌+◌, ◌-◌, ◌<◌, ◌≤◌, List, [], ◌∷◌, ◌++◌, Some, None, refl, sym, ap, ◌∙◌, subst, append_assoc, length, length-append, take, arith}
+use Rattle.std.proofs.Common.{◌≡◌, ℕ, ◌+◌, ◌-◌, ◌<◌, ◌≤◌, List, [], ◌∷◌, ◌++◌, Option, Some, None, refl, sym, ap, ◌∙◌, subst, append_assoc, length, length-append, take, arith}
+use Rattle.std.specs.Option.{unwrap_or}
 use Rattle.std.proofs.Math.Seq.{take-append_seam}
 use Rattle.std.proofs.lemmas.List.{append-nil}
 use Rattle.packet_filter.specs.Meaning.{Expression, one, negation, compound}
 use Rattle.packet_filter.specs.Program.{and_then, built, Computes, expression_of, top_of}
 use Rattle.packet_filter.specs.Grammar.{IsExpression}
-use Rattle.packet_filter.specs.Language.{AreSpelled, CanGoOn, IsSentence, IsText, Refuses}
-use Rattle.packet_filter.specs.Private.Machine.{State, outcome, finish, size_of, step_of, start}
+use Rattle.packet_filter.specs.Language.{AreSpelled, CanFollow, CanGoOn, IsIncomplete, IsSentence, IsText, IsUnexpected, Refuses, operator_word, other}
+use Rattle.packet_filter.specs.Private.Machine.{State, expected_of, finish, level_of, outcome, qualifiers_doing, refusal, settled, size_of, step_of, start}
 use Rattle.packet_filter.specs.Text.{BeginsWithWord, Spells, words_of}
+use Rattle.packet_filter.specs.declared.expected.Expected.{Expected}
+use Rattle.packet_filter.specs.declared.expression.Operator.{Operator as Joiner}
 use Rattle.packet_filter.specs.declared.filter.Step.{Step}
 use Rattle.packet_filter.specs.declared.filter.Step.TheVariants as step
 use Rattle.packet_filter.specs.declared.reading.FilterError.{FilterError}
 use Rattle.packet_filter.specs.declared.reading.FilterError.TheVariants as error
 use Rattle.packet_filter.specs.declared.token.Token.{Token}
+use Rattle.packet_filter.specs.declared.token.Token.TheVariants as token
 use Rattle.packet_filter.proofs.Complete.{postfix, expression_is_read}
 use Rattle.packet_filter.proofs.Follows.{stands_can_go_on}
 use Rattle.packet_filter.proofs.Sound.{Stands, stands_on, stands_first, read_at_end}
-use Rattle.packet_filter.proofs.Spelled.{spelled_apart, spelled_once, spelled_together}
+use Rattle.packet_filter.proofs.Refusals.{Other, end_offers, other_operator, other_word, word_follows}
+use Rattle.packet_filter.proofs.Spelled.{one_token, spelled_apart, spelled_once, spelled_together}
 
 -- the program of an expression puts it on the stack
 built_postfix : (e : Expression) (rest : List Step) (es : List Expression) → built (postfix e ++ rest) es ≡ built rest (e ∷ es)
@@ -98,7 +103,7 @@ cannot_go_on s text rest word after count t r h e = λ c.
     (sym (ap (λ l. outcome l start) (p.whole ∙ ap (λ l. l ++ p.right) same ∙ append_assoc r.tokens (t ∷ []) p.right) ∙ r.leads (t ∷ p.right) ∙ ap (λ o. and_then o (outcome p.right)) e)
     ∙ expression_is_read c.sentence.tokens c.expression c.sentence.is)
 
-pub unexpected : (s : State) (text rest word after : List ℕ) (count place : ℕ) (t : Token) → Reached s text rest count → count < 64 → BeginsWithWord rest word after → Spells word t → step_of s t ≡ None → place ≡ length text - length after - length word → Refuses text (error.Unexpected place)
+abbrev unexpected : (s : State) (text rest word after : List ℕ) (count place : ℕ) (t : Token) → (r : Reached s text rest count) → count < 64 → BeginsWithWord rest word after → Spells word t → step_of s t ≡ None → place ≡ length text - length after - length word → IsUnexpected text place
 unexpected s text rest word after count place t r few b h e at =
     let flat : r.front ++ (b.space ++ (word ++ after)) ≡ (r.front ++ b.space) ++ (word ++ after) = simp append_assoc in
     let whole : text ≡ (r.front ++ b.space) ++ (word ++ after) = r.whole ∙ ap (λ l. r.front ++ l) b.whole ∙ flat in
@@ -115,6 +120,30 @@ unexpected s text rest word after count place t r few b h e at =
       can = can_go_on s text rest count r;
       cannot = cannot_go_on s text rest word after count t r h e;
     }
+
+-- which error says so
+why : (t : Token) (c : Option Joiner) (e : Expected) (s : State) (text : List ℕ) (place : ℕ) (u : IsUnexpected text place) → Spells u.word t → CanFollow u.before e → ((o : Joiner) → t ≡ token.Operator o → Other c s u.before o) → ((o : Joiner) → step_of s (token.Operator o) ≡ None → ¬ CanGoOn (u.before ++ operator_word o ∷ [])) → Refuses text (refusal place t c e)
+why token.Foreign c e s text place u h k f g = record { at = u; foreign = h }
+why (token.Operator o) (Some c) e s text place u h k f g = record { at = u; mixed = record { says = h; other_can = f o refl } }
+why (token.Operator o) None e s text place u h k f g = record {
+  at = u;
+  examples_can = k;
+  no_foreign = λ x. let same : token.Operator o ≡ token.Foreign = one_token u.word _ _ h x in cc;
+  not_mixed = λ p m. g (other p) (f p (one_token u.word _ _ h m.says)) m.other_can;
+}
+why t c e s text place u h k f g = record {
+  at = u;
+  examples_can = k;
+  no_foreign = λ x. let same : t ≡ token.Foreign = one_token u.word _ _ h x in cc;
+  not_mixed = λ p m. let same : t ≡ token.Operator p = one_token u.word _ _ h m.says in cc;
+}
+
+pub refused : (s next : State) (text rest word after : List ℕ) (count place : ℕ) (t : Token) (q : Option Expected) (x : FilterError) → Reached s text rest count → count < 64 → BeginsWithWord rest word after → Spells word t → step_of s t ≡ None → place ≡ length text - length after - length word → next ≡ settled s → q ≡ qualifiers_doing s.doing → x ≡ refusal place t (level_of next.doing) (unwrap_or q (expected_of next)) → Refuses text x
+refused s next text rest word after count place t q x r few b h e at left l f =
+    let u = unexpected s text rest word after count place t r few b h e at in
+    let k = word_follows q s r.before r.tokens (sym l) r.stands r.spelled in
+    let w = why t (level_of (settled s).doing) (unwrap_or q (expected_of (settled s))) s text place u h k (λ o y. other_operator s r.before r.tokens o r.stands r.spelled (subst (λ z. step_of s z ≡ None) y e)) (λ o y. cannot_go_on s text rest (operator_word o) after count (token.Operator o) r (other_word o) y) in
+    subst (Refuses text) (sym (f ∙ ap (λ (n : State). refusal place t (level_of n.doing) (unwrap_or q (expected_of n))) left)) w
 
 pub too_long : (s : State) (text rest word after : List ℕ) → Reached s text rest 64 → BeginsWithWord rest word after → Refuses text error.TooLong
 too_long s text rest word after r b =
@@ -134,19 +163,26 @@ accepted s text rest count o r h e =
     let is : IsText text x.expression = subst (λ w. IsSentence w x.expression) (sym (all_words s text rest count r h)) (record { tokens = r.tokens; spelled = r.spelled; is = x.text }) in
     (subst (IsText text) same is, subst (Computes o) same c)
 
-pub incomplete : (s : State) (text rest : List ℕ) (count : ℕ) → Reached s text rest count → count ≤ 64 → words_of rest ≡ [] → finish s ≡ None → Refuses text error.Incomplete
-incomplete s text rest count r few h e =
-    let all = all_words s text rest count r h in (
-      omega (arith, r.counted, ap length all, few),
-      subst CanGoOn (sym all) (can_go_on s text rest count r),
-      λ x t.
+pub incomplete : (s next : State) (text rest : List ℕ) (count : ℕ) → Reached s text rest count → count ≤ 64 → words_of rest ≡ [] → finish s ≡ None → next ≡ settled s → IsIncomplete text (expected_of next)
+incomplete s next text rest count r few h e left =
+    let all = all_words s text rest count r h in
+    record {
+      few = omega (arith, r.counted, ap length all, few);
+      can = subst CanGoOn (sym all) (can_go_on s text rest count r);
+      no_expression = λ x t.
           let same : t.tokens ≡ r.tokens = spelled_once r.before t.tokens r.tokens (subst (λ w. AreSpelled w t.tokens) all t.spelled) r.spelled in
-          none_some (postfix x) (sym (ap (λ l. outcome l start) (same ∙ sym (append-nil r.tokens)) ∙ r.leads [] ∙ e) ∙ expression_is_read t.tokens x t.is),
-    )
+          none_some (postfix x) (sym (ap (λ l. outcome l start) (same ∙ sym (append-nil r.tokens)) ∙ r.leads [] ∙ e) ∙ expression_is_read t.tokens x t.is);
+      examples_can = subst (λ w. CanFollow w (expected_of next)) (sym all) (subst (λ (n : State). CanFollow r.before (expected_of n)) (sym left) (end_offers s r.before r.tokens r.stands r.spelled));
+    }
 
 -- a text of the language that is not too long is not refused
+not_unexpected : (text : List ℕ) (e : Expression) (place : ℕ) → IsText text e → IsUnexpected text place → ⊥
+not_unexpected text e place t u =
+    u.cannot (record { more = u.rest; expression = e; sentence = subst (λ w. IsSentence w e) (u.words ∙ sym (append_assoc u.before (u.word ∷ []) (words_of u.rest))) t })
+
 pub not_refused : (text : List ℕ) (e : Expression) (x : FilterError) → IsText text e → length (words_of text) ≤ 64 → Refuses text x → ⊥
 not_refused text e error.TooLong t few r = omega (arith, few, r.0)
-not_refused text e (error.Unexpected place) t few u =
-    u.cannot (record { more = u.rest; expression = e; sentence = subst (λ w. IsSentence w e) (u.words ∙ sym (append_assoc u.before (u.word ∷ []) (words_of u.rest))) t })
-not_refused text e error.Incomplete t few r = r.2 e t
+not_refused text e (error.Unexpected place expected) t few r = not_unexpected text e place t r.at
+not_refused text e (error.Mixed place o) t few r = not_unexpected text e place t r.at
+not_refused text e (error.Unsupported place) t few r = not_unexpected text e place t r.at
+not_refused text e (error.Incomplete expected) t few r = r.no_expression e t

@@ -438,7 +438,7 @@ amid_more : (p : Partial) (us : List Token) (ws : List Waiting) (out : List Step
 amid_more p us ws out ts m = sym (ap (λ l. l ++ us) m.text ∙ append_assoc m.before m.words us)
 
 -- a primitive that can go on is complete
-whole_stands : (p : Partial) (a : Primitive) (ws : List Waiting) (out : List Step) (ts : List Token) → whole p ≡ Some a → Amid p ws out ts → Stands (put a first_head ws out) ts
+pub whole_stands : (p : Partial) (a : Primitive) (ws : List Waiting) (out : List Step) (ts : List Token) → whole p ≡ Some a → Amid p ws out ts → Stands (put a first_head ws out) ts
 whole_stands (partial.Word w) a ws out ts e m =
     subst (Stands (put a first_head ws out)) (sym m.text)
     (completes ws m.before out m.words (one a) false m.head first_head m.opens (subst (λ l. Reads operand false m.head l (one a) first_head) (sym m.begun.2) (primitive (word e))))

@@ -1,13 +1,10 @@
--- What an expression says of a frame, and where a text is refused.
-use Rattle.std.specs.Prelude.{ℕ, ◌≡◌, ◌<◌, ◌⊎◌, Bool, true, false, List, [], length, Option}
-use Rattle.std.specs.Prelude.{None, Some}
+-- What an expression says of a frame.
+use Rattle.std.specs.Prelude.{ℕ, ◌≡◌, ◌<◌, ◌⊎◌, Bool, true, false, List, [], length, None}
 use Rattle.packet.specs.Link.{link_len}
 use Rattle.packet.specs.SlicedPacket.{IsFrame, Layers, layers_of}
 use Rattle.packet.specs.declared.lax_sliced_packet.LaxSlicedPacket.{LaxSlicedPacket}
 use Rattle.packet.specs.declared.link.LinkType.{LinkType}
 use Rattle.packet_filter.specs.Meaning.{Expression, Matches, negation}
-use Rattle.packet_filter.specs.declared.reading.FilterError.{FilterError}
-use Rattle.packet_filter.specs.declared.reading.FilterError.TheVariants as error
 
 -- a packet of nothing: no header, no tag, no EtherType, and no byte
 abbrev pub nothing : Layers
@@ -39,9 +36,3 @@ abbrev pub Answers : Expression → LinkType → List ℕ → ℕ → Bool → T
 Answers expression link_type frame len true = MatchesFrame expression link_type frame len
 Answers expression link_type frame len false =
     MatchesFrame (negation expression) link_type frame len
-
--- where the word begins that a refusal is about; none if it is about the end of the text
-abbrev pub place_in_text : FilterError → Option ℕ
-place_in_text (error.Unexpected place) = Some place
-place_in_text error.Incomplete = None
-place_in_text error.TooLong = None

@@ -1,12 +1,17 @@
 -- The texts that are expressions, and why others are none.
-use Rattle.std.specs.Prelude.{ℕ, ◌≡◌, ◌<◌, ◌≤◌, List, [], ◌∷◌, ◌++◌, length, take}
-use Rattle.std.specs.Prelude.{codes, decimal}
+use Rattle.std.specs.Prelude.{ℕ, ◌≡◌, ◌<◌, ◌≤◌, List, [], ◌∷◌, ◌++◌, All, Option, Some, None}
+use Rattle.std.specs.Prelude.{codes, decimal, length, take}
+use Rattle.packet_filter.specs.Expected.{examples, expected_text}
 use Rattle.packet_filter.specs.Grammar.{IsExpression}
 use Rattle.packet_filter.specs.Meaning.{Expression}
 use Rattle.packet_filter.specs.Text.{Spells, words_of}
+use Rattle.packet_filter.specs.declared.expected.Expected.{Expected}
+use Rattle.packet_filter.specs.declared.expression.Operator.{Operator}
+use Rattle.packet_filter.specs.declared.expression.Operator.TheVariants.{And, Or}
 use Rattle.packet_filter.specs.declared.reading.FilterError.{FilterError}
 use Rattle.packet_filter.specs.declared.reading.FilterError.TheVariants as error
 use Rattle.packet_filter.specs.declared.token.Token.{Token}
+use Rattle.packet_filter.specs.declared.token.Token.TheVariants as token
 
 -- each word says what stands at its place
 abbrev pub AreSpelled : List (List ℕ) → List Token → Type 0
@@ -45,19 +50,84 @@ pub record IsUnexpected (text : List ℕ) (place : ℕ) : Type 0 where
   pub can : CanGoOn before
   pub cannot : ¬ CanGoOn (before ++ word ∷ [])
 
+-- each word that the error names can stand after these
+abbrev pub CanFollow : List (List ℕ) → Expected → Type 0
+CanFollow words expected = All (λ word. CanGoOn (words ++ word ∷ [])) (examples expected)
+
+abbrev pub operator_word : Operator → List ℕ
+operator_word And = codes "and"
+operator_word Or = codes "or"
+
+abbrev pub other : Operator → Operator
+other And = Or
+other Or = And
+
+-- The word is this operator, and the other could stand in its place: two operators stand on one
+-- level, and nothing else is wrong.
+pub record IsMixed (before : List (List ℕ)) (word : List ℕ) (o : Operator) : Type 0 where
+  pub says : Spells word (token.Operator o)
+  pub other_can : CanGoOn (before ++ operator_word (other o) ∷ [])
+
+-- at this place stands a word of pcap-filter(7) that the language does not have
+pub record HasUnsupported (text : List ℕ) (place : ℕ) : Type 0 where
+  pub at : IsUnexpected text place
+  pub foreign : Spells at.word token.Foreign
+
+-- at this place stands an operator that is mixed with the other
+pub record HasMixed (text : List ℕ) (place : ℕ) (o : Operator) : Type 0 where
+  pub at : IsUnexpected text place
+  pub mixed : IsMixed at.before at.word o
+
+-- at this place stands any other word that cannot stand there, and these can
+pub record HasUnexpected (text : List ℕ) (place : ℕ) (expected : Expected) : Type 0 where
+  pub at : IsUnexpected text place
+  pub examples_can : CanFollow at.before expected
+  pub no_foreign : ¬ Spells at.word token.Foreign
+  pub not_mixed : (o : Operator) → ¬ IsMixed at.before at.word o
+
+-- the words are no expression, but can go on, with these among others
+pub record IsIncomplete (text : List ℕ) (expected : Expected) : Type 0 where
+  pub few : length (words_of text) ≤ 64
+  pub can : CanGoOn (words_of text)
+  pub no_expression : (e : Expression) → ¬ IsText text e
+  pub examples_can : CanFollow (words_of text) expected
+
 -- Why a text is no filter. There are more than 64 words, of which the first 64 can go on; or one of
 -- the first 64 cannot stand where it stands; or there are no more, and they are no expression, but
 -- can go on.
 abbrev pub Refuses : List ℕ → FilterError → Type 0
 Refuses text error.TooLong = (64 < length (words_of text)) × CanGoOn (take 64 (words_of text))
-Refuses text (error.Unexpected place) = IsUnexpected text place
-Refuses text error.Incomplete = (length (words_of text) ≤ 64) × CanGoOn (words_of text)
-    × ((e : Expression) → ¬ IsText text e)
+Refuses text (error.Unexpected place expected) = HasUnexpected text place expected
+Refuses text (error.Mixed place o) = HasMixed text place o
+Refuses text (error.Unsupported place) = HasUnsupported text place
+Refuses text (error.Incomplete expected) = IsIncomplete text expected
+
+-- where the word begins that a refusal is about; none: the end of the text
+abbrev pub filter_error_place : FilterError → Option ℕ
+filter_error_place (error.Unexpected place expected) = Some place
+filter_error_place (error.Mixed place o) = Some place
+filter_error_place (error.Unsupported place) = Some place
+filter_error_place (error.Incomplete expected) = None
+filter_error_place error.TooLong = None
+
+-- both readings of three expressions with two operators between them, of which this is the second
+abbrev pub readings_text : Operator → List ℕ
+readings_text And = codes "`(a or b) and c` or `a or (b and c)`"
+readings_text Or = codes "`(a and b) or c` or `a and (b or c)`"
 
 -- the text of a refusal
 abbrev pub filter_error_text : FilterError → List ℕ
-filter_error_text (error.Unexpected place) = codes "Expression Error: The word at byte "
-    ++ (decimal place ++ codes " cannot stand there.")
-filter_error_text error.Incomplete =
-    codes "Expression Error: It ends where more words have to follow."
+filter_error_text (error.Unexpected place expected) = codes "Expression Error: The word at byte "
+    ++ (decimal place ++ (codes " cannot stand there: expected "
+    ++ (expected_text expected ++ codes ".")))
+filter_error_text (error.Mixed place o) =
+    codes "Expression Error: `and` and `or` stand together at byte " ++ (decimal place
+    ++ (codes ": parentheses have to say which comes first, as in "
+    ++ (readings_text o ++ codes ".")))
+filter_error_text (error.Unsupported place) =
+    codes "Expression Error: The word of pcap-filter(7) at byte " ++ (decimal place
+    ++ codes " is not part of the language.")
+filter_error_text (error.Incomplete expected) =
+    codes "Expression Error: It ends where more words have to follow: expected "
+    ++ (expected_text expected ++ codes ".")
 filter_error_text error.TooLong = codes "Expression Error: It has more than 64 words."

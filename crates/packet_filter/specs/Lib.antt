@@ -1,4 +1,5 @@
 pub mod Addresses
+pub mod Expected
 pub mod Frame
 pub mod Grammar
 pub mod Jumps

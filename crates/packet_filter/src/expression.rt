@@ -4,7 +4,7 @@ use crate::address::Address;
 
 /// The version of an IP packet.
 #[derive(Clone, Copy, Debug, PartialEq, Eq)]
-pub(crate) enum Version {
+pub enum Version {
     /// IPv4: `ip`.
     Ipv4,
     /// IPv6: `ip6`.
@@ -35,7 +35,7 @@ pub(crate) enum Transport {
 
 /// What joins two expressions.
 #[derive(Clone, Copy, Debug, PartialEq, Eq)]
-pub(crate) enum Operator {
+pub enum Operator {
     /// `and`: both hold.
     And,
     /// `or`: one holds.

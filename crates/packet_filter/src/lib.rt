@@ -3,6 +3,7 @@
 
 mod address;
 mod addresses;
+mod expected;
 mod expression;
 mod filter;
 mod frame;
@@ -20,6 +21,8 @@ mod text;
 mod token;
 mod values;
 
+pub use expected::Expected;
+pub use expression::{Operator, Version};
 pub use filter::Filter;
 pub use laws::one_reading;
 pub use reading::FilterError;

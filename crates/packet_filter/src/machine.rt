@@ -3,12 +3,14 @@
 ghost use Rattle.std.specs.Prelude.{◌≡◌, ◌+◌, ◌<◌, ◌≤◌, ◌↔◌, [], ◌∷◌, ◌++◌, IfNone, IfSome};
 ghost use Rattle.std.specs.Prelude.{IsFalse, IsTrue, length};
 ghost use Rattle.packet_filter.specs.Private.Machine.{after, chosen, close, closes_term, complete};
-ghost use Rattle.packet_filter.specs.Private.Machine.{finish, finish_state, is_only, is_open, kept};
-ghost use Rattle.packet_filter.specs.Private.Machine.{on_progress, values_after};
-ghost use Rattle.packet_filter.specs.Private.Machine.{or_value, put, size_of, start, state_of};
+ghost use Rattle.packet_filter.specs.Private.Machine.{expected_of, finish, finish_state, is_only};
+ghost use Rattle.packet_filter.specs.Private.Machine.{is_open, kept, level_of, on_progress};
+ghost use Rattle.packet_filter.specs.Private.Machine.{or_value, put, qualifiers_doing, settled};
+ghost use Rattle.packet_filter.specs.Private.Machine.{size_of, start, state_of, values_after};
 ghost use Rattle.packet_filter.specs.Private.Machine.{step_of, step_operand, step_operator};
 ghost use Rattle.packet_filter.specs.Private.Machine.{step_within, waiting_of, waits};
 
+use crate::expected::{Expected, expected_value, expected_within, qualifiers_of};
 use crate::expression::{Operator, Primitive};
 use crate::filter::Step;
 use crate::head::Head;
@@ -120,11 +122,12 @@ impl Machine {
         }
     }
 
-    /// Takes a word. `false`: it cannot stand there.
+    /// Takes a word. `false`: it cannot stand there, and a primitive that can be complete is.
     pub(crate) fn step(&mut self, token: Token) -> bool
         requires room { size_of (state_of self.old) < 64 }
         ensures yes { IsTrue result → step_of (state_of self.old) token ≡ Some (state_of self.new) }
         ensures no { IsFalse result → step_of (state_of self.old) token ≡ None }
+        ensures left { IsFalse result → state_of self.new ≡ settled (state_of self.old) }
         ensures size { IsTrue result →
             size_of (state_of self.new) ≤ size_of (state_of self.old) + 1 }
     {
@@ -135,11 +138,13 @@ impl Machine {
         }
     }
 
-    /// Whether the words that were read are an expression. If so, the steps are its.
+    /// Whether the words that were read are an expression. If so, the steps are its; if not, a
+    /// primitive that can be complete is.
     pub(crate) fn finish(&mut self) -> bool
         requires room { size_of (state_of self.old) ≤ 64 }
         ensures yes { IsTrue result → finish (state_of self.old) ≡ Some self.new.steps.items }
         ensures no { IsFalse result → finish (state_of self.old) ≡ None }
+        ensures left { IsFalse result → state_of self.new ≡ settled (state_of self.old) }
     {
         match self.doing {
             Doing::Operand(_, _) => false,
@@ -165,6 +170,41 @@ impl Machine {
         }
     }
 
+    /// What can stand next, where no primitive is complete that could go on.
+    pub(crate) fn expected(&self) -> Expected
+        ensures value { result ≡ expected_of (state_of self.now) }
+    {
+        match self.doing {
+            Doing::Operand(head, true) => expected_value(head),
+            Doing::Operand(_, false) => Expected::Operand,
+            Doing::Within(partial) => expected_within(partial),
+            Doing::Operator(before, _) => {
+                let open = self.waiting.is_open();
+                Expected::Operator { before, open }
+            }
+        }
+    }
+
+    /// What can follow a word that is a primitive by itself, if more than an operator can.
+    pub(crate) fn qualifiers(&self) -> Option<Expected>
+        ensures value { result ≡ qualifiers_doing self.now.doing }
+    {
+        match self.doing {
+            Doing::Within(partial) => qualifiers_of(partial),
+            Doing::Operand(_, _) | Doing::Operator(_, _) => None,
+        }
+    }
+
+    /// The operator that stands before on the same level, where one can stand.
+    pub(crate) fn operator(&self) -> Option<Operator>
+        ensures value { result ≡ level_of self.now.doing }
+    {
+        match self.doing {
+            Doing::Operator(before, _) => before,
+            Doing::Operand(_, _) | Doing::Within(_) => None,
+        }
+    }
+
     /// The steps so far.
     pub(crate) fn into_steps(self) -> ArrayVec<Step, 64>
         ensures value { result.items ≡ self.steps.items }
@@ -180,6 +220,7 @@ impl Machine {
             ≡ Some (state_of self.new) }
         ensures no { IsFalse result →
             step_operand head only token self.old.waiting self.old.steps.items ≡ None }
+        ensures left { IsFalse result → state_of self.new ≡ state_of self.old }
         ensures size { IsTrue result → size_of (state_of self.new) ≤ kept (state_of self.old) + 1 }
     {
         match waiting_of(head, only, token) {
@@ -196,6 +237,7 @@ impl Machine {
             ≡ Some (state_of self.new) }
         ensures no { IsFalse result →
             on_progress progress self.old.waiting self.old.steps.items ≡ None }
+        ensures left { IsFalse result → state_of self.new ≡ state_of self.old }
         ensures size { IsTrue result → size_of (state_of self.new) ≤ kept (state_of self.old) + 1 }
     {
         match progress {
@@ -220,6 +262,7 @@ impl Machine {
             ≡ Some (state_of self.new) }
         ensures no { IsFalse result →
             step_within partial token self.old.waiting self.old.steps.items ≡ None }
+        ensures left { IsFalse result → state_of self.new ≡ settled (state_of self.old) }
         ensures size { IsTrue result → size_of (state_of self.new) ≤ kept (state_of self.old) + 2 }
     {
         if self.closes_term(partial, token) {
@@ -254,6 +297,7 @@ impl Machine {
         requires room { kept (state_of self.old) < 64 }
         ensures yes { IsTrue result → after token (state_of self.old) ≡ Some (state_of self.new) }
         ensures no { IsFalse result → after token (state_of self.old) ≡ None }
+        ensures left { IsFalse result → state_of self.new ≡ state_of self.old }
         ensures size { IsTrue result → size_of (state_of self.new) ≤ kept (state_of self.old) + 1 }
     {
         match self.doing {
@@ -270,6 +314,7 @@ impl Machine {
             ≡ Some (state_of self.new) }
         ensures no { IsFalse result →
             step_operator before head token self.old.waiting self.old.steps.items ≡ None }
+        ensures left { IsFalse result → state_of self.new ≡ state_of self.old }
         ensures size { IsTrue result → size_of (state_of self.new) ≤ kept (state_of self.old) + 1 }
     {
         let only = self.waiting.is_only();
@@ -294,8 +339,12 @@ impl Machine {
         ensures yes { IsTrue result →
             close self.old.waiting self.old.steps.items ≡ Some (state_of self.new) }
         ensures no { IsFalse result → close self.old.waiting self.old.steps.items ≡ None }
+        ensures left { IsFalse result → state_of self.new ≡ state_of self.old }
         ensures size { IsTrue result → size_of (state_of self.new) ≤ kept (state_of self.old) }
     {
+        if !self.waiting.is_open() {
+            return false;
+        }
         match self.waiting.pop() {
             Some(Waiting::Open(head, _)) => {
                 self.complete(head);

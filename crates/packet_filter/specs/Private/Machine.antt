@@ -5,6 +5,8 @@ use Rattle.packet_filter.specs.Grammar.{alone, ethernet_broadcast, ethernet_mult
 use Rattle.packet_filter.specs.Grammar.{ip_multicast, network_layer, value_of}
 use Rattle.packet_filter.specs.Meaning.{transport_number}
 use Rattle.packet_filter.specs.Program.{and_then}
+use Rattle.packet_filter.specs.declared.expected.Expected.{Expected}
+use Rattle.packet_filter.specs.declared.expected.Expected.TheVariants as expected
 use Rattle.packet_filter.specs.declared.expression.Direction.{Direction}
 use Rattle.packet_filter.specs.declared.expression.Direction.TheVariants as direction
 use Rattle.packet_filter.specs.declared.expression.Layer.{Layer}
@@ -21,6 +23,8 @@ use Rattle.packet_filter.specs.declared.expression.Relation.TheVariants as relat
 use Rattle.packet_filter.specs.declared.expression.Size.{Size}
 use Rattle.packet_filter.specs.declared.expression.Size.TheVariants.{One}
 use Rattle.packet_filter.specs.declared.expression.Transport.{Transport}
+use Rattle.packet_filter.specs.declared.expression.Version.{Version}
+use Rattle.packet_filter.specs.declared.expression.Version.TheVariants.{Ipv4}
 use Rattle.packet_filter.specs.declared.filter.Step.{Step}
 use Rattle.packet_filter.specs.declared.filter.Step.TheVariants as step
 use Rattle.packet_filter.specs.declared.head.Head.{Head}
@@ -38,6 +42,8 @@ use Rattle.packet_filter.specs.declared.partial.Scope.{Scope}
 use Rattle.packet_filter.specs.declared.partial.Scope.TheVariants as scope
 use Rattle.packet_filter.specs.declared.partial.Use.{Use}
 use Rattle.packet_filter.specs.declared.partial.Use.TheVariants.{Limit, Masking}
+use Rattle.packet_filter.specs.declared.reading.FilterError.{FilterError}
+use Rattle.packet_filter.specs.declared.reading.FilterError.TheVariants as error
 use Rattle.packet_filter.specs.declared.token.Token.{Token}
 use Rattle.packet_filter.specs.declared.token.Token.TheVariants as token
 
@@ -442,3 +448,98 @@ finish s = finish_doing s.doing s.waiting s.steps
 abbrev pub outcome : List Token → State → Option (List Step)
 outcome [] s = finish s
 outcome (w ∷ words) s = and_then (step_of s w) (outcome words)
+
+-- ---- refusals
+
+-- a primitive that can be complete is
+abbrev pub settled_at : Option Primitive → Partial → List Waiting → List Step → State
+settled_at (Some a) p ws out = put a first_head ws out
+settled_at None p ws out = record { doing = Within p; waiting = ws; steps = out }
+
+abbrev pub settled_doing : Doing → List Waiting → List Step → State
+settled_doing (Operand h only) ws out =
+    record { doing = Operand h only; waiting = ws; steps = out }
+settled_doing (Within p) ws out = settled_at (whole p) p ws out
+settled_doing (Operator c h) ws out =
+    record { doing = Operator c h; waiting = ws; steps = out }
+
+-- what a word that cannot stand there leaves, and the end of a text that is no expression
+abbrev pub settled : State → State
+settled s = settled_doing s.doing s.waiting s.steps
+
+-- the version of the addresses that a protocol is asked for
+abbrev pub version_of : Option Network → Option Version
+version_of None = None
+version_of (Some (network.Ip v)) = Some v
+version_of (Some network.Arp) = Some Ipv4
+version_of (Some network.Rarp) = Some Ipv4
+
+-- a value of a head
+abbrev pub expected_value : Head → Expected
+expected_value (head.Host n d) = expected.Address (version_of n)
+expected_value (head.Net n d) = expected.Network (version_of n)
+expected_value (head.Port t d) = expected.Port
+expected_value (head.PortRange t d) = expected.PortRange
+expected_value (head.Proto v) = expected.Protocol
+expected_value (head.Ether d) = expected.EthernetAddress
+expected_value head.EtherProto = expected.EtherType
+
+-- what a direction is of
+abbrev pub expected_after : Scope → Expected
+expected_after scope.Any = expected.AfterDirection
+expected_after (scope.Network n) = expected.Address (version_of (Some n))
+expected_after (scope.Transport t) = expected.AfterTransportDirection
+expected_after scope.Ether = expected.EthernetAddress
+
+-- the rest of a primitive that is not complete; one that is a word by itself is
+abbrev pub expected_within : Partial → Expected
+expected_within (partial.Word w) = expected.Operand
+expected_within partial.Ether = expected.AfterEther
+expected_within (partial.Directed s d) = expected_after s
+expected_within (partial.Joined s o) = expected.Destination
+expected_within (partial.Value h) = expected_value h
+expected_within partial.Less = expected.Number
+expected_within partial.Greater = expected.Number
+expected_within partial.First = expected.Fragment
+expected_within partial.Checksum = expected.Wrong
+expected_within (partial.Bracket l) = expected.Place
+expected_within (partial.Placed l place size) = expected.CloseBracket
+expected_within (partial.Term q mask) = expected.Relation
+expected_within (partial.Constant u) = expected.Number
+expected_within (partial.Opened u) = expected.Number
+expected_within (partial.Listed u bits) = expected.Bits
+expected_within (partial.Bar u bits) = expected.Number
+
+-- what can stand next
+abbrev pub expected_doing : Doing → List Waiting → Expected
+expected_doing (Operand h only) ws = if only then expected_value h else expected.Operand
+expected_doing (Within p) ws = expected_within p
+expected_doing (Operator c h) ws = expected.Operator c (is_open ws)
+
+abbrev pub expected_of : State → Expected
+expected_of s = expected_doing s.doing s.waiting
+
+-- what can follow a word that is a primitive by itself, if more than an operator can
+abbrev pub qualifiers_of : Partial → Option Expected
+qualifiers_of (partial.Word (token.Network n)) = Some expected.AfterNetwork
+qualifiers_of (partial.Word (token.Transport t)) = Some expected.AfterTransport
+qualifiers_of (partial.Word token.Vlan) = Some expected.AfterVlan
+qualifiers_of _ = None
+
+abbrev pub qualifiers_doing : Doing → Option Expected
+qualifiers_doing (Within p) = qualifiers_of p
+qualifiers_doing (Operand h only) = None
+qualifiers_doing (Operator c h) = None
+
+-- the operator that stands before on the same level
+abbrev pub level_of : Doing → Option Joiner
+level_of (Operator c h) = c
+level_of (Operand h only) = None
+level_of (Within p) = None
+
+-- Why a word cannot stand at a place, by what it says, by the operator before it on its level, and
+-- by what can stand there.
+abbrev pub refusal : ℕ → Token → Option Joiner → Expected → FilterError
+refusal place token.Foreign c e = error.Unsupported place
+refusal place (token.Operator o) (Some c) e = error.Mixed place o
+refusal place w c e = error.Unexpected place e
