@@ -13,11 +13,11 @@ use Rattle.packet_filter.specs.Addresses.{IsAddress}
 use Rattle.packet_filter.specs.Expected.{examples}
 use Rattle.packet_filter.specs.Grammar.{alone, first_head, value_of}
 use Rattle.packet_filter.specs.Language.{AreSpelled, CanFollow, CanGoOn, operator_word, other}
-use Rattle.packet_filter.specs.Names.{names}
+use Rattle.packet_filter.specs.Names.{name_of}
 use Rattle.packet_filter.specs.Program.{and_then}
 use Rattle.packet_filter.specs.Private.Machine.{State, after, complete, completed, expected_after, expected_of, expected_value, expected_within, is_open, level_of, outcome, qualifiers_doing, qualifiers_of, settled, settled_at, settled_doing, step_of, step_progress, version_of, whole}
 use Rattle.packet_filter.specs.Text.{Spells, words_of}
-use Rattle.packet_filter.specs.Values.{values}
+use Rattle.packet_filter.specs.Values.{named_value_of}
 use Rattle.packet_filter.specs.declared.address.Address.TheVariants.{V4, V6}
 use Rattle.packet_filter.specs.declared.expected.Expected.{Expected}
 use Rattle.packet_filter.specs.declared.expected.Expected.TheVariants as expected
