@@ -86,17 +86,12 @@ fn value_of(steps: &[Step], jumps: &[Jump], packet: &LaxSlicedPacket, len: usize
     requires jumps { jumps.now ≡ jumps_of steps.now }
     ensures value { IsTrue result ↔ Matches (expression_of steps.now) packet.now len }
 {
-    let mut rest = steps;
-    'steps: while let Some((step, after)) = rest.split_first() {
-        let Step::Test(primitive) = step else {
+    let mut place = steps.len() + 1;
+    'steps: while place > 1 {
+        let Step::Test(primitive) = &steps[steps.len() + 1 - place] else {
             unreachable!();
         };
-        let jump = jumps[after.len()];
-        let place = jump.place(primitive.holds(packet, len));
-        if place == 0 {
-            return false;
-        }
-        rest = &after[after.len() + 1 - place..];
+        place = jumps[place - 2].place(primitive.holds(packet, len));
     }
-    true
+    place == 1
 }
