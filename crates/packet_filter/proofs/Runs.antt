@@ -4,13 +4,16 @@ use Rattle.std.proofs.lemmas.List.{drop_all, get_or_append_left, get_or_at, take
 use Rattle.std.proofs.lemmas.Bool.Decides.{Decides-eqb}
 use Rattle.std.specs.Prelude.{IfSome}
 use Rattle.packet.specs.declared.lax_sliced_packet.LaxSlicedPacket.{LaxSlicedPacket}
-use Rattle.packet_filter.specs.Jumps.{Operands, but_last, jump_before, jump_by, jumps_of, operands_of, with_operands}
+use Rattle.packet_filter.specs.Jumps.{Operands, but_last, jump_before, decisions_of, jump_by, operands_of, with_operands}
 use Rattle.packet_filter.specs.Meaning.{Expression, Holds, Matches, compound, negation, one}
 use Rattle.packet_filter.specs.Program.{and_then, built, stepped}
+use Rattle.packet_filter.specs.Quick.{Asks, quick_of, quick_of_step}
+use Rattle.packet_filter.proofs.Asked.{asks_what_holds}
 use Rattle.packet_filter.specs.declared.expression.Operator.TheVariants.{And, Or}
 use Rattle.packet_filter.specs.declared.expression.Primitive.{Primitive}
 use Rattle.packet_filter.specs.declared.filter.Step.{Step}
 use Rattle.packet_filter.specs.declared.filter.Step.TheVariants as step
+use Rattle.packet_filter.specs.declared.jumps.Decision.{Decision}
 use Rattle.packet_filter.specs.declared.jumps.Jump.{Jump}
 use Rattle.packet_filter.specs.declared.jumps.Operand.{Operand}
 
@@ -175,17 +178,17 @@ goes_at_test lax len e s after g =
     let n = then_some (stepped s g.operands) (built after) (e ∷ []) g.computes in
     is_test lax len s (jump_before after) (but_last (operands_of after)) g.operands n.0 n.1 g.leads
 
--- the jump of a step is found by how many steps come after it
-pub length_jumps : (steps : List Step) → length (jumps_of steps) ≡ length steps
-length_jumps [] = refl
-length_jumps (s ∷ steps) = omega (arith, length-append (jumps_of steps) (jump_before steps ∷ []), length_jumps steps)
+-- the decision of a step is found by how many steps come after it
+pub length_decisions : (steps : List Step) → length (decisions_of steps) ≡ length steps
+length_decisions [] = refl
+length_decisions (s ∷ steps) = omega (arith, length-append (decisions_of steps) (record { quick = quick_of_step s; jump = jump_before steps } ∷ []), length_decisions steps)
 
-pub jump_at : (front after : List Step) (s : Step) (d : Jump) → get_or (jumps_of (front ++ s ∷ after)) (length after) d ≡ jump_before after
-jump_at [] after s d = get_or_at (jumps_of after) (jump_before after) [] d (length after) (length_jumps after)
-jump_at (x ∷ front) after s d =
+decision_at : (front after : List Step) (s : Step) (d : Decision) → get_or (decisions_of (front ++ s ∷ after)) (length after) d ≡ record { quick = quick_of_step s; jump = jump_before after }
+decision_at [] after s d = get_or_at (decisions_of after) (record { quick = quick_of_step s; jump = jump_before after }) [] d (length after) (length_decisions after)
+decision_at (x ∷ front) after s d =
     let rest = front ++ s ∷ after in
-    let within : length after < length (jumps_of rest) = omega (arith, length_jumps rest, length-append front (s ∷ after)) in
-    get_or_append_left (jumps_of rest) (jump_before rest ∷ []) d (length after) within ∙ jump_at front after s d
+    let within : length after < length (decisions_of rest) = omega (arith, length_decisions rest, length-append front (s ∷ after)) in
+    get_or_append_left (decisions_of rest) (record { quick = quick_of_step x; jump = jump_before rest } ∷ []) d (length after) within ∙ decision_at front after s d
 
 decides : (holds : Bool) (P : Type 0) (place a b : ℕ) → IsTrue holds ↔ P → place ≡ (if holds then a else b) → Decides P (place ≡ a) (place ≡ b)
 decides true P place a b i h = inl (i.0 refl, h)
@@ -201,13 +204,12 @@ pub record HasStep (lax : LaxSlicedPacket) (len : ℕ) (steps : List Step) (e : 
   pub after : List Step
   pub parts : steps ≡ front ++ s ∷ after
   pub left : length after + 2 ≡ place
-  pub within : place ≤ length steps + 1
   pub goes : Goes lax len (s ∷ after) e
 
 pub step_at : (lax : LaxSlicedPacket) (len : ℕ) (steps : List Step) (e : Expression) (place : ℕ) (s d : Step) → IsRight lax len steps e place → 1 < place
     → get_or steps (length steps + 1 - place) d ≡ s → HasStep lax len steps e place s
 step_at lax len steps e place s d (inl w) many is = absurd (omega arith)
-step_at lax len steps e place s d (inr (some, within, goes)) many is =
+step_at lax len steps e place s d (inr (some, few, goes)) many is =
     let k = length steps + 1 - place in
     let here : drop k steps ≡ s ∷ drop (suc k) steps = drop-cons steps k d (omega arith) ∙ ap (λ x. x ∷ drop (suc k) steps) is in
     record {
@@ -215,27 +217,29 @@ step_at lax len steps e place s d (inr (some, within, goes)) many is =
       after = drop (suc k) steps;
       parts = sym (take-append-drop k steps) ∙ ap (λ r. take k steps ++ r) here;
       left = omega (arith, length-drop (suc k) steps);
-      within = within;
       goes = subst (λ r. Goes lax len r e) here goes;
     }
 
-pub is_test_at : (lax : LaxSlicedPacket) (len : ℕ) (steps : List Step) (e : Expression) (place : ℕ) (d : Step) → IsRight lax len steps e place → 1 < place
-    → (p : Primitive) × (get_or steps (length steps + 1 - place) d ≡ step.Test p)
-is_test_at lax len steps e place d right many =
-    let s = get_or steps (length steps + 1 - place) d in
-    let h = step_at lax len steps e place s d right many refl in
-    goes_at_test lax len e s h.after h.goes
-
-pub next_place : (lax : LaxSlicedPacket) (len : ℕ) (steps : List Step) (e : Expression) (place next : ℕ) (p : Primitive) (jumps : List Jump) (d : Jump) (holds : Bool)
-    → HasStep lax len steps e place (step.Test p) → jumps ≡ jumps_of steps → IsTrue holds ↔ Holds p lax len
-    → next ≡ (if holds then (get_or jumps (place - 2) d).yes else (get_or jumps (place - 2) d).no) → IsRight lax len steps e next × (next < place)
-next_place lax len steps e place next p jumps d holds h j holds_iff value =
+pub next_place : (lax : LaxSlicedPacket) (len : ℕ) (steps : List Step) (e : Expression) (place next : ℕ) (s : Step) (decisions : List Decision) (d : Decision) (holds : Bool)
+    → HasStep lax len steps e place s → decisions ≡ decisions_of steps → IsTrue holds ↔ Asks (get_or decisions (place - 2) d).quick s lax len
+    → next ≡ (if holds then (get_or decisions (place - 2) d).jump.yes else (get_or decisions (place - 2) d).jump.no) → IsRight lax len steps e next × (next < place)
+next_place lax len steps e place next s decisions d holds h j holds_iff value =
+    let t = goes_at_test lax len e s h.after h.goes in
     let last : place - 2 ≡ length h.after = omega (arith, h.left) in
-    let jump : get_or jumps (place - 2) d ≡ jump_before h.after = rw (last, j, h.parts) (jump_at h.front h.after (step.Test p) d) in
-    let right = right_after_test lax len e p h.after next h.goes (decides holds (Holds p lax len) next (jump_before h.after).yes (jump_before h.after).no holds_iff (rw jump at value)) in (
-      subst (λ x. IsRight lax len x e next) (sym h.parts) (goes_on_all lax len e h.front (step.Test p ∷ h.after) next (goes_on lax len e (step.Test p) h.after next right)),
+    let found : get_or decisions (place - 2) d ≡ record { quick = quick_of_step s; jump = jump_before h.after } = rw (last, j, h.parts) (decision_at h.front h.after s d) in
+    let asked : IsTrue holds ↔ Asks (quick_of_step s) s lax len = rw found at holds_iff in
+    let asked_test : IsTrue holds ↔ Asks (quick_of t.0) (step.Test t.0) lax len = rw t.1 at asked in
+    let same = asks_what_holds t.0 lax len in
+    let holds_test : IsTrue holds ↔ Holds t.0 lax len = (λ b. same.0 (asked_test.0 b), λ p. asked_test.1 (same.1 p)) in
+    let goes = subst (λ x. Goes lax len (x ∷ h.after) e) t.1 h.goes in
+    let right = right_after_test lax len e t.0 h.after next goes (decides holds (Holds t.0 lax len) next (jump_before h.after).yes (jump_before h.after).no holds_test (rw found at value)) in (
+      subst (λ x. IsRight lax len x e next) (sym h.parts) (goes_on_all lax len e h.front (s ∷ h.after) next (goes_on lax len e s h.after next right)),
       elim right [ inl w ↦ omega (arith, h.left) | inr w ↦ omega (arith, h.left) ],
     )
+
+pub within : (lax : LaxSlicedPacket) (len : ℕ) (e : Expression) (steps : List Step) (place : ℕ) → IsRight lax len steps e place → place ≤ length steps + 1
+within lax len e steps place (inl w) = omega arith
+within lax len e steps place (inr w) = w.1
 
 -- at the last place the expression matches
 pub right_at_end : (lax : LaxSlicedPacket) (len : ℕ) (steps : List Step) (e : Expression) (place : ℕ) → IsRight lax len steps e place → place ≤ 1 → IsTrue (place == 1) ↔ Matches e lax len

@@ -115,7 +115,7 @@ fn is_arp_address(address: &Address, bits: u8, place: usize, packet: &SlicedPack
 }
 
 // Whether these bytes begin as an ARP packet for Ethernet and IPv4.
-fn is_arp_of_ipv4(ether_type: Option<EtherType>, payload: &[u8]) -> bool
+pub(crate) fn is_arp_of_ipv4(ether_type: Option<EtherType>, payload: &[u8]) -> bool
     ensures value { result ≡ is_arp_of_ipv4 ether_type payload.now }
 {
     match ether_type {

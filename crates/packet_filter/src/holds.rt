@@ -97,7 +97,8 @@ fn ether_type_of(version: Version) -> EtherType
 }
 
 // Whether the frame carries an IP packet of this version.
-fn is_ip(version: Version, packet: &SlicedPacket) -> bool
+#[inline(always)]
+pub(crate) fn is_ip(version: Version, packet: &SlicedPacket) -> bool
     ensures value { IsTrue result ↔ IsIp version packet.now }
 {
     match &packet.net {
@@ -155,7 +156,7 @@ fn carries(transport: Option<Transport>, ip: &IpSlice) -> bool
 
 // Whether the ports of an IP packet at these ends are within a range.
 #[inline(always)]
-fn has_ports(
+pub(crate) fn has_ports(
     transport: Option<Transport>,
     direction: Option<Direction>,
     low: u16,
