@@ -1,15 +1,19 @@
 -- Jumps end at the right answer.
-use Rattle.std.proofs.Common.{◌≡◌, ◌≢◌, ◌↔◌, IsTrue, Bool, true, false, if◌then◌else◌, ℕ, ◌+◌, ◌-◌, ◌<◌, ◌≤◌, ◌⊎◌, List, [], ◌∷◌, ◌++◌, ◌∙◌, length, length-append, drop, get_or, Option, Some, None, arith, inl, inr, refl, subst, suc, sym, unwrap_or}
-use Rattle.std.proofs.lemmas.List.{get_or_append_left, get_or_at}
+use Rattle.std.proofs.Common.{◌≡◌, ◌≢◌, ◌↔◌, IsTrue, Bool, true, false, if◌then◌else◌, ◌==◌, ℕ, ◌+◌, ◌-◌, ◌<◌, ◌≤◌, ◌⊎◌, List, [], ◌∷◌, ◌++◌, ◌∙◌, ap, length, length-append, length-drop, drop, drop-cons, get_or, take, Option, Some, None, arith, inl, inr, refl, subst, suc, sym, unwrap_or}
+use Rattle.std.proofs.lemmas.List.{drop_all, get_or_append_left, get_or_at, take-append-drop}
+use Rattle.std.proofs.lemmas.Bool.Decides.{Decides-eqb}
 use Rattle.std.specs.Prelude.{IfSome}
 use Rattle.packet.specs.declared.lax_sliced_packet.LaxSlicedPacket.{LaxSlicedPacket}
-use Rattle.packet_filter.specs.Jumps.{Operands, but_last, jump_before, jump_by, jumps_of, operands_of, with_operands}
+use Rattle.packet_filter.specs.Jumps.{Operands, but_last, jump_before, decisions_of, jump_by, operands_of, with_operands}
 use Rattle.packet_filter.specs.Meaning.{Expression, Holds, Matches, compound, negation, one}
 use Rattle.packet_filter.specs.Program.{and_then, built, stepped}
+use Rattle.packet_filter.specs.Quick.{Asks, quick_of, quick_of_step}
+use Rattle.packet_filter.proofs.Asked.{asks_what_holds}
 use Rattle.packet_filter.specs.declared.expression.Operator.TheVariants.{And, Or}
 use Rattle.packet_filter.specs.declared.expression.Primitive.{Primitive}
 use Rattle.packet_filter.specs.declared.filter.Step.{Step}
 use Rattle.packet_filter.specs.declared.filter.Step.TheVariants as step
+use Rattle.packet_filter.specs.declared.jumps.Decision.{Decision}
 use Rattle.packet_filter.specs.declared.jumps.Jump.{Jump}
 use Rattle.packet_filter.specs.declared.jumps.Operand.{Operand}
 
@@ -134,21 +138,21 @@ is_right lax len e (s ∷ rest) es (Some place) h l =
     let m = goes_past_any lax len s (operands_of rest) (length rest + 1) es n.0 place n.1 l in
     goes_on lax len e s rest place (subst (IsRight lax len rest e) (sym m.same) (is_right lax len e rest n.0 m.to n.2 m.leads))
 
--- what is left computes the expression at the start, after a test, and at the end
+-- at the start, after a test, and at the end
 none_lead : (lax : LaxSlicedPacket) (len : ℕ) (cs : Operands) → Leads lax len cs [] None
 none_lead lax len [] = refl
 none_lead lax len (c ∷ cs) = refl
 
-pub starts : (lax : LaxSlicedPacket) (len : ℕ) (steps : List Step) (e : Expression) → built steps [] ≡ Some (e ∷ []) → Goes lax len steps e
-starts lax len steps e h = record { operands = []; computes = h; leads = none_lead lax len (operands_of steps) }
+pub right_at_start : (lax : LaxSlicedPacket) (len : ℕ) (steps : List Step) (e : Expression) → built steps [] ≡ Some (e ∷ []) → IsRight lax len steps e (length steps + 1)
+right_at_start lax len steps e h = is_right lax len e steps [] None h (none_lead lax len (operands_of steps))
 
-pub right_after_test : (lax : LaxSlicedPacket) (len : ℕ) (e : Expression) (p : Primitive) (after : List Step) (place : ℕ) → Goes lax len (step.Test p ∷ after) e
+right_after_test : (lax : LaxSlicedPacket) (len : ℕ) (e : Expression) (p : Primitive) (after : List Step) (place : ℕ) → Goes lax len (step.Test p ∷ after) e
     → Decides (Holds p lax len) (place ≡ (jump_before after).yes) (place ≡ (jump_before after).no) → IsRight lax len after e place
 right_after_test lax len e p after place g d =
     let m = leads_after_test lax len p (operands_of after) g.operands (length after + 1) place g.leads d in
     subst (IsRight lax len after e) (sym m.same) (is_right lax len e after (one p ∷ g.operands) m.to g.computes m.leads)
 
-pub ends : (lax : LaxSlicedPacket) (len : ℕ) (e : Expression) → Goes lax len [] e → Matches e lax len
+ends : (lax : LaxSlicedPacket) (len : ℕ) (e : Expression) → Goes lax len [] e → Matches e lax len
 ends lax len e g =
     let same : g.operands ≡ e ∷ [] = cc (g.computes) in
     matches_at_end lax len e (subst (λ x. Leads lax len (operands_of []) x None) same g.leads)
@@ -169,44 +173,77 @@ is_test lax len (step.Operator o) j cs (b ∷ []) more h l = cc
 is_test lax len (step.Operator And) j cs (b ∷ a ∷ es) more h l = absurd (not_led lax len j.yes j.no (record { yes = None; no = Some j.no } ∷ cs) b (a ∷ es) l)
 is_test lax len (step.Operator Or) j cs (b ∷ a ∷ es) more h l = absurd (not_led lax len j.yes j.no (record { yes = Some j.yes; no = None } ∷ cs) b (a ∷ es) l)
 
-pub goes_at_test : (lax : LaxSlicedPacket) (len : ℕ) (e : Expression) (s : Step) (after : List Step) → Goes lax len (s ∷ after) e → (p : Primitive) × (s ≡ step.Test p)
+goes_at_test : (lax : LaxSlicedPacket) (len : ℕ) (e : Expression) (s : Step) (after : List Step) → Goes lax len (s ∷ after) e → (p : Primitive) × (s ≡ step.Test p)
 goes_at_test lax len e s after g =
     let n = then_some (stepped s g.operands) (built after) (e ∷ []) g.computes in
     is_test lax len s (jump_before after) (but_last (operands_of after)) g.operands n.0 n.1 g.leads
 
--- the jump of a step is found by how many steps come after it
-pub length_jumps : (steps : List Step) → length (jumps_of steps) ≡ length steps
-length_jumps [] = refl
-length_jumps (s ∷ steps) = omega (arith, length-append (jumps_of steps) (jump_before steps ∷ []), length_jumps steps)
+-- the decision of a step is found by how many steps come after it
+pub length_decisions : (steps : List Step) → length (decisions_of steps) ≡ length steps
+length_decisions [] = refl
+length_decisions (s ∷ steps) = omega (arith, length-append (decisions_of steps) (record { quick = quick_of_step s; jump = jump_before steps } ∷ []), length_decisions steps)
 
-pub jump_at : (front after : List Step) (s : Step) (d : Jump) → get_or (jumps_of (front ++ s ∷ after)) (length after) d ≡ jump_before after
-jump_at [] after s d = get_or_at (jumps_of after) (jump_before after) [] d (length after) (length_jumps after)
-jump_at (x ∷ front) after s d =
+decision_at : (front after : List Step) (s : Step) (d : Decision) → get_or (decisions_of (front ++ s ∷ after)) (length after) d ≡ record { quick = quick_of_step s; jump = jump_before after }
+decision_at [] after s d = get_or_at (decisions_of after) (record { quick = quick_of_step s; jump = jump_before after }) [] d (length after) (length_decisions after)
+decision_at (x ∷ front) after s d =
     let rest = front ++ s ∷ after in
-    let within : length after < length (jumps_of rest) = omega (arith, length_jumps rest, length-append front (s ∷ after)) in
-    get_or_append_left (jumps_of rest) (jump_before rest ∷ []) d (length after) within ∙ jump_at front after s d
-
-jump_is : (steps front rest after : List Step) (s : Step) (jumps : List Jump) (d : Jump) → jumps ≡ jumps_of steps → steps ≡ front ++ rest → rest ≡ s ∷ after
-    → get_or jumps (length after) d ≡ jump_before after
-jump_is steps front rest after s jumps d j parts here = rw (j, parts, here) (jump_at front after s d)
+    let within : length after < length (decisions_of rest) = omega (arith, length_decisions rest, length-append front (s ∷ after)) in
+    get_or_append_left (decisions_of rest) (record { quick = quick_of_step x; jump = jump_before rest } ∷ []) d (length after) within ∙ decision_at front after s d
 
 decides : (holds : Bool) (P : Type 0) (place a b : ℕ) → IsTrue holds ↔ P → place ≡ (if holds then a else b) → Decides P (place ≡ a) (place ≡ b)
 decides true P place a b i h = inl (i.0 refl, h)
 decides false P place a b i h = inr (λ p. cc (i.1 p), h)
 
--- a step of the run: the place that the jump of a test gives is right
-pub right_place : (lax : LaxSlicedPacket) (len : ℕ) (e : Expression) (steps front rest after : List Step) (jumps : List Jump) (p : Primitive) (d : Jump) (holds : Bool) (place : ℕ)
-    → jumps ≡ jumps_of steps → steps ≡ front ++ rest → rest ≡ step.Test p ∷ after → Goes lax len rest e → IsTrue holds ↔ Holds p lax len
-    → place ≡ (if holds then (get_or jumps (length after) d).yes else (get_or jumps (length after) d).no) → IsRight lax len after e place
-right_place lax len e steps front rest after jumps p d holds place j parts here goes holds_iff h =
-    let jump = jump_is steps front rest after (step.Test p) jumps d j parts here in
-    right_after_test lax len e p after place (subst (λ r. Goes lax len r e) here goes) (decides holds (Holds p lax len) place (jump_before after).yes (jump_before after).no holds_iff (rw jump at h))
+goes_on_all : (lax : LaxSlicedPacket) (len : ℕ) (e : Expression) (front rest : List Step) (place : ℕ) → IsRight lax len rest e place → IsRight lax len (front ++ rest) e place
+goes_on_all lax len e [] rest place r = r
+goes_on_all lax len e (s ∷ front) rest place r = goes_on lax len e s (front ++ rest) place (goes_on_all lax len e front rest place r)
 
-pub right_some : (lax : LaxSlicedPacket) (len : ℕ) (e : Expression) (rest : List Step) (place : ℕ) → IsRight lax len rest e place → place ≢ 0
-    → (place ≤ length rest + 1) × Goes lax len (drop (length rest + 1 - place) rest) e
-right_some lax len e rest place (inl w) n = absurd (n w.0)
-right_some lax len e rest place (inr w) n = (w.1, w.2)
+-- the step at a right place is a test, and its jump leads to a right place further on
+pub record HasStep (lax : LaxSlicedPacket) (len : ℕ) (steps : List Step) (e : Expression) (place : ℕ) (s : Step) : Type 0 where
+  pub front : List Step
+  pub after : List Step
+  pub parts : steps ≡ front ++ s ∷ after
+  pub left : length after + 2 ≡ place
+  pub goes : Goes lax len (s ∷ after) e
 
-pub right_none : (lax : LaxSlicedPacket) (len : ℕ) (e : Expression) (rest : List Step) (place : ℕ) → IsRight lax len rest e place → place ≡ 0 → ¬ Matches e lax len
-right_none lax len e rest place (inl w) z = w.1
-right_none lax len e rest place (inr w) z = absurd (omega arith)
+pub step_at : (lax : LaxSlicedPacket) (len : ℕ) (steps : List Step) (e : Expression) (place : ℕ) (s d : Step) → IsRight lax len steps e place → 1 < place
+    → get_or steps (length steps + 1 - place) d ≡ s → HasStep lax len steps e place s
+step_at lax len steps e place s d (inl w) many is = absurd (omega arith)
+step_at lax len steps e place s d (inr (some, few, goes)) many is =
+    let k = length steps + 1 - place in
+    let here : drop k steps ≡ s ∷ drop (suc k) steps = drop-cons steps k d (omega arith) ∙ ap (λ x. x ∷ drop (suc k) steps) is in
+    record {
+      front = take k steps;
+      after = drop (suc k) steps;
+      parts = sym (take-append-drop k steps) ∙ ap (λ r. take k steps ++ r) here;
+      left = omega (arith, length-drop (suc k) steps);
+      goes = subst (λ r. Goes lax len r e) here goes;
+    }
+
+pub next_place : (lax : LaxSlicedPacket) (len : ℕ) (steps : List Step) (e : Expression) (place next : ℕ) (s : Step) (decisions : List Decision) (d : Decision) (holds : Bool)
+    → HasStep lax len steps e place s → decisions ≡ decisions_of steps → IsTrue holds ↔ Asks (get_or decisions (place - 2) d).quick s lax len
+    → next ≡ (if holds then (get_or decisions (place - 2) d).jump.yes else (get_or decisions (place - 2) d).jump.no) → IsRight lax len steps e next × (next < place)
+next_place lax len steps e place next s decisions d holds h j holds_iff value =
+    let t = goes_at_test lax len e s h.after h.goes in
+    let last : place - 2 ≡ length h.after = omega (arith, h.left) in
+    let found : get_or decisions (place - 2) d ≡ record { quick = quick_of_step s; jump = jump_before h.after } = rw (last, j, h.parts) (decision_at h.front h.after s d) in
+    let asked : IsTrue holds ↔ Asks (quick_of_step s) s lax len = rw found at holds_iff in
+    let asked_test : IsTrue holds ↔ Asks (quick_of t.0) (step.Test t.0) lax len = rw t.1 at asked in
+    let same = asks_what_holds t.0 lax len in
+    let holds_test : IsTrue holds ↔ Holds t.0 lax len = (λ b. same.0 (asked_test.0 b), λ p. asked_test.1 (same.1 p)) in
+    let goes = subst (λ x. Goes lax len (x ∷ h.after) e) t.1 h.goes in
+    let right = right_after_test lax len e t.0 h.after next goes (decides holds (Holds t.0 lax len) next (jump_before h.after).yes (jump_before h.after).no holds_test (rw found at value)) in (
+      subst (λ x. IsRight lax len x e next) (sym h.parts) (goes_on_all lax len e h.front (s ∷ h.after) next (goes_on lax len e s h.after next right)),
+      elim right [ inl w ↦ omega (arith, h.left) | inr w ↦ omega (arith, h.left) ],
+    )
+
+pub within : (lax : LaxSlicedPacket) (len : ℕ) (e : Expression) (steps : List Step) (place : ℕ) → IsRight lax len steps e place → place ≤ length steps + 1
+within lax len e steps place (inl w) = omega arith
+within lax len e steps place (inr w) = w.1
+
+-- at the last place the expression matches
+pub right_at_end : (lax : LaxSlicedPacket) (len : ℕ) (steps : List Step) (e : Expression) (place : ℕ) → IsRight lax len steps e place → place ≤ 1 → IsTrue (place == 1) ↔ Matches e lax len
+right_at_end lax len steps e place (inl w) few = (λ t. absurd (omega (arith, (Decides-eqb place 1).0 t)), λ m. absurd (w.1 m))
+right_at_end lax len steps e place (inr (some, within, goes)) few =
+    let all : drop (length steps + 1 - place) steps ≡ [] = drop_all (length steps + 1 - place) steps (omega arith) in
+    (λ t. ends lax len e (subst (λ r. Goes lax len r e) all goes), λ m. (Decides-eqb place 1).1 (omega arith))

@@ -2,9 +2,11 @@
 -- needed. A place is one more than the number of steps from there to the end; 0 is none, and the
 -- answer is no. No public clause cites it: a reader may skip it.
 use Rattle.std.specs.Prelude.{ℕ, ◌+◌, List, [], ◌∷◌, ◌++◌, None, Some, length, unwrap_or}
+use Rattle.packet_filter.specs.Quick.{quick_of_step}
 use Rattle.packet_filter.specs.declared.expression.Operator.TheVariants.{And, Or}
 use Rattle.packet_filter.specs.declared.filter.Step.{Step}
 use Rattle.packet_filter.specs.declared.filter.Step.TheVariants as step
+use Rattle.packet_filter.specs.declared.jumps.Decision.{Decision}
 use Rattle.packet_filter.specs.declared.jumps.Jump.{Jump}
 use Rattle.packet_filter.specs.declared.jumps.Operand.{Operand}
 
@@ -47,7 +49,8 @@ operands_of (s ∷ steps) = with_operands s (jump_by (operands_of steps) (length
 abbrev pub jump_before : List Step → Jump
 jump_before steps = jump_by (operands_of steps) (length steps + 1)
 
--- the jump of each step, that of the last step first
-abbrev pub jumps_of : List Step → List Jump
-jumps_of [] = []
-jumps_of (s ∷ steps) = jumps_of steps ++ jump_before steps ∷ []
+-- what is asked at each step, and its jump, those of the last step first
+abbrev pub decisions_of : List Step → List Decision
+decisions_of [] = []
+decisions_of (s ∷ steps) = decisions_of steps
+    ++ record { quick = quick_of_step s; jump = jump_before steps } ∷ []

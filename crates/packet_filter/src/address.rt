@@ -2,11 +2,12 @@
 
 ghost use Rattle.std.specs.Prelude.{◌≡◌, ◌-◌, ◌+◌, ◌/◌, ◌^◌, ◌≤◌, ◌↔◌, IsTrue, IsSomeAnd, length};
 ghost use Rattle.std.specs.Prelude.{[], ◌∷◌, take};
-ghost use Rattle.std.specs.Int.{from_be_bytes, w32};
+ghost use Rattle.std.specs.Int.{from_be_bytes, w32, w128};
 ghost use Rattle.std.specs.Str.{bytes_eq};
 ghost use Rattle.packet_filter.specs.Meaning.{IsWithin, OfEnds, arp_address, destination_address};
 ghost use Rattle.packet_filter.specs.Meaning.{ip_destination, ip_source, is_arp_of_ipv4};
 ghost use Rattle.packet_filter.specs.Meaning.{source_address};
+ghost use Rattle.packet_filter.specs.declared.address.Address.TheVariants.{V4, V6};
 
 use crate::expression::Direction;
 use crate::holds::of_ends;
@@ -27,77 +28,94 @@ pub(crate) enum Address {
 #[inline(always)]
 pub(crate) fn has_address(
     direction: Option<Direction>,
-    address: Address,
+    address: &Address,
     bits: u8,
     packet: &SlicedPacket,
 ) -> bool
     ensures value { IsTrue result ↔ OfEnds direction (source_address packet.now)
-        (destination_address packet.now) (λ found. IsSomeAnd found (IsWithin address bits)) }
-{
-    let source = is_some_within(source_address(packet), bits, address);
-    let destination = is_some_within(destination_address(packet), bits, address);
-    of_ends(direction, source, destination)
-}
-
-// Who sends a packet.
-#[inline(always)]
-fn source_address(packet: &SlicedPacket) -> Option<Address>
-    ensures value { result ≡ source_address packet.now }
+        (destination_address packet.now) (λ found. IsSomeAnd found (IsWithin address.now bits)) }
 {
     match &packet.net {
-        Some(ip) => Some(ip_source(&ip.header)),
-        None => arp_address(14, packet),
+        Some(ip) => has_ip_address(direction, address, bits, &ip.header),
+        None => has_arp_address(direction, address, bits, packet),
     }
 }
 
-// Who is to get it.
+// The same of the addresses in the header of an IP packet.
 #[inline(always)]
-fn destination_address(packet: &SlicedPacket) -> Option<Address>
-    ensures value { result ≡ destination_address packet.now }
+fn has_ip_address(
+    direction: Option<Direction>,
+    address: &Address,
+    bits: u8,
+    header: &IpHeaderSlice,
+) -> bool
+    ensures value { IsTrue result ↔ OfEnds direction (ip_source header.now)
+        (ip_destination header.now) (IsWithin address.now bits) }
 {
-    match &packet.net {
-        Some(ip) => Some(ip_destination(&ip.header)),
-        None => arp_address(24, packet),
+    match (header, address) {
+        (IpHeaderSlice::Ipv4(view), Address::V4(address)) => {
+            let source = is_within_ipv4(*address, bits, view.source());
+            of_ends(
+                direction,
+                source,
+                is_within_ipv4(*address, bits, view.destination()),
+            )
+        }
+        (IpHeaderSlice::Ipv6(view), Address::V6(address)) => {
+            let source = is_within_ipv6(*address, bits, view.source());
+            of_ends(
+                direction,
+                source,
+                is_within_ipv6(*address, bits, view.destination()),
+            )
+        }
+        (IpHeaderSlice::Ipv4(_), Address::V6(_)) | (IpHeaderSlice::Ipv6(_), Address::V4(_)) => {
+            false
+        }
     }
 }
 
-// The source address in a header.
-#[inline(always)]
-fn ip_source(header: &IpHeaderSlice) -> Address
-    ensures value { result ≡ ip_source header.now }
+// The same of the addresses in an ARP packet.
+#[inline(never)]
+fn has_arp_address(
+    direction: Option<Direction>,
+    address: &Address,
+    bits: u8,
+    packet: &SlicedPacket,
+) -> bool
+    ensures value { IsTrue result ↔ OfEnds direction (arp_address 14 packet.now)
+        (arp_address 24 packet.now) (λ found. IsSomeAnd found (IsWithin address.now bits)) }
 {
-    match header {
-        IpHeaderSlice::Ipv4(view) => Address::V4(u32::from_be_bytes(view.source())),
-        IpHeaderSlice::Ipv6(view) => Address::V6(u128::from_be_bytes(view.source())),
-    }
+    let source = is_arp_address(address, bits, 14, packet);
+    of_ends(direction, source, is_arp_address(address, bits, 24, packet))
 }
 
-// The destination address in a header.
-#[inline(always)]
-fn ip_destination(header: &IpHeaderSlice) -> Address
-    ensures value { result ≡ ip_destination header.now }
-{
-    match header {
-        IpHeaderSlice::Ipv4(view) => Address::V4(u32::from_be_bytes(view.destination())),
-        IpHeaderSlice::Ipv6(view) => Address::V6(u128::from_be_bytes(view.destination())),
-    }
-}
-
-// The address at a place in an ARP packet.
-fn arp_address(place: usize, packet: &SlicedPacket) -> Option<Address>
+// Whether there is an address at a place in an ARP packet, which begins with so many bits of this.
+fn is_arp_address(address: &Address, bits: u8, place: usize, packet: &SlicedPacket) -> bool
     requires small { place ≤ 24 }
-    ensures value { result ≡ arp_address place packet.now }
+    ensures value { IsTrue result ↔
+        IsSomeAnd (arp_address place packet.now) (IsWithin address.now bits) }
 {
     let payload = packet.payload;
-    if is_arp_of_ipv4(packet.ether_type, payload) && place + 4 <= payload.len() {
-        Some(Address::V4(number_of_4(&payload[place..place + 4])))
-    } else {
-        None
+    if !is_arp_of_ipv4(packet.ether_type, payload) || payload.len() < place + 4 {
+        return false;
+    }
+    match address {
+        Address::V4(address) => {
+            let found = [
+                payload[place],
+                payload[place + 1],
+                payload[place + 2],
+                payload[place + 3],
+            ];
+            is_within_ipv4(*address, bits, found)
+        }
+        Address::V6(_) => false,
     }
 }
 
 // Whether these bytes begin as an ARP packet for Ethernet and IPv4.
-fn is_arp_of_ipv4(ether_type: Option<EtherType>, payload: &[u8]) -> bool
+pub(crate) fn is_arp_of_ipv4(ether_type: Option<EtherType>, payload: &[u8]) -> bool
     ensures value { result ≡ is_arp_of_ipv4 ether_type payload.now }
 {
     match ether_type {
@@ -113,50 +131,21 @@ fn begins_as_arp(payload: &[u8]) -> bool
     payload.len() >= 6 && payload[..6] == [0, 1, 8, 0, 6, 4]
 }
 
-// Four bytes as a number, the first the highest.
-fn number_of_4(bytes: &[u8]) -> u32
-    requires len { length bytes.now ≡ 4 }
-    ensures value { result ≡ from_be_bytes w32 bytes.now }
+// Whether an IPv4 address begins with so many bits of this one.
+#[inline(always)]
+fn is_within_ipv4(address: u32, bits: u8, found: [u8; 4]) -> bool
+    ensures value { IsTrue result ↔ IsWithin (V4 address) bits (V4 (from_be_bytes w32 found)) }
 {
-    u32::from_be_bytes([bytes[0], bytes[1], bytes[2], bytes[3]])
+    let others = 32u32.saturating_sub(u32::from(bits));
+    u64::from(address) >> others == u64::from(u32::from_be_bytes(found)) >> others
 }
 
-// Whether there is an address that begins with so many bits of this one.
+// Whether an IPv6 address begins with so many bits of this one.
 #[inline(always)]
-fn is_some_within(found: Option<Address>, bits: u8, address: Address) -> bool
-    ensures value { IsTrue result ↔ IsSomeAnd found (IsWithin address bits) }
+fn is_within_ipv6(address: u128, bits: u8, found: [u8; 16]) -> bool
+    ensures value { IsTrue result ↔ IsWithin (V6 address) bits (V6 (from_be_bytes w128 found)) }
 {
-    match found {
-        Some(found) => is_within(address, bits, found),
-        None => false,
-    }
-}
-
-// Whether both addresses are of one version, and begin with the same bits.
-#[inline(always)]
-fn is_within(a: Address, bits: u8, b: Address) -> bool
-    ensures value { IsTrue result ↔ IsWithin a bits b }
-{
-    match (a, b) {
-        (Address::V4(a), Address::V4(b)) => ipv4_front(a, bits) == ipv4_front(b, bits),
-        (Address::V6(a), Address::V6(b)) => ipv6_front(a, bits) == ipv6_front(b, bits),
-        (Address::V4(_), Address::V6(_)) => false,
-        (Address::V6(_), Address::V4(_)) => false,
-    }
-}
-
-// The first bits of an IPv4 address, as a number.
-#[inline(always)]
-fn ipv4_front(address: u32, bits: u8) -> u32
-    ensures value { result ≡ address / 2 ^ (32 - bits) }
-{
-    if bits == 0 {
-        0
-    } else if bits < 32 {
-        address >> (32 - bits)
-    } else {
-        address
-    }
+    ipv6_front(address, bits) == ipv6_front(u128::from_be_bytes(found), bits)
 }
 
 // The first bits of an IPv6 address, as a number.

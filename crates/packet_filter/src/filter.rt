@@ -1,12 +1,12 @@
 //! Filters: expressions in postfix form, and their evaluation.
 
 ghost use Rattle.std.specs.Prelude.{◌≡◌, ◌↔◌, IsTrue};
-ghost use Rattle.packet_filter.specs.Jumps.{jumps_of};
+ghost use Rattle.packet_filter.specs.Jumps.{decisions_of};
 ghost use Rattle.packet_filter.specs.Meaning.{Matches};
 ghost use Rattle.packet_filter.specs.Program.{Computes, expression_of};
 
 use crate::expression::{Operator, Primitive};
-use crate::jumps::{Jump, jumps_of};
+use crate::jumps::{Decision, decisions_of};
 use arrayvec::ArrayVec;
 use packet::lax_sliced_packet::LaxSlicedPacket;
 use std::marker::Model;
@@ -28,12 +28,12 @@ pub(crate) enum Step {
 #[derive(Clone, Debug, Drop)]
 pub struct Filter {
     steps: ArrayVec<Step, 64>,
-    jumps: ArrayVec<Jump, 64>,
+    decisions: ArrayVec<Decision, 64>,
 }
 
 impl Model for Filter {
     ghost use Rattle.std.specs.Prelude.{◌≡◌, List};
-    ghost use Rattle.packet_filter.specs.Jumps.{jumps_of};
+    ghost use Rattle.packet_filter.specs.Jumps.{decisions_of};
     ghost use Rattle.packet_filter.specs.Program.{Computes, expression_of};
     ghost use Rattle.packet_filter.specs.declared.filter.Step.{Step};
 
@@ -42,7 +42,7 @@ impl Model for Filter {
     ghost view = { λ f. f.steps.items };
 
     ghost invariant = { λ f. Computes f.steps.items (expression_of f.steps.items)
-        × (f.jumps.items ≡ jumps_of f.steps.items) };
+        × (f.decisions.items ≡ decisions_of f.steps.items) };
 }
 
 impl Filter {
@@ -51,8 +51,8 @@ impl Filter {
         requires computes { Computes steps.items (expression_of steps.items) }
         ensures value { result ≡ steps.items }
     {
-        let jumps = jumps_of(steps.as_slice());
-        Filter { steps, jumps }
+        let decisions = decisions_of(steps.as_slice());
+        Filter { steps, decisions }
     }
 
     /// Whether the expression says something true of a packet. `len` is the length of its frame on
@@ -76,27 +76,26 @@ impl Filter {
     pub fn matches(&self, packet: &LaxSlicedPacket, len: usize) -> bool
         ensures value { IsTrue result ↔ Matches (expression_of self.now) packet.now len }
     {
-        value_of(self.steps.as_slice(), self.jumps.as_slice(), packet, len)
+        value_of(
+            self.steps.as_slice(),
+            self.decisions.as_slice(),
+            packet,
+            len,
+        )
     }
 }
 
 // Whether the expression of these steps matches.
-fn value_of(steps: &[Step], jumps: &[Jump], packet: &LaxSlicedPacket, len: usize) -> bool
+fn value_of(steps: &[Step], decisions: &[Decision], packet: &LaxSlicedPacket, len: usize) -> bool
     requires computes { Computes steps.now (expression_of steps.now) }
-    requires jumps { jumps.now ≡ jumps_of steps.now }
+    requires decisions { decisions.now ≡ decisions_of steps.now }
     ensures value { IsTrue result ↔ Matches (expression_of steps.now) packet.now len }
 {
-    let mut rest = steps;
-    'steps: while let Some((step, after)) = rest.split_first() {
-        let Step::Test(primitive) = step else {
-            unreachable!();
-        };
-        let jump = jumps[after.len()];
-        let place = jump.place(primitive.holds(packet, len));
-        if place == 0 {
-            return false;
-        }
-        rest = &after[after.len() + 1 - place..];
+    let mut place = steps.len() + 1;
+    'steps: while place > 1 {
+        let Decision { quick, jump } = decisions[place - 2];
+        let holds = quick.holds(&steps[steps.len() + 1 - place], packet, len);
+        place = jump.place(holds);
     }
-    true
+    place == 1
 }

@@ -24,7 +24,7 @@ use packet_parts::ip_slice::{IpHeaderSlice, IpSlice};
 
 impl Primitive {
     /// Whether it holds of a packet, of which the frame had so many bytes on the wire.
-    #[inline]
+    #[inline(always)]
     pub(crate) fn holds(&self, lax: &LaxSlicedPacket, len: usize) -> bool
         ensures value { IsTrue result ↔ Holds self.now lax.now len }
     {
@@ -34,7 +34,7 @@ impl Primitive {
             Primitive::EtherType(number) => packet.ether_type == Some(EtherType(*number)),
             Primitive::Proto(version, number) => has_proto(*version, IpNumber(*number), packet),
             Primitive::Net(network, direction, address, bits) => {
-                is_of(*network, packet) && has_address(*direction, *address, *bits, packet)
+                is_of(*network, packet) && has_address(*direction, address, *bits, packet)
             }
             Primitive::Ports(transport, direction, low, high) => match &packet.net {
                 Some(ip) => has_ports(*transport, *direction, *low, *high, ip),
@@ -97,7 +97,8 @@ fn ether_type_of(version: Version) -> EtherType
 }
 
 // Whether the frame carries an IP packet of this version.
-fn is_ip(version: Version, packet: &SlicedPacket) -> bool
+#[inline(always)]
+pub(crate) fn is_ip(version: Version, packet: &SlicedPacket) -> bool
     ensures value { IsTrue result ↔ IsIp version packet.now }
 {
     match &packet.net {
@@ -155,7 +156,7 @@ fn carries(transport: Option<Transport>, ip: &IpSlice) -> bool
 
 // Whether the ports of an IP packet at these ends are within a range.
 #[inline(always)]
-fn has_ports(
+pub(crate) fn has_ports(
     transport: Option<Transport>,
     direction: Option<Direction>,
     low: u16,
@@ -179,6 +180,7 @@ fn has_ports(
 }
 
 // Whether the Ethernet addresses of a frame at these ends are this.
+#[inline(never)]
 fn has_hardware(direction: Option<Direction>, address: [u8; 6], link: &Option<LinkSlice>) -> bool
     ensures value { IsTrue result ↔ IsSomeAnd (ethernet_header link.now)
         (HasHardware direction address) }
@@ -219,6 +221,7 @@ fn is_tag_of(identifier: Option<u16>, tag: &SingleVlanHeaderSlice) -> bool
 }
 
 // Whether a checksum of a packet is wrong: that of its IPv4 header, or that of its payload.
+#[inline(never)]
 fn has_wrong_checksum(lax: &LaxSlicedPacket) -> bool
     ensures value { IsTrue result ↔ HasWrongChecksum lax.now }
 {

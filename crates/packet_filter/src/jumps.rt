@@ -3,11 +3,12 @@
 
 ghost use Rattle.std.specs.Prelude.{◌≡◌, ◌+◌, ◌<◌, ◌≤◌, if◌then◌else◌, length};
 ghost use Rattle.arrayvec.specs.ArrayVec.{array_vec_len};
-ghost use Rattle.packet_filter.specs.Jumps.{Operands, but_last, in_order, jump_by, jumps_of};
+ghost use Rattle.packet_filter.specs.Jumps.{Operands, but_last, decisions_of, in_order, jump_by};
 ghost use Rattle.packet_filter.specs.Jumps.{with_operands};
 
 use crate::expression::Operator;
 use crate::filter::Step;
+use crate::quick::{Quick, quick_of_step};
 use arrayvec::ArrayVec;
 
 /// The places where an expression goes on after a test. A place is one more than the number of steps
@@ -37,12 +38,21 @@ struct Operand {
     no: Option<u8>,
 }
 
-/// The jump of each step, that of the last step first.
-pub(crate) fn jumps_of(steps: &[Step]) -> ArrayVec<Jump, 64>
+/// What is asked at a step, and where it goes on.
+#[derive(Clone, Copy, Debug, Default)]
+pub(crate) struct Decision {
+    /// What is asked.
+    pub quick: Quick,
+    /// Where it goes on.
+    pub jump: Jump,
+}
+
+/// What is asked at each step, and its jump, those of the last step first.
+pub(crate) fn decisions_of(steps: &[Step]) -> ArrayVec<Decision, 64>
     requires few { length steps.now ≤ 64 }
-    ensures value { result.items ≡ jumps_of steps.now }
+    ensures value { result.items ≡ decisions_of steps.now }
 {
-    let mut jumps = ArrayVec::new();
+    let mut decisions = ArrayVec::new();
     let mut operands = ArrayVec::new();
     operands.push(Operand {
         yes: None,
@@ -50,12 +60,15 @@ pub(crate) fn jumps_of(steps: &[Step]) -> ArrayVec<Jump, 64>
     });
     let mut rest = steps;
     'steps: while let Some((step, before)) = rest.split_last() {
-        let jump = jump_by(&mut operands, jumps.len() as u8 + 1);
+        let jump = jump_by(&mut operands, decisions.len() as u8 + 1);
         push_operands(step, jump, &mut operands);
-        jumps.push(jump);
+        decisions.push(Decision {
+            quick: quick_of_step(step),
+            jump,
+        });
         rest = before;
     }
-    jumps
+    decisions
 }
 
 // Takes the last operand, and says where its answer leads before the place that comes next.

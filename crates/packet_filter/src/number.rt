@@ -15,6 +15,7 @@ use packet::vlan::VlanSlice;
 use std::marker::Model;
 
 // Whether a packet tells a number, of which the bits of the mask are in this relation to another.
+#[inline(never)]
 pub(crate) fn is_number(
     quantity: Quantity,
     mask: Option<u32>,

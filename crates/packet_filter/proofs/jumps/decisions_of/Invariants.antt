@@ -1,17 +1,17 @@
 use Rattle.std.proofs.Common.{◌≡◌, ◌+◌, ◌≤◌, List, ◌++◌, length}
 use Rattle.arrayvec.specs.ArrayVec.{array_vec_len}
-use Rattle.packet_filter.specs.Jumps.{in_order, jumps_of, operands_of}
+use Rattle.packet_filter.specs.Jumps.{decisions_of, in_order, operands_of}
 use Rattle.packet_filter.specs.declared.filter.Step.{Step}
-use Rattle.packet_filter.proofs.jumps.jumps_of.Given as goal
+use Rattle.packet_filter.proofs.jumps.decisions_of.Given as goal
 
 abbrev pub invariant-steps : goal.invariant-steps
 invariant-steps l = record {
   done : List Step;
   parts : l.steps ≡ l.rest ++ done;
-  jumps : l.jumps.items ≡ jumps_of done;
+  jumps : l.decisions.items ≡ decisions_of done;
   operands : l.operands.items ≡ in_order (operands_of done);
-  few : array_vec_len l.operands ≤ array_vec_len l.jumps + 1;
-  len : length l.rest + array_vec_len l.jumps ≡ length l.steps;
+  few : array_vec_len l.operands ≤ array_vec_len l.decisions + 1;
+  len : length l.rest + array_vec_len l.decisions ≡ length l.steps;
 }
 
 abbrev pub decreases-steps : goal.decreases-steps

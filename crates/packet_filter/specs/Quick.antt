@@ -1,0 +1,53 @@
+-- Tests in which all that the packet does not say is computed before. No public clause cites it: a
+-- reader may skip it.
+use Rattle.std.specs.Prelude.{ℕ, ◌≡◌, ◌-◌, ◌/◌, ◌%◌, ◌^◌, ◌≤◌, ◌⊎◌, IsSomeAnd, None, Option, Some}
+use Rattle.packet.specs.declared.lax_sliced_packet.LaxSlicedPacket.{LaxSlicedPacket}
+use Rattle.packet_filter.specs.Meaning.{HasPorts, HasProto, Holds, IsIp, destination_address}
+use Rattle.packet_filter.specs.Meaning.{source_address}
+use Rattle.packet_filter.specs.declared.address.Address.{Address}
+use Rattle.packet_filter.specs.declared.address.Address.TheVariants.{V4, V6}
+use Rattle.packet_filter.specs.declared.expression.Direction.TheVariants as direction
+use Rattle.packet_filter.specs.declared.expression.Primitive.{Primitive}
+use Rattle.packet_filter.specs.declared.expression.Primitive.TheVariants as primitive
+use Rattle.packet_filter.specs.declared.filter.Step.{Step}
+use Rattle.packet_filter.specs.declared.filter.Step.TheVariants as step
+use Rattle.packet_filter.specs.declared.quick.Quick.{Quick}
+use Rattle.packet_filter.specs.declared.quick.Quick.TheVariants as quick
+
+-- the test that a primitive is
+abbrev pub quick_of : Primitive → Quick
+quick_of (primitive.Version v) = quick.Version v
+quick_of (primitive.Proto None number) = quick.Proto number
+quick_of (primitive.Ports t None low high) = quick.Ports t low high
+quick_of (primitive.Net None (Some direction.Source) (V4 a) bits) =
+    quick.Source (32 - bits) (a / 2 ^ (32 - bits))
+quick_of (primitive.Net None (Some direction.Destination) (V4 a) bits) =
+    quick.Destination (32 - bits) (a / 2 ^ (32 - bits))
+quick_of (primitive.Net None None (V4 a) bits) = quick.Host (32 - bits) (a / 2 ^ (32 - bits))
+quick_of p = quick.Other
+
+-- and a step
+abbrev pub quick_of_step : Step → Quick
+quick_of_step (step.Test p) = quick_of p
+quick_of_step s = quick.Other
+
+-- An IPv4 address without so many of its last bits is this number. A shift is by 63 at most.
+abbrev pub HasFront : ℕ → ℕ → Address → Type 0
+HasFront others front (V4 a) = a / 2 ^ (others % 64) ≡ front
+HasFront others front (V6 a) = ⊥
+
+-- what a test asks of a packet; any other is that of the step
+abbrev pub Asks : Quick → Step → LaxSlicedPacket → ℕ → Type 0
+Asks (quick.Version v) s lax len = IsIp v lax.packet
+Asks (quick.Proto number) s lax len = HasProto None number lax.packet
+Asks (quick.Ports t low high) s lax len =
+    IsSomeAnd lax.packet.net (HasPorts t None (λ port. (low ≤ port) × (port ≤ high)))
+Asks (quick.Source others front) s lax len =
+    IsSomeAnd (source_address lax.packet) (HasFront others front)
+Asks (quick.Destination others front) s lax len =
+    IsSomeAnd (destination_address lax.packet) (HasFront others front)
+Asks (quick.Host others front) s lax len =
+    IsSomeAnd (source_address lax.packet) (HasFront others front)
+    ⊎ IsSomeAnd (destination_address lax.packet) (HasFront others front)
+Asks quick.Other (step.Test p) lax len = Holds p lax len
+Asks quick.Other s lax len = ⊥

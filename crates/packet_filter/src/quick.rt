@@ -1,0 +1,169 @@
+//! Tests in which all that the packet does not say is computed before.
+
+ghost use Rattle.std.specs.Prelude.{◌≡◌, ◌/◌, ◌%◌, ◌^◌, ◌≤◌, ◌↔◌, IsSomeAnd, IsTrue};
+ghost use Rattle.std.specs.Int.{from_be_bytes, w32};
+ghost use Rattle.packet_filter.specs.Meaning.{arp_address, destination_address, source_address};
+ghost use Rattle.packet_filter.specs.Quick.{Asks, HasFront, quick_of, quick_of_step};
+
+use crate::address::{Address, is_arp_of_ipv4};
+use crate::expression::{Direction, Primitive, Transport, Version};
+use crate::filter::Step;
+use crate::holds::{has_ports, has_proto, is_ip};
+use etherparse::IpNumber;
+use packet::lax_sliced_packet::LaxSlicedPacket;
+use packet::sliced_packet::SlicedPacket;
+use packet_parts::ip_slice::IpHeaderSlice;
+
+/// What a step asks of a packet.
+#[derive(Clone, Copy, Debug, Default)]
+pub(crate) enum Quick {
+    /// It is an IP packet of this version.
+    Version(Version),
+    /// The payload of the IP packet has this number.
+    Proto(u8),
+    /// One of the ports of this transport protocol or any is within a range.
+    Ports(Option<Transport>, u16, u16),
+    /// The IPv4 address of the sender, without so many of its last bits, is this number.
+    Source(u8, u32),
+    /// That of the receiver is.
+    Destination(u8, u32),
+    /// One of them is.
+    Host(u8, u32),
+    /// Anything else: see the step.
+    #[default]
+    Other,
+}
+
+/// The test that a step is.
+pub(crate) fn quick_of_step(step: &Step) -> Quick
+    ensures value { result ≡ quick_of_step step.now }
+{
+    match step {
+        Step::Test(primitive) => quick_of(primitive),
+        Step::Not | Step::Operator(_) => Quick::Other,
+    }
+}
+
+// The test that a primitive is.
+fn quick_of(primitive: &Primitive) -> Quick
+    ensures value { result ≡ quick_of primitive.now }
+{
+    match primitive {
+        Primitive::Version(version) => Quick::Version(*version),
+        Primitive::Proto(None, number) => Quick::Proto(*number),
+        Primitive::Ports(transport, None, low, high) => Quick::Ports(*transport, *low, *high),
+        Primitive::Net(None, direction, Address::V4(address), bits) => {
+            let others = 32u8.saturating_sub(*bits);
+            let front = front_of(*address, others);
+            match direction {
+                None => Quick::Host(others, front),
+                Some(Direction::Source) => Quick::Source(others, front),
+                Some(Direction::Destination) => Quick::Destination(others, front),
+                Some(Direction::Either | Direction::Both) => Quick::Other,
+            }
+        }
+        _ => Quick::Other,
+    }
+}
+
+// An IPv4 address without so many of its last bits, as a number.
+#[inline(always)]
+fn front_of(address: u32, others: u8) -> u32
+    requires few { others ≤ 32 }
+    ensures value { result ≡ address / 2 ^ others }
+{
+    (u64::from(address) >> others) as u32
+}
+
+impl Quick {
+    /// Whether a packet is what it asks for, or else what the step asks for.
+    #[inline(always)]
+    pub(crate) fn holds(self, step: &Step, lax: &LaxSlicedPacket, len: usize) -> bool
+        ensures value { IsTrue result ↔ Asks self step.now lax.now len }
+    {
+        let packet = &lax.packet;
+        match self {
+            Quick::Version(version) => is_ip(version, packet),
+            Quick::Proto(number) => has_proto(None, IpNumber(number), packet),
+            Quick::Ports(transport, low, high) => match &packet.net {
+                Some(ip) => has_ports(transport, None, low, high, ip),
+                None => false,
+            },
+            Quick::Source(others, front) => has_source(others, front, packet),
+            Quick::Destination(others, front) => has_destination(others, front, packet),
+            Quick::Host(others, front) => {
+                has_source(others, front, packet) | has_destination(others, front, packet)
+            }
+            Quick::Other => other_holds(step, lax, len),
+        }
+    }
+}
+
+// Whether a packet is what a step asks for.
+#[inline(never)]
+fn other_holds(step: &Step, lax: &LaxSlicedPacket, len: usize) -> bool
+    ensures value { IsTrue result ↔ Asks Quick.Other step.now lax.now len }
+{
+    match step {
+        Step::Test(primitive) => primitive.holds(lax, len),
+        Step::Not | Step::Operator(_) => false,
+    }
+}
+
+// Whether the IPv4 address of the sender, without so many of its last bits, is this number.
+#[inline(always)]
+fn has_source(others: u8, front: u32, packet: &SlicedPacket) -> bool
+    ensures value { IsTrue result ↔
+        IsSomeAnd (source_address packet.now) (HasFront others front) }
+{
+    match &packet.net {
+        Some(ip) => match &ip.header {
+            IpHeaderSlice::Ipv4(view) => is_front(others, front, view.source()),
+            IpHeaderSlice::Ipv6(_) => false,
+        },
+        None => has_front_in_arp(others, front, 14, packet),
+    }
+}
+
+// The same of the receiver.
+#[inline(always)]
+fn has_destination(others: u8, front: u32, packet: &SlicedPacket) -> bool
+    ensures value { IsTrue result ↔
+        IsSomeAnd (destination_address packet.now) (HasFront others front) }
+{
+    match &packet.net {
+        Some(ip) => match &ip.header {
+            IpHeaderSlice::Ipv4(view) => is_front(others, front, view.destination()),
+            IpHeaderSlice::Ipv6(_) => false,
+        },
+        None => has_front_in_arp(others, front, 24, packet),
+    }
+}
+
+// The same of an address at a place in an ARP packet.
+#[inline(never)]
+fn has_front_in_arp(others: u8, front: u32, place: usize, packet: &SlicedPacket) -> bool
+    requires small { place ≤ 24 }
+    ensures value { IsTrue result ↔
+        IsSomeAnd (arp_address place packet.now) (HasFront others front) }
+{
+    let payload = packet.payload;
+    if !is_arp_of_ipv4(packet.ether_type, payload) || payload.len() < place + 4 {
+        return false;
+    }
+    let found = [
+        payload[place],
+        payload[place + 1],
+        payload[place + 2],
+        payload[place + 3],
+    ];
+    is_front(others, front, found)
+}
+
+// Whether an IPv4 address without so many of its last bits is this number.
+#[inline(always)]
+fn is_front(others: u8, front: u32, found: [u8; 4]) -> bool
+    ensures value { IsTrue result ↔ (from_be_bytes w32 found / 2 ^ (others % 64) ≡ front) }
+{
+    u64::from(u32::from_be_bytes(found)) >> (others % 64) == u64::from(front)
+}
