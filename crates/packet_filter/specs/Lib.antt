@@ -9,5 +9,6 @@ pub mod Names
 pub mod Numbers
 pub mod Private
 pub mod Program
+pub mod Quick
 pub mod Text
 pub mod Values

@@ -16,6 +16,7 @@ mod names;
 mod number;
 mod numbers;
 mod partial;
+mod quick;
 mod reading;
 mod text;
 mod token;
