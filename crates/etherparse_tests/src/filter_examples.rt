@@ -3,7 +3,7 @@
 
 use packet::lax_sliced_packet::LaxSlicedPacket;
 use packet::link::LinkType;
-use packet_filter::{Filter, FilterError};
+use packet_filter::{Expected, Filter, FilterError};
 use std::test::Fail;
 
 #[test]
@@ -11,12 +11,24 @@ fn texts_and_refusals(rt: HostRuntime) -> Result<(), Fail> {
     assert!(rt; Filter::from_text(b"tcp port 80 or udp port 53").is_ok());
     // `prot` is no word of the language.
     let refused = Filter::from_text(b"tcp prot 80");
-    assert!(rt; matches!(refused, Err(FilterError::Unexpected { place: 4 })));
-    let refused = Filter::from_text(b"not (tcp or");
-    assert!(rt; matches!(refused, Err(FilterError::Incomplete)));
+    let expected = Expected::AfterTransport;
+    assert!(rt; refused == Err(FilterError::Unexpected { place: 4, expected }));
+    // `)` is missing.
+    let refused = Filter::from_text(b"not (tcp or udp");
+    assert!(rt; matches!(refused, Err(FilterError::Incomplete { .. })));
     // Parentheses have to say which of `and` and `or` comes first.
     let refused = Filter::from_text(b"udp or tcp and port 22");
-    assert!(rt; matches!(refused, Err(FilterError::Unexpected { place: 11 })));
+    assert!(rt; matches!(refused, Err(FilterError::Mixed { place: 11, .. })));
+    // Labels of MPLS are in pcap-filter(7), and not here.
+    let refused = Filter::from_text(b"ip or mpls");
+    assert!(rt; matches!(refused, Err(FilterError::Unsupported { place: 6 })));
+    Ok(())
+}
+
+#[test]
+fn place_of_a_refusal(rt: HostRuntime) -> Result<(), Fail> {
+    let refused = Filter::from_text(b"tcp prot 80");
+    assert!(rt; refused.is_err_and(|error| error.place() == Some(4)));
     Ok(())
 }
 
