@@ -1,19 +1,16 @@
 -- Each expression of the grammar is read, to its steps.
-use Rattle.std.proofs.Common.{◌≡◌, ℕ, ◌≤◌, Bool, true, false, cond, List, [], ◌∷◌, ◌++◌, Option, Some, None, refl, sym, ap, ◌∙◌, subst, append_assoc}
-use Rattle.std.specs.Prelude.{nat_le}
+use Rattle.std.proofs.Common.{◌≡◌, ℕ, Bool, true, false, cond, List, [], ◌∷◌, ◌++◌, Option, Some, None, refl, sym, ap, ◌∙◌, subst, append_assoc}
 use Rattle.std.proofs.lemmas.Bool.{le-leb}
 use Rattle.std.proofs.lemmas.List.{append-nil}
 use Rattle.packet_filter.specs.Meaning.{Expression, one, negation, compound}
 use Rattle.packet_filter.specs.Program.{and_then}
-use Rattle.packet_filter.specs.Grammar.{IsHead, host, directed, net, port, portrange, proto, ether_host, ether_directed, ether_proto, IsPrimitive, word, vlan, less, greater, ether_broadcast, ether_multicast, multicast, first_fragment, checksum_wrong, comparison, AreBits, single, with, IsConstant, number, list, IsTerm, len, load, masked_, grouped, Kind, operand, chain, Reads, primitive, headed, value, not_, parentheses, first, more, IsExpression, direction_words, network_words, transport_words, first_head, value_of, alone, layer_of, loads_at}
-use Rattle.packet_filter.specs.Private.Machine.{State, complete, put, found, after_word, outcome, finish, finish_state, after, step_of, step_operand, step_progress, on_progress, completed, head_of, is_only, start, values_after, within_at}
+use Rattle.packet_filter.specs.Grammar.{IsHead, host, directed, net, port, portrange, proto, ether_host, ether_directed, ether_proto, IsPrimitive, word, vlan, less, greater, ether_broadcast, ether_multicast, multicast, first_fragment, checksum_wrong, comparison, AreBits, single, with, IsConstant, number, list, IsTerm, len, load, masked_, grouped, Kind, operand, chain, Reads, primitive, headed, value, not_, parentheses, first, more, IsExpression, direction_words, first_head, value_of, alone, layer_of, loads_at}
+use Rattle.packet_filter.specs.Private.Machine.{State, complete, put, found, after_word, outcome, finish, finish_state, after, step_of, step_operand, step_progress, on_progress, completed, is_only, start}
 use Rattle.packet_filter.specs.declared.address.Address.{Address}
 use Rattle.packet_filter.specs.declared.expression.Direction.{Direction}
 use Rattle.packet_filter.specs.declared.expression.Direction.TheVariants as direction
 use Rattle.packet_filter.specs.declared.expression.Layer.{Layer}
-use Rattle.packet_filter.specs.declared.expression.Layer.TheVariants as layer
 use Rattle.packet_filter.specs.declared.expression.Network.{Network}
-use Rattle.packet_filter.specs.declared.expression.Network.TheVariants as network
 use Rattle.packet_filter.specs.declared.expression.Operator.{Operator as Joiner}
 use Rattle.packet_filter.specs.declared.expression.Operator.TheVariants.{And, Or}
 use Rattle.packet_filter.specs.declared.expression.Primitive.{Primitive}
@@ -213,6 +210,7 @@ value_alone false (token.IpNumber n) h p e ws out = ap (λ o. on_progress (found
 value_alone false (token.Hardware a) h p e ws out = ap (λ o. on_progress (found h o) ws out) e
 value_alone false (token.TypeName n) h p e ws out = ap (λ o. on_progress (found h o) ws out) e
 value_alone _ _ h p e ws out = cc
+
 -- ---- words that stand alone
 
 -- the state after an expression of a kind

@@ -1,15 +1,15 @@
 -- What can follow the words that were read.
-use Rattle.std.proofs.Common.{zero, suc, lit≤, ◌≡◌, ℕ, Bool, true, false, List, [], ◌∷◌, ◌++◌, Option, Some, None, refl, sym, ap, ◌∙◌, subst, append_assoc, inr, arith}
+use Rattle.std.proofs.Common.{zero, suc, lit≤, ◌≡◌, ℕ, Bool, false, List, [], ◌∷◌, ◌++◌, Option, Some, None, refl, sym, ap, ◌∙◌, subst, append_assoc, inr}
 use Rattle.std.proofs.lemmas.List.{append-nil}
 use Rattle.std.specs.Prelude.{bit_or, codes}
 use Rattle.std.proofs.lemmas.Fmt.{decimal_digit}
 use Rattle.std.specs.Net.Addr.{ipv4_bits, ipv6_bits}
 use Rattle.std.specs.Net.Text.{dotted_text}
 use Rattle.std.specs.declared.net.ip_addr.IpAddr.TheVariants as Ip
-use Rattle.packet_filter.specs.Addresses.{IsAddress, SpellsAddress}
+use Rattle.packet_filter.specs.Addresses.{IsAddress}
 use Rattle.packet_filter.specs.Language.{AreSpelled}
 use Rattle.packet_filter.specs.Names.{name_of}
-use Rattle.packet_filter.specs.Text.{Spells, words_of}
+use Rattle.packet_filter.specs.Text.{words_of}
 use Rattle.packet_filter.specs.Values.{named_value_of}
 use Rattle.packet_filter.proofs.Complete.{EndsOperand, Takes, alone_ends, amid, any_takes, ether_takes, expects, head_takes, network_takes, value_alone}
 use Rattle.packet_filter.proofs.Sound.{Amid, Begun, Opens, Read, Stands, StandsAt, read_at_end, stands_on}

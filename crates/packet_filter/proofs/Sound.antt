@@ -1,12 +1,12 @@
 -- What was read so far is the front of an expression, and what is read is that expression.
 use Rattle.std.proofs.Common.{◌≡◌, ℕ, Bool, true, false, cond, List, [], ◌∷◌, ◌++◌, Option, Some, None, refl, sym, ap, ◌∙◌, subst, append_assoc, inl, inr}
-use Rattle.std.specs.Prelude.{◌⊎◌, nat_le, bit_or}
+use Rattle.std.specs.Prelude.{◌⊎◌, nat_le}
 use Rattle.std.proofs.lemmas.Bool.{leb-true}
 use Rattle.packet_filter.proofs.Complete.{postfix, IsBase, some_same}
 use Rattle.packet_filter.specs.Meaning.{Expression, one, negation, compound}
 use Rattle.packet_filter.specs.Program.{and_then}
-use Rattle.packet_filter.specs.Grammar.{IsHead, host, directed, net, port, portrange, proto, ether_host, ether_directed, ether_proto, IsPrimitive, word, vlan, less, greater, ether_broadcast, ether_multicast, multicast, first_fragment, checksum_wrong, comparison, AreBits, single, with, IsConstant, number, list, IsTerm, len, load, masked_, grouped, Kind, operand, chain, Reads, primitive, headed, value, not_, parentheses, first, more, IsExpression, direction_words, network_words, transport_words, first_head, value_of, alone, layer_of, loads_at}
-use Rattle.packet_filter.specs.Private.Machine.{State, complete, put, found, valued, finish, finish_state, finish_at, finish_doing, after, after_doing, step_of, step_state, step_operand, step_operator, step_progress, step_within, completed, close, closes_term, tail_of, on_progress, or_value, chosen, operand_at, waiting_of, head_of, is_only, values_after, within_at, begin, next, whole, given, joined, start, after_network, after_transport, after_protocol, after_vlan, after_word, after_ether, after_any, after_of_network, after_of_transport, after_of_ether, after_scope, after_source, after_direction, after_joined, after_bracket, after_placed, after_and, after_term, after_use, after_opened, after_listed, after_bar}
+use Rattle.packet_filter.specs.Grammar.{IsHead, host, directed, net, port, portrange, proto, ether_host, ether_directed, ether_proto, IsPrimitive, word, vlan, less, greater, ether_broadcast, ether_multicast, multicast, first_fragment, checksum_wrong, comparison, AreBits, single, with, IsConstant, number, list, IsTerm, len, load, masked_, grouped, Kind, operand, chain, Reads, primitive, headed, value, not_, parentheses, first, more, IsExpression, direction_words, first_head, value_of, alone, layer_of, loads_at}
+use Rattle.packet_filter.specs.Private.Machine.{State, complete, put, found, finish, finish_state, finish_at, finish_doing, after, after_doing, step_of, step_state, step_operator, step_progress, completed, close, closes_term, tail_of, on_progress, or_value, chosen, operand_at, waiting_of, head_of, is_only, values_after, within_at, begin, next, whole, given, start, after_network, after_transport, after_protocol, after_vlan, after_word, after_ether, after_any, after_of_network, after_of_transport, after_of_ether, after_scope, after_source, after_direction, after_joined, after_bracket, after_placed, after_and, after_term, after_use, after_opened, after_listed, after_bar}
 use Rattle.packet_filter.specs.declared.expression.Direction.{Direction}
 use Rattle.packet_filter.specs.declared.expression.Direction.TheVariants as direction
 use Rattle.packet_filter.specs.declared.expression.Layer.{Layer}

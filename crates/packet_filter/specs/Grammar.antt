@@ -135,12 +135,13 @@ ethernet_broadcast =
 abbrev pub ip_multicast : Version → Primitive
 ip_multicast v = says.Net (Some (network.Ip v)) (Some direction.Destination) (prefix v) (bits v)
   where
-  prefix : Version → Address
-  prefix Ipv4 = V4 (224 * 2 ^ 24)
-  prefix Ipv6 = V6 (255 * 2 ^ 120)
-  bits : Version → ℕ
-  bits Ipv4 = 4
-  bits Ipv6 = 8
+    prefix : Version → Address
+    prefix Ipv4 = V4 (224 * 2 ^ 24)
+    prefix Ipv6 = V6 (255 * 2 ^ 120)
+
+    bits : Version → ℕ
+    bits Ipv4 = 4
+    bits Ipv6 = 8
 
 -- the EtherTypes of ARP (RFC 826) and RARP (RFC 903)
 abbrev pub network_primitive : Network → Primitive

@@ -14,8 +14,9 @@ ghost use Rattle.packet_filter.specs.Private.Machine.{head_of, made, next, scope
 ghost use Rattle.packet_filter.specs.Private.Machine.{whole};
 
 use crate::address::Address;
-use crate::expression::{Direction, Layer, Network, Operator, Primitive, Quantity, Relation, Size};
-use crate::expression::{Transport, Version};
+use crate::expression::{
+    Direction, Layer, Network, Operator, Primitive, Quantity, Relation, Size, Transport, Version,
+};
 use crate::head::Head;
 use crate::token::Token;
 
@@ -225,9 +226,7 @@ fn alone(word: Token) -> Option<Primitive>
 {
     match word {
         Token::Network(network) => Some(network_primitive(network)),
-        Token::Transport(transport) => {
-            Some(Primitive::Proto(None, transport_number(transport)))
-        }
+        Token::Transport(transport) => { Some(Primitive::Proto(None, transport_number(transport))) }
         Token::Protocol(version, number) => Some(Primitive::Proto(version, number)),
         Token::EtherType(number) => Some(Primitive::EtherType(number)),
         Token::Broadcast => Some(ethernet_broadcast()),
