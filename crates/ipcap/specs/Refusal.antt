@@ -1,8 +1,7 @@
 -- The lines on arguments that are refused.
 use Rattle.std.specs.Prelude.{ℕ, ◌&&◌, List, ◌++◌, codes, if◌then◌else◌, length, map, nat_lt}
 use Rattle.std.specs.Prelude.{replicate, unwrap_or}
-use Rattle.packet_filter.specs.Frame.{place_in_text}
-use Rattle.packet_filter.specs.Language.{filter_error_text}
+use Rattle.packet_filter.specs.Language.{filter_error_place, filter_error_text}
 use Rattle.packet_filter.specs.Text.{is_space}
 use Rattle.packet_filter.specs.declared.reading.FilterError.{FilterError}
 use Rattle.ipcap.specs.declared.arguments.ArgumentError.{ArgumentError}
@@ -22,5 +21,5 @@ shown_byte c = if is_space c then 32 else if nat_lt 32 c && nat_lt c 127 then c 
 -- word begins that cannot stand there, or after the end.
 unfoldable pub refusal_lines : List ℕ → FilterError → List ℕ
 refusal_lines text error = filter_error_text error ++ (codes "\n" ++ (map shown_byte text
-    ++ (codes "\n" ++ (replicate (unwrap_or (place_in_text error) (length text)) 32
+    ++ (codes "\n" ++ (replicate (unwrap_or (filter_error_place error) (length text)) 32
     ++ codes "^\n"))))
