@@ -250,68 +250,6 @@ no_expressions() {
 first, as in \`(a or b) and c\` or \`a or (b and c)\`." 'udp or tcp and port 22' 11 udp or tcp and port 22
     no_expression 'The word of pcap-filter(7) at byte 6 is not part of the language.' 'ip or mpls' 6 ip or mpls
     printf -v blanks '%4093s' ''
-    chosen 2 "$(closing '1 of 6' 1 0 0 0 0)" "${blanks}tcp"
-    chosen 2 "$(closing '1 of 6' 1 0 0 0 0)" "${blanks:1}" tcp
-    for words in '' ' ' $' \t\r\n'; do
-        chosen '1 2 3 4 5 6' "$(closing 6 3 1 2 1 1)" "$words"
-        chosen '1 2 3 4 5 6' "$(closing 6 3 1 2 1 1)" "$words" ''
-    done
-    bytes 0 430 >"$room/input"
-    numbered 5 >"$room/wanted"
-    {
-        echo 'error: the last record is cut off: it needs 16 bytes, and there are 12'
-        closing '1 of 5' 0 0 1 0 0
-    } >"$room/wanted.errors"
-    run arp
-    judge "the expression 'arp', on a capture that is cut off" $? 1
-}
-
-# Every sixth record of many, which have more lines than the program keeps before it writes them.
-many_chosen() {
-    cp "$room/many" "$room/input"
-    awk 'NR % 6 == 3' "$room/many.wanted" >"$room/wanted"
-    closing '11000 of 66000' 0 11000 0 0 0 >"$room/wanted.errors"
-    run icmp6
-    judge 'many records with an expression' $? 0
-    in_pieces 64 icmp6
-    judge 'many records with an expression, in pieces of 64 bytes' $? 0
-}
-
-# no_expression ERROR SHOWN MARK ARGUMENT..: these arguments are no expression, for this reason; they
-# are shown like this, and the mark stands under this byte. Nothing is read.
-no_expression() {
-    : >"$room/wanted"
-    {
-        echo "Expression Error: $1"
-        echo "$2"
-        printf '%*s^\n' "$3" ''
-    } >"$room/wanted.errors"
-    run "${@:4}"
-    judge "the expression '$2'" $? 2
-    run --quiet "${@:4}"
-    judge "the expression '$2', quiet" $? 2
-    cp "$room/input" "$room/wanted"
-    {
-        "$program" "${@:4}" 2>"$room/errors"
-        cat >"$room/output"
-    } <"$room/input"
-    judge "what the expression '$2' leaves of the input" 2 2
-}
-
-no_expressions() {
-    cp stdin "$room/input"
-    no_expression 'The word at byte 4 cannot stand there.' 'tcp prot 80' 4 tcp prot 80
-    no_expression 'The word at byte 4 cannot stand there.' 'tcp prot 80' 4 'tcp prot 80'
-    no_expression 'The word at byte 5 cannot stand there.' 'tcp  prot 80' 5 tcp '' prot 80
-    no_expression 'The word at byte 0 cannot stand there.' 'no/such/file' 0 no/such/file
-    no_expression 'The word at byte 0 cannot stand there.' 'stdin' 0 stdin
-    no_expression 'The word at byte 4 cannot stand there.' 'tcp -r' 4 tcp -r
-    no_expression 'The word at byte 1 cannot stand there.' ' --quiet' 1 '' --quiet
-    no_expression 'It ends where more words have to follow.' 'not (tcp or' 11 'not (tcp or'
-    no_expression 'It ends where more words have to follow.' 'not ' 4 not ''
-    no_expression 'The word at byte 5 cannot stand there.' 'tcp  ?[2J? ~ ????' 5 \
-        $'tcp\n\t\e[2J\a\r~ \303\251\377\177'
-    printf -v blanks '%4093s' ''
     : >"$room/wanted"
     echo 'error: the expression has more than 4096 bytes' >"$room/wanted.errors"
     run "${blanks}arp "
