@@ -1,5 +1,5 @@
 -- What a quick test asks for is what its primitive says.
-use Rattle.std.proofs.Common.{◌≡◌, ◌↔◌, ◌⊎◌, ℕ, ◌-◌, ◌/◌, ◌%◌, ◌^◌, Option, Some, None, arith, inl, inr, sym}
+use Rattle.std.proofs.Common.{◌≡◌, ◌↔◌, ℕ, ◌-◌, ◌/◌, ◌%◌, ◌^◌, Option, Some, None, arith, inl, inr, sym}
 use Rattle.std.specs.Prelude.{IsSomeAnd}
 use Rattle.packet.specs.declared.lax_sliced_packet.LaxSlicedPacket.{LaxSlicedPacket}
 use Rattle.packet_filter.specs.Meaning.{Holds, IsWithin, destination_address, source_address}

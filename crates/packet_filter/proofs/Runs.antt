@@ -1,5 +1,5 @@
 -- Jumps end at the right answer.
-use Rattle.std.proofs.Common.{◌≡◌, ◌≢◌, ◌↔◌, IsTrue, Bool, true, false, if◌then◌else◌, ◌==◌, ℕ, ◌+◌, ◌-◌, ◌<◌, ◌≤◌, ◌⊎◌, List, [], ◌∷◌, ◌++◌, ◌∙◌, ap, length, length-append, length-drop, drop, drop-cons, get_or, take, Option, Some, None, arith, inl, inr, refl, subst, suc, sym, unwrap_or}
+use Rattle.std.proofs.Common.{◌≡◌, ◌↔◌, IsTrue, Bool, true, false, if◌then◌else◌, ◌==◌, ℕ, ◌+◌, ◌-◌, ◌<◌, ◌≤◌, ◌⊎◌, List, [], ◌∷◌, ◌++◌, ◌∙◌, ap, length, length-append, length-drop, drop, drop-cons, get_or, take, Option, Some, None, arith, inl, inr, refl, subst, suc, sym, unwrap_or}
 use Rattle.std.proofs.lemmas.List.{drop_all, get_or_append_left, get_or_at, take-append-drop}
 use Rattle.std.proofs.lemmas.Bool.Decides.{Decides-eqb}
 use Rattle.std.specs.Prelude.{IfSome}
