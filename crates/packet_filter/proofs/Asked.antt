@@ -3,7 +3,7 @@ use Rattle.std.proofs.Common.{◌≡◌, ◌↔◌, ℕ, ◌-◌, ◌/◌, ◌%�
 use Rattle.std.specs.Prelude.{IsSomeAnd}
 use Rattle.packet.specs.declared.lax_sliced_packet.LaxSlicedPacket.{LaxSlicedPacket}
 use Rattle.packet_filter.specs.Meaning.{Holds, IsWithin, destination_address, source_address}
-use Rattle.packet_filter.specs.Quick.{Asks, HasFront, quick_of}
+use Rattle.packet_filter.specs.Private.Quick.{Asks, HasFront, quick_of}
 use Rattle.packet_filter.specs.declared.address.Address.{Address}
 use Rattle.packet_filter.specs.declared.address.Address.TheVariants.{V4, V6}
 use Rattle.packet_filter.specs.declared.expression.Direction.TheVariants as direction

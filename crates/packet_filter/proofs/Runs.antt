@@ -4,10 +4,10 @@ use Rattle.std.proofs.lemmas.List.{drop_all, get_or_append_left, get_or_at, take
 use Rattle.std.proofs.lemmas.Bool.Decides.{Decides-eqb}
 use Rattle.std.specs.Prelude.{IfSome}
 use Rattle.packet.specs.declared.lax_sliced_packet.LaxSlicedPacket.{LaxSlicedPacket}
-use Rattle.packet_filter.specs.Jumps.{Operands, but_last, jump_before, decisions_of, jump_by, operands_of, with_operands}
+use Rattle.packet_filter.specs.Private.Jumps.{Operands, but_last, jump_before, decisions_of, jump_by, operands_of, with_operands}
 use Rattle.packet_filter.specs.Meaning.{Expression, Holds, Matches, compound, negation, one}
 use Rattle.packet_filter.specs.Program.{and_then, built, stepped}
-use Rattle.packet_filter.specs.Quick.{Asks, quick_of, quick_of_step}
+use Rattle.packet_filter.specs.Private.Quick.{Asks, quick_of, quick_of_step}
 use Rattle.packet_filter.proofs.Asked.{asks_what_holds}
 use Rattle.packet_filter.specs.declared.expression.Operator.TheVariants.{And, Or}
 use Rattle.packet_filter.specs.declared.expression.Primitive.{Primitive}

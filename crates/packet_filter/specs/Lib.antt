@@ -2,13 +2,11 @@ pub mod Addresses
 pub mod Expected
 pub mod Frame
 pub mod Grammar
-pub mod Jumps
 pub mod Language
 pub mod Meaning
 pub mod Names
 pub mod Numbers
 pub mod Private
 pub mod Program
-pub mod Quick
 pub mod Text
 pub mod Values

@@ -16,7 +16,7 @@ use packet::sliced_packet::SlicedPacket;
 use packet_parts::ip_slice::IpHeaderSlice;
 
 /// An address of either version, as the number that its octets make, the first the highest.
-#[derive(Clone, Copy, Debug, PartialEq, Eq)]
+#[derive(Clone, Copy, Debug)]
 pub(crate) enum Address {
     /// An IPv4 address.
     V4(u32),

@@ -12,7 +12,7 @@ pub enum Version {
 }
 
 /// A protocol with addresses that a qualifier names.
-#[derive(Clone, Copy, Debug, PartialEq, Eq)]
+#[derive(Clone, Copy, Debug)]
 pub(crate) enum Network {
     /// `ip` or `ip6`.
     Ip(Version),
@@ -23,7 +23,7 @@ pub(crate) enum Network {
 }
 
 /// A transport protocol with ports.
-#[derive(Clone, Copy, Debug, PartialEq, Eq)]
+#[derive(Clone, Copy, Debug)]
 pub(crate) enum Transport {
     /// `tcp`.
     Tcp,
@@ -43,7 +43,7 @@ pub enum Operator {
 }
 
 /// Which ends of a packet's way are asked about.
-#[derive(Clone, Copy, Debug, PartialEq, Eq)]
+#[derive(Clone, Copy, Debug)]
 pub(crate) enum Direction {
     /// `src`.
     Source,
@@ -56,7 +56,7 @@ pub(crate) enum Direction {
 }
 
 /// What a number is compared for.
-#[derive(Clone, Copy, Debug, PartialEq, Eq)]
+#[derive(Clone, Copy, Debug)]
 pub(crate) enum Relation {
     /// `=` or `==`.
     Equal,
@@ -73,7 +73,7 @@ pub(crate) enum Relation {
 }
 
 /// Which bytes of a frame are loaded from.
-#[derive(Clone, Copy, Debug, PartialEq, Eq)]
+#[derive(Clone, Copy, Debug)]
 pub(crate) enum Layer {
     /// `ether`: the frame, from its Ethernet header on.
     Ether,
@@ -87,7 +87,7 @@ pub(crate) enum Layer {
 }
 
 /// How many bytes are loaded.
-#[derive(Clone, Copy, Debug, PartialEq, Eq)]
+#[derive(Clone, Copy, Debug)]
 pub(crate) enum Size {
     /// `1`.
     One,
@@ -98,7 +98,7 @@ pub(crate) enum Size {
 }
 
 /// A number that a packet tells.
-#[derive(Clone, Copy, Debug, PartialEq, Eq)]
+#[derive(Clone, Copy, Debug)]
 pub(crate) enum Quantity {
     /// `len`: how many bytes the frame had on the wire.
     Length,
@@ -107,7 +107,7 @@ pub(crate) enum Quantity {
 }
 
 /// What one primitive of an expression says of a packet (pcap-filter(7)).
-#[derive(Clone, Copy, Debug, PartialEq, Eq)]
+#[derive(Clone, Copy, Debug)]
 pub(crate) enum Primitive {
     /// It is an IP packet of this version.
     Version(Version),

@@ -1,7 +1,7 @@
 //! Filters: expressions in postfix form, and their evaluation.
 
 ghost use Rattle.std.specs.Prelude.{◌≡◌, ◌↔◌, IsTrue};
-ghost use Rattle.packet_filter.specs.Jumps.{decisions_of};
+ghost use Rattle.packet_filter.specs.Private.Jumps.{decisions_of};
 ghost use Rattle.packet_filter.specs.Meaning.{Matches};
 ghost use Rattle.packet_filter.specs.Program.{Computes, expression_of};
 
@@ -12,7 +12,7 @@ use packet::lax_sliced_packet::LaxSlicedPacket;
 use std::marker::Model;
 
 /// A step of an expression in postfix form, on a stack of answers.
-#[derive(Clone, Copy, Debug, Default, PartialEq, Eq)]
+#[derive(Clone, Copy, Debug, Default)]
 pub(crate) enum Step {
     /// Puts whether a primitive holds.
     Test(Primitive),
@@ -33,7 +33,7 @@ pub struct Filter {
 
 impl Model for Filter {
     ghost use Rattle.std.specs.Prelude.{◌≡◌, List};
-    ghost use Rattle.packet_filter.specs.Jumps.{decisions_of};
+    ghost use Rattle.packet_filter.specs.Private.Jumps.{decisions_of};
     ghost use Rattle.packet_filter.specs.Program.{Computes, expression_of};
     ghost use Rattle.packet_filter.specs.declared.filter.Step.{Step};
 

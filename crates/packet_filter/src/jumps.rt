@@ -3,8 +3,8 @@
 
 ghost use Rattle.std.specs.Prelude.{◌≡◌, ◌+◌, ◌<◌, ◌≤◌, if◌then◌else◌, length};
 ghost use Rattle.arrayvec.specs.ArrayVec.{array_vec_len};
-ghost use Rattle.packet_filter.specs.Jumps.{Operands, but_last, decisions_of, in_order, jump_by};
-ghost use Rattle.packet_filter.specs.Jumps.{with_operands};
+ghost use Rattle.packet_filter.specs.Private.Jumps.{Operands, but_last, decisions_of, in_order, jump_by};
+ghost use Rattle.packet_filter.specs.Private.Jumps.{with_operands};
 
 use crate::expression::Operator;
 use crate::filter::Step;

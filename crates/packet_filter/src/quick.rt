@@ -3,7 +3,7 @@
 ghost use Rattle.std.specs.Prelude.{◌≡◌, ◌/◌, ◌%◌, ◌^◌, ◌≤◌, ◌↔◌, IsSomeAnd, IsTrue};
 ghost use Rattle.std.specs.Int.{from_be_bytes, w32};
 ghost use Rattle.packet_filter.specs.Meaning.{arp_address, destination_address, source_address};
-ghost use Rattle.packet_filter.specs.Quick.{Asks, HasFront, quick_of, quick_of_step};
+ghost use Rattle.packet_filter.specs.Private.Quick.{Asks, HasFront, quick_of, quick_of_step};
 
 use crate::address::{Address, is_arp_of_ipv4};
 use crate::expression::{Direction, Primitive, Transport, Version};

@@ -1,6 +1,6 @@
 use Rattle.std.proofs.Common.{◌≡◌, ◌+◌, ◌≤◌, List, ◌++◌, length}
 use Rattle.arrayvec.specs.ArrayVec.{array_vec_len}
-use Rattle.packet_filter.specs.Jumps.{decisions_of, in_order, operands_of}
+use Rattle.packet_filter.specs.Private.Jumps.{decisions_of, in_order, operands_of}
 use Rattle.packet_filter.specs.declared.filter.Step.{Step}
 use Rattle.packet_filter.proofs.jumps.decisions_of.Given as goal
 

@@ -1,8 +1,8 @@
 -- Where an expression goes on after each of its tests, so that no test is made whose answer is not
 -- needed. A place is one more than the number of steps from there to the end; 0 is none, and the
--- answer is no. No public clause cites it: a reader may skip it.
+-- answer is no.
 use Rattle.std.specs.Prelude.{ℕ, ◌+◌, List, [], ◌∷◌, ◌++◌, None, Some, length, unwrap_or}
-use Rattle.packet_filter.specs.Quick.{quick_of_step}
+use Rattle.packet_filter.specs.Private.Quick.{quick_of_step}
 use Rattle.packet_filter.specs.declared.expression.Operator.TheVariants.{And, Or}
 use Rattle.packet_filter.specs.declared.filter.Step.{Step}
 use Rattle.packet_filter.specs.declared.filter.Step.TheVariants as step

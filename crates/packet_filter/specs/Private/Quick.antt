@@ -1,5 +1,4 @@
--- Tests in which all that the packet does not say is computed before. No public clause cites it: a
--- reader may skip it.
+-- Tests in which all that the packet does not say is computed before.
 use Rattle.std.specs.Prelude.{ℕ, ◌≡◌, ◌-◌, ◌/◌, ◌%◌, ◌^◌, ◌≤◌, ◌⊎◌, IsSomeAnd, None, Some}
 use Rattle.packet.specs.declared.lax_sliced_packet.LaxSlicedPacket.{LaxSlicedPacket}
 use Rattle.packet_filter.specs.Meaning.{HasPorts, HasProto, Holds, IsIp, destination_address}
