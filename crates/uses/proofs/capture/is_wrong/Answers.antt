@@ -1,4 +1,4 @@
-use Rattle.std.proofs.Common.{inl, rules}
+use Rattle.std.proofs.Common.{inl}
 use Rattle.uses.proofs.capture.is_wrong.Goals as goal
 
 pub returns-in_default : goal.returns-in_default
