@@ -155,7 +155,10 @@ impl Filter {
     /// assert!(rt; Filter::from_text(b"tcp port 80 or udp port 53").is_ok());
     /// // `prot` is no word of the language.
     /// let refused = Filter::from_text(b"tcp prot 80");
-    /// let expected = FilterError::Unexpected { place: 4, expected: Expected::AfterTransport };
+    /// let expected = FilterError::Unexpected {
+    ///     place: 4,
+    ///     expected: Expected::AfterTransport,
+    /// };
     /// assert!(rt; refused.is_err_and(|error| error == expected));
     /// // `)` is missing.
     /// let refused = Filter::from_text(b"not (tcp or udp");
