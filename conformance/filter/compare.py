@@ -180,6 +180,15 @@ def net_of_zero(pair):
     return any(one[0] == 'net' and one[3:] == (4, 0, 8) for one in pair.primitives)
 
 
+def hexadecimal_end(pair):
+    return any(re.search('-0[xX]', word) and grammar.port_range(word) for word in pair.words)
+
+
+def type_of_ip_alone(pair):
+    return pair.frame.ether_type is None and any(
+        one in pair.primitives for one in (('ether-type', 0x800), ('ether-type', 0x86dd)))
+
+
 # ---- frames that are not plain
 
 def tagged(pair):
@@ -205,7 +214,7 @@ def cut(pair):
     frame, ip = pair.frame, pair.frame.ip
     if ip is not None:
         return not ip.complete and not without_length(pair)
-    return frame.ether_type in (0x800, 0x86dd) or (
+    return frame.ether_type in (0x800, 0x86dd, None) or (
         frame.ether_type in ARP and len(frame.payload) < 28)
 
 
@@ -250,7 +259,9 @@ INTENDED = [
     ('a port name that services have for one protocol: libpcap then asks for that',
      name_of_one_protocol),
     ('net 0: libpcap takes it for the address 0.0.0.0', net_of_zero),
+    ('a range to a hexadecimal number: libpcap takes that for 0', hexadecimal_end),
     ('ether proto 0x809b or 0x80f3: libpcap finds AppleTalk after an LLC header too', apple_talk),
+    ('ether proto of IP without a link header: libpcap goes by its version', type_of_ip_alone),
     ('a VLAN tag', tagged),
     ('an extension header of IPv6', extended),
     ('bytes after the packet', padded),
@@ -307,6 +318,12 @@ class Libpcaps:
     def answers(self, frame, wire):
         """with the optimiser, if it gave a program, and without"""
         return [self.library.matches(program, frame, wire) for program in self.programs]
+
+
+def is_about_ethernet(pair):
+    """whether libpcap has an expression for Ethernet alone"""
+    return any(one[0] in ('ether-host', 'broadcast', 'multicast', 'vlan')
+               or one[0] == 'load' and one[1] == 'ether' for one in pair.primitives)
 
 
 # kinds of refusals that a program may call `unexpected`
@@ -366,7 +383,7 @@ def main():
             if ours != of_plain:
                 wrong('plain and covered', case, of_plain, ours)
         of_plain = ours
-        if pair.has('checksum-wrong'):
+        if pair.has('checksum-wrong') or link != '1' and is_about_ethernet(pair):
             tally['no counterpart in libpcap'] += 1
             continue
         why = libpcaps.read(text, read[1], int(link))

@@ -8,9 +8,16 @@ text in hex. The same arguments give the same cases. KIND is
     other    expressions, and frames with those
     bytes    texts of random bytes
     words    texts of words of the language in random order
+    ways     texts that go on with any words that can follow, most of them with a wrong word at the
+             end
+    links    expressions, and frames without an Ethernet header or with those of Linux cooked captures
     covered  expressions, each first on a plain frame and then on the same with tags, extension
              headers and padding, where it has to say the same
-    changed  expressions, and those of real.txt, with a word changed, and some that are too long
+    changed  expressions, and those of real.txt, with a word or a byte changed, and some that are too
+             long
+    values   numbers, addresses, ranges and the like in all their forms and nearly so, on frames that
+             have them
+    real     those of real.txt in turn, on frames with their addresses and ports
 
 `--frames` is how many frames an expression gets. The addresses, ports and flags come from small
 pools, and half of what an expression names is taken from its first frame, so that about half of the
@@ -52,6 +59,11 @@ SOME_WORDS = r"""80 443 0x50 0X50 0X1bb 0xa.0 10.0x0 65535 65536 4294967295 4294
     \gre eigrp ipv6-icmp loopback \loopback \isis""".split()
 WORD_PROTOCOLS = [*grammar.CARRIED]
 FIXED, UNSUPPORTED = sorted(grammar.FIXED), sorted(grammar.UNSUPPORTED)
+# words of each kind of value
+VALUES_OF = {f'<{kind}>': [
+    word for word in [*SOME_WORDS, *grammar.PORT_NAMES, *grammar.IP_NUMBERS, *grammar.ETHER_TYPES,
+                      *grammar.NUMBER_NAMES, *HARDWARE, *ADDRESSES4, *ADDRESSES6]
+    if read(word) is not None] for kind, read in grammar.VALUES.items()}
 
 
 class Cases:
@@ -218,9 +230,10 @@ class Cases:
                 ether_type, data = 50, b'\x42\x42\3' + self.some_bytes(47)
                 if self.chance(0.5):
                     # SNAP, also of AppleTalk
-                    data = b'\xaa\xaa\3' + self.pick([b'\0\0\0\x80\xf3', b'\0\0\0\x08\0',
-                                                   b'\x08\0\x07\x80\x9b']) + data[8:]
-        self.facts['ether type'] = ether_type
+                    name = self.pick([b'\0\0\0\x80\xf3', b'\0\0\0\x08\0', b'\x08\0\x07\x80\x9b'])
+                    data = b'\xaa\xaa\3' + name + data[8:]
+        self.facts['ether type'] = (struct.unpack('>H', data[6:8])[0] if data[:2] == b'\xaa\xaa'
+                                    else ether_type)
         self.facts['words'] = [word for word, tree in grammar.ALONE.items() if tree in (
             ('version', self.facts.get('version')), ('ether-type', ether_type),
             ('proto', None, self.facts.get('number')),
@@ -242,6 +255,10 @@ class Cases:
         if not plain and self.chance(0.4):
             whole += self.pick([bytes(1), bytes(8), bytes(max(0, 60 - len(whole))),
                                 self.some_bytes(6)])
+        if not plain and self.chance(0.2):
+            # another byte in the headers
+            at = self.dice.randrange(14, max(15, min(len(whole), 80)))
+            whole = whole[:at] + self.pick([self.some_bytes(1), b'\0', b'\xff']) + whole[at + 1:]
         # a frame check sequence, or padding, that was not captured
         wire = len(whole) + (self.pick([4, 46, 1000]) if self.chance(0.1) else 0)
         self.facts['length'] = wire
@@ -262,6 +279,24 @@ class Cases:
                 number, rest = self.extension(number, rest, is_first=True)
             data = data[:4] + struct.pack('>HB', len(rest), number) + data[7:40] + rest
         return front + tags + ether_type + data + self.pick([b'', b'', b'', bytes(20)])
+
+    def relinked(self, frame, link_type):
+        """what an Ethernet frame has, alone (101) or after a header of Linux (113, 276)"""
+        front = {101: b'', 113: b'\0\0\0\1\0\6' + frame[6:12] + b'\0\0' + frame[12:14],
+                 276: frame[12:14] + b'\0\0\0\0\0\2\0\1\0\6' + frame[6:12] + b'\0\0'}
+        return front[link_type] + frame[14:]
+
+    def aim(self, text):
+        """most of the time, lets frames have the values of a text"""
+        words = [] if self.chance(0.3) else [
+            word.partition('/')[0] for _, word in grammar.words_of(text)]
+        for pool, usual, kind in (('addresses4', ADDRESSES4, grammar.ipv4),
+                                  ('addresses6', ADDRESSES6, grammar.ipv6),
+                                  ('hardware', HARDWARE, grammar.hardware_address)):
+            found = [word for word in words if kind(word)]
+            setattr(self, pool, found * 3 + usual[:2] if found else usual)
+        found = [grammar.port(word) for word in words if grammar.port(word)]
+        self.ports = found * 3 + PORTS[:2] if found else PORTS
 
     # ---- expressions
 
@@ -558,16 +593,25 @@ class Cases:
         if kind == 'bytes':
             pool = self.pick([range(256), range(32, 127), b'ipno and(or)!&|=<>[]0123456789 :./-\\'])
             return bytes(self.dice.choices(pool, k=self.pick([0, 1, 2, 5, 20, 80])))
+        if kind == 'ways':
+            return self.ways()
         if kind == 'words':
             count = self.pick([1, 2, 3, 4, 5, 8, 12])
             return self.spaced([self.some_word() for _ in range(count)])
         if self.chance(0.02):
-            one = self.pick([['ip'], ['(', 'ip', ')'], ['not', 'ip'], ['port', '80'], ['80', '80']])
+            one = self.pick([['ip'], ['(', 'ip', ')'], ['not', 'ip'], ['port', '80'], ['80', '80'],
+                             ['(', 'len', ')', '=', '5'], ['port', '(', '80', 'or', '81', ')']])
             words = one.copy()
             while len(words) < grammar.MAX_WORDS + self.pick([-1, 0, 1, 2]):
                 words += ['or', *one]
             return self.spaced(words)
         source = self.expression() if self.chance(0.7) else self.pick(self.real).encode('ascii')
+        if self.chance(0.15):
+            at = self.dice.randrange(len(source))
+            # a byte more, another one, or one less
+            more = self.pick([b'', self.some_bytes(1), self.pick([b'0', b'1', b'x', b':', b'.', b'/',
+                                                                b'-', b'\\', b'\v', b'\f', b'('])])
+            return source[:at] + more + source[at + self.pick([0, 1]):]
         words = [word for _, word in grammar.words_of(source)]
         at = self.dice.randrange(len(words))
         change = self.dice.random()
@@ -588,6 +632,121 @@ class Cases:
             words[at], words[other] = words[other], words[at]
         return self.spaced(words)
 
+    def ways(self):
+        """words that can follow each other, most of the time ended by one that cannot"""
+        ways, words = [(grammar.NETWORK.start, None, None)], []
+        length = self.pick([1, 2, 3, 5, 8, 12, 16, 24, 40])
+        while len(words) < length:
+            choices = {word for state, _, _ in ways for word in grammar.NETWORK.next_words[state]}
+            if any(grammar.NETWORK.next_calls[state] for state, _, _ in ways):
+                choices.add('(')
+            # also where no parenthesis is open
+            if any(grammar.NETWORK.at_end[state] for state, _, _ in ways):
+                choices.add(')')
+            word = self.pick(sorted(choices))
+            if word in VALUES_OF:
+                word = self.pick(VALUES_OF[word])
+            after = grammar.step(grammar.NETWORK, ways, word)
+            if after:
+                ways = after
+                words.append(word)
+        if self.chance(0.7):
+            words.append(self.some_word())
+            words += [self.some_word() for _ in range(self.pick([0, 0, 1]))]
+        return self.spaced(words)
+
+    # ---- values
+
+    def odd_number(self, most=33):
+        """a number beside a power of two, in a form that numbers have, or nearly"""
+        number = max(0, (1 << self.dice.randrange(most)) + self.pick([-1, 0, 0, 1, 5]))
+        if self.chance(0.4):
+            number = self.dice.randrange(number + 1)
+        return self.pick([str, str, str, hex, lambda n: f'0X{n:X}', lambda n: f'0x{n:08x}',
+                          lambda n: f'0x{n:012x}', lambda n: f'0{n}', lambda n: f'{n:x}',
+                          lambda n: f'{n}.0', lambda n: f'-{n}', lambda n: f'{n}:'])(number)
+
+    def odd_address4(self):
+        parts = [self.pick(['0', '1', '10', '99', '127', '255', '256', '01', '00', '', '0x1',
+                            str(self.dice.randrange(256)), str(self.dice.randrange(300))])
+                 if self.chance(0.3) else str(self.dice.randrange(256))
+                 for _ in range(self.pick([4, 4, 4, 4, 3, 2, 1, 5]))]
+        return '.'.join(parts)
+
+    def odd_address6(self):
+        groups = [f'{self.dice.getrandbits(self.pick([1, 4, 8, 12, 16, 16])):x}'
+                  for _ in range(self.pick([8, 8, 7, 6, 5, 4, 3, 2, 1, 0, 9]))]
+        groups = [self.pick([group, group, group.upper(), group.zfill(4)]) for group in groups]
+        if self.chance(0.05) and groups:
+            groups[0] = self.pick(['00000', '', 'g', '12345', '+1', '0x1'])
+        if self.chance(0.2):
+            groups = groups[:-2] + [self.pick([self.odd_address4(), '10.0.0.1'])]
+        at = self.dice.randrange(len(groups) + 1)
+        if self.chance(0.75) and len(groups) < 8 or self.chance(0.1):
+            return ':'.join(groups[:at]) + '::' + ':'.join(groups[at:])
+        return ':'.join(groups)
+
+    def odd_value(self, kind):
+        if kind == 'net':
+            address = self.pick([self.odd_address4, self.odd_address6])()
+            return address + self.pick(['', f'/{self.dice.randrange(34)}', '/128', '/129', '/0',
+                                        f'/{self.odd_number(8)}', '/', '/08'])
+        if kind == 'host':
+            return self.pick([self.odd_address4, self.odd_address6])()
+        if kind == 'range':
+            low, high = sorted(self.dice.randrange(66000) for _ in range(2))
+            if self.chance(0.5):
+                return self.pick([f'{low}-{high}', f'{low}-{high}', f'{high}-{low}',
+                                  f'{low}-{low}', f'{low:#x}-{high}', f'{low}--{high}'])
+            return f'{self.odd_number(17)}-{self.odd_number(17)}'
+        if kind == 'hardware':
+            parts = [self.pick([f'{byte:02x}', f'{byte:02x}', f'{byte:02x}', f'{byte:02X}'])
+                     for byte in self.some_bytes(self.pick([6, 6, 6, 6, 6, 5, 7]))]
+            if self.chance(0.1):
+                parts[0] = self.pick(['1', '', '123', '0g', '+1', '0x'])
+            return self.pick([':', ':', ':', ':', ':', '-', '.', '']).join(parts)
+        if kind == 'place':
+            return self.odd_number(8) + self.pick(['', '', ':1', ':2', ':4', ':3', ':0', ':', ':8',
+                                                   ':01', ':0x1'])
+        return self.odd_number()
+
+    def valued(self):
+        """a primitive with a value, which fits its head most of the time"""
+        kind, head = self.pick([
+            ('net', 'net'), ('net', 'ip net'), ('net', 'src net'), ('net', 'ip6 dst net'),
+            ('net', 'net 10 or'), ('host', 'host'), ('host', 'ip6 host'), ('host', 'src'),
+            ('host', 'arp host'), ('host', 'host ::1 or'), ('host', ''), ('number', 'port'),
+            ('number', 'port 80 or not'), ('range', 'portrange'), ('number', 'proto'),
+            ('number', 'ip proto'), ('number', 'ether proto'), ('hardware', 'ether host'),
+            ('hardware', 'ether src'), ('number', 'vlan'), ('number', 'less'), ('number', 'greater'),
+            ('number', 'len ='), ('number', 'len & 0xff ='), ('number', 'ip[0] & ( 0 |'),
+            ('place', 'ip ['), ('place', 'ether [')])
+        if self.chance(0.05):
+            kind = self.pick(['net', 'host', 'range', 'hardware', 'place', 'number'])
+        words = [*head.split(), self.odd_value(kind)]
+        words += {'[': ['] >= 0'], '|': [') = 0']}.get(head[-1:], [])
+        return ' '.join(words).encode('latin-1')
+
+    def frame_of(self, text):
+        """a frame that has what a text names, if it is an expression, and its length"""
+        self.aim(text)
+        read = grammar.read(text)
+        frame, wire = self.frame()
+        tree = read[1] if read[0] == 'ok' else ('none',)
+        while tree[0] in ('or', 'not'):
+            tree = tree[-1]
+        if tree[0] == 'len' or tree[0] in ('less', 'greater'):
+            wire = min(max(0, tree[-1] + self.pick([0, 0, 1, -1])), 2**32 - 1)
+        if tree[0] == 'ether-type':
+            frame = frame[:12] + struct.pack('>H', tree[1]) + frame[14:]
+        if tree[0] == 'vlan' and tree[1] is not None:
+            frame = frame[:12] + struct.pack('>HH', 0x8100, tree[1]) + frame[12:]
+        if tree[0] == 'proto' and frame[12:14] == b'\x08\0':
+            frame = frame[:23] + bytes([tree[2]]) + frame[24:]
+        if tree[0] == 'ports' and frame[12:14] == b'\x08\0' and frame[14] == 0x45:
+            frame = frame[:34] + struct.pack('>H', self.pick(tree[-2:])) + frame[36:]
+        return frame, wire
+
     def some_word(self):
         kind = self.dice.random()
         if kind < 0.65:
@@ -604,13 +763,17 @@ def main():
     parser.add_argument('--seed', type=int, default=1)
     parser.add_argument('--count', type=int, default=10000)
     parser.add_argument('--kind', default='plain',
-                        choices=['plain', 'other', 'covered', 'bytes', 'words', 'changed'])
+                        choices=['plain', 'other', 'covered', 'bytes', 'words', 'changed', 'ways',
+                                 'links', 'real', 'values'])
     parser.add_argument('--frames', type=int, default=2)
     asked = parser.parse_args()
     cases = Cases(asked.seed)
     done = 0
     while done < asked.count:
-        first = cases.frame(asked.kind != 'other')
+        if asked.kind == 'real':
+            text = cases.real[done // asked.frames % len(cases.real)].encode('ascii')
+            cases.aim(text)
+        first, link_type = cases.frame(asked.kind != 'other'), 1
         if asked.kind in ('plain', 'other'):
             text = cases.expression()
             frames = [first] + [cases.frame(asked.kind != 'other')
@@ -618,10 +781,24 @@ def main():
         elif asked.kind == 'covered':
             text = cases.expression()
             frames = [(frame, len(frame)) for frame in (first[0], cases.covered(first[0]))]
+        elif asked.kind == 'values':
+            text = cases.valued()
+            frames = [cases.frame_of(text)]
+        elif asked.kind == 'real':
+            frames = [first]
+            while len(frames) < asked.frames:
+                cases.aim(text)
+                frames.append(cases.frame())
+        elif asked.kind == 'links':
+            text, link_type = cases.expression(), cases.pick([101, 113, 276])
+            frames = [(cases.relinked(frame, link_type), wire) for frame, wire in (
+                first, cases.frame(cases.chance(0.7)))]
+            if link_type == 101:
+                frames = [one for one in frames if one[0] and one[0][0] // 16 in (4, 6)]
         else:
             text, frames = cases.text(asked.kind), [first]
         for frame, wire in frames[:asked.count - done]:
-            print('filter 1', frame.hex(), wire, text.hex() or '-')
+            print('filter', link_type, frame.hex() or '-', wire, text.hex() or '-')
         done += len(frames)
 
 
