@@ -5,7 +5,9 @@ Cases of the operation `filter` (random_cases.py), answered by the model here (g
 meaning.py) and by libpcap. Without `--program` it tells where the two differ: for each intended
 difference how many pairs it is about, how many of them differ, and one that does. A difference that
 is not intended is shown, and the exit code is 1. So it is if `--program` is given, the file with
-the answers of crates/conformance to the same cases, and one of them is not the model's.
+the answers of crates/conformance to the same cases, and one of them is not the model's. A program
+may call all refusals at a word `unexpected`; if it calls any `mixed` or `unsupported`, it has to
+call all of that kind so.
 
 With `--covered` each two cases are a plain frame and the same one with tags, extension headers and
 padding (random_cases.py --kind covered). An expression that is not about these has to say the same
@@ -24,7 +26,6 @@ import grammar
 import meaning
 from libpcap import CompileError, Libpcap
 
-WITHOUT_ADDRESS_ALONE = grammar.Network(host_left_out=False).build()
 # words that libpcap would take for names of hosts, and ask the network for
 OWN_WORDS = {'fragment', 'first', 'checksum', 'wrong'}
 
@@ -53,6 +54,16 @@ def masked_text(front, mask, relation, value):
     return f'{front} ' + ('' if mask is None else f'& {mask} ') + f'{relation} {value}'
 
 
+def load_text(protocol, at, size, *rest):
+    if protocol not in ('esp', 'ah'):
+        return masked_text(f'{protocol}[{at}:{size}]', *rest)
+    # libpcap has no such loads, but what they are made of
+    number = grammar.CARRIED[protocol][1]
+    return (f'(ip proto {number} and ip[6:2] & 0x1fff = 0 and '
+            + masked_text(f'ip[(ip[0] & 15) * 4 + {at}:{size}]', *rest)
+            + f') or (ip6 proto {number} and ' + masked_text(f'ip6[40 + {at}:{size}]', *rest) + ')')
+
+
 TEXTS = {
     'version': lambda version: VERSIONS[version],
     'ether-type': lambda number: f'ether proto {number}',
@@ -72,7 +83,7 @@ TEXTS = {
     'greater': lambda limit: f'greater {limit}',
     'len': lambda *rest: masked_text('len', *rest),
     'vlan': lambda identifier: 'vlan' if identifier is None else f'vlan {identifier}',
-    'load': lambda protocol, at, size, *rest: masked_text(f'{protocol}[{at}:{size}]', *rest)}
+    'load': load_text}
 
 
 def text_of(tree):
@@ -130,8 +141,8 @@ def more_after_vlan(pair):
 def transport_load_over_ipv6(pair):
     ip = pair.frame.ip
     return ip is not None and ip.version == 6 and any(
-        one[0] == 'load' and one[1] in meaning.NUMBERS and meaning.NUMBERS[one[1]] == ip.upper
-        for one in pair.primitives)
+        one[0] == 'load' and one[1] in ('tcp', 'udp', 'sctp', 'pim')
+        and grammar.CARRIED[one[1]][1] == ip.upper for one in pair.primitives)
 
 
 def load_past_the_end(pair):
@@ -158,12 +169,24 @@ def name_of_one_protocol(pair):
     return bool(pair.words & ONE_PROTOCOL)
 
 
-def address_alone(pair):
-    return grammar.read(pair.text, WITHOUT_ADDRESS_ALONE)[0] != 'ok'
+def apple_talk(pair):
+    """a frame with a length and an LLC header, and the EtherType of AppleTalk or of its ARP"""
+    return (pair.frame.ether_type is not None and pair.frame.ether_type <= 1500
+            and any(one in pair.primitives for one in (
+                ('ether-type', 0x809b), ('ether-type', 0x80f3))))
 
 
-def small_ether_type(pair):
-    return any(one[0] == 'ether-type' and one[1] <= 1500 for one in pair.primitives)
+def net_of_zero(pair):
+    return any(one[0] == 'net' and one[3:] == (4, 0, 8) for one in pair.primitives)
+
+
+def hexadecimal_end(pair):
+    return any(re.search('-0[xX]', word) and grammar.port_range(word) for word in pair.words)
+
+
+def type_of_ip_alone(pair):
+    return pair.frame.ether_type is None and any(
+        one in pair.primitives for one in (('ether-type', 0x800), ('ether-type', 0x86dd)))
 
 
 # ---- frames that are not plain
@@ -191,7 +214,7 @@ def cut(pair):
     frame, ip = pair.frame, pair.frame.ip
     if ip is not None:
         return not ip.complete and not without_length(pair)
-    return frame.ether_type in (0x800, 0x86dd) or (
+    return frame.ether_type in (0x800, 0x86dd, None) or (
         frame.ether_type in ARP and len(frame.payload) < 28)
 
 
@@ -222,19 +245,23 @@ def is_about_cover(pair):
     """whether an expression is about the headers that cover a packet, or about lengths"""
     return any(one[0] in ('vlan', 'less', 'greater', 'len', 'fragment', 'first-fragment',
                           'checksum-wrong')
-               or one[0] == 'load' and one[1] in ('ether', 'ip6') for one in pair.primitives)
+               or one[0] == 'load' and (one[1] in ('ether', 'ip6')
+                                        or one[1] in ('arp', 'rarp') and one[2] + one[3] > 28)
+               for one in pair.primitives)
 
 
 INTENDED = [
     ('more after vlan: libpcap then looks for it 4 bytes further', more_after_vlan),
-    ('a load of TCP, UDP or SCTP over IPv6: libpcap has none', transport_load_over_ipv6),
+    ('a load of TCP, UDP, SCTP or PIM over IPv6: libpcap has none', transport_load_over_ipv6),
     ('a load past the end of the packet: libpcap rejects the packet', load_past_the_end),
     ('ip multicast, and 240.0.0.0/4: libpcap takes it for multicast', reserved_address),
     ('`& 0xffffffff` and 0: the optimiser of libpcap forgets the comparison', all_32_bits),
     ('a port name that services have for one protocol: libpcap then asks for that',
      name_of_one_protocol),
-    ('an address alone: libpcap refuses it, or takes it for another value', address_alone),
-    ('ether proto up to 1500: libpcap looks for an LLC header', small_ether_type),
+    ('net 0: libpcap takes it for the address 0.0.0.0', net_of_zero),
+    ('a range to a hexadecimal number: libpcap takes that for 0', hexadecimal_end),
+    ('ether proto 0x809b or 0x80f3: libpcap finds AppleTalk after an LLC header too', apple_talk),
+    ('ether proto of IP without a link header: libpcap goes by its version', type_of_ip_alone),
     ('a VLAN tag', tagged),
     ('an extension header of IPv6', extended),
     ('bytes after the packet', padded),
@@ -293,6 +320,25 @@ class Libpcaps:
         return [self.library.matches(program, frame, wire) for program in self.programs]
 
 
+def is_about_ethernet(pair):
+    """whether libpcap has an expression for Ethernet alone"""
+    return any(one[0] in ('ether-host', 'broadcast', 'multicast', 'vlan')
+               or one[0] == 'load' and one[1] == 'ether' for one in pair.primitives)
+
+
+# kinds of refusals that a program may call `unexpected`
+KINDS = 'err mixed', 'err unsupported'
+
+
+def accepted(ours, told):
+    """what a program may answer, where it tells some of the kinds"""
+    found = [ours]
+    for kind in KINDS:
+        if ours.startswith(kind) and kind not in told:
+            found.append(ours.replace(kind, 'err unexpected'))
+    return found
+
+
 def main():
     parser = argparse.ArgumentParser(usage=__doc__)
     parser.add_argument('--program')
@@ -300,6 +346,7 @@ def main():
     parser.add_argument('--show', type=int, default=10)
     asked = parser.parse_args()
     answers = open(asked.program, encoding='ascii').read().splitlines() if asked.program else None
+    told = {kind for kind in KINDS if any(one.startswith(kind) for one in answers or [])}
     tally, example, refusals = collections.Counter(), {}, collections.Counter()
     libpcaps, shown = Libpcaps(), 0
 
@@ -311,7 +358,11 @@ def main():
             print(f'{what}: {case[3]!r}\n  {case[1].hex()} {case[2]}\n  {ours} and {theirs}')
 
     read_last = None, None
-    for at, line in enumerate(sys.stdin):
+    if answers is not None:
+        cases = sys.stdin.read().splitlines()
+        if len(cases) != len(answers):
+            sys.exit(f'{len(cases)} cases and {len(answers)} answers')
+    for at, line in enumerate(sys.stdin if answers is None else cases):
         _, link, data, wire, text = line.split()
         text, data = bytes.fromhex('' if text == '-' else text), bytes.fromhex(data)
         case = link, data, int(wire), text
@@ -320,10 +371,11 @@ def main():
             read_last = text, grammar.read(text)
         read = read_last[1]
         ours = meaning.answer(read, data, int(wire), int(link))
-        if answers is not None and answers[at] != ours:
+        if answers is not None and answers[at] not in accepted(ours, told):
             wrong('program and model', case, answers[at], ours)
         if ours.startswith('err'):
             tally['refused'] += 1
+            tally['refused', ours.split()[1]] += 1
             continue
         pair = Pair(text, read[1], meaning.read_frame(data, int(link)))
         if asked.covered and at % 2 == 1 and not is_about_cover(pair):
@@ -331,7 +383,7 @@ def main():
             if ours != of_plain:
                 wrong('plain and covered', case, of_plain, ours)
         of_plain = ours
-        if pair.has('checksum-wrong'):
+        if pair.has('checksum-wrong') or link != '1' and is_about_ethernet(pair):
             tally['no counterpart in libpcap'] += 1
             continue
         why = libpcaps.read(text, read[1], int(link))
@@ -370,6 +422,10 @@ def main():
     for name in ('cases', 'refused', 'no counterpart in libpcap', 'pairs', 'pairs that match',
                  'pairs without an intended difference', 'pairs of a plain and a covered frame'):
         print(f'{tally[name]} {name}')
+    print('refused:', *(f'{count} {name[1]}' for name, count in sorted(
+        (name, count) for name, count in tally.items() if name[0] == 'refused')))
+    if told:
+        print('the program tells', *sorted(kind[4:] for kind in told))
     print(f'{tally["wrong"]} differ without intention')
     sys.exit(1 if tally['wrong'] else 0)
 

@@ -2,11 +2,12 @@
 """A second reading of the filter language, from its description in words.
 
     grammar.py [--hex] < TEXTS     one text a line (in hex with --hex); one answer a line:
-                                   `ok TREE`, `unexpected PLACE`, `incomplete` or `too long`
+                                   `ok TREE`, `incomplete`, `too long`, or `unexpected`, `mixed` or
+                                   `unsupported` with the place of a word
     grammar.py --table             the words of the language and the kinds of values
 
 The tables below say which words make a primitive. From them a network is built: states, and the
-words that lead from one to the next. An expression in parentheses is a call of the whole network.
+words that lead from one to the next. What stands in parentheses is a network by itself.
 A text is read by following all ways at once, so a word is unexpected exactly if no way goes on with
 it: each state leads to the end by some words, since every kind of value has one.
 
@@ -32,15 +33,46 @@ def words_of(text):
 
 # ---- values: the kinds of words that are no fixed word. Each function gives the value, or None.
 
-def number(word, most=2**32 - 1):
+# The names of places, flags and types are numbers (pcap-filter(7); RFC 9293 section 3.1, RFC 3168
+# section 6.1; IANA, ICMP Type Numbers and ICMPv6 "type" Numbers).
+PLACE_NAMES = {'tcpflags': 13, 'icmptype': 0, 'icmpcode': 1, 'icmp6type': 0, 'icmp6code': 1}
+NUMBER_NAMES = {
+    **PLACE_NAMES,
+    'tcp-fin': 1, 'tcp-syn': 2, 'tcp-rst': 4, 'tcp-push': 8, 'tcp-ack': 16, 'tcp-urg': 32,
+    'tcp-ece': 64, 'tcp-cwr': 128,
+    'icmp-echoreply': 0, 'icmp-unreach': 3, 'icmp-sourcequench': 4, 'icmp-redirect': 5,
+    'icmp-echo': 8, 'icmp-routeradvert': 9, 'icmp-routersolicit': 10, 'icmp-timxceed': 11,
+    'icmp-paramprob': 12, 'icmp-tstamp': 13, 'icmp-tstampreply': 14, 'icmp-ireq': 15,
+    'icmp-ireqreply': 16, 'icmp-maskreq': 17, 'icmp-maskreply': 18,
+    'icmp6-destinationunreach': 1, 'icmp6-packettoobig': 2, 'icmp6-timeexceeded': 3,
+    'icmp6-parameterproblem': 4, 'icmp6-echo': 128, 'icmp6-echoreply': 129,
+    'icmp6-multicastlistenerquery': 130, 'icmp6-multicastlistenerreportv1': 131,
+    'icmp6-multicastlistenerdone': 132, 'icmp6-routersolicit': 133, 'icmp6-routeradvert': 134,
+    'icmp6-neighborsolicit': 135, 'icmp6-neighboradvert': 136, 'icmp6-redirect': 137,
+    'icmp6-routerrenum': 138, 'icmp6-nodeinformationquery': 139,
+    'icmp6-nodeinformationresponse': 140, 'icmp6-ineighbordiscoverysolicit': 141,
+    'icmp6-ineighbordiscoveryadvert': 142, 'icmp6-multicastlistenerreportv2': 143,
+    'icmp6-homeagentdiscoveryrequest': 144, 'icmp6-homeagentdiscoveryreply': 145,
+    'icmp6-mobileprefixsolicit': 146, 'icmp6-mobileprefixadvert': 147,
+    'icmp6-certpathsolicit': 148, 'icmp6-certpathadvert': 149, 'icmp6-multicastrouteradvert': 151,
+    'icmp6-multicastroutersolicit': 152, 'icmp6-multicastrouterterm': 153}
+
+
+def digits(word, most=2**32 - 1):
     """decimal without leading zeros, or hexadecimal"""
-    if re.fullmatch('0x[0-9a-fA-F]+', word):
+    if re.fullmatch('0[xX][0-9a-fA-F]+', word):
         value = int(word[2:], 16)
     elif re.fullmatch('0|[1-9][0-9]*', word):
         value = int(word)
     else:
         return None
     return value if value <= most else None
+
+
+def number(word, most=2**32 - 1):
+    """a number by its name or its digits"""
+    value = NUMBER_NAMES.get(word, digits(word))
+    return value if value is not None and value <= most else None
 
 
 def ipv4(word):
@@ -72,41 +104,42 @@ def host_of(kind):
 
 
 def net4(word):
-    """`10.0.0.0/8`; a dotted quad alone is one address; fewer parts are the front of one"""
+    """`10.0.0.0/8`; a dotted quad alone is one address; fewer parts are the front of one. A part
+    alone is any number, also in hexadecimal or by its name."""
+    if number(word, 255) is not None:
+        return 4, number(word) << 24, 8
     front, slash, length = word.partition('/')
     parts = front.split('.')
     if not 1 <= len(parts) <= 4 or not all(re.fullmatch('0|[1-9][0-9]{0,2}', p) for p in parts):
         return None
     if max(map(int, parts)) > 255:
         return None
-    bits = number(length, 32) if slash else 8 * len(parts)
+    bits = digits(length, 32) if slash else 8 * len(parts)
     octets = bytes([*map(int, parts), 0, 0, 0][:4])
     return None if bits is None else (4, int.from_bytes(octets, 'big'), bits)
 
 
 def net6(word):
     front, slash, length = word.partition('/')
-    found, bits = ipv6(front), number(length, 128) if slash else 128
+    found, bits = ipv6(front), digits(length, 128) if slash else 128
     return None if found is None or bits is None else (*found, bits)
 
 
-def mask(word):
-    """how many bits at the front a mask has, if they stand together"""
-    found = ipv4(word)
-    if found is None:
-        return None
-    bits = bin(found[1]).count('1')
-    return bits if found[1] == 2**32 - 2**(32 - bits) else None
-
-
+# IANA, Service Name and Transport Protocol Port Number Registry; `imap2`, `snmp-trap` and `sip-tls`
+# are of /etc/services.
 PORT_NAMES = {
-    'ftp-data': 20, 'ftp': 21, 'ssh': 22, 'telnet': 23, 'smtp': 25, 'domain': 53, 'bootps': 67,
-    'bootpc': 68, 'tftp': 69, 'finger': 79, 'http': 80, 'kerberos': 88, 'pop3': 110, 'sunrpc': 111,
-    'nntp': 119, 'ntp': 123, 'netbios-ns': 137, 'netbios-dgm': 138, 'netbios-ssn': 139,
-    'imap': 143, 'imap2': 143, 'snmp': 161, 'snmp-trap': 162, 'bgp': 179, 'ldap': 389, 'https': 443,
-    'microsoft-ds': 445, 'submission': 587, 'login': 513, 'who': 513, 'syslog': 514,
-    'isakmp': 500, 'ldaps': 636, 'imaps': 993, 'pop3s': 995, 'radius': 1812, 'nfs': 2049,
-    'mysql': 3306, 'sip': 5060, 'mdns': 5353, 'postgresql': 5432, 'x11': 6000}
+    'echo': 7, 'discard': 9, 'daytime': 13, 'chargen': 19, 'ftp-data': 20, 'ftp': 21, 'ssh': 22,
+    'telnet': 23, 'smtp': 25, 'time': 37, 'tacacs': 49, 'domain': 53, 'bootps': 67, 'bootpc': 68,
+    'tftp': 69, 'gopher': 70, 'finger': 79, 'http': 80, 'kerberos': 88, 'pop3': 110, 'sunrpc': 111,
+    'nntp': 119, 'ntp': 123, 'epmap': 135, 'netbios-ns': 137, 'netbios-dgm': 138,
+    'netbios-ssn': 139, 'imap': 143, 'imap2': 143, 'snmp': 161, 'snmptrap': 162, 'snmp-trap': 162,
+    'xdmcp': 177, 'bgp': 179, 'irc': 194, 'ldap': 389, 'https': 443, 'microsoft-ds': 445,
+    'isakmp': 500, 'syslog': 514, 'printer': 515, 'rtsp': 554, 'nntps': 563, 'submission': 587,
+    'ipp': 631, 'ldaps': 636, 'domain-s': 853, 'rsync': 873, 'ftps-data': 989, 'ftps': 990,
+    'telnets': 992, 'imaps': 993, 'pop3s': 995, 'socks': 1080, 'openvpn': 1194, 'ms-sql-s': 1433,
+    'radius': 1812, 'radius-acct': 1813, 'nfs': 2049, 'mysql': 3306, 'ms-wbt-server': 3389,
+    'sip': 5060, 'sip-tls': 5061, 'xmpp-client': 5222, 'mdns': 5353, 'postgresql': 5432,
+    'amqp': 5672, 'x11': 6000, 'redis': 6379, 'http-alt': 8080}
 
 
 def port(word):
@@ -115,15 +148,18 @@ def port(word):
 
 def port_range(word):
     low, hyphen, high = word.partition('-')
-    low, high = number(low, 65535), number(high, 65535)
+    low, high = digits(low, 65535), digits(high, 65535)
     return (low, high) if hyphen and None not in (low, high) and low <= high else None
 
 
+# IANA, Assigned Internet Protocol Numbers
 IP_NUMBERS = {'\\icmp': 1, '\\igmp': 2, '\\tcp': 6, '\\igrp': 9, '\\udp': 17, 'gre': 47,
-              '\\esp': 50, '\\ah': 51, '\\icmp6': 58, 'ospf': 89, '\\pim': 103,
-              '\\vrrp': 112, '\\sctp': 132}
+              '\\esp': 50, '\\ah': 51, '\\icmp6': 58, 'ipv6-icmp': 58, 'eigrp': 88, 'ospf': 89,
+              '\\pim': 103, '\\vrrp': 112, '\\sctp': 132}
+# IANA, IEEE 802 Numbers
 ETHER_TYPES = {'\\ip': 0x800, '\\arp': 0x806, '\\rarp': 0x8035, '\\ip6': 0x86dd, '\\mopdl': 0x6001,
-               '\\moprc': 0x6002, '\\decnet': 0x6003, '\\lat': 0x6004, '\\sca': 0x6007}
+               '\\moprc': 0x6002, '\\decnet': 0x6003, '\\lat': 0x6004, '\\sca': 0x6007,
+               'loopback': 0x9000}
 
 
 def ip_number(word):
@@ -131,68 +167,64 @@ def ip_number(word):
 
 
 def ether_type(word):
-    return ETHER_TYPES.get(word, number(word, 65535))
+    """up to 1500 it is a length (IEEE 802.3 section 3.2.6)"""
+    value = ETHER_TYPES.get(word, number(word, 65535))
+    return value if value is not None and value > 1500 else None
 
 
 def hardware_address(word):
-    if not re.fullmatch('[0-9a-fA-F]{1,2}(:[0-9a-fA-F]{1,2}){5}', word):
+    if not re.fullmatch('[0-9a-fA-F]{2}(:[0-9a-fA-F]{2}){5}', word):
         return None
     return int.from_bytes(bytes(int(part, 16) for part in word.split(':')), 'big')
 
 
-PLACE_NAMES = {'tcpflags': 13, 'icmptype': 0, 'icmpcode': 1, 'icmp6type': 0, 'icmp6code': 1}
-VALUE_NAMES = {
-    'tcp-fin': 1, 'tcp-syn': 2, 'tcp-rst': 4, 'tcp-push': 8, 'tcp-ack': 16, 'tcp-urg': 32,
-    'tcp-ece': 64, 'tcp-cwr': 128,
-    'icmp-echoreply': 0, 'icmp-unreach': 3, 'icmp-sourcequench': 4, 'icmp-redirect': 5,
-    'icmp-echo': 8, 'icmp-routeradvert': 9, 'icmp-routersolicit': 10, 'icmp-timxceed': 11,
-    'icmp-paramprob': 12, 'icmp-tstamp': 13, 'icmp-tstampreply': 14, 'icmp-ireq': 15,
-    'icmp-ireqreply': 16, 'icmp-maskreq': 17, 'icmp-maskreply': 18,
-    'icmp6-destinationunreach': 1, 'icmp6-packettoobig': 2, 'icmp6-timeexceeded': 3,
-    'icmp6-parameterproblem': 4, 'icmp6-echo': 128, 'icmp6-echoreply': 129,
-    'icmp6-multicastlistenerquery': 130, 'icmp6-multicastlistenerreportv1': 131,
-    'icmp6-multicastlistenerdone': 132, 'icmp6-routersolicit': 133, 'icmp6-routeradvert': 134,
-    'icmp6-neighborsolicit': 135, 'icmp6-neighboradvert': 136, 'icmp6-redirect': 137}
-
-
 def place(word):
-    """where a load begins, and how many bytes it has: `0`, `12:2`, `tcpflags`"""
+    """where a load begins, and how many bytes it has: `0`, `12:2`, `tcpflags:1`. With a size only
+    the names of places are numbers."""
     front, colon, size = word.partition(':')
-    at = PLACE_NAMES.get(front, number(front))
-    size = number(size) if colon else 1
-    return (at, size) if at is not None and size in (1, 2, 4) else None
-
-
-def value(word):
-    return VALUE_NAMES.get(word, number(word))
+    if not colon:
+        size, at = '1', number(front)
+    else:
+        at = PLACE_NAMES.get(front, digits(front))
+    return (at, int(size)) if at is not None and size in ('1', '2', '4') else None
 
 
 VALUES = {
     'number': number, 'vlan': lambda word: number(word, 4095), 'port': port,
     'range': port_range, 'ip-number': ip_number, 'ether-type': ether_type,
-    'hardware-address': hardware_address, 'place': place, 'value': value, 'mask': mask,
-    'quad': ipv4, 'host': host_of(address), 'host4': host_of(ipv4), 'host6': host_of(ipv6),
+    'hardware-address': hardware_address, 'place': place,
+    'host': host_of(address), 'host4': host_of(ipv4), 'host6': host_of(ipv6),
     'net': lambda word: net4(word) or net6(word), 'net4': net4, 'net6': net6}
 
 # ---- phrases: the words of a primitive. A string is a fixed word, `<kind>` a value of that kind,
-# '' nothing. A list is a choice, a tuple one after the other. ('put', NAME, PHRASE) notes the name.
+# '' nothing. A list is a choice, a tuple one after the other. ('note', EVENT, PHRASE) notes an
+# event before a phrase, ('inside', NAME) is what has that name, in parentheses.
 
-DIRECTION = [('put', 'src', 'src'), ('put', 'dst', 'dst'),
-             ('put', 'either', ('src', 'or', 'dst')), ('put', 'both', ('src', 'and', 'dst'))]
-OPTIONAL_DIRECTION = [('put', 'either', ''), *DIRECTION]
-TRANSPORT = [('put', None, ''), *(('put', word, word) for word in ('tcp', 'udp', 'sctp'))]
-RELATION = [*(('put', word, word) for word in ('!=', '<', '>', '<=', '>=')),
-            ('put', '=', ['=', '=='])]
-NO_MASK = ('put', None, '')
 
-# Words that are a primitive by themselves. The numbers are those of IANA's registries.
+def put(name, phrase):
+    return 'note', ('put', name), phrase
+
+
+AND, OR = ['and', '&&'], ['or', '||']
+DIRECTION = [put('src', 'src'), put('dst', 'dst'), put('either', ('src', OR, 'dst')),
+             put('both', ('src', AND, 'dst'))]
+OPTIONAL_DIRECTION = [put('either', ''), *DIRECTION]
+TRANSPORT = [put(None, ''), *(put(word, word) for word in ('tcp', 'udp', 'sctp'))]
+RELATION = [*(put(word, word) for word in ('!=', '<', '>', '<=', '>=')), put('=', ['=', '=='])]
+NOTS = 'repeat', ('note', ('not',), ['not', '!'])
+OPERATORS = {'and': ('note', ('operator', 'and'), AND), 'or': ('note', ('operator', 'or'), OR)}
+OTHER_OPERATOR = {'and': 'or', '&&': 'or', 'or': 'and', '||': 'and'}
+
+# Protocols that IP carries: the version that they are of, or either, and the number (IANA)
+CARRIED = {'tcp': (None, 6), 'udp': (None, 17), 'sctp': (None, 132), 'icmp': (4, 1),
+           'igmp': (4, 2), 'icmp6': (6, 58), 'esp': (None, 50), 'ah': (None, 51), 'igrp': (4, 9),
+           'pim': (None, 103), 'vrrp': (4, 112), 'carp': (4, 112)}
+# Words that are a primitive by themselves
 ALONE = {
     'ip': ('version', 4), 'ip6': ('version', 6), 'arp': ('ether-type', 0x806),
-    'rarp': ('ether-type', 0x8035), 'tcp': ('proto', None, 6), 'udp': ('proto', None, 17),
-    'sctp': ('proto', None, 132), 'icmp': ('proto', 4, 1), 'igmp': ('proto', 4, 2),
-    'icmp6': ('proto', 6, 58), 'esp': ('proto', None, 50), 'ah': ('proto', None, 51),
-    'igrp': ('proto', 4, 9), 'pim': ('proto', None, 103), 'vrrp': ('proto', 4, 112),
-    'carp': ('proto', 4, 112), 'decnet': ('ether-type', 0x6003), 'lat': ('ether-type', 0x6004),
+    'rarp': ('ether-type', 0x8035),
+    **{word: ('proto', *carried) for word, carried in CARRIED.items()},
+    'decnet': ('ether-type', 0x6003), 'lat': ('ether-type', 0x6004),
     'moprc': ('ether-type', 0x6002), 'mopdl': ('ether-type', 0x6001),
     'sca': ('ether-type', 0x6007),
     'broadcast': ('broadcast',), 'ether broadcast': ('broadcast',), 'multicast': ('multicast',),
@@ -201,73 +233,78 @@ ALONE = {
     'first fragment': ('first-fragment',), 'checksum wrong': ('checksum-wrong',),
     'vlan': ('vlan', None)}
 # the protocols of loads
-LOADS = 'ether', 'ip', 'ip6', 'tcp', 'udp', 'sctp', 'icmp', 'icmp6', 'igmp'
+LOADS = 'ether', 'ip', 'ip6', 'arp', 'rarp', *CARRIED
 # which addresses a qualifier has
 OF_PROTOCOL = {None: '', 'ip': '4', 'ip6': '6', 'arp': '4', 'rarp': '4'}
+# words of pcap-filter(7) that the language does not have
+UNSUPPORTED = set(r"""fddi tr wlan link ppp radio slip atalk aarp ipx iso netbeui stp clnp esis isis
+    l1 l2 iih lsp snp csnp psnp \atalk \aarp \ipx \iso \netbeui \stp llc inbound outbound ifname on
+    rnr rulenum reason rset ruleset srnr subrulenum action ra ta addr1 addr2 addr3 addr4 type
+    subtype dir mpls pppoed pppoes geneve vpi vci lane oam oamf4 oamf4e oamf4s metac bcc sc ilmic
+    connectmsg metaconnect gateway protochain mask""".split())
+
+# a number, or a list of numbers in parentheses, that stands for their bitwise or
+CONSTANT = 'span', 'sum', ['<number>', ('(', '<number>', ('repeat', ('|', '<number>')), ')')]
+# the length or a load, without a mask and with one; in parentheses too
+TERM = [put('len', 'len'), ([put(word, word) for word in LOADS], '[', '<place>', ']'),
+        ('inside', 'term')]
+MASKED_TERM = [(TERM, '&', CONSTANT), ('inside', 'masked term')]
+COMPARISON = [TERM, MASKED_TERM], RELATION, CONSTANT
+
+# What the value of a head is, by the kind of the head; none is `host` without a word for it.
+VALUE_AFTER = {
+    'none': '<host>', 'host': '<host>', 'host4': '<host4>', 'host6': '<host6>', 'net': '<net>',
+    'net4': '<net4>', 'net6': '<net6>', 'port': '<port>', 'portrange': '<range>',
+    'proto': '<ip-number>', 'ether-proto': '<ether-type>', 'ether-host': '<hardware-address>'}
+NO_HEAD = 'host', None, 'either'
 
 
-def listed(item):
-    """a value, or a list of values in parentheses"""
-    return [('item', item), ('(', ('item', item), ('repeat', ('|', ('item', item))), ')')]
+def heads():
+    """(kind, name, phrase) of what stands before a value"""
+    for protocol, version in OF_PROTOCOL.items():
+        front = put(protocol, protocol or '')
+        yield 'host' + version, 'host', (front, [(OPTIONAL_DIRECTION, 'host'), (DIRECTION,)])
+        yield 'net' + version, 'net', (front, OPTIONAL_DIRECTION, 'net')
+    yield 'port', 'port', (TRANSPORT, OPTIONAL_DIRECTION, 'port')
+    yield 'portrange', 'portrange', (TRANSPORT, OPTIONAL_DIRECTION, 'portrange')
+    yield 'proto', 'proto', ([put(None, ''), put(4, 'ip'), put(6, 'ip6')], 'proto')
+    yield 'ether-proto', 'ether-proto', ('ether', 'proto')
+    yield 'ether-host', 'ether-host', ('ether', [(OPTIONAL_DIRECTION, 'host'), (DIRECTION,)])
 
 
-def with_mask(front):
-    """a load, also with a mask; in parentheses too"""
-    inner = (front, [NO_MASK, ('&', ('sum', listed('<value>')))])
-    return [inner, ('(', inner, ')')]
+def values(kind):
+    """a value, or a group of values in parentheses; negated any number of times"""
+    return NOTS, [('span', 'value', VALUE_AFTER[kind]), ('inside', ('values', kind))]
+
+
+def value_group(kind):
+    """values joined by one operator"""
+    return values(kind), ['', *((joined, values(kind), ('repeat', (joined, values(kind))))
+                                for joined in OPERATORS.values())]
 
 
 def primitives():
-    """(kind, name, phrase): the kind says which values a list can go on with"""
+    """(kind, phrase): the kind is that of its head, if it has one"""
     for words, tree in ALONE.items():
-        yield 'none', 'alone', ('put', tree, tuple(words.split()))
+        yield 'none', ('span', 'alone', put(tree, tuple(words.split())))
     for word in 'less', 'greater':
-        yield 'none', word, (word, '<number>')
-    yield 'none', 'vlan', ('vlan', '<vlan>')
-    yield 'none', 'len', ('len', [NO_MASK, ('&', '<number>')], RELATION, '<number>')
-    yield 'none', 'load', (
-        with_mask(([('put', word, word) for word in LOADS], '[', '<place>', ']')),
-        RELATION, ('sum', listed('<value>')))
-    for protocol, version in OF_PROTOCOL.items():
-        front = ('put', protocol, protocol or '')
-        yield ('host' + version, 'host',
-               (front, [(OPTIONAL_DIRECTION, 'host'), (DIRECTION,)], f'<host{version}>'))
-        yield ('net' + version, 'net',
-               (front, OPTIONAL_DIRECTION, 'net', net_values(version)))
-    yield 'port', 'port', (TRANSPORT, OPTIONAL_DIRECTION, 'port', '<port>')
-    yield 'portrange', 'portrange', (TRANSPORT, OPTIONAL_DIRECTION, 'portrange', '<range>')
-    yield 'proto', 'proto', ([('put', None, ''), ('put', 4, 'ip'), ('put', 6, 'ip6')], 'proto',
-                             '<ip-number>')
-    yield 'ether-proto', 'ether-proto', ('ether', 'proto', '<ether-type>')
-    yield 'ether-host', 'ether-host', (
-        'ether', [(OPTIONAL_DIRECTION, 'host'), (DIRECTION,)], '<hardware-address>')
-
-
-def net_values(version):
-    with_words = ('masked', ('<quad>', 'mask', '<mask>'))
-    return [f'<net{version}>', *([] if version == '6' else [with_words])]
-
-
-# what a value alone can be after a primitive of a kind
-ALONE_AFTER = {
-    'host': '<host>', 'host4': '<host4>', 'host6': '<host6>', 'net': net_values(''),
-    'net4': net_values('4'), 'net6': net_values('6'), 'port': '<port>', 'portrange': '<range>',
-    'proto': '<ip-number>', 'ether-proto': '<ether-type>', 'ether-host': '<hardware-address>'}
-# an address without a word before it, where no list goes on
-HOST_LEFT_OUT = ('primitive', 'host', ('put', None, ''), ('put', 'either', ''), '<host>')
-NOT, AND, OR = ['not', '!'], ['and', '&&'], ['or', '||']
+        yield 'none', ('span', word, (word, '<number>'))
+    yield 'none', ('span', 'vlan', ('vlan', '<vlan>'))
+    yield 'none', ('span', 'comparison', COMPARISON)
+    for kind, name, phrase in heads():
+        yield kind, (('span', name, phrase), values(kind))
 
 # ---- the network
 
 
 class Network:
-    """States and ways between them: a word to read, or an event to note without one."""
+    """States and ways between them: a word to read, an event to note without one, or parentheses
+    around what has a name. What is inside parentheses is read from the state where it starts."""
 
     def __init__(self, host_left_out=True):
         self.host_left_out = host_left_out
         self.by_word, self.silent, self.calls = [], [], []
-        self.start = self.state()
-        self.ends = set()
+        self.starts, self.ends = {}, set()
 
     def state(self):
         for table in self.by_word, self.silent, self.calls:
@@ -290,67 +327,62 @@ class Network:
             after = self.state()
             self.by_word[before].append((phrase, after))
             return after
-        if phrase and phrase[0] == 'put':
+        if phrase[0] == 'note':
             begun = self.state()
-            self.lead(before, begun, ('put', phrase[1]))
+            self.lead(before, begun, phrase[1])
             return self.add(phrase[2], begun)
-        if phrase and phrase[0] == 'repeat':
+        if phrase[0] == 'span':
+            begun, done = self.state(), self.state()
+            self.lead(before, begun, ('begin', phrase[1]))
+            self.lead(self.add(phrase[2], begun), done, ('end', phrase[1]))
+            return done
+        if phrase[0] == 'repeat':
             again = self.state()
             self.lead(before, again)
             self.lead(self.add(phrase[1], again), again)
             return again
-        if phrase and phrase[0] in ('sum', 'masked', 'item'):
-            begun, done = self.state(), self.state()
-            self.lead(before, begun, ('begin', phrase[0]))
-            self.lead(self.add(phrase[1], begun), done, ('end', phrase[0]))
-            return done
-        if phrase and phrase[0] == 'primitive':
-            begun, done = self.state(), self.state()
-            self.lead(before, begun, ('begin', phrase[1]))
-            self.lead(self.add(phrase[2:], begun), done, ('end', phrase[1]))
-            return done
+        if phrase[0] == 'inside':
+            after = self.state()
+            self.calls[before].append((phrase[1], after))
+            return after
         for part in phrase:
             before = self.add(part, before)
         return before
 
-    def nots(self, before):
-        """any number of negations"""
-        after = self.state()
-        self.lead(before, after)
-        self.lead(self.add(NOT, after), after, ('not',))
-        return after
+    def add_named(self, name, phrase):
+        """what parentheses hold"""
+        self.starts[name] = self.state()
+        self.ends.add(self.add(phrase, self.starts[name]))
 
-    def operands(self, before, after_kind):
-        """a primitive of any kind, or an expression in parentheses"""
-        begun = self.nots(before)
-        for kind, name, phrase in primitives():
-            self.lead(self.add(('primitive', name, phrase), begun), after_kind[kind])
-        self.calls[begun].append(after_kind['none'])
+    def operand(self, kind, before, after):
+        """a primitive, a value alone, or an expression in parentheses, where a head is that of the
+        primitive before; after each of them the state of the head that is then the last one"""
+        begun = self.add(NOTS, before)
+        for new_kind, phrase in primitives():
+            self.lead(self.add(phrase, begun), after[new_kind])
+        if kind != 'none' or self.host_left_out:
+            self.lead(self.add(('span', 'value', VALUE_AFTER[kind]), begun), after[kind])
+        self.lead(self.add(('inside', ('expression', kind)), begun), after[kind])
 
     def build(self):
-        kinds = ['none', *ALONE_AFTER]
-        first = {kind: self.state() for kind in kinds}
-        self.operands(self.start, first)
-        if self.host_left_out:
-            self.lead(self.add(HOST_LEFT_OUT, self.nots(self.start)), first['host'])
-        levels = [first]
-        for name, operator in ('and', AND), ('or', OR):
-            chain = {kind: self.state() for kind in kinds}
-            levels.append(chain)
-            for kind in kinds:
+        first = {kind: self.state() for kind in VALUE_AFTER}
+        for kind in VALUE_AFTER:
+            self.starts['expression', kind] = self.state()
+            self.operand(kind, self.starts['expression', kind], first)
+        self.ends.update(first.values())
+        for operator in OPERATORS.values():
+            chain = {kind: self.state() for kind in VALUE_AFTER}
+            for kind in VALUE_AFTER:
                 before = self.state()
                 for earlier in first, chain:
-                    read = self.add(operator, earlier[kind])
-                    self.lead(read, before, ('operator', name))
-                self.operands(before, chain)
-                if kind == 'none':
-                    if self.host_left_out:
-                        self.lead(self.add(HOST_LEFT_OUT, self.nots(before)), chain['host'])
-                else:
-                    value_alone = ('primitive', 'listed', ALONE_AFTER[kind])
-                    self.lead(self.add(value_alone, self.nots(before)), chain[kind])
-        for level in levels:
-            self.ends.update(level.values())
+                    self.lead(self.add(operator, earlier[kind]), before)
+                self.operand(kind, before, chain)
+            self.ends.update(chain.values())
+        for kind in VALUE_AFTER:
+            self.add_named(('values', kind), value_group(kind))
+        self.add_named('term', TERM)
+        self.add_named('masked term', MASKED_TERM)
+        self.start = self.starts['expression', 'none']
         self.close()
         return self
 
@@ -364,8 +396,8 @@ class Network:
                 at, events = ways.pop()
                 for word, after in self.by_word[at]:
                     words.setdefault(word, []).append((after, events))
-                for after in self.calls[at]:
-                    calls.append((after, events))
+                for name, after in self.calls[at]:
+                    calls.append((self.starts[name], after, events))
                 if at in self.ends:
                     ends.append(events)
                 for event, after in self.silent[at]:
@@ -403,8 +435,8 @@ def step(network, ways, word):
             for after, events in table.get(terminal, ()):
                 found.append((after, returns, (noted, events, word)))
         if word == '(':
-            for after, events in network.next_calls[state]:
-                found.append((network.start, (returns, after), (noted, events, '(')))
+            for start, after, events in network.next_calls[state]:
+                found.append((start, (returns, after), (noted, events, '(')))
         elif word == ')' and returns:
             outer, after = returns
             for events in network.at_end[state]:
@@ -412,14 +444,25 @@ def step(network, ways, word):
     return found
 
 
+def why_not(network, ways, word):
+    """the kind of a refusal at a word that cannot stand there"""
+    if word in UNSUPPORTED:
+        return 'unsupported'
+    if word in OTHER_OPERATOR and step(network, ways, OTHER_OPERATOR[word]):
+        return 'mixed'
+    return 'unexpected'
+
+
 def read(text, network=NETWORK):
-    """('ok', tree), ('unexpected', place), ('incomplete',) or ('too long',)"""
+    """('ok', tree), ('incomplete',), ('too long',), or the kind of a refusal at a word and its
+    place: ('mixed', place) for `and` or `or` where only the other one can stand, ('unsupported',
+    place) for a word of pcap-filter(7) that the language lacks, else ('unexpected', place)"""
     words = words_of(text)
     ways = [(network.start, None, None)]
     for at, word in words[:MAX_WORDS]:
-        ways = step(network, ways, word)
+        before, ways = ways, step(network, ways, word)
         if not ways:
-            return 'unexpected', at
+            return why_not(network, before, word), at
     if len(words) > MAX_WORDS:
         return 'too long',
     whole = [(noted, events, None) for state, returns, noted in ways if returns is None
@@ -449,119 +492,103 @@ def flat(noted):
 
 def tree_of(noted):
     given = flat(noted)
-    tree, at, _ = expression(given, 0)
+    tree, at = expression(given, 0, NO_HEAD)
     assert at == len(given)
     return tree
 
 
-def expression(given, at):
-    """the tree of a level, the place after it, and the qualifiers of the last primitive"""
-    left, at, qualifiers = operand(given, at, None)
-    while at < len(given) and given[at] != ('word', ')'):
-        if given[at][0] != 'operator':
-            # the words `and`, `or`, `&&` and `||` come before the event that names them
-            at += 1
-            continue
+def expression(given, at, head):
+    """the tree of a level, and the place after it; also that of a group of values"""
+    left, at, head = operand(given, at, head)
+    while at < len(given) and given[at][0] == 'operator':
         name = given[at][1]
-        right, at, qualifiers = operand(given, at + 1, qualifiers)
+        right, at, head = operand(given, at + 1, head)
         left = (name, left, right)
-    return left, at, qualifiers
+    return left, at
 
 
-def operand(given, at, qualifiers):
+def operand(given, at, head):
+    """the tree of what stands between operators, the place after it, and the head that is then the
+    last one"""
     nots = 0
-    while True:
-        if given[at] == ('not',):
-            nots += 1
-        elif given[at] == ('word', '(') or given[at][0] == 'begin':
-            break
+    while given[at] != ('word', '(') and given[at][0] != 'begin':
+        nots += given[at] == ('not',)
         at += 1
     if given[at] == ('word', '('):
-        tree, at, _ = expression(given, at + 1)
-        at, qualifiers = at + 1, None
+        tree, at = expression(given, at + 1, head)
+        assert given[at] == ('word', ')')
+        at += 1
     else:
         name, end = given[at][1], at + 1
         while given[end] != ('end', name):
             end += 1
-        tree, qualifiers = primitive(name, given[at + 1:end], qualifiers)
-        at = end + 1
+        span, at = given[at + 1:end], end + 1
+        if name == 'value':
+            tree = valued(head, span[0][1])
+        elif name in HEADS:
+            head = (name, *puts(span))
+            tree, at, _ = operand(given, at, head)
+        else:
+            tree, head = primitive(name, span), NO_HEAD
     for _ in range(nots):
         tree = ('not', tree)
-    return tree, at, qualifiers
+    return tree, at, head
+
+
+HEADS = {name for _, name, _ in heads()}
 
 
 def puts(given):
     return [one[1] for one in given if one[0] == 'put']
 
 
-def last_word(given):
-    return [one[1] for one in given if one[0] == 'word'][-1]
+def words_in(given):
+    return [one[1] for one in given if one[0] == 'word']
 
 
-def net_value(given):
-    words = [one[1] for one in given if one[0] == 'word']
-    if ('begin', 'masked') in given:
-        return (*ipv4(words[-3]), mask(words[-1]))
-    return VALUES['net'](words[-1])
-
-
-def sum_of(given):
-    """the bitwise or of the values in a list"""
-    total, inside = 0, False
-    for one in given:
-        if one[0] == 'begin' and one[1] == 'item':
-            inside = True
-        elif one[0] == 'end' and one[1] == 'item':
-            inside = False
-        elif inside and one[0] == 'word':
-            total |= value(one[1])
-    return total
-
-
-def valued(qualifiers, given):
-    """a primitive with a value, by its qualifiers"""
-    name, *rest = qualifiers
+def valued(head, word):
+    """what a value says after its head"""
+    name, *rest = head
     if name == 'host':
-        return ('net', *rest, *host_of(address)(last_word(given)))
+        return ('net', *rest, *host_of(address)(word))
     if name == 'net':
-        return ('net', *rest, *net_value(given))
+        return ('net', *rest, *VALUES['net'](word))
     if name == 'port':
-        found = port(last_word(given))
-        return ('ports', *rest, found, found)
+        return ('ports', *rest, port(word), port(word))
     if name == 'portrange':
-        return ('ports', *rest, *port_range(last_word(given)))
+        return ('ports', *rest, *port_range(word))
     if name == 'proto':
-        return ('proto', *rest, ip_number(last_word(given)))
+        return ('proto', *rest, ip_number(word))
     if name == 'ether-proto':
-        return ('ether-type', ether_type(last_word(given)))
-    return ('ether-host', *rest, hardware_address(last_word(given)))
+        return ('ether-type', ether_type(word))
+    return ('ether-host', *rest, hardware_address(word))
 
 
-def primitive(name, given, qualifiers):
-    """the tree of a primitive, and its qualifiers"""
-    if name == 'listed':
-        return valued(qualifiers, given), qualifiers
+def sums(given):
+    """the bitwise or of each list of numbers"""
+    found = []
+    for at, one in enumerate(given):
+        if one == ('begin', 'sum'):
+            total = 0
+            for word in words_in(given[at:given.index(('end', 'sum'), at)]):
+                total |= number(word) or 0
+            found.append(total)
+    return found
+
+
+def primitive(name, given):
+    """the tree of a primitive without a head"""
     if name == 'alone':
-        return puts(given)[0], None
-    if name in ('less', 'greater'):
-        return (name, number(last_word(given))), None
-    if name == 'vlan':
-        return ('vlan', number(last_word(given))), None
-    words = [one[1] for one in given if one[0] == 'word']
-    if name == 'len':
-        masked = number(words[2]) if words[1] == '&' else None
-        return ('len', masked, puts(given)[-1], number(words[-1])), None
-    if name == 'load':
-        sums = []
-        for at, one in enumerate(given):
-            if one == ('begin', 'sum'):
-                sums.append(sum_of(given[at:given.index(('end', 'sum'), at)]))
-        found = puts(given)
-        at, size = place(words[words.index('[') + 1])
-        return ('load', found[0], at, size, sums[0] if len(sums) == 2 else None, found[-1],
-                sums[-1]), None
-    kept = (name, *puts(given))
-    return valued(kept, given), kept
+        return puts(given)[0]
+    words = words_in(given)
+    if name in ('less', 'greater', 'vlan'):
+        return name, number(words[-1])
+    of, relation = puts(given)
+    *mask, constant = sums(given)
+    mask = mask[0] if mask else None
+    if of == 'len':
+        return 'len', mask, relation, constant
+    return 'load', of, *place(words[words.index('[') + 1]), mask, relation, constant
 
 
 def shown(tree):

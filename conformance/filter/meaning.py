@@ -19,9 +19,7 @@ TAGS = 0x8100, 0x88a8, 0x9100
 # identity, shim6: the extension headers of IPv6 that have a length or are of a fixed one
 EXTENSIONS = 0, 43, 44, 51, 60, 135, 139, 140
 NUMBERS = {'tcp': 6, 'udp': 17, 'sctp': 132}
-# loads of what IP carries: the version that they are of, or either, and the number
-CARRIED = {'tcp': (None, 6), 'udp': (None, 17), 'sctp': (None, 132), 'icmp': (4, 1),
-           'igmp': (4, 2), 'icmp6': (6, 58)}
+ARP_TYPES = {'arp': 0x806, 'rarp': 0x8035}
 WIDTH = {4: 32, 6: 128}
 LINK_HEADERS = {1: 14, 101: 0, 113: 16, 276: 20}
 ETHER_TYPE_AT = {1: 12, 113: 14, 276: 0}
@@ -37,6 +35,8 @@ class Ip:
     destination: int
     # header, extension headers and payload
     whole: bytes
+    # without extension headers
+    header: bytes
     # the number of the payload, or of the extension header that is cut
     upper: int
     payload: bytes
@@ -71,8 +71,9 @@ def read_ipv4(data):
     whole = data if total == 0 else data[:total]
     flags = number_at(data, 6)
     offset, more = flags % 2**13, flags // 2**13 % 2
-    return Ip(4, number_at(data, 12, 4), number_at(data, 16, 4), whole, data[9],
-              whole[header_length:], bool(more or offset), offset > 0, 0 < total <= len(data))
+    return Ip(4, number_at(data, 12, 4), number_at(data, 16, 4), whole, data[:header_length],
+              data[9], whole[header_length:], bool(more or offset), offset > 0,
+              0 < total <= len(data))
 
 
 def read_ipv6(data):
@@ -98,8 +99,8 @@ def read_ipv6(data):
             later = place // 8 > 0
         chain.append(number)
         number, rest = rest[0], rest[length:]
-    return Ip(6, number_at(data, 8, 16), number_at(data, 24, 16), whole, number, rest, fragment,
-              later, complete, chain)
+    return Ip(6, number_at(data, 8, 16), number_at(data, 24, 16), whole, data[:40], number, rest,
+              fragment, later, complete, chain)
 
 
 def read_frame(data, link_type=1):
@@ -135,7 +136,7 @@ def addresses(frame, protocol):
         if protocol in (None, 'ip' if ip.version == 4 else 'ip6'):
             return (ip.version, ip.source), (ip.version, ip.destination)
         return None, None
-    for name, ether_type in ('arp', 0x806), ('rarp', 0x8035):
+    for name, ether_type in ARP_TYPES.items():
         if protocol in (None, name) and frame.ether_type == ether_type:
             return arp_addresses(frame, ether_type)
     return None, None
@@ -161,12 +162,13 @@ def bytes_of_load(frame, protocol):
     ip = frame.ip
     if protocol == 'ether':
         return frame.ethernet or None
+    if protocol in ARP_TYPES:
+        return frame.payload if frame.ether_type == ARP_TYPES[protocol] else None
     if ip is None:
         return None
     if protocol in ('ip', 'ip6'):
         return ip.whole if ip.version == (4 if protocol == 'ip' else 6) else None
-    version, number = CARRIED[protocol]
-    if ip.later or not has_number(frame, version, number):
+    if ip.later or not has_number(frame, *grammar.CARRIED[protocol]):
         return None
     return ip.payload
 
@@ -186,8 +188,13 @@ def ones_complement_sum(data):
 
 
 def checksum_is_wrong(ip):
-    """whether a receiver finds the checksum of UDP, TCP, ICMP or ICMPv6 wrong"""
-    if ip is None or ip.fragment or not ip.complete:
+    """whether a receiver finds the checksum of the IPv4 header, or of UDP, TCP, ICMP or ICMPv6
+    wrong; a fragment, or a packet that is cut, has none of the latter"""
+    if ip is None:
+        return False
+    if ip.version == 4 and ones_complement_sum(ip.header) != 0xffff:
+        return True
+    if ip.fragment or not ip.complete:
         return False
     icmp = 1 if ip.version == 4 else 58
     covered = ip.payload

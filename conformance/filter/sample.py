@@ -1,32 +1,37 @@
 #!/usr/bin/env python3
-"""sample.py [--today] [--seed S]: writes the cases `filter` anew at the end of the files stdin and
-stdout of crates/conformance, with libpcap's answers (SAMPLE.md there).
+"""sample.py [--kinds] [--seed S]: writes the cases `filter` anew at the end of the files stdin and
+stdout of crates/conformance (SAMPLE.md there).
 
-The cases are expressions that libpcap reads as they stand, on plain frames, where no intended
-difference applies (compare.py). Its programs have to agree with and without its optimiser, and so
-has the model (meaning.py), or it stops before anything is written. Half of the answers of each kind
-are `true`. Texts that are refused, which libpcap does not do at a place, have the answer of
+Most answers are libpcap's, on plain frames where no intended difference applies (compare.py). Its
+programs have to agree with and without its optimiser, and so has the model (meaning.py), or the
+script stops before anything is written. The others are the model's. Half of the answers of each
+kind are `true`. Texts that are refused, which libpcap does not do at a place, have the answer of
 grammar.py.
 
-`--today` leaves out what is not of the language of 26 November 2026: loads, lists of values and
-others; and the texts that are refused."""
+`--kinds` is for a program that tells the kinds `mixed` and `unsupported` of refusals: it takes texts
+that are refused so too."""
 import argparse
 import collections
 import os
-import re
+import struct
 import sys
 
 import compare
 import grammar
 import meaning
 from libpcap import CompileError, Libpcap
-from random_cases import ADDRESSES4, ADDRESSES6, HARDWARE, PORTS, Cases
+from random_cases import Cases
 
 HERE = os.path.dirname(os.path.abspath(__file__))
 FILES = [os.path.join(HERE, '../../crates/conformance', name) for name in ('stdin', 'stdout')]
-# how many cases: random expressions on Ethernet, after other link headers, real ones, refusals
-RANDOM, OTHER_LINKS, REAL, REFUSED = 1000, 150, 200, 150
-LONGEST_FRAME = 110
+# how many cases: random expressions as libpcap reads them, in its own words, on frames with tags and
+# extension headers, on others by the model, after other link headers, and real ones
+RANDOM, IN_ITS_WORDS, COVERED, BY_MODEL, OTHER_LINKS, REAL = 600, 80, 60, 100, 120, 180
+REFUSED = {'unexpected': 125, 'incomplete': 30, 'too long': 5}
+OTHER_KINDS = {'mixed': 20, 'unsupported': 20}
+# how many are refused at their first word
+REFUSED_AT_ONCE = 15
+LONGEST_FRAME, LONGEST_TEXT, LONGEST_REAL_TEXT = 80, 56, 150
 
 NO_CASES = ['filter', 'filter 1', 'filter 1 - 0', 'filter 2 - 0 6970', 'filter 1 - 0 6970 0',
             'filter 1 0 0 6970', 'filter 01 - 0 6970', 'filter 4294967296 - 0 6970',
@@ -36,31 +41,10 @@ NO_FRAMES = [(f'filter {link} {"00" * (most - 1) or "-"} 0 6970',
               f'err link required={most} len={most - 1}')
              for link, most in ((0, 4), (1, 14), (108, 4), (113, 16), (276, 20))]
 
-NUMBER = r'(0|[1-9][0-9]*)'
-ADDRESS = r'([0-9]+(\.[0-9]+){3}|[0-9a-f:.]*:[0-9a-f:.]*)'
-OF_TODAY = re.compile('|'.join([
-    'ip|ip6|arp|rarp|tcp|udp|sctp|icmp|igmp|icmp6|esp|ah|fragment|first fragment',
-    rf'((ip|ip6) )?proto {NUMBER}', rf'((src|dst) )?host {ADDRESS}',
-    rf'((src|dst) )?net {ADDRESS}/{NUMBER}',
-    rf'((tcp|udp|sctp) )?((src|dst) )?(port {NUMBER}|portrange {NUMBER}-{NUMBER})',
-    rf'vlan( {NUMBER})?', f'(less|greater) {NUMBER}']))
-JOINING = {'and', 'or', 'not', '!', '&&', '||', '(', ')'}
-
-
-def is_of_today(text):
-    """each run of words that does not join expressions is a primitive of that day"""
-    runs = [[]]
-    for _, word in grammar.words_of(text):
-        if word in JOINING:
-            runs.append([])
-        else:
-            runs[-1].append(word)
-    return all(OF_TODAY.fullmatch(' '.join(run)) for run in runs if run)
-
 
 class Sample:
-    def __init__(self, seed, today):
-        self.cases, self.today = Cases(seed), today
+    def __init__(self, seed):
+        self.cases = Cases(seed)
         self.libraries = {number: Libpcap(compare.OWN_NUMBER.get(number, number))
                           for number in meaning.LINK_HEADERS}
         self.lines, self.kinds = {}, collections.Counter()
@@ -77,35 +61,100 @@ class Sample:
             library.free(program)
         return said.pop() if len(said) == 1 else None
 
-    def take(self, text, frame, wire, link_type=1, wanted=None):
-        """adds a case, if it is one that has to agree and has the wanted answer"""
-        kind, *rest = grammar.read(text)
-        if kind != 'ok' or compare.OWN_WORDS & {word for _, word in grammar.words_of(text)}:
-            return False
-        if self.today and not is_of_today(text):
-            return False
-        whole = meaning.read_frame(frame, link_type)
-        pair = compare.Pair(text, rest[0], whole)
-        if any(applies(pair) for _, applies in compare.INTENDED):
-            return False
-        said = self.libpcap_answer(text, frame, wire, link_type)
-        if said is None or wanted not in (None, said):
-            return False
-        if said != meaning.matches(rest[0], whole, wire):
-            sys.exit(f'libpcap and the model differ: {text} {frame.hex()} {wire} {link_type}')
+    def add(self, kind, text, frame, wire, link_type, said, wanted):
+        """adds a case, if it is new and has the wanted answer"""
         case = f'filter {link_type} {frame.hex()} {wire} {text.hex()}'
-        if case in self.lines:
+        if case in self.lines or wanted not in (None, said):
             return False
         self.lines[case] = 'true' if said else 'false'
-        self.kinds[link_type, said] += 1
+        self.kinds[kind, said] += 1
         return True
 
-    def random(self, count):
+    def by_model(self, kind, text, frame, wire, wanted=None):
+        """a case with the model's answer"""
+        read = grammar.read(text)
+        said = read[0] == 'ok' and meaning.matches(read[1], meaning.read_frame(frame), wire)
+        return read[0] == 'ok' and self.add(kind, text, frame, wire, 1, said, wanted)
+
+    def take(self, kind, text, frame, wire, link_type=1, wanted=None, also=None, words=False):
+        """A case that has to agree with libpcap: a text that it reads as it stands, or with `words`
+        one that it does not, which it gets in its own words. With `also`, the case has that frame,
+        where the answer has to be the same."""
+        read = grammar.read(text)
+        if read[0] != 'ok' or len(text) > (LONGEST_REAL_TEXT if kind == 'real' else LONGEST_TEXT):
+            return False
+        whole = meaning.read_frame(frame, link_type)
+        pair = compare.Pair(text, read[1], whole)
+        if pair.has('checksum-wrong') or any(applies(pair) for _, applies in compare.INTENDED):
+            return False
+        said = None
+        if not compare.OWN_WORDS & pair.words:
+            said = self.libpcap_answer(text, frame, wire, link_type)
+        if words:
+            if said is not None:
+                return False
+            said = self.libpcap_answer(compare.text_of(read[1]), frame, wire, link_type)
+        if said is None:
+            return False
+        answers = [meaning.matches(read[1], whole, wire)]
+        if also is not None:
+            if compare.is_about_cover(pair):
+                return False
+            frame, wire = also, len(also)
+            answers.append(meaning.matches(read[1], meaning.read_frame(frame), wire))
+        if any(answer != said for answer in answers):
+            sys.exit(f'libpcap and the model differ: {text} {frame.hex()} {wire} {link_type}')
+        return self.add(kind, text, frame, wire, link_type, said, wanted)
+
+    def random(self, count, words=False):
         done = 0
         while done < count:
             frame, wire = self.cases.frame()
             if len(frame) <= LONGEST_FRAME:
-                done += self.take(self.cases.expression(), frame, wire, wanted=done % 2 == 0)
+                done += self.take('in its words' if words else 'as they stand',
+                                  self.cases.expression(), frame, wire, wanted=done % 2 == 0,
+                                  words=words)
+
+    def covered(self, count):
+        """a plain frame with tags, extension headers and padding: libpcap says what is true of it
+        without them"""
+        done = 0
+        while done < count:
+            frame, _ = self.cases.frame()
+            also = self.cases.covered(frame)
+            if frame != also and len(also) <= LONGEST_FRAME:
+                done += self.take('covered', self.cases.expression(), frame, len(frame),
+                                  wanted=done % 2 == 0, also=also)
+
+    def on_others(self, count):
+        """half of them about what libpcap has no words for"""
+        done = 0
+        while done < count:
+            frame, wire = self.cases.frame(plain=done % 4 > 1)
+            text = self.cases.expression() if done % 4 < 2 else self.cases.spaced(
+                self.cases.pick([['checksum', 'wrong'], ['checksum', 'wrong'], ['fragment'],
+                                 ['first', 'fragment']]))
+            if len(frame) <= LONGEST_FRAME and len(text) <= LONGEST_TEXT:
+                done += self.by_model('by the model', text, frame, wire, wanted=done % 2 == 0)
+
+    def names(self):
+        """each name once, where it is true"""
+        ethernet = bytes(12)
+        for name, number in grammar.NUMBER_NAMES.items():
+            self.take('names', f'len={name}'.encode(), ethernet + b'\0\0', number)
+        for name, number in grammar.ETHER_TYPES.items():
+            frame = ethernet + number.to_bytes(2, 'big')
+            self.by_model('names', f'ether proto {name}'.encode(), frame, len(frame))
+        for name, number in grammar.PORT_NAMES.items():
+            frame = ethernet + ip_packet(4, 17, struct.pack('>HHHH', 0, number, 8, 0))
+            self.by_model('names', f'port {name}'.encode(), frame, len(frame))
+        for name, number in grammar.IP_NUMBERS.items():
+            frame = ethernet + ip_packet(4, number, b'')
+            self.by_model('names', f'proto {name}'.encode(), frame, len(frame))
+        for name, (version, number) in grammar.CARRIED.items():
+            for found in (4, 6) if version is None else (version,):
+                frame = ethernet + ip_packet(found, number, b'\0\1')
+                self.by_model('names', f'{name}[1]=1'.encode(), frame, len(frame))
 
     def lengths(self):
         """lengths on the wire beside a limit, of a frame with all bytes and one with fewer"""
@@ -113,7 +162,7 @@ class Sample:
         for wire in len(frame), len(frame) + 46:
             for limit in wire - 1, wire, wire + 1:
                 for word in 'less', 'greater':
-                    self.take(f'{word} {limit}'.encode(), frame, wire)
+                    self.take('lengths', f'{word} {limit}'.encode(), frame, wire)
 
     def other_links(self, count):
         """IP packets without a link header, and after those of Linux cooked captures"""
@@ -126,11 +175,10 @@ class Sample:
             text = self.cases.expression()
             if 'ether' in text.decode() or 'cast' in text.decode() or b'vlan' in text:
                 continue
-            front = {101: b'', 113: b'\0\0\0\1\0\6' + frame[6:12] + b'\0\0' + frame[12:14],
-                     276: frame[12:14] + b'\0\0\0\0\0\2\0\1\0\6' + frame[6:12] + b'\0\0'}
-            frame = front[link_type] + frame[14:]
+            frame = self.cases.relinked(frame, link_type)
             if len(frame) <= LONGEST_FRAME:
-                done += self.take(text, frame, len(frame), link_type, done // 3 % 2 == 0)
+                done += self.take('after other headers', text, frame, len(frame), link_type,
+                                  done // 3 % 2 == 0)
 
     def real(self, count):
         """real expressions on frames of their addresses and ports, as far as there are some"""
@@ -139,47 +187,51 @@ class Sample:
         while done < count and tries < 400 * count:
             tries += 1
             text = self.cases.pick(texts)
-            self.aim(text)
+            self.cases.aim(text)
             frame, wire = self.cases.frame()
             if len(frame) <= LONGEST_FRAME:
-                done += self.take(text, frame, wire, wanted=done % 2 == 0)
-        return done
+                done += self.take('real', text, frame, wire, wanted=done % 2 == 0)
 
-    def aim(self, text):
-        """most of the time, lets frames have the values of a text"""
-        words = [] if self.cases.chance(0.3) else [
-            word.partition('/')[0] for _, word in grammar.words_of(text)]
-        for pool, usual, kind in (('addresses4', ADDRESSES4, grammar.ipv4),
-                                  ('addresses6', ADDRESSES6, grammar.ipv6),
-                                  ('hardware', HARDWARE, grammar.hardware_address)):
-            found = [word for word in words if kind(word)]
-            setattr(self.cases, pool, found * 3 + usual[:2] if found else usual)
-        found = [grammar.port(word) for word in words if grammar.port(word)]
-        self.cases.ports = found * 3 + PORTS[:2] if found else PORTS
-
-    def refused(self, count):
-        done = 0
-        while done < count:
-            text = self.cases.text(self.cases.pick(['bytes', 'words', 'changed', 'changed']))
+    def refused(self, counts):
+        counts, at_once = dict(counts), REFUSED_AT_ONCE
+        while any(counts.values()):
+            text = self.cases.text(self.cases.pick(['bytes', 'words', 'ways', 'ways', 'changed']))
             read = grammar.read(text)
             case = f'filter 1 {"00" * 14} 14 {text.hex() or "-"}'
-            if read[0] != 'ok' and len(text) < 400 and case not in self.lines:
-                self.lines[case] = meaning.refusal(*read)
-                done += 1
+            longest = 400 if read[0] == 'too long' else LONGEST_TEXT
+            if not counts.get(read[0]) or len(text) > longest or case in self.lines:
+                continue
+            if read[1:] == (0,):
+                if at_once == 0:
+                    continue
+                at_once -= 1
+            self.lines[case] = meaning.refusal(*read)
+            self.kinds['refused', read[0]] += 1
+            counts[read[0]] -= 1
+
+
+def ip_packet(version, number, payload):
+    """an EtherType, and a packet with it whose header has nothing else to tell"""
+    if version == 4:
+        return b'\x08\0' + struct.pack('>BxH5xB10x', 0x45, 20 + len(payload), number) + payload
+    return b'\x86\xdd' + struct.pack('>BxxxHB33x', 0x60, len(payload), number) + payload
 
 
 def main():
     parser = argparse.ArgumentParser(usage=__doc__)
     parser.add_argument('--seed', type=int, default=1)
-    parser.add_argument('--today', action='store_true')
+    parser.add_argument('--kinds', action='store_true')
     asked = parser.parse_args()
-    sample = Sample(asked.seed, asked.today)
+    sample = Sample(asked.seed)
     sample.random(RANDOM)
+    sample.random(IN_ITS_WORDS, words=True)
+    sample.covered(COVERED)
+    sample.on_others(BY_MODEL)
     sample.other_links(OTHER_LINKS)
     sample.real(REAL)
     sample.lengths()
-    if not asked.today:
-        sample.refused(REFUSED)
+    sample.names()
+    sample.refused({**REFUSED, **(OTHER_KINDS if asked.kinds else {})})
     lines = [*sample.lines.items(), *NO_FRAMES, *((case, 'bad line') for case in NO_CASES)]
     before = []
     with open(FILES[0], encoding='ascii') as cases, open(FILES[1], encoding='ascii') as answers:
@@ -189,8 +241,8 @@ def main():
     for at, name in enumerate(FILES):
         with open(name, 'w', encoding='ascii') as file:
             file.writelines(line[at] + '\n' for line in before + lines)
-    for (link_type, said), count in sorted(sample.kinds.items()):
-        print(f'link type {link_type}, {said}: {count}', file=sys.stderr)
+    for (kind, said), count in sample.kinds.items():
+        print(f'{kind}, {str(said).lower()}: {count}', file=sys.stderr)
     print(f'{len(lines)} cases', file=sys.stderr)
 
 
