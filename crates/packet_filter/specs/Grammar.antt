@@ -31,7 +31,7 @@ use Rattle.packet_filter.specs.declared.token.Token.TheVariants as token
 
 -- ---- qualifiers
 
--- each can be left out
+-- words before a head, each of which can be left out
 abbrev pub version_words : Option Version → List Token
 version_words None = []
 version_words (Some v) = token.Network (network.Ip v) ∷ []
@@ -81,6 +81,7 @@ abbrev pub bits_of : Address → ℕ
 bits_of (V4 a) = 32
 bits_of (V6 a) = 128
 
+-- it is an IPv4 address
 abbrev pub is_version_4 : Address → Bool
 is_version_4 (V4 a) = true
 is_version_4 (V6 a) = false
@@ -89,7 +90,7 @@ is_version_4 (V6 a) = false
 abbrev pub provided : Bool → Primitive → Option Primitive
 provided is p = if is then Some p else None
 
--- an address of a version that the protocol has: ARP and RARP are asked for IPv4 addresses
+-- the address is of a version that the protocol has; ARP and RARP are asked for IPv4 addresses
 abbrev pub fits : Option Network → Address → Bool
 fits None a = true
 fits (Some (network.Ip Ipv4)) a = is_version_4 a
@@ -121,12 +122,13 @@ value_of _ _ = None
 
 -- ---- words that stand alone
 
--- the group bit of an Ethernet destination, the lowest of its first byte (IEEE 802 section 8.2.2)
+-- the bit of an Ethernet destination that says that it is a group of stations: the lowest of its
+-- first byte (IEEE 802.3 section 3.2.3)
 abbrev pub ethernet_multicast : Primitive
 ethernet_multicast =
     says.Compare (Load layer.Ether 0 One) (Some 1) relation.NotEqual 0
 
--- the destination of all stations (IEEE 802 section 8.2.2)
+-- the destination that is all stations: all bits are 1 (IEEE 802.3 section 3.2.3)
 abbrev pub ethernet_broadcast : Primitive
 ethernet_broadcast =
     says.Hardware (Some direction.Destination) (255 ∷ 255 ∷ 255 ∷ 255 ∷ 255 ∷ 255 ∷ [])
