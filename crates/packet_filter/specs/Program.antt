@@ -25,7 +25,7 @@ abbrev pub built : List Step → List Expression → Option (List Expression)
 built [] es = Some es
 built (s ∷ steps) es = and_then (stepped s es) (built steps)
 
--- the expression on top
+-- the expression on top; of an empty stack any, since the steps of a filter compute one
 abbrev pub top_of : Option (List Expression) → Expression
 top_of None = one primitive.Fragment
 top_of (Some []) = one primitive.Fragment
