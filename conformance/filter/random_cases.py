@@ -10,13 +10,13 @@ text in hex. The same arguments give the same cases. KIND is
     words    texts of words of the language in random order
     ways     texts that go on with any words that can follow, most of them with a wrong word at the
              end
-    links    expressions, and frames without an Ethernet header or with those of Linux cooked captures
+    links    expressions, and IP packets alone or frames with the headers of Linux cooked captures
     covered  expressions, each first on a plain frame and then on the same with tags, extension
              headers and padding, where it has to say the same
-    changed  expressions, and those of real.txt, with a word or a byte changed, and some that are too
-             long
-    values   numbers, addresses, ranges and the like in all their forms and nearly so, on frames that
-             have them
+    changed  expressions, and those of real.txt, with a word or a byte changed, and some that are
+             too long
+    values   numbers, addresses, ranges and the like in all their forms and nearly so, on frames
+             that have them
     real     those of real.txt in turn, on frames with their addresses and ports
 
 `--frames` is how many frames an expression gets. The addresses, ports and flags come from small
@@ -48,16 +48,15 @@ FLAGS = [0x02, 0x12, 0x10, 0x18, 0x11, 0x04, 0x14, 0x01, 0xc2, 0x20, 0x00, 0x29]
 EXTENSIONS = [0, 43, 44, 51, 60, 135, 139, 140]
 
 # values and what is nearly one
-SOME_WORDS = r"""80 443 0x50 0X50 0X1bb 0xa.0 10.0x0 65535 65536 4294967295 4294967296 080 0 00 0x 255 256 4095 4096 1500
-    1501 0x5dc 80-90 90-80 80- -80 10.0.0.1 10.0.0.256 10.0.0 10 10/8 10/33 10/0x8 10/08 0xa
-    10.0.0.0/8 10.0.0.1/8 10.0.0.0/33 10.0.0.0/0x20 /8 10.0.0.0/ 10/tcp-push icmp-echo/8
-    255.0.0.0 255.0.255.0 :: ::1 fe80::1 fe80::/10 ::/129 ::/0x80 ::1:: 1:2:3:4:5:6
+SOME_WORDS = r"""80 443 0x50 0X50 0X1bb 0xa.0 10.0x0 65535 65536 4294967295 4294967296 080 0 00 0x
+    255 256 4095 4096 1500 1501 0x5dc 80-90 90-80 80- -80 10.0.0.1 10.0.0.256 10.0.0 10 10/8 10/33
+    10/0x8 10/08 0xa 10.0.0.0/8 10.0.0.1/8 10.0.0.0/33 10.0.0.0/0x20 /8 10.0.0.0/ 10/tcp-push
+    icmp-echo/8 255.0.0.0 255.0.255.0 :: ::1 fe80::1 fe80::/10 ::/129 ::/0x80 ::1:: 1:2:3:4:5:6
     0:0:0:0:0:0:0:1 a:b:c:d:e:f 00:11:22:33:44:55 00:11:22:33:44:5 00-11-22-33-44-55
-    0011.2233.4455 001122334455 0:1:2:3:4:g 12:2 12:3 0:1 0:01 0x0c:2 0:0x2 13 tcpflags
-    tcpflags:1 tcpflags:2 tcpflags:3 icmptype icmp6code:4 tcp-syn tcp-syn:2 tcp-fin-tcp-syn
-    icmp-echo icmp6-echo icmp6-multicastrouterterm http domain ftp-data login http:2 \tcp \ip gre
-    \gre eigrp ipv6-icmp loopback \loopback \isis""".split()
-WORD_PROTOCOLS = [*grammar.CARRIED]
+    0011.2233.4455 001122334455 0:1:2:3:4:g 12:2 12:3 0:1 0:01 0x0c:2 0:0x2 13 tcpflags tcpflags:1
+    tcpflags:2 tcpflags:3 icmptype icmp6code:4 tcp-syn tcp-syn:2 tcp-fin-tcp-syn icmp-echo
+    icmp6-echo icmp6-multicastrouterterm http domain ftp-data login http:2 \tcp \ip gre \gre eigrp
+    ipv6-icmp loopback \loopback \isis""".split()
 FIXED, UNSUPPORTED = sorted(grammar.FIXED), sorted(grammar.UNSUPPORTED)
 # words of each kind of value
 VALUES_OF = {f'<{kind}>': [
@@ -416,7 +415,7 @@ class Cases:
             return [self.pick(self.facts['words'])], None
         if self.chance(0.7):
             return [self.pick(['tcp', 'udp', 'ip', 'icmp', 'arp', 'ip6', 'icmp6'])], None
-        return [self.pick(['rarp', *WORD_PROTOCOLS, 'decnet', 'lat', 'moprc', 'mopdl',
+        return [self.pick(['rarp', *grammar.CARRIED, 'decnet', 'lat', 'moprc', 'mopdl',
                            'sca'])], None
 
     def ip_number(self):
@@ -609,8 +608,8 @@ class Cases:
         if self.chance(0.15):
             at = self.dice.randrange(len(source))
             # a byte more, another one, or one less
-            more = self.pick([b'', self.some_bytes(1), self.pick([b'0', b'1', b'x', b':', b'.', b'/',
-                                                                b'-', b'\\', b'\v', b'\f', b'('])])
+            usual = b'0', b'1', b'x', b':', b'.', b'/', b'-', b'\\', b'\v', b'\f', b'('
+            more = self.pick([b'', self.some_bytes(1), self.pick(usual)])
             return source[:at] + more + source[at + self.pick([0, 1]):]
         words = [word for _, word in grammar.words_of(source)]
         at = self.dice.randrange(len(words))
@@ -718,9 +717,9 @@ class Cases:
             ('host', 'arp host'), ('host', 'host ::1 or'), ('host', ''), ('number', 'port'),
             ('number', 'port 80 or not'), ('range', 'portrange'), ('number', 'proto'),
             ('number', 'ip proto'), ('number', 'ether proto'), ('hardware', 'ether host'),
-            ('hardware', 'ether src'), ('number', 'vlan'), ('number', 'less'), ('number', 'greater'),
-            ('number', 'len ='), ('number', 'len & 0xff ='), ('number', 'ip[0] & ( 0 |'),
-            ('place', 'ip ['), ('place', 'ether [')])
+            ('hardware', 'ether src'), ('number', 'vlan'), ('number', 'less'),
+            ('number', 'greater'), ('number', 'len ='), ('number', 'len & 0xff ='),
+            ('number', 'ip[0] & ( 0 |'), ('place', 'ip ['), ('place', 'ether [')])
         if self.chance(0.05):
             kind = self.pick(['net', 'host', 'range', 'hardware', 'place', 'number'])
         words = [*head.split(), self.odd_value(kind)]

@@ -8,8 +8,8 @@ script stops before anything is written. The others are the model's. Half of the
 kind are `true`. Texts that are refused, which libpcap does not do at a place, have the answer of
 grammar.py.
 
-`--kinds` is for a program that tells the kinds `mixed` and `unsupported` of refusals: it takes texts
-that are refused so too."""
+`--kinds` is for a program that tells the kinds `mixed` and `unsupported` of refusals: it takes
+texts that are refused so too."""
 import argparse
 import collections
 import os
@@ -24,8 +24,8 @@ from random_cases import Cases
 
 HERE = os.path.dirname(os.path.abspath(__file__))
 FILES = [os.path.join(HERE, '../../crates/conformance', name) for name in ('stdin', 'stdout')]
-# how many cases: random expressions as libpcap reads them, in its own words, on frames with tags and
-# extension headers, on others by the model, after other link headers, and real ones
+# how many cases: random expressions as libpcap reads them, in its own words, on frames with tags
+# and extension headers, on others by the model, after other link headers, and real ones
 RANDOM, IN_ITS_WORDS, COVERED, BY_MODEL, OTHER_LINKS, REAL = 600, 80, 60, 100, 120, 180
 REFUSED = {'unexpected': 125, 'incomplete': 30, 'too long': 5}
 OTHER_KINDS = {'mixed': 20, 'unsupported': 20}
