@@ -14,6 +14,7 @@ mkdir -p "$out"
 # The libraries and the program in Rattle, in a repository of their own, since no proof of a library needs the program. What was
 # proved here before is taken over, and kept for the next time.
 room=$out/room
+mkdir -p "$room"
 for crate in etherparse_base etherparse_fields etherparse packet_parts packet packet_filter; do
   mkdir -p "$room/crates/$crate"
   for part in src specs proofs; do
