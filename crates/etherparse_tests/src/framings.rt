@@ -144,6 +144,26 @@ fn ieee_802_11_carries_packets(rt: HostRuntime) -> Result<(), Fail> {
 }
 
 #[test]
+fn padding_is_skipped(rt: HostRuntime) -> Result<(), Fail> {
+    // Radiotap whose Flags say that there is padding: alone, after TSFT, and after two words more.
+    let cases = [
+        [0, 0, 9, 0, 2, 0, 0, 0, 0x20].as_slice(),
+        &[0, 0, 17, 0, 3, 0, 0, 0, 0, 0, 0, 0, 0, 0, 0, 0, 0x20],
+        &[0, 0, 17, 0, 2, 0, 0, 0x80, 0, 0, 0, 0x80, 0, 0, 0, 0, 0x20],
+    ];
+    for radiotap in cases {
+        let len = radiotap.len();
+        let mut header = [0; 60];
+        header[..len].copy_from_slice(radiotap);
+        header[len..len + 24].copy_from_slice(&ADDRESSES);
+        [header[len], header[len + 1]] = [0x88, 2];
+        header[len + 28..len + 36].copy_from_slice(&SNAP);
+        assert!(rt; carries_datagram(Framing::Ieee80211Radiotap, &header[..len + 36]));
+    }
+    Ok(())
+}
+
+#[test]
 fn ieee_802_11_carries_others(rt: HostRuntime) -> Result<(), Fail> {
     // Frame control, sequence control, the first byte of QoS control, and what is carried.
     let cases = [
