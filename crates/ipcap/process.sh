@@ -527,6 +527,36 @@ link_types() {
     fronts 276 "\10\0$sent"
     after 276 "\10\0$sent" "\206\335$sent" "\10\6$sent" 'type 0x0806'
     after 276 "\201\0$sent\0\12\10\0" "\201\0$sent\0\12\206\335" "\0\4$sent" 'type 0x0004'
+    framings
+}
+
+# Link types whose headers tell where they end.
+framings() {
+    after 8 '\0\105\0\0\0\0\0\0\0\0\0\0\0\0\0\0' '\1\105\0\0\0\0\0\0\0\0\0\0\0\0\0\0' '' ''
+    after 9 '\377\3\0\41' '\127' '\200\41' 'protocol 0x8021'
+    after 50 '\377\3\41' '\17\0\206\335' '\217\0\200\65' 'type 0x8035'
+    fronts 104 '\17\0\10\0'
+    after 104 '\17\0\10\0' '\217\0\206\335' '\217\0\40\0' 'type 0x2000'
+    fronts 107 '\30\101\3\0\200\0\0\0\10\0'
+    after 107 '\30\101\3\314' '\30\100\3\3\216' '\0\1\3\10' 'NLPID 0x08'
+    after 107 '\30\101\3\0\200\0\0\0\10\0' '\30\101\206\335' '\1\3\314\105' 'unknown link header'
+    addresses='\0\0\2\0\0\0\0\1\2\0\0\0\0\2\2\0\0\0\0\3\0\0'
+    snap='\252\252\3\0\0\0'
+    fourth='\2\0\0\0\0\4'
+    for type in 105 127; do
+        top=''
+        if [ "$type" = 127 ]; then
+            top='\0\0\11\0\4\0\0\0\2'
+        fi
+        fronts "$type" "$top\210\1$addresses\0\0$snap\10\0"
+        after "$type" "$top\10\1$addresses$snap\10\0" "$top\210\2$addresses\0\0$snap\206\335" \
+            "$top\210\101$addresses\0\0" encrypted
+        after "$type" "$top\10\3$addresses$fourth$snap\10\0" \
+            "$top\210\203$addresses$fourth\0\0\0\0\0\0$snap\206\335" \
+            "$top\200\0$addresses" 'management frame'
+    done
+    after 127 '\0\0\11\0\2\0\0\0\40\210\1'"$addresses\0\0\0\0$snap\10\0" \
+        '\0\0\10\0\0\0\0\0\10\2'"$addresses$snap\206\335" '\0\0\10\0\0\0\0\0\324\0' 'control frame'
 }
 
 # format MAGIC REST FRACTION: a file with this magic number, and with the rest of its header and a

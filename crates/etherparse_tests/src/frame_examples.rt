@@ -8,6 +8,7 @@ use packet::link::{LinkSlice, LinkType};
 use packet::link_layers::LinkLayers;
 use packet::sliced_packet::SlicedPacket;
 use packet::vlan::VlanSlice;
+use packet_links::framing::Framing;
 use packet_parts::checksum::{Absence, Verdict};
 use std::test::Fail;
 
@@ -16,7 +17,11 @@ fn link_layers(rt: HostRuntime) -> Result<(), Fail> {
     // LINKTYPE_LINUX_SLL2.
     let link_type = LinkType::from_number(276);
     assert!(rt; link_type == Some(LinkType::LinuxSll2));
-    assert!(rt; LinkType::LinuxSll2.header_len() == 20);
+    assert!(rt; LinkType::LinuxSll2.header_len(&[]) == 20);
+    // LINKTYPE_PPP: address, control, and the number of IPv4.
+    let link_type = LinkType::from_number(9);
+    assert!(rt; link_type == Some(LinkType::Framed(Framing::Ppp)));
+    assert!(rt; LinkType::Framed(Framing::Ppp).header_len(&[0xff, 3, 0, 0x21]) == 4);
 
     // Ethernet, a tag of VLAN 5, and the first bytes of an ARP packet.
     let frame = [

@@ -21,6 +21,8 @@ mod frame_examples;
 #[cfg(test)]
 mod frames;
 #[cfg(test)]
+mod framings;
+#[cfg(test)]
 mod headers;
 #[cfg(test)]
 mod ip_number;

@@ -11,6 +11,8 @@ use Rattle.packet_capture.specs.declared.capture.CutOff as cut
 use Rattle.packet_capture.specs.declared.capture.RecordHead.{RecordHead}
 use Rattle.packet_capture.specs.declared.capture.Resolution.{Resolution}
 use Rattle.packet_capture.specs.declared.capture.Resolution.TheVariants.{Microseconds, Nanoseconds}
+use Rattle.packet_links.specs.declared.header.Carried.{Carried}
+use Rattle.packet_links.specs.declared.header.Carried.TheVariants as carried
 use Rattle.packet_parts.specs.Checksum.{verdict_text}
 use Rattle.packet_parts.specs.IpSlice.{destination_of, ip_slice_error_text, source_of}
 use Rattle.packet_parts.specs.declared.fragment.Fragment.{Fragment}
@@ -20,7 +22,8 @@ use Rattle.packet_parts.specs.declared.ip_slice.IpSlice.{IpSlice}
 use Rattle.ipcap.specs.Reading.{is_cut}
 use Rattle.ipcap.specs.Shown.{has_no_length, hops_of, len_of}
 use Rattle.ipcap.specs.declared.reading.NoPacket.{NoPacket}
-use Rattle.ipcap.specs.declared.reading.NoPacket.TheVariants.{NoLinkHeader, OtherFamily, OtherType}
+use Rattle.ipcap.specs.declared.reading.NoPacket.TheVariants.{NoLinkHeader, OtherCarried}
+use Rattle.ipcap.specs.declared.reading.NoPacket.TheVariants.{OtherFamily, OtherType}
 use Rattle.ipcap.specs.declared.shown.Detail.{Detail}
 use Rattle.ipcap.specs.declared.shown.Detail.TheVariants.{Message, Nothing, Ports}
 use Rattle.ipcap.specs.declared.shown.Shown.{Shown}
@@ -125,11 +128,33 @@ shown_text shown = parties_text shown ++ payload_text shown
 abbrev pub hex_text : ℕ → List ℕ
 hex_text number = zero_padded 4 (digits 16 false number)
 
+-- two hex digits, in lower case
+abbrev pub byte_text : ℕ → List ℕ
+byte_text number = zero_padded 2 (digits 16 false number)
+
+-- what another framing tells of the bytes after its header
+unfoldable pub carried_text : Carried → List ℕ
+carried_text (carried.EtherType number) = codes "type 0x" ++ hex_text number
+carried_text (carried.PppProtocol number) = codes "protocol 0x" ++ hex_text number
+carried_text (carried.Nlpid number) = codes "NLPID 0x" ++ byte_text number
+carried_text carried.Ip = codes "IP"
+carried_text (carried.Llc dsap) = codes "LLC 0x" ++ byte_text dsap
+carried_text carried.Snap = codes "SNAP"
+carried_text carried.Management = codes "management frame"
+carried_text carried.Control = codes "control frame"
+carried_text carried.Extension = codes "extension frame"
+carried_text carried.NoData = codes "no data"
+carried_text carried.Encrypted = codes "encrypted"
+carried_text carried.LaterFragment = codes "later fragment"
+carried_text carried.Aggregate = codes "aggregate"
+carried_text carried.Unknown = codes "unknown link header"
+
 -- why a frame has no packet
 abbrev pub no_packet_text : NoPacket → List ℕ
 no_packet_text (NoLinkHeader len) = decimal len ++ codes " bytes are no link header"
 no_packet_text (OtherType ether_type) = codes "type 0x" ++ hex_text ether_type
 no_packet_text (OtherFamily family) = codes "family " ++ decimal family
+no_packet_text (OtherCarried carried) = carried_text carried
 
 -- how many bytes were captured, and of how many, if the record was cut
 abbrev pub cut_text : RecordHead → List ℕ

@@ -2,7 +2,7 @@
 use Rattle.std.specs.Prelude.{ℕ, ◌≡◌, ◌||◌, ◌⊎◌, Bool, false, MatchBool, List, length, nat_lt}
 use Rattle.std.specs.Prelude.{Option, Some, None, option_map}
 use Rattle.std.specs.Option.{is_some}
-use Rattle.packet.specs.Link.{LacksLink, LinkParts, LoopbackParts, link_parts}
+use Rattle.packet.specs.Link.{FramedParts, LacksLink, LinkParts, LoopbackParts, link_parts}
 use Rattle.packet.specs.SlicedPacket.{HasLinkLayers, carries_ip}
 use Rattle.packet.specs.declared.link.LinkError.{LinkError}
 use Rattle.packet.specs.declared.link.LinkType.{LinkType}
@@ -10,7 +10,8 @@ use Rattle.packet.specs.declared.link_layers.LinkLayers.{LinkLayers}
 use Rattle.packet_capture.specs.declared.capture.RecordHead.{RecordHead}
 use Rattle.ipcap.specs.Shown.{IsRefused, IsShown, is_wrong, is_wrong_header}
 use Rattle.ipcap.specs.declared.reading.NoPacket.{NoPacket}
-use Rattle.ipcap.specs.declared.reading.NoPacket.TheVariants.{NoLinkHeader, OtherFamily, OtherType}
+use Rattle.ipcap.specs.declared.reading.NoPacket.TheVariants.{NoLinkHeader, OtherCarried}
+use Rattle.ipcap.specs.declared.reading.NoPacket.TheVariants.{OtherFamily, OtherType}
 use Rattle.ipcap.specs.declared.reading.Reading.{Reading}
 use Rattle.ipcap.specs.declared.reading.Reading.TheVariants.{Other, Packet, Refused}
 
@@ -20,11 +21,12 @@ ReadsPacket is_cut packet (Packet shown) = IsShown is_cut packet shown
 ReadsPacket is_cut packet (Refused e) = IsRefused is_cut packet e
 ReadsPacket is_cut packet reading = ⊥
 
--- what says that a frame carries another protocol: its EtherType, or else its family; what has
--- neither counts as without a link header
+-- what says that a frame carries another protocol: its EtherType, or else its family, or what its
+-- framing tells; what has none of these counts as without a link header
 abbrev pub other_of : Option ℕ → Option LinkParts → ℕ → NoPacket
 other_of (Some ether_type) link len = OtherType ether_type
 other_of None (Some (LoopbackParts family)) len = OtherFamily family
+other_of None (Some (FramedParts bytes carried)) len = OtherCarried carried
 other_of None link len = NoLinkHeader len
 
 -- the reading of a frame with these layers: that of its packet; or it ends within a tag, or carries

@@ -4,7 +4,7 @@ ghost use Rattle.std.specs.Prelude.{◌≡◌, ◌++◌, Some, MatchOption};
 ghost use Rattle.std.specs.Fmt.{DisplaysOnOk};
 ghost use Rattle.ipcap.specs.Lines.{detail_text, parties_text, payload_text, place_text};
 ghost use Rattle.ipcap.specs.Lines.{capture_error_line, closing_text, count_text, cut_text};
-ghost use Rattle.ipcap.specs.Lines.{damage_text};
+ghost use Rattle.ipcap.specs.Lines.{byte_text, carried_text, damage_text};
 ghost use Rattle.ipcap.specs.Lines.{end_text, fraction_text, head_text, header_verdict_text};
 ghost use Rattle.ipcap.specs.Lines.{hex_text, keyword_of, kinds_text, link_type_line};
 ghost use Rattle.ipcap.specs.Lines.{no_packet_text, reading_text, record_line, shown_text};
@@ -14,6 +14,7 @@ use crate::reading::{NoPacket, Reading, is_cut};
 use crate::shown::{Detail, Shown, has_no_length, hops_of, len_of};
 use crate::totals::Totals;
 use packet_capture::capture::{CaptureError, CutOff, RecordHead, Resolution};
+use packet_links::header::Carried;
 use packet_parts::fragment::Fragment;
 use std::fmt;
 use std::fmt::Formatter;
@@ -176,7 +177,57 @@ impl fmt::Display for NoPacket {
                 let family = *family;
                 write!(f, "family {family}")
             }
+            NoPacket::OtherCarried(carried) => write_carried(f, *carried),
         }
+    }
+}
+
+// Writes what another framing tells of the bytes after its header.
+#[tactic(auto, unfolding(crate::specs::Lines::carried_text))]
+fn write_carried<W: fmt::Write>(f: &mut Formatter<W>, carried: Carried) -> fmt::Result
+    ensures text { DisplaysOnOk W.write_str_gives f.old result (Some (carried_text carried)) f.new }
+{
+    match carried {
+        Carried::EtherType(number) => {
+            let number = Hex(number);
+            write!(f, "type 0x{number}")
+        }
+        Carried::PppProtocol(number) => {
+            let number = Hex(number);
+            write!(f, "protocol 0x{number}")
+        }
+        Carried::Nlpid(number) => {
+            let number = HexByte(number);
+            write!(f, "NLPID 0x{number}")
+        }
+        Carried::Llc(dsap) => {
+            let dsap = HexByte(dsap);
+            write!(f, "LLC 0x{dsap}")
+        }
+        Carried::Ip => f.write_str("IP"),
+        Carried::Snap => f.write_str("SNAP"),
+        Carried::Management => f.write_str("management frame"),
+        Carried::Control => f.write_str("control frame"),
+        Carried::Extension => f.write_str("extension frame"),
+        Carried::NoData => f.write_str("no data"),
+        Carried::Encrypted => f.write_str("encrypted"),
+        Carried::LaterFragment => f.write_str("later fragment"),
+        Carried::Aggregate => f.write_str("aggregate"),
+        Carried::Unknown => f.write_str("unknown link header"),
+    }
+}
+
+// A number in two hex digits.
+#[derive(Clone, Copy)]
+struct HexByte(u8);
+
+impl fmt::Display for HexByte {
+    ghost output = { λ hex. Some (byte_text hex.0) };
+
+    #[tactic(auto, using(crate::proofs::Written::padded_with_zeros))]
+    fn fmt<W: fmt::Write>(&self, f: &mut Formatter<W>) -> fmt::Result {
+        let number = self.0;
+        write!(f, "{number:02x}")
     }
 }
 

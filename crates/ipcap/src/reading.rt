@@ -8,6 +8,7 @@ use crate::shown::{Shown, has_no_length, shown_of};
 use packet::link::{LinkSlice, LinkType};
 use packet::link_layers::LinkLayers;
 use packet_capture::capture::RecordHead;
+use packet_links::header::Carried;
 use packet_parts::checksum::Verdict;
 use packet_parts::ip_slice::{IpSliceError, LaxIpSlice};
 
@@ -22,6 +23,8 @@ pub enum NoPacket {
     OtherType(u16),
     /// It carries another protocol, of this family of a loopback interface.
     OtherFamily(u32),
+    /// It carries what another framing tells, which is no IP packet.
+    OtherCarried(Carried),
 }
 
 /// What the frame of a record is found to carry.
@@ -70,6 +73,9 @@ pub fn read_frame(link_type: LinkType, is_cut: bool, frame: &[u8]) -> Reading
         (Some(ether_type), _) => Reading::Other(NoPacket::OtherType(ether_type.0)),
         (None, Some(LinkSlice::Loopback { family })) => {
             Reading::Other(NoPacket::OtherFamily(family))
+        }
+        (None, Some(LinkSlice::Framed { carried, .. })) => {
+            Reading::Other(NoPacket::OtherCarried(carried))
         }
         (None, _) => Reading::Other(NoPacket::NoLinkHeader(frame.len())),
     }

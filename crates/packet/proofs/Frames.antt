@@ -31,8 +31,8 @@ link_once : (link_type : LinkType) (frame : List ℕ) (l m : Option LinkSlice) (
     → BeginsWithLink link_type frame l e x → BeginsWithLink link_type frame m f y → (option_map link_parts l ≡ option_map link_parts m) × (e ≡ f) × (x ≡ y)
 link_once link_type frame l m e f x y p q =
     let front = same_front p.front q.front x y (p.len ∙ sym q.len) (sym p.whole ∙ q.whole) in (
-      p.header ∙ ap (link_in link_type) front ∙ sym q.header,
-      p.next ∙ ap (ether_type_in link_type) front ∙ sym q.next,
+      p.header ∙ ap (link_in link_type frame) front ∙ sym q.header,
+      p.next ∙ ap (ether_type_in link_type frame) front ∙ sym q.next,
       append_cancel_left q.front x y (ap (λ z. z ++ x) (sym front) ∙ sym p.whole ∙ q.whole),
     )
 

@@ -7,8 +7,11 @@ use Rattle.packet.specs.declared.link.LinkError.{LinkError}
 use Rattle.packet.specs.declared.link.LinkSlice.{LinkSlice}
 use Rattle.packet.specs.declared.link.LinkSlice.TheVariants as header
 use Rattle.packet.specs.declared.link.LinkType.{LinkType}
-use Rattle.packet.specs.declared.link.LinkType.TheVariants.{Ethernet2, Ip, LinuxSll, LinuxSll2}
-use Rattle.packet.specs.declared.link.LinkType.TheVariants.{Loop, Null}
+use Rattle.packet.specs.declared.link.LinkType.TheVariants.{Ethernet2, Framed, Ip, LinuxSll}
+use Rattle.packet.specs.declared.link.LinkType.TheVariants.{LinuxSll2, Loop, Null}
+use Rattle.packet_links.specs.Framing.{framing_of, header_in}
+use Rattle.packet_links.specs.Header.{ether_type_of}
+use Rattle.packet_links.specs.declared.header.Carried.{Carried}
 
 -- The link types by their numbers. The number of LINKTYPE_RAW is 101; some systems write 12 or 14.
 abbrev pub link_type_of : ℕ → Option LinkType
@@ -20,16 +23,17 @@ link_type_of number =
     else if number == 108 then Some Loop
     else if number == 113 then Some LinuxSll
     else if number == 276 then Some LinuxSll2
-    else None
+    else option_map Framed (framing_of number)
 
--- the length of the link header of a type, in bytes
-abbrev pub link_len : LinkType → ℕ
-link_len Null = 4
-link_len Ethernet2 = 14
-link_len Ip = 0
-link_len Loop = 4
-link_len LinuxSll = 16
-link_len LinuxSll2 = 20
+-- the length of the link header of a frame, in bytes: that of the type, or as the frame tells it
+abbrev pub link_len : LinkType → List ℕ → ℕ
+link_len Null frame = 4
+link_len Ethernet2 frame = 14
+link_len Ip frame = 0
+link_len Loop frame = 4
+link_len LinuxSll frame = 16
+link_len LinuxSll2 frame = 20
+link_len (Framed framing) frame = (header_in framing frame).len
 
 -- The family in the header of a loopback interface. LINKTYPE_LOOP has it in network byte order.
 -- LINKTYPE_NULL has it in the order of the machine that captured it, which may differ from the
@@ -44,45 +48,52 @@ pub data LinkParts : Type 0 where
   LinuxSllParts : List ℕ → LinkParts
   LinuxSll2Parts : List ℕ → LinkParts
   LoopbackParts : ℕ → LinkParts
+  FramedParts : List ℕ → Carried → LinkParts
 
 abbrev pub link_parts : LinkSlice → LinkParts
 link_parts (header.Ethernet2 view) = Ethernet2Parts view.slice.now
 link_parts (header.LinuxSll view) = LinuxSllParts view.slice.now
 link_parts (header.LinuxSll2 view) = LinuxSll2Parts view.slice.now
 link_parts (header.Loopback family) = LoopbackParts family
+link_parts (header.Framed slice carried) = FramedParts slice.now carried
 
--- the header that its bytes make; before an IP packet without a link header is none
-abbrev pub link_in : LinkType → List ℕ → Option LinkParts
-link_in Null bytes = Some (LoopbackParts (family_of Null bytes))
-link_in Ethernet2 bytes = Some (Ethernet2Parts bytes)
-link_in Ip bytes = None
-link_in Loop bytes = Some (LoopbackParts (family_of Loop bytes))
-link_in LinuxSll bytes = Some (LinuxSllParts bytes)
-link_in LinuxSll2 bytes = Some (LinuxSll2Parts bytes)
+-- the header that its bytes make in a frame; before an IP packet without a link header is none
+abbrev pub link_in : LinkType → List ℕ → List ℕ → Option LinkParts
+link_in Null frame bytes = Some (LoopbackParts (family_of Null bytes))
+link_in Ethernet2 frame bytes = Some (Ethernet2Parts bytes)
+link_in Ip frame bytes = None
+link_in Loop frame bytes = Some (LoopbackParts (family_of Loop bytes))
+link_in LinuxSll frame bytes = Some (LinuxSllParts bytes)
+link_in LinuxSll2 frame bytes = Some (LinuxSll2Parts bytes)
+link_in (Framed framing) frame bytes =
+    Some (FramedParts bytes (header_in framing frame).carried)
 
 -- the EtherType of what follows a header: Ethernet has it at the end, a Linux cooked capture too,
--- and one of version 2 at the front; a loopback interface has a family in its place
-abbrev pub ether_type_in : LinkType → List ℕ → Option ℕ
-ether_type_in Null bytes = None
-ether_type_in Ethernet2 bytes = Some (number_at 12 bytes)
-ether_type_in Ip bytes = None
-ether_type_in Loop bytes = None
-ether_type_in LinuxSll bytes = Some (number_at 14 bytes)
-ether_type_in LinuxSll2 bytes = Some (number_at 0 bytes)
+-- and one of version 2 at the front; a loopback interface has a family in its place; another
+-- framing tells it in its own way, if at all
+abbrev pub ether_type_in : LinkType → List ℕ → List ℕ → Option ℕ
+ether_type_in Null frame bytes = None
+ether_type_in Ethernet2 frame bytes = Some (number_at 12 bytes)
+ether_type_in Ip frame bytes = None
+ether_type_in Loop frame bytes = None
+ether_type_in LinuxSll frame bytes = Some (number_at 14 bytes)
+ether_type_in LinuxSll2 frame bytes = Some (number_at 0 bytes)
+ether_type_in (Framed framing) frame bytes = ether_type_of (header_in framing frame).carried
 
 -- the frame is this link header, and what follows it
 pub record BeginsWithLink (link_type : LinkType) (frame : List ℕ) (link : Option LinkSlice)
     (ether_type : Option ℕ) (rest : List ℕ) : Type 0 where
   pub front : List ℕ
   pub whole : frame ≡ front ++ rest
-  pub len : length front ≡ link_len link_type
-  pub header : option_map link_parts link ≡ link_in link_type front
-  pub next : ether_type ≡ ether_type_in link_type front
+  pub len : length front ≡ link_len link_type frame
+  pub header : option_map link_parts link ≡ link_in link_type frame front
+  pub next : ether_type ≡ ether_type_in link_type frame front
 
--- the frame is shorter than its link header
+-- The frame is shorter than its link header. If that tells its own length, the error has the length
+-- up to which the bytes that are there tell.
 pub record LacksLink (link_type : LinkType) (frame : List ℕ) (e : LinkError) : Type 0 where
-  pub short : length frame < link_len link_type
-  pub error : e ≡ record { required_len = link_len link_type; len = length frame }
+  pub short : length frame < link_len link_type frame
+  pub error : e ≡ record { required_len = link_len link_type frame; len = length frame }
 
 -- the text of such an error
 abbrev pub link_error_text : LinkError → List ℕ

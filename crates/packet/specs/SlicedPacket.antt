@@ -4,13 +4,14 @@ use Rattle.std.specs.Prelude.{IsSomeAnd, List, length, Option, Some, None, Resul
 use Rattle.std.specs.Prelude.{option_map}
 use Rattle.std.specs.Result.{result_map_both}
 use Rattle.etherparse.specs.declared.err.LenError.{LenError}
+use Rattle.packet_links.specs.Header.{is_ip}
 use Rattle.packet_parts.specs.Checksum.{IsVerdict}
 use Rattle.packet_parts.specs.IpSlice.{IpParts, ip_parts}
 use Rattle.packet_parts.specs.declared.checksum.Absence.TheVariants.{Incomplete}
 use Rattle.packet_parts.specs.declared.checksum.Verdict.{Verdict}
 use Rattle.packet_parts.specs.declared.checksum.Verdict.TheVariants.{Absent}
 use Rattle.packet_parts.specs.declared.ip_slice.IpSlice.{IpSlice}
-use Rattle.packet.specs.Link.{BeginsWithLink, LacksLink, LinkParts, LoopbackParts}
+use Rattle.packet.specs.Link.{BeginsWithLink, FramedParts, LacksLink, LinkParts, LoopbackParts}
 use Rattle.packet.specs.Link.{link_parts}
 use Rattle.packet.specs.Network.{HasNetwork}
 use Rattle.packet.specs.Transport.{TransportParts, transport_parts}
@@ -43,12 +44,13 @@ layers_of packet = record {
 }
 
 -- What follows is an IP packet: after the EtherType of IPv4 or IPv6 (RFC 894, RFC 2464 section 3);
--- after their families, of which that of IPv6 differs from system to system; or if the packet is
--- all there is. The version is told by the packet itself.
+-- after their families, of which that of IPv6 differs from system to system; after what another
+-- framing tells; or if the packet is all there is. The version is told by the packet itself.
 abbrev pub carries_ip : Option LinkParts → Option ℕ → Bool
 carries_ip link (Some ether_type) = ether_type == 0x0800 || ether_type == 0x86dd
 carries_ip (Some (LoopbackParts family)) None =
     family == 2 || family == 24 || family == 28 || family == 30
+carries_ip (Some (FramedParts bytes carried)) None = is_ip carried
 carries_ip None None = true
 carries_ip link None = false
 

@@ -32,8 +32,29 @@ impl EtherType {
     /// Internet Protocol version 6 (RFC 2464 section 3).
     pub const IPV6: EtherType = EtherType(0x86dd);
 
+    /// Multiprotocol Label Switching (RFC 3032).
+    pub const MPLS: EtherType = EtherType(0x8847);
+
+    /// Multiprotocol Label Switching with an upstream-assigned label (RFC 5332).
+    pub const MPLS_UPSTREAM_ASSIGNED: EtherType = EtherType(0x8848);
+
+    /// The discovery stage of PPP over Ethernet (RFC 2516).
+    pub const PPPOE_DISCOVERY: EtherType = EtherType(0x8863);
+
+    /// The session stage of PPP over Ethernet (RFC 2516).
+    pub const PPPOE_SESSION: EtherType = EtherType(0x8864);
+
+    /// Port-based network access control (IEEE 802.1X).
+    pub const EAPOL: EtherType = EtherType(0x888e);
+
     /// The tag of a service's VLAN (IEEE 802.1Q section 9.5, S-TAG).
     pub const PROVIDER_BRIDGING: EtherType = EtherType(0x88a8);
+
+    /// Link Layer Discovery Protocol (IEEE 802.1AB).
+    pub const LLDP: EtherType = EtherType(0x88cc);
+
+    /// Media access control security (IEEE 802.1AE).
+    pub const MACSEC: EtherType = EtherType(0x88e5);
 
     /// The outer of two tags before the one of a service existed.
     pub const VLAN_DOUBLE_TAGGED_FRAME: EtherType = EtherType(0x9100);

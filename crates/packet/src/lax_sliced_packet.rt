@@ -272,6 +272,7 @@ pub(crate) fn carries_ip(link: &Option<LinkSlice>, ether_type: &Option<EtherType
     match (link, ether_type) {
         (_, Some(ether_type)) => matches!(ether_type.0, 0x0800 | 0x86dd),
         (Some(LinkSlice::Loopback { family }), None) => matches!(family, 2 | 24 | 28 | 30),
+        (Some(LinkSlice::Framed { carried, .. }), None) => carried.is_ip(),
         (None, None) => true,
         (Some(_), None) => false,
     }

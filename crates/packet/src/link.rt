@@ -1,12 +1,17 @@
-//! The link header of a frame: Ethernet, Linux cooked captures, and loopback interfaces.
+//! The link header of a frame: Ethernet, Linux cooked captures, loopback interfaces, and framings
+//! that tell what they carry in ways of their own.
 
-ghost use Rattle.std.specs.Prelude.{◌≡◌, IfErr, IfOk, Some, length};
-ghost use Rattle.packet.specs.Link.{BeginsWithLink, LacksLink, family_of, link_error_text, link_len};
+ghost use Rattle.std.specs.Prelude.{◌≡◌, ◌<◌, ◌++◌, IfErr, IfOk, Some, length};
+ghost use Rattle.packet.specs.Link.{BeginsWithLink, LacksLink, family_of, link_error_text};
+ghost use Rattle.packet.specs.declared.link.LinkType.TheVariants.{Framed};
+ghost use Rattle.packet_links.specs.Header.{ether_type_of};
 
 use crate::ether_type::EtherType;
 use crate::ethernet2_header_slice::Ethernet2HeaderSlice;
 use crate::linux_sll_header_slice::LinuxSllHeaderSlice;
 use crate::linux_sll2_header_slice::LinuxSll2HeaderSlice;
+use packet_links::framing::Framing;
+use packet_links::header::{Carried, Header};
 use std::fmt;
 
 /// How frames begin. A capture names it by a number of the registry of link types of tcpdump.org.
@@ -26,6 +31,8 @@ pub enum LinkType {
     LinuxSll,
     /// LINKTYPE_LINUX_SLL2 (276): the 20 bytes of a Linux cooked capture of version 2.
     LinuxSll2,
+    /// PPP, Cisco's HDLC, frame relay, SLIP or IEEE 802.11, by the numbers that are named there.
+    Framed(Framing),
 }
 
 /// The link header of a frame.
@@ -43,12 +50,20 @@ pub enum LinkSlice<'a> {
         /// protocol.
         family: u32,
     },
+    /// That of another framing.
+    Framed {
+        /// The bytes of the header.
+        slice: &'a [u8],
+        /// What follows it.
+        carried: Carried,
+    },
 }
 
 /// A frame ends within its link header.
 #[derive(Clone, Copy, Debug, PartialEq, Eq)]
 pub struct LinkError {
-    /// The length of the link header, in bytes.
+    /// The length of the link header, in bytes; if it tells its own length, the length up to which
+    /// the bytes that are there tell.
     pub required_len: usize,
     /// The length of the frame, in bytes.
     pub len: usize,
@@ -82,11 +97,12 @@ impl LinkType {
             108 => Some(LinkType::Loop),
             113 => Some(LinkType::LinuxSll),
             276 => Some(LinkType::LinuxSll2),
-            _ => None,
+            _ => Framing::from_number(number).map(LinkType::Framed),
         }
     }
 
-    /// The length of the link header, in bytes.
+    /// The length of the link header of a frame, in bytes. If it tells its own length, a frame that
+    /// ends within it has the length up to which the bytes that are there tell.
     ///
     /// # Example
     ///
@@ -94,10 +110,14 @@ impl LinkType {
     /// // LINKTYPE_LINUX_SLL2.
     /// let link_type = LinkType::from_number(276);
     /// assert!(rt; link_type == Some(LinkType::LinuxSll2));
-    /// assert!(rt; LinkType::LinuxSll2.header_len() == 20);
+    /// assert!(rt; LinkType::LinuxSll2.header_len(&[]) == 20);
+    /// // LINKTYPE_PPP: address, control, and the number of IPv4.
+    /// let link_type = LinkType::from_number(9);
+    /// assert!(rt; link_type == Some(LinkType::Framed(Framing::Ppp)));
+    /// assert!(rt; LinkType::Framed(Framing::Ppp).header_len(&[0xff, 3, 0, 0x21]) == 4);
     /// ```
-    pub fn header_len(self) -> usize
-        ensures value { result ≡ link_len self }
+    pub fn header_len(self, frame: &[u8]) -> usize
+        ensures value { result ≡ link_len self frame.now }
     {
         match self {
             LinkType::Null | LinkType::Loop => 4,
@@ -105,47 +125,95 @@ impl LinkType {
             LinkType::Ip => 0,
             LinkType::LinuxSll => 16,
             LinkType::LinuxSll2 => 20,
+            LinkType::Framed(framing) => match framing.header(frame) {
+                Ok(header) => header.len,
+                Err(required_len) => required_len,
+            },
         }
     }
 }
 
+// What a link header is found to be: the header, the EtherType of what follows it, and all bytes
+// after it.
+type Found<'a> = (Option<LinkSlice<'a>>, Option<EtherType>, &'a [u8]);
+
 // The link header of a frame, the EtherType of what follows it, and all bytes after it.
-pub(crate) fn link_header<'a>(
-    link_type: LinkType,
-    frame: &'a [u8],
-) -> Result<(Option<LinkSlice<'a>>, Option<EtherType>, &'a [u8]), LinkError>
+pub(crate) fn link_header(link_type: LinkType, frame: &[u8]) -> Result<Found, LinkError>
     ensures found { IfOk result (λ x. BeginsWithLink link_type frame.now x.0 x.1 x.2.now) }
     ensures refused { IfErr result (LacksLink link_type frame.now) }
 {
-    let required_len = link_type.header_len();
-    if frame.len() < required_len {
-        return Err(LinkError {
-            required_len,
-            len: frame.len(),
-        });
-    }
-    let (slice, rest) = (&frame[..required_len], &frame[required_len..]);
     match link_type {
         LinkType::Ethernet2 => {
+            let (slice, rest) = front(14, frame)?;
             let header = Ethernet2HeaderSlice { slice };
             let ether_type = header.ether_type();
             Ok((Some(LinkSlice::Ethernet2(header)), Some(ether_type), rest))
         }
         LinkType::LinuxSll => {
+            let (slice, rest) = front(16, frame)?;
             let header = LinuxSllHeaderSlice { slice };
             let ether_type = header.protocol_type();
             Ok((Some(LinkSlice::LinuxSll(header)), Some(ether_type), rest))
         }
         LinkType::LinuxSll2 => {
+            let (slice, rest) = front(20, frame)?;
             let header = LinuxSll2HeaderSlice { slice };
             let ether_type = header.protocol_type();
             Ok((Some(LinkSlice::LinuxSll2(header)), Some(ether_type), rest))
         }
         LinkType::Null | LinkType::Loop => {
+            let (slice, rest) = front(4, frame)?;
             let family = family_of(link_type, [slice[0], slice[1], slice[2], slice[3]]);
             Ok((Some(LinkSlice::Loopback { family }), None, rest))
         }
-        LinkType::Ip => Ok((None, None, rest)),
+        LinkType::Ip => Ok((None, None, frame)),
+        LinkType::Framed(framing) => framed_header(framing, frame),
+    }
+}
+
+// The first bytes of a frame, and what follows them.
+#[inline(always)]
+fn front(len: usize, frame: &[u8]) -> Result<(&[u8], &[u8]), LinkError>
+    ensures found { IfOk result (λ x. (frame.now ≡ x.0.now ++ x.1.now) × (length x.0.now ≡ len)) }
+    ensures refused { IfErr result (λ e. (length frame.now < len)
+        × (e ≡ record { required_len = len; len = length frame.now })) }
+{
+    if frame.len() < len {
+        return Err(LinkError {
+            required_len: len,
+            len: frame.len(),
+        });
+    }
+    Ok((&frame[..len], &frame[len..]))
+}
+
+// The link header of a frame of another framing.
+#[inline(never)] // A frame of a link type with a header of one length is then read in registers.
+fn framed_header(framing: Framing, frame: &[u8]) -> Result<Found, LinkError>
+    ensures found { IfOk result
+        (λ x. BeginsWithLink (Framed framing) frame.now x.0 x.1 x.2.now) }
+    ensures refused { IfErr result (LacksLink (Framed framing) frame.now) }
+{
+    match framing.header(frame) {
+        Ok(Header { len, carried }) => {
+            let (slice, rest) = frame.split_at(len);
+            let link = LinkSlice::Framed { slice, carried };
+            Ok((Some(link), ether_type_of(carried), rest))
+        }
+        Err(required_len) => Err(LinkError {
+            required_len,
+            len: frame.len(),
+        }),
+    }
+}
+
+// The EtherType of what follows, if it has one.
+fn ether_type_of(carried: Carried) -> Option<EtherType>
+    ensures value { result ≡ ether_type_of carried }
+{
+    match carried.ether_type() {
+        Some(number) => Some(EtherType(number)),
+        None => None,
     }
 }
 

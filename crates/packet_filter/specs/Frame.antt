@@ -21,7 +21,7 @@ nothing = record {
 -- header has a packet of nothing.
 abbrev pub IsPacketIn : LinkType → List ℕ → LaxSlicedPacket → Type 0
 IsPacketIn link_type frame lax = IsFrame link_type frame lax.packet lax.stop
-    ⊎ ((length frame < link_len link_type) × (layers_of lax.packet ≡ nothing)
+    ⊎ ((length frame < link_len link_type frame) × (layers_of lax.packet ≡ nothing)
     × (lax.stop ≡ None))
 
 -- the expression is true of the packet in a frame that had `len` bytes on the wire

@@ -174,6 +174,7 @@ ethernet_header (Some (link.Ethernet2 view)) = Some view.slice.now
 ethernet_header (Some (link.LinuxSll view)) = None
 ethernet_header (Some (link.LinuxSll2 view)) = None
 ethernet_header (Some (link.Loopback family)) = None
+ethernet_header (Some (link.Framed slice carried)) = None
 ethernet_header None = None
 
 -- The ends that the direction names have this address: the destination is the first six bytes of

@@ -190,10 +190,7 @@ fn has_hardware(direction: Option<Direction>, address: [u8; 6], link: &Option<Li
             let source = header.source() == address;
             of_ends(direction, source, header.destination() == address)
         }
-        Some(LinkSlice::LinuxSll(_) | LinkSlice::LinuxSll2(_) | LinkSlice::Loopback { .. }) => {
-            false
-        }
-        None => false,
+        _ => false,
     }
 }
 

@@ -14,6 +14,7 @@ pub mod ipv4_view;
 pub mod ipv6_view;
 pub mod options;
 pub mod payload;
+pub mod ppp;
 pub mod queue;
 pub mod selection;
 pub mod send;

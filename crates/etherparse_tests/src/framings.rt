@@ -1,0 +1,192 @@
+//! Frames of PPP, Cisco's HDLC, frame relay, SLIP and IEEE 802.11: where their packets begin, as
+//! tshark and tcpdump have it, and the examples of `packet_links`.
+
+use packet::link::{LinkSlice, LinkType};
+use packet::link_layers::LinkLayers;
+use packet::sliced_packet::SlicedPacket;
+use packet_links::framing::Framing;
+use packet_links::header::{Carried, Header};
+use std::test::Fail;
+
+// A datagram to port 53.
+const DATAGRAM: [u8; 30] = [
+    0x45, 0, 0, 30, 0, 0, 0, 0, 64, 17, 0x66, 0xcd, 10, 0, 0, 1, 10, 0, 0, 2, 4, 0, 0, 53, 0, 10,
+    0, 0, b'h', b'i',
+];
+
+// The addresses of a data frame, and the first two bytes of LLC.
+const ADDRESSES: [u8; 24] = [
+    8, 1, 0, 0, 2, 0, 0, 0, 0, 1, 2, 0, 0, 0, 0, 2, 2, 0, 0, 0, 0, 3, 0, 0,
+];
+
+// LLC and SNAP before an IPv4 packet.
+const SNAP: [u8; 8] = [0xaa, 0xaa, 3, 0, 0, 0, 8, 0];
+
+// Whether a datagram after this header is found, and nowhere else.
+fn carries_datagram(framing: Framing, header: &[u8]) -> bool {
+    let len = header.len();
+    if len > 60 {
+        return false;
+    }
+    let mut frame = [0; 90];
+    frame[..len].copy_from_slice(header);
+    frame[len..len + 30].copy_from_slice(&DATAGRAM);
+    match SlicedPacket::from_link_type(LinkType::Framed(framing), &frame[..len + 30]) {
+        Ok(packet) => packet.payload.len() == 30 && packet.ports() == Some((1024, 53)),
+        Err(_) => false,
+    }
+}
+
+// What a frame is found to carry.
+fn carried(framing: Framing, frame: &[u8]) -> Option<Carried> {
+    match LinkLayers::from_link_type(LinkType::Framed(framing), frame) {
+        Ok(
+            LinkLayers {
+                link: Some(LinkSlice::Framed { carried, .. }),
+                ..
+            },
+        ) => Some(carried),
+        _ => None,
+    }
+}
+
+#[test]
+fn examples(rt: HostRuntime) -> Result<(), Fail> {
+    // PPP without address and control, and the number of IPv4 in one byte.
+    let header = Header {
+        len: 1,
+        carried: Carried::PppProtocol(0x0021),
+    };
+    assert!(rt; Framing::Ppp.header(&[0x21, 0x45, 0]) == Ok(header));
+    // With address, control, and one byte of the number.
+    assert!(rt; Framing::Ppp.header(&[0xff, 3, 0]) == Err(4));
+
+    // IPv6 and the control protocol of IPv4, by their numbers of PPP.
+    assert!(rt; Carried::PppProtocol(0x0057).is_ip());
+    assert!(rt; !Carried::PppProtocol(0x8021).is_ip());
+
+    assert!(rt; Carried::EtherType(0x0806).ether_type() == Some(0x0806));
+    assert!(rt; Carried::Nlpid(0xcc).ether_type().is_none());
+    Ok(())
+}
+
+#[test]
+fn lines_carry_packets(rt: HostRuntime) -> Result<(), Fail> {
+    for header in [
+        [0xff, 3, 0, 0x21].as_slice(),
+        &[0xff, 3, 0x21],
+        &[0, 0x21],
+        &[0x21],
+    ] {
+        assert!(rt; carries_datagram(Framing::Ppp, header));
+        assert!(rt; carries_datagram(Framing::PppHdlc, header));
+    }
+    for header in [[0x0f, 0, 8, 0], [0x8f, 0, 8, 0]] {
+        assert!(rt; carries_datagram(Framing::CiscoHdlc, &header));
+        assert!(rt; carries_datagram(Framing::PppHdlc, &header));
+    }
+    assert!(rt; carries_datagram(Framing::Slip, &[1; 16]));
+    assert!(rt; carried(Framing::Ppp, &[0x80, 0x21, 1]) == Some(Carried::PppProtocol(0x8021)));
+    assert!(rt;
+        carried(Framing::CiscoHdlc, &[0x8f, 0, 0x20, 0]) == Some(Carried::EtherType(0x2000))
+    );
+    assert!(rt; Framing::Slip.header(&[0; 15]) == Err(16));
+    Ok(())
+}
+
+#[test]
+fn frame_relay_carries_packets(rt: HostRuntime) -> Result<(), Fail> {
+    let headers = [
+        [0x18, 0x41, 3, 0xcc].as_slice(),
+        &[0x18, 0x40, 3, 3, 0xcc],
+        &[0x18, 0x40, 2, 0x11, 3, 0xcc],
+        &[0x18, 0x41, 3, 0, 0x80, 0, 0, 0, 8, 0],
+        &[0x18, 0x41, 3, 0x80, 0, 0, 0, 8, 0],
+        &[0x18, 0x41, 8, 0],
+        &[0x18, 0x41, 3, 0xcf, 0, 0x21],
+        &[
+            0x18, 0x41, 3, 0, 0x80, 0, 0x80, 0xc2, 0, 7, 2, 0, 0, 0, 0, 1, 2, 0, 0, 0, 0, 2, 8, 0,
+        ],
+    ];
+    for header in headers {
+        assert!(rt; carries_datagram(Framing::FrameRelay, header));
+    }
+    // A status enquiry, an address of one byte, and one of five.
+    assert!(rt; carried(Framing::FrameRelay, &[0, 1, 3, 8, 0x75]) == Some(Carried::Nlpid(8)));
+    assert!(rt; carried(Framing::FrameRelay, &[1, 3, 0xcc, 0x45]) == Some(Carried::Unknown));
+    assert!(rt; carried(Framing::FrameRelay, &[0, 0, 0, 0, 1]) == Some(Carried::Unknown));
+    assert!(rt; Framing::FrameRelay.header(&[0x18, 0x41, 3, 0]) == Err(5));
+    Ok(())
+}
+
+#[test]
+fn ieee_802_11_carries_packets(rt: HostRuntime) -> Result<(), Fail> {
+    // Frame control, the bytes after the three addresses, and how many of these there are.
+    let cases = [
+        (0x08, 0x01, 0),
+        (0x08, 0x03, 6),
+        (0x88, 0x02, 2),
+        (0x88, 0x03, 8),
+        (0x88, 0x82, 6),
+        (0x08, 0x82, 0),
+    ];
+    for (first, second, more) in cases {
+        let mut header = [0; 48];
+        header[8..32].copy_from_slice(&ADDRESSES);
+        header[2] = 8;
+        [header[8], header[9]] = [first, second];
+        header[32 + more..40 + more].copy_from_slice(&SNAP);
+        let all = &header[..40 + more];
+        assert!(rt; carries_datagram(Framing::Ieee80211Radiotap, all));
+        assert!(rt; carries_datagram(Framing::Ieee80211, &all[8..]));
+    }
+    Ok(())
+}
+
+#[test]
+fn padding_is_skipped(rt: HostRuntime) -> Result<(), Fail> {
+    // Radiotap whose Flags say that there is padding: alone, after TSFT, and after two words more.
+    let cases = [
+        [0, 0, 9, 0, 2, 0, 0, 0, 0x20].as_slice(),
+        &[0, 0, 17, 0, 3, 0, 0, 0, 0, 0, 0, 0, 0, 0, 0, 0, 0x20],
+        &[0, 0, 17, 0, 2, 0, 0, 0x80, 0, 0, 0, 0x80, 0, 0, 0, 0, 0x20],
+    ];
+    for radiotap in cases {
+        let len = radiotap.len();
+        let mut header = [0; 60];
+        header[..len].copy_from_slice(radiotap);
+        header[len..len + 24].copy_from_slice(&ADDRESSES);
+        [header[len], header[len + 1]] = [0x88, 2];
+        header[len + 28..len + 36].copy_from_slice(&SNAP);
+        assert!(rt; carries_datagram(Framing::Ieee80211Radiotap, &header[..len + 36]));
+    }
+    Ok(())
+}
+
+#[test]
+fn ieee_802_11_carries_others(rt: HostRuntime) -> Result<(), Fail> {
+    // Frame control, sequence control, the first byte of QoS control, and what is carried.
+    let cases = [
+        (0x80, 0, 0, 0, Carried::Management),
+        (0xd4, 0, 0, 0, Carried::Control),
+        (0x0c, 0, 0, 0, Carried::Extension),
+        (0x09, 0, 0, 0, Carried::Unknown),
+        (0x48, 1, 0, 0, Carried::NoData),
+        (0xc8, 1, 0, 0, Carried::NoData),
+        (0x88, 0x42, 0, 0, Carried::Encrypted),
+        (0x08, 1, 0x11, 0, Carried::LaterFragment),
+        (0x88, 2, 0, 0x80, Carried::Aggregate),
+        (0x88, 2, 0, 0, Carried::Llc(0x42)),
+    ];
+    for (first, second, sequence, qos, wanted) in cases {
+        let mut frame = [0; 40];
+        frame[..24].copy_from_slice(&ADDRESSES);
+        [frame[0], frame[1], frame[22], frame[24]] = [first, second, sequence, qos];
+        [frame[26], frame[27], frame[28]] = [0x42, 0x42, 3];
+        assert!(rt; carried(Framing::Ieee80211, &frame) == Some(wanted));
+    }
+    assert!(rt; Framing::Ieee80211.header(&ADDRESSES) == Err(27));
+    assert!(rt; Framing::Ieee80211.header(&ADDRESSES[..23]) == Err(24));
+    assert!(rt; Framing::Ieee80211Radiotap.header(&[0, 0, 12, 0, 0, 0, 0, 0]) == Err(12));
+    Ok(())
+}

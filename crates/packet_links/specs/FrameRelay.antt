@@ -1,0 +1,38 @@
+-- The header of frame relay (ITU-T Q.922, RFC 2427).
+use Rattle.std.specs.Prelude.{ℕ, ◌+◌, ◌&&◌, ◌||◌, nat_lt, if◌then◌else◌, List, length, slice_index}
+use Rattle.packet_links.specs.Bytes.{has, is_set, number_at}
+use Rattle.packet_links.specs.Header.{snap_header}
+use Rattle.packet_links.specs.Ppp.{protocol_header}
+use Rattle.packet_links.specs.declared.header.Carried.TheVariants as carried
+use Rattle.packet_links.specs.declared.header.Header.{Header}
+
+-- the NLPID at a place; after 80 comes SNAP (RFC 2427 section 4), after cf the protocol of PPP
+-- (RFC 1973 section 3)
+abbrev pub nlpid_header : ℕ → List ℕ → Header
+nlpid_header place frame = if has 0x80 place frame then snap_header (place + 1) frame
+    else if has 0xcf place frame then protocol_header (place + 1) frame
+    else record { len = place + 1; carried = carried.Nlpid (slice_index frame place) }
+
+-- the place of the NLPID after the control at a place: a pad of 00 can stand between them (RFC 2427
+-- section 3)
+abbrev pub nlpid_place : ℕ → List ℕ → ℕ
+nlpid_place place frame = if nat_lt (place + 1) (length frame) && has 0x00 (place + 1) frame
+    then place + 2 else place + 1
+
+-- after an address that ends at a place: the control 03 and an NLPID; or an EtherType, as Cisco's
+-- encapsulation has it
+abbrev pub after_address : ℕ → List ℕ → Header
+after_address place frame = if has 0x03 place frame
+    then nlpid_header (nlpid_place place frame) frame
+    else record { len = place + 2; carried = carried.EtherType (number_at place frame) }
+
+-- LINKTYPE_FRELAY: an address of 2, 3 or 4 bytes, of which the last alone is odd (Q.922 section
+-- 3.2), and what follows it. A header has 4 bytes at least.
+abbrev pub frame_relay_header : List ℕ → Header
+frame_relay_header frame =
+    if nat_lt (length frame) 4 || is_set 0 0 frame
+    then record { len = 4; carried = carried.Unknown }
+    else if is_set 0 1 frame then after_address 2 frame
+    else if is_set 0 2 frame then after_address 3 frame
+    else if is_set 0 3 frame then after_address 4 frame
+    else record { len = 4; carried = carried.Unknown }

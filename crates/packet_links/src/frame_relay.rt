@@ -1,0 +1,70 @@
+//! The header of frame relay.
+
+ghost use Rattle.std.specs.Prelude.{◌≡◌, ◌<◌, ◌^◌};
+ghost use Rattle.packet_links.specs.declared.header.Carried.TheVariants.{Unknown};
+ghost use Rattle.packet_links.specs.FrameRelay.{after_address, frame_relay_header, nlpid_header};
+
+use crate::bytes::{byte_at, has, is_set, number_at};
+use crate::header::{Carried, Header, snap_header};
+use crate::ppp::protocol_header;
+
+// The header of LINKTYPE_FRELAY.
+pub(crate) fn frame_relay_header(frame: &[u8]) -> Header
+    ensures value { result ≡ frame_relay_header frame.now }
+{
+    if frame.len() < 4 || is_set(0, 0, frame) {
+        return unknown();
+    }
+    if is_set(0, 1, frame) {
+        after_address(frame, 2)
+    } else if is_set(0, 2, frame) {
+        after_address(frame, 3)
+    } else if is_set(0, 3, frame) {
+        after_address(frame, 4)
+    } else {
+        unknown()
+    }
+}
+
+// The header of a frame whose address is incomplete, or none of Q.922.
+fn unknown() -> Header
+    ensures value { result ≡ record { len = 4; carried = Unknown } }
+{
+    Header {
+        len: 4,
+        carried: Carried::Unknown,
+    }
+}
+
+// What follows an address that ends at a place.
+fn after_address(frame: &[u8], place: usize) -> Header
+    requires fits { place < 2 ^ 16 }
+    ensures value { result ≡ after_address place frame.now }
+{
+    if !has(0x03, place, frame) {
+        return Header {
+            len: place + 2,
+            carried: Carried::EtherType(number_at(frame, place)),
+        };
+    }
+    let is_padded = place + 1 < frame.len() && has(0, place + 1, frame);
+    nlpid_header(frame, if is_padded { place + 2 } else { place + 1 })
+}
+
+// The NLPID at a place.
+fn nlpid_header(frame: &[u8], place: usize) -> Header
+    requires fits { place < 2 ^ 17 }
+    ensures value { result ≡ nlpid_header place frame.now }
+{
+    let nlpid = byte_at(frame, place);
+    if nlpid == 0x80 {
+        return snap_header(frame, place + 1);
+    }
+    if nlpid == 0xcf {
+        return protocol_header(frame, place + 1);
+    }
+    Header {
+        len: place + 1,
+        carried: Carried::Nlpid(nlpid),
+    }
+}
