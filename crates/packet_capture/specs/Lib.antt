@@ -1,1 +1,3 @@
 pub mod Capture
+pub mod FileFormat
+pub mod Pcapng

@@ -1,4 +1,6 @@
-//! Captures in the classic format of libpcap: the header of a file, and one record after the other.
+//! Captures: files in the classic format of libpcap, and pcapng files.
 #![tactic(auto)]
 
 pub mod capture;
+pub mod file_format;
+pub mod pcapng;
