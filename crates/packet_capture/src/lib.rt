@@ -1,6 +1,7 @@
 //! Captures: files in the classic format of libpcap, and pcapng files.
 #![tactic(auto)]
 
+pub mod any;
 pub mod capture;
 pub mod file_format;
 pub mod pcapng;
