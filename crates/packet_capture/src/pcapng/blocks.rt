@@ -147,6 +147,7 @@ impl Section {
 
 impl BlockType {
     /// The type of this number.
+    #[tactic(auto, unfolding(crate::specs::Pcapng::Blocks::block_type_of))]
     pub fn from_number(number: u32) -> BlockType
         ensures value { result ≡ block_type_of number }
     {
