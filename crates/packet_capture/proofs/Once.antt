@@ -1,5 +1,5 @@
 -- Each reading has one answer.
-use Rattle.std.proofs.Common.{ℕ, ◌≡◌, ◌≢◌, ◌<◌, ◌≤◌, ◌⊎◌, List, Result, Ok, Err, Option, Some, None, arith, subst, sym, ◌∙◌, ap, refl, drop, length, inl, inr}
+use Rattle.std.proofs.Common.{ℕ, ◌≡◌, ◌≢◌, ◌<◌, ◌≤◌, ◌⊎◌, List, Result, Ok, Err, Option, Some, None, arith, subst, sym, ◌∙◌, ap, refl, drop, length, lit≤, inl, inr}
 use Rattle.packet_capture.specs.declared.capture.ByteOrder.{ByteOrder}
 use Rattle.packet_capture.specs.declared.pcapng.blocks.BlockError.{BlockError}
 use Rattle.packet_capture.specs.declared.pcapng.blocks.BlockHead.{BlockHead}
@@ -8,7 +8,8 @@ use Rattle.packet_capture.specs.declared.pcapng.blocks.Section.{Section}
 use Rattle.packet_capture.specs.declared.pcapng.interfaces.Interface.{Interface}
 use Rattle.packet_capture.specs.declared.pcapng.packets.PacketType.{PacketType}
 use Rattle.packet_capture.specs.declared.pcapng.blocks.BlockType.TheVariants.{InterfaceDescription, Other, Packet, SectionHeader}
-use Rattle.packet_capture.specs.Pcapng.Blocks.{AddsInterface, BeginsWithBlock, ReadsSection, Said, TellsPacket, BlockReading, BodyReading, HeadReading, ReadsBlock, ReadsBody, ReadsHead, ReadsWhole, RefusesBlock, WholeReading, for_body, for_head, for_length}
+use Rattle.packet_capture.specs.declared.pcapng.packets.PacketType.TheVariants.{Enhanced, Obsolete, Simple}
+use Rattle.packet_capture.specs.Pcapng.Blocks.{AddsInterface, BeginsWithBlock, ReadsSection, Said, TellsPacket, BlockReading, BodyReading, HeadReading, ReadsBlock, ReadsBody, ReadsHead, ReadsWhole, RefusesBlock, WholeReading, for_body, for_head, for_length, least_len}
 use Rattle.packet_capture.specs.Pcapng.Interfaces.{HasOption, InterfaceReading, ReadsOptions, after_option, before_options, ends, is_wrong, none_left, reaches_past, tells}
 use Rattle.packet_capture.specs.Pcapng.Packets.{PacketReading, ReadsPacket}
 
@@ -166,3 +167,12 @@ block_once before s (Ok (Some x)) (Err e) p q = let same : Err e ≡ Ok x = in_o
 block_once before s (Err e) (Ok None) p q = absurd (omega arith)
 block_once before s (Err e) (Ok (Some x)) p q = let same : Ok x ≡ Err e = in_order_once before s (refused_in_order p.1) (begins_in_order q) in cc
 block_once before s (Err e) (Err f) p q = let same : Err f ≡ Err e = in_order_once before s (refused_in_order p.1) (refused_in_order q.1) in cc
+
+-- a block has at least 12 bytes
+pub least_len_least : (type : BlockType) → 12 ≤ least_len type
+least_len_least SectionHeader = lit≤ tt
+least_len_least InterfaceDescription = lit≤ tt
+least_len_least (Packet Enhanced) = lit≤ tt
+least_len_least (Packet Simple) = lit≤ tt
+least_len_least (Packet Obsolete) = lit≤ tt
+least_len_least (Other number) = lit≤ tt
