@@ -117,7 +117,7 @@ pub record HasWrongLength (section : Section) (s : List ℕ) (found : BlockType)
   pub front : HasFront section s head
   pub is_type : found ≡ head.block_type
   pub is_len : len ≡ head.total_len
-  pub wrong : (len % 4 ≢ 0) ⊎ (len < least_len found)
+  pub wrong : ¬ IsRightLength head
 
 -- the head of a block, or why there is none
 abbrev pub HeadReading : Type 0
@@ -280,41 +280,3 @@ block_reading after r =
 -- what reading one whole block returns, with the section after it
 abbrev pub body_reading : Section → Result Block BlockError → BodyReading
 body_reading after r = result_map_both (λ block. (after, said block)) (λ e. e) r
-
--- The block at the front has a packet with this head, whether or not the rest of it is there.
-pub record BeginsWithPacket (section : Section) (s : List ℕ) (found : PacketHead) : Type 0 where
-  pub head : BlockHead
-  pub of : PacketType
-  pub front : ReadsHead section s (Ok head)
-  pub has_packet : head.block_type ≡ type.Packet of
-  pub enough : data_start of ≤ length s
-  pub packet : ReadsPacket of head.order section.interfaces.items head.total_len s (Ok found)
-
--- The block at the front has no packet.
-pub record BeginsWithNoPacket (section : Section) (s : List ℕ) : Type 0 where
-  pub head : BlockHead
-  pub front : ReadsHead section s (Ok head)
-  pub no_packet : (of : PacketType) → head.block_type ≢ type.Packet of
-
--- The head of a packet is refused: for the head of its block; or else there are too few bytes; or
--- else for what it says.
-pub data RefusesPacketHead (section : Section) (s : List ℕ) : BlockError → Type 0 where
-  for_head : {e : BlockError} → ReadsHead section s (Err e) → RefusesPacketHead section s e
-  for_length : {head : BlockHead} {of : PacketType} {e : cut.CutOff}
-      → ReadsHead section s (Ok head) → head.block_type ≡ type.Packet of
-      → IsCutOff (data_start of) s e → RefusesPacketHead section s (error.CutOff e)
-  for_packet : {e : BlockError} {head : BlockHead} {of : PacketType}
-      → ReadsHead section s (Ok head) → head.block_type ≡ type.Packet of
-      → data_start of ≤ length s
-      → ReadsPacket of head.order section.interfaces.items head.total_len s (Err e)
-      → RefusesPacketHead section s e
-
--- the head of the packet that the block at the front has; none; or why it is refused
-abbrev pub PacketHeadReading : Type 0
-PacketHeadReading = Result (Option PacketHead) BlockError
-
--- reading the head of a packet without the rest of its block
-abbrev pub ReadsPacketHead : Section → List ℕ → PacketHeadReading → Type 0
-ReadsPacketHead section s (Ok (Some found)) = BeginsWithPacket section s found
-ReadsPacketHead section s (Ok None) = BeginsWithNoPacket section s
-ReadsPacketHead section s (Err e) = RefusesPacketHead section s e

@@ -47,53 +47,46 @@ with_option order place code value interface =
     else Err (error.OptionLength code (length value) place))
     else Ok interface
 
--- the code of the option at a place of the block, and the length of its value (section 3.5)
-abbrev pub option_code : ByteOrder → List ℕ → ℕ → ℕ
-option_code order block place = number_in order w16 (slice_range block place (place + 2))
-
-abbrev pub option_len : ByteOrder → List ℕ → ℕ → ℕ
-option_len order block place = number_in order w16 (slice_range block (place + 2) (place + 4))
-
--- the value of the option
-abbrev pub option_value : ByteOrder → List ℕ → ℕ → List ℕ
-option_value order block place =
-    slice_range block (place + 4) (place + 4 + option_len order block place)
-
--- the place after the option, whose value is padded to 32 bits (section 3.5)
-abbrev pub after_option : ByteOrder → List ℕ → ℕ → ℕ
-after_option order block place = place + 4 + (option_len order block place + 3) / 4 * 4
-
--- the end of the options, which the total length follows once more (section 3.1)
+-- the end of the options of a block, which its total length follows once more (section 3.1)
 abbrev pub options_end : List ℕ → ℕ
 options_end block = length block - 4
 
--- there is an option at this place, and it is not opt_endofopt, whose code is 0
-pub record HasOption (order : ByteOrder) (block : List ℕ) (place : ℕ) : Type 0 where
-  pub left : place < options_end block
-  pub goes_on : option_code order block place ≢ 0
+-- the place after an option with a value of this length, which is padded to 32 bits (section 3.5)
+abbrev pub after_option : ℕ → ℕ → ℕ
+after_option place len = place + 4 + (len + 3) / 4 * 4
 
--- The options from a place of the block to its end or to opt_endofopt, one after the other, change
--- what is known of the interface. The first that reaches past the block's body, or that says
--- something wrong, is refused.
+-- the code of the option at a place of the block (section 3.5)
+abbrev pub option_code : ByteOrder → List ℕ → ℕ → ℕ
+option_code order block place = number_in order w16 (slice_range block place (place + 2))
+
+-- An option with this code and a value of this length begins at a place of the block, and it is not
+-- opt_endofopt, whose code is 0 (section 3.5).
+pub record HasOption (order : ByteOrder) (block : List ℕ) (place code len : ℕ) : Type 0 where
+  pub left : place < options_end block
+  pub is_code : code ≡ option_code order block place
+  pub is_len : len ≡ number_in order w16 (slice_range block (place + 2) (place + 4))
+  pub goes_on : code ≢ 0
+
+-- The options from a place of the block to the end or to opt_endofopt, one after the other, change
+-- what is known of the interface. The first that reaches past the end, or that is wrong, is
+-- refused.
 pub data ReadsOptions (order : ByteOrder) (block : List ℕ) : ℕ → Interface → InterfaceReading
     → Type 0 where
   none_left : {place : ℕ} {interface : Interface} → options_end block ≤ place
       → ReadsOptions order block place interface (Ok interface)
   ends : {place : ℕ} {interface : Interface} → place < options_end block
       → option_code order block place ≡ 0 → ReadsOptions order block place interface (Ok interface)
-  reaches_past : {place : ℕ} {interface : Interface} → HasOption order block place
-      → options_end block < after_option order block place
-      → ReadsOptions order block place interface (Err (error.OptionLength
-      (option_code order block place) (option_len order block place) place))
-  refuses : {place : ℕ} {interface : Interface} {e : BlockError} → HasOption order block place
-      → after_option order block place ≤ options_end block
-      → with_option order place (option_code order block place) (option_value order block place)
-      interface ≡ Err e → ReadsOptions order block place interface (Err e)
-  tells : {place : ℕ} {interface next : Interface} {answer : InterfaceReading}
-      → HasOption order block place → after_option order block place ≤ options_end block
-      → with_option order place (option_code order block place) (option_value order block place)
-      interface ≡ Ok next
-      → ReadsOptions order block (after_option order block place) next answer
+  reaches_past : {place code len : ℕ} {interface : Interface}
+      → HasOption order block place code len → options_end block < after_option place len
+      → ReadsOptions order block place interface (Err (error.OptionLength code len place))
+  is_wrong : {place code len : ℕ} {interface : Interface} {e : BlockError}
+      → HasOption order block place code len → after_option place len ≤ options_end block
+      → with_option order place code (slice_range block (place + 4) (place + 4 + len)) interface
+      ≡ Err e → ReadsOptions order block place interface (Err e)
+  tells : {place code len : ℕ} {interface next : Interface} {answer : InterfaceReading}
+      → HasOption order block place code len → after_option place len ≤ options_end block
+      → with_option order place code (slice_range block (place + 4) (place + 4 + len)) interface
+      ≡ Ok next → ReadsOptions order block (after_option place len) next answer
       → ReadsOptions order block place interface answer
 
 -- reading an Interface Description Block (section 4.2): its options begin at byte 16

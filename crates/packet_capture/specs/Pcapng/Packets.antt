@@ -79,7 +79,7 @@ pub record HasNoInterface (type : PacketType) (order : ByteOrder) (interfaces : 
     (block : List ℕ) (id count : ℕ) : Type 0 where
   pub number : id ≡ interface_id type order block
   pub among : count ≡ length interfaces
-  pub none : count ≤ id
+  pub none : slice_get interfaces id ≡ None
 
 -- the packet's bytes do not fit in the block, which has this room for them
 pub record HasNoRoom (type : PacketType) (order : ByteOrder) (interfaces : List Interface)

@@ -1,13 +1,14 @@
 //! The blocks of a pcapng file (draft-ietf-opsawg-pcapng sections 3.1 and 4.1).
 
-ghost use Rattle.std.specs.Prelude.{◌≡◌, ◌≢◌, ◌%◌, ◌+◌, ◌≤◌, IfErr, IfNone, IfOk, IfSome, OnErr, OnOk};
+ghost use Rattle.std.specs.Prelude.{◌≡◌, ◌≢◌, ◌%◌, ◌+◌, ◌≤◌, IfErr, IfNone, IfOk, IfSome, IsTrue, OnErr, OnOk, ◌↔◌};
 ghost use Rattle.std.specs.Prelude.{[], length};
 ghost use Rattle.std.specs.Int.{w32};
 ghost use Rattle.packet_capture.specs.Capture.{number_in};
-ghost use Rattle.packet_capture.specs.Pcapng.Blocks.{BlockReading, HeadReading, IsRead, IsWhole};
-ghost use Rattle.packet_capture.specs.Pcapng.Blocks.{PacketHeadReading, ReadsBlock, ReadsBody};
-ghost use Rattle.packet_capture.specs.Pcapng.Blocks.{ReadsHead, ReadsPacketHead, ReadsWhole};
+ghost use Rattle.packet_capture.specs.Pcapng.Blocks.{BlockReading, HeadReading, IsRead, IsRightLength, IsWhole};
+ghost use Rattle.packet_capture.specs.Pcapng.Blocks.{ReadsBlock, ReadsBody};
+ghost use Rattle.packet_capture.specs.Pcapng.Blocks.{ReadsHead, ReadsWhole};
 ghost use Rattle.packet_capture.specs.Pcapng.Blocks.{block_reading, block_type_of, body_reading};
+ghost use Rattle.packet_capture.specs.Pcapng.Packets.{PacketReading, ReadsPacket, data_start};
 ghost use Rattle.packet_capture.specs.Pcapng.Blocks.{front_len, least_len, major, minor, order_of};
 ghost use Rattle.packet_capture.specs.Pcapng.Blocks.{order_told_by};
 
@@ -147,6 +148,7 @@ impl Section {
 
 impl BlockType {
     /// The type of this number.
+    #[tactic(auto, unfolding(crate::specs::Pcapng::Blocks::block_type_of))]
     pub fn from_number(number: u32) -> BlockType
         ensures value { result ≡ block_type_of number }
     {
@@ -196,6 +198,13 @@ impl BlockHead {
         Ok(())
     }
 
+    // Whether the length is one that a block of the type can have.
+    fn has_right_length(&self) -> bool
+        ensures value { IsTrue result ↔ IsRightLength self.now }
+    {
+        self.total_len % 4 == 0 && self.total_len >= self.block_type.least_len()
+    }
+
     // All of the block, which begins at the front of a slice.
     fn block<'a>(&self, slice: &'a [u8]) -> Result<&'a [u8], BlockError>
         requires least { 12 ≤ self.now.total_len }
@@ -218,11 +227,35 @@ impl BlockHead {
 }
 
 impl Section {
+    /// The head of the packet in a block that has one, at the front of a slice, whether or not the
+    /// rest of the block is there, for a program that skips a packet that is too long for it.
+    ///
+    /// # Errors
+    ///
+    /// `Interface` if the packet is of no interface of the section; otherwise `CapturedLength` if
+    /// the block has no room for its bytes.
+    pub fn packet_head(
+        &self,
+        head: &BlockHead,
+        packet_type: PacketType,
+        slice: &[u8],
+    ) -> Result<PacketHead, BlockError>
+        requires enough { data_start packet_type ≤ length slice.now }
+        requires room { data_start packet_type + 4 ≤ head.now.total_len }
+        ensures reads { ReadsPacket packet_type head.now.order self.now.interfaces.items
+            head.now.total_len slice.now result }
+        ensures only { (other : PacketReading) → ReadsPacket packet_type head.now.order
+            self.now.interfaces.items head.now.total_len slice.now other → other ≡ result }
+    {
+        let interfaces = self.interfaces.as_slice();
+        packet_type.head_of(head.order, interfaces, head.total_len, slice)
+    }
+
     // What a whole block says, and the change that it makes.
     fn read<'a>(&mut self, head: &BlockHead, block: &'a [u8]) -> Result<Block<'a>, BlockError>
         requires least { least_len head.now.block_type ≤ length block.now }
         requires in_words { length block.now % 4 ≡ 0 }
-        requires small { length block.now ≤ u32.MAX }
+        requires whole { length block.now ≡ head.now.total_len }
         ensures reads { ReadsBody head.now.block_type self.old head.now.order block.now
             (body_reading self.new result) }
         ensures kept { IfErr result (λ _. self.new ≡ self.old) }
@@ -243,9 +276,7 @@ impl Section {
                 Ok(Block::Interface(interface))
             }
             BlockType::Packet(packet_type) => {
-                let total_len = block.len() as u32;
-                let interfaces = self.interfaces.as_slice();
-                let packet = packet_type.head_of(head.order, interfaces, total_len, block)?;
+                let packet = self.packet_head(head, packet_type, block)?;
                 let start = packet_type.data_start();
                 let end = start + packet.captured_len as usize;
                 Ok(Block::Packet {
@@ -275,46 +306,22 @@ pub fn block_head(section: &Section, slice: &[u8]) -> Result<BlockHead, BlockErr
     if slice.len() < 8 {
         return Err(cut_off(8, slice));
     }
-    let order = order_of(section, slice)?;
-    let block_type = BlockType::from_number(order.u32_of(&slice[..4]));
-    let total_len = order.u32_of(&slice[4..8]);
-    if total_len % 4 != 0 || total_len < block_type.least_len() {
+    let order = match order_of(section, slice) {
+        Ok(order) => order,
+        Err(e) => return Err(e),
+    };
+    let head = BlockHead {
+        order,
+        block_type: BlockType::from_number(order.u32_of(&slice[..4])),
+        total_len: order.u32_of(&slice[4..8]),
+    };
+    if !head.has_right_length() {
         return Err(BlockError::BlockLength {
-            block_type,
-            total_len,
+            block_type: head.block_type,
+            total_len: head.total_len,
         });
     }
-    Ok(BlockHead {
-        order,
-        block_type,
-        total_len,
-    })
-}
-
-/// The head of the packet in the block at the front of a slice, whether or not the rest of the block
-/// is there, for a program that reads a file in pieces and skips a packet that is too long for it;
-/// `None` if the block has no packet.
-///
-/// # Errors
-///
-/// Those of [`block_head`]; otherwise, for a block with a packet, `CutOff` if there are fewer than
-/// 28 bytes, or fewer than 12 of a Simple Packet Block; otherwise `Interface` if the packet is of no
-/// interface of the section; otherwise `CapturedLength` if the block has no room for its bytes.
-pub fn next_packet_head(section: &Section, slice: &[u8]) -> Result<Option<PacketHead>, BlockError>
-    ensures reads { ReadsPacketHead section.now slice.now result }
-    ensures only { (other : PacketHeadReading) → ReadsPacketHead section.now slice.now other →
-        other ≡ result }
-{
-    let head = block_head(section, slice)?;
-    let BlockType::Packet(packet_type) = head.block_type else {
-        return Ok(None);
-    };
-    let front = packet_type.data_start();
-    if slice.len() < front {
-        return Err(cut_off(front, slice));
-    }
-    let interfaces = section.interfaces.as_slice();
-    Ok(Some(packet_type.head_of(head.order, interfaces, head.total_len, slice)?))
+    Ok(head)
 }
 
 /// The block at the front of a slice, and all the bytes after it; `None` if the slice is empty. The
@@ -345,10 +352,18 @@ pub fn next_block<'a>(
     if slice.is_empty() {
         return Ok(None);
     }
-    let head = block_head(section, slice)?;
-    let block = head.block(slice)?;
-    let said = section.read(&head, block)?;
-    Ok(Some((said, &slice[block.len()..])))
+    let head = match block_head(section, slice) {
+        Ok(head) => head,
+        Err(e) => return Err(e),
+    };
+    let block = match head.block(slice) {
+        Ok(block) => block,
+        Err(e) => return Err(e),
+    };
+    match section.read(&head, block) {
+        Ok(said) => Ok(Some((said, &slice[block.len()..]))),
+        Err(e) => Err(e),
+    }
 }
 
 // The byte order of the block at the front of a slice.

@@ -67,13 +67,17 @@ impl Interface {
                 return Ok(interface);
             }
             let len = order.u16_of(&block[place + 2..place + 4]);
-            let value = place + 4;
-            let after = value + (usize::from(len) + 3) / 4 * 4;
+            let start = place + 4;
+            let value_len = usize::from(len);
+            let after = start + (value_len + 3) / 4 * 4;
             if after > end {
                 return Err(BlockError::OptionLength { code, len, place });
             }
-            let value = &block[value..value + usize::from(len)];
-            interface = interface.with_option(order, place, code, value)?;
+            let value = &block[start..start + value_len];
+            match interface.with_option(order, place, code, value) {
+                Ok(next) => interface = next,
+                Err(e) => return Err(e),
+            }
             place = after;
         }
         Ok(interface)

@@ -78,22 +78,37 @@ fn split_by_ten(power: u8, timestamp: u64) -> (u64, u32)
     ensures whole { result.0 ≡ timestamp / 10 ^ power }
     ensures part { result.1 ≡ timestamp % 10 ^ power * 10 ^ 9 / 10 ^ power }
 {
-    if power < 10 {
-        let units = 10u64.pow(u32::from(power));
-        let nanoseconds = 10u64.pow(u32::from(9 - power));
-        (timestamp / units, (timestamp % units * nanoseconds) as u32)
-    } else if power < 20 {
-        let units = 10u64.pow(u32::from(power));
-        let in_nanosecond = 10u64.pow(u32::from(power - 9));
-        (
-            timestamp / units,
-            (timestamp % units / in_nanosecond) as u32,
-        )
-    } else if power < 29 {
-        (0, (timestamp / 10u64.pow(u32::from(power - 9))) as u32)
+    if power < 20 {
+        let units = power_of_ten(power);
+        let part = timestamp % units;
+        (timestamp / units, nanoseconds_by_ten(power, part))
     } else {
-        (0, 0)
+        (0, nanoseconds_by_ten(power, timestamp))
     }
+}
+
+// The nanoseconds in a part of a second.
+fn nanoseconds_by_ten(power: u8, part: u64) -> u32
+    requires { part < 10 ^ power }
+    ensures value { result ≡ part * 10 ^ 9 / 10 ^ power }
+{
+    let nanoseconds = if power < 10 {
+        part * power_of_ten(9 - power)
+    } else if power < 29 {
+        part / power_of_ten(power - 9)
+    } else {
+        0
+    };
+    nanoseconds as u32
+}
+
+// A power of ten that fits 64 bits.
+fn power_of_ten(power: u8) -> u64
+    requires { power < 20 }
+    ensures value { result ≡ 10 ^ power }
+    ensures positive { 0 < result }
+{
+    10u64.pow(u32::from(power))
 }
 
 // The same of a timestamp in a negative power of two.
