@@ -2,7 +2,8 @@
 //! record.
 
 ghost use Rattle.std.specs.Prelude.{◌≡◌, ◌+◌, ◌≤◌, ◌↔◌, IfErr, IfNone, IfOk, IfSome, IsTrue, length};
-ghost use Rattle.packet_capture.specs.Any.{IsPcapng, ReadsFront, ReadsNext, front_and_rest};
+ghost use Rattle.packet_capture.specs.Any.{FrontReading, IsPcapng, NextReading, ReadsFront};
+ghost use Rattle.packet_capture.specs.Any.{ReadsNext, front_and_rest};
 ghost use Rattle.packet_capture.specs.Any.{head_of_packet, head_of_record, next_reading, said};
 ghost use Rattle.packet_capture.specs.Any.{said_of, stamp_on};
 ghost use Rattle.packet_capture.specs.Pcapng.Blocks as blocks;
@@ -93,6 +94,8 @@ impl Capture {
     /// Those of [`FileHeader::from_slice`] if the first four bytes are not those of pcapng.
     pub fn from_slice(file: &[u8]) -> Result<(Capture, &[u8]), CaptureError>
         ensures reads { ReadsFront file.now (front_and_rest result) }
+        ensures only { (other : FrontReading) → ReadsFront file.now other →
+            other ≡ front_and_rest result }
     {
         if is_pcapng(file) {
             return Ok((Capture::Pcapng(Section::none()), file));
@@ -224,6 +227,8 @@ pub fn next_block<'a>(
     slice: &'a [u8],
 ) -> Result<Option<(Block<'a>, &'a [u8])>, BlockError>
     ensures reads { ReadsNext capture.old slice.now (next_reading capture.new result) }
+    ensures only { (other : NextReading) → ReadsNext capture.old slice.now other →
+        other ≡ next_reading capture.new result }
     ensures shorter { IfOk result (λ next. IfSome next (λ x.
         12 + length x.1.now ≤ length slice.now)) }
     ensures kept { IfErr result (λ _. capture.new ≡ capture.old) }
@@ -242,6 +247,8 @@ fn next_of_records<'a>(
 ) -> Result<Option<(Block<'a>, &'a [u8])>, BlockError>
     ensures reads { ReadsNext (Capture.Pcap header.now) slice.now
         (next_reading (Capture.Pcap header.now) result) }
+    ensures only { (other : NextReading) → ReadsNext (Capture.Pcap header.now) slice.now other →
+        other ≡ next_reading (Capture.Pcap header.now) result }
     ensures shorter { IfOk result (λ next. IfSome next (λ x.
         12 + length x.1.now ≤ length slice.now)) }
 {
@@ -263,6 +270,8 @@ fn next_of_blocks<'a>(
 ) -> Result<Option<(Block<'a>, &'a [u8])>, BlockError>
     ensures reads { ReadsNext (Capture.Pcapng section.old) slice.now
         (next_reading (Capture.Pcapng section.new) result) }
+    ensures only { (other : NextReading) → ReadsNext (Capture.Pcapng section.old) slice.now other →
+        other ≡ next_reading (Capture.Pcapng section.new) result }
     ensures shorter { IfOk result (λ next. IfSome next (λ x.
         12 + length x.1.now ≤ length slice.now)) }
     ensures kept { IfErr result (λ _. section.new ≡ section.old) }
