@@ -337,6 +337,21 @@ pub fn block_head(section: &Section, slice: &[u8]) -> Result<BlockHead, BlockErr
 /// wrong in the block: `Version` for a Section Header Block; `TooManyInterfaces`, or else
 /// `OptionLength` or `Resolution` for the first option that is wrong, for an Interface Description
 /// Block; `Interface`, or else `CapturedLength`, for a block with a packet.
+///
+/// # Example
+///
+/// ```
+/// // A section of little-endian numbers, without a length of its own.
+/// let file = [
+///     0x0a, 0x0d, 0x0d, 0x0a, 28, 0, 0, 0, 0x4d, 0x3c, 0x2b, 0x1a, 1, 0, 0, 0, 0xff, 0xff, 0xff,
+///     0xff, 0xff, 0xff, 0xff, 0xff, 28, 0, 0, 0,
+/// ];
+/// let mut section = Section::none();
+/// let expected = Ok(Some((Block::Section, [].as_slice())));
+/// assert!(rt; next_block(&mut section, &file) == expected);
+/// assert!(rt; section.order == Some(ByteOrder::LittleEndian));
+/// assert!(rt; next_block(&mut section, &[]) == Ok(None));
+/// ```
 pub fn next_block<'a>(
     section: &mut Section,
     slice: &'a [u8],

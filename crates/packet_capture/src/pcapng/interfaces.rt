@@ -1,6 +1,6 @@
 //! The interfaces of a section (draft-ietf-opsawg-pcapng sections 3.5 and 4.2).
 
-ghost use Rattle.std.specs.Prelude.{◌≡◌, ◌%◌, ◌≤◌, length};
+ghost use Rattle.std.specs.Prelude.{◌≡◌, ◌%◌, ◌^◌, ◌<◌, ◌≤◌, length};
 ghost use Rattle.packet_capture.specs.Pcapng.Interfaces.{InterfaceReading, ReadsInterface};
 ghost use Rattle.packet_capture.specs.Pcapng.Interfaces.{ReadsOptions, before_options, with_option};
 ghost use Rattle.packet_capture.specs.Pcapng.Times.{nanoseconds, seconds};
@@ -30,9 +30,22 @@ pub struct Interface {
 
 impl Interface {
     /// The time of a timestamp of this interface.
+    ///
+    /// # Example
+    ///
+    /// ```
+    /// // Microseconds, and a clock that is one second ahead of 1970.
+    /// let interface = Interface {
+    ///     offset: 1,
+    ///     ..Interface::default()
+    /// };
+    /// let time = interface.time_of(2_000_003);
+    /// assert!(rt; (time.seconds, time.nanoseconds) == (3, 3000));
+    /// ```
     pub fn time_of(&self, timestamp: u64) -> Time
         ensures seconds { result.seconds ≡ seconds self.now.resolution self.now.offset timestamp }
         ensures nanoseconds { result.nanoseconds ≡ nanoseconds self.now.resolution timestamp }
+        ensures within { result.nanoseconds < 10 ^ 9 }
     {
         self.resolution.time_of(self.offset, timestamp)
     }

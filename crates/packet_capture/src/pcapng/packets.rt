@@ -1,6 +1,6 @@
 //! The packets of a section (draft-ietf-opsawg-pcapng sections 4.3 and 4.4, and appendix A).
 
-ghost use Rattle.std.specs.Prelude.{◌≡◌, ◌+◌, ◌≤◌, length};
+ghost use Rattle.std.specs.Prelude.{◌≡◌, ◌+◌, ◌^◌, ◌<◌, ◌≤◌, IfSome, length};
 ghost use Rattle.std.specs.Option.{option_map};
 ghost use Rattle.packet_capture.specs.Pcapng.Packets.{ReadsPacket, data_start, interface_id};
 ghost use Rattle.packet_capture.specs.Pcapng.Packets.{packet_head, snapped, timestamp_at_12};
@@ -129,6 +129,7 @@ impl PacketHead {
             (seconds self.now.interface.resolution self.now.interface.offset) self.now.timestamp }
         ensures nanoseconds { option_map (λ time. time.nanoseconds) result ≡ option_map
             (nanoseconds self.now.interface.resolution) self.now.timestamp }
+        ensures within { IfSome result (λ time. time.nanoseconds < 10 ^ 9) }
     {
         match self.timestamp {
             Some(timestamp) => Some(self.interface.time_of(timestamp)),
