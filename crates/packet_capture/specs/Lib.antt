@@ -1,1 +1,4 @@
+pub mod Any
 pub mod Capture
+pub mod FileFormat
+pub mod Pcapng

@@ -2,7 +2,7 @@
 //! (draft-ietf-opsawg-pcap sections 4 and 5).
 
 ghost use Rattle.std.specs.Prelude.{◌≡◌, ◌+◌, ◌*◌, ◌≤◌, IfOk, IfSome, length};
-ghost use Rattle.std.specs.Int.{w16, w32};
+ghost use Rattle.std.specs.Int.{w16, w32, w64};
 ghost use Rattle.etherparse.specs.Reading.{found_and_rest};
 ghost use Rattle.packet_capture.specs.Capture.{FileReading, ReadsFileHeader, ReadsRecord, RecordReading};
 ghost use Rattle.packet_capture.specs.Capture.{nanoseconds_in, number_in, record_and_rest, record_head};
@@ -267,7 +267,7 @@ fn format_of(magic: u32) -> Option<Format>
 
 impl ByteOrder {
     // Two bytes as a number.
-    fn u16_of(self, bytes: &[u8]) -> u16
+    pub(crate) fn u16_of(self, bytes: &[u8]) -> u16
         requires { length bytes.now ≡ 2 }
         ensures value { result ≡ number_in self w16 bytes.now }
     {
@@ -279,7 +279,7 @@ impl ByteOrder {
     }
 
     // Four bytes as a number.
-    fn u32_of(self, bytes: &[u8]) -> u32
+    pub(crate) fn u32_of(self, bytes: &[u8]) -> u32
         requires { length bytes.now ≡ 4 }
         ensures value { result ≡ number_in self w32 bytes.now }
     {
@@ -287,6 +287,20 @@ impl ByteOrder {
         match self {
             ByteOrder::BigEndian => u32::from_be_bytes(bytes),
             ByteOrder::LittleEndian => u32::from_le_bytes(bytes),
+        }
+    }
+
+    // Eight bytes as a number.
+    pub(crate) fn u64_of(self, bytes: &[u8]) -> u64
+        requires { length bytes.now ≡ 8 }
+        ensures value { result ≡ number_in self w64 bytes.now }
+    {
+        let bytes = [
+            bytes[0], bytes[1], bytes[2], bytes[3], bytes[4], bytes[5], bytes[6], bytes[7],
+        ];
+        match self {
+            ByteOrder::BigEndian => u64::from_be_bytes(bytes),
+            ByteOrder::LittleEndian => u64::from_le_bytes(bytes),
         }
     }
 }

@@ -1,4 +1,7 @@
-//! Captures in the classic format of libpcap: the header of a file, and one record after the other.
+//! Captures: files in the classic format of libpcap, and pcapng files.
 #![tactic(auto)]
 
+pub mod any;
 pub mod capture;
+pub mod file_format;
+pub mod pcapng;

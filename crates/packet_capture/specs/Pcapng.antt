@@ -1,0 +1,4 @@
+pub mod Blocks
+pub mod Interfaces
+pub mod Packets
+pub mod Times
