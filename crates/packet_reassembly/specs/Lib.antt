@@ -1,0 +1,3 @@
+pub mod Fragment
+pub mod Refusal
+pub mod Table

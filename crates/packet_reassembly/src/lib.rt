@@ -1,0 +1,8 @@
+//! Reassembly of fragmented IP packets. What the fragments of a packet say does not depend on the
+//! order in which they come. No memory is allocated: the caller lends it.
+#![tactic(auto)]
+
+pub mod ip_defrag_buf;
+pub mod ip_defrag_error;
+pub mod ip_frag_range;
+mod table;
