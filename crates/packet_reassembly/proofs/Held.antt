@@ -1,5 +1,5 @@
 -- what the table holds
-use Rattle.std.proofs.Common.{ℕ, ◌≡◌, ◌≢◌, ◌+◌, ◌-◌, ◌*◌, ◌/◌, ◌%◌, ◌<◌, ◌≤◌, ◌⊎◌, ◌↔◌, ◌++◌, [], ◌∷◌, List, length, arith, inl, inr, Bool, true, false, map, ap, sym, subst, ◌∙◌, refl, slice_range, take, drop, slice_index_or, suc}
+use Rattle.std.proofs.Common.{ℕ, ◌≡◌, ◌≢◌, ◌+◌, ◌/◌, ◌%◌, ◌<◌, ◌≤◌, ◌⊎◌, ◌++◌, [], ◌∷◌, List, length, arith, inl, inr, Bool, true, false, map, ap, sym, subst, ◌∙◌, refl, slice_range, take, drop, slice_index_or, suc}
 use Rattle.std.proofs.lemmas.Bool.{cases_lt}
 use Rattle.std.proofs.lemmas.Grind.{common_steps}
 use Rattle.std.proofs.lemmas.List.{drop_more, get_or-map, get_or_default, get_or_past, length-map, take-append-drop}
@@ -9,7 +9,7 @@ use Rattle.std.specs.List.{Contains, filter}
 use Rattle.packet_reassembly.specs.declared.ip_frag_range.IpFragRange.{IpFragRange}
 use Rattle.packet_reassembly.specs.declared.table.Extent.{Extent}
 use Rattle.packet_reassembly.specs.Fragment.{Conflict, Fragment, end_of}
-use Rattle.packet_reassembly.specs.Table.{AreApart, AreKept, Begins, Fits, IsClear, fragment_in, fragment_of, has_come, held, range_at}
+use Rattle.packet_reassembly.specs.Table.{AreApart, AreKept, Begins, Fits, fragment_in, fragment_of, has_come, held, range_at}
 
 -- two ranges that overlap have a unit that begins in both
 pub common : (p q : IpFragRange) → p.start % 8 ≡ 0 → q.start % 8 ≡ 0 → p.start < q.end → q.start < p.end → p.start < p.end → q.start < q.end → (k : ℕ) × Begins p k × Begins q k
@@ -86,15 +86,18 @@ pub conflict_taken : (bytes payload : List ℕ) (ranges : List IpFragRange) (ext
 conflict_taken bytes payload ranges extent range k kept fits b some other =
     let room = kept.room in let limit = kept.limit in
     let e = end_at bytes ranges extent.reach k kept.apart (omega arith) some in
-    let own = kept.apart.begins k some in
-    (fragment_in bytes (range_at ranges k), Contains_from_held bytes ranges k some, inl (
-      λ is.
-          let s : (range_at ranges k).start ≡ range.start = ap (λ (f : Fragment). f.start) is in
-          let t : (range_at ranges k).end ≡ range.end = sym e ∙ (ap end_of is ∙ fits.len) in
-          let u : Begins (range_at ranges k) (range.start / 8) = (omega arith, omega arith) in
-          other (kept.apart.same k (range.start / 8) some u ∙ same_range (range_at ranges k) range s t (ap (λ (f : Fragment). f.more) is)),
-      (omega arith, omega arith),
-    ))
+    let own = kept.apart.begins k some in (
+      fragment_in bytes (range_at ranges k),
+      Contains_from_held bytes ranges k some,
+      inl (
+        λ is.
+            let s : (range_at ranges k).start ≡ range.start = ap (λ (f : Fragment). f.start) is in
+            let t : (range_at ranges k).end ≡ range.end = sym e ∙ (ap end_of is ∙ fits.len) in
+            let u : Begins (range_at ranges k) (range.start / 8) = (omega arith, omega arith) in
+            other (kept.apart.same k (range.start / 8) some u ∙ same_range (range_at ranges k) range s t (ap (λ (f : Fragment). f.more) is)),
+        (omega arith, omega arith),
+      ),
+    )
 
 -- one that has the range of one that is kept, and other bytes
 pub conflict_bytes : (bytes payload : List ℕ) (ranges : List IpFragRange) (extent : Extent) (range : IpFragRange) → AreKept bytes ranges extent → Fits range payload
@@ -105,9 +108,11 @@ conflict_bytes bytes payload ranges extent range kept fits same other =
     let some : 0 < (range_at ranges k).end = rw same (omega (arith, fits.some)) in
     let e = end_at bytes ranges extent.reach k kept.apart (omega (arith, kept.room, kept.limit)) some in
     let has = Contains_from_held bytes ranges k some in
-    let c : end_of (fragment_in bytes range) ≡ range.end = subst (λ (r : IpFragRange). end_of (fragment_in bytes r) ≡ r.end) same e in
-    (fragment_in bytes range, subst (λ (r : IpFragRange). Contains (held bytes ranges) (fragment_in bytes r)) same has,
-      inl (λ is. other (ap (λ (f : Fragment). f.bytes) is), (omega (arith, fits.some, fits.len), omega (arith, fits.some))))
+    let c : end_of (fragment_in bytes range) ≡ range.end = subst (λ (r : IpFragRange). end_of (fragment_in bytes r) ≡ r.end) same e in (
+      fragment_in bytes range,
+      subst (λ (r : IpFragRange). Contains (held bytes ranges) (fragment_in bytes r)) same has,
+      inl (λ is. other (ap (λ (f : Fragment). f.bytes) is), (omega (arith, fits.some, fits.len), omega (arith, fits.some))),
+    )
 
 -- one that goes past the end, and one that ends before what has come
 pub conflict_past : (bytes payload : List ℕ) (ranges : List IpFragRange) (extent : Extent) (range : IpFragRange) → AreKept bytes ranges extent → Fits range payload

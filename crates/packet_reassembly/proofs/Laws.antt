@@ -1,9 +1,9 @@
 -- what holds of all fragments of a datagram
-use Rattle.std.proofs.Common.{ℕ, ◌≡◌, ◌≢◌, ◌+◌, ◌-◌, ◌<◌, ◌≤◌, ◌⊎◌, ◌↔◌, List, length, arith, inl, inr, ap, sym, ◌∙◌, slice_index_or}
+use Rattle.std.proofs.Common.{ℕ, ◌≡◌, ◌+◌, ◌-◌, List, length, arith, inl, inr, ap, sym, ◌∙◌, slice_index_or}
 use Rattle.std.proofs.lemmas.List.{ext_get_or}
 use Rattle.std.proofs.lemmas.List.Edits.{get_or-between}
 use Rattle.std.specs.List.{Contains}
-use Rattle.packet_reassembly.specs.Fragment.{AreCutFrom, Conflict, Covers, Fragment, HaveConflict, HaveSame, IsPieceOf, end_of}
+use Rattle.packet_reassembly.specs.Fragment.{AreCutFrom, Conflict, Covers, Fragment, HaveSame, IsPieceOf, end_of}
 
 pub cut_same : (xs ys : List Fragment) → HaveSame xs ys → (datagram : List ℕ) → AreCutFrom datagram xs → AreCutFrom datagram ys
 cut_same xs ys same datagram cut = record {
@@ -13,13 +13,10 @@ cut_same xs ys same datagram cut = record {
   apart = λ f g hf hg. cut.apart f g ((same f).1 hf) ((same g).1 hg);
 }
 
-conflict_cut : (xs : List Fragment) (datagram : List ℕ) (f g : Fragment) → AreCutFrom datagram xs → Contains xs f → Contains xs g → ¬ Conflict f g
+pub conflict_cut : (xs : List Fragment) (datagram : List ℕ) (f g : Fragment) → AreCutFrom datagram xs → Contains xs f → Contains xs g → ¬ Conflict f g
 conflict_cut xs datagram f g cut hf hg (inl o) = o.0 (cut.apart f g hf hg o.1)
 conflict_cut xs datagram f g cut hf hg (inr (inl p)) = let a = cut.pieces f hf in let b = cut.pieces g hg in omega (arith, a.last.0 p.0, b.within, p.1)
 conflict_cut xs datagram f g cut hf hg (inr (inr p)) = let a = cut.pieces g hg in let b = cut.pieces f hf in omega (arith, a.last.0 p.0, b.within, p.1)
-
-pub not_cut_conflict : (xs : List Fragment) (datagram : List ℕ) → HaveConflict xs → ¬ AreCutFrom datagram xs
-not_cut_conflict xs datagram c cut = conflict_cut xs datagram c.one c.other cut c.has_one c.has_other c.conflict
 
 length_of_cut : (xs : List Fragment) (one other : List ℕ) → AreCutFrom one xs → AreCutFrom other xs → length one ≡ length other
 length_of_cut xs one other a b =

@@ -1,3 +1,4 @@
+pub mod Arrivals
 pub mod Held
 pub mod Laws
 pub mod New

@@ -1,5 +1,5 @@
 -- a new fragment
-use Rattle.std.proofs.Common.{ℕ, ◌≡◌, ◌≢◌, ◌+◌, ◌-◌, ◌*◌, ◌/◌, ◌%◌, ◌<◌, ◌≤◌, ◌⊎◌, ◌↔◌, ◌++◌, ◌||◌, [], ◌∷◌, List, length, arith, inl, inr, Bool, true, false, not, max, ap, sym, subst, ◌∙◌, refl, slice_range, take, drop, Option, Some, None, length-append, length-take, length-drop}
+use Rattle.std.proofs.Common.{ℕ, ◌≡◌, ◌≢◌, ◌-◌, ◌*◌, ◌/◌, ◌%◌, ◌<◌, ◌≤◌, ◌⊎◌, ◌↔◌, ◌++◌, ◌||◌, [], ◌∷◌, List, length, arith, inl, inr, Bool, true, false, not, max, ap, sym, subst, ◌∙◌, refl, take, drop, Some, length-append, length-take, length-drop}
 use borrow.Rule.Slice.PartMut.{put_mid}
 use Rattle.std.proofs.lemmas.Bool.{cases_lt, cases_Bool}
 use Rattle.std.proofs.lemmas.List.Elements.{Contains-append_left, Contains-push, Contains-push_cases}
@@ -7,7 +7,7 @@ use Rattle.std.proofs.lemmas.Slice.{between-put_mid, between_is, drop-put_mid, t
 use Rattle.std.specs.List.{Contains}
 use Rattle.packet_reassembly.specs.declared.ip_frag_range.IpFragRange.{IpFragRange}
 use Rattle.packet_reassembly.specs.declared.table.Extent.{Extent}
-use Rattle.packet_reassembly.specs.Fragment.{Conflict, Fragment, HaveSame, Takes, end_of}
+use Rattle.packet_reassembly.specs.Fragment.{Conflict, Fragment, Takes}
 use Rattle.packet_reassembly.specs.Table.{AreApart, AreKept, Begins, Fits, IsFront, IsMarked, IsNew, fragment_in, fragment_of, held, range_at}
 use Rattle.packet_reassembly.proofs.Held.{Contains_from_held, common, end_at, held_from_Contains}
 
@@ -71,11 +71,11 @@ last-new bytes payload old new extent range a k =
     (λ r. 0 < r.end → (r.more_fragments ≡ false) ↔ (((extent.ended || not range.more_fragments) ≡ true) × (r.end ≡ max extent.reach range.end))) k
     (λ b some. last_of_range extent.ended range.more_fragments extent.reach range.end a.is_new.before_end
     (λ ended e.
-        let (j, is) = a.kept.reached (a.kept.ended ended) in
-        let there : 0 < (range_at old j).end = omega (arith, a.kept.ended ended) in
-        let own = a.kept.apart.begins j there in
-        let f = a.fits.some in
-        no_overlap bytes payload old new extent range j a there (omega arith) (omega arith))
+    let (j, is) = a.kept.reached (a.kept.ended ended) in
+    let there : 0 < (range_at old j).end = omega (arith, a.kept.ended ended) in
+    let own = a.kept.apart.begins j there in
+    let f = a.fits.some in
+    no_overlap bytes payload old new extent range j a there (omega arith) (omega arith))
     a.is_new.at_end)
     (λ n some. last_of_other extent.ended range.more_fragments (range_at old k).more_fragments extent.reach range.end (range_at old k).end a.is_new.before_end a.is_new.at_end
     (λ e. let own = a.kept.apart.begins k some in let f = a.fits.some in no_overlap bytes payload old new extent range k a some (omega arith) (omega arith))
@@ -166,8 +166,7 @@ pub takes-new : (bytes payload : List ℕ) (old new : List IpFragRange) (extent 
 takes-new bytes payload old new extent range n a len =
     let after : List ℕ = put_mid range.start n bytes payload in
     let f : Fragment = fragment_of range payload in
-    let w = written bytes payload old new extent range n a len in
-    (
+    let w = written bytes payload old new extent range n a len in (
       λ g has c. let h = held_from_Contains bytes old g has in
           no_conflict bytes payload old new extent range h.at a h.some (subst (λ (x : Fragment). Conflict x f) (sym h.is) c),
       λ g. (

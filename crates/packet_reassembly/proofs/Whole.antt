@@ -1,5 +1,5 @@
 -- what a datagram is, by its table
-use Rattle.std.proofs.Common.{ℕ, ◌≡◌, ◌≢◌, ◌+◌, ◌-◌, ◌*◌, ◌/◌, ◌%◌, ◌<◌, ◌≤◌, ◌⊎◌, ◌↔◌, ◌++◌, [], ◌∷◌, List, length, arith, inl, inr, Bool, true, false, ap, sym, subst, ◌∙◌, slice_range, take, drop, Option, Some, None, refl}
+use Rattle.std.proofs.Common.{ℕ, ◌≡◌, ◌-◌, ◌/◌, ◌<◌, ◌≤◌, ◌⊎◌, [], ◌∷◌, List, length, arith, inl, inr, Bool, true, false, ap, sym, subst, ◌∙◌, slice_range, take, drop, Option, Some}
 use Rattle.std.proofs.lemmas.Bool.{cases_lt}
 use Rattle.std.proofs.lemmas.List.{length-take-le, take-take}
 use Rattle.std.proofs.lemmas.List.Elements.{Contains-append_left, Contains-push_cases}
@@ -7,8 +7,8 @@ use Rattle.std.proofs.lemmas.Slice.{between_is}
 use Rattle.std.specs.List.{Contains}
 use Rattle.packet_reassembly.specs.declared.ip_frag_range.IpFragRange.{IpFragRange}
 use Rattle.packet_reassembly.specs.declared.table.Extent.{Extent}
-use Rattle.packet_reassembly.specs.Fragment.{AreCutFrom, Conflict, Covers, Fragment, HaveSame, IsPieceOf, IsWhole, Overlap, Takes, end_of}
-use Rattle.packet_reassembly.specs.Table.{AreKept, Begins, fragment_in, fragment_of, held, kept, range_at}
+use Rattle.packet_reassembly.specs.Fragment.{AreCutFrom, Covers, Fragment, IsPieceOf, IsWhole, Overlap, Takes, end_of}
+use Rattle.packet_reassembly.specs.Table.{AreKept, fragment_in, held, kept, range_at}
 use Rattle.packet_reassembly.proofs.Held.{Contains_from_held, common, end_at, held_from_Contains}
 use Rattle.packet_reassembly.proofs.Laws.{one_cut}
 

@@ -1,5 +1,5 @@
 -- The fragments of one datagram (RFC 791 section 3.2, RFC 8200 section 4.5).
-use Rattle.std.specs.Prelude.{ℕ, ◌≡◌, ◌≢◌, ◌+◌, ◌-◌, ◌*◌, ◌%◌, ◌<◌, ◌≤◌, ◌↔◌, ◌⊎◌, List, length}
+use Rattle.std.specs.Prelude.{ℕ, ◌≡◌, ◌≢◌, ◌+◌, ◌*◌, ◌%◌, ◌<◌, ◌≤◌, ◌↔◌, ◌⊎◌, List, length}
 use Rattle.std.specs.Prelude.{Bool, true, false, Option, Some, None, slice_range, [], ◌∷◌, ◌++◌}
 use Rattle.std.specs.List.{Contains}
 
@@ -29,14 +29,6 @@ GoesPast f g = (f.more ≡ false) × (end_of f < end_of g)
 -- tells
 abbrev pub Conflict : Fragment → Fragment → Type 0
 Conflict f g = ((f ≢ g) × Overlap f g) ⊎ GoesPast f g ⊎ GoesPast g f
-
--- two of them conflict
-pub record HaveConflict (fragments : List Fragment) : Type 0 where
-  pub one : Fragment
-  pub other : Fragment
-  pub has_one : Contains fragments one
-  pub has_other : Contains fragments other
-  pub conflict : Conflict one other
 
 -- the fragment is the piece of the datagram at its place, and tells whether it is the last
 pub record IsPieceOf (datagram : List ℕ) (f : Fragment) : Type 0 where

@@ -1,3 +1,4 @@
+pub mod Arrivals
 pub mod Fragment
 pub mod Refusal
 pub mod Table

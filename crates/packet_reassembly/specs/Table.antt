@@ -1,6 +1,6 @@
 -- The table of the fragments that have come: for each 8 bytes the range of the fragment that they
 -- came in.
-use Rattle.std.specs.Prelude.{ℕ, ◌≡◌, ◌≢◌, ◌+◌, ◌*◌, ◌/◌, ◌%◌, ◌<◌, ◌≤◌, ◌↔◌, List, length}
+use Rattle.std.specs.Prelude.{ℕ, ◌≡◌, ◌+◌, ◌*◌, ◌/◌, ◌%◌, ◌<◌, ◌≤◌, ◌↔◌, List, length}
 use Rattle.std.specs.Prelude.{Bool, true, false, Option, Some, None, cond, map, filter, Contains}
 use Rattle.std.specs.Prelude.{slice_index_or, slice_range, ◌==◌, not}
 use Rattle.packet_reassembly.specs.declared.ip_frag_range.IpFragRange.{IpFragRange}

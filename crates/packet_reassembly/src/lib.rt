@@ -5,4 +5,5 @@
 pub mod ip_defrag_buf;
 pub mod ip_defrag_error;
 pub mod ip_frag_range;
+pub mod reassemble;
 mod table;

@@ -1,4 +1,4 @@
-use Rattle.std.proofs.Common.{ℕ, ◌≡◌, ◌/◌, List, arith, false, inl, inr, not, slice_range, sym, subst, true}
+use Rattle.std.proofs.Common.{ℕ, ◌≡◌, ◌/◌, arith, false, inl, inr, sym, subst}
 use Rattle.std.proofs.lemmas.Bool.{cases_Bool}
 use Rattle.packet_reassembly.specs.Table.{range_at}
 use Rattle.packet_reassembly.proofs.Held.{conflict_bytes, conflict_past, conflict_taken, same_held}

@@ -1,4 +1,4 @@
-use Rattle.std.proofs.Common.{ℕ, ◌≡◌, ◌<◌, ◌≤◌, ◌-◌, ◌⊎◌, length}
+use Rattle.std.proofs.Common.{ℕ, ◌≡◌, ◌<◌, ◌≤◌, ◌-◌, length}
 use Rattle.packet_reassembly.specs.Table.{range_at}
 use Rattle.packet_reassembly.proofs.table.clear.Given as goal
 

@@ -1,7 +1,6 @@
-use Rattle.std.proofs.Common.{ℕ, ◌-◌, List, length, arith, max, ap, sym, subst, ◌∙◌}
-use Rattle.std.proofs.lemmas.Grind.{common_steps}
-use Rattle.packet_reassembly.specs.Table.{AreApart, IsFront}
-use Rattle.packet_reassembly.proofs.New.{Adds, apart-new, kept-new, takes-new}
+use Rattle.std.proofs.Common.{ℕ, ◌-◌, arith, max, ap, subst, ◌∙◌}
+use Rattle.packet_reassembly.specs.Table.{IsFront}
+use Rattle.packet_reassembly.proofs.New.{apart-new, kept-new, takes-new}
 use Rattle.packet_reassembly.proofs.table.keep.Goals as goal
 
 pub front_of-requires-clause-apart : goal.front_of-requires-clause-apart
