@@ -1,4 +1,5 @@
 pub mod Arrivals
 pub mod Fragment
+pub mod Packet
 pub mod Refusal
 pub mod Table

@@ -5,5 +5,6 @@
 pub mod ip_defrag_buf;
 pub mod ip_defrag_error;
 pub mod ip_frag_range;
+pub mod packet;
 pub mod reassemble;
 mod table;
