@@ -2,4 +2,5 @@ pub mod Arrivals
 pub mod Held
 pub mod Laws
 pub mod New
+pub mod Packets
 pub mod Whole

@@ -5,6 +5,7 @@
 pub mod ip_defrag_buf;
 pub mod ip_defrag_error;
 pub mod ip_frag_range;
+pub mod ipv6_fragment;
 pub mod packet;
 pub mod reassemble;
 mod table;
