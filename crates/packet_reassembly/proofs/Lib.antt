@@ -3,4 +3,5 @@ pub mod Held
 pub mod Laws
 pub mod New
 pub mod Packets
+pub mod Walked
 pub mod Whole

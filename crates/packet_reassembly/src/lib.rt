@@ -4,6 +4,8 @@
 
 pub mod ip_defrag_buf;
 pub mod ip_defrag_error;
+pub mod ip_defrag_pool;
+pub mod ip_frag_id;
 pub mod ip_frag_range;
 pub mod ipv6_fragment;
 pub mod packet;
