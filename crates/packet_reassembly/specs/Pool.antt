@@ -2,6 +2,7 @@
 use Rattle.std.specs.Prelude.{ℕ, ◌≡◌, ◌≢◌, ◌+◌, ◌<◌, ◌≤◌, ◌⊎◌, List, [], length, slice_index_or}
 use Rattle.std.specs.Prelude.{Option, Some, None}
 use Rattle.packet_reassembly.specs.Fragment.{Fragment, IsWhole, Takes}
+use Rattle.packet_reassembly.specs.declared.ip_defrag_pool.Added.{Added}
 use Rattle.packet_reassembly.specs.declared.ip_defrag_pool.DatagramState.{DatagramState}
 use Rattle.packet_reassembly.specs.declared.ip_defrag_pool.DatagramState.TheVariants as state
 use Rattle.packet_reassembly.specs.declared.ip_defrag_pool.IpDefragSlot.{IpDefragSlot}
@@ -47,8 +48,27 @@ pub record Begins (old : List IpDefragSlot) (id : IpFragId) (timeout now k : ℕ
       ⊎ (((j : ℕ) → ¬ Has old j id) × IsFree old k)
   pub gives_up : given_up ≡ (slot_at old k).id
 
+-- the slot for the datagram is this one, and holds what has come of it
+pub record IsPlaced (old : List IpDefragSlot) (id : IpFragId) (timeout now k : ℕ)
+    (given_up : Option IpFragId) (new : List IpDefragSlot) : Type 0 where
+  pub others : AreSameBut k old new
+  pub has : Has new k id
+  pub place : (GoesOn old id timeout now k given_up × ((slot_at new k).buf ≡ (slot_at old k).buf))
+      ⊎ (Begins old id timeout now k given_up × ((slot_at new k).buf ≡ Some []))
+
 -- what is known of the datagram
 abbrev pub IsState : Option (List Fragment) → DatagramState → Type 0
 IsState kept state.Incomplete = (kept ≢ None) × ((datagram : List ℕ) → ¬ IsWhole kept datagram)
 IsState kept state.Complete = (datagram : List ℕ) × IsWhole kept datagram
 IsState kept state.Discarded = kept ≡ None
+
+-- the slots, once a fragment of the datagram with this id has come
+pub record IsAdded (old : List IpDefragSlot) (id : IpFragId) (timeout now : ℕ) (f : Fragment)
+    (added : Added) (new : List IpDefragSlot) : Type 0 where
+  pub others : AreSameBut added.slot old new
+  pub has : Has new added.slot id
+  pub takes : (GoesOn old id timeout now added.slot added.given_up
+      × Takes (slot_at old added.slot).buf f (slot_at new added.slot).buf)
+      ⊎ (Begins old id timeout now added.slot added.given_up
+      × Takes (Some []) f (slot_at new added.slot).buf)
+  pub state : IsState (slot_at new added.slot).buf added.state

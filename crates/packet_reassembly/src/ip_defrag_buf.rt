@@ -132,8 +132,8 @@ impl<'a> IpDefragBuf<'a> {
     }
 }
 
-// The range of a fragment, if a datagram can have it.
-fn range_of(
+/// The range of a fragment, if a datagram can have it.
+pub(crate) fn range_of(
     offset: IpFragOffset,
     more_fragments: bool,
     payload: &[u8],

@@ -1,11 +1,13 @@
 //! Many datagrams at once, in slots that the caller lends.
 
 ghost use Rattle.std.specs.Prelude.{ℕ, ◌≡◌, ◌≢◌, ◌<◌, ◌≤◌, ◌+◌, ◌↔◌, ◌⊎◌, [], IfNone, IfSome};
-ghost use Rattle.std.specs.Prelude.{IsTrue, None, Some, length};
+ghost use Rattle.std.specs.Prelude.{IfErr, IfOk, OnErr, OnOk, IsTrue, None, Some, length};
 ghost use Rattle.packet_reassembly.specs.Pool.{AreSameBut, Begins, GoesOn, Has, IsExpired};
-ghost use Rattle.packet_reassembly.specs.Pool.{IsFree, IsState, slot_at};
+ghost use Rattle.packet_reassembly.specs.Pool.{IsAdded, IsFree, IsPlaced, IsState, slot_at};
+ghost use Rattle.packet_reassembly.specs.Fragment.{IsRight, Takes, fragment};
+ghost use Rattle.packet_reassembly.specs.Refusal.{Refuses};
 
-use crate::ip_defrag_buf::IpDefragBuf;
+use crate::ip_defrag_buf::{IpDefragBuf, range_of};
 use crate::ip_defrag_error::IpDefragError;
 use crate::ip_frag_id::IpFragId;
 use etherparse::IpFragOffset;
@@ -42,6 +44,16 @@ pub struct Added {
     /// The datagram that was given up for it: the oldest, if no slot was left, or an older one with
     /// the same id, after the timeout.
     pub given_up: Option<IpFragId>,
+}
+
+/// Many datagrams at once, in slots that the caller lends.
+#[derive(Drop)]
+pub struct IpDefragPool<'a, 'b> {
+    /// The slots: at least one.
+    pub slots: &'a mut [IpDefragSlot<'b>],
+    /// How long a datagram is kept after its first fragment, in ticks of the caller's clock. RFC
+    /// 8200 section 4.5 says 60 seconds.
+    pub timeout: u64,
 }
 
 // Whether the datagram with this id has the slot.
@@ -110,4 +122,95 @@ fn state_of(buf: &IpDefragBuf) -> DatagramState
         Some(_) => DatagramState::Complete,
         None => DatagramState::Incomplete,
     }
+}
+
+// Whether the datagram in a slot is to be given up.
+fn is_expired(slot: &IpDefragSlot, timeout: u64, now: u64) -> bool
+    ensures expired { IsTrue result ↔ IsExpired slot.now timeout now }
+{
+    now >= slot.since && now - slot.since >= timeout
+}
+
+// Takes the slot at an index for a datagram. Returns the one that had it.
+fn take_at(slots: &mut [IpDefragSlot], k: usize, id: IpFragId, now: u64) -> Option<IpFragId>
+    requires within { k < length slots.old }
+    ensures others { AreSameBut k slots.old slots.new }
+    ensures id { (slot_at slots.new k).id ≡ Some id }
+    ensures empty { (slot_at slots.new k).buf ≡ Some [] }
+    ensures given_up { result ≡ (slot_at slots.old k).id }
+{
+    let slot = &mut slots[k];
+    take(slot, id, now)
+}
+
+// The slot for a datagram: that which it has, or one that it takes.
+fn place(
+    slots: &mut [IpDefragSlot],
+    id: IpFragId,
+    timeout: u64,
+    now: u64,
+) -> (usize, Option<IpFragId>)
+    requires some { 0 < length slots.old }
+    ensures placed { IsPlaced slots.old id timeout now result.0 result.1 slots.new }
+{
+    if let Some(k) = find(slots, id) {
+        if is_expired(&slots[k], timeout, now) {
+            return (k, take_at(slots, k, id, now));
+        }
+        return (k, None);
+    }
+    let k = free(slots);
+    (k, take_at(slots, k, id, now))
+}
+
+// Adds a fragment that a datagram can have to the datagram in the slot at an index.
+fn add_at(
+    slots: &mut [IpDefragSlot],
+    k: usize,
+    offset: IpFragOffset,
+    more_fragments: bool,
+    payload: &[u8],
+) -> DatagramState
+    requires within { k < length slots.old }
+    requires right { IsRight (fragment offset more_fragments payload.now) }
+    ensures others { AreSameBut k slots.old slots.new }
+    ensures id { (slot_at slots.new k).id ≡ (slot_at slots.old k).id }
+    ensures takes { Takes (slot_at slots.old k).buf (fragment offset more_fragments payload.now)
+        (slot_at slots.new k).buf }
+    ensures state { IsState (slot_at slots.new k).buf result }
+{
+    let slot = &mut slots[k];
+    match slot.buf.add(offset, more_fragments, payload) {
+        Ok(()) => state_of(&slot.buf),
+        Err(_) => unreachable!(), // A datagram can have it.
+    }
+}
+
+// Adds a fragment to its datagram.
+fn add_to(
+    slots: &mut [IpDefragSlot],
+    id: IpFragId,
+    timeout: u64,
+    now: u64,
+    offset: IpFragOffset,
+    more_fragments: bool,
+    payload: &[u8],
+) -> Result<Added, IpDefragError>
+    requires some { 0 < length slots.old }
+    ensures added { IfOk result (λ added. IsAdded slots.old id timeout now
+        (fragment offset more_fragments payload.now) added slots.new) }
+    ensures right { OnOk result (IsRight (fragment offset more_fragments payload.now)) }
+    ensures refused { IfErr result (Refuses (fragment offset more_fragments payload.now)) }
+    ensures unchanged { OnErr result (slots.new ≡ slots.old) }
+{
+    if let Err(e) = range_of(offset, more_fragments, payload) {
+        return Err(e);
+    }
+    let (slot, given_up) = place(slots, id, timeout, now);
+    let state = add_at(slots, slot, offset, more_fragments, payload);
+    Ok(Added {
+        slot,
+        state,
+        given_up,
+    })
 }
