@@ -1,11 +1,11 @@
 -- extension headers, one after the other, up to the fragment header that decides
-use Rattle.std.proofs.Common.{ℕ, ◌≡◌, ◌≢◌, ◌+◌, ◌-◌, ◌<◌, ◌≤◌, ◌++◌, [], ◌∷◌, List, Result, None, Ok, length, arith, ap, append_assoc, drop, false, get_or, length-append, length-drop, refl, slice_index, slice_range, subst, sym, take, ◌∙◌}
+use Rattle.std.proofs.Common.{ℕ, ◌≡◌, ◌+◌, ◌-◌, ◌<◌, ◌≤◌, ◌++◌, [], ◌∷◌, List, None, length, arith, ap, drop, false, get_or, length-append, length-drop, refl, slice_index, slice_range, subst, sym, take, ◌∙◌}
 use Rattle.std.proofs.Math.ListN.{get_or-append}
 use Rattle.std.proofs.Math.Seq.{drop-append_seam}
 use Rattle.std.proofs.lemmas.Bool.Decides.{nat_tests}
 use Rattle.std.proofs.lemmas.Grind.{common_steps}
 use Rattle.std.proofs.lemmas.List.{append-nil, drop-drop, drop-take, get_or-take, length-take-le, take-append-drop, take-take}
-use Rattle.etherparse.specs.ExtensionHeaderChain.{FollowsChain, IsExtensionHeader, incomplete_header_error, extension_header_len, required_len_of}
+use Rattle.etherparse.specs.ExtensionHeaderChain.{IsExtensionHeader, incomplete_header_error, extension_header_len, required_len_of}
 use Rattle.etherparse.specs.ExtensionHeaders.{IsSkippable}
 use Rattle.etherparse.specs.Reading.{BeginsWith}
 use Rattle.etherparse.specs.LenError.{len_error_moved}
@@ -40,8 +40,8 @@ walked_more body first last at number k to w skippable is fits here passes =
     let is_header : IsExtensionHeader number (take k rest) = record { skippable = skippable; len = rw (length-take-le k rest fits, get_or-take k rest 1 0 (omega arith)) len } in
     let left = length-drop at body in
     let all : take (at + k) body ≡ take at body ++ (take k rest ++ []) =
-        let t = take (at + k) body in
-        sym (take-append-drop at t) ∙ (ap (λ (x : List ℕ). x ++ drop at t) (take-take at (at + k) body (omega arith)) ∙ ap (λ (x : List ℕ). take at body ++ x) (drop-take at k body ∙ sym (append-nil (take k (drop at body))))) in
+    let t = take (at + k) body in
+    sym (take-append-drop at t) ∙ (ap (λ (x : List ℕ). x ++ drop at t) (take-take at (at + k) body (omega arith)) ∙ ap (λ (x : List ℕ). take at body ++ x) (drop-take at k body ∙ sym (append-nil (take k (drop at body))))) in
     let n : k ≡ at + k - at = omega arith in
     rw here (record {
       order = omega arith;

@@ -72,3 +72,9 @@ pub record IsAdded (old : List IpDefragSlot) (id : IpFragId) (timeout now : ℕ)
       ⊎ (Begins old id timeout now added.slot added.given_up
       × Takes (Some []) f (slot_at new added.slot).buf)
   pub state : IsState (slot_at new added.slot).buf added.state
+
+-- Every other datagram that had a slot has it still, with what has come of it, except the one that
+-- was given up.
+abbrev pub OthersStay : List IpDefragSlot → IpFragId → Option IpFragId → List IpDefragSlot → Type 0
+OthersStay old id given_up new = (j : ℕ) (other : IpFragId) → Has old j other → other ≢ id
+    → given_up ≢ Some other → slot_at new j ≡ slot_at old j

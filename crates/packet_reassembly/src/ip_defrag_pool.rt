@@ -3,7 +3,7 @@
 ghost use Rattle.std.specs.Prelude.{ℕ, ◌≡◌, ◌≢◌, ◌<◌, ◌≤◌, ◌+◌, ◌↔◌, ◌⊎◌, [], IfNone, IfSome};
 ghost use Rattle.std.specs.Prelude.{IfErr, IfOk, OnErr, OnOk, IsTrue, None, Some, length};
 ghost use Rattle.packet_reassembly.specs.Pool.{AreSameBut, Begins, GoesOn, Has, IsExpired};
-ghost use Rattle.packet_reassembly.specs.Pool.{IsAdded, IsFree, IsPlaced, IsState, slot_at};
+ghost use Rattle.packet_reassembly.specs.Pool.{IsAdded, IsFree, IsPlaced, IsState, OthersStay, slot_at};
 ghost use Rattle.packet_reassembly.specs.Fragment.{IsRight, Takes, fragment};
 ghost use Rattle.packet_reassembly.specs.Refusal.{Refuses};
 
@@ -54,6 +54,50 @@ pub struct IpDefragPool<'a, 'b> {
     /// How long a datagram is kept after its first fragment, in ticks of the caller's clock. RFC
     /// 8200 section 4.5 says 60 seconds.
     pub timeout: u64,
+}
+
+impl<'a, 'b> IpDefragPool<'a, 'b> {
+    /// Adds a fragment to its datagram. If none has this id, it takes a slot: one that none has, or
+    /// else that of the oldest. A datagram that is older than the timeout is given up when a
+    /// fragment with its id comes. The other slots do not change.
+    ///
+    /// # Errors
+    ///
+    /// Those of [`IpDefragBuf::add`]. Nothing changes.
+    pub fn add(
+        &mut self,
+        id: IpFragId,
+        offset: IpFragOffset,
+        more_fragments: bool,
+        payload: &[u8],
+        now: u64,
+    ) -> Result<Added, IpDefragError>
+        requires some { 0 < length self.old.slots.now }
+        ensures added { IfOk result (λ added. IsAdded self.old.slots.now id self.old.timeout now
+            (fragment offset more_fragments payload.now) added self.new.slots.now) }
+        ensures others { IfOk result (λ added.
+            OthersStay self.old.slots.now id added.given_up self.new.slots.now) }
+        ensures right { OnOk result (IsRight (fragment offset more_fragments payload.now)) }
+        ensures refused { IfErr result (Refuses (fragment offset more_fragments payload.now)) }
+        ensures unchanged { OnErr result (self.new.slots.now ≡ self.old.slots.now) }
+        ensures timeout { self.new.timeout ≡ self.old.timeout }
+    {
+        let timeout = self.timeout;
+        let slots = &mut *self.slots;
+        add_to(slots, id, timeout, now, offset, more_fragments, payload)
+    }
+
+    /// Takes the slot at an index from its datagram.
+    pub fn release(&mut self, slot: usize)
+        requires within { slot < length self.old.slots.now }
+        ensures others { AreSameBut slot self.old.slots.now self.new.slots.now }
+        ensures free { (slot_at self.new.slots.now slot).id ≡ None }
+        ensures timeout { self.new.timeout ≡ self.old.timeout }
+    {
+        let slots = &mut *self.slots;
+        let slot = &mut slots[slot];
+        slot.id = None;
+    }
 }
 
 // Whether the datagram with this id has the slot.

@@ -1,10 +1,10 @@
-use Rattle.std.proofs.Common.{ℕ, ◌≡◌, ◌-◌, ◌<◌, List, None, ap, arith, drop, inl, inr, length, length-drop, refl, slice_index, sym, take}
+use Rattle.std.proofs.Common.{ℕ, ◌≡◌, ◌-◌, ◌<◌, List, ap, arith, drop, inl, inr, length, length-drop, refl, slice_index, sym, take}
 use Rattle.std.proofs.lemmas.Bool.{cases_lt}
 use Rattle.std.proofs.lemmas.List.{take_all}
 use Rattle.std.proofs.lemmas.List.Edits.{split_between}
 use Rattle.std.proofs.lemmas.Result.{IfOk-at_ok}
 use Rattle.etherparse.specs.ExtensionHeaderChain.{required_len_of}
-use Rattle.packet_parts.specs.Extensions.{Passes, at_front}
+use Rattle.packet_parts.specs.Extensions.{at_front}
 use Rattle.packet_reassembly.proofs.Walked.{ends_before, walked_none, walked_rest}
 use Rattle.packet_reassembly.proofs.ipv6_fragment.ipv6_fragment_parts.Goals as goal
 
