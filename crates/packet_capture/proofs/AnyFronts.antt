@@ -44,12 +44,14 @@ pub begins_with-front : (capture : Capture) (t other more : List ℕ) (after : C
 begins_with-front (Pcap header) t other more (Pcap same) found rest b len =
     let begins = b.1.begins in
     let left : length rest ≡ length (t ++ other) - record_len header (t ++ other) = ap length begins.after ∙ length-drop (record_len header (t ++ other)) (t ++ other) in
-    let own : length t ≡ record_len header (t ++ other) = omega (arith, left, len, begins.whole) in
-    (b.0, record {
-      recorded = b.1.recorded;
-      begins = begins_with_record-front header t other more b.1.recorded rest begins own;
-      says = b.1.says ∙ ap (λ h. packet h b.1.recorded.bytes) (head_of_record-front header t other more (omega (arith, own)));
-    })
+    let own : length t ≡ record_len header (t ++ other) = omega (arith, left, len, begins.whole) in (
+      b.0,
+      record {
+        recorded = b.1.recorded;
+        begins = begins_with_record-front header t other more b.1.recorded rest begins own;
+        says = b.1.says ∙ ap (λ h. packet h b.1.recorded.bytes) (head_of_record-front header t other more (omega (arith, own)));
+      },
+    )
 begins_with-front (Pcapng before) t other more (Pcapng after) found rest b len =
     let begins = b.begins in
     let left : length rest ≡ length (t ++ other) - begins.head.total_len = ap length begins.is_rest ∙ length-drop begins.head.total_len (t ++ other) in

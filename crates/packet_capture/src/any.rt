@@ -11,8 +11,7 @@ ghost use Rattle.packet_capture.specs.Pcapng.Blocks as blocks;
 use crate::capture::{self, CaptureError, FileHeader, next_record};
 use crate::pcapng::blocks::{self, BlockError, Section};
 use crate::pcapng::interfaces::Interface;
-use crate::pcapng::packets;
-use crate::pcapng::times;
+use crate::pcapng::{packets, times};
 
 /// A capture, as far as its blocks so far say how the next one is read.
 #[derive(Debug, PartialEq, Drop)]

@@ -1,0 +1,7 @@
+use Rattle.std.proofs.Common.{List, Some, ap}
+use Rattle.packet_reassembly.specs.Fragment.{Fragment}
+use Rattle.packet_reassembly.proofs.Held.{held_none}
+use Rattle.packet_reassembly.proofs.ip_defrag_buf.IpDefragBuf.new.Goals as goal
+
+pub returns : goal.returns
+returns c = record { empty = ap (λ (fragments : List Fragment). Some fragments) (held_none c.args.bytes.now c.clear.new.ranges c.clear.ensures.empty) }

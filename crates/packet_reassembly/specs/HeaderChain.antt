@@ -1,0 +1,52 @@
+-- The header chain of an IPv6 packet, all of which its first fragment has (RFC 7112).
+use Rattle.std.specs.Prelude.{ℕ, ◌*◌, ◌/◌, ◌^◌, ◌<◌, ◌≤◌, ◌==◌, ◌⊎◌, List, Option, None, Some}
+use Rattle.std.specs.Prelude.{if◌then◌else◌, false, length, nat_lt, slice_index, true}
+use Rattle.etherparse.specs.declared.err.LenError.{LenError}
+use Rattle.packet_parts.specs.Extensions.{EndsAs}
+use Rattle.packet_parts.specs.declared.fragment.FragmentHeader.{FragmentHeader}
+
+-- How many bytes the upper-layer header of a number has at least: 20 of TCP, or as many words of
+-- four bytes as its data offset says (RFC 9293 section 3.1); 8 of UDP (RFC 768); 4 of ICMPv6 (RFC
+-- 4443 section 2.1). Nothing is known of others.
+abbrev pub upper_header_len : ℕ → List ℕ → ℕ
+upper_header_len number bytes =
+    if number == 6 then (if nat_lt (length bytes) 20 then 20 else slice_index bytes 12 / 2 ^ 4 * 4)
+    else (if number == 17 then 8
+    else (if number == 58 then 4 else 0))
+
+-- the payload of a first fragment, which has this number, has the rest of the header chain: whole
+-- extension headers and the upper-layer header
+pub record HasWholeChain (number : ℕ) (payload : List ℕ) : Type 0 where
+  pub decided : Option FragmentHeader
+  pub upper : ℕ
+  pub rest : List ℕ
+  pub ends : EndsAs false None payload number decided upper rest
+  pub enough : upper_header_len upper rest ≤ length rest
+
+-- it ends within an extension header
+pub record EndsInExtension (number : ℕ) (payload : List ℕ) : Type 0 where
+  pub decided : Option FragmentHeader
+  pub upper : ℕ
+  pub rest : List ℕ
+  pub e : LenError
+  pub ends : EndsAs false (Some e) payload number decided upper rest
+
+-- it ends within the upper-layer header
+pub record EndsInUpperHeader (number : ℕ) (payload : List ℕ) : Type 0 where
+  pub decided : Option FragmentHeader
+  pub upper : ℕ
+  pub rest : List ℕ
+  pub ends : EndsAs false None payload number decided upper rest
+  pub short : length rest < upper_header_len upper rest
+
+-- it holds another fragment header, of a fragment that is not the first: a chain goes no further
+pub record EndsInOtherFragment (number : ℕ) (payload : List ℕ) : Type 0 where
+  pub decided : Option FragmentHeader
+  pub upper : ℕ
+  pub rest : List ℕ
+  pub ends : EndsAs true None payload number decided upper rest
+
+-- it lacks a part of the chain
+abbrev pub LacksChain : ℕ → List ℕ → Type 0
+LacksChain number payload = EndsInExtension number payload
+    ⊎ EndsInUpperHeader number payload ⊎ EndsInOtherFragment number payload

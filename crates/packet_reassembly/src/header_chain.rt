@@ -1,0 +1,38 @@
+//! The header chain of an IPv6 packet, all of which its first fragment has (RFC 7112).
+
+ghost use Rattle.std.specs.Prelude.{◌≡◌, IsFalse, IsTrue};
+ghost use Rattle.packet_reassembly.specs.HeaderChain.{HasWholeChain, LacksChain, upper_header_len};
+
+use etherparse::IpNumber;
+use packet_parts::extensions::after_extensions;
+
+/// Whether the payload of a first fragment has the rest of the header chain: the extension headers
+/// after the fragment header, which names the first of them, and the header of the upper layer. A
+/// first fragment without that is to be refused (RFC 7112 section 5), since what it lacks decides
+/// who takes the packet.
+///
+/// The header of the upper layer is 20 bytes of TCP, or more by its data offset; 8 of UDP; 4 of
+/// ICMPv6. Nothing is asked of others.
+pub fn has_whole_chain(next_header: IpNumber, payload: &[u8]) -> bool
+    ensures whole { IsTrue result → HasWholeChain next_header payload.now }
+    ensures lacks { IsFalse result → LacksChain next_header payload.now }
+{
+    let after = after_extensions(payload, next_header);
+    if after.incomplete.is_some() || after.is_later {
+        return false;
+    }
+    after.rest.len() >= upper_header_len(after.number, after.rest)
+}
+
+// How many bytes the header of the upper layer has at least.
+fn upper_header_len(number: IpNumber, bytes: &[u8]) -> usize
+    ensures len { result ≡ upper_header_len number bytes.now }
+{
+    match number {
+        IpNumber::TCP if bytes.len() < 20 => 20,
+        IpNumber::TCP => usize::from(bytes[12] >> 4) * 4,
+        IpNumber::UDP => 8,
+        IpNumber::IPV6_ICMP => 4,
+        _ => 0,
+    }
+}

@@ -1,0 +1,170 @@
+//! The fragments of one datagram, put together in memory that the caller lends.
+
+ghost use Rattle.std.specs.Prelude.{ℕ, ◌≡◌, ◌≤◌, ◌↔◌, List, [], IsTrue, length};
+ghost use Rattle.std.specs.Prelude.{Some, None, IfErr, IfNone, IfOk, IfSome, OnErr, OnOk};
+ghost use Rattle.packet_reassembly.specs.Fragment.{fragment, IsRight, IsWhole, Takes};
+ghost use Rattle.packet_reassembly.specs.Refusal.{Refuses};
+ghost use Rattle.packet_reassembly.specs.Table.{Fits, fragment_of};
+
+use crate::ip_defrag_error::IpDefragError;
+use crate::ip_frag_range::IpFragRange;
+use crate::table::{Arrival, Extent, arrival_of, clear, keep};
+use etherparse::IpFragOffset;
+use std::marker::Model;
+
+/// The fragments that have come of one datagram, in memory that the caller lends.
+#[derive(Drop)]
+pub struct IpDefragBuf<'a> {
+    bytes: &'a mut [u8],
+    ranges: &'a mut [IpFragRange],
+    extent: Extent,
+    discarded: bool,
+}
+
+impl<'a> Model for IpDefragBuf<'a> {
+    ghost use Rattle.std.specs.Prelude.{List, Option};
+    ghost use Rattle.packet_reassembly.specs.Fragment.{Fragment};
+
+    ghost Value = { Option (List Fragment) };
+
+    ghost use Rattle.packet_reassembly.specs.Table.{AreKept, kept};
+
+    ghost view = { λ s. kept s.discarded s.bytes.now s.ranges.now };
+
+    ghost invariant = { λ s. AreKept s.bytes.now s.ranges.now s.extent };
+}
+
+impl<'a> IpDefragBuf<'a> {
+    /// The memory that a datagram takes, in bytes: 65535.
+    pub const MAX_LEN: usize = 65535;
+
+    /// The entries of its table: 8192, one for each 8 bytes.
+    pub const RANGES: usize = 8192;
+
+    /// A datagram of which nothing has come.
+    pub fn new(bytes: &'a mut [u8], ranges: &'a mut [IpFragRange]) -> IpDefragBuf<'a>
+        requires bytes { 65535 ≤ length bytes.old }
+        requires ranges { 8192 ≤ length ranges.old }
+        ensures empty { result ≡ Some [] }
+    {
+        let len = ranges.len();
+        clear(ranges, len);
+        IpDefragBuf {
+            bytes,
+            ranges,
+            extent: Extent::NONE,
+            discarded: false,
+        }
+    }
+
+    /// Takes a fragment. An exact duplicate of one that has come changes nothing.
+    ///
+    /// The datagram is discarded for good if the fragment contradicts one that has come: they
+    /// overlap and are not the same (RFC 5722, RFC 8200 section 4.5; and of IPv4 too, by choice), or
+    /// one goes past the end that the other tells.
+    ///
+    /// # Errors
+    ///
+    /// In this order: `Empty`, `UnalignedFragmentPayloadLen`, `SegmentTooBig`. Each depends on the
+    /// fragment alone, and nothing changes.
+    pub fn add(
+        &mut self,
+        offset: IpFragOffset,
+        more_fragments: bool,
+        payload: &[u8],
+    ) -> Result<(), IpDefragError>
+        ensures taken { OnOk result (Takes self.old (fragment offset more_fragments payload.now)
+            self.new) }
+        ensures right { OnOk result (IsRight (fragment offset more_fragments payload.now)) }
+        ensures refused { IfErr result (Refuses (fragment offset more_fragments payload.now)) }
+        ensures unchanged { OnErr result (self.new ≡ self.old) }
+    {
+        let range = range_of(offset, more_fragments, payload)?;
+        if self.discarded {
+            return Ok(());
+        }
+        let bytes = &mut *self.bytes;
+        let ranges = &mut *self.ranges;
+        match arrival_of(bytes, ranges, self.extent, range, payload) {
+            Arrival::New => {
+                self.extent = keep(bytes, ranges, self.extent, range, payload);
+                Ok(())
+            }
+            Arrival::Same => Ok(()),
+            Arrival::Conflict => {
+                self.discarded = true;
+                Ok(())
+            }
+        }
+    }
+
+    /// Whether two of the fragments that came contradict each other. No datagram is then found, for
+    /// good.
+    pub fn is_discarded(&self) -> bool
+        ensures discarded { IsTrue result ↔ (self.now ≡ None) }
+    {
+        self.discarded
+    }
+
+    /// The datagram, once each of its bytes has come.
+    pub fn datagram(&self) -> Option<&[u8]>
+        ensures whole { IfSome result (λ datagram. IsWhole self.now datagram.now) }
+        ensures not_yet { IfNone result ((datagram : List ℕ) → ¬ IsWhole self.now datagram) }
+        ensures only { (datagram : List ℕ) → IsWhole self.now datagram →
+            IfSome result (λ found. found.now ≡ datagram) }
+    {
+        if self.discarded {
+            return None;
+        }
+        if !self.extent.ended || self.extent.front < self.extent.reach {
+            return None;
+        }
+        Some(&self.bytes[..self.extent.reach])
+    }
+
+    /// Forgets all that has come.
+    pub fn clear(&mut self)
+        ensures empty { self.new ≡ Some [] }
+    {
+        clear(&mut *self.ranges, self.extent.reach.div_ceil(8));
+        self.extent = Extent::NONE;
+        self.discarded = false;
+    }
+}
+
+/// The range of a fragment, if a datagram can have it.
+pub(crate) fn range_of(
+    offset: IpFragOffset,
+    more_fragments: bool,
+    payload: &[u8],
+) -> Result<IpFragRange, IpDefragError>
+    ensures range { IfOk result (λ range. Fits range payload.now) }
+    ensures same { IfOk result (λ range.
+        fragment_of range payload.now ≡ fragment offset more_fragments payload.now) }
+    ensures right { OnOk result (IsRight (fragment offset more_fragments payload.now)) }
+    ensures refused { IfErr result (Refuses (fragment offset more_fragments payload.now)) }
+{
+    let payload_len = payload.len();
+    if payload.is_empty() {
+        return Err(IpDefragError::Empty { offset });
+    }
+    if more_fragments && payload_len % 8 != 0 {
+        return Err(IpDefragError::UnalignedFragmentPayloadLen {
+            offset,
+            payload_len,
+        });
+    }
+    let start = offset.byte_offset();
+    if payload_len > usize::from(u16::MAX - start) {
+        return Err(IpDefragError::SegmentTooBig {
+            offset,
+            payload_len,
+            max: u16::MAX,
+        });
+    }
+    Ok(IpFragRange {
+        start,
+        end: start + payload_len as u16,
+        more_fragments,
+    })
+}

@@ -1,0 +1,260 @@
+//! Many datagrams at once, in slots that the caller lends.
+
+ghost use Rattle.std.specs.Prelude.{ℕ, ◌≡◌, ◌≢◌, ◌<◌, ◌≤◌, ◌+◌, ◌↔◌, ◌⊎◌, [], IfNone, IfSome};
+ghost use Rattle.std.specs.Prelude.{IfErr, IfOk, OnErr, OnOk, IsTrue, None, Some, length};
+ghost use Rattle.packet_reassembly.specs.Pool.{AreSameBut, Begins, GoesOn, Has, IsExpired};
+ghost use Rattle.packet_reassembly.specs.Pool.{IsAdded, IsFree, IsPlaced, IsState, OthersStay, slot_at};
+ghost use Rattle.packet_reassembly.specs.Fragment.{IsRight, Takes, fragment};
+ghost use Rattle.packet_reassembly.specs.Refusal.{Refuses};
+
+use crate::ip_defrag_buf::{IpDefragBuf, range_of};
+use crate::ip_defrag_error::IpDefragError;
+use crate::ip_frag_id::IpFragId;
+use etherparse::IpFragOffset;
+
+/// The memory of one datagram, and which one has it.
+#[derive(Drop)]
+pub struct IpDefragSlot<'a> {
+    /// The datagram that has it; `None` if none has.
+    pub id: Option<IpFragId>,
+    /// When the first fragment of that came, by the caller's clock.
+    pub since: u64,
+    /// What has come of it.
+    pub buf: IpDefragBuf<'a>,
+}
+
+/// What is known of a datagram.
+#[derive(Clone, Copy, Debug, PartialEq, Eq)]
+pub enum DatagramState {
+    /// Not all of it has come.
+    Incomplete,
+    /// All of it has come.
+    Complete,
+    /// Two of its fragments contradict each other.
+    Discarded,
+}
+
+/// What became of a fragment.
+#[derive(Clone, Copy, Debug, PartialEq, Eq)]
+pub struct Added {
+    /// The slot of its datagram.
+    pub slot: usize,
+    /// What is known of the datagram.
+    pub state: DatagramState,
+    /// The datagram that was given up for it: the oldest, if no slot was left, or an older one with
+    /// the same id, after the timeout.
+    pub given_up: Option<IpFragId>,
+}
+
+/// Many datagrams at once, in slots that the caller lends.
+#[derive(Drop)]
+pub struct IpDefragPool<'a, 'b> {
+    /// The slots: at least one.
+    pub slots: &'a mut [IpDefragSlot<'b>],
+    /// How long a datagram is kept after its first fragment, in ticks of the caller's clock. RFC
+    /// 8200 section 4.5 says 60 seconds.
+    pub timeout: u64,
+}
+
+impl<'a, 'b> IpDefragPool<'a, 'b> {
+    /// Adds a fragment to its datagram. If none has this id, it takes a slot: one that none has, or
+    /// else that of the oldest. A datagram that is older than the timeout is given up when a
+    /// fragment with its id comes. The other slots do not change.
+    ///
+    /// # Errors
+    ///
+    /// Those of [`IpDefragBuf::add`]. Nothing changes.
+    pub fn add(
+        &mut self,
+        id: IpFragId,
+        offset: IpFragOffset,
+        more_fragments: bool,
+        payload: &[u8],
+        now: u64,
+    ) -> Result<Added, IpDefragError>
+        requires some { 0 < length self.old.slots.now }
+        ensures added { IfOk result (λ added. IsAdded self.old.slots.now id self.old.timeout now
+            (fragment offset more_fragments payload.now) added self.new.slots.now) }
+        ensures others { IfOk result (λ added.
+            OthersStay self.old.slots.now id added.given_up self.new.slots.now) }
+        ensures right { OnOk result (IsRight (fragment offset more_fragments payload.now)) }
+        ensures refused { IfErr result (Refuses (fragment offset more_fragments payload.now)) }
+        ensures unchanged { OnErr result (self.new.slots.now ≡ self.old.slots.now) }
+        ensures timeout { self.new.timeout ≡ self.old.timeout }
+    {
+        let timeout = self.timeout;
+        let slots = &mut *self.slots;
+        add_to(slots, id, timeout, now, offset, more_fragments, payload)
+    }
+
+    /// Takes the slot at an index from its datagram.
+    pub fn release(&mut self, slot: usize)
+        requires within { slot < length self.old.slots.now }
+        ensures others { AreSameBut slot self.old.slots.now self.new.slots.now }
+        ensures free { (slot_at self.new.slots.now slot).id ≡ None }
+        ensures timeout { self.new.timeout ≡ self.old.timeout }
+    {
+        let slots = &mut *self.slots;
+        let slot = &mut slots[slot];
+        slot.id = None;
+    }
+}
+
+// Whether the datagram with this id has the slot.
+fn has(slot: &IpDefragSlot, id: IpFragId) -> bool
+    ensures has { IsTrue result ↔ (slot.now.id ≡ Some id) }
+{
+    slot.id == Some(id)
+}
+
+// The slot that a datagram has.
+fn find(slots: &[IpDefragSlot], id: IpFragId) -> Option<usize>
+    ensures found { IfSome result (λ k. Has slots.now k id) }
+    ensures none { IfNone result ((k : ℕ) → ¬ Has slots.now k id) }
+{
+    let mut k = 0;
+    while k < slots.len() {
+        if has(&slots[k], id) {
+            return Some(k);
+        }
+        k += 1;
+    }
+    None
+}
+
+// The slot for a new datagram.
+fn free(slots: &[IpDefragSlot]) -> usize
+    requires some { 0 < length slots.now }
+    ensures free { IsFree slots.now result }
+{
+    let mut oldest = 0;
+    let mut k = 0;
+    while k < slots.len() {
+        if slots[k].id.is_none() {
+            return k;
+        }
+        if slots[k].since < slots[oldest].since {
+            oldest = k;
+        }
+        k += 1;
+    }
+    oldest
+}
+
+// Takes a slot for a datagram. Returns the one that had it.
+fn take(slot: &mut IpDefragSlot, id: IpFragId, now: u64) -> Option<IpFragId>
+    ensures id { slot.new.id ≡ Some id }
+    ensures since { slot.new.since ≡ now }
+    ensures empty { slot.new.buf ≡ Some [] }
+    ensures given_up { result ≡ slot.old.id }
+{
+    let given_up = slot.id;
+    slot.id = Some(id);
+    slot.since = now;
+    slot.buf.clear();
+    given_up
+}
+
+/// The state of a datagram.
+fn state_of(buf: &IpDefragBuf) -> DatagramState
+    ensures state { IsState buf.now result }
+{
+    if buf.is_discarded() {
+        return DatagramState::Discarded;
+    }
+    match buf.datagram() {
+        Some(_) => DatagramState::Complete,
+        None => DatagramState::Incomplete,
+    }
+}
+
+// Whether the datagram in a slot is to be given up.
+fn is_expired(slot: &IpDefragSlot, timeout: u64, now: u64) -> bool
+    ensures expired { IsTrue result ↔ IsExpired slot.now timeout now }
+{
+    now >= slot.since && now - slot.since >= timeout
+}
+
+// Takes the slot at an index for a datagram. Returns the one that had it.
+fn take_at(slots: &mut [IpDefragSlot], k: usize, id: IpFragId, now: u64) -> Option<IpFragId>
+    requires within { k < length slots.old }
+    ensures others { AreSameBut k slots.old slots.new }
+    ensures id { (slot_at slots.new k).id ≡ Some id }
+    ensures empty { (slot_at slots.new k).buf ≡ Some [] }
+    ensures given_up { result ≡ (slot_at slots.old k).id }
+{
+    let slot = &mut slots[k];
+    take(slot, id, now)
+}
+
+// The slot for a datagram: that which it has, or one that it takes.
+fn place(
+    slots: &mut [IpDefragSlot],
+    id: IpFragId,
+    timeout: u64,
+    now: u64,
+) -> (usize, Option<IpFragId>)
+    requires some { 0 < length slots.old }
+    ensures placed { IsPlaced slots.old id timeout now result.0 result.1 slots.new }
+{
+    if let Some(k) = find(slots, id) {
+        if is_expired(&slots[k], timeout, now) {
+            return (k, take_at(slots, k, id, now));
+        }
+        return (k, None);
+    }
+    let k = free(slots);
+    (k, take_at(slots, k, id, now))
+}
+
+// Adds a fragment that a datagram can have to the datagram in the slot at an index.
+fn add_at(
+    slots: &mut [IpDefragSlot],
+    k: usize,
+    offset: IpFragOffset,
+    more_fragments: bool,
+    payload: &[u8],
+) -> DatagramState
+    requires within { k < length slots.old }
+    requires right { IsRight (fragment offset more_fragments payload.now) }
+    ensures others { AreSameBut k slots.old slots.new }
+    ensures id { (slot_at slots.new k).id ≡ (slot_at slots.old k).id }
+    ensures takes { Takes (slot_at slots.old k).buf (fragment offset more_fragments payload.now)
+        (slot_at slots.new k).buf }
+    ensures state { IsState (slot_at slots.new k).buf result }
+{
+    let slot = &mut slots[k];
+    match slot.buf.add(offset, more_fragments, payload) {
+        Ok(()) => state_of(&slot.buf),
+        Err(_) => unreachable!(), // A datagram can have it.
+    }
+}
+
+// Adds a fragment to its datagram.
+fn add_to(
+    slots: &mut [IpDefragSlot],
+    id: IpFragId,
+    timeout: u64,
+    now: u64,
+    offset: IpFragOffset,
+    more_fragments: bool,
+    payload: &[u8],
+) -> Result<Added, IpDefragError>
+    requires some { 0 < length slots.old }
+    ensures added { IfOk result (λ added. IsAdded slots.old id timeout now
+        (fragment offset more_fragments payload.now) added slots.new) }
+    ensures right { OnOk result (IsRight (fragment offset more_fragments payload.now)) }
+    ensures refused { IfErr result (Refuses (fragment offset more_fragments payload.now)) }
+    ensures unchanged { OnErr result (slots.new ≡ slots.old) }
+{
+    if let Err(e) = range_of(offset, more_fragments, payload) {
+        return Err(e);
+    }
+    let (slot, given_up) = place(slots, id, timeout, now);
+    let state = add_at(slots, slot, offset, more_fragments, payload);
+    Ok(Added {
+        slot,
+        state,
+        given_up,
+    })
+}

@@ -1,0 +1,14 @@
+//! Reassembly of fragmented IP packets. What the fragments of a packet say does not depend on the
+//! order in which they come. No memory is allocated: the caller lends it.
+#![tactic(auto)]
+
+pub mod header_chain;
+pub mod ip_defrag_buf;
+pub mod ip_defrag_error;
+pub mod ip_defrag_pool;
+pub mod ip_frag_id;
+pub mod ip_frag_range;
+pub mod ipv6_fragment;
+pub mod packet;
+pub mod reassemble;
+mod table;

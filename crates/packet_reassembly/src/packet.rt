@@ -1,0 +1,98 @@
+//! The packet that fragments were cut from (RFC 791 section 3.2, RFC 8200 section 4.5).
+
+ghost use Rattle.std.specs.Prelude.{◌≡◌, ◌+◌, ◌++◌, ◌≤◌, ◌↔◌, IfOk, IsOk, OnErr, length, take};
+ghost use Rattle.etherparse.specs.Ipv4Header.{ipv4_max_payload_len};
+ghost use Rattle.packet_reassembly.specs.Packet.{AreUnfragmentable, IsIpv4Packet, IsIpv6Packet};
+
+use etherparse::err::ValueTooBigError;
+use etherparse::{IpFragOffset, IpNumber, Ipv4Header, Ipv6Header};
+
+/// Writes an IPv4 packet that fragments were cut from: the header of the fragment at offset 0, with
+/// the total length of both, no offset, no more fragments and the checksum of that (RFC 791 section
+/// 3.2); and the payload. Its options are those of that fragment. Returns its length in bytes.
+///
+/// # Errors
+///
+/// A `ValueTooBigError` if header and payload are longer than 65535 bytes. Nothing is written.
+pub fn write_ipv4_packet(
+    first: Ipv4Header,
+    payload: &[u8],
+    out: &mut [u8],
+) -> Result<usize, ValueTooBigError<usize>>
+    requires room { 65535 ≤ length out.old }
+    ensures accepted { IsOk result ↔ (length payload.now ≤ ipv4_max_payload_len first) }
+    ensures packet { IfOk result (λ len. IsIpv4Packet first payload.now (take len out.new)) }
+    ensures unchanged { OnErr result (out.new ≡ out.old) }
+{
+    let mut header = first;
+    header.set_payload_len(payload.len())?;
+    header.more_fragments = false;
+    header.fragment_offset = IpFragOffset::ZERO;
+    header.header_checksum = header.calc_header_checksum();
+    Ok(join(header.to_bytes().as_slice(), payload, out))
+}
+
+/// Writes an IPv6 packet that fragments were cut from: the IPv6 header of the fragment at offset 0
+/// with the payload length of all after it; its extension headers before the fragment header, those
+/// before the last and the last; and the payload. What named the fragment header names what that
+/// named: the last extension header, or the IPv6 header if there is none (RFC 8200 section 4.5).
+/// Returns its length in bytes.
+///
+/// # Errors
+///
+/// A `ValueTooBigError` if extension headers and payload are longer than 65535 bytes. Nothing is
+/// written.
+pub fn write_ipv6_packet(
+    first: Ipv6Header,
+    before: &[u8],
+    last: &[u8],
+    next_header: IpNumber,
+    payload: &[u8],
+    out: &mut [u8],
+) -> Result<usize, ValueTooBigError<usize>>
+    requires room { 65575 ≤ length out.old }
+    requires headers { AreUnfragmentable first.next_header before.now last.now }
+    requires within { length before.now + length last.now ≤ 65535 }
+    ensures accepted { IsOk result
+        ↔ (length before.now + length last.now + length payload.now ≤ 65535) }
+    ensures packet { IfOk result (λ len. IsIpv6Packet first before.now last.now next_header
+        payload.now (take len out.new)) }
+    ensures unchanged { OnErr result (out.new ≡ out.old) }
+{
+    let mut header = first;
+    header.set_payload_length(before.len() + last.len() + payload.len())?;
+    if last.is_empty() {
+        header.next_header = next_header;
+        return Ok(join(&header.to_bytes(), payload, out));
+    }
+    let at = put(&header.to_bytes(), out, 0);
+    let at = put(before, out, at);
+    let at = put(&[next_header.0], out, at);
+    let at = put(&last[1..], out, at);
+    Ok(put(payload, out, at))
+}
+
+// Writes a part after the others. Returns the place after it.
+fn put(part: &[u8], out: &mut [u8], at: usize) -> usize
+    requires room { at + length part.now ≤ length out.old }
+    ensures joined { take result out.new ≡ take at out.old ++ part.now }
+    ensures end { result ≡ at + length part.now }
+    ensures same_len { length out.new ≡ length out.old }
+{
+    let end = at + part.len();
+    out[at..end].copy_from_slice(part);
+    end
+}
+
+// Writes one part after the other. Returns the length of both.
+fn join(front: &[u8], rest: &[u8], out: &mut [u8]) -> usize
+    requires room { length front.now + length rest.now ≤ length out.old }
+    ensures joined { take result out.new ≡ front.now ++ rest.now }
+    ensures len { result ≡ length front.now + length rest.now }
+    ensures same_len { length out.new ≡ length out.old }
+{
+    let len = front.len() + rest.len();
+    out[..front.len()].copy_from_slice(front);
+    out[front.len()..len].copy_from_slice(rest);
+    len
+}
