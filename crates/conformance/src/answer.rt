@@ -1,8 +1,8 @@
 use crate::arguments::Arguments;
 use crate::shown::{Written, write_shown, write_text};
 use crate::{
-    comparison, constants, equality, fields, filters, ipv4, ipv6, offsets, options, packets, sums,
-    texts, walks,
+    comparison, constants, equality, fields, filters, fragments, ipv4, ipv6, offsets, options,
+    packets, sums, texts, walks,
 };
 use etherparse::err::{Layer, ValueType};
 use etherparse::{IpDscpKnown, IpNumber};
@@ -57,6 +57,7 @@ fn answer_alone(operation: &str, arguments: &mut Arguments, answer: &mut String)
         "skip" => walks::answer_skip(arguments, answer),
         "packet" => packets::answer(arguments, answer),
         "filter" => filters::answer(arguments, answer),
+        "fragments" => fragments::answer(arguments, answer),
         "upd" => sums::answer_update(arguments, answer),
         "known" => write_shown(
             &IpDscpKnown::try_from_ip_dscp(arguments.field::<u8, _>()),

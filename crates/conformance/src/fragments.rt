@@ -3,32 +3,72 @@
 ghost use Rattle.std.specs.Prelude.{◌≡◌, IfOk, length};
 
 use crate::arguments::Arguments;
-use crate::shown::{Shown, Written, write_bytes, write_shown};
-use etherparse::IpFragOffset;
+use crate::shown::{Bytes, Shown, Written, write_shown};
 use packet_reassembly::ip_defrag_buf::IpDefragBuf;
 use packet_reassembly::ip_defrag_error::IpDefragError;
 use packet_reassembly::ip_frag_range::IpFragRange;
 use std::alloc::{AllocError, Global};
 use std::fmt;
 
-/// `fragments COUNT [OFFSET MORE PAYLOAD].. `: what is known of a datagram after each of its
-/// fragments, and the datagram.
+/// `fragments COUNT [OFFSET MORE PAYLOAD]..`: what is known of a datagram after each of its
+/// fragments, and its bytes.
 pub fn answer(arguments: &mut Arguments, answer: &mut String) -> Written {
     let mut bytes = zeros(arguments.alloc, IpDefragBuf::MAX_LEN)?;
-    let mut ranges = no_ranges(arguments.alloc, IpDefragBuf::RANGES)?;
+    let mut ranges = empty_table(arguments.alloc, IpDefragBuf::RANGES)?;
     let mut buf = IpDefragBuf::new(bytes.as_mut_slice(), ranges.as_mut_slice());
     for _ in 0..arguments.number::<u16>() {
-        let offset: IpFragOffset = arguments.field::<u16, _>();
+        let offset = arguments.field::<u16, _>();
         let more_fragments = arguments.flag();
         let payload = arguments.bytes();
         match buf.add(offset, more_fragments, &payload) {
-            Ok(()) => answer.push_str(state_of(&buf))?,
-            Err(e) => write_shown(&e, answer)?,
+            Ok(()) => write!(answer, "{} ; ", state_of(&buf))?,
+            Err(e) => {
+                write_shown(&e, answer)?;
+                answer.push_str(" ; ")?;
+            }
         }
-        answer.push_str(" ; ")?;
     }
     match buf.datagram() {
-        Some(datagram) => write_bytes(datagram, answer),
+        Some(datagram) => write!(answer, "{}", Bytes(datagram)),
         None => answer.push_str("-"),
+    }
+}
+
+// What is known of a datagram.
+fn state_of(buf: &IpDefragBuf) -> &'static str {
+    if buf.is_discarded() {
+        "discarded"
+    } else if buf.datagram().is_some() {
+        "complete"
+    } else {
+        "incomplete"
+    }
+}
+
+// So many bytes.
+fn zeros(alloc: Global, len: usize) -> Result<Vec<u8>, AllocError>
+    ensures len { IfOk result (λ v. length v.items ≡ len) }
+{
+    vec![in alloc; 0; len]
+}
+
+// A table with so many entries.
+fn empty_table(alloc: Global, len: usize) -> Result<Vec<IpFragRange>, AllocError>
+    ensures len { IfOk result (λ v. length v.items ≡ len) }
+{
+    vec![in alloc; IpFragRange::default(); len]
+}
+
+impl Shown for IpDefragError {
+    fn show<W: fmt::Write>(&self, f: &mut fmt::Formatter<W>) -> fmt::Result {
+        match self {
+            IpDefragError::Empty { .. } => f.write_str("err empty"),
+            IpDefragError::UnalignedFragmentPayloadLen { payload_len, .. } => {
+                write!(f, "err unaligned len={payload_len}")
+            }
+            IpDefragError::SegmentTooBig {
+                payload_len, max, ..
+            } => write!(f, "err too_big len={payload_len} max={max}"),
+        }
     }
 }

@@ -9,6 +9,7 @@ mod constants;
 mod equality;
 mod fields;
 mod filters;
+mod fragments;
 mod ipv4;
 mod ipv6;
 mod offsets;
