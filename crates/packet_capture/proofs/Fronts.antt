@@ -1,5 +1,5 @@
 -- What a pcapng block says is read from its own bytes, whatever follows them.
-use Rattle.std.proofs.Common.{ℕ, ◌≡◌, ◌≢◌, ◌≤◌, ◌+◌, ◌-◌, List, [], ◌++◌, length, slice_range, take, drop, Result, Ok, Err, Option, Some, None, ap, lit≤, refl, slice_get, sym, ◌∙◌, arith, length-append, length-drop, length-take-le}
+use Rattle.std.proofs.Common.{ℕ, ◌≡◌, ◌≢◌, ◌≤◌, List, [], ◌++◌, length, slice_range, Ok, Err, ap, lit≤, refl, slice_get, sym, ◌∙◌, arith, length-append, length-drop}
 use Rattle.std.proofs.lemmas.List.{drop-append-le, drop_all, take-append-le}
 use Rattle.packet_capture.specs.Capture.{magic_of}
 use Rattle.packet_capture.specs.declared.capture.ByteOrder.{ByteOrder}
@@ -11,7 +11,7 @@ use Rattle.packet_capture.specs.declared.pcapng.blocks.Section.{Section}
 use Rattle.packet_capture.specs.declared.pcapng.interfaces.Interface.{Interface}
 use Rattle.packet_capture.specs.declared.pcapng.packets.PacketType.{PacketType}
 use Rattle.packet_capture.specs.declared.pcapng.packets.PacketType.TheVariants.{Enhanced, Obsolete, Simple}
-use Rattle.packet_capture.specs.Pcapng.Blocks.{BeginsWithBlock, HasFront, HeadReading, IsSectionHeader, IsWhole, ReadsHead, ReadsWhole, RefusesBlock, Said, byte_order_magic, for_body, for_head, for_length, front_len, head_in, order_of, trailing_len}
+use Rattle.packet_capture.specs.Pcapng.Blocks.{BeginsWithBlock, HasFront, HeadReading, IsWhole, ReadsHead, ReadsWhole, RefusesBlock, Said, for_body, for_head, for_length, front_len, head_in, order_of, trailing_len}
 use Rattle.packet_capture.proofs.Once.{least_len_least}
 use Rattle.packet_capture.specs.Pcapng.Packets.{PacketReading, ReadsPacket, captured_len, data_start, interface_id, packet_head}
 

@@ -1,5 +1,5 @@
 -- Each reading has one answer.
-use Rattle.std.proofs.Common.{ℕ, ◌≡◌, ◌≢◌, ◌<◌, ◌≤◌, ◌⊎◌, List, Result, Ok, Err, Option, Some, None, arith, subst, sym, ◌∙◌, ap, refl, drop, length, lit≤, inl, inr}
+use Rattle.std.proofs.Common.{ℕ, ◌≡◌, ◌≤◌, List, Result, Ok, Err, Some, None, arith, subst, sym, ◌∙◌, ap, refl, drop, length, lit≤, inl, inr}
 use Rattle.packet_capture.specs.declared.capture.ByteOrder.{ByteOrder}
 use Rattle.packet_capture.specs.declared.pcapng.blocks.BlockError.{BlockError}
 use Rattle.packet_capture.specs.declared.pcapng.blocks.BlockHead.{BlockHead}
@@ -10,7 +10,7 @@ use Rattle.packet_capture.specs.declared.pcapng.packets.PacketType.{PacketType}
 use Rattle.packet_capture.specs.declared.pcapng.blocks.BlockType.TheVariants.{InterfaceDescription, Other, Packet, SectionHeader}
 use Rattle.packet_capture.specs.declared.pcapng.packets.PacketType.TheVariants.{Enhanced, Obsolete, Simple}
 use Rattle.packet_capture.specs.Pcapng.Blocks.{AddsInterface, BeginsWithBlock, ReadsSection, Said, TellsPacket, BlockReading, BodyReading, HeadReading, ReadsBlock, ReadsBody, ReadsHead, ReadsWhole, RefusesBlock, WholeReading, for_body, for_head, for_length, least_len}
-use Rattle.packet_capture.specs.Pcapng.Interfaces.{HasOption, InterfaceReading, ReadsOptions, after_option, before_options, ends, is_wrong, none_left, reaches_past, tells}
+use Rattle.packet_capture.specs.Pcapng.Interfaces.{InterfaceReading, ReadsOptions, after_option, ends, is_wrong, none_left, reaches_past, tells}
 use Rattle.packet_capture.specs.Pcapng.Packets.{PacketReading, ReadsPacket}
 
 pub head_once : (section : Section) (s : List ℕ) (a b : HeadReading) → ReadsHead section s a → ReadsHead section s b → b ≡ a

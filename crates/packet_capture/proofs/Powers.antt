@@ -1,5 +1,5 @@
 -- Quotients by powers of ten and of two.
-use Rattle.std.proofs.Common.{ℕ, ◌≡◌, ◌+◌, ◌-◌, ◌*◌, ◌/◌, ◌%◌, ◌^◌, ◌<◌, ◌≤◌, ap, arith, lit<, lit≤, sym, ◌∙◌}
+use Rattle.std.proofs.Common.{ℕ, ◌≡◌, ◌+◌, ◌-◌, ◌*◌, ◌/◌, ◌%◌, ◌^◌, ◌<◌, ◌≤◌, ap, arith, lit<, sym, ◌∙◌}
 use Rattle.std.proofs.Math.Nat.{mod-eq_of_lt, div-eq_of_lt, mul-div_cancel, mul-div-mul_right, pow-le-pow_right, one-le-pow, mul_assoc}
 use Rattle.std.proofs.lemmas.Nat.{div_below, pow_below, pow-add}
 

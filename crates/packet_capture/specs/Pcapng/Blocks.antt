@@ -1,7 +1,7 @@
 -- The blocks of a pcapng file (draft-ietf-opsawg-pcapng sections 3.1 and 4.1).
-use Rattle.std.specs.Prelude.{ℕ, ◌≡◌, ◌≢◌, ◌+◌, ◌-◌, ◌%◌, ◌<◌, ◌≤◌, ◌⊎◌, List, [], ◌∷◌, ◌++◌, length}
+use Rattle.std.specs.Prelude.{ℕ, ◌≡◌, ◌≢◌, ◌+◌, ◌-◌, ◌%◌, ◌<◌, ◌≤◌, ◌⊎◌, List, [], ◌∷◌, ◌++◌}
 use Rattle.std.specs.Prelude.{Option, Some, None, Result, Ok, Err, if◌then◌else◌, nat_eq}
-use Rattle.std.specs.Prelude.{drop, option_map, slice_range, take}
+use Rattle.std.specs.Prelude.{drop, length, option_map, slice_range, take}
 use Rattle.std.specs.Borrow.{Bor}
 use Rattle.std.specs.Int.{from_be_bytes, w16, w32}
 use Rattle.std.specs.Result.{result_map_both}

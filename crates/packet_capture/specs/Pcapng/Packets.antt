@@ -9,7 +9,8 @@ use Rattle.packet_capture.specs.declared.pcapng.blocks.BlockError.TheVariants as
 use Rattle.packet_capture.specs.declared.pcapng.interfaces.Interface.{Interface}
 use Rattle.packet_capture.specs.declared.pcapng.packets.PacketHead.{PacketHead}
 use Rattle.packet_capture.specs.declared.pcapng.packets.PacketType.{PacketType}
-use Rattle.packet_capture.specs.declared.pcapng.packets.PacketType.TheVariants.{Enhanced, Obsolete, Simple}
+use Rattle.packet_capture.specs.declared.pcapng.packets.PacketType.TheVariants.{Enhanced, Obsolete}
+use Rattle.packet_capture.specs.declared.pcapng.packets.PacketType.TheVariants.{Simple}
 
 -- where the bytes of the packet begin
 abbrev pub data_start : PacketType → ℕ
@@ -95,7 +96,8 @@ abbrev pub PacketReading : Type 0
 PacketReading = Result PacketHead BlockError
 
 -- reading the head of a packet: it is there; or its interface is not; or its bytes do not fit
-abbrev pub ReadsPacket : PacketType → ByteOrder → List Interface → ℕ → List ℕ → PacketReading → Type 0
+abbrev pub ReadsPacket : PacketType → ByteOrder → List Interface → ℕ → List ℕ → PacketReading
+    → Type 0
 ReadsPacket type order interfaces total_len block (Ok head) =
     HasPacket type order interfaces total_len block head
 ReadsPacket type order interfaces total_len block (Err (error.Interface id count)) =

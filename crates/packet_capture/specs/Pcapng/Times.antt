@@ -2,15 +2,16 @@
 use Rattle.std.specs.Prelude.{ℕ, ◌+◌, ◌-◌, ◌*◌, ◌/◌, ◌%◌, ◌^◌, nat_lt, Option, Some, None}
 use Rattle.std.specs.Prelude.{if◌then◌else◌}
 use Rattle.packet_capture.specs.declared.pcapng.times.Resolution.{Resolution}
-use Rattle.packet_capture.specs.declared.pcapng.times.Resolution.TheVariants.{PowerOfTen, PowerOfTwo}
+use Rattle.packet_capture.specs.declared.pcapng.times.Resolution.TheVariants.{PowerOfTen}
+use Rattle.packet_capture.specs.declared.pcapng.times.Resolution.TheVariants.{PowerOfTwo}
 
 -- how many units a second has
 abbrev pub units : Resolution → ℕ
 units (PowerOfTen power) = 10 ^ power
 units (PowerOfTwo power) = 2 ^ power
 
--- The value of if_tsresol is a negative power of 10, or of 2 if its most significant bit is set; the
--- other bits are the power (section 4.2).
+-- The value of if_tsresol is a negative power of 10, or of 2 if its most significant bit is set;
+-- the other bits are the power (section 4.2).
 abbrev pub power_in : ℕ → Resolution
 power_in value = if nat_lt value 128 then PowerOfTen value else PowerOfTwo (value - 128)
 

@@ -1,10 +1,12 @@
 //! The blocks of a pcapng file (draft-ietf-opsawg-pcapng sections 3.1 and 4.1).
 
-ghost use Rattle.std.specs.Prelude.{◌≡◌, ◌≢◌, ◌%◌, ◌+◌, ◌≤◌, IfErr, IfNone, IfOk, IfSome, IsTrue, OnErr, OnOk, ◌↔◌};
+ghost use Rattle.std.specs.Prelude.{◌≡◌, ◌≢◌, ◌%◌, ◌+◌, ◌≤◌, ◌↔◌, IfErr, IfNone, IfOk};
+ghost use Rattle.std.specs.Prelude.{IfSome, IsTrue, OnErr, OnOk};
 ghost use Rattle.std.specs.Prelude.{[], length};
 ghost use Rattle.std.specs.Int.{w32};
 ghost use Rattle.packet_capture.specs.Capture.{number_in};
-ghost use Rattle.packet_capture.specs.Pcapng.Blocks.{BlockReading, HeadReading, IsRead, IsRightLength, IsWhole};
+ghost use Rattle.packet_capture.specs.Pcapng.Blocks.{BlockReading, HeadReading, IsRead};
+ghost use Rattle.packet_capture.specs.Pcapng.Blocks.{IsRightLength, IsWhole};
 ghost use Rattle.packet_capture.specs.Pcapng.Blocks.{ReadsBlock, ReadsBody};
 ghost use Rattle.packet_capture.specs.Pcapng.Blocks.{ReadsHead, ReadsWhole};
 ghost use Rattle.packet_capture.specs.Pcapng.Blocks.{block_reading, block_type_of, body_reading};
@@ -289,15 +291,15 @@ impl Section {
     }
 }
 
-/// The head of the block at the front of a slice, whether or not the rest of the block is there, for
-/// a program that reads a file in pieces.
+/// The head of the block at the front of a slice, whether or not the rest of the block is there,
+/// for a program that reads a file in pieces.
 ///
 /// # Errors
 ///
 /// `CutOff` if the slice has fewer than 8 bytes; otherwise `Magic` if no section has begun and the
 /// block begins none; otherwise, for a Section Header Block, `CutOff` if there are fewer than 12
-/// bytes, and then `ByteOrderMagic` if its byte-order magic is wrong; otherwise `BlockLength` if the
-/// total length is wrong.
+/// bytes, and then `ByteOrderMagic` if its byte-order magic is wrong; otherwise `BlockLength` if
+/// the total length is wrong.
 pub fn block_head(section: &Section, slice: &[u8]) -> Result<BlockHead, BlockError>
     ensures reads { ReadsHead section.now slice.now result }
     ensures only { (other : HeadReading) → ReadsHead section.now slice.now other →
@@ -429,7 +431,10 @@ fn check_version(order: ByteOrder, block: &[u8]) -> Result<(), BlockError>
 
 // The error of a slice that has fewer bytes than required.
 fn cut_off(required_len: usize, slice: &[u8]) -> BlockError
-    ensures value { result ≡ BlockError.CutOff (record { required_len = required_len; len = length slice.now }) }
+    ensures value { result ≡ BlockError.CutOff (record {
+      required_len = required_len;
+      len = length slice.now;
+    }) }
 {
     BlockError::CutOff(CutOff {
         required_len,

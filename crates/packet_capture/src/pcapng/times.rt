@@ -28,8 +28,8 @@ impl Resolution {
     pub const MICROSECONDS: Resolution = Resolution::PowerOfTen(6);
 
     /// The resolution that a value of the option `if_tsresol` says: the power in its lower seven
-    /// bits, of two if the most significant bit is set, and else of ten. `None` if a second has 2^64
-    /// units or more, that is, at a power of ten above 19 or of two above 63.
+    /// bits, of two if the most significant bit is set, and else of ten. `None` if a second has
+    /// 2^64 units or more, that is, at a power of ten above 19 or of two above 63.
     pub fn from_byte(byte: u8) -> Option<Resolution>
         ensures value { result ≡ resolution_of byte }
     {

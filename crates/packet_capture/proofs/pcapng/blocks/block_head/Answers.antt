@@ -1,7 +1,5 @@
-use Rattle.std.proofs.Common.{◌≡◌, arith, refl}
+use Rattle.std.proofs.Common.{arith, refl}
 use Rattle.std.proofs.lemmas.Grind.{common_steps}
-use Rattle.packet_capture.specs.Pcapng.Blocks.{HasFront, HasWrongLength}
-use Rattle.packet_capture.proofs.Once.{head_once, whole_once, packet_once, options_once}
 use Rattle.packet_capture.proofs.pcapng.blocks.block_head.Goals as goal
 
 pub returns-then-not-has_right_length-clause-reads :

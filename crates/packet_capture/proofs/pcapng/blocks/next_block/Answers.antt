@@ -1,4 +1,4 @@
-use Rattle.std.proofs.Common.{◌≡◌, ◌<◌, ◌≤◌, ◌+◌, ◌-◌, ◌∙◌, Err, Ok, Some, ap, arith, drop, length, length-drop, length-take-le, refl, take}
+use Rattle.std.proofs.Common.{◌≡◌, ◌<◌, ◌-◌, ◌∙◌, Err, Ok, Some, ap, arith, drop, length, length-drop, length-take-le, refl, take}
 use Rattle.std.proofs.lemmas.List.{take_rest}
 use Rattle.packet_capture.specs.Pcapng.Blocks.{BeginsWithBlock, ReadsBlock, for_body, for_head, for_length, said}
 use Rattle.packet_capture.proofs.Once.{block_once, least_len_least}

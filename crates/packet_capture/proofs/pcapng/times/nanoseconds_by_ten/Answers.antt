@@ -1,4 +1,4 @@
-use Rattle.std.proofs.Common.{◌≡◌, ◌*◌, ◌/◌, ◌^◌, ◌<◌, arith}
+use Rattle.std.proofs.Common.{◌^◌, arith}
 use Rattle.packet_capture.proofs.Powers.{nanoseconds_below, nanoseconds_of_long, nanoseconds_of_short, nanoseconds_of_shortest}
 use Rattle.packet_capture.proofs.pcapng.times.nanoseconds_by_ten.Goals as goal
 use Rattle.packet_capture.proofs.pcapng.times.nanoseconds_by_ten.Goals.{then-power-lt10, else-power-lt10+then-power-lt29, else-power-lt10+else-power-lt29}

@@ -1,4 +1,4 @@
-use Rattle.std.proofs.Common.{◌≡◌, ◌^◌, ◌*◌, ◌/◌, ◌<◌, ap, arith, sym, ◌∙◌}
+use Rattle.std.proofs.Common.{◌^◌, ◌*◌, ◌/◌, ap, arith, sym, ◌∙◌}
 use Rattle.std.proofs.Math.Nat.{div-eq_of_lt, mod-eq_of_lt}
 use Rattle.packet_capture.proofs.Powers.{power_of_ten_above}
 use Rattle.packet_capture.proofs.pcapng.times.split_by_ten.Goals as goal

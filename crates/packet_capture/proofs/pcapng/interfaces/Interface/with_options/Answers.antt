@@ -1,5 +1,5 @@
-use Rattle.std.proofs.Common.{◌≡◌, ◌+◌, ◌*◌, ◌/◌, ◌≤◌, arith, sym, ◌∙◌}
-use Rattle.packet_capture.specs.Pcapng.Interfaces.{HasOption, after_option, ends, is_wrong, none_left, options_end, reaches_past, tells}
+use Rattle.std.proofs.Common.{arith, sym, ◌∙◌}
+use Rattle.packet_capture.specs.Pcapng.Interfaces.{HasOption, ends, is_wrong, none_left, reaches_past, tells}
 use Rattle.packet_capture.proofs.pcapng.interfaces.Interface.with_options.Goals as goal
 
 pub returns-then-code-eq0 : goal.returns-then-code-eq0

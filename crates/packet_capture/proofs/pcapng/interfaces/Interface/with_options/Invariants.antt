@@ -1,4 +1,4 @@
-use Rattle.std.proofs.Common.{ℕ, ◌≡◌, ◌-◌, ◌%◌, ◌≤◌, length}
+use Rattle.std.proofs.Common.{◌≡◌, ◌-◌, ◌%◌}
 use Rattle.packet_capture.specs.Pcapng.Interfaces.{InterfaceReading, ReadsOptions}
 use Rattle.packet_capture.proofs.pcapng.interfaces.Interface.with_options.Given as goal
 
