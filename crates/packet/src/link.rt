@@ -138,6 +138,7 @@ impl LinkType {
 type Found<'a> = (Option<LinkSlice<'a>>, Option<EtherType>, &'a [u8]);
 
 // The link header of a frame, the EtherType of what follows it, and all bytes after it.
+#[inline(always)]
 pub(crate) fn link_header(link_type: LinkType, frame: &[u8]) -> Result<Found, LinkError>
     ensures found { IfOk result (λ x. BeginsWithLink link_type frame.now x.0 x.1 x.2.now) }
     ensures refused { IfErr result (LacksLink link_type frame.now) }
@@ -188,6 +189,7 @@ fn front(len: usize, frame: &[u8]) -> Result<(&[u8], &[u8]), LinkError>
 }
 
 // The link header of a frame of another framing.
+#[cold]
 #[inline(never)] // A frame of a link type with a header of one length is then read in registers.
 fn framed_header(framing: Framing, frame: &[u8]) -> Result<Found, LinkError>
     ensures found { IfOk result
