@@ -4,6 +4,7 @@
 ghost use Rattle.std.specs.Prelude.{◌≡◌, ◌<◌, ◌++◌, IfErr, IfOk, Some, length};
 ghost use Rattle.packet.specs.Link.{BeginsWithLink, LacksLink, family_of, link_error_text};
 ghost use Rattle.packet.specs.declared.link.LinkType.TheVariants.{Framed};
+ghost use Rattle.packet_links.specs.Framing.{BeginsWith};
 ghost use Rattle.packet_links.specs.Header.{ether_type_of};
 
 use crate::ether_type::EtherType;
@@ -138,6 +139,7 @@ impl LinkType {
 type Found<'a> = (Option<LinkSlice<'a>>, Option<EtherType>, &'a [u8]);
 
 // The link header of a frame, the EtherType of what follows it, and all bytes after it.
+#[inline(always)]
 pub(crate) fn link_header(link_type: LinkType, frame: &[u8]) -> Result<Found, LinkError>
     ensures found { IfOk result (λ x. BeginsWithLink link_type frame.now x.0 x.1 x.2.now) }
     ensures refused { IfErr result (LacksLink link_type frame.now) }
@@ -167,7 +169,12 @@ pub(crate) fn link_header(link_type: LinkType, frame: &[u8]) -> Result<Found, Li
             Ok((Some(LinkSlice::Loopback { family }), None, rest))
         }
         LinkType::Ip => Ok((None, None, frame)),
-        LinkType::Framed(framing) => framed_header(framing, frame),
+        LinkType::Framed(framing) => {
+            let Header { len, carried } = framed_header(framing, frame)?;
+            let (slice, rest) = frame.split_at(len);
+            let link = LinkSlice::Framed { slice, carried };
+            Ok((Some(link), ether_type_of(carried), rest))
+        }
     }
 }
 
@@ -188,18 +195,14 @@ fn front(len: usize, frame: &[u8]) -> Result<(&[u8], &[u8]), LinkError>
 }
 
 // The link header of a frame of another framing.
+#[cold]
 #[inline(never)] // A frame of a link type with a header of one length is then read in registers.
-fn framed_header(framing: Framing, frame: &[u8]) -> Result<Found, LinkError>
-    ensures found { IfOk result
-        (λ x. BeginsWithLink (Framed framing) frame.now x.0 x.1 x.2.now) }
+fn framed_header(framing: Framing, frame: &[u8]) -> Result<Header, LinkError>
+    ensures found { IfOk result (BeginsWith framing frame.now) }
     ensures refused { IfErr result (LacksLink (Framed framing) frame.now) }
 {
     match framing.header(frame) {
-        Ok(Header { len, carried }) => {
-            let (slice, rest) = frame.split_at(len);
-            let link = LinkSlice::Framed { slice, carried };
-            Ok((Some(link), ether_type_of(carried), rest))
-        }
+        Ok(header) => Ok(header),
         Err(required_len) => Err(LinkError {
             required_len,
             len: frame.len(),

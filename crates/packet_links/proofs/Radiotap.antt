@@ -1,5 +1,5 @@
 -- The words of radiotap that say which fields there are, one after the other.
-use Rattle.std.proofs.Common.{ℕ, ◌≡◌, ◌+◌, ◌-◌, ◌≤◌, ◌<◌, ◌∙◌, List, [], ◌∷◌, ap, arith, drop, get_or, length, length-drop, refl, subst, if◌then◌else◌}
+use Rattle.std.proofs.Common.{ℕ, ◌≡◌, ◌+◌, ◌≤◌, ◌<◌, ◌∙◌, List, [], ◌∷◌, ap, arith, drop, get_or, length, length-drop, refl, subst, if◌then◌else◌}
 use Rattle.std.proofs.lemmas.List.{drop_more}
 use Rattle.packet_links.specs.Bytes.{is_set}
 use Rattle.packet_links.specs.Ieee80211.{present_len}

@@ -1,5 +1,6 @@
 -- The header of a frame, by its link type (the registry of link types of tcpdump.org).
-use Rattle.std.specs.Prelude.{ℕ, false, ◌≡◌, ◌<◌, ◌≤◌, ◌==◌, if◌then◌else◌, List, length, Option, Some, None}
+use Rattle.std.specs.Prelude.{ℕ, ◌≡◌, ◌<◌, ◌≤◌, ◌==◌, false, if◌then◌else◌, List, length}
+use Rattle.std.specs.Prelude.{Option, Some, None}
 use Rattle.packet_links.specs.FrameRelay.{frame_relay_header}
 use Rattle.packet_links.specs.Ieee80211.{ieee80211_header, radiotap_header}
 use Rattle.packet_links.specs.Ppp.{cisco_hdlc_header, ppp_hdlc_header, ppp_header}

@@ -3,7 +3,7 @@ use Rattle.std.specs.Prelude.{ℕ, ◌+◌, ◌*◌, ◌/◌, ◌%◌, ◌^◌, 
 use Rattle.std.specs.Prelude.{if◌then◌else◌, List, [], ◌∷◌, drop, false, length, not, slice_index}
 use Rattle.std.specs.Prelude.{take, true}
 use Rattle.std.specs.Int.{from_le_bytes, w16}
-use Rattle.packet_links.specs.Bytes.{has, is_set}
+use Rattle.packet_links.specs.Bytes.{is_set}
 use Rattle.packet_links.specs.Header.{llc_header}
 use Rattle.packet_links.specs.declared.header.Carried.TheVariants as carried
 use Rattle.packet_links.specs.declared.header.Header.{Header}

@@ -27,8 +27,8 @@ pub enum Framing {
     /// LINKTYPE_FRELAY (107): frame relay, with an NLPID (RFC 2427) or, as Cisco has it, an
     /// EtherType.
     FrameRelay,
-    /// LINKTYPE_IEEE802_11_RADIOTAP (127): radiotap, and the MAC header of IEEE 802.11. Of the fields
-    /// of radiotap only the flag of a padding after the MAC header is looked at.
+    /// LINKTYPE_IEEE802_11_RADIOTAP (127): radiotap, and the MAC header of IEEE 802.11. Of the
+    /// fields of radiotap only the flag of a padding after the MAC header is looked at.
     Ieee80211Radiotap,
 }
 
