@@ -67,7 +67,9 @@ impl Shown for IpDefragError {
                 write!(f, "err unaligned len={payload_len}")
             }
             IpDefragError::SegmentTooBig {
-                payload_len, max, ..
+                payload_len,
+                max,
+                ..
             } => write!(f, "err too_big len={payload_len} max={max}"),
         }
     }

@@ -7,7 +7,7 @@ use Rattle.packet_reassembly.specs.Fragment.{Conflict, Fragment, IsRight, IsWhol
 use Rattle.packet_reassembly.specs.Refusal.{Refuses}
 use Rattle.packet_reassembly.specs.declared.ip_defrag_error.IpDefragError.{IpDefragError}
 use Rattle.packet_reassembly.specs.declared.ip_defrag_error.IpDefragError.TheVariants as why
-use Rattle.packet_reassembly.proofs.Laws.{conflict_cut, cut_same, one_cut}
+use Rattle.packet_reassembly.proofs.Cuts.{conflict_cut, cut_same, one_cut}
 
 conflict_sym : (f g : Fragment) → Conflict f g → Conflict g f
 conflict_sym f g (inl o) = inl (λ e. o.0 (sym e), (o.1.1, o.1.0))

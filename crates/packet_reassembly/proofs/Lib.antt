@@ -1,6 +1,6 @@
 pub mod Arrivals
+pub mod Cuts
 pub mod Held
-pub mod Laws
 pub mod New
 pub mod Packets
 pub mod Walked

@@ -10,7 +10,7 @@ use Rattle.packet_reassembly.specs.declared.table.Extent.{Extent}
 use Rattle.packet_reassembly.specs.Fragment.{AreCutFrom, Covers, Fragment, IsPieceOf, IsWhole, Overlap, Takes, end_of}
 use Rattle.packet_reassembly.specs.Table.{AreKept, fragment_in, held, kept, range_at}
 use Rattle.packet_reassembly.proofs.Held.{Contains_from_held, common, end_at, held_from_Contains}
-use Rattle.packet_reassembly.proofs.Laws.{one_cut}
+use Rattle.packet_reassembly.proofs.Cuts.{one_cut}
 
 ends : (bytes : List ℕ) (ranges : List IpFragRange) (extent : Extent) (k : ℕ) → AreKept bytes ranges extent → 0 < (range_at ranges k).end → end_of (fragment_in bytes (range_at ranges k)) ≡ (range_at ranges k).end
 ends bytes ranges extent k are some = end_at bytes ranges extent.reach k are.apart (omega (arith, are.room, are.limit)) some

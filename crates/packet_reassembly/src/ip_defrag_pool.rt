@@ -35,7 +35,7 @@ pub enum DatagramState {
 }
 
 /// What became of a fragment.
-#[derive(Clone, Copy, Debug, PartialEq, Eq)]
+#[derive(Clone, Copy, Debug)]
 pub struct Added {
     /// The slot of its datagram.
     pub slot: usize,

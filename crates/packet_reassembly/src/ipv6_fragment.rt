@@ -40,6 +40,7 @@ pub fn ipv6_fragment_parts(
     ensures found { IfOk result (λ found. IfSome found (AreFragmentParts body.now first)) }
     ensures none { IfOk result (λ found. IfNone found (HasNoFragment body.now first)) }
     ensures refused { IfErr result (EndsBefore body.now first) }
+    ensures within { IfErr result (λ e. e.layer_start_offset ≤ length body.now) }
 {
     let mut number = first;
     let mut last = 0;

@@ -1,0 +1,114 @@
+//! A packet of either version that is a fragment.
+
+ghost use Rattle.std.specs.Prelude.{ℕ, ◌≡◌, ◌≤◌, ◌+◌, List, IfErr, IfNone, IfOk, IfSome};
+ghost use Rattle.std.specs.Prelude.{length};
+ghost use Rattle.etherparse.specs.Ipv4Header.{IsIpv4Layout};
+ghost use Rattle.etherparse.specs.Ipv6Header.{IsIpv6Layout};
+ghost use Rattle.etherparse.specs.Reading.{BeginsWith};
+ghost use Rattle.etherparse.specs.declared.net.ipv4_header.Ipv4Header.{Ipv4Header as Header4};
+ghost use Rattle.etherparse.specs.declared.net.ipv6_header.Ipv6Header.{Ipv6Header as Header6};
+ghost use Rattle.packet_parts.specs.IpSlice.{RefusesIp, ipv4_bytes, ipv6_bytes};
+ghost use Rattle.packet_reassembly.specs.IpFragment.{HasIpFragment, IsNoFragment};
+
+use crate::ip_frag_id::IpFragVersionSpecId;
+use crate::ipv6_fragment::ipv6_fragment_parts;
+use etherparse::{IpFragOffset, Ipv4HeaderSlice, Ipv6Header, Ipv6HeaderSlice};
+use packet_parts::ip_slice::{IpHeaderSlice, IpSlice, IpSliceError};
+
+/// A packet that is a fragment: which packet it is of, where it stands in that, and its bytes.
+#[derive(Debug, Drop)]
+pub struct IpFragmentSlice<'a> {
+    /// Equal for all fragments of one packet.
+    pub ip: IpFragVersionSpecId,
+    /// The place of its first byte, in units of 8 bytes.
+    pub offset: IpFragOffset,
+    /// Whether more fragments follow it.
+    pub more_fragments: bool,
+    /// Its bytes.
+    pub payload: &'a [u8],
+}
+
+/// The fragment that a packet is; `None` if it is no fragment. So is one with atomic fragment
+/// headers alone, which is never put together with others (RFC 6946).
+///
+/// # Errors
+///
+/// Those of [`IpSlice::from_slice`].
+pub fn ip_fragment(packet: &[u8]) -> Result<Option<IpFragmentSlice>, IpSliceError>
+    ensures found { IfOk result (λ found. IfSome found (HasIpFragment packet.now)) }
+    ensures none { IfOk result (λ found. IfNone found (IsNoFragment packet.now)) }
+    ensures refused { IfErr result (RefusesIp packet.now) }
+{
+    let slice = match IpSlice::from_slice(packet) {
+        Ok(slice) => slice,
+        Err(e) => return Err(e),
+    };
+    match slice.header {
+        IpHeaderSlice::Ipv4(view) => Ok(ipv4_fragment(view, slice.payload)),
+        IpHeaderSlice::Ipv6(view) => {
+            let len = Ipv6Header::LEN + usize::from(view.payload_length());
+            ipv6_fragment(view, &packet[Ipv6Header::LEN..len])
+        }
+    }
+}
+
+// The fragment with this header and these bytes.
+fn ipv4_fragment<'a>(view: Ipv4HeaderSlice<'a>, payload: &'a [u8]) -> Option<IpFragmentSlice<'a>>
+    ensures found { (packet : List ℕ) → (header : Header4) →
+        (begins : BeginsWith IsIpv4Layout (ipv4_bytes header packet) header payload.now) →
+        begins.front ≡ view.entry.slice.now → IfSome result (HasIpFragment packet) }
+    ensures none { (packet : List ℕ) → (header : Header4) →
+        (begins : BeginsWith IsIpv4Layout (ipv4_bytes header packet) header payload.now) →
+        begins.front ≡ view.entry.slice.now → IfNone result (IsNoFragment packet) }
+{
+    if !view.is_fragmenting_payload() {
+        return None;
+    }
+    Some(IpFragmentSlice {
+        ip: IpFragVersionSpecId::Ipv4 {
+            source: view.source(),
+            destination: view.destination(),
+            protocol: view.protocol().0,
+            identification: view.identification(),
+        },
+        offset: view.fragments_offset(),
+        more_fragments: view.more_fragments(),
+        payload,
+    })
+}
+
+// The fragment with this header and what follows it.
+fn ipv6_fragment<'a>(
+    view: Ipv6HeaderSlice<'a>,
+    body: &'a [u8],
+) -> Result<Option<IpFragmentSlice<'a>>, IpSliceError>
+    requires within { length body.now ≤ 65535 }
+    ensures found { (packet : List ℕ) → (header : Header6) →
+        (begins : BeginsWith IsIpv6Layout (ipv6_bytes header packet) header body.now) →
+        begins.front ≡ view.entry.slice.now →
+        IfOk result (λ found. IfSome found (HasIpFragment packet)) }
+    ensures none { (packet : List ℕ) → (header : Header6) →
+        (begins : BeginsWith IsIpv6Layout (ipv6_bytes header packet) header body.now) →
+        begins.front ≡ view.entry.slice.now →
+        IfOk result (λ found. IfNone found (IsNoFragment packet)) }
+    ensures refused { (packet : List ℕ) → (header : Header6) →
+        40 + header.payload_length ≤ length packet →
+        (begins : BeginsWith IsIpv6Layout (ipv6_bytes header packet) header body.now) →
+        begins.front ≡ view.entry.slice.now → IfErr result (RefusesIp packet) }
+{
+    let parts = match ipv6_fragment_parts(body, view.next_header()) {
+        Ok(Some(parts)) => parts,
+        Ok(None) => return Ok(None),
+        Err(e) => return Err(IpSliceError::Extensions(e.add_offset(Ipv6Header::LEN))),
+    };
+    Ok(Some(IpFragmentSlice {
+        ip: IpFragVersionSpecId::Ipv6 {
+            source: view.source(),
+            destination: view.destination(),
+            identification: parts.fragment.identification,
+        },
+        offset: parts.fragment.fragment_offset,
+        more_fragments: parts.fragment.more_fragments,
+        payload: parts.payload,
+    }))
+}

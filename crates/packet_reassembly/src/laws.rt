@@ -1,0 +1,36 @@
+//! Laws of what the types derive. Nothing calls these functions; they are there to be proved.
+
+ghost use Rattle.std.specs.Prelude.{◌≡◌, ◌↔◌, IsTrue};
+
+use crate::ip_defrag_error::IpDefragError;
+use crate::ip_defrag_pool::DatagramState;
+use crate::ip_frag_id::IpFragId;
+use crate::ip_frag_range::IpFragRange;
+
+/// Errors are equal exactly if all that they say is.
+pub fn ip_defrag_error_equality(one: &IpDefragError, other: &IpDefragError) -> bool
+    ensures same_value { IsTrue result ↔ (one.now ≡ other.now) }
+{
+    one == other
+}
+
+/// Ids are equal exactly if all their fields are.
+pub fn ip_frag_id_equality(one: &IpFragId, other: &IpFragId) -> bool
+    ensures same_value { IsTrue result ↔ (one.now ≡ other.now) }
+{
+    one == other
+}
+
+/// Ranges are equal exactly if all their fields are.
+pub fn ip_frag_range_equality(one: &IpFragRange, other: &IpFragRange) -> bool
+    ensures same_value { IsTrue result ↔ (one.now ≡ other.now) }
+{
+    one == other
+}
+
+/// States are equal exactly if they are the same variant.
+pub fn datagram_state_equality(one: &DatagramState, other: &DatagramState) -> bool
+    ensures same_value { IsTrue result ↔ (one.now ≡ other.now) }
+{
+    one == other
+}
