@@ -221,6 +221,31 @@ fn stamp_on(interface: &Interface, timestamp: Option<u64>) -> Stamp
 ///
 /// In the classic format `CutOff` alone, as [`next_record`]; in pcapng those of
 /// [`blocks::next_block`].
+///
+/// # Example
+///
+/// ```
+/// // pcapng: a section, an interface of packets that begin with their IP header, and a packet of
+/// // 3 bytes, 1,000,001 microseconds after the start of 1970.
+/// let file = [
+///     0x0a, 0x0d, 0x0d, 0x0a, 28, 0, 0, 0, 0x4d, 0x3c, 0x2b, 0x1a, 1, 0, 0, 0, 0xff, 0xff, 0xff,
+///     0xff, 0xff, 0xff, 0xff, 0xff, 28, 0, 0, 0, 1, 0, 0, 0, 20, 0, 0, 0, 101, 0, 0, 0, 0, 0, 0, 0,
+///     20, 0, 0, 0, 6, 0, 0, 0, 36, 0, 0, 0, 0, 0, 0, 0, 0, 0, 0, 0, 0x41, 0x42, 0x0f, 0, 3, 0, 0, 0,
+///     5, 0, 0, 0, b'a', b'b', b'c', 0, 36, 0, 0, 0,
+/// ];
+/// let (mut capture, bytes) = Capture::from_slice(&file)?;
+/// let mut rest = bytes;
+/// let mut packets = 0;
+/// while let Some((block, after)) = next_block(&mut capture, rest)? {
+///     if let Block::Packet { head, bytes } = block {
+///         assert!(rt; (head.link_type, bytes) == (101, b"abc".as_slice()));
+///         assert!(rt; (head.time().seconds, head.time().nanoseconds) == (1, 1000));
+///         packets += 1;
+///     }
+///     rest = after;
+/// }
+/// assert!(rt; packets == 1);
+/// ```
 pub fn next_block<'a>(
     capture: &mut Capture,
     slice: &'a [u8],
