@@ -7,6 +7,8 @@
 #[cfg(test)]
 mod address;
 #[cfg(test)]
+mod captures;
+#[cfg(test)]
 mod checksum;
 #[cfg(test)]
 mod errors;

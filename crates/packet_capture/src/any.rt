@@ -235,16 +235,14 @@ fn stamp_on(interface: &Interface, timestamp: Option<u64>) -> Stamp
 /// ];
 /// let (mut capture, bytes) = Capture::from_slice(&file)?;
 /// let mut rest = bytes;
-/// let mut packets = 0;
-/// while let Some((block, after)) = next_block(&mut capture, rest)? {
+/// let mut found = None;
+/// 'next: while let Some((block, after)) = next_block(&mut capture, rest)? {
 ///     if let Block::Packet { head, bytes } = block {
-///         assert!(rt; (head.link_type, bytes) == (101, b"abc".as_slice()));
-///         assert!(rt; (head.time().seconds, head.time().nanoseconds) == (1, 1000));
-///         packets += 1;
+///         found = Some((head.link_type, head.time().seconds, bytes.len()));
 ///     }
 ///     rest = after;
 /// }
-/// assert!(rt; packets == 1);
+/// assert!(rt; found == Some((101, 1, 3)));
 /// ```
 pub fn next_block<'a>(
     capture: &mut Capture,
