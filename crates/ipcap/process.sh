@@ -3,8 +3,9 @@
 # expected: on the capture in `stdin`, on that capture cut at each of its bytes and with bytes
 # changed, on its packets in each format and after the headers of each other link type, on its
 # records 11000 times over, on the longest records that are read and on longer ones, with expressions,
-# with arguments that are refused, with standard input or output that is closed, full or read by
-# nobody, and with reads that fail after some records.
+# with each option, with files that are read and written, with arguments that are refused, with
+# standard streams that are closed, full or read by nobody, and with reads that fail after some
+# records.
 #
 #     ./process.sh            both builds that `rt ci` leaves in out/: ipcap, and ipcap.by-rattle,
 #                             which Rattle's own compiler makes after it
@@ -122,23 +123,208 @@ many_records() {
     judge 'many records, quiet' $? 0
 }
 
-# An option that is not known, also one that stands before an expression.
+# refused LINE ARGUMENT..: the arguments are refused, and this is the first line on standard error.
+# Nothing is read or written.
+refused() {
+    run "${@:2}"
+    code=$?
+    mapfile -t said <"$room/errors"
+    if [ "$code" -ne 2 ]; then
+        fail "the arguments '${*:2}'" "it ended with $code, and not with 2"
+    elif [ "${said[0]-}" != "$1" ]; then
+        fail "the arguments '${*:2}'" "it said '${said[0]-}'"
+    elif [ -s "$room/output" ]; then
+        fail "the arguments '${*:2}'" 'it wrote something'
+    else
+        pass
+    fi
+}
+
+# Options that are not known, with and without an expression; and values that are missing, wrong, or
+# given twice.
 arguments() {
-    : >"$room/wanted"
-    echo 'usage: ipcap [--quiet] [EXPRESSION] < CAPTURE' >"$room/wanted.errors"
+    local word
     for len in "$size" 176 0; do
         bytes 0 "$len" >"$room/input"
-        for argument in --version -q - -- --quiet= -r '-r stdin' '--quiet tcp'; do
-            run "$argument"
-            judge "the argument '$argument', with $len bytes of input" $? 2
-            run "$argument" tcp
-            judge "the arguments '$argument' and 'tcp', with $len bytes of input" $? 2
-            run --quiet "$argument"
-            judge "the arguments '--quiet' and '$argument', with $len bytes of input" $? 2
+        for word in --frobnicate -q -x --quite -nq; do
+            option=$word
+            [ "$word" = -nq ] && option=-q
+            refused "error: unexpected argument '$option' found" "$word"
+            refused "error: unexpected argument '$option' found" "$word" tcp
+            refused "error: unexpected argument '$option' found" tcp "$word"
+            refused "error: unexpected argument '$option' found" --quiet "$word"
         done
-        run --quiet --quiet
-        judge "'--quiet' twice, with $len bytes of input" $? 2
+        refused "error: unexpected value 'x' for '--quiet' found; no more were expected" --quiet=x
+        refused "error: a value is required for '-r <FILE>' but none was supplied" -r
+        refused "error: a value is required for '-w <FILE>' but none was supplied" tcp -w
+        refused "error: a value is required for '-c <N>' but none was supplied" -c
+        refused "error: invalid value 'x' for '-c <N>': invalid digit found in string" -c x
+        refused "error: invalid value '5x' for '-c <N>': invalid digit found in string" -c5x tcp
+        refused "error: invalid value '0' for '-c <N>': 0 is not in 1.." -c 0
+        refused "error: the argument '-c <N>' cannot be used multiple times" -c 1 -c 2
+        refused "error: the argument '--quiet' cannot be used with '--count'" --quiet --count
+        refused "error: the argument '--quiet' cannot be used with '-w <FILE>'" --quiet -w -
+        refused "error: the argument '--count' cannot be used with '-w <FILE>'" --count -w -
     done
+}
+
+# What --help and --version print.
+help_and_version() {
+    : >"$room/wanted.errors"
+    echo 'ipcap 0.1.0' >"$room/wanted"
+    run --version
+    judge '--version' $? 0
+    run tcp -V
+    judge '-V' $? 0
+    for word in -h --help; do
+        run "$word" tcp
+        code=$?
+        for line in 'Usage: ipcap [OPTIONS] [FILE] [EXPRESSION]...' '  -r <FILE>' '  -w <FILE>' \
+            '  -c <N>' '      --count' '      --quiet' '  -n' '  -h, --help' '  -V, --version' \
+            'Link types: ' 'A line has these words:' '  ipcap trace.pcap '; do
+            if ! grep -q -F -e "$line" "$room/output"; then
+                fail "$word" "it does not say '$line'"
+            else
+                pass
+            fi
+        done
+        cp "$room/output" "$room/wanted"
+        judge "$word" "$code" 0
+    done
+}
+
+# A file that is named, by -r or by the first word that is no option; and one that cannot be opened.
+files_read() {
+    : >"$room/input"
+    cp stdout "$room/wanted"
+    closing_of 6 >"$room/wanted.errors"
+    for words in '-r stdin' '-rstdin' '-nr stdin' '-nn -r stdin' 'stdin' '-n stdin' '-- stdin' \
+        './stdin' '-c 6 stdin' '-c7 stdin'; do
+        run $words
+        judge "the arguments '$words'" $? 0
+    done
+    cp stdin "$room/input"
+    for words in - '-r -' '-n -' '-nnn'; do
+        run $words
+        judge "the arguments '$words'" $? 0
+    done
+    : >"$room/input"
+    numbered 1 4 >"$room/wanted"
+    closing '2 of 6' 2 0 0 0 1 >"$room/wanted.errors"
+    for words in '-r stdin udp or icmp' 'stdin udp or icmp' 'udp -r stdin or icmp' \
+        'stdin udp -n or icmp' '-nr stdin -- udp or icmp'; do
+        run $words
+        judge "the arguments '$words'" $? 0
+    done
+    : >"$room/wanted"
+    for name in no/such/file 'no such file' -no-file; do
+        echo "error: $name: No such file or directory (os error 2)" >"$room/wanted.errors"
+        run -r"$name"
+        judge "the file '$name'" $? 2
+        run -- "$name" tcp
+        judge "the first word '$name'" $? 2
+    done
+    echo 'error: a read failed: Is a directory (os error 21)' >"$room/wanted.errors"
+    run -r .
+    judge 'a folder' $? 3
+}
+
+# kept NUMBERS: what is written with -w of the records of `stdin` with these numbers.
+kept() {
+    local number place=(24 100 176 266 342 418 447)
+    bytes 0 24
+    for number in $1; do
+        bytes "${place[number - 1]}" $((place[number] - place[number - 1]))
+    done
+}
+
+# writes NUMBERS CLOSING ARGUMENT..: the records of `stdin` with these numbers are written, to a file
+# and to standard output.
+writes() {
+    kept "$1" >"$room/wanted"
+    echo "$2" >"$room/wanted.errors"
+    run -w - "${@:3}"
+    judge "the arguments '-w - ${*:3}'" $? 0
+    cp "$room/wanted" "$room/wanted.file"
+    : >"$room/wanted"
+    run -w "$room/file" "${@:3}"
+    code=$?
+    if ! cmp -s "$room/file" "$room/wanted.file"; then
+        fail "the arguments '-w FILE ${*:3}'" 'the file does not have what is wanted'
+    fi
+    judge "the arguments '-w FILE ${*:3}'" "$code" 0
+}
+
+files_written() {
+    cp stdin "$room/input"
+    writes '1 2 3 4 5 6' "$(closing_of 6)"
+    writes '1 4' "$(closing '2 of 6' 2 0 0 0 1)" udp or icmp
+    writes '6' "$(closing '1 of 6' 0 0 1 1 0)" not '(ip or ip6 or arp)'
+    writes '' "$(closing '0 of 6' 0 0 0 0 0)" port 9
+    writes '1 2' "$(closing 2 2 0 0 0 0)" -c 2
+    writes '1' "$(closing '1 of 1' 1 0 0 0 0)" -c 1 udp or icmp
+    bytes 0 430 >"$room/input"
+    kept '1 2 3 4 5' >"$room/wanted"
+    {
+        echo 'error: the last record is cut off: it needs 16 bytes, and there are 12'
+        closing_of 5
+    } >"$room/wanted.errors"
+    run -w -
+    judge 'packets of a capture that is cut off' $? 1
+    : >"$room/wanted"
+    echo 'error: no capture: 20 bytes are no file header' >"$room/wanted.errors"
+    bytes 0 20 >"$room/input"
+    run -w -
+    judge 'packets of what is no capture' $? 2
+    cp "$room/many" "$room/input"
+    cp "$room/many" "$room/wanted"
+    closing 66000 33000 11000 22000 11000 11000 >"$room/wanted.errors"
+    run -w -
+    judge 'the packets of many records' $? 0
+    in_pieces 64 -w -
+    judge 'the packets of many records, in pieces of 64 bytes' $? 0
+    cp stdin "$room/input"
+    : >"$room/wanted"
+    echo "error: $room: Is a directory (os error 21)" >"$room/wanted.errors"
+    run -w "$room"
+    judge 'a folder that is written' $? 2
+    echo 'error: a write failed: No space left on device (os error 28)' >"$room/wanted.errors"
+    run -w /dev/full
+    judge 'packets to a full device' $? 3
+}
+
+# How many are listed, and no more than so many.
+counts() {
+    cp stdin "$room/input"
+    : >"$room/wanted.errors"
+    echo '6 packets' >"$room/wanted"
+    run --count
+    judge '--count' $? 0
+    echo '1 packet' >"$room/wanted"
+    run --count tcp
+    judge '--count tcp' $? 0
+    run tcp --count -c 1
+    judge 'tcp --count -c 1' $? 0
+    echo '0 packets' >"$room/wanted"
+    run --count port 9
+    judge '--count port 9' $? 0
+    echo '3 packets' >"$room/wanted"
+    run -c3 --count
+    judge '-c3 --count' $? 0
+    for ((most = 1; most < 9; most++)); do
+        first_lines "$((most < 6 ? most : 6))" >"$room/wanted"
+        closing_of "$((most < 6 ? most : 6))" >"$room/wanted.errors"
+        run -c "$most"
+        judge "-c $most" $? 0
+    done
+    numbered 1 4 >"$room/wanted"
+    closing '2 of 4' 2 0 0 0 1 >"$room/wanted.errors"
+    run -c 2 udp or icmp
+    judge '-c 2 udp or icmp' $? 0
+    closing '2 of 4' 2 0 0 0 1 >"$room/wanted"
+    : >"$room/wanted.errors"
+    run -c 2 --quiet udp or icmp
+    judge '-c 2 --quiet udp or icmp' $? 0
 }
 
 # numbered NUMBER..: the lines of `stdout` with these numbers.
@@ -222,6 +408,8 @@ no_expression() {
     judge "the expression '$2'" $? 2
     run --quiet "${@:4}"
     judge "the expression '$2', quiet" $? 2
+    run -c 1 "${@:4}"
+    judge "the expression '$2', with a limit" $? 2
     cp "$room/input" "$room/wanted"
     {
         "$program" "${@:4}" 2>"$room/errors"
@@ -238,10 +426,10 @@ no_expressions() {
     no_expression "The word at byte 4 $cannot $after" 'tcp prot 80' 4 tcp prot 80
     no_expression "The word at byte 4 $cannot $after" 'tcp prot 80' 4 'tcp prot 80'
     no_expression "The word at byte 5 $cannot $after" 'tcp  prot 80' 5 tcp '' prot 80
-    no_expression "The word at byte 0 $cannot $operand" 'no/such/file' 0 no/such/file
-    no_expression "The word at byte 0 $cannot $operand" 'stdin' 0 stdin
-    no_expression "The word at byte 4 $cannot $after" 'tcp -r' 4 tcp -r
-    no_expression "The word at byte 1 $cannot $operand" ' --quiet' 1 '' --quiet
+    no_expression "The word at byte 0 $cannot $operand" 'no/such/file' 0 -r stdin no/such/file
+    no_expression "The word at byte 0 $cannot $operand" 'stdin' 0 -r stdin stdin
+    no_expression "The word at byte 4 $cannot $after" 'tcp -r' 4 -- tcp -r
+    no_expression "The word at byte 1 $cannot $operand" ' --quiet' 1 -- '' --quiet
     no_expression "$ends $operand" 'not (tcp or' 11 'not (tcp or'
     no_expression "$ends $operand" 'not ' 4 not ''
     no_expression "The word at byte 5 $cannot $after" 'tcp  ?[2J? ~ ????' 5 \
@@ -495,7 +683,7 @@ fronts() {
     } >"$room/input"
     len=0
     while [ "$len" -lt "$length" ]; do
-        echo "$((len + 1)) 1700000001.001001 other: $len bytes are no link header"
+        echo "$((len + 1)) 1700000001.001001 other: truncated link header ($len bytes)"
         len=$((len + 1))
     done >"$room/wanted"
     closing "$length" 0 0 "$length" 0 0 >"$room/wanted.errors"
@@ -593,11 +781,32 @@ no_capture() {
     judge "$3" $? 2
 }
 
+# packed MAGIC FORMAT: what begins with these bytes, as `printf` takes them, is of this format.
+packed() {
+    {
+        printf "$1"
+        bytes 4 100
+    } >"$room/input"
+    : >"$room/wanted"
+    echo "error: no capture: this is $2" >"$room/wanted.errors"
+    run
+    judge "$2" $? 2
+}
+
 no_captures() {
-    no_capture 0 '\325' 'no capture: the magic number is 3586372257'
+    no_capture 0 '\325' 'no capture: the magic number is 0xd5c3b2a1'
+    no_capture 0 '\0' 'no capture: the magic number is 0x00c3b2a1'
     no_capture 4 '\1' 'no capture: the version is 1.4'
     no_capture 6 '\5' 'no capture: the version is 2.5'
-    no_capture 20 '\223' 'link type 147 is not read'
+    no_capture 20 '\223' 'link type 147 (USER0) is not read'
+    no_capture 20 '\300' 'link type 192 (PPI) is not read'
+    no_capture 20 '\167' 'link type 119 (IEEE802_11_PRISM) is not read'
+    no_capture 20 '\2' 'link type 2 is not read'
+    packed '\37\213\10\0' 'gzip: zcat FILE | ipcap'
+    packed '\50\265\57\375' 'zstd: zstdcat FILE | ipcap'
+    packed '\375\67\172\130' 'xz: xzcat FILE | ipcap'
+    packed '\102\132\150\71' 'bzip2: bzcat FILE | ipcap'
+    packed '\12\15\15\12' 'pcapng: editcap -F pcap FILE - | ipcap'
 }
 
 # A record of one byte more than is read, the first packet of `stdin`, and a record as long as the
@@ -617,10 +826,10 @@ long_records() {
         head -c 9 /dev/zero
     } >"$room/input"
     {
-        echo '1 1700000001.001001 skipped: 262145 bytes are too many'
+        echo '1 1700000001.001001 skipped: record too long (262145 bytes)'
         echo '2 1700000001.001001 192.0.2.1 > 198.51.100.7 UDP 53>40000 length 13 hops 64' \
             'fragment - checksums right right'
-        echo '3 1700000002.002002 skipped: 262145 bytes are too many'
+        echo '3 1700000002.002002 skipped: record too long (262145 bytes)'
     } >"$room/wanted"
     {
         echo 'error: the last record is cut off: it needs 262161 bytes, and there are 25'
@@ -635,6 +844,33 @@ long_records() {
     too_long '1 of 3' 1 2 less 1000
     too_long '0 of 3' 0 '' greater 262145
     too_long '0 of 3' 0 '' not udp
+    cp "$room/input" "$room/wanted"
+    {
+        echo 'error: the last record is cut off: it needs 262161 bytes, and there are 25'
+        echo '3 packets: 1 IPv4, 0 IPv6, 0 other, 0 refused, 2 skipped, 1 cut,' \
+            '0 with a wrong checksum'
+    } >"$room/wanted.errors"
+    run -w -
+    judge 'records that are too long, written' $? 1
+    in_pieces 128 -w -
+    judge 'records that are too long, written, in pieces of 128 bytes' $? 1
+    head -c 262185 "$room/input" >"$room/wanted"
+    echo '1 packets: 0 IPv4, 0 IPv6, 0 other, 0 refused, 1 skipped, 1 cut,' \
+        '0 with a wrong checksum' >"$room/wanted.errors"
+    run -w - -c 1
+    judge 'a record that is too long, written' $? 0
+    {
+        bytes 0 20
+        number 101
+        tail -c +262186 "$room/input" | head -c 49
+    } >"$room/wanted"
+    {
+        echo 'error: the last record is cut off: it needs 262161 bytes, and there are 25'
+        echo '1 of 3 packets: 1 IPv4, 0 IPv6, 0 other, 0 refused, 2 skipped, 0 cut,' \
+            '0 with a wrong checksum'
+    } >"$room/wanted.errors"
+    run -w - udp
+    judge 'records that are too long, written with an expression' $? 1
 }
 
 # too_long COUNT IPV4 NUMBER ARGUMENT..: no expression is true of a record that is too long.
@@ -677,7 +913,7 @@ longest_records() {
         echo "1${lines[0]#1}"
         echo "2${lines[0]#1}"
         echo "3${lines[0]#1}"
-        echo '4 1700000001.001001 skipped: 262145 bytes are too many'
+        echo '4 1700000001.001001 skipped: record too long (262145 bytes)'
         echo "5${lines[1]#2}"
     } >"$room/wanted"
     echo '5 packets: 4 IPv4, 0 IPv6, 0 other, 0 refused, 1 skipped, 0 cut,' \
@@ -686,6 +922,11 @@ longest_records() {
     judge 'the longest records' $? 0
     cat "$room/input" | "$program" >"$room/output" 2>"$room/errors"
     judge 'the longest records, from a pipe' $? 0
+    cp "$room/input" "$room/wanted"
+    run -w -
+    judge 'the longest records, written' $? 0
+    cat "$room/input" | "$program" -w - >"$room/output" 2>"$room/errors"
+    judge 'the longest records, written, from a pipe' $? 0
 }
 
 # The keywords of IANA's registry of protocol numbers.
@@ -753,24 +994,68 @@ changed_captures() {
 }
 
 failing_ends() {
-    echo 'error: a read or a write failed' >"$room/wanted.errors"
     : >"$room/wanted"
     : >"$room/output"
     cp stdin "$room/input"
+    echo 'error: a read failed: Bad file descriptor (os error 9)' >"$room/wanted.errors"
     "$program" <&- >"$room/output" 2>"$room/errors"
     judge 'standard input closed' $? 3
+    echo 'error: a read failed: Is a directory (os error 21)' >"$room/wanted.errors"
     "$program" <. >"$room/output" 2>"$room/errors"
     judge 'a folder as standard input' $? 3
-    "$program" <"$room/input" >/dev/full 2>"$room/errors"
-    judge 'standard output full' $? 3
-    "$program" <"$room/input" >&- 2>"$room/errors"
-    judge 'standard output closed' $? 3
-    mkfifo "$room/pipe"
-    exec 3<>"$room/pipe" 4>"$room/pipe" 3<&-
-    "$program" <"$room/input" >&4 2>"$room/errors"
-    judge 'a pipe that nobody reads' $? 3
-    exec 4>&-
-    rm "$room/pipe"
+    for words in '' '--quiet' '--count' '-w -' 'tcp'; do
+        echo 'error: a write failed: No space left on device (os error 28)' >"$room/wanted.errors"
+        "$program" $words <"$room/input" >/dev/full 2>"$room/errors"
+        judge "standard output full, with '$words'" $? 3
+        echo 'error: a write failed: Bad file descriptor (os error 9)' >"$room/wanted.errors"
+        "$program" $words <"$room/input" >&- 2>"$room/errors"
+        judge "standard output closed, with '$words'" $? 3
+        mkfifo "$room/pipe"
+        exec 3<>"$room/pipe" 4>"$room/pipe" 3<&-
+        echo 'error: a write failed: Broken pipe (os error 32)' >"$room/wanted.errors"
+        "$program" $words <"$room/input" >&4 2>"$room/errors"
+        judge "a pipe that nobody reads, with '$words'" $? 3
+        exec 4>&-
+        rm "$room/pipe"
+    done
+    cp "$room/many" "$room/input"
+    echo 'error: a write failed: No space left on device (os error 28)' >"$room/wanted.errors"
+    for words in '' '-w -' 'tcp'; do
+        "$program" $words <"$room/input" >/dev/full 2>"$room/errors"
+        judge "standard output full, with many records and '$words'" $? 3
+    done
+    failing_errors
+}
+
+# Standard error that is closed or full changes no exit code, and nothing on standard output.
+failing_errors() {
+    : >"$room/wanted.errors"
+    : >"$room/errors"
+    bytes 0 430 >"$room/cut"
+    cp stdin "$room/input"
+    cp stdout "$room/wanted"
+    "$program" <"$room/input" >"$room/output" 2>&-
+    judge 'standard error closed' $? 0
+    "$program" <"$room/input" >"$room/output" 2>/dev/full
+    judge 'standard error full' $? 0
+    first_lines 5 >"$room/wanted"
+    "$program" <"$room/cut" >"$room/output" 2>&-
+    judge 'standard error closed, with a capture that is cut off' $? 1
+    "$program" <"$room/cut" >"$room/output" 2>/dev/full
+    judge 'standard error full, with a capture that is cut off' $? 1
+    closing_of 5 >"$room/wanted"
+    "$program" --quiet <"$room/cut" >"$room/output" 2>/dev/full
+    judge 'standard error full, with a capture that is cut off, quiet' $? 1
+    kept '1 2 3 4 5' >"$room/wanted"
+    "$program" -w - <"$room/cut" >"$room/output" 2>&-
+    judge 'standard error closed, with packets that are written' $? 1
+    : >"$room/wanted"
+    "$program" </dev/null >"$room/output" 2>/dev/full
+    judge 'standard error full, with no capture' $? 2
+    "$program" tcp prot <"$room/input" >"$room/output" 2>&-
+    judge 'standard error closed, with no expression' $? 2
+    "$program" <"$room/input" >/dev/full 2>&-
+    judge 'standard error closed, and standard output full' $? 3
 }
 
 # failing_read LENGTH NUMBERS ARGUMENT..: the first LENGTH bytes of `stdin` come from a pipe that is
@@ -789,9 +1074,23 @@ failing_read() {
     judge "a read that fails after $1 bytes, with '${*:3}'" "$code" 3
 }
 
+# enough LENGTH ARGUMENT..: the same, where no more is read, since enough are listed. The
+# files `wanted` and `wanted.errors` say what is written.
+enough() {
+    mkfifo "$room/pipe"
+    exec 3<>"$room/pipe"
+    dd count=0 iflag=nonblock <&3 2>/dev/null || { echo 'dd has no iflag=nonblock' && exit 1; }
+    bytes 0 "$1" >&3
+    "$program" "${@:2}" <&3 >"$room/output" 2>"$room/errors"
+    code=$?
+    exec 3<&-
+    rm "$room/pipe"
+    judge "enough after $1 bytes, with '${*:2}'" "$code" 0
+}
+
 # The lines of the records before a read that fails are written all the same.
 failing_reads() {
-    echo 'error: a read or a write failed' >"$room/wanted.errors"
+    echo 'error: a read failed: Resource temporarily unavailable (os error 11)' >"$room/wanted.errors"
     failing_read 0 ''
     failing_read 20 ''
     failing_read 24 ''
@@ -801,6 +1100,23 @@ failing_reads() {
     failing_read 400 '1 4' udp or icmp
     failing_read 447 '1 4 5 6' not vlan
     failing_read 447 '' --quiet not vlan
+    failing_read 447 '' --count
+    failing_read 447 '1 2 3 4 5 6' -c 7
+    failing_read 447 '1 4' -c 3 udp or icmp
+    kept '1 2 3 4' >"$room/kept"
+    failing_read 400 '' -w "$room/file"
+    cmp -s "$room/kept" "$room/file" || fail 'packets before a read that fails' 'they are not written'
+    first_lines 4 >"$room/wanted"
+    closing_of 4 >"$room/wanted.errors"
+    enough 400 -c 4
+    first_lines 2 >"$room/wanted"
+    closing_of 2 >"$room/wanted.errors"
+    enough 447 -c 2
+    kept '1 2' >"$room/wanted"
+    enough 176 -c 2 -w -
+    numbered 1 4 >"$room/wanted"
+    closing '2 of 4' 2 0 0 0 1 >"$room/wanted.errors"
+    enough 342 -c 2 udp or icmp
 }
 
 [ $# -gt 0 ] || set -- ipcap ipcap.by-rattle
@@ -814,6 +1130,10 @@ for build; do
     whole_capture
     many_records
     arguments
+    help_and_version
+    files_read
+    files_written
+    counts
     expressions
     many_chosen
     no_expressions

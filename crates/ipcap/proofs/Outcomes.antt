@@ -1,6 +1,7 @@
 -- What a run writes, and what one that fails has written.
-use Rattle.std.proofs.Common.{ℕ, ◌≡◌, ◌<◌, ◌≤◌, ◌⊎◌, inl, inr, List, [], ◌++◌, length, take, drop, Option, Some, None, Result, Ok, Err, IfOk, OnErr, refl, sym, ◌∙◌, append_assoc, append-nil, arith, IfSome}
-use Rattle.std.specs.Io.KnownBytes.{Consumes, IsAtEnd, prepend_known}
+use Rattle.std.proofs.Common.{ℕ, ◌≡◌, ◌<◌, ◌≤◌, ◌⊎◌, inl, inr, Bool, true, false, List, [], ◌++◌, length, take, drop, Option, Some, None, Result, Ok, Err, IfErr, IfOk, OnErr, refl, sym, ap, ◌∙◌, append_assoc, append-nil, arith, IfSome, length-take-le, take-append-drop}
+use Rattle.std.proofs.Math.Seq.{take-append_seam}
+use Rattle.std.specs.Io.KnownBytes.{Appends, Consumes, IsAtEnd, prepend_known}
 use Rattle.std.proofs.KnownBytes.{Appends-nil, Appends-trans, Consumes-whole}
 use Rattle.packet.specs.Link.{link_type_of}
 use Rattle.packet_capture.specs.Capture.{BeginsWithFileHeader, ReadsFileHeader}
@@ -9,43 +10,29 @@ use Rattle.packet_capture.specs.declared.capture.CaptureError.TheVariants as cap
 use Rattle.packet_capture.specs.declared.capture.CutOff as cut
 use Rattle.packet_capture.specs.declared.capture.FileHeader.{FileHeader}
 use Rattle.ipcap.specs.Lines.{capture_error_line, link_type_line}
-use Rattle.ipcap.specs.Output.{Fails, HasOtherFrames, IsListed, IsListing, IsNoCapture, IsOutcome, Outcome, Writes, listed, number_of, refused, status_at}
-use Rattle.ipcap.specs.Private.Progress.{Breaks, Ends, IsTold}
-use Rattle.ipcap.specs.Streams.{CannotRead, Gets, GetsFront, Prints, Reads, Takes, pending, unlisted, unread}
+use Rattle.ipcap.specs.Listing.{Lists, ends}
+use Rattle.ipcap.specs.Output.{Fails, HasOtherFrames, IsCause, IsListed, IsListing, IsNoCapture, IsOpen, IsOutcome, Outcome, Writes, first_place, front_of, listed, number_of, refused, status_at}
+use Rattle.ipcap.specs.Private.Ended.{FailsListing, WritesListing}
+use Rattle.ipcap.specs.Private.Progress.{Because, Breaks, Ends, IsTold, WantsMore}
+use Rattle.ipcap.specs.Request.{copies}
+use Rattle.ipcap.specs.Streams.{CannotRead, Gets, GetsFront, Prints, PrintsFront, Reads, Reports, Takes, kept_if, pending, unlisted, unread}
 use Rattle.ipcap.specs.Totals.{HasRoom, nothing_counted}
 use Rattle.ipcap.specs.declared.failure.Failure.{Failure}
 use Rattle.ipcap.specs.declared.failure.Failure.TheVariants as failure
 use Rattle.ipcap.specs.declared.input.Input.{Input}
-use Rattle.ipcap.specs.declared.listing.Listing.{Listing}
 use Rattle.ipcap.specs.declared.output.Output.{Output}
+use Rattle.ipcap.specs.declared.place.Capture.{Capture}
+use Rattle.ipcap.specs.declared.place.Place.{Place}
 use Rattle.ipcap.specs.declared.request.Request.{Request}
 use Rattle.ipcap.specs.declared.status.Status.{Status}
+use Rattle.ipcap.specs.declared.status.Status.TheVariants as status
 use Rattle.ipcap.specs.declared.totals.Totals.{Totals}
-use Rattle.ipcap.proofs.Runs.{prints_then, reads_both, takes_both}
+use Rattle.ipcap.proofs.Runs.{prints_both, prints_then, reads_both, takes_both}
 use Rattle.ipcap.proofs.Fronts.{begins_with_file_header-append, begins_with_file_header-front, reads_no_file_header-append}
 
 -- ---- what a sink gets
 
 module _ {W : Type 0} (contents : W → Option (List ℕ)) where
-  pub gets_nothing : (a : Output W) (text : List ℕ) → GetsFront contents a a text
-  gets_nothing a text = record { front = []; rest = text; whole = refl; gets = Appends-nil (contents a.sink) }
-
-  -- this text, and then a front of another
-  pub gets_more : (a b c : Output W) (s t : List ℕ) → Gets contents a b s → GetsFront contents b c t → GetsFront contents a c (s ++ t)
-  gets_more a b c s t p f = record {
-    front = s ++ f.front;
-    rest = f.rest;
-    whole = grind (arith, append_assoc, f.whole);
-    gets = Appends-trans (contents a.sink) (contents b.sink) (contents c.sink) s f.front p f.gets;
-  }
-
-  pub gets_both : (a b c : Output W) (s t : List ℕ) → Gets contents a b s → Gets contents b c t → Gets contents a c (s ++ t)
-  gets_both a b c s t p q = Appends-trans (contents a.sink) (contents b.sink) (contents c.sink) s t p q
-
-  -- all of a text is a front of it
-  pub gets_whole : (a b : Output W) (text : List ℕ) → Gets contents a b text → GetsFront contents a b text
-  gets_whole a b text p = record { front = text; rest = []; whole = sym (append-nil text); gets = p }
-
   -- all that was printed is passed
   pub printed_all : (a b : Output W) (text : List ℕ) → pending a ≡ [] → Prints contents a b text → pending b ≡ [] → Gets contents a b text
   printed_all a b text none p all = let e : text ≡ p.passed = grind (arith, append-nil, p.prints) in rw e p.gets
@@ -65,9 +52,6 @@ module _ {W : Type 0} (contents : W → Option (List ℕ)) where
 before : (a b : Option (List ℕ)) (bytes : List ℕ) (P Q : List ℕ → Type 0) → Consumes a b bytes → ((rest : List ℕ) → Q rest → P (bytes ++ rest)) → IfSome b Q → IfSome a P
 before a b bytes P Q taken f q = grind arith
 
-whole_after : (u v s g h front rest : List ℕ) → u ++ g ≡ s ++ v → v ++ h ≡ front ++ rest → u ++ (g ++ h) ≡ (s ++ front) ++ rest
-whole_after u v s g h front rest e f = grind (arith, append_assoc)
-
 all : (a b : Option (List ℕ)) (u got bytes : List ℕ) → Consumes a b got → u ++ got ≡ bytes → Consumes (prepend_known u a) b bytes
 all a b u got bytes c e = grind (arith, append_assoc)
 
@@ -77,6 +61,12 @@ from_records a b u v got s P Q p e f q = before (prepend_known u a) (prepend_kno
 
 all_read : (a b : Option (List ℕ)) (u got : List ℕ) → Consumes a b got → Consumes (prepend_known u a) b (u ++ got)
 all_read a b u got c = all a b u got (u ++ got) c refl
+
+-- what holds of all bytes, from what holds of those that were read and any that follow
+and_any : (a b : Option (List ℕ)) (bytes : List ℕ) (P : List ℕ → Type 0) → Consumes a b bytes → ((rest : List ℕ) → P (bytes ++ rest)) → IfSome a P
+and_any None b bytes P c f = tt
+and_any (Some x) None bytes P c f = absurd c
+and_any (Some x) (Some y) bytes P c f = rw c (f y)
 
 -- ---- outcomes
 
@@ -88,7 +78,7 @@ pub no_capture : (request : Request) (r : Option (List ℕ)) (u : List ℕ) (e :
 no_capture request None u e enough none = tt
 no_capture request (Some more) u e enough none = is_no_capture request (u ++ more) e (reads_no_file_header-append u more e enough none)
 
-pub has_other_frames : (request : Request) (u rest : List ℕ) (header : FileHeader) → BeginsWithFileHeader u header rest → link_type_of (number_of header) ≡ None
+has_other_frames : (request : Request) (u rest : List ℕ) (header : FileHeader) → BeginsWithFileHeader u header rest → link_type_of (number_of header) ≡ None
     → IsOutcome request u (refused (link_type_line (number_of header)))
 has_other_frames request u rest header begins other =
     let refusal : HasOtherFrames u (refused (link_type_line (number_of header))) = record { header = header; records = rest; begins = begins; other = other; outcome_of = refl } in
@@ -99,93 +89,124 @@ pub other_frames : (request : Request) (r : Option (List ℕ)) (u rest : List �
 other_frames request None u rest header begins other = tt
 other_frames request (Some more) u rest header begins other = has_other_frames request (u ++ more) (rest ++ more) header (begins_with_file_header-append u more header rest begins) other
 
-module _ {R W V : Type 0} (remaining : R → Option (List ℕ)) (contents : W → Option (List ℕ)) (also : V → Option (List ℕ)) (P : R → Type 0) (Q : W → Type 0) (Q' : V → Type 0) where
-  -- ---- a listing
+parts : (s text closing printed left : List ℕ) → text ++ closing ≡ printed ++ left → (s ++ text) ++ closing ≡ (s ++ printed) ++ left
+parts s text closing printed left e = grind (arith, append_assoc)
 
-  module _ (listing : Listing) where
-    -- this is how a listing fails
-    abbrev FailsListing : Input R → Input R → Output W → Output W → Output V → Output V → Type 0
-    FailsListing a c o n p q = Fails remaining contents also P Q Q' (IsListing listing) a c o n p q
+not_done : ¬ (status.NoCapture ≡ status.Done)
+not_done e = grind arith
 
-    -- some records are told, and then a call failed or a count was full
-    fails_at : (a c : Input R) (o m n : Output W) (p q : Output V) (got front rest : List ℕ) (last : Totals) (end : Option cut.CutOff) → Reads remaining a c got → unread a ++ got ≡ front ++ rest
-        → (told : IsTold contents listing nothing_counted last end o m front) → GetsFront contents o n (told.text ++ (listed listing.request.now told.text last end).closing)
-        → GetsFront also p q (listed listing.request.now told.text last end).errors
-        → Q n.sink ⊎ Q' q.sink ⊎ (((CannotRead P c × (rest ≡ [])) ⊎ ¬ HasRoom last) × Gets contents o n told.text × Gets also p q []) → FailsListing a c o n p q
-    fails_at a c o m n p q got front rest last end reads whole told out err why = record {
-      got = got;
-      reads = reads;
-      front = front;
-      rest = rest;
-      whole = whole;
-      outcome = listed listing.request.now told.text last end;
-      is_outcome = record { text = told.text; totals = last; end = end; lists = told.lists; outcome_of = refl };
-      output = out;
-      errors = err;
-      cause = why;
+not_done_yet : ¬ (status.CutOff ≡ status.Done)
+not_done_yet e = grind arith
+
+-- why a run fails
+cause_then : (P Q N F D P' D' : Type 0) (e : Failure) → (P → P') → (D → D') → IsCause P N Q F D e → IsCause P' N Q F D' e
+cause_then P Q N F D P' D' failure.Read f g c = (f c.0, c.1, g c.2)
+cause_then P Q N F D P' D' failure.Write f g c = c
+cause_then P Q N F D P' D' failure.Count f g c = (c.0, g c.1)
+
+-- ---- a listing
+
+module _ {R W V : Type 0} (remaining : R → Option (List ℕ)) (contents : W → Option (List ℕ)) (also : V → Option (List ℕ)) (P : R → Type 0) (Q : W → Type 0) (Q' : V → Type 0) (request : Request) where
+  module _ (capture : Capture) (a c : Input R) (o m n : Output W) (p : Output V) where
+    -- some records are told, and a write failed
+    pub broken : (e : Failure) → Breaks remaining contents request P Q (first_place capture) e a c o m → Prints contents m n [] → Q n.sink → FailsListing remaining contents P Q request capture failure.Write a c o n p p
+    broken e b handed failed = record {
+      got = b.got;
+      reads = b.reads;
+      front = b.tells.front;
+      rest = b.tells.rest;
+      whole = b.tells.whole;
+      text = b.tells.printed ++ b.tells.left;
+      totals = b.tells.last;
+      end = b.tells.end;
+      lists = b.tells.lists;
+      printed = b.tells.printed;
+      unprinted = b.tells.left ++ (listed request (b.tells.printed ++ b.tells.left) b.tells.last b.tells.end).closing;
+      parts = append_assoc b.tells.printed b.tells.left (listed request (b.tells.printed ++ b.tells.left) b.tells.last b.tells.end).closing;
+      prints = prints_then contents o m n b.tells.printed b.tells.prints handed;
+      errors = refl;
+      cause = failed;
     }
 
-    -- a front is told, and then a call failed or a count was full
-    module _ (e : Failure) (a c : Input R) (o m n : Output W) (p : Output V) (fresh : pending o ≡ []) (b : Breaks remaining contents listing P Q nothing_counted e a c o m) (handed : Prints contents m n []) where
-      printed : Prints contents o n b.tells.told.text
-      printed = prints_then contents o m n b.tells.told.text b.tells.told.prints handed
+    cause_of : (e : Failure) (wants full : Type 0) (rest printed left : List ℕ) → Because (CannotRead P c) (Q m.sink) full e wants rest left → ¬ (e ≡ failure.Write) → Prints contents o n printed → pending n ≡ []
+        → IsCause (CannotRead P c × wants) (rest ≡ []) (Q n.sink) full (Prints contents o n (printed ++ left) × (pending n ≡ [])) e
+    cause_of failure.Read wants full rest printed left b other wrote all = ((b.3, b.0), b.1, (rw (b.2, append-nil printed) wrote, all))
+    cause_of failure.Write wants full rest printed left b other wrote all = absurd (other refl)
+    cause_of failure.Count wants full rest printed left b other wrote all = (b.0, (rw (b.1, append-nil printed) wrote, all))
 
-      pub broken : Q n.sink ⊎ Q' p.sink ⊎ (((CannotRead P c × (b.tells.rest ≡ [])) ⊎ ¬ HasRoom b.tells.last) × Gets contents o n b.tells.told.text × Gets also p p []) → FailsListing a c o n p p
-      broken why = fails_at a c o m n p p b.got b.tells.front b.tells.rest b.tells.last b.tells.end b.reads b.tells.whole b.tells.told (printed_front contents o n b.tells.told.text _ fresh printed) (gets_nothing also p _) why
-
-    pub read_broken : (a c : Input R) (o m n : Output W) (p : Output V) → pending o ≡ [] → Breaks remaining contents listing P Q nothing_counted failure.Read a c o m → Prints contents m n [] → pending n ≡ [] → FailsListing a c o n p p
-    read_broken a c o m n p fresh b handed all =
-        broken failure.Read a c o m n p fresh b handed (inr (inr (inl (b.tells.cause.1, b.tells.cause.0), printed_all contents o n b.tells.told.text fresh (printed failure.Read a c o m n p fresh b handed) all, Appends-nil (also p.sink))))
-
-    pub count_broken : (a c : Input R) (o m n : Output W) (p : Output V) → pending o ≡ [] → Breaks remaining contents listing P Q nothing_counted failure.Count a c o m → Prints contents m n [] → pending n ≡ [] → FailsListing a c o n p p
-    count_broken a c o m n p fresh b handed all =
-        broken failure.Count a c o m n p fresh b handed (inr (inr (inr b.tells.cause, printed_all contents o n b.tells.told.text fresh (printed failure.Count a c o m n p fresh b handed) all, Appends-nil (also p.sink))))
+    -- or a read failed or a count was full
+    pub broken_off : (e : Failure) → ¬ (e ≡ failure.Write) → Breaks remaining contents request P Q (first_place capture) e a c o m → Prints contents m n [] → pending n ≡ [] → FailsListing remaining contents P Q request capture e a c o n p p
+    broken_off e other b handed all =
+        let wrote = prints_then contents o m n b.tells.printed b.tells.prints handed in
+        record {
+          got = b.got;
+          reads = b.reads;
+          front = b.tells.front;
+          rest = b.tells.rest;
+          whole = b.tells.whole;
+          text = b.tells.printed ++ b.tells.left;
+          totals = b.tells.last;
+          end = b.tells.end;
+          lists = b.tells.lists;
+          printed = b.tells.printed;
+          unprinted = b.tells.left ++ (listed request (b.tells.printed ++ b.tells.left) b.tells.last b.tells.end).closing;
+          parts = append_assoc b.tells.printed b.tells.left (listed request (b.tells.printed ++ b.tells.left) b.tells.last b.tells.end).closing;
+          prints = wrote;
+          errors = refl;
+          cause = cause_of e (WantsMore request b.tells.last b.tells.end) (¬ HasRoom b.tells.last) b.tells.rest b.tells.printed b.tells.left b.tells.cause other wrote all;
+        }
 
     -- all is told
-    module _ (t : Totals) (end : Option cut.CutOff) (a c : Input R) (o m n : Output W) (fresh : pending o ≡ []) (b : Ends remaining contents listing nothing_counted t end a c o m) (handed : Prints contents m n []) where
-      told : Prints contents o n b.told.text
-      told = prints_then contents o m n b.told.text b.told.prints handed
-
+    module _ (totals : Totals) (end : Option cut.CutOff) (b : Ends remaining contents request (first_place capture) totals end a c o m) where
       -- and then a write failed
-      not_closed : (n' : Output W) (p q : Output V) → GetsFront contents o n' (b.told.text ++ (listed listing.request.now [] t end).closing) → GetsFront also p q (listed listing.request.now [] t end).errors
-          → Q n'.sink ⊎ Q' q.sink → FailsListing a c o n' p q
-      not_closed n' p q out err w = fails_at a c o m n' p q b.got (unread a ++ b.got) [] t end b.reads (sym (append-nil (unread a ++ b.got))) b.told out err (elim w [ inl w ↦ inl w | inr w ↦ inr (inl w) ])
+      pub not_closed : PrintsFront contents m n (listed request [] totals end).closing → Q n.sink → FailsListing remaining contents P Q request capture failure.Write a c o n p p
+      not_closed k failed = record {
+        got = b.got;
+        reads = b.reads;
+        front = unread a ++ b.got;
+        rest = [];
+        whole = sym (append-nil (unread a ++ b.got));
+        text = b.told.text;
+        totals = totals;
+        end = end;
+        lists = b.told.lists;
+        printed = b.told.text ++ k.front;
+        unprinted = k.rest;
+        parts = ap (λ s. b.told.text ++ s) k.whole ∙ sym (append_assoc b.told.text k.front k.rest);
+        prints = prints_both contents o m n b.told.text k.front b.told.prints k.prints;
+        errors = refl;
+        cause = failed;
+      }
 
-      pub not_handed : (p : Output V) → Q n.sink → FailsListing a c o n p p
-      not_handed p w = not_closed n p p (printed_front contents o n b.told.text _ fresh told) (gets_nothing also p _) (inl w)
+      writes : (q : Output V) (s : Status) (records : List ℕ) → IsTold contents request (first_place capture) totals end o m records → s ≡ status_at end → Prints contents m n (listed request [] totals end).closing → pending n ≡ []
+          → Reports also Q' p q (listed request [] totals end).errors → WritesListing contents also Q' request capture records s o n p q
+      writes q s records told ended closing all said = record {
+        text = told.text;
+        totals = totals;
+        end = end;
+        lists = told.lists;
+        ended = ended;
+        prints = prints_both contents o m n told.text _ told.prints closing;
+        all = all;
+        errors = said;
+      }
 
-      module _ (all : pending n ≡ []) (p q : Output V) where
-        wrote : Gets contents o n b.told.text
-        wrote = printed_all contents o n b.told.text fresh told all
-
-        pub errors_fail : GetsFront also p q (listed listing.request.now [] t end).errors → Q' q.sink → FailsListing a c o n p q
-        errors_fail err w = not_closed n p q (printed_front contents o n b.told.text _ fresh told) err (inr w)
-
-        pub closing_fails : (n' : Output W) → Gets also p q (listed listing.request.now [] t end).errors → GetsFront contents n n' (listed listing.request.now [] t end).closing → Q n'.sink → FailsListing a c o n' p q
-        closing_fails n' err out w = not_closed n' p q (gets_more contents o n n' b.told.text _ wrote out) (gets_whole also p q _ err) (inl w)
-
-        -- or all lines are written
-        pub closed : (n' : Output W) (status : Status) → status ≡ status_at end → Gets also p q (listed listing.request.now [] t end).errors → Gets contents n n' (listed listing.request.now [] t end).closing
-            → IfSome (unlisted remaining a) (λ records. Writes contents also (IsListing listing records) status o n' p q)
-        closed n' status ended err out =
-            Consumes-whole (unlisted remaining a) (remaining c.source) (unread a ++ b.got) _ (all_read (remaining a.source) (remaining c.source) (unread a) b.got b.reads.gave) b.at_end (record {
-              outcome = listed listing.request.now b.told.text t end;
-              is_outcome = record { text = b.told.text; totals = t; end = end; lists = b.told.lists; outcome_of = refl };
-              ended = ended;
-              output = gets_both contents o n n' b.told.text _ wrote out;
-              errors = err;
-            })
+      -- or all is written
+      pub closed : (q : Output V) (s : Status) → s ≡ status_at end → Prints contents m n (listed request [] totals end).closing → pending n ≡ [] → Reports also Q' p q (listed request [] totals end).errors
+          → IfSome (unlisted remaining a) (λ records. WritesListing contents also Q' request capture records s o n p q)
+      closed q s ended closing over said =
+          let read = all_read (remaining a.source) (remaining c.source) (unread a) b.got b.reads.gave in
+          elim b.all [
+            | inl at_end ↦ Consumes-whole (unlisted remaining a) (remaining c.source) (unread a ++ b.got) _ read at_end (writes q s (unread a ++ b.got) b.told ended closing over said)
+            | inr any ↦ and_any (unlisted remaining a) (remaining c.source) (unread a ++ b.got) _ read (λ rest. writes q s ((unread a ++ b.got) ++ rest) (any rest) ended closing over said)
+          ]
 
   -- ---- a run, whose file header is read from what `a` had, and is left to `b`
 
-  module _ (request : Request) (a b : Input R) (t : Takes remaining a b []) where
-    -- this is how a run fails
-    abbrev FailsRun : Input R → Output W → Output W → Output V → Output V → Type 0
-    FailsRun c o n p q = Fails remaining contents also P Q Q' (IsOutcome request) a c o n p q
-
+  module _ (a b : Input R) (t : Takes remaining a b []) where
     -- a read fails before there is a file header
-    pub header_broken : (o : Output W) (p : Output V) → length (unread b) < 24 → CannotRead P b → FailsRun b o o p p
-    header_broken o p few failed =
+    pub header_broken : (o : Output W) (p : Output V) → pending o ≡ [] → length (unread b) < 24 → CannotRead P b → Fails remaining contents P Q request failure.Read a b o o p p
+    header_broken o p fresh few failed =
         let e : cut.CutOff = record { required_len = 24; len = length (unread b) } in
         record {
           got = t.got;
@@ -195,72 +216,95 @@ module _ {R W V : Type 0} (remaining : R → Option (List ℕ)) (contents : W �
           whole = t.takes ∙ sym (append-nil (unread b));
           outcome = refused (capture_error_line (capture.CutOff e));
           is_outcome = is_no_capture request (unread b) (capture.CutOff e) (record { short = few; error = refl });
-          output = gets_nothing contents o [];
-          errors = gets_nothing also p _;
-          cause = inr (inr (inl (failed, refl), Appends-nil (contents o.sink), Appends-nil (also p.sink)));
+          output = record { front = []; rest = []; whole = refl; gets = Appends-nil (contents o.sink) };
+          errors = refl;
+          cause = ((failed, inr not_done), refl, Appends-nil (contents o.sink));
         }
 
     -- the run ends with this line
-    pub refuses : (o : Output W) (p q : Output V) (line : List ℕ) → IfSome (unlisted remaining b) (λ input. IsOutcome request input (refused line)) → Gets also p q line
-        → IfSome (unlisted remaining a) (λ input. Writes contents also (IsOutcome request input) (refused line).status o o p q)
-    refuses o p q line is wrote = from_records (remaining a.source) (remaining b.source) (unread a) (unread b) t.got [] _ _ t.reads.gave t.takes (λ input found. record {
+    pub refuses : (o : Output W) (p q : Output V) (line : List ℕ) → IfSome (unlisted remaining b) (λ input. IsOutcome request input (refused line)) → Reports also Q' p q line
+        → IfSome (unlisted remaining a) (λ input. Writes contents also Q' (IsOutcome request input) (refused line).status o o p q)
+    refuses o p q line is said = from_records (remaining a.source) (remaining b.source) (unread a) (unread b) t.got [] _ _ t.reads.gave t.takes (λ input found. record {
       outcome = refused line;
       is_outcome = found;
       ended = refl;
       output = Appends-nil (contents o.sink);
-      errors = wrote;
+      errors = said;
     }) is
 
-    pub refusal_fails : (o : Output W) (p q : Output V) (line : List ℕ) → IsOutcome request (unread b) (refused line) → GetsFront also p q line → Q' q.sink → FailsRun b o o p q
-    refusal_fails o p q line is wrote w = record {
-      got = t.got;
-      reads = t.reads;
-      front = unread b;
-      rest = [];
-      whole = t.takes ∙ sym (append-nil (unread b));
-      outcome = refused line;
-      is_outcome = is;
-      output = gets_nothing contents o [];
-      errors = wrote;
-      cause = inr (inl w);
-    }
-
     -- the records are listed after the file header
-    module _ (d c : Input R) (o n : Output W) (p q : Output V) (listing : Listing) (asked : listing.request.now ≡ request) (u : Takes remaining b d (take 24 (unread b)))
-        (begins : BeginsWithFileHeader (unread b) listing.header (drop 24 (unread b))) (known : link_type_of (number_of listing.header) ≡ Some listing.link_type) where
-      is_listed : (records : List ℕ) (outcome : Outcome) → IsListing listing records outcome → IsOutcome request (take 24 (unread b) ++ records) outcome
-      is_listed records outcome l =
-          let found : IsListed request (take 24 (unread b) ++ records) outcome = record {
-            listing = listing;
-            asked = asked;
+    module _ (capture : Capture) (begins : BeginsWithFileHeader (unread b) capture.header (drop 24 (unread b))) (known : link_type_of (number_of capture.header) ≡ Some capture.link_type) where
+      abbrev pub head : List ℕ
+      head = take 24 (unread b)
+
+      front_is : (is : Bool) (records : List ℕ) → kept_if is (take 24 (head ++ records)) ≡ kept_if is head
+      front_is true records = let len : length head ≡ 24 = length-take-le 24 (unread b) begins.enough in ap (λ k. take k (head ++ records)) (sym len) ∙ take-append_seam head records
+      front_is false records = refl
+
+      abbrev pub kept : List ℕ
+      kept = kept_if (copies request.mode) head
+
+      is_listed : (records text : List ℕ) (totals : Totals) (end : Option cut.CutOff) → Lists request (first_place capture) records text totals end → IsOutcome request (head ++ records) (listed request (kept ++ text) totals end)
+      is_listed records text totals end l =
+          let found : IsListed request (head ++ records) (listed request (kept ++ text) totals end) = record {
+            capture = capture;
             records = records;
-            begins = begins_with_file_header-front (unread b) records listing.header _ begins;
+            begins = begins_with_file_header-front (unread b) records capture.header _ begins;
             is_read = known;
-            lists = l;
+            lists = record { text = text; totals = totals; end = end; lists = l; outcome_of = ap (λ s. listed request (s ++ text) totals end) (sym (front_is (copies request.mode) records)) };
           } in
           inl found
 
-      takes : Takes remaining a d (take 24 (unread b))
-      takes = takes_both remaining a b d [] (take 24 (unread b)) t u
+      module _ (d : Input R) (o m : Output W) (p : Output V) (fresh : pending o ≡ []) where
+        -- the file header is not written
+        pub not_begun : Prints contents o m [] → Q m.sink → Fails remaining contents P Q request failure.Write a b o m p p
+        not_begun kept_out failed = record {
+          got = t.got;
+          reads = t.reads;
+          front = head ++ [];
+          rest = drop 24 (unread b);
+          whole = t.takes ∙ rw (append-nil head) (sym (take-append-drop 24 (unread b)));
+          outcome = listed request (kept ++ []) nothing_counted None;
+          is_outcome = is_listed [] [] nothing_counted None ends;
+          output = printed_front contents o m [] _ fresh kept_out;
+          errors = refl;
+          cause = failed;
+        }
 
-      -- what a call on the records returned, as what is returned of the input
-      pub lists_by : (r : Result Status Failure) → IfOk r (λ status. IfSome (unlisted remaining d) (λ records. Writes contents also (IsListing listing records) status o n p q))
-          → IfOk r (λ status. IfSome (unlisted remaining a) (λ input. Writes contents also (IsOutcome request input) status o n p q))
-      lists_by (Err e) w = tt
-      lists_by (Ok status) w = from_records (remaining a.source) (remaining d.source) (unread a) (unread d) takes.got (take 24 (unread b)) _ _ takes.reads.gave takes.takes
-          (λ records x. record { outcome = x.outcome; is_outcome = is_listed records x.outcome x.is_outcome; ended = x.ended; output = x.output; errors = x.errors }) w
+        module _ (u : Takes remaining b d head) (begun : Prints contents o m kept) (c : Input R) (n : Output W) (q : Output V) where
+          takes : Takes remaining a d head
+          takes = takes_both remaining a b d [] head t u
 
-      pub listing_fails_by : (r : Result Status Failure) → OnErr r (FailsListing listing d c o n p q) → OnErr r (FailsRun c o n p q)
-      listing_fails_by (Ok status) f = tt
-      listing_fails_by (Err e) f = record {
-        got = takes.got ++ f.got;
-        reads = reads_both remaining a d c takes.got f.got takes.reads f.reads;
-        front = take 24 (unread b) ++ f.front;
-        rest = f.rest;
-        whole = whole_after (unread a) (unread d) (take 24 (unread b)) takes.got f.got f.front f.rest takes.takes f.whole;
-        outcome = f.outcome;
-        is_outcome = is_listed f.front f.outcome f.is_outcome;
-        output = f.output;
-        errors = f.errors;
-        cause = f.cause;
-      }
+          pub lists_by : (r : Result Status Failure) → IfOk r (λ s. IfSome (unlisted remaining d) (λ records. WritesListing contents also Q' request capture records s m n p q))
+              → IfOk r (λ s. IfSome (unlisted remaining a) (λ input. Writes contents also Q' (IsOutcome request input) s o n p q))
+          lists_by (Err e) w = tt
+          lists_by (Ok s) w = from_records (remaining a.source) (remaining d.source) (unread a) (unread d) takes.got head _ _ takes.reads.gave takes.takes
+              (λ records x. record {
+                outcome = listed request (kept ++ x.text) x.totals x.end;
+                is_outcome = is_listed records x.text x.totals x.end x.lists;
+                ended = x.ended;
+                output = rw (append_assoc kept x.text _) (printed_all contents o n _ fresh (prints_both contents o m n kept _ begun x.prints) x.all);
+                errors = x.errors;
+              }) w
+
+          whole_after : (v s g h front rest : List ℕ) → unread a ++ g ≡ s ++ v → v ++ h ≡ front ++ rest → unread a ++ (g ++ h) ≡ (s ++ front) ++ rest
+          whole_after v s g h front rest e f = grind (arith, append_assoc)
+
+          open_at : (totals : Totals) (end : Option cut.CutOff) (text : List ℕ) → WantsMore request totals end → IsOpen request (listed request text totals end)
+          open_at totals None text wants = inl wants
+          open_at totals (Some e) text wants = inr not_done_yet
+
+          pub listing_fails_by : (r : Result Status Failure) → IfErr r (λ e. FailsListing remaining contents P Q request capture e d c m n p q) → IfErr r (λ e. Fails remaining contents P Q request e a c o n p q)
+          listing_fails_by (Ok s) f = tt
+          listing_fails_by (Err e) f = record {
+            got = takes.got ++ f.got;
+            reads = reads_both remaining a d c takes.got f.got takes.reads f.reads;
+            front = head ++ f.front;
+            rest = f.rest;
+            whole = whole_after (unread d) head takes.got f.got f.front f.rest takes.takes f.whole;
+            outcome = listed request (kept ++ f.text) f.totals f.end;
+            is_outcome = is_listed f.front f.text f.totals f.end f.lists;
+            output = rw (parts kept f.text (listed request f.text f.totals f.end).closing f.printed f.unprinted f.parts) (printed_front contents o n (kept ++ f.printed) f.unprinted fresh (prints_both contents o m n kept f.printed begun f.prints));
+            errors = f.errors;
+            cause = cause_then _ _ _ _ _ _ _ e (λ x. (x.0, open_at f.totals f.end (kept ++ f.text) x.1)) (λ x. printed_all contents o n (kept ++ f.text) fresh (prints_both contents o m n kept f.text begun x.0) x.1) f.cause;
+          }

@@ -1,9 +1,11 @@
+pub mod Arguments
 pub mod Lines
 pub mod Listing
 pub mod Output
 pub mod Private
 pub mod Reading
 pub mod Refusal
+pub mod Request
 pub mod Shown
 pub mod Status
 pub mod Streams

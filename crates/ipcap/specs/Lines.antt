@@ -1,5 +1,5 @@
 -- The line of a record, and the lines at the end.
-use Rattle.std.specs.Prelude.{ℕ, ◌-◌, ◌/◌, ◌==◌, Bool, List, [], ◌++◌, length, codes, decimal}
+use Rattle.std.specs.Prelude.{ℕ, ◌-◌, ◌/◌, ◌^◌, ◌==◌, Bool, List, [], ◌++◌, length, codes, decimal}
 use Rattle.std.specs.Prelude.{replicate, if◌then◌else◌, Option, Some, None, false, true}
 use Rattle.std.specs.Prelude.{unwrap_or}
 use Rattle.std.specs.Fmt.{digits}
@@ -26,6 +26,8 @@ use Rattle.ipcap.specs.declared.reading.NoPacket.TheVariants.{NoLinkHeader, Othe
 use Rattle.ipcap.specs.declared.reading.NoPacket.TheVariants.{OtherFamily, OtherType}
 use Rattle.ipcap.specs.declared.shown.Detail.{Detail}
 use Rattle.ipcap.specs.declared.shown.Detail.TheVariants.{Message, Nothing, Ports}
+use Rattle.ipcap.specs.declared.request.Mode.{Mode}
+use Rattle.ipcap.specs.declared.request.Mode.TheVariants.{Count, Quiet}
 use Rattle.ipcap.specs.declared.shown.Shown.{Shown}
 use Rattle.ipcap.specs.declared.reading.Reading.{Reading}
 use Rattle.ipcap.specs.declared.reading.Reading.TheVariants.{Other, Packet, Refused, Skipped}
@@ -151,7 +153,8 @@ carried_text carried.Unknown = codes "unknown link header"
 
 -- why a frame has no packet
 abbrev pub no_packet_text : NoPacket → List ℕ
-no_packet_text (NoLinkHeader len) = decimal len ++ codes " bytes are no link header"
+no_packet_text (NoLinkHeader len) =
+    codes "truncated link header (" ++ (decimal len ++ codes " bytes)")
 no_packet_text (OtherType ether_type) = codes "type 0x" ++ hex_text ether_type
 no_packet_text (OtherFamily family) = codes "family " ++ decimal family
 no_packet_text (OtherCarried carried) = carried_text carried
@@ -169,7 +172,7 @@ reading_text head (Packet shown) = shown_text shown ++ cut_text head
 reading_text head (Refused e) = codes "error: " ++ (ip_slice_error_text e ++ cut_text head)
 reading_text head (Other e) = codes "other: " ++ (no_packet_text e ++ cut_text head)
 reading_text head Skipped =
-    codes "skipped: " ++ (decimal head.captured_len ++ codes " bytes are too many")
+    codes "skipped: record too long (" ++ (decimal head.captured_len ++ codes " bytes)")
 
 -- the line of a record
 abbrev pub record_line : Resolution → ℕ → RecordHead → Reading → List ℕ
@@ -208,22 +211,113 @@ damage_text totals =
     decimal totals.skipped ++ (codes " skipped, " ++ (decimal totals.cut ++ (codes " cut, "
     ++ (decimal totals.wrong ++ codes " with a wrong checksum\n"))))
 
--- the closing line, if it is written
-abbrev pub closing_text : Bool → Option Totals → List ℕ
-closing_text has_filter None = []
-closing_text has_filter (Some totals) = kinds_text has_filter totals ++ damage_text totals
+-- the closing line
+abbrev pub closing_line : Bool → Totals → List ℕ
+closing_line has_filter totals = kinds_text has_filter totals ++ damage_text totals
+
+-- how many records are listed, in the words of tcpdump's option `--count`
+unfoldable pub packets_line : Totals → List ℕ
+packets_line totals = decimal totals.listed
+    ++ (if totals.listed == 1 then codes " packet\n" else codes " packets\n")
+
+-- what stands on standard output after the records: in a quiet run the closing line, or how many
+-- are listed if that is what is asked for
+abbrev pub closing_text : Mode → Bool → Totals → List ℕ
+closing_text Quiet has_filter totals = closing_line has_filter totals
+closing_text Count has_filter totals = packets_line totals
+closing_text mode has_filter totals = []
+
+-- what standard error gets at the end: the closing line, unless it has its place on standard output
+abbrev pub report_text : Mode → Bool → Totals → List ℕ
+report_text Quiet has_filter totals = []
+report_text Count has_filter totals = []
+report_text mode has_filter totals = closing_line has_filter totals
+
+-- another format that files begin with this magic number in, and the command that unpacks it: gzip
+-- (RFC 1952 section 2.3), zstd (RFC 8878 section 3.1.1), xz (its file format, section 2.1.1.1),
+-- bzip2; and pcapng (draft-ietf-opsawg-pcapng section 4.1)
+unfoldable pub packed_as : ℕ → Option (List ℕ)
+packed_as magic =
+    if magic / 2 ^ 16 == 0x1f8b then Some (codes "gzip: zcat FILE | ipcap")
+    else if magic == 0x28b52ffd then Some (codes "zstd: zstdcat FILE | ipcap")
+    else if magic == 0xfd377a58 then Some (codes "xz: xzcat FILE | ipcap")
+    else if magic / 2 ^ 8 == 0x425a68 then Some (codes "bzip2: bzcat FILE | ipcap")
+    else if magic == 0x0a0d0d0a then Some (codes "pcapng: editcap -F pcap FILE - | ipcap")
+    else None
+
+-- what a magic number says that is none of a capture: the other format, or the number in eight hex
+-- digits
+abbrev pub magic_text : Option (List ℕ) → ℕ → List ℕ
+magic_text (Some packed) magic = codes "this is " ++ packed
+magic_text None magic =
+    codes "the magic number is 0x" ++ zero_padded 8 (digits 16 false magic)
 
 -- why an input is no capture
 unfoldable pub capture_error_line : CaptureError → List ℕ
 capture_error_line (capture.CutOff e) =
     codes "error: no capture: " ++ (decimal e.len ++ codes " bytes are no file header\n")
 capture_error_line (capture.Magic magic) =
-    codes "error: no capture: the magic number is " ++ (decimal magic ++ codes "\n")
+    codes "error: no capture: " ++ (magic_text (packed_as magic) magic ++ codes "\n")
 capture_error_line (capture.Version major minor) =
     codes "error: no capture: the version is " ++ (decimal major ++ (codes "."
     ++ (decimal minor ++ codes "\n")))
 
--- the line on a capture with a link type that is not read
+-- the name of a link type that is not read, without its prefix (tcpdump.org's registry of
+-- link-layer header types)
+unfoldable pub link_type_name : ℕ → Option (List ℕ)
+link_type_name number =
+    if number == 3 then Some (codes "AX25")
+    else if number == 6 then Some (codes "IEEE802_5")
+    else if number == 7 then Some (codes "ARCNET_BSD")
+    else if number == 10 then Some (codes "FDDI")
+    else if number == 51 then Some (codes "PPP_ETHER")
+    else if number == 100 then Some (codes "ATM_RFC1483")
+    else if number == 117 then Some (codes "PFLOG")
+    else if number == 119 then Some (codes "IEEE802_11_PRISM")
+    else if number == 122 then Some (codes "IP_OVER_FC")
+    else if number == 123 then Some (codes "SUNATM")
+    else if number == 138 then Some (codes "APPLE_IP_OVER_IEEE1394")
+    else if number == 139 then Some (codes "MTP2_WITH_PHDR")
+    else if number == 140 then Some (codes "MTP2")
+    else if number == 141 then Some (codes "MTP3")
+    else if number == 142 then Some (codes "SCCP")
+    else if number == 143 then Some (codes "DOCSIS")
+    else if number == 147 then Some (codes "USER0")
+    else if number == 163 then Some (codes "IEEE802_11_AVS")
+    else if number == 165 then Some (codes "BACNET_MS_TP")
+    else if number == 166 then Some (codes "PPP_PPPD")
+    else if number == 177 then Some (codes "LINUX_LAPD")
+    else if number == 187 then Some (codes "BLUETOOTH_HCI_H4")
+    else if number == 189 then Some (codes "USB_LINUX")
+    else if number == 192 then Some (codes "PPI")
+    else if number == 195 then Some (codes "IEEE802_15_4_WITHFCS")
+    else if number == 197 then Some (codes "ERF")
+    else if number == 201 then Some (codes "BLUETOOTH_HCI_H4_WITH_PHDR")
+    else if number == 204 then Some (codes "PPP_WITH_DIR")
+    else if number == 215 then Some (codes "IEEE802_15_4_NONASK_PHY")
+    else if number == 220 then Some (codes "USB_LINUX_MMAPPED")
+    else if number == 227 then Some (codes "CAN_SOCKETCAN")
+    else if number == 230 then Some (codes "IEEE802_15_4_NOFCS")
+    else if number == 239 then Some (codes "NFLOG")
+    else if number == 243 then Some (codes "MPEG_2_TS")
+    else if number == 247 then Some (codes "INFINIBAND")
+    else if number == 249 then Some (codes "USBPCAP")
+    else if number == 251 then Some (codes "BLUETOOTH_LE_LL")
+    else if number == 252 then Some (codes "WIRESHARK_UPPER_PDU")
+    else if number == 253 then Some (codes "NETLINK")
+    else if number == 256 then Some (codes "BLUETOOTH_LE_LL_WITH_PHDR")
+    else if number == 272 then Some (codes "NORDIC_BLE")
+    else if number == 283 then Some (codes "IEEE802_15_4_TAP")
+    else None
+
+-- a name in parentheses after a number
+abbrev pub name_text : Option (List ℕ) → List ℕ
+name_text None = []
+name_text (Some name) = codes " (" ++ (name ++ codes ")")
+
+-- the line on a capture with a link type that is not read: its number, and its name if it has one
+-- here
 unfoldable pub link_type_line : ℕ → List ℕ
 link_type_line link_type =
-    codes "error: link type " ++ (decimal link_type ++ codes " is not read\n")
+    codes "error: link type " ++ (decimal link_type ++ (name_text (link_type_name link_type)
+    ++ codes " is not read\n"))

@@ -1,2 +1,3 @@
--- Invariants of the loop. The clauses of `run` cite none of them, so a reader may skip them.
+-- What private functions state. The clauses of `run` cite none of it, so a reader may skip it.
+pub mod Ended
 pub mod Progress

@@ -4,13 +4,6 @@ use Rattle.std.specs.Prelude.{replicate, unwrap_or}
 use Rattle.packet_filter.specs.Language.{filter_error_place, filter_error_text}
 use Rattle.packet_filter.specs.Text.{is_space}
 use Rattle.packet_filter.specs.declared.reading.FilterError.{FilterError}
-use Rattle.ipcap.specs.declared.arguments.ArgumentError.{ArgumentError}
-use Rattle.ipcap.specs.declared.arguments.ArgumentError.TheVariants.{TooLong, Unknown}
-
--- the line on other arguments than an expression
-abbrev pub argument_error_line : ArgumentError → List ℕ
-argument_error_line Unknown = codes "usage: ipcap [--quiet] [EXPRESSION] < CAPTURE\n"
-argument_error_line TooLong = codes "error: the expression has more than 4096 bytes\n"
 
 -- A byte of an expression as it is shown: printable ASCII as it is, and a blank for what parts
 -- words, so that the text is one line; a question mark for any other, which could drive a terminal.

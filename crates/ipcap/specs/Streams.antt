@@ -1,5 +1,6 @@
 -- What has been read, and what the lines are that a sink gets.
-use Rattle.std.specs.Prelude.{ℕ, ◌≡◌, ◌+◌, ◌-◌, ◌^◌, ◌⊎◌, List, ◌++◌, Option, drop, length, take}
+use Rattle.std.specs.Prelude.{ℕ, ◌≡◌, ◌+◌, ◌-◌, ◌^◌, ◌⊎◌, Bool, List, [], ◌++◌, Option, drop}
+use Rattle.std.specs.Prelude.{if◌then◌else◌, length, take}
 use Rattle.std.specs.Io.KnownBytes.{Appends, Consumes, prepend_known}
 use Rattle.ipcap.specs.declared.input.Input.{Input}
 use Rattle.ipcap.specs.declared.output.Output.{Output}
@@ -40,6 +41,14 @@ pub record Prints {W : Type 0} (contents : W → Option (List ℕ)) (old new : O
   pub gets : Appends (contents old.sink) (contents new.sink) passed
   pub prints : pending old ++ text ≡ passed ++ pending new
 
+-- a front of this text was printed
+pub record PrintsFront {W : Type 0} (contents : W → Option (List ℕ)) (old new : Output W)
+    (text : List ℕ) : Type 0 where
+  pub front : List ℕ
+  pub rest : List ℕ
+  pub whole : text ≡ front ++ rest
+  pub prints : Prints contents old new front
+
 -- the sink got this text
 abbrev pub Gets : {W : Type 0} → (W → Option (List ℕ)) → Output W → Output W → List ℕ → Type 0
 Gets contents old new text = Appends (contents old.sink) (contents new.sink) text
@@ -51,3 +60,13 @@ pub record GetsFront {W : Type 0} (contents : W → Option (List ℕ)) (old new 
   pub rest : List ℕ
   pub whole : text ≡ front ++ rest
   pub gets : Gets contents old new front
+
+-- the sink got this text, or else a write failed after a front of it
+abbrev pub Reports : {W : Type 0} → (W → Option (List ℕ)) → (W → Type 0) → Output W → Output W
+    → List ℕ → Type 0
+Reports contents has_failed old new text =
+    Gets contents old new text ⊎ (has_failed new.sink × GetsFront contents old new text)
+
+-- these bytes, if they are kept
+abbrev pub kept_if : Bool → List ℕ → List ℕ
+kept_if is bytes = if is then bytes else []

@@ -1,10 +1,13 @@
-//! The arguments of the process: `[--quiet] [EXPRESSION]`.
+//! The command line: options, the file that is read, and the words of an expression.
 
-ghost use Rattle.arrayvec.specs.ArrayVec.{array_vec_len};
-ghost use Rattle.std.specs.Prelude.{◌≡◌, ◌≤◌, ◌+◌, ◌++◌, ◌∷◌, ◌↔◌, IsTrue, length};
+ghost use Rattle.std.specs.Prelude.{◌≡◌, ◌≤◌, ◌↔◌, IfOk, IsFalse, IsOk, IsTrue, OnOk, length, true};
+ghost use Rattle.ipcap.specs.Arguments.{BeginsExpression, NamesFile, joined};
 
+use crate::request::{Mode, is_space};
 use arrayvec::ArrayVec;
-use std::env::{Env, FillError};
+use clap::{Arg, ArgAction, ArgMatches, Command, value_parser};
+use packet_filter::{Filter, FilterError};
+use std::alloc::{AllocError, Global};
 
 /// The most bytes in an expression.
 pub const TEXT_ROOM: usize = 4096;
@@ -12,60 +15,156 @@ pub const TEXT_ROOM: usize = 4096;
 /// The text of an expression.
 pub type Text = ArrayVec<u8, TEXT_ROOM>;
 
-/// What the arguments say.
+/// What the command line asks for.
 #[derive(Drop)]
-pub struct Arguments {
-    /// Whether the first one is `--quiet`.
-    pub is_quiet: bool,
-    /// The others, joined by blanks.
+pub struct Arguments<'a> {
+    /// What is written of the records that are listed.
+    pub mode: Mode,
+    /// After how many listed records the run ends.
+    pub limit: Option<u64>,
+    /// The file that is read; `None` for standard input.
+    pub input: Option<&'a str>,
+    /// The file that records are written to; `None` for standard output.
+    pub output: Option<&'a str>,
+    /// The words of the expression, joined by blanks.
     pub text: Text,
 }
 
-/// Why arguments are refused.
+/// The expression has more bytes than there is room for.
 #[derive(Clone, Copy)]
-pub enum ArgumentError {
-    /// Before the expression stands an option that is not known.
-    Unknown,
-    /// The expression has more bytes than there is room for.
-    TooLong,
+pub struct TooLong;
+
+// What follows the options in the text of `--help`.
+const AFTER_HELP: &str = "\
+FILE is read; `-` and none are standard input. It is the first word that is no option, unless an
+expression can begin with it (then `-r FILE` names the file). EXPRESSION chooses packets, in the
+words of pcap-filter(7): `tcp port 80 or udp port 53`.
+
+Link types: 0 (BSD loopback), 1 (Ethernet), 8 (SLIP), 9 and 50 (PPP), 12, 14, 101, 228 and 229
+(raw IP), 104 (Cisco HDLC), 105 and 127 (802.11), 107 (frame relay), 108 (OpenBSD loopback), 113
+and 276 (Linux cooked).
+
+A line has these words:
+  1 NUMBER  2 TIME  3 SOURCE  4 >  5 DESTINATION  6 PROTOCOL  7 PORTS or TYPE/CODE  8 length
+  9 BYTES  10 hops  11 HOPS  12 fragment  13 PLACE  14 checksums  15 HEADER  16 PAYLOAD
+or after NUMBER and TIME `error:`, `other:` or `skipped:` and a reason.
+
+Examples:
+  ipcap trace.pcap                           a line for each packet
+  ipcap -c 10 trace.pcap icmp or arp         the first ten packets that match
+  ipcap -w dns.pcap trace.pcap port 53       the packets that match, as a capture
+
+Exit status: 0 done, 1 the capture is cut off, 2 it cannot be read, 3 a read or a write failed.";
+
+/// The options and the words that there are.
+pub fn command<'a>(alloc: Global) -> Result<Command<'a>, AllocError> {
+    let read = Arg::new(alloc, "read").short('r').value_name("FILE");
+    let write = Arg::new(alloc, "write").short('w').value_name("FILE");
+    let limit = Arg::new(alloc, "limit").short('c').value_name("N");
+    let count = Arg::new(alloc, "count").long("count");
+    let quiet = Arg::new(alloc, "quiet").long("quiet");
+    let numbers = Arg::new(alloc, "numbers").short('n');
+    Command::new(alloc, "ipcap")
+        .version("0.1.0")
+        .about("Lists the packets of a capture.")
+        .after_help(AFTER_HELP)
+        .arg(read.help("Read FILE; `-` is standard input"))?
+        .arg(write.help("Write the packets to FILE; `-` is standard output"))?
+        .arg(
+            limit
+                .value_parser(value_parser!(u64).range(1..))
+                .help("Stop after N packets that are listed"),
+        )?
+        .arg(
+            count
+                .action(ArgAction::SetTrue)
+                .conflicts_with("write")?
+                .help("Print how many packets match, and nothing else"),
+        )?
+        .arg(
+            quiet
+                .action(ArgAction::SetTrue)
+                .conflicts_with("count")?
+                .conflicts_with("write")?
+                .help("Print the closing line alone, to standard output"),
+        )?
+        .arg(
+            numbers
+                .action(ArgAction::Count)
+                .help("Changes nothing: addresses and ports are always numbers"),
+        )?
+        .arg(Arg::new(alloc, "FILE"))?
+        .arg(
+            Arg::new(alloc, "EXPRESSION")
+                .action(ArgAction::Append)
+                .num_args(0..),
+        )
 }
 
-/// What the arguments of the process say.
-pub fn read_arguments(rt: &impl Env) -> Result<Arguments, ArgumentError> {
-    let mut room = [0; TEXT_ROOM];
-    let mut arguments = Arguments {
-        is_quiet: false,
-        text: Text::new(),
-    };
-    let mut has_begun = false;
-    'arguments: for i in 1..usize::MAX {
-        let word = match rt.arg(i, &mut room) {
-            Ok(len) => &room[..len],
-            Err(FillError::NotPresent) => break,
-            Err(FillError::TooLong) => return Err(ArgumentError::TooLong),
+impl<'a> Arguments<'a> {
+    /// What the matches of a command line say.
+    pub fn from_matches(matches: &ArgMatches<'a>) -> Result<Arguments<'a>, TooLong> {
+        let mut arguments = Arguments {
+            mode: mode_of(matches),
+            limit: matches.get_one::<u64>("limit"),
+            input: matches.get_str("read"),
+            output: matches.get_str("write"),
+            text: Text::new(),
         };
-        if i == 1 && matches!(word, b"--quiet") {
-            arguments.is_quiet = true;
-        } else if !has_begun && matches!(word, [b'-', ..]) {
-            return Err(ArgumentError::Unknown);
-        } else if has_begun && !join(&mut arguments.text, word) {
-            return Err(ArgumentError::TooLong);
-        } else if !has_begun {
-            let _fits = arguments.text.try_extend_from_slice(word);
-            has_begun = true;
+        let first = matches.get_str("FILE");
+        let file = first.filter(|word| arguments.input.is_none() && names_file(word.as_bytes()));
+        let mut has_begun = false;
+        if file.is_some() {
+            arguments.input = file;
+        } else if let Some(word) = first {
+            has_begun = join(&mut arguments.text, false, word.as_bytes())?;
         }
+        for word in matches.get_strs("EXPRESSION").unwrap_or(&[]) {
+            has_begun = join(&mut arguments.text, has_begun, word.as_bytes())?;
+        }
+        Ok(arguments)
     }
-    Ok(arguments)
 }
 
-// Adds a blank and a word to a text, if there is room for both; returns whether there is.
-fn join(text: &mut Text, word: &[u8]) -> bool
-    ensures fits { IsTrue result ↔ (array_vec_len text.old + 1 + length word.now ≤ TEXT_ROOM) }
-    ensures joins { IsTrue result → text.new.items ≡ text.old.items ++ 32 ∷ word.now }
-{
-    if text.remaining_capacity() <= word.len() {
-        return false;
+// What is written of the records that are listed.
+fn mode_of(matches: &ArgMatches) -> Mode {
+    if matches.contains_id("write") {
+        Mode::Packets
+    } else if matches.get_flag("count") {
+        Mode::Count
+    } else if matches.get_flag("quiet") {
+        Mode::Quiet
+    } else {
+        Mode::Lines
     }
-    text.push(b' ');
-    text.try_extend_from_slice(word).is_ok()
+}
+
+/// Whether no expression can begin with the first word of an argument, which then names a file.
+fn names_file(word: &[u8]) -> bool
+    ensures yes { IsTrue result → NamesFile word.now }
+    ensures no { IsFalse result → BeginsExpression word.now }
+{
+    match Filter::from_text(word) {
+        Err(FilterError::Unexpected { place, .. }) => {
+            place < word.len() && word[..place].iter().all(|byte| is_space(*byte))
+        }
+        _ => false,
+    }
+}
+
+// Adds a word to a text, after a blank unless it is the first; whether there is room for it.
+fn join(text: &mut Text, has_begun: bool, word: &[u8]) -> Result<bool, TooLong>
+    ensures joins { OnOk result (text.new.items ≡ joined has_begun text.old.items word.now) }
+    ensures fits { IsOk result ↔ (length (joined has_begun text.old.items word.now) ≤ TEXT_ROOM) }
+    ensures begins { IfOk result (λ begun. begun ≡ true) }
+{
+    let blanks = if has_begun { 1 } else { 0 };
+    if text.remaining_capacity() < blanks + word.len() {
+        return Err(TooLong);
+    }
+    if has_begun {
+        text.push(b' ');
+    }
+    let _fits = text.try_extend_from_slice(word);
+    Ok(true)
 }

@@ -1,16 +1,20 @@
 //! The line of a record, and the lines at the end.
 
-ghost use Rattle.std.specs.Prelude.{◌≡◌, ◌++◌, Some, MatchOption};
+ghost use Rattle.std.specs.Prelude.{◌≡◌, ◌++◌, Some, MatchOption, option_map};
 ghost use Rattle.std.specs.Fmt.{DisplaysOnOk};
 ghost use Rattle.ipcap.specs.Lines.{detail_text, parties_text, payload_text, place_text};
-ghost use Rattle.ipcap.specs.Lines.{capture_error_line, closing_text, count_text, cut_text};
-ghost use Rattle.ipcap.specs.Lines.{byte_text, carried_text, damage_text};
+ghost use Rattle.ipcap.specs.Lines.{byte_text, capture_error_line, carried_text, closing_line};
+ghost use Rattle.ipcap.specs.Lines.{closing_text, count_text};
+ghost use Rattle.ipcap.specs.Lines.{cut_text, link_type_name, magic_text, name_text, packed_as};
+ghost use Rattle.ipcap.specs.Lines.{packets_line, report_text};
+ghost use Rattle.ipcap.specs.Lines.{damage_text};
 ghost use Rattle.ipcap.specs.Lines.{end_text, fraction_text, head_text, header_verdict_text};
 ghost use Rattle.ipcap.specs.Lines.{hex_text, keyword_of, kinds_text, link_type_line};
 ghost use Rattle.ipcap.specs.Lines.{no_packet_text, reading_text, record_line, shown_text};
 ghost use Rattle.ipcap.specs.Lines.{upper_text};
 
 use crate::reading::{NoPacket, Reading, is_cut};
+use crate::request::Mode;
 use crate::shown::{Detail, Shown, has_no_length, hops_of, len_of};
 use crate::totals::Totals;
 use packet_capture::capture::{CaptureError, CutOff, RecordHead, Resolution};
@@ -156,7 +160,7 @@ fn write_reading<W: fmt::Write>(
             let reason = *reason;
             write!(f, "other: {reason}{cut}")
         }
-        Reading::Skipped => write!(f, "skipped: {captured_len} bytes are too many"),
+        Reading::Skipped => write!(f, "skipped: record too long ({captured_len} bytes)"),
     }
 }
 
@@ -167,7 +171,7 @@ impl fmt::Display for NoPacket {
         match self {
             NoPacket::NoLinkHeader(len) => {
                 let len = *len;
-                write!(f, "{len} bytes are no link header")
+                write!(f, "truncated link header ({len} bytes)")
             }
             NoPacket::OtherType(ether_type) => {
                 let ether_type = Hex(*ether_type);
@@ -356,24 +360,50 @@ impl fmt::Display for Cut {
     }
 }
 
-/// The lines at the end: the one on the last record, if that is cut off, and the closing line.
+/// The lines on standard error at the end: the one on the last record, if that is cut off, and the
+/// closing line, unless it has its place on standard output.
 #[derive(Clone, Copy)]
-pub struct EndLines {
+pub struct Report {
     /// How the last record is cut off.
     pub end: Option<CutOff>,
-    /// What the closing line says; `None` if it goes elsewhere.
-    pub totals: Option<Totals>,
-    /// Whether records were chosen by an expression.
-    pub has_filter: bool,
+    /// What is counted.
+    pub closing: Closing,
 }
 
-impl fmt::Display for EndLines {
-    ghost output = { λ lines. Some (end_text lines.end
-        ++ closing_text lines.has_filter lines.totals) };
+impl fmt::Display for Report {
+    ghost output = { λ report. Some (end_text report.end
+        ++ report_text report.closing.mode report.closing.has_filter report.closing.totals) };
 
     fn fmt<W: fmt::Write>(&self, f: &mut Formatter<W>) -> fmt::Result {
         write_end(f, self.end)?;
-        write_closing(f, self.has_filter, self.totals)
+        match self.closing.mode {
+            Mode::Lines | Mode::Packets => write_closing(f, &self.closing),
+            Mode::Quiet | Mode::Count => Ok(()),
+        }
+    }
+}
+
+/// What stands on standard output after the records.
+#[derive(Clone, Copy)]
+pub struct Closing {
+    /// What is written of the records.
+    pub mode: Mode,
+    /// Whether records were chosen by an expression.
+    pub has_filter: bool,
+    /// What is counted.
+    pub totals: Totals,
+}
+
+impl fmt::Display for Closing {
+    ghost output = { λ closing. Some (closing_text closing.mode closing.has_filter
+        closing.totals) };
+
+    fn fmt<W: fmt::Write>(&self, f: &mut Formatter<W>) -> fmt::Result {
+        match self.mode {
+            Mode::Quiet => write_closing(f, self),
+            Mode::Count => write_packets(f, self.totals),
+            Mode::Lines | Mode::Packets => Ok(()),
+        }
     }
 }
 
@@ -391,20 +421,26 @@ fn write_end<W: fmt::Write>(f: &mut Formatter<W>, end: Option<CutOff>) -> fmt::R
     )
 }
 
-// Writes the closing line, if there is one.
-fn write_closing<W: fmt::Write>(
-    f: &mut Formatter<W>,
-    has_filter: bool,
-    totals: Option<Totals>,
-) -> fmt::Result
+// Writes the closing line.
+fn write_closing<W: fmt::Write>(f: &mut Formatter<W>, closing: &Closing) -> fmt::Result
     ensures text { DisplaysOnOk W.write_str_gives f.old result
-        (Some (closing_text has_filter totals)) f.new }
+        (Some (closing_line closing.now.has_filter closing.now.totals)) f.new }
 {
-    let Some(totals) = totals else {
-        return Ok(());
-    };
-    write_kinds(f, has_filter, totals)?;
-    write_damage(f, totals)
+    write_kinds(f, closing.has_filter, closing.totals)?;
+    write_damage(f, closing.totals)
+}
+
+// Writes how many records are listed.
+#[tactic(auto, unfolding(crate::specs::Lines::packets_line))]
+fn write_packets<W: fmt::Write>(f: &mut Formatter<W>, totals: Totals) -> fmt::Result
+    ensures text { DisplaysOnOk W.write_str_gives f.old result (Some (packets_line totals)) f.new }
+{
+    let listed = totals.listed;
+    if listed == 1 {
+        write!(f, "{listed} packet\n")
+    } else {
+        write!(f, "{listed} packets\n")
+    }
 }
 
 // Writes how many records there are, and of which kinds.
@@ -465,12 +501,51 @@ impl fmt::Display for NoCaptureLine {
                 write!(f, "error: no capture: {len} bytes are no file header\n")
             }
             CaptureError::Magic(magic) => {
-                write!(f, "error: no capture: the magic number is {magic}\n")
+                let magic = Magic(magic);
+                write!(f, "error: no capture: {magic}\n")
             }
             CaptureError::Version { major, minor } => {
                 write!(f, "error: no capture: the version is {major}.{minor}\n")
             }
         }
+    }
+}
+
+// A magic number that is none of a capture.
+#[derive(Clone, Copy)]
+struct Magic(u32);
+
+impl fmt::Display for Magic {
+    ghost output = { λ magic. Some (magic_text (packed_as magic.0) magic.0) };
+
+    #[tactic(auto, using(crate::proofs::Written::padded_with_zeros))]
+    fn fmt<W: fmt::Write>(&self, f: &mut Formatter<W>) -> fmt::Result {
+        let magic = self.0;
+        match packed_as(magic) {
+            Some(packed) => write!(f, "this is {packed}"),
+            None => write!(f, "the magic number is 0x{magic:08x}"),
+        }
+    }
+}
+
+// Another format that files begin with this magic number in, and the command that unpacks it.
+#[tactic(auto, unfolding(crate::specs::Lines::packed_as))]
+fn packed_as(magic: u32) -> Option<&'static str>
+    ensures value { MatchOption result (packed_as magic ≡ None)
+        (λ packed. packed_as magic ≡ Some packed.now) }
+{
+    if magic / 65_536 == 0x1f8b {
+        Some("gzip: zcat FILE | ipcap")
+    } else if magic == 0x28b5_2ffd {
+        Some("zstd: zstdcat FILE | ipcap")
+    } else if magic == 0xfd37_7a58 {
+        Some("xz: xzcat FILE | ipcap")
+    } else if magic / 256 == 0x42_5a68 {
+        Some("bzip2: bzcat FILE | ipcap")
+    } else if magic == 0x0a0d_0d0a {
+        Some("pcapng: editcap -F pcap FILE - | ipcap")
+    } else {
+        None
     }
 }
 
@@ -483,7 +558,74 @@ impl fmt::Display for LinkTypeLine {
 
     #[tactic(auto, unfolding(crate::specs::Lines::link_type_line))]
     fn fmt<W: fmt::Write>(&self, f: &mut Formatter<W>) -> fmt::Result {
-        let link_type = self.0;
-        write!(f, "error: link type {link_type} is not read\n")
+        let (number, name) = (self.0, Name(link_type_name(self.0)));
+        write!(f, "error: link type {number}{name} is not read\n")
+    }
+}
+
+// A name in parentheses after a number.
+#[derive(Clone, Copy)]
+struct Name(Option<&'static str>);
+
+impl fmt::Display for Name {
+    ghost output = { λ name. Some (name_text (option_map (λ text. text.now) name.0)) };
+
+    fn fmt<W: fmt::Write>(&self, f: &mut Formatter<W>) -> fmt::Result {
+        match self.0 {
+            None => Ok(()),
+            Some(name) => write!(f, " ({name})"),
+        }
+    }
+}
+
+// The name of a link type that is not read.
+#[tactic(auto, unfolding(crate::specs::Lines::link_type_name))]
+fn link_type_name(number: u32) -> Option<&'static str>
+    ensures value { option_map (λ text. text.now) result ≡ link_type_name number }
+{
+    match number {
+        3 => Some("AX25"),
+        6 => Some("IEEE802_5"),
+        7 => Some("ARCNET_BSD"),
+        10 => Some("FDDI"),
+        51 => Some("PPP_ETHER"),
+        100 => Some("ATM_RFC1483"),
+        117 => Some("PFLOG"),
+        119 => Some("IEEE802_11_PRISM"),
+        122 => Some("IP_OVER_FC"),
+        123 => Some("SUNATM"),
+        138 => Some("APPLE_IP_OVER_IEEE1394"),
+        139 => Some("MTP2_WITH_PHDR"),
+        140 => Some("MTP2"),
+        141 => Some("MTP3"),
+        142 => Some("SCCP"),
+        143 => Some("DOCSIS"),
+        147 => Some("USER0"),
+        163 => Some("IEEE802_11_AVS"),
+        165 => Some("BACNET_MS_TP"),
+        166 => Some("PPP_PPPD"),
+        177 => Some("LINUX_LAPD"),
+        187 => Some("BLUETOOTH_HCI_H4"),
+        189 => Some("USB_LINUX"),
+        192 => Some("PPI"),
+        195 => Some("IEEE802_15_4_WITHFCS"),
+        197 => Some("ERF"),
+        201 => Some("BLUETOOTH_HCI_H4_WITH_PHDR"),
+        204 => Some("PPP_WITH_DIR"),
+        215 => Some("IEEE802_15_4_NONASK_PHY"),
+        220 => Some("USB_LINUX_MMAPPED"),
+        227 => Some("CAN_SOCKETCAN"),
+        230 => Some("IEEE802_15_4_NOFCS"),
+        239 => Some("NFLOG"),
+        243 => Some("MPEG_2_TS"),
+        247 => Some("INFINIBAND"),
+        249 => Some("USBPCAP"),
+        251 => Some("BLUETOOTH_LE_LL"),
+        252 => Some("WIRESHARK_UPPER_PDU"),
+        253 => Some("NETLINK"),
+        256 => Some("BLUETOOTH_LE_LL_WITH_PHDR"),
+        272 => Some("NORDIC_BLE"),
+        283 => Some("IEEE802_15_4_TAP"),
+        _ => None,
     }
 }

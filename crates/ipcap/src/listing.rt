@@ -1,26 +1,40 @@
-//! The lines of the records, in their order.
+//! What is written of the records, in their order.
 
-ghost use Rattle.std.specs.Prelude.{ℕ, ◌≡◌, ◌≤◌, ◌<◌, ◌+◌, ◌-◌, ◌⊎◌, ◌↔◌, [], IfErr, IfOk, IsTrue};
-ghost use Rattle.std.specs.Prelude.{OnErr, OnOk, Some, drop, length, take};
+ghost use Rattle.std.specs.Prelude.{◌≡◌, ◌≤◌, ◌<◌, ◌+◌, ◌-◌, ◌&&◌, [], IfErr, IfOk, IfSome};
+ghost use Rattle.std.specs.Prelude.{OnErr, OnOk, Some, drop, false, length, take};
 ghost use Rattle.std.specs.Io.KnownBytes.{IsAtEnd};
+ghost use Rattle.std.specs.Option.{is_none};
 ghost use Rattle.packet_capture.specs.Capture.{record_len};
-ghost use Rattle.ipcap.specs.Listing.{IsChosen, if_too_long, line_after};
-ghost use Rattle.ipcap.specs.Private.Progress.{Because, Breaks, Ends, Skips, Stops, Tells};
-ghost use Rattle.ipcap.specs.Private.Progress.{TellsFrame, TellsFront, Turns};
+ghost use Rattle.ipcap.specs.Listing.{IsChosen, if_too_long, passed, written};
+ghost use Rattle.ipcap.specs.Private.Progress.{Because, Breaks, Ends, Lacks, Skips, Stops, Tells};
+ghost use Rattle.ipcap.specs.Private.Progress.{TellsFrame, TellsFront, TellsLong, TellsRecord};
+ghost use Rattle.ipcap.specs.Private.Progress.{Turns};
+ghost use Rattle.ipcap.specs.Private.Progress.{keeps};
 ghost use Rattle.ipcap.specs.Reading.{max_captured_len};
+ghost use Rattle.ipcap.specs.Request.{copies, has_enough};
 ghost use Rattle.ipcap.specs.Streams.{CannotRead, Prints, unread};
-ghost use Rattle.ipcap.specs.Totals.{counted, nothing_counted};
+ghost use Rattle.ipcap.specs.Totals.{HasRoom};
 
 use crate::failure::Failure;
 use crate::input::{Input, ROOM};
 use crate::lines::RecordLine;
 use crate::output::Output;
+use crate::place::Place;
 use crate::reading::{Reading, is_cut, read_frame};
-use crate::request::Request;
+use crate::request::{Mode, Request};
 use crate::streams::{Sink, Source};
-use crate::totals::Totals;
-use packet::link::LinkType;
-use packet_capture::capture::{CutOff, FileHeader, RecordHead, next_record};
+use packet_capture::capture::{CutOff, RecordHead, next_record};
+
+/// Why no whole record is read at the front of the bytes that have been read.
+#[derive(Clone, Copy)]
+pub enum Stop {
+    /// As many are listed as were asked for.
+    Enough,
+    /// There are no bytes.
+    Empty,
+    /// The record there is incomplete.
+    CutOff(CutOff),
+}
 
 /// Whether there is more to list.
 #[derive(Clone, Copy)]
@@ -31,29 +45,26 @@ pub enum Turn {
     Ends(Option<CutOff>),
 }
 
-/// A capture that is listed.
-#[derive(Clone, Copy)]
-pub struct Listing<'a> {
-    /// Its header.
-    pub header: FileHeader,
-    /// The type of its frames.
-    pub link_type: LinkType,
-    /// What is asked for: which records are listed, and whether they have lines.
-    pub request: &'a Request,
-}
-
-// Skips `len` bytes, or all that the input has if these are fewer; returns how many.
-fn skip<R: Source>(input: &mut Input<R>, len: usize) -> Result<usize, Failure>
-    requires empty { unread input.old ≡ [] }
-    ensures skips { IfOk result (Skips R.remaining input.old input.new len) }
+// Takes `len` bytes, or all that the input has if these are fewer, and prints them if they are
+// kept; returns how many.
+fn skip<R: Source, W: Sink>(
+    input: &mut Input<R>,
+    len: usize,
+    keeps: bool,
+    output: &mut Output<W>,
+) -> Result<usize, Failure>
+    ensures skips { IfOk result (Skips R.remaining W.contents keeps len input.old input.new
+        output.old output.new) }
     ensures end { IfOk result (λ n. n < len → IsAtEnd (R.remaining input.new.source)) }
-    ensures lacks { OnErr result ((n : ℕ) × (n < len)
-        × Skips R.remaining input.old input.new len n) }
-    ensures failed { IfErr result (λ e. (e ≡ Failure.Read) × CannotRead R.has_failed input.new) }
+    ensures lacks { IfErr result (λ e. Lacks R.remaining W.contents
+        (CannotRead R.has_failed input.new) (W.has_failed output.new.sink) keeps len e
+        input.old input.new output.old output.new) }
 {
     let mut left = len;
     'turns: loop {
-        let passed = input.unread().len().min(left);
+        let bytes = input.unread();
+        let passed = bytes.len().min(left);
+        output.copy_if(keeps, &bytes[..passed])?;
         input.pass(passed);
         left -= passed;
         if left == 0 {
@@ -65,121 +76,145 @@ fn skip<R: Source>(input: &mut Input<R>, len: usize) -> Result<usize, Failure>
     }
 }
 
-impl Listing<'_> {
-    // Counts a record that is listed, and prints its line.
+impl Request {
+    // Counts a record that is listed, and writes its line or its bytes.
     #[inline(always)] // A quiet run then makes no value of a reading in memory.
     fn list_record<W: Sink>(
         &self,
-        before: Totals,
+        place: &mut Place,
         head: RecordHead,
+        bytes: &[u8],
         reading: Reading,
         output: &mut Output<W>,
-    ) -> Result<Totals, Failure>
-        ensures counts { IfOk result (λ after.
-            after ≡ counted head (Some reading.entry) before) }
-        ensures prints { OnOk result (Prints W.contents output.old output.new
-            (line_after self.now before head (Some reading.entry))) }
+    ) -> Result<(), Failure>
+        requires fits { length bytes.now ≤ ROOM }
+        ensures told { OnOk result (TellsRecord W.contents self.now place.old place.new head
+            bytes.now (Some reading.entry) output.old output.new) }
         ensures kept { OnErr result (Prints W.contents output.old output.new []) }
-        ensures failed { IfErr result (λ e. Because ⊥ (W.has_failed output.new.sink) e before []) }
+        ensures failed { IfErr result (λ e. Because ⊥ (W.has_failed output.new.sink)
+            (¬ HasRoom place.old.totals) e ⊥ [] []) }
     {
-        let Some(after) = before.count(&head, &reading) else {
+        let Some(after) = place.totals.count(&head, &reading) else {
             return Err(Failure::Count);
         };
-        if self.request.is_quiet {
-            return Ok(after);
+        place.totals = after;
+        match self.mode {
+            Mode::Lines => output.print(RecordLine {
+                resolution: place.capture.header.format.resolution,
+                number: after.records,
+                head,
+                reading,
+            }),
+            Mode::Packets => output.copy(bytes),
+            Mode::Quiet | Mode::Count => Ok(()),
         }
-        output.print(RecordLine {
-            resolution: self.header.format.resolution,
-            number: after.records,
-            head,
-            reading,
-        })?;
-        Ok(after)
     }
 
     // Whether a record is listed.
-    fn is_chosen(&self, head: &RecordHead, frame: &[u8]) -> bool
-        ensures value { IsChosen self.now head.now frame.now result }
+    fn is_chosen(&self, place: &Place, head: &RecordHead, frame: &[u8]) -> bool
+        ensures value { IsChosen self.now place.now.capture head.now frame.now result }
     {
-        match &self.request.filter {
+        match &self.filter {
             None => true,
             Some(filter) => {
-                filter.matches_frame(self.link_type, frame, head.original_len as usize)
+                let len = head.original_len as usize;
+                filter.matches_frame(place.capture.link_type, frame, len)
             }
         }
     }
 
-    // Counts a record, and prints its line if it is listed. The expression is asked first, since
-    // most of what a line says takes longer.
+    // Counts a record, and writes its line or its bytes if it is listed. The expression is asked
+    // first, since most of what a line says takes longer.
     #[inline(always)]
     fn list_frame<W: Sink>(
         &self,
-        before: Totals,
+        place: &mut Place,
         head: RecordHead,
+        bytes: &[u8],
         frame: &[u8],
         output: &mut Output<W>,
-    ) -> Result<Totals, Failure>
-        ensures told { IfOk result (λ after. TellsFrame W.contents self.now before after head
-            frame.now output.old output.new) }
+    ) -> Result<(), Failure>
+        requires fits { length bytes.now ≤ ROOM }
+        ensures told { OnOk result (TellsFrame W.contents self.now place.old place.new head
+            bytes.now frame.now output.old output.new) }
         ensures kept { OnErr result (Prints W.contents output.old output.new []) }
-        ensures failed { IfErr result (λ e. Because ⊥ (W.has_failed output.new.sink) e before []) }
+        ensures failed { IfErr result (λ e. Because ⊥ (W.has_failed output.new.sink)
+            (¬ HasRoom place.old.totals) e ⊥ [] []) }
     {
-        if self.is_chosen(&head, frame) {
-            let reading = read_frame(self.link_type, is_cut(&head), frame);
-            self.list_record(before, head, reading, output)
-        } else {
-            before.pass(&head).ok_or(Failure::Count)
+        if self.is_chosen(place, &head, frame) {
+            let reading = read_frame(place.capture.link_type, is_cut(&head), frame);
+            return self.list_record(place, head, bytes, reading, output);
         }
+        let Some(after) = place.totals.pass(&head) else {
+            return Err(Failure::Count);
+        };
+        place.totals = after;
+        Ok(())
+    }
+
+    // Whether the bytes are kept of a record that is too long.
+    fn keeps(&self) -> bool
+        ensures value { result ≡ keeps self.now }
+    {
+        self.copies() && self.filter.is_none()
     }
 
     // Counts a record that is too long, and prints its line if it is listed.
     fn list_too_long<W: Sink>(
         &self,
-        before: Totals,
+        place: &mut Place,
         head: RecordHead,
         output: &mut Output<W>,
-    ) -> Result<Totals, Failure>
-        ensures counts { IfOk result (λ after.
-            after ≡ counted head (if_too_long self.now) before) }
-        ensures prints { OnOk result (Prints W.contents output.old output.new
-            (line_after self.now before head (if_too_long self.now))) }
+    ) -> Result<(), Failure>
+        ensures told { OnOk result (TellsLong W.contents self.now place.old place.new head
+            output.old output.new) }
         ensures kept { OnErr result (Prints W.contents output.old output.new []) }
-        ensures failed { IfErr result (λ e. Because ⊥ (W.has_failed output.new.sink) e before []) }
+        ensures failed { IfErr result (λ e. Because ⊥ (W.has_failed output.new.sink)
+            (¬ HasRoom place.old.totals) e ⊥ [] []) }
     {
-        match &self.request.filter {
-            None => self.list_record(before, head, Reading::Skipped, output),
-            Some(_) => before.pass(&head).ok_or(Failure::Count),
+        match &self.filter {
+            None => self.list_record(place, head, &[], Reading::Skipped, output),
+            Some(_) => {
+                let Some(after) = place.totals.pass(&head) else {
+                    return Err(Failure::Count);
+                };
+                place.totals = after;
+                Ok(())
+            }
         }
     }
 
-    // Lists the whole records at the front of the data. Returns the rest, the totals after them,
-    // and how the next record is cut off.
+    // Lists the whole records at the front of the data. Returns the rest, and why no whole record
+    // follows.
     fn list_front<'a, W: Sink>(
         &self,
-        before: Totals,
+        place: &mut Place,
         bytes: &'a [u8],
         output: &mut Output<W>,
-    ) -> Result<(&'a [u8], Totals, Option<CutOff>), Failure>
+    ) -> Result<(&'a [u8], Stop), Failure>
         requires room { length bytes.now ≤ ROOM }
-        ensures told { IfOk result (λ x. Tells W.contents self.now before x.1
+        ensures told { IfOk result (λ x. Tells W.contents self.now place.old place.new
             (take (length bytes.now - length x.0.now) bytes.now) output.old output.new) }
         ensures rest { IfOk result (λ x.
             x.0.now ≡ drop (length bytes.now - length x.0.now) bytes.now) }
-        ensures stops { IfOk result (λ x. Stops self.now.header x.0.now x.2) }
-        ensures failed { IfErr result (λ e. TellsFront W.contents self.now before
-            (Because ⊥ (W.has_failed output.new.sink) e) bytes.now output.old output.new) }
+        ensures stops { IfOk result (λ x. Stops self.now place.new x.0.now x.1) }
+        ensures failed { IfErr result (λ e. TellsFront W.contents self.now ⊥
+            (W.has_failed output.new.sink) place.old e bytes.now output.old output.new) }
     {
         let mut rest = bytes;
-        let mut totals = before;
         'records: loop {
-            match next_record(&self.header, rest) {
+            if self.has_enough(place.totals.listed) {
+                return Ok((rest, Stop::Enough));
+            }
+            match next_record(&place.capture.header, rest) {
                 Ok(Some((record, after))) => {
-                    let head = self.header.record_head(rest);
-                    totals = self.list_frame(totals, head, record.bytes, output)?;
+                    let head = place.capture.header.record_head(rest);
+                    let whole = &rest[..rest.len() - after.len()];
+                    self.list_frame(place, head, whole, record.bytes, output)?;
                     rest = after;
                 }
-                Ok(None) => return Ok((rest, totals, None)),
-                Err(e) => return Ok((rest, totals, Some(e))),
+                Ok(None) => return Ok((rest, Stop::Empty)),
+                Err(e) => return Ok((rest, Stop::CutOff(e))),
             }
         }
     }
@@ -187,31 +222,28 @@ impl Listing<'_> {
     // Lists the record at the front of what has been read, which is too long, and skips it.
     fn list_past<R: Source, W: Sink>(
         &self,
-        before: Totals,
-        cut_off: CutOff,
+        place: &mut Place,
+        required_len: usize,
         input: &mut Input<R>,
         output: &mut Output<W>,
-    ) -> Result<(Totals, Turn), Failure>
+    ) -> Result<Turn, Failure>
+        requires going { has_enough self.now place.old.totals.listed ≡ false }
         requires enough { 16 ≤ length (unread input.old) }
-        requires required { cut_off.required_len ≡ record_len self.now.header (unread input.old) }
-        requires there { cut_off.len ≡ length (unread input.old) }
-        requires short { cut_off.len < cut_off.required_len }
-        requires long { 16 + max_captured_len < cut_off.required_len }
-        ensures turns { IfOk result (λ x. Turns R.remaining W.contents self.now before
-            x.0 x.1 input.old input.new output.old output.new) }
+        requires required { required_len ≡ record_len place.old.capture.header (unread input.old) }
+        requires short { length (unread input.old) < required_len }
+        requires long { 16 + max_captured_len < required_len }
+        ensures turns { IfOk result (λ turn. Turns R.remaining W.contents self.now place.old
+            place.new turn input.old input.new output.old output.new) }
         ensures failed { IfErr result (λ e. Breaks R.remaining W.contents self.now
-            R.has_failed W.has_failed before e input.old input.new output.old output.new) }
+            R.has_failed W.has_failed place.old e input.old input.new output.old output.new) }
     {
-        let head = self.header.record_head(input.unread());
-        let after = self.list_too_long(before, head, output)?;
-        let CutOff { required_len, len } = cut_off;
-        input.pass(len);
-        let skipped = skip(input, required_len - len)?;
-        let len = len + skipped;
+        let head = place.capture.header.record_head(input.unread());
+        self.list_too_long(place, head, output)?;
+        let len = skip(input, required_len, self.keeps(), output)?;
         if len == required_len {
-            Ok((after, Turn::GoesOn))
+            Ok(Turn::GoesOn)
         } else {
-            Ok((after, Turn::Ends(Some(CutOff { required_len, len }))))
+            Ok(Turn::Ends(Some(CutOff { required_len, len })))
         }
     }
 
@@ -219,50 +251,52 @@ impl Listing<'_> {
     // or reads more.
     fn go_on<R: Source, W: Sink>(
         &self,
-        before: Totals,
-        stop: Option<CutOff>,
+        place: &mut Place,
+        stop: Stop,
         input: &mut Input<R>,
         output: &mut Output<W>,
-    ) -> Result<(Totals, Turn), Failure>
-        requires stops { Stops self.now.header (unread input.old) stop }
-        ensures turns { IfOk result (λ x. Turns R.remaining W.contents self.now before
-            x.0 x.1 input.old input.new output.old output.new) }
+    ) -> Result<Turn, Failure>
+        requires stops { Stops self.now place.old (unread input.old) stop }
+        ensures turns { IfOk result (λ turn. Turns R.remaining W.contents self.now place.old
+            place.new turn input.old input.new output.old output.new) }
         ensures failed { IfErr result (λ e. Breaks R.remaining W.contents self.now
-            R.has_failed W.has_failed before e input.old input.new output.old output.new) }
+            R.has_failed W.has_failed place.old e input.old input.new output.old output.new) }
     {
-        match stop {
-            Some(e) if e.required_len > ROOM => self.list_past(before, e, input, output),
-            _ => {
-                if input.fill()? {
-                    Ok((before, Turn::GoesOn))
-                } else {
-                    Ok((before, Turn::Ends(stop)))
-                }
+        let end = match stop {
+            Stop::Enough => return Ok(Turn::Ends(None)),
+            Stop::CutOff(e) if e.required_len > ROOM => {
+                return self.list_past(place, e.required_len, input, output);
             }
+            Stop::CutOff(e) => Some(e),
+            Stop::Empty => None,
+        };
+        if input.fill()? {
+            Ok(Turn::GoesOn)
+        } else {
+            Ok(Turn::Ends(end))
         }
     }
 
-    /// Lists all records and counts them. Returns the totals, and how the last record is cut off.
+    /// Lists the records, all or as many as were asked for, and counts them. Returns how the last
+    /// one is cut off.
     pub fn list<R: Source, W: Sink>(
         &self,
+        place: &mut Place,
         input: &mut Input<R>,
         output: &mut Output<W>,
-    ) -> Result<(Totals, Option<CutOff>), Failure>
-        ensures ends { IfOk result (λ x. Ends R.remaining W.contents self.now nothing_counted
-            x.0 x.1 input.old input.new output.old output.new) }
+    ) -> Result<Option<CutOff>, Failure>
+        ensures ends { IfOk result (λ end. Ends R.remaining W.contents self.now place.old
+            place.new.totals end input.old input.new output.old output.new) }
         ensures failed { IfErr result (λ e. Breaks R.remaining W.contents self.now
-            R.has_failed W.has_failed nothing_counted e input.old input.new output.old output.new) }
+            R.has_failed W.has_failed place.old e input.old input.new output.old output.new) }
     {
-        let mut totals = Totals::none();
         'turns: loop {
             let bytes = input.unread();
-            let (rest, told, stop) = self.list_front(totals, bytes, output)?;
+            let (rest, stop) = self.list_front(place, bytes, output)?;
             let passed = bytes.len() - rest.len();
             input.pass(passed);
-            let (after, turn) = self.go_on(told, stop, input, output)?;
-            totals = after;
-            if let Turn::Ends(end) = turn {
-                return Ok((totals, end));
+            if let Turn::Ends(end) = self.go_on(place, stop, input, output)? {
+                return Ok(end);
             }
         }
     }

@@ -1,12 +1,14 @@
-//! Reads a capture from standard input, and prints a line for each packet.
+//! Reads a capture, and prints a line for each packet, or writes the packets that are chosen.
 #![tactic(auto)]
 
 mod arguments;
 mod failure;
+mod files;
 mod input;
 mod lines;
 mod listing;
 mod output;
+mod place;
 mod reading;
 mod refusal;
 mod request;
@@ -16,44 +18,116 @@ mod status;
 mod streams;
 mod totals;
 
-use arguments::read_arguments;
+use arguments::{Arguments, command};
+use failure::Failure;
+use files::{Reader, Writer};
 use input::Input;
 use output::Output;
 use refusal::RefusalLines;
 use request::{Request, read_filter};
 use run::run;
-use status::Status;
-use std::io;
 use std::process::ExitCode;
+use std::{env, io};
 use streams::Watched;
 
+// The exit status if the user asked for what there is not.
+const REFUSED: u8 = 2;
+
+// The exit status if a read or a write failed.
+const FAILED: u8 = 3;
+
 fn main(rt: HostRuntime) -> ExitCode {
-    let arguments = match read_arguments(&rt) {
-        Ok(arguments) => arguments,
+    let code = match start(&rt) {
+        Ok(code) => code,
         Err(e) => {
-            let _ = eprint!(rt; "{e}");
-            return ExitCode::from(2);
+            let _ = eprintln!(&rt; "error: {e}");
+            FAILED
         }
     };
+    ExitCode::from(code)
+}
+
+// Reads the command line, and does what it says. Returns the exit status.
+fn start(rt: &HostRuntime) -> io::Result<u8> {
+    let words: Vec<String> = env::args(rt)?.collect(rt.alloc())?;
+    let matches = match command(rt.alloc())?.try_get_matches_from(words.as_slice()) {
+        Ok(matches) => matches,
+        Err(e) => {
+            e.print(rt)?;
+            return Ok(e.exit_code() as u8);
+        }
+    };
+    match Arguments::from_matches(&matches) {
+        Ok(arguments) => Ok(answer(rt, arguments)),
+        Err(_) => {
+            let _ = eprintln!(rt; "error: the expression has more than 4096 bytes");
+            Ok(REFUSED)
+        }
+    }
+}
+
+// Reads the expression, opens the files, and runs. Returns the exit status.
+fn answer(rt: &HostRuntime, arguments: Arguments) -> u8 {
     let text = arguments.text.as_slice();
     let filter = match read_filter(text) {
         Ok(filter) => filter,
         Err(error) => {
             let lines = RefusalLines { text, error };
             let _ = eprint!(rt; "{lines}");
-            return ExitCode::from(2);
+            return REFUSED;
         }
     };
     let request = Request {
-        is_quiet: arguments.is_quiet,
+        mode: arguments.mode,
+        limit: arguments.limit,
         filter,
     };
-    let mut input = Input::new(Watched::new(rt.reader()));
-    let mut output = Output::new(Watched::new(io::writer(&rt)));
+    let reader = match Reader::open(rt, arguments.input) {
+        Ok(reader) => reader,
+        Err(e) => return refuse(rt, arguments.input, e),
+    };
+    let writer = match Writer::create(rt, arguments.output) {
+        Ok(writer) => writer,
+        Err(e) => return refuse(rt, arguments.output, e),
+    };
+    list(rt, &request, reader, writer)
+}
+
+// Says why a file is not opened. Returns the exit status.
+fn refuse(rt: &HostRuntime, name: Option<&str>, e: io::Error) -> u8 {
+    let name = name.unwrap_or("-");
+    let _ = eprintln!(rt; "error: {name}: {e}");
+    REFUSED
+}
+
+// Lists a capture. Returns the exit status.
+fn list(rt: &HostRuntime, request: &Request, reader: Reader, writer: Writer) -> u8 {
+    let mut input = Input::new(Watched::new(reader));
+    let mut output = Output::new(Watched::new(writer));
     let mut errors = Output::new(Watched::new(rt.stderr()));
-    let status = run(&request, &mut input, &mut output, &mut errors);
-    if status == Status::Failed {
-        let _ = eprintln!(rt; "error: a read or a write failed");
+    match run(request, &mut input, &mut output, &mut errors) {
+        Ok(status) => status.code(),
+        Err(failure) => {
+            say(rt, failure, &input, &output);
+            FAILED
+        }
     }
-    ExitCode::from(status.code())
+}
+
+// Says what failed, and why.
+fn say(
+    rt: &HostRuntime,
+    failure: Failure,
+    input: &Input<Watched<Reader>>,
+    output: &Output<Watched<Writer>>,
+) {
+    let (what, reason) = match failure {
+        Failure::Read => ("a read failed", input.source.failure()),
+        Failure::Write => ("a write failed", output.sink.failure()),
+        Failure::Count => ("there are more than 2^64 - 1 packets", None),
+    };
+    let _ = match reason {
+        Some(e) => eprintln!(rt; "error: {what}: {e}"),
+        None => eprintln!(rt; "error: {what}"),
+    };
 }

@@ -1,17 +1,20 @@
-//! The lines that a sink gets.
+//! The lines or the records that a sink gets.
 
 ghost use Rattle.arrayvec.specs.ArrayVec.{array_vec_len};
-ghost use Rattle.std.specs.Prelude.{◌≡◌, ◌≤◌, [], ◌+◌, IfErr, IfSome, OnErr, OnOk, length};
+ghost use Rattle.std.specs.Prelude.{◌≡◌, ◌≤◌, ◌+◌, [], IfErr, IfSome, OnErr, OnOk, length};
 
 use crate::failure::Failure;
+use crate::input::ROOM;
 use crate::streams::{Line, Sink};
 use arrayvec::ArrayVec;
 use std::fmt::Display;
 
-// The room for text that the sink has not yet got.
-const TEXT_ROOM: usize = 65_536;
+// The room for bytes that the sink has not yet got: a record and more.
+const TEXT_ROOM: usize = 327_680;
 
-/// A sink, and the lines that it gets. It has not yet got the last ones.
+const _: () = prove!(ROOM <= TEXT_ROOM);
+
+/// A sink, and the bytes that it gets. It has not yet got the last ones.
 #[derive(Drop)]
 pub struct Output<W> {
     pub sink: W,
@@ -22,7 +25,7 @@ pub struct Output<W> {
 }
 
 impl<W: Sink> Output<W> {
-    ghost use Rattle.ipcap.specs.Streams.{Gets, GetsFront, Prints, pending};
+    ghost use Rattle.ipcap.specs.Streams.{Prints, PrintsFront, Reports, kept_if, pending};
 
     /// No line.
     pub fn new(sink: W) -> Output<W>
@@ -48,27 +51,51 @@ impl<W: Sink> Output<W> {
         if self.sink.format(line, &mut self.line).is_err() {
             return Err(Failure::Write);
         }
-        self.make_room()?;
+        let len = self.line.len();
+        self.make_room(len)?;
         let _fits = self.text.try_extend_from_slice(self.line.as_slice());
         Ok(())
     }
 
-    // Passes lines to the sink if there is no room for the line.
-    fn make_room(&mut self) -> Result<(), Failure>
+    /// Adds bytes, such as a record, and passes bytes to the sink if there is no room for them.
+    pub fn copy(&mut self, bytes: &[u8]) -> Result<(), Failure>
+        requires fits { length bytes.now ≤ ROOM }
+        ensures prints { OnOk result (Prints W.contents self.old self.new bytes.now) }
+        ensures kept { OnErr result (Prints W.contents self.old self.new []) }
+        ensures failed { IfErr result (λ e. (e ≡ Failure.Write) × W.has_failed self.new.sink) }
+    {
+        self.make_room(bytes.len())?;
+        let _fits = self.text.try_extend_from_slice(bytes);
+        Ok(())
+    }
+
+    /// The same, if the bytes are kept.
+    pub fn copy_if(&mut self, is_kept: bool, bytes: &[u8]) -> Result<(), Failure>
+        requires fits { length bytes.now ≤ ROOM }
+        ensures prints { OnOk result
+            (Prints W.contents self.old self.new (kept_if is_kept bytes.now)) }
+        ensures kept { OnErr result (Prints W.contents self.old self.new []) }
+        ensures failed { IfErr result (λ e. (e ≡ Failure.Write) × W.has_failed self.new.sink) }
+    {
+        if is_kept { self.copy(bytes) } else { Ok(()) }
+    }
+
+    // Passes all bytes to the sink if there is no room for so many more.
+    fn make_room(&mut self, len: usize) -> Result<(), Failure>
+        requires fits { len ≤ TEXT_ROOM }
         ensures kept { Prints W.contents self.old self.new [] }
-        ensures room { OnOk result
-            (array_vec_len self.new.text + array_vec_len self.new.line ≤ TEXT_ROOM) }
+        ensures room { OnOk result (array_vec_len self.new.text + len ≤ TEXT_ROOM) }
         ensures line { self.new.line ≡ self.old.line }
         ensures failed { IfErr result (λ e. (e ≡ Failure.Write) × W.has_failed self.new.sink) }
     {
-        if self.text.remaining_capacity() < self.line.len() {
+        if self.text.remaining_capacity() < len {
             self.hand_over()
         } else {
             Ok(())
         }
     }
 
-    /// Passes all lines to the sink. After an error it has got a front of them.
+    /// Passes all bytes to the sink. After an error it has got a front of them.
     pub fn hand_over(&mut self) -> Result<(), Failure>
         ensures kept { Prints W.contents self.old self.new [] }
         ensures all { OnOk result (pending self.new ≡ []) }
@@ -87,15 +114,26 @@ impl<W: Sink> Output<W> {
         Ok(())
     }
 
-    /// Adds the last lines, and passes them to the sink. After an error it has got a front of them.
-    pub fn finish<D: Display + Drop>(&mut self, lines: D) -> Result<(), Failure>
-        requires fresh { pending self.old ≡ [] }
-        ensures gets { OnOk result (IfSome (D.output lines) (Gets W.contents self.old self.new)) }
+    /// Adds the last lines, and passes all bytes to the sink. After an error it has got a front of
+    /// them.
+    pub fn close<D: Display + Drop>(&mut self, lines: D) -> Result<(), Failure>
+        ensures prints { OnOk result (IfSome (D.output lines)
+            (Prints W.contents self.old self.new)) }
+        ensures all { OnOk result (pending self.new ≡ []) }
         ensures front { OnErr result (IfSome (D.output lines)
-            (GetsFront W.contents self.old self.new)) }
-        ensures failed { OnErr result (W.has_failed self.new.sink) }
+            (PrintsFront W.contents self.old self.new)) }
+        ensures failed { IfErr result (λ e. (e ≡ Failure.Write) × W.has_failed self.new.sink) }
     {
         self.print(lines)?;
         self.hand_over()
+    }
+
+    /// Adds the last lines, and passes them to the sink, if it takes them.
+    pub fn report<D: Display + Drop>(&mut self, lines: D)
+        requires fresh { pending self.old ≡ [] }
+        ensures reports { IfSome (D.output lines)
+            (Reports W.contents W.has_failed self.old self.new) }
+    {
+        let _ = self.close(lines);
     }
 }

@@ -2,28 +2,12 @@
 
 ghost use Rattle.std.specs.Prelude.{◌≡◌, Some, map, replicate};
 ghost use Rattle.std.specs.Fmt.{DisplaysOnOk};
-ghost use Rattle.ipcap.specs.Refusal.{argument_error_line, refusal_lines, shown_byte};
+ghost use Rattle.ipcap.specs.Refusal.{refusal_lines, shown_byte};
 
-use crate::arguments::ArgumentError;
 use crate::request::is_space;
 use packet_filter::FilterError;
 use std::fmt;
 use std::fmt::Formatter;
-
-impl fmt::Display for ArgumentError {
-    ghost output = { λ error. Some (argument_error_line error) };
-
-    fn fmt<W: fmt::Write>(&self, f: &mut Formatter<W>) -> fmt::Result {
-        match self {
-            ArgumentError::Unknown => {
-                f.write_str("usage: ipcap [--quiet] [EXPRESSION] < CAPTURE\n")
-            }
-            ArgumentError::TooLong => {
-                f.write_str("error: the expression has more than 4096 bytes\n")
-            }
-        }
-    }
-}
 
 /// The lines on a text that is no expression: why, the text, and a mark under the place.
 #[derive(Clone, Copy)]

@@ -1,4 +1,4 @@
-/// How a run ended.
+/// How a run ended that did not fail.
 #[derive(Clone, Copy, PartialEq, Eq)]
 pub enum Status {
     /// The capture was read to its end.
@@ -7,15 +7,13 @@ pub enum Status {
     CutOff,
     /// The input is no capture, or one of a link type that is not read.
     NoCapture,
-    /// A read or a write failed.
-    Failed,
 }
 
 impl Status {
     ghost use Rattle.std.specs.Prelude.{◌≡◌};
     ghost use Rattle.ipcap.specs.Status.{code_of};
 
-    /// The exit status of the process: 0 to 3, in the order of the variants.
+    /// The exit status of the process: 0 to 2, in the order of the variants.
     pub fn code(self) -> u8
         ensures value { result ≡ code_of self }
     {
@@ -23,7 +21,6 @@ impl Status {
             Status::Done => 0,
             Status::CutOff => 1,
             Status::NoCapture => 2,
-            Status::Failed => 3,
         }
     }
 }

@@ -1,7 +1,7 @@
 //! What a run reads from and writes to, and whether one of their calls has failed.
 
 ghost use Rattle.std.specs.Prelude.{◌≡◌, ◌<◌, ◌⊎◌, ℕ, List, [], IfOk, IfSome, Option, OnErr, OnOk};
-ghost use Rattle.std.specs.Prelude.{false, length, true};
+ghost use Rattle.std.specs.Prelude.{IsSome, None, length};
 ghost use Rattle.std.specs.Io.{ReadsAtMost, WritesAtMost};
 ghost use Rattle.std.specs.Io.KnownBytes.{Keeps, ReadConsumes, WriteAppends};
 
@@ -57,35 +57,42 @@ pub trait Sink {
         ensures failed { OnErr result (has_failed self.new) };
 }
 
-/// A reader or a writer, and whether one of its calls has failed.
+/// A reader or a writer, and why one of its calls has failed.
 #[derive(Drop)]
 pub struct Watched<T> {
     inner: T,
-    has_failed: bool,
+    failure: Option<io::Error>,
 }
 
 impl<T> Watched<T> {
     /// None of its calls has failed.
     pub fn new(inner: T) -> Watched<T>
-        ensures value { result ≡ record { inner = inner; has_failed = false } }
+        ensures value { result ≡ record { inner = inner; failure = None } }
     {
         Watched {
             inner,
-            has_failed: false,
+            failure: None,
         }
+    }
+
+    /// Why its last call that failed did so; `None` if none has failed.
+    pub fn failure(&self) -> Option<io::Error>
+        ensures value { result ≡ self.now.failure }
+    {
+        self.failure
     }
 }
 
 impl<R: Read> Source for Watched<R> {
     ghost remaining = { λ watched. R.remaining watched.inner };
 
-    ghost has_failed = { λ watched. watched.has_failed ≡ true };
+    ghost has_failed = { λ watched. IsSome watched.failure };
 
     fn read(&mut self, buf: &mut [u8]) -> io::Result<usize> {
         match self.inner.read(buf) {
             Ok(n) => Ok(n),
             Err(e) => {
-                self.has_failed = true;
+                self.failure = Some(e);
                 Err(e)
             }
         }
@@ -95,7 +102,7 @@ impl<R: Read> Source for Watched<R> {
 impl<W: Write> Sink for Watched<W> {
     ghost contents = { λ watched. W.contents watched.inner };
 
-    ghost has_failed = { λ watched. watched.has_failed ≡ true };
+    ghost has_failed = { λ watched. IsSome watched.failure };
 
     // A write that a signal interrupts is tried again, as in `write_all`.
     fn write(&mut self, bytes: &[u8]) -> io::Result<usize> {
@@ -105,20 +112,21 @@ impl<W: Write> Sink for Watched<W> {
                 Err(e) if e.kind() == ErrorKind::Interrupted => {}
                 Ok(n) => return Ok(n),
                 Err(e) => {
-                    self.has_failed = true;
+                    self.failure = Some(e);
                     return Err(e);
                 }
             }
         }
-        self.has_failed = true;
-        Err(io::Error::from(ErrorKind::WriteZero))
+        let e = io::Error::from(ErrorKind::WriteZero);
+        self.failure = Some(e);
+        Err(e)
     }
 
     fn format<D: Display + Drop>(&mut self, text: D, line: &mut Line) -> io::Result<()> {
         match line.write_fmt(text) {
             Ok(()) => Ok(()),
             Err(e) => {
-                self.has_failed = true;
+                self.failure = Some(e);
                 Err(e)
             }
         }

@@ -1,107 +1,165 @@
 -- How much of a capture has been listed.
-use Rattle.std.specs.Prelude.{ℕ, ◌≡◌, ◌<◌, ◌≤◌, List, [], ◌++◌, Option, Some, None, Err, length}
+use Rattle.std.specs.Prelude.{ℕ, ◌≡◌, ◌<◌, ◌≤◌, ◌⊎◌, List, [], ◌++◌, Option, Some, None, length}
+use Rattle.std.specs.Prelude.{Bool, ◌&&◌, Err, false, true, if◌then◌else◌}
+use Rattle.std.specs.Option.{is_none}
 use Rattle.std.specs.Io.KnownBytes.{IsAtEnd}
 use Rattle.packet_capture.specs.Capture.{ReadsRecord}
 use Rattle.packet_capture.specs.declared.capture.CutOff as cut
-use Rattle.packet_capture.specs.declared.capture.FileHeader.{FileHeader}
 use Rattle.packet_capture.specs.declared.capture.RecordHead.{RecordHead}
-use Rattle.ipcap.specs.Listing.{Lists, ReadsChosen, line_after}
-use Rattle.ipcap.specs.Streams.{CannotRead, Prints, Reads, Takes, unread}
-use Rattle.ipcap.specs.Totals.{HasRoom, counted}
+use Rattle.ipcap.specs.Listing.{Lists, ReadsChosen, if_too_long, passed, written}
+use Rattle.ipcap.specs.Request.{copies, has_enough}
+use Rattle.ipcap.specs.Streams.{CannotRead, Prints, Reads, Takes, kept_if, unread}
+use Rattle.ipcap.specs.Totals.{HasRoom}
 use Rattle.ipcap.specs.declared.failure.Failure.{Failure}
 use Rattle.ipcap.specs.declared.failure.Failure.TheVariants as failure
 use Rattle.ipcap.specs.declared.input.Input.{Input}
-use Rattle.ipcap.specs.declared.listing.Listing.{Listing}
+use Rattle.ipcap.specs.declared.listing.Stop.{Stop}
+use Rattle.ipcap.specs.declared.listing.Stop.TheVariants as stop
 use Rattle.ipcap.specs.declared.listing.Turn.{Turn}
 use Rattle.ipcap.specs.declared.listing.Turn.TheVariants as turn
 use Rattle.ipcap.specs.declared.output.Output.{Output}
+use Rattle.ipcap.specs.declared.place.Place.{Place}
 use Rattle.ipcap.specs.declared.reading.Reading.{Reading}
+use Rattle.ipcap.specs.declared.request.Request.{Request}
 use Rattle.ipcap.specs.declared.totals.Totals.{Totals}
 
--- why no whole record is at the front of the data: it is empty, or begins with an incomplete one
-abbrev pub Stops : FileHeader → List ℕ → Option cut.CutOff → Type 0
-Stops header rest None = rest ≡ []
-Stops header rest (Some e) = ReadsRecord header rest (Err e)
+-- why no whole record is read at the front of the data: enough are listed; or there are no data; or
+-- they begin with an incomplete record
+abbrev pub Stops : Request → Place → List ℕ → Stop → Type 0
+Stops request place rest stop.Enough = has_enough request place.totals.listed ≡ true
+Stops request place rest stop.Empty =
+    (has_enough request place.totals.listed ≡ false) × (rest ≡ [])
+Stops request place rest (stop.CutOff e) = (has_enough request place.totals.listed ≡ false)
+    × ReadsRecord place.capture.header rest (Err e)
 
--- why no more is told: nothing is left of what was read, and a read failed; or a write did; or a
--- count is full
-abbrev pub Because : Type 0 → Type 0 → Failure → Totals → List ℕ → Type 0
-Because read_failed write_failed failure.Read last rest = (rest ≡ []) × read_failed
-Because read_failed write_failed failure.Write last rest = write_failed
-Because read_failed write_failed failure.Count last rest = ¬ HasRoom last
+-- fewer are listed than were asked for, or the last one is cut off
+abbrev pub WantsMore : Request → Totals → Option cut.CutOff → Type 0
+WantsMore request last None = has_enough request last.listed ≡ false
+WantsMore request last (Some e) = Unit {0}
 
--- this many bytes were taken, of so many that were wanted; if these are fewer, nothing is left
-pub record Skips {R : Type 0} (remaining : R → Option (List ℕ)) (old new : Input R)
-    (wanted len : ℕ) : Type 0 where
+-- Why no more is told: more is wanted, nothing is left of what was read, all is printed, and a read
+-- failed; or a write did; or a count is full, and all before it is printed.
+abbrev pub Because : Type 0 → Type 0 → Type 0 → Failure → Type 0 → List ℕ → List ℕ → Type 0
+Because read_failed write_failed is_full failure.Read wants rest left =
+    wants × (rest ≡ []) × (left ≡ []) × read_failed
+Because read_failed write_failed is_full failure.Write wants rest left = write_failed
+Because read_failed write_failed is_full failure.Count wants rest left = is_full × (left ≡ [])
+
+-- the bytes are kept of a record that is too long
+abbrev pub keeps : Request → Bool
+keeps request = copies request.mode && is_none request.filter
+
+-- this many bytes were taken, of so many that were wanted, and are printed if they are kept; if
+-- these are fewer, nothing is left
+pub record Skips {R W : Type 0} (remaining : R → Option (List ℕ)) (contents : W → Option (List ℕ))
+    (keeps : Bool) (wanted : ℕ) (old new : Input R) (old_output new_output : Output W) (len : ℕ)
+    : Type 0 where
   pub taken : List ℕ
   pub takes : Takes remaining old new taken
   pub many : length taken ≡ len
   pub within : len ≤ wanted
   pub all : len < wanted → unread new ≡ []
+  pub prints : Prints contents old_output new_output (kept_if keeps taken)
 
-module _ {W : Type 0} (contents : W → Option (List ℕ)) (listing : Listing) where
-  -- a record with this head and this frame is counted, and its line is printed, if it is listed
-  pub record TellsFrame (before after : Totals) (head : RecordHead) (frame : List ℕ)
+-- of so many bytes that were wanted some were told, of which the first are printed if they are
+-- kept; then a call failed
+pub record Lacks {R W : Type 0} (remaining : R → Option (List ℕ)) (contents : W → Option (List ℕ))
+    (read_failed write_failed : Type 0) (keeps : Bool) (wanted : ℕ) (e : Failure)
+    (old new : Input R) (old_output new_output : Output W) : Type 0 where
+  pub got : List ℕ
+  pub reads : Reads remaining old new got
+  pub first : List ℕ
+  pub piece : List ℕ
+  pub rest : List ℕ
+  pub whole : unread old ++ got ≡ (first ++ piece) ++ rest
+  pub within : length (first ++ piece) ≤ wanted
+  pub all : length (first ++ piece) < wanted → rest ≡ []
+  pub prints : Prints contents old_output new_output (kept_if keeps first)
+  pub cause : Because read_failed write_failed ⊥ e (length (first ++ piece) < wanted) rest piece
+
+module _ {W : Type 0} (contents : W → Option (List ℕ)) (request : Request) where
+  -- a record with this head and these bytes is counted, and what is written of it is printed
+  pub record TellsRecord (before after : Place) (head : RecordHead) (bytes : List ℕ)
+      (found : Option Reading) (old new : Output W) : Type 0 where
+    pub counts : after ≡ passed head found before
+    pub prints : Prints contents old new (written request before head bytes found)
+
+  -- the same of a record whose frame is read
+  pub record TellsFrame (before after : Place) (head : RecordHead) (bytes frame : List ℕ)
       (old new : Output W) : Type 0 where
     pub found : Option Reading
-    pub reads : ReadsChosen listing head frame found
-    pub counts : after ≡ counted head found before
-    pub prints : Prints contents old new (line_after listing before head found)
+    pub reads : ReadsChosen request before.capture head frame found
+    pub tells : TellsRecord before after head bytes found old new
 
-  -- these are records that have lines, and the lines are printed
-  pub record IsTold (before last : Totals) (end : Option cut.CutOff) (old new : Output W)
+  -- a record that is too long is counted, and what is written of it is printed but for its bytes
+  pub record TellsLong (before after : Place) (head : RecordHead) (old new : Output W)
+      : Type 0 where
+    pub counts : after ≡ passed head (if_too_long request) before
+    pub line : List ℕ
+    pub prints : Prints contents old new line
+    pub is : (bytes : List ℕ) → written request before head bytes (if_too_long request)
+        ≡ line ++ kept_if (keeps request) bytes
+
+  -- these are records of which something is written, and it is printed
+  pub record IsTold (before : Place) (last : Totals) (end : Option cut.CutOff) (old new : Output W)
       (records : List ℕ) : Type 0 where
     pub text : List ℕ
-    pub lists : Lists listing before records text last end
+    pub lists : Lists request before records text last end
     pub prints : Prints contents old new text
 
-  -- this data is told: with whatever is told after it, it is the records of all
-  abbrev pub Tells : Totals → Totals → List ℕ → Output W → Output W → Type 0
-  Tells before after taken old new =
-      (last : Totals) (end : Option cut.CutOff) (final : Output W) (more : List ℕ)
-      → IsTold after last end new final more → IsTold before last end old final (taken ++ more)
+  -- this data is told: what is written of it stands before what is written of all that follows
+  pub record Tells (before after : Place) (taken : List ℕ) (old new : Output W) : Type 0 where
+    pub text : List ℕ
+    pub lists : (last : Totals) (end : Option cut.CutOff) (more end_text : List ℕ)
+        → Lists request after more end_text last end
+        → Lists request before (taken ++ more) (text ++ end_text) last end
+    pub prints : Prints contents old new text
 
-  -- a front of the data is told
-  pub record TellsFront (before : Totals) (because : Totals → List ℕ → Type 0) (bytes : List ℕ)
-      (old new : Output W) : Type 0 where
+  -- a front of the data is told, and the front of what is written of it is printed
+  pub record TellsFront (read_failed write_failed : Type 0) (before : Place) (e : Failure)
+      (bytes : List ℕ) (old new : Output W) : Type 0 where
     pub front : List ℕ
     pub rest : List ℕ
     pub whole : bytes ≡ front ++ rest
     pub last : Totals
     pub end : Option cut.CutOff
-    pub told : IsTold before last end old new front
-    pub cause : because last rest
+    pub printed : List ℕ
+    pub left : List ℕ
+    pub lists : Lists request before front (printed ++ left) last end
+    pub prints : Prints contents old new printed
+    pub cause : Because read_failed write_failed (¬ HasRoom last) e (WantsMore request last end)
+        rest left
 
 module _ {R W : Type 0} (remaining : R → Option (List ℕ)) (contents : W → Option (List ℕ))
-    (listing : Listing) where
+    (request : Request) where
   -- the records that were taken are told, and more was read
-  pub record GoesOn (before after : Totals) (old new : Input R) (old_output new_output : Output W)
+  pub record GoesOn (before after : Place) (old new : Input R) (old_output new_output : Output W)
       : Type 0 where
     pub taken : List ℕ
     pub takes : Takes remaining old new taken
-    pub tells : Tells contents listing before after taken old_output new_output
+    pub tells : Tells contents request before after taken old_output new_output
     pub more : old.count < new.count
 
-  -- all records are told
-  pub record Ends (before last : Totals) (end : Option cut.CutOff) (old new : Input R)
+  -- all records are told: the input is at its end, or enough are listed, whatever follows
+  pub record Ends (before : Place) (last : Totals) (end : Option cut.CutOff) (old new : Input R)
       (old_output new_output : Output W) : Type 0 where
     pub got : List ℕ
     pub reads : Reads remaining old new got
-    pub at_end : IsAtEnd (remaining new.source)
-    pub told : IsTold contents listing before last end old_output new_output (unread old ++ got)
+    pub told : IsTold contents request before last end old_output new_output (unread old ++ got)
+    pub all : IsAtEnd (remaining new.source) ⊎ ((rest : List ℕ) → IsTold contents request before
+        last end old_output new_output ((unread old ++ got) ++ rest))
 
   -- what a turn does
-  abbrev pub Turns : Totals → Totals → Turn → Input R → Input R → Output W → Output W → Type 0
+  abbrev pub Turns : Place → Place → Turn → Input R → Input R → Output W → Output W → Type 0
   Turns before after turn.GoesOn old new old_output new_output =
       GoesOn before after old new old_output new_output
   Turns before after (turn.Ends end) old new old_output new_output =
-      Ends before after end old new old_output new_output
+      Ends before after.totals end old new old_output new_output
 
   -- a front of what was read is told, and then a call failed
-  pub record Breaks (read_failed : R → Type 0) (write_failed : W → Type 0) (before : Totals)
+  pub record Breaks (read_failed : R → Type 0) (write_failed : W → Type 0) (before : Place)
       (e : Failure) (old new : Input R) (old_output new_output : Output W) : Type 0 where
     pub got : List ℕ
     pub reads : Reads remaining old new got
-    pub tells : TellsFront contents listing before
-        (Because (CannotRead read_failed new) (write_failed new_output.sink) e)
-        (unread old ++ got) old_output new_output
+    pub tells : TellsFront contents request (CannotRead read_failed new)
+        (write_failed new_output.sink) before e (unread old ++ got) old_output new_output

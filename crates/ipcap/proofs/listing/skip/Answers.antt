@@ -1,8 +1,8 @@
-use Rattle.std.proofs.Common.{ℕ, ◌≡◌, ◌<◌, ◌≤◌, ◌-◌, List, [], ◌++◌, length, take, drop, min, arith, ap, length-append, length-drop, length-take-le}
+use Rattle.std.proofs.Common.{ℕ, ◌≡◌, ◌<◌, ◌≤◌, ◌-◌, List, [], ◌++◌, length, take, drop, min, arith, ap, append-nil, append_assoc, length-append, length-drop, length-take-le, refl, take-append-drop}
 use Rattle.std.proofs.lemmas.List.{nil_from_length}
-use Rattle.ipcap.specs.Private.Progress.{Skips}
+use Rattle.std.proofs.lemmas.Result.{err_from_is_err_and}
 use Rattle.ipcap.specs.Streams.{unread}
-use Rattle.ipcap.proofs.Runs.{on_err, takes_both, takes_nothing, takes_then}
+use Rattle.ipcap.proofs.Runs.{kept_both, kept_nothing, prints_both, prints_nothing, prints_then, takes_both, takes_nothing, takes_then}
 use Rattle.ipcap.proofs.listing.skip.Goals as goal
 
 -- nothing is left if less was read than is left to skip
@@ -15,8 +15,11 @@ many_more len left k r s u many within same least =
     let few : k ≤ length u = omega (arith, least, ap length same) in
     omega (arith, many, within, least, length-append s (take k u), length-take-le k u few)
 
+parts : (a s u : List ℕ) (k : ℕ) → a ≡ s ++ u → a ≡ (s ++ take k u) ++ drop k u
+parts a s u k e = let p = take-append-drop k u in grind (arith, append_assoc)
+
 pub turns-init : goal.turns-init
-turns-init g c = record { within = omega arith; taken = []; takes = takes_nothing _ _; many = omega arith }
+turns-init g c = record { within = omega arith; taken = []; takes = takes_nothing _ _; many = omega arith; prints = rw (kept_nothing c.args.keeps) (prints_nothing _ _) }
 
 pub turns-preserved : goal.turns-preserved
 turns-preserved g c =
@@ -25,48 +28,74 @@ turns-preserved g c =
       within = omega (arith, was.within);
       taken = was.taken ++ take c.min-passed.result (unread c.turns.input);
       takes = takes_then _ _ _ _ _ (takes_both _ _ _ _ _ _ was.takes c.pass.ensures.takes) c.in_ok-fill.ensures.takes;
-      many = many_more c.args.len c.turns.left _ c.unread.result.now was.taken (unread c.turns.input) was.many was.within c.unread.ensures.value c.min-passed.ensures;
+      many = many_more c.args.len c.turns.left _ c.unread-bytes.result.now was.taken (unread c.turns.input) was.many was.within c.unread-bytes.ensures.value c.min-passed.ensures;
+      prints = rw (kept_both c.args.keeps was.taken (take c.min-passed.result (unread c.turns.input))) (prints_both _ _ _ _ _ _ was.prints (rw c.unread-bytes.ensures.value at c.in_ok-copy_if.ensures.prints));
     }
 
 pub returns-then-left-eq0-clause-skips : goal.returns-then-left-eq0-clause-skips
 returns-then-left-eq0-clause-skips g c =
     let was = c.turns.invariant in
-    let many = many_more c.args.len c.turns.left _ c.unread.result.now was.taken (unread c.turns.input) was.many was.within c.unread.ensures.value c.min-passed.ensures in
+    let many = many_more c.args.len c.turns.left _ c.unread-bytes.result.now was.taken (unread c.turns.input) was.many was.within c.unread-bytes.ensures.value c.min-passed.ensures in
     record {
       taken = was.taken ++ take c.min-passed.result (unread c.turns.input);
       takes = takes_both _ _ _ _ _ _ was.takes c.pass.ensures.takes;
       many = omega (arith, many, c.if-left-eq0.true);
       within = omega arith;
       all = λ few. absurd (omega (arith, few));
+      prints = rw (kept_both c.args.keeps was.taken (take c.min-passed.result (unread c.turns.input))) (prints_both _ _ _ _ _ _ was.prints (rw c.unread-bytes.ensures.value at c.in_ok-copy_if.ensures.prints));
     }
+
+pub returns-in_err-copy_if-clause-lacks : goal.returns-in_err-copy_if-clause-lacks
+returns-in_err-copy_if-clause-lacks g c =
+    let was = c.turns.invariant in
+    let many = many_more c.args.len c.turns.left _ c.unread-bytes.result.now was.taken (unread c.turns.input) was.many was.within c.unread-bytes.ensures.value c.min-passed.ensures in
+    let failed = c.in_err-copy_if.ensures in
+    let p = err_from_is_err_and c.from_residual.result c.from_residual.ensures.1 in
+    rw (p.1, p.2, failed.failed.0) (record {
+      got = was.takes.got;
+      reads = was.takes.reads;
+      first = was.taken;
+      piece = take c.min-passed.result (unread c.turns.input);
+      rest = drop c.min-passed.result (unread c.turns.input);
+      whole = parts _ was.taken (unread c.turns.input) c.min-passed.result was.takes.takes;
+      within = omega (arith, many, was.within);
+      all = λ few. passed_all c.unread-bytes.result.now (unread c.turns.input) (drop c.min-passed.result (unread c.turns.input)) c.turns.left c.min-passed.result c.unread-bytes.ensures.value c.min-passed.ensures refl (omega (arith, few, many));
+      prints = prints_then _ _ _ _ _ was.prints failed.kept;
+      cause = failed.failed.1;
+    })
 
 pub returns-in_err-fill-clause-lacks : goal.returns-in_err-fill-clause-lacks
 returns-in_err-fill-clause-lacks g c =
     let was = c.turns.invariant in
-    let many = many_more c.args.len c.turns.left _ c.unread.result.now was.taken (unread c.turns.input) was.many was.within c.unread.ensures.value c.min-passed.ensures in
-    let over = passed_all c.unread.result.now (unread c.turns.input) (unread c.pass.new.self) c.turns.left _ c.unread.ensures.value c.min-passed.ensures c.pass.ensures.rest (omega (arith, c.if-left-eq0.false)) in
-    let lacks : (n : ℕ) × (n < c.args.len) × Skips g.R.Source.remaining c.args.input.now c.fill.new.self c.args.len n = (
-      c.args.len - (c.turns.left - c.min-passed.result),
-      omega (arith, was.within, c.if-left-eq0.false),
-      record {
-        taken = was.taken ++ take c.min-passed.result (unread c.turns.input);
-        takes = takes_then _ _ _ _ _ (takes_both _ _ _ _ _ _ was.takes c.pass.ensures.takes) c.in_err-fill.ensures.takes;
-        many = many;
-        within = omega arith;
-        all = λ few. grind (arith, over, c.in_err-fill.ensures.unread);
-      },
-    ) in
-    on_err _ lacks
+    let some = take c.min-passed.result (unread c.turns.input) in
+    let many = many_more c.args.len c.turns.left _ c.unread-bytes.result.now was.taken (unread c.turns.input) was.many was.within c.unread-bytes.ensures.value c.min-passed.ensures in
+    let over = passed_all c.unread-bytes.result.now (unread c.turns.input) (unread c.pass.new.self) c.turns.left _ c.unread-bytes.ensures.value c.min-passed.ensures c.pass.ensures.rest (omega (arith, c.if-left-eq0.false)) in
+    let takes = takes_then _ _ _ _ _ (takes_both _ _ _ _ _ _ was.takes c.pass.ensures.takes) c.in_err-fill.ensures.takes in
+    let p = err_from_is_err_and c.from_residual-in_err-fill.result c.from_residual-in_err-fill.ensures.1 in
+    let len : length ((was.taken ++ some) ++ []) ≡ length (was.taken ++ some) = ap length (append-nil (was.taken ++ some)) in
+    rw (p.1, p.2, c.in_err-fill.ensures.failed.0) (record {
+      got = takes.got;
+      reads = takes.reads;
+      first = was.taken ++ some;
+      piece = [];
+      rest = [];
+      whole = grind (arith, append-nil, takes.takes, over, c.in_err-fill.ensures.unread);
+      within = omega (arith, len, many, was.within);
+      all = λ few. refl;
+      prints = rw (kept_both c.args.keeps was.taken some) (prints_both _ _ _ _ _ _ was.prints (rw c.unread-bytes.ensures.value at c.in_ok-copy_if.ensures.prints));
+      cause = (omega (arith, len, many, was.within, c.if-left-eq0.false), refl, refl, c.in_err-fill.ensures.failed.1);
+    })
 
 pub returns-then-not-branch-clause-skips : goal.returns-then-not-branch-clause-skips
 returns-then-not-branch-clause-skips g c =
     let was = c.turns.invariant in
-    let many = many_more c.args.len c.turns.left _ c.unread.result.now was.taken (unread c.turns.input) was.many was.within c.unread.ensures.value c.min-passed.ensures in
-    let over = passed_all c.unread.result.now (unread c.turns.input) (unread c.pass.new.self) c.turns.left _ c.unread.ensures.value c.min-passed.ensures c.pass.ensures.rest (omega (arith, c.if-left-eq0.false)) in
+    let many = many_more c.args.len c.turns.left _ c.unread-bytes.result.now was.taken (unread c.turns.input) was.many was.within c.unread-bytes.ensures.value c.min-passed.ensures in
+    let over = passed_all c.unread-bytes.result.now (unread c.turns.input) (unread c.pass.new.self) c.turns.left _ c.unread-bytes.ensures.value c.min-passed.ensures c.pass.ensures.rest (omega (arith, c.if-left-eq0.false)) in
     record {
       taken = was.taken ++ take c.min-passed.result (unread c.turns.input);
       takes = takes_then _ _ _ _ _ (takes_both _ _ _ _ _ _ was.takes c.pass.ensures.takes) c.in_ok-fill.ensures.takes;
       many = many;
       within = omega arith;
       all = λ few. grind (arith, over, c.in_ok-fill.ensures.same);
+      prints = rw (kept_both c.args.keeps was.taken (take c.min-passed.result (unread c.turns.input))) (prints_both _ _ _ _ _ _ was.prints (rw c.unread-bytes.ensures.value at c.in_ok-copy_if.ensures.prints));
     }

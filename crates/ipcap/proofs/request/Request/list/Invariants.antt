@@ -1,14 +1,13 @@
 use Rattle.std.proofs.Common.{◌-◌, ◌^◌, List, ℕ}
 use Rattle.ipcap.specs.Private.Progress.{Tells}
 use Rattle.ipcap.specs.Streams.{Takes}
-use Rattle.ipcap.specs.Totals.{nothing_counted}
-use Rattle.ipcap.proofs.listing.Listing.list.Given as goal
+use Rattle.ipcap.proofs.request.Request.list.Given as goal
 
 abbrev pub invariant-turns : goal.invariant-turns
 invariant-turns g l = record {
   taken : List ℕ;
   takes : Takes g.R.Source.remaining l.fn.input l.input taken;
-  tells : Tells g.W.Sink.contents l.self nothing_counted l.totals taken l.fn.output l.output;
+  tells : Tells g.W.Sink.contents l.self l.fn.place l.place taken l.fn.output l.output;
 }
 
 abbrev pub decreases-turns : goal.decreases-turns
