@@ -1,12 +1,10 @@
--- What is found of a frame is its packet but for the transport header; and what an expression says of that it says of the packet.
-use Rattle.std.proofs.Common.{ℕ, ◌≡◌, ◌+◌, ◌-◌, List, ◌⊎◌, true, false, Option, Some, None, inl, inr, length, option_map, refl, sym}
+-- What is found of a plain frame is its packet but for the transport header; and what an expression says of that it says of the packet.
+use Rattle.std.proofs.Common.{ℕ, ◌≡◌, ◌+◌, ◌-◌, List, Bool, true, false, IsTrue, Option, Some, None, inl, inr, length, option_map, refl, sym}
 use Rattle.std.specs.Prelude.{◌↔◌}
 use Rattle.etherparse.specs.Bytes.{IsBytes}
-use Rattle.etherparse.specs.declared.err.LenError.{LenError}
-use Rattle.packet.specs.Error.{ip_error_moved}
 use Rattle.packet.specs.Link.{link_parts}
-use Rattle.packet.specs.Network.{first_error}
-use Rattle.packet.specs.SlicedPacket.{CarriesIp, CarriesOther, HasLinkLayers, IsVerdictOn, StopsInTag, carries_ip}
+use Rattle.packet.specs.Network.{HasIp}
+use Rattle.packet.specs.SlicedPacket.{HasLinkLayers, IsVerdictOn, carries_ip}
 use Rattle.packet.specs.Vlan.{AreAllTags}
 use Rattle.packet.specs.declared.error.SliceError.TheVariants as error
 use Rattle.packet.specs.declared.error.SliceError.{SliceError}
@@ -15,66 +13,38 @@ use Rattle.packet.specs.declared.link.LinkType.{LinkType}
 use Rattle.packet.specs.declared.link_layers.LinkLayers.{LinkLayers}
 use Rattle.packet.specs.declared.sliced_packet.SlicedPacket.{SlicedPacket}
 use Rattle.packet.specs.declared.transport.TransportSlice.{TransportSlice}
+use Rattle.packet_filter.proofs.Transports.{has_transport}
+use Rattle.packet_filter.specs.Frame.{Answers, IsPacketIn}
 use Rattle.packet_filter.specs.Meaning.{Expression, HasProto, Holds, IsOf, Loads, Matches, Tells, compound, negation, one}
 use Rattle.packet_filter.specs.Private.Front.{IsFront, completed, is_in_ip, packet_of}
-use Rattle.packet_filter.specs.declared.expression.Layer.{Layer}
 use Rattle.packet_filter.specs.declared.expression.Layer.TheVariants as layer
-use Rattle.packet_filter.specs.declared.expression.Network.{Network}
+use Rattle.packet_filter.specs.declared.expression.Layer.{Layer}
 use Rattle.packet_filter.specs.declared.expression.Network.TheVariants as network
+use Rattle.packet_filter.specs.declared.expression.Network.{Network}
 use Rattle.packet_filter.specs.declared.expression.Operator.TheVariants.{And, Or}
-use Rattle.packet_filter.specs.declared.expression.Primitive.{Primitive}
 use Rattle.packet_filter.specs.declared.expression.Primitive.TheVariants as primitive
-use Rattle.packet_filter.specs.declared.expression.Quantity.{Quantity}
+use Rattle.packet_filter.specs.declared.expression.Primitive.{Primitive}
 use Rattle.packet_filter.specs.declared.expression.Quantity.TheVariants.{Length, Load}
+use Rattle.packet_filter.specs.declared.expression.Quantity.{Quantity}
 use Rattle.packet_filter.specs.declared.expression.Version.{Version}
-use Rattle.packet_filter.proofs.Transports.{has_transport}
-use Rattle.packet_parts.specs.IpSlice.{HasLaxIpParts, HasNoIpParts, header_len_of}
+use Rattle.packet_parts.specs.IpSlice.{HasLaxIpParts, header_len_of}
 use Rattle.packet_parts.specs.declared.checksum.Verdict.{Verdict}
 use Rattle.packet_parts.specs.declared.ip_slice.IpSlice.{IpSlice}
-use Rattle.packet_parts.specs.declared.ip_slice.IpSliceError.{IpSliceError}
 use Rattle.packet_parts.specs.declared.ip_slice.LaxIpSlice.{LaxIpSlice}
 
-module _ (t : LinkType) (frame : List ℕ) (l : LinkLayers) (has : HasLinkLayers t frame l) where
-  -- these layers, an IP packet and a transport header are the packet in the frame
-  of_layers : (net : Option IpSlice) (at : Option SliceError) (transport : Option TransportSlice) (stop : Option SliceError) → is_in_ip at ≡ is_in_ip stop
-      → StopsInTag (length frame) (record (packet_of l net) { transport = transport }) stop
-      ⊎ CarriesOther (record (packet_of l net) { transport = transport }) stop
-      ⊎ CarriesIp (length frame) (record (packet_of l net) { transport = transport }) stop → IsFront t frame (record { packet = packet_of l net; stop = at })
-  of_layers net at transport stop reason ends = record {
-    transport = transport;
-    stop = stop;
-    carried = record { ether_type = has.first; bytes = has.bytes; begins = has.begins; layers = record { tags = has.tags; ends = ends } };
-    same_reason = reason;
-  }
-
-  pub ends_in_tag : (e : LenError) → l.stop ≡ Some e → IsFront t frame (record { packet = packet_of l None; stop = Some (error.Vlan e) })
-  ends_in_tag e stops = of_layers None (Some (error.Vlan e)) None (Some (error.Vlan e)) refl (inl (record { e = e; ends = rw stops at has.ends; stops = refl; net = refl; transport = refl }))
-
-  module _ (whole : l.stop ≡ None) where
-    all_tags : AreAllTags l.vlan l.ether_type
-    all_tags = rw whole at has.ends
-
-    pub carries_other : carries_ip (option_map link_parts l.link) l.ether_type ≡ false → IsFront t frame (record { packet = packet_of l None; stop = None })
-    carries_other other = of_layers None None None None refl (inr (inl (record { tags = all_tags; other = other; goes_on = refl; net = refl; transport = refl })))
-
-    abbrev place : ℕ
-    place = length frame - length l.payload.now
-
-    pub lacks_ip : (e : IpSliceError) → carries_ip (option_map link_parts l.link) l.ether_type ≡ true → HasNoIpParts l.payload.now e
-        → IsFront t frame (record { packet = packet_of l None; stop = Some (error.Ip e) })
-    lacks_ip e ip none =
-        of_layers None (Some (error.Ip e)) None (Some (error.Ip (ip_error_moved place e))) refl (inr (inr (record { tags = all_tags; ip = ip; network = record { e = e; lacks = none; no_transport = refl; stops = refl } })))
-
-    ip_reason : (s : Option IpSliceError) (missing : Option SliceError) → is_in_ip missing ≡ false → is_in_ip (option_map error.Ip s) ≡ is_in_ip (first_error place s missing)
-    ip_reason None missing not_ip = sym not_ip
-    ip_reason (Some e) missing not_ip = refl
-
-    pub carries : (lax : LaxIpSlice) (at : Option SliceError) → at ≡ option_map error.Ip lax.stop → carries_ip (option_map link_parts l.link) l.ether_type ≡ true → HasLaxIpParts l.payload.now lax → IsBytes lax.slice.payload.now
-        → IsFront t frame (record { packet = packet_of l (Some lax.slice); stop = at })
-    carries lax at is ip parts bytes =
-        let found = has_transport (place + header_len_of lax.slice) lax.slice bytes in
-        of_layers (Some lax.slice) at found.transport (first_error place lax.stop found.missing) (rw is (ip_reason lax.stop found.missing found.not_ip))
-        (inr (inr (record { tags = all_tags; ip = ip; network = record { ip_stop = lax.stop; parts = parts; missing = found.missing; reads = found.reads; stops = refl } })))
+-- a link header, no incomplete tag, and a whole IP packet
+pub plain : (t : LinkType) (frame : List ℕ) (l : LinkLayers) (lax : LaxIpSlice) → HasLinkLayers t frame l → l.stop ≡ None → IsTrue (carries_ip (option_map link_parts l.link) l.ether_type)
+    → HasLaxIpParts l.payload.now lax → lax.stop ≡ None → IsBytes lax.slice.payload.now → IsFront t frame (record { packet = packet_of l (Some lax.slice); stop = None })
+plain t frame l lax has tags ip parts whole bytes =
+    let found = has_transport (length frame - length l.payload.now + header_len_of lax.slice) lax.slice bytes in
+    let network : HasIp (length frame - length l.payload.now) l.payload.now lax.slice found.transport found.missing = record { ip_stop = lax.stop; parts = parts; missing = found.missing; reads = found.reads; stops = rw whole refl } in
+    let all : AreAllTags l.vlan l.ether_type = rw tags at has.ends in
+    record {
+      transport = found.transport;
+      stop = found.missing;
+      carried = record { ether_type = has.first; bytes = has.bytes; begins = has.begins; layers = record { tags = has.tags; ends = inr (inr (record { tags = all; ip = ip; network = network })) } };
+      same_reason = sym found.not_ip;
+    }
 
 -- a verdict on a checksum depends on no transport header
 same_verdict : (net : Option IpSlice) (s t : Option SliceError) (v : Option Verdict) → is_in_ip s ≡ is_in_ip t → IsVerdictOn net s v → IsVerdictOn net t v
@@ -128,3 +98,13 @@ module _ (lax : LaxSlicedPacket) (transport : Option TransportSlice) (stop : Opt
       let s = same_answer a in
       let t = same_answer b in
       (λ m. elim m [ inl x ↦ inl (s.0 x) | inr x ↦ inr (t.0 x) ], λ m. elim m [ inl x ↦ inl (s.1 x) | inr x ↦ inr (t.1 x) ])
+
+-- An answer about a packet in a frame is one about the frame; and so is one about what is found of it.
+pub answered : (answer : Bool) (e : Expression) (link_type : LinkType) (frame : List ℕ) (len : ℕ) (lax : LaxSlicedPacket) → IsPacketIn link_type frame lax → IsTrue answer ↔ Matches e lax len → Answers e link_type frame len answer
+answered true e link_type frame len lax c m = record { packet = lax; carried = c; matches = m.0 refl }
+answered false e link_type frame len lax c m = record { packet = lax; carried = c; matches = λ h. let no : false ≡ true = m.1 h in cc }
+
+pub of_front : (answer : Bool) (e : Expression) (link_type : LinkType) (frame : List ℕ) (len : ℕ) (lax : LaxSlicedPacket) → IsFront link_type frame lax → IsTrue answer ↔ Matches e lax len → Answers e link_type frame len answer
+of_front answer e link_type frame len lax f m =
+    let same = same_answer lax f.transport f.stop f.same_reason len e in
+    answered answer e link_type frame len (completed lax f.transport f.stop) (inl f.carried) (λ h. same.0 (m.0 h), λ h. m.1 (same.1 h))

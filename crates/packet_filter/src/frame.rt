@@ -8,7 +8,7 @@ ghost use Rattle.packet_filter.specs.Meaning.{Matches};
 ghost use Rattle.packet_filter.specs.Program.{expression_of};
 
 use crate::filter::Filter;
-use crate::front::seen_in;
+use crate::front::plain_in;
 use packet::lax_sliced_packet::LaxSlicedPacket;
 use packet::link::LinkType;
 use packet::sliced_packet::SlicedPacket;
@@ -37,9 +37,20 @@ impl Filter {
     pub fn matches_frame(&self, link_type: LinkType, frame: &[u8], len: usize) -> bool
         ensures value { Answers (expression_of self.now) link_type frame.now len result }
     {
-        match seen_in(link_type, frame) {
+        match plain_in(link_type, frame) {
             Some(lax) => self.matches(&lax, len),
-            None => self.matches_nothing(len),
+            None => self.matches_odd(link_type, frame, len),
+        }
+    }
+
+    // The same of a frame that is not plain.
+    #[inline(never)]
+    fn matches_odd(&self, link_type: LinkType, frame: &[u8], len: usize) -> bool
+        ensures value { Answers (expression_of self.now) link_type frame.now len result }
+    {
+        match LaxSlicedPacket::from_link_type(link_type, frame) {
+            Ok(lax) => self.matches(&lax, len),
+            Err(_) => self.matches_nothing(len),
         }
     }
 
