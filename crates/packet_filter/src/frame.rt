@@ -37,10 +37,13 @@ impl Filter {
     pub fn matches_frame(&self, link_type: LinkType, frame: &[u8], len: usize) -> bool
         ensures value { Answers (expression_of self.now) link_type frame.now len result }
     {
-        match plain_in(link_type, frame) {
-            Some(lax) => self.matches(&lax, len),
-            None => self.matches_odd(link_type, frame, len),
+        // Registers alone hold the packet, since no call takes it.
+        if let Some(lax) = plain_in(link_type, frame) {
+            if let Some(value) = self.matches_by_prepared(&lax, len) {
+                return value;
+            }
         }
+        self.matches_odd(link_type, frame, len)
     }
 
     // The same of a frame that is not plain.
