@@ -46,28 +46,32 @@ def main():
         answers = {which: lines_of(commands[which], frames, cpu) for which in order}
         for number, tests in enumerate(EXPRESSIONS, 1):
             theirs, ours = rounds_of(answers[0], number), rounds_of(answers[1], number)
-            counts = {line[2] for line in theirs} | {count for line in ours for count in line[4:6]}
+            counts = {line[2] for line in theirs} | {count for line in ours for count in line[4:7]}
             if len(counts) != 1:
                 sys.exit(f"not the same answers of expression {number}: {counts}")
             theirs = statistics.median(line[1] for line in theirs) / (FRAMES * TURNS)
-            matches, both, apart = (
+            matches, frame, both = (
                 statistics.median(line[at] for line in ours) / (FRAMES * TURNS) for at in (1, 2, 3)
             )
-            each[tests].append((theirs, matches, matches / theirs, both, both / theirs, (both - apart) / theirs))
-    print("tests  bpf_filter  matches         and taken apart    after taking apart")
+            each[tests].append((theirs, matches, matches / theirs, frame, frame / theirs, both, both / theirs))
+    print("tests  bpf_filter  matches         matches_frame    taken apart, and matches")
     for tests, values in each.items():
-        theirs, matches, ratio, both, both_ratio, difference = map(statistics.median, zip(*values))
+        theirs, matches, ratio, frame, frame_ratio, both, both_ratio = map(statistics.median, zip(*values))
         print(
             f"{tests:5d}  {theirs:7.2f} ns  {matches:6.2f} ns {ratio:5.2f}"
-            f"  {both:7.2f} ns {both_ratio:5.2f}  {difference:12.2f}"
+            f"  {frame:7.2f} ns {frame_ratio:5.2f}  {both:7.2f} ns {both_ratio:5.2f}"
         )
     if shutil.which("valgrind"):
         for tests, text in EXPRESSIONS.items():
             counts = [
                 instructions([peer, "call", text], "matching", frames),
                 instructions([program, text], "filters::matching", frames) / 21,
+                instructions([program, text], "filters::matching_frames", frames) / 21,
             ]
-            print(f"{tests:5d} tests: {counts[0]:.0f} instructions a frame, and {counts[1]:.0f} by matches")
+            print(
+                f"{tests:5d} tests: {counts[0]:.0f} instructions a frame, {counts[1]:.0f} by matches,"
+                f" and {counts[2]:.0f} by matches_frame"
+            )
 
 
 def instructions(command, function, frames):

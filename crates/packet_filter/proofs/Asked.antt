@@ -1,14 +1,15 @@
 -- What a quick test asks for is what its primitive says.
-use Rattle.std.proofs.Common.{◌≡◌, ◌↔◌, ℕ, ◌-◌, ◌/◌, ◌%◌, ◌^◌, Option, Some, None, arith, inl, inr, sym}
+use Rattle.std.proofs.Common.{◌≡◌, ◌↔◌, ℕ, ◌-◌, ◌/◌, ◌%◌, ◌^◌, Option, Some, None, arith, inl, inr, refl, subst, sym}
 use Rattle.std.specs.Prelude.{IsSomeAnd}
 use Rattle.packet.specs.declared.lax_sliced_packet.LaxSlicedPacket.{LaxSlicedPacket}
-use Rattle.packet_filter.specs.Meaning.{Holds, IsWithin, destination_address, source_address}
+use Rattle.packet_filter.specs.Meaning.{Compares, Holds, IsWithin, destination_address, source_address}
 use Rattle.packet_filter.specs.Private.Quick.{Asks, HasFront, quick_of}
 use Rattle.packet_filter.specs.declared.address.Address.{Address}
 use Rattle.packet_filter.specs.declared.address.Address.TheVariants.{V4, V6}
 use Rattle.packet_filter.specs.declared.expression.Direction.TheVariants as direction
 use Rattle.packet_filter.specs.declared.expression.Primitive.{Primitive}
 use Rattle.packet_filter.specs.declared.expression.Primitive.TheVariants as primitive
+use Rattle.packet_filter.specs.declared.expression.Quantity.TheVariants.{Length}
 use Rattle.packet_filter.specs.declared.filter.Step.TheVariants as step
 
 -- an address begins with the bits of another if the fronts of both are equal
@@ -19,6 +20,7 @@ within_by_front a bits (Some (V4 b)) =
 within_by_front a bits (Some (V6 b)) = (λ h. h, λ h. h)
 
 pub asks_what_holds : (p : Primitive) (lax : LaxSlicedPacket) (len : ℕ) → Asks (quick_of p) (step.Test p) lax len ↔ Holds p lax len
+unfolding quick_of
 asks_what_holds (primitive.Net None (Some direction.Source) (V4 a) bits) lax len =
     let w = within_by_front a bits (source_address lax.packet) in (λ h. (tt, w.0 h), λ h. w.1 h.1)
 asks_what_holds (primitive.Net None (Some direction.Destination) (V4 a) bits) lax len =
@@ -29,4 +31,5 @@ asks_what_holds (primitive.Net None None (V4 a) bits) lax len =
     (λ h. (tt, elim h [ inl x ↦ inl (s.0 x) | inr x ↦ inr (d.0 x) ]), λ h. elim h.1 [ inl x ↦ inl (s.1 x) | inr x ↦ inr (d.1 x) ])
 asks_what_holds (primitive.Proto None number) lax len = (λ h. h, λ h. h)
 asks_what_holds (primitive.Ports t None low high) lax len = (λ h. h, λ h. h)
+asks_what_holds (primitive.Compare Length None r limit) lax len = (λ h. (len, refl, h), λ h. subst (λ n. Compares r n limit) h.1 h.2)
 asks_what_holds p lax len = (λ h. h, λ h. h)

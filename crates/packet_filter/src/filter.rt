@@ -1,6 +1,6 @@
 //! Filters: expressions in postfix form, and their evaluation.
 
-ghost use Rattle.std.specs.Prelude.{◌≡◌, ◌↔◌, IsTrue};
+ghost use Rattle.std.specs.Prelude.{◌≡◌, ◌↔◌, IfSome, IsTrue};
 ghost use Rattle.packet_filter.specs.Private.Jumps.{decisions_of};
 ghost use Rattle.packet_filter.specs.Meaning.{Matches};
 ghost use Rattle.packet_filter.specs.Program.{Computes, expression_of};
@@ -85,6 +85,23 @@ impl Filter {
     }
 }
 
+impl Filter {
+    /// Whether the expression says something true of a packet, if all tests that are made are
+    /// prepared.
+    #[inline(always)]
+    pub(crate) fn matches_by_prepared(&self, packet: &LaxSlicedPacket, len: usize) -> Option<bool>
+        ensures value { IfSome result (λ value.
+            IsTrue value ↔ Matches (expression_of self.now) packet.now len) }
+    {
+        prepared_value_of(
+            self.steps.as_slice(),
+            self.decisions.as_slice(),
+            packet,
+            len,
+        )
+    }
+}
+
 // Whether the expression of these steps matches.
 fn value_of(steps: &[Step], decisions: &[Decision], packet: &LaxSlicedPacket, len: usize) -> bool
     requires computes { Computes steps.now (expression_of steps.now) }
@@ -98,4 +115,29 @@ fn value_of(steps: &[Step], decisions: &[Decision], packet: &LaxSlicedPacket, le
         place = jump.place(holds);
     }
     place == 1
+}
+
+// The same, if all tests that are made are prepared.
+#[inline(always)]
+fn prepared_value_of(
+    steps: &[Step],
+    decisions: &[Decision],
+    packet: &LaxSlicedPacket,
+    len: usize,
+) -> Option<bool>
+    requires computes { Computes steps.now (expression_of steps.now) }
+    requires decisions { decisions.now ≡ decisions_of steps.now }
+    ensures value { IfSome result (λ value.
+        IsTrue value ↔ Matches (expression_of steps.now) packet.now len) }
+{
+    let mut place = steps.len() + 1;
+    'steps: while place > 1 {
+        let Decision { quick, jump } = decisions[place - 2];
+        let holds = match quick.holds_by_itself(packet, len) {
+            Some(holds) => holds,
+            None => return None,
+        };
+        place = jump.place(holds);
+    }
+    Some(place == 1)
 }

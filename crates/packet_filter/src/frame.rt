@@ -8,6 +8,7 @@ ghost use Rattle.packet_filter.specs.Meaning.{Matches};
 ghost use Rattle.packet_filter.specs.Program.{expression_of};
 
 use crate::filter::Filter;
+use crate::front::plain_in;
 use packet::lax_sliced_packet::LaxSlicedPacket;
 use packet::link::LinkType;
 use packet::sliced_packet::SlicedPacket;
@@ -34,6 +35,20 @@ impl Filter {
     /// assert!(rt; filter.matches_frame(LinkType::Ethernet2, &frame[..13], 13));
     /// ```
     pub fn matches_frame(&self, link_type: LinkType, frame: &[u8], len: usize) -> bool
+        ensures value { Answers (expression_of self.now) link_type frame.now len result }
+    {
+        // Registers alone hold the packet, since no call takes it.
+        if let Some(lax) = plain_in(link_type, frame) {
+            if let Some(value) = self.matches_by_prepared(&lax, len) {
+                return value;
+            }
+        }
+        self.matches_odd(link_type, frame, len)
+    }
+
+    // The same of a frame that is not plain.
+    #[inline(never)]
+    fn matches_odd(&self, link_type: LinkType, frame: &[u8], len: usize) -> bool
         ensures value { Answers (expression_of self.now) link_type frame.now len result }
     {
         match LaxSlicedPacket::from_link_type(link_type, frame) {

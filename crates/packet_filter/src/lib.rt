@@ -7,6 +7,7 @@ mod expected;
 mod expression;
 mod filter;
 mod frame;
+mod front;
 mod head;
 mod holds;
 mod jumps;

@@ -60,7 +60,7 @@ fn masked(mask: Option<u32>, number: usize) -> usize
 
 // Whether the first number is in this relation to the second.
 #[inline(always)]
-fn compares(relation: Relation, a: usize, b: usize) -> bool
+pub(crate) fn compares(relation: Relation, a: usize, b: usize) -> bool
     ensures value { IsTrue result ↔ Compares relation a b }
 {
     match relation {

@@ -1,14 +1,16 @@
 //! Tests in which all that the packet does not say is computed before.
 
-ghost use Rattle.std.specs.Prelude.{◌≡◌, ◌/◌, ◌%◌, ◌^◌, ◌≤◌, ◌↔◌, IsSomeAnd, IsTrue};
+ghost use Rattle.std.specs.Prelude.{◌≡◌, ◌/◌, ◌%◌, ◌^◌, ◌≤◌, ◌↔◌, IfSome, IsSomeAnd, IsTrue};
 ghost use Rattle.std.specs.Int.{from_be_bytes, w32};
 ghost use Rattle.packet_filter.specs.Meaning.{arp_address, destination_address, source_address};
 ghost use Rattle.packet_filter.specs.Private.Quick.{Asks, HasFront, quick_of, quick_of_step};
+ghost use Rattle.packet_filter.specs.declared.filter.Step.{Step as AnyStep};
 
 use crate::address::{Address, is_arp_of_ipv4};
-use crate::expression::{Direction, Primitive, Transport, Version};
+use crate::expression::{Direction, Primitive, Quantity, Relation, Transport, Version};
 use crate::filter::Step;
 use crate::holds::{has_ports, has_proto, is_ip};
+use crate::number::compares;
 use etherparse::IpNumber;
 use packet::lax_sliced_packet::LaxSlicedPacket;
 use packet::sliced_packet::SlicedPacket;
@@ -29,6 +31,8 @@ pub(crate) enum Quick {
     Destination(u8, u32),
     /// One of them is.
     Host(u8, u32),
+    /// The length of the frame is in this relation to a number.
+    Length(Relation, u32),
     /// Anything else: see the step.
     #[default]
     Other,
@@ -45,6 +49,7 @@ pub(crate) fn quick_of_step(step: &Step) -> Quick
 }
 
 // The test that a primitive is.
+#[tactic(auto, unfolding(crate::specs::Private::Quick::quick_of))]
 fn quick_of(primitive: &Primitive) -> Quick
     ensures value { result ≡ quick_of primitive.now }
 {
@@ -61,6 +66,9 @@ fn quick_of(primitive: &Primitive) -> Quick
                 Some(Direction::Destination) => Quick::Destination(others, front),
                 Some(Direction::Either | Direction::Both) => Quick::Other,
             }
+        }
+        Primitive::Compare(Quantity::Length, None, relation, limit) => {
+            Quick::Length(*relation, *limit)
         }
         _ => Quick::Other,
     }
@@ -94,7 +102,33 @@ impl Quick {
             Quick::Host(others, front) => {
                 has_source(others, front, packet) | has_destination(others, front, packet)
             }
+            Quick::Length(relation, limit) => compares(relation, len, limit as usize),
             Quick::Other => other_holds(step, lax, len),
+        }
+    }
+
+    /// The same of what it asks for itself; `None` if the step has to be asked.
+    #[inline(always)]
+    pub(crate) fn holds_by_itself(self, lax: &LaxSlicedPacket, len: usize) -> Option<bool>
+        ensures value { (step : AnyStep) →
+            IfSome result (λ holds. IsTrue holds ↔ Asks self step lax.now len) }
+    {
+        let packet = &lax.packet;
+        match self {
+            Quick::Version(version) => Some(is_ip(version, packet)),
+            Quick::Proto(number) => Some(has_proto(None, IpNumber(number), packet)),
+            Quick::Ports(transport, low, high) => match &packet.net {
+                Some(ip) => Some(has_ports(transport, None, low, high, ip)),
+                None => Some(false),
+            },
+            Quick::Source(others, front) => Some(has_source(others, front, packet)),
+            Quick::Destination(others, front) => Some(has_destination(others, front, packet)),
+            Quick::Host(others, front) => {
+                let source = has_source(others, front, packet);
+                Some(source | has_destination(others, front, packet))
+            }
+            Quick::Length(relation, limit) => Some(compares(relation, len, limit as usize)),
+            Quick::Other => None,
         }
     }
 }

@@ -1,20 +1,21 @@
 -- Tests in which all that the packet does not say is computed before.
 use Rattle.std.specs.Prelude.{ℕ, ◌≡◌, ◌-◌, ◌/◌, ◌%◌, ◌^◌, ◌≤◌, ◌⊎◌, IsSomeAnd, None, Some}
 use Rattle.packet.specs.declared.lax_sliced_packet.LaxSlicedPacket.{LaxSlicedPacket}
-use Rattle.packet_filter.specs.Meaning.{HasPorts, HasProto, Holds, IsIp, destination_address}
-use Rattle.packet_filter.specs.Meaning.{source_address}
+use Rattle.packet_filter.specs.Meaning.{Compares, HasPorts, HasProto, Holds, IsIp}
+use Rattle.packet_filter.specs.Meaning.{destination_address, source_address}
 use Rattle.packet_filter.specs.declared.address.Address.{Address}
 use Rattle.packet_filter.specs.declared.address.Address.TheVariants.{V4, V6}
 use Rattle.packet_filter.specs.declared.expression.Direction.TheVariants as direction
 use Rattle.packet_filter.specs.declared.expression.Primitive.{Primitive}
 use Rattle.packet_filter.specs.declared.expression.Primitive.TheVariants as primitive
+use Rattle.packet_filter.specs.declared.expression.Quantity.TheVariants.{Length}
 use Rattle.packet_filter.specs.declared.filter.Step.{Step}
 use Rattle.packet_filter.specs.declared.filter.Step.TheVariants as step
 use Rattle.packet_filter.specs.declared.quick.Quick.{Quick}
 use Rattle.packet_filter.specs.declared.quick.Quick.TheVariants as quick
 
 -- the test that a primitive is
-abbrev pub quick_of : Primitive → Quick
+unfoldable pub quick_of : Primitive → Quick
 quick_of (primitive.Version v) = quick.Version v
 quick_of (primitive.Proto None number) = quick.Proto number
 quick_of (primitive.Ports t None low high) = quick.Ports t low high
@@ -23,6 +24,7 @@ quick_of (primitive.Net None (Some direction.Source) (V4 a) bits) =
 quick_of (primitive.Net None (Some direction.Destination) (V4 a) bits) =
     quick.Destination (32 - bits) (a / 2 ^ (32 - bits))
 quick_of (primitive.Net None None (V4 a) bits) = quick.Host (32 - bits) (a / 2 ^ (32 - bits))
+quick_of (primitive.Compare Length None relation limit) = quick.Length relation limit
 quick_of p = quick.Other
 
 -- and a step
@@ -48,5 +50,6 @@ Asks (quick.Destination others front) s lax len =
 Asks (quick.Host others front) s lax len =
     IsSomeAnd (source_address lax.packet) (HasFront others front)
     ⊎ IsSomeAnd (destination_address lax.packet) (HasFront others front)
+Asks (quick.Length relation limit) s lax len = Compares relation len limit
 Asks quick.Other (step.Test p) lax len = Holds p lax len
 Asks quick.Other s lax len = ⊥
