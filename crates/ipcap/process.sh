@@ -160,8 +160,10 @@ arguments() {
         refused "error: a value is required for '-c <N>' but none was supplied" -c
         refused "error: invalid value 'x' for '-c <N>': invalid digit found in string" -c x
         refused "error: invalid value '5x' for '-c <N>': invalid digit found in string" -c5x tcp
-        refused "error: invalid value '0' for '-c <N>': 0 is not in 1.." -c 0
+        refused "error: invalid value '0' for '-c <N>': 0 is not in 1..18446744073709551615" -c 0
         refused "error: the argument '-c <N>' cannot be used multiple times" -c 1 -c 2
+        refused 'error: an argument is not UTF-8' $'tcp \377'
+        refused 'error: an argument is not UTF-8' -r $'\377'
         refused "error: the argument '--quiet' cannot be used with '--count'" --quiet --count
         refused "error: the argument '--quiet' cannot be used with '-w <FILE>'" --quiet -w -
         refused "error: the argument '--count' cannot be used with '-w <FILE>'" --count -w -
@@ -432,8 +434,8 @@ no_expressions() {
     no_expression "The word at byte 1 $cannot $operand" ' --quiet' 1 -- '' --quiet
     no_expression "$ends $operand" 'not (tcp or' 11 'not (tcp or'
     no_expression "$ends $operand" 'not ' 4 not ''
-    no_expression "The word at byte 5 $cannot $after" 'tcp  ?[2J? ~ ????' 5 \
-        $'tcp\n\t\e[2J\a\r~ \303\251\377\177'
+    no_expression "The word at byte 5 $cannot $after" 'tcp  ?[2J? ~ ???' 5 \
+        $'tcp\n\t\e[2J\a\r~ \303\251\177'
     no_expression "\`and\` and \`or\` stand together at byte 11: parentheses have to say which comes \
 first, as in \`(a or b) and c\` or \`a or (b and c)\`." 'udp or tcp and port 22' 11 udp or tcp and port 22
     no_expression 'The word of pcap-filter(7) at byte 6 is not part of the language.' 'ip or mpls' 6 ip or mpls

@@ -26,6 +26,7 @@ use output::Output;
 use refusal::RefusalLines;
 use request::{Request, read_filter};
 use run::run;
+use std::io::ErrorKind;
 use std::process::ExitCode;
 use std::{env, io};
 use streams::Watched;
@@ -49,7 +50,15 @@ fn main(rt: HostRuntime) -> ExitCode {
 
 // Reads the command line, and does what it says. Returns the exit status.
 fn start(rt: &HostRuntime) -> io::Result<u8> {
-    let words: Vec<String> = env::args(rt)?.collect(rt.alloc())?;
+    let arguments = match env::args(rt) {
+        Ok(arguments) => arguments,
+        Err(e) if e.kind() == ErrorKind::InvalidData => {
+            let _ = eprintln!(rt; "error: an argument is not UTF-8");
+            return Ok(REFUSED);
+        }
+        Err(e) => return Err(e),
+    };
+    let words: Vec<String> = arguments.collect(rt.alloc())?;
     let matches = match command(rt.alloc())?.try_get_matches_from(words.as_slice()) {
         Ok(matches) => matches,
         Err(e) => {
