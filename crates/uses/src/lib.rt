@@ -15,6 +15,7 @@ pub mod ipv6_view;
 pub mod options;
 pub mod payload;
 pub mod queue;
+pub mod reassembly;
 pub mod selection;
 pub mod send;
 pub mod translation;
