@@ -39,6 +39,8 @@ mod limited_walk;
 #[cfg(test)]
 mod packet_examples;
 #[cfg(test)]
+mod reassembly_examples;
+#[cfg(test)]
 mod shared;
 #[cfg(test)]
 mod udp;

@@ -80,9 +80,7 @@ same_range p q s e m =
     ap f s ∙ (ap g e ∙ ap h m)
 
 -- a fragment that overlaps one that is kept, and has not its range
-pub conflict_taken : (bytes payload : List ℕ) (ranges : List IpFragRange) (extent : Extent) (range : IpFragRange) (k : ℕ) → AreKept bytes ranges extent → Fits range payload
-    → Begins range k → 0 < (range_at ranges k).end → range_at ranges (range.start / 8) ≢ range
-    → (f : Fragment) × Contains (held bytes ranges) f × Conflict f (fragment_of range payload)
+pub conflict_taken : (bytes payload : List ℕ) (ranges : List IpFragRange) (extent : Extent) (range : IpFragRange) (k : ℕ) → AreKept bytes ranges extent → Fits range payload → Begins range k → 0 < (range_at ranges k).end → range_at ranges (range.start / 8) ≢ range → (f : Fragment) × Contains (held bytes ranges) f × Conflict f (fragment_of range payload)
 conflict_taken bytes payload ranges extent range k kept fits b some other =
     let room = kept.room in let limit = kept.limit in
     let e = end_at bytes ranges extent.reach k kept.apart (omega arith) some in
@@ -100,9 +98,7 @@ conflict_taken bytes payload ranges extent range k kept fits b some other =
     )
 
 -- one that has the range of one that is kept, and other bytes
-pub conflict_bytes : (bytes payload : List ℕ) (ranges : List IpFragRange) (extent : Extent) (range : IpFragRange) → AreKept bytes ranges extent → Fits range payload
-    → range_at ranges (range.start / 8) ≡ range → slice_range bytes range.start range.end ≢ payload
-    → (f : Fragment) × Contains (held bytes ranges) f × Conflict f (fragment_of range payload)
+pub conflict_bytes : (bytes payload : List ℕ) (ranges : List IpFragRange) (extent : Extent) (range : IpFragRange) → AreKept bytes ranges extent → Fits range payload → range_at ranges (range.start / 8) ≡ range → slice_range bytes range.start range.end ≢ payload → (f : Fragment) × Contains (held bytes ranges) f × Conflict f (fragment_of range payload)
 conflict_bytes bytes payload ranges extent range kept fits same other =
     let k : ℕ = range.start / 8 in
     let some : 0 < (range_at ranges k).end = rw same (omega (arith, fits.some)) in
@@ -115,9 +111,7 @@ conflict_bytes bytes payload ranges extent range kept fits same other =
     )
 
 -- one that goes past the end, and one that ends before what has come
-pub conflict_past : (bytes payload : List ℕ) (ranges : List IpFragRange) (extent : Extent) (range : IpFragRange) → AreKept bytes ranges extent → Fits range payload
-    → (extent.ended ≡ true) × (extent.reach < range.end) ⊎ (range.more_fragments ≡ false) × (range.end < extent.reach)
-    → (f : Fragment) × Contains (held bytes ranges) f × Conflict f (fragment_of range payload)
+pub conflict_past : (bytes payload : List ℕ) (ranges : List IpFragRange) (extent : Extent) (range : IpFragRange) → AreKept bytes ranges extent → Fits range payload → (extent.ended ≡ true) × (extent.reach < range.end) ⊎ (range.more_fragments ≡ false) × (range.end < extent.reach) → (f : Fragment) × Contains (held bytes ranges) f × Conflict f (fragment_of range payload)
 conflict_past bytes payload ranges extent range kept fits (inl (ended, past)) =
     let (k, is) = kept.reached (kept.ended ended) in
     let some : 0 < (range_at ranges k).end = omega (arith, kept.ended ended) in
@@ -130,9 +124,7 @@ conflict_past bytes payload ranges extent range kept fits (inr (last, before)) =
     (fragment_in bytes (range_at ranges k), Contains_from_held bytes ranges k some, inr (inr (last, omega (arith, fits.len))))
 
 -- one that has come before
-pub same_held : (bytes payload : List ℕ) (ranges : List IpFragRange) (range : IpFragRange) → Fits range payload
-    → range_at ranges (range.start / 8) ≡ range → slice_range bytes range.start range.end ≡ payload
-    → Contains (held bytes ranges) (fragment_of range payload)
+pub same_held : (bytes payload : List ℕ) (ranges : List IpFragRange) (range : IpFragRange) → Fits range payload → range_at ranges (range.start / 8) ≡ range → slice_range bytes range.start range.end ≡ payload → Contains (held bytes ranges) (fragment_of range payload)
 same_held bytes payload ranges range fits same is =
     let k : ℕ = range.start / 8 in
     let some : 0 < (range_at ranges k).end = rw same (omega (arith, fits.some)) in

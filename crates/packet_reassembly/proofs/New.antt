@@ -26,16 +26,14 @@ begins_or_not range k = elim (cases_lt (8 * k) range.start) [
 ]
 
 -- what the table has for a unit is the new range, or what it had
-by_unit : (bytes payload : List ℕ) (old new : List IpFragRange) (extent : Extent) (range : IpFragRange) → Adds bytes payload old new extent range
-    → (P : IpFragRange → Type 0) (k : ℕ) → (Begins range k → P range) → (¬ Begins range k → P (range_at old k)) → P (range_at new k)
+by_unit : (bytes payload : List ℕ) (old new : List IpFragRange) (extent : Extent) (range : IpFragRange) → Adds bytes payload old new extent range → (P : IpFragRange → Type 0) (k : ℕ) → (Begins range k → P range) → (¬ Begins range k → P (range_at old k)) → P (range_at new k)
 by_unit bytes payload old new extent range a P k here there = elim (begins_or_not range k) [
   | inl b ↦ subst P (sym (a.marked.inside k b)) (here b)
   | inr n ↦ subst P (sym (a.marked.outside k n)) (there n)
 ]
 
 -- nothing that is kept overlaps the new range
-no_overlap : (bytes payload : List ℕ) (old new : List IpFragRange) (extent : Extent) (range : IpFragRange) (k : ℕ) → Adds bytes payload old new extent range
-    → 0 < (range_at old k).end → (range_at old k).start < range.end → range.start < (range_at old k).end → ⊥
+no_overlap : (bytes payload : List ℕ) (old new : List IpFragRange) (extent : Extent) (range : IpFragRange) (k : ℕ) → Adds bytes payload old new extent range → 0 < (range_at old k).end → (range_at old k).start < range.end → range.start < (range_at old k).end → ⊥
 no_overlap bytes payload old new extent range k a some l r =
     let apart = a.kept.apart in
     let b = apart.begins k some in
@@ -43,29 +41,23 @@ no_overlap bytes payload old new extent range k a some l r =
     let e = ap (λ (x : IpFragRange). x.end) (apart.same k j some own) in
     omega (arith, a.is_new.clear j its)
 
-not_begun : (bytes payload : List ℕ) (old new : List IpFragRange) (extent : Extent) (range : IpFragRange) (k : ℕ) → Adds bytes payload old new extent range
-    → 0 < (range_at old k).end → range_at new k ≡ range_at old k
+not_begun : (bytes payload : List ℕ) (old new : List IpFragRange) (extent : Extent) (range : IpFragRange) (k : ℕ) → Adds bytes payload old new extent range → 0 < (range_at old k).end → range_at new k ≡ range_at old k
 not_begun bytes payload old new extent range k a some = a.marked.outside k (λ b. omega (arith, a.is_new.clear k b))
 
-last_of_range : (ended more : Bool) (reach end : ℕ) → (ended ≡ true → end ≤ reach) → (ended ≡ true → end ≢ reach) → (more ≡ false → reach ≤ end)
-    → (more ≡ false) ↔ (((ended || not more) ≡ true) × (end ≡ max reach end))
+last_of_range : (ended more : Bool) (reach end : ℕ) → (ended ≡ true → end ≤ reach) → (ended ≡ true → end ≢ reach) → (more ≡ false → reach ≤ end) → (more ≡ false) ↔ (((ended || not more) ≡ true) × (end ≡ max reach end))
 last_of_range true true reach end a b c = (λ e. absurd (cc), λ e. absurd (omega (arith, a refl, b refl, e.1)))
 last_of_range true false reach end a b c = absurd (omega (arith, a refl, b refl, c refl))
 last_of_range false true reach end a b c = (λ e. absurd (cc), λ e. let f = e.0 in absurd (cc))
 last_of_range false false reach end a b c = (λ e. (refl, omega (arith, c refl)), λ e. refl)
 
-last_of_other : (ended more other : Bool) (reach end there : ℕ) → (ended ≡ true → end ≤ reach) → (more ≡ false → reach ≤ end) → there ≢ end
-    → (other ≡ false) ↔ ((ended ≡ true) × (there ≡ reach))
-    → (other ≡ false) ↔ (((ended || not more) ≡ true) × (there ≡ max reach end))
+last_of_other : (ended more other : Bool) (reach end there : ℕ) → (ended ≡ true → end ≤ reach) → (more ≡ false → reach ≤ end) → there ≢ end → (other ≡ false) ↔ ((ended ≡ true) × (there ≡ reach)) → (other ≡ false) ↔ (((ended || not more) ≡ true) × (there ≡ max reach end))
 last_of_other true more other reach end there a c d (to, from) =
     let l = a refl in (λ e. (refl, omega (arith, (to e).1)), λ e. from (refl, omega (arith, e.1)))
 last_of_other false true other reach end there a c d (to, from) = (λ e. let f = (to e).0 in absurd (cc), λ e. let f = e.0 in absurd (cc))
 last_of_other false false other reach end there a c d (to, from) =
     let l = c refl in (λ e. let f = (to e).0 in absurd (cc), λ e. absurd (omega (arith, d, e.1)))
 
-last-new : (bytes payload : List ℕ) (old new : List IpFragRange) (extent : Extent) (range : IpFragRange) → Adds bytes payload old new extent range
-    → (k : ℕ) → 0 < (range_at new k).end
-    → ((range_at new k).more_fragments ≡ false) ↔ (((extent.ended || not range.more_fragments) ≡ true) × ((range_at new k).end ≡ max extent.reach range.end))
+last-new : (bytes payload : List ℕ) (old new : List IpFragRange) (extent : Extent) (range : IpFragRange) → Adds bytes payload old new extent range → (k : ℕ) → 0 < (range_at new k).end → ((range_at new k).more_fragments ≡ false) ↔ (((extent.ended || not range.more_fragments) ≡ true) × ((range_at new k).end ≡ max extent.reach range.end))
 last-new bytes payload old new extent range a k =
     by_unit bytes payload old new extent range a
     (λ r. 0 < r.end → (r.more_fragments ≡ false) ↔ (((extent.ended || not range.more_fragments) ≡ true) × (r.end ≡ max extent.reach range.end))) k
@@ -81,14 +73,12 @@ last-new bytes payload old new extent range a k =
     (λ e. let own = a.kept.apart.begins k some in let f = a.fits.some in no_overlap bytes payload old new extent range k a some (omega arith) (omega arith))
     (a.kept.last k some))
 
-unit-new : (bytes payload : List ℕ) (old new : List IpFragRange) (extent : Extent) (range : IpFragRange) → Adds bytes payload old new extent range
-    → (k : ℕ) → (range_at new k).more_fragments ≡ true → (range_at new k).end % 8 ≡ 0
+unit-new : (bytes payload : List ℕ) (old new : List IpFragRange) (extent : Extent) (range : IpFragRange) → Adds bytes payload old new extent range → (k : ℕ) → (range_at new k).more_fragments ≡ true → (range_at new k).end % 8 ≡ 0
 unit-new bytes payload old new extent range a k =
     by_unit bytes payload old new extent range a (λ r. r.more_fragments ≡ true → r.end % 8 ≡ 0) k (λ b. a.fits.more) (λ n. a.kept.unit k)
 
 -- the table stays in order
-pub apart-new : (bytes payload : List ℕ) (old new : List IpFragRange) (extent : Extent) (range : IpFragRange) → Adds bytes payload old new extent range
-    → AreApart new (max extent.reach range.end)
+pub apart-new : (bytes payload : List ℕ) (old new : List IpFragRange) (extent : Extent) (range : IpFragRange) → Adds bytes payload old new extent range → AreApart new (max extent.reach range.end)
 apart-new bytes payload old new extent range a =
     let apart = a.kept.apart in
     let adds : (P : IpFragRange → Type 0) (k : ℕ) → (Begins range k → P range) → (¬ Begins range k → P (range_at old k)) → P (range_at new k) = by_unit bytes payload old new extent range a in
@@ -106,8 +96,7 @@ apart-new bytes payload old new extent range a =
     }
 
 -- what the memory holds, once the payload is written
-unchanged : (bytes payload : List ℕ) (old new : List IpFragRange) (extent : Extent) (range : IpFragRange) (k n : ℕ) → Adds bytes payload old new extent range → n ≡ length payload
-    → 0 < (range_at old k).end → fragment_in (put_mid range.start n bytes payload) (range_at old k) ≡ fragment_in bytes (range_at old k)
+unchanged : (bytes payload : List ℕ) (old new : List IpFragRange) (extent : Extent) (range : IpFragRange) (k n : ℕ) → Adds bytes payload old new extent range → n ≡ length payload → 0 < (range_at old k).end → fragment_in (put_mid range.start n bytes payload) (range_at old k) ≡ fragment_in bytes (range_at old k)
 unchanged bytes payload old new extent range k n a len some =
     let r : IpFragRange = range_at old k in
     let f : List ℕ → Fragment = λ b. record { start = r.start; more = r.more_fragments; bytes = b } in
@@ -121,16 +110,13 @@ unchanged bytes payload old new extent range k n a len some =
           ∙ (ap (drop r.start) (take-put_mid_below range.start n bytes payload r.end l (omega arith)) ∙ sym (between_is bytes r.start r.end))
     ])
 
-written : (bytes payload : List ℕ) (old new : List IpFragRange) (extent : Extent) (range : IpFragRange) (n : ℕ) → Adds bytes payload old new extent range → n ≡ length payload
-    → fragment_in (put_mid range.start n bytes payload) range ≡ fragment_of range payload
+written : (bytes payload : List ℕ) (old new : List IpFragRange) (extent : Extent) (range : IpFragRange) (n : ℕ) → Adds bytes payload old new extent range → n ≡ length payload → fragment_in (put_mid range.start n bytes payload) range ≡ fragment_of range payload
 written bytes payload old new extent range n a len =
     let room = a.kept.room in let limit = a.fits.limit in let ends = a.fits.len in let some = a.fits.some in
     let f : List ℕ → Fragment = λ b. record { start = range.start; more = range.more_fragments; bytes = b } in
     ap f (between-put_mid range.start n bytes payload range.end (omega arith) (omega arith))
 
-pub kept-new : (bytes payload : List ℕ) (old new : List IpFragRange) (extent : Extent) (range : IpFragRange) (n front : ℕ) → Adds bytes payload old new extent range → n ≡ length payload
-    → IsFront new (max extent.reach range.end) front
-    → AreKept (put_mid range.start n bytes payload) new (record { reach = max extent.reach range.end; ended = extent.ended || not range.more_fragments; front = front })
+pub kept-new : (bytes payload : List ℕ) (old new : List IpFragRange) (extent : Extent) (range : IpFragRange) (n front : ℕ) → Adds bytes payload old new extent range → n ≡ length payload → IsFront new (max extent.reach range.end) front → AreKept (put_mid range.start n bytes payload) new (record { reach = max extent.reach range.end; ended = extent.ended || not range.more_fragments; front = front })
 kept-new bytes payload old new extent range n front a len is_front =
     let room = a.kept.room in let limit = a.kept.limit in let to = a.fits.limit in let ends = a.fits.len in let some = a.fits.some in let table = a.kept.table in let same = a.len in
     record {
@@ -148,8 +134,7 @@ kept-new bytes payload old new extent range n front a len is_front =
       front = is_front;
     }
 
-no_conflict : (bytes payload : List ℕ) (old new : List IpFragRange) (extent : Extent) (range : IpFragRange) (k : ℕ) → Adds bytes payload old new extent range
-    → 0 < (range_at old k).end → ¬ Conflict (fragment_in bytes (range_at old k)) (fragment_of range payload)
+no_conflict : (bytes payload : List ℕ) (old new : List IpFragRange) (extent : Extent) (range : IpFragRange) (k : ℕ) → Adds bytes payload old new extent range → 0 < (range_at old k).end → ¬ Conflict (fragment_in bytes (range_at old k)) (fragment_of range payload)
 no_conflict bytes payload old new extent range k a some c =
     let e = end_at bytes old extent.reach k a.kept.apart (omega (arith, a.kept.room, a.kept.limit)) some in
     let ends = a.fits.len in let within = a.kept.apart.within k in
@@ -161,8 +146,7 @@ no_conflict bytes payload old new extent range k a some c =
       ]
     ]
 
-pub takes-new : (bytes payload : List ℕ) (old new : List IpFragRange) (extent : Extent) (range : IpFragRange) (n : ℕ) → Adds bytes payload old new extent range → n ≡ length payload
-    → Takes (Some (held bytes old)) (fragment_of range payload) (Some (held (put_mid range.start n bytes payload) new))
+pub takes-new : (bytes payload : List ℕ) (old new : List IpFragRange) (extent : Extent) (range : IpFragRange) (n : ℕ) → Adds bytes payload old new extent range → n ≡ length payload → Takes (Some (held bytes old)) (fragment_of range payload) (Some (held (put_mid range.start n bytes payload) new))
 takes-new bytes payload old new extent range n a len =
     let after : List ℕ = put_mid range.start n bytes payload in
     let f : Fragment = fragment_of range payload in

@@ -9,13 +9,11 @@ use Rattle.etherparse.specs.declared.net.ipv6_header.Ipv6Header.{Ipv6Header}
 use Rattle.packet_reassembly.specs.Packet.{AreUnfragmentable, IsChain, IsIpv6Packet}
 
 -- one header more of a chain
-pub chain_one : (first : ℕ) (headers : List (List ℕ)) (header : List ℕ) (number : ℕ) → IsExtensionHeaderChain first headers number → IsExtensionHeader number header
-    → IsExtensionHeaderChain first (headers ++ header ∷ []) (slice_index header 0)
+pub chain_one : (first : ℕ) (headers : List (List ℕ)) (header : List ℕ) (number : ℕ) → IsExtensionHeaderChain first headers number → IsExtensionHeader number header → IsExtensionHeaderChain first (headers ++ header ∷ []) (slice_index header 0)
 chain_one first [] header number e h = (rw e at h, refl)
 chain_one first (one ∷ headers) header number c h = (c.0, chain_one (slice_index one 0) headers header number c.1 h)
 
-pub chain_more : (first : ℕ) (before header rest : List ℕ) (number : ℕ) → IsChain first before number → IsExtensionHeader number header
-    → FollowsChain (before ++ (header ++ rest)) first (slice_index header 0) rest
+pub chain_more : (first : ℕ) (before header rest : List ℕ) (number : ℕ) → IsChain first before number → IsExtensionHeader number header → FollowsChain (before ++ (header ++ rest)) first (slice_index header 0) rest
 chain_more first before header rest number c h = record {
   headers = c.headers ++ header ∷ [];
   begins = record {

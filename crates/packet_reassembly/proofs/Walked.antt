@@ -32,8 +32,7 @@ unfragmentable : (first number : ℕ) (before header : List ℕ) → IsChain fir
 unfragmentable first number before [] chain is some = absurd (omega arith)
 unfragmentable first number before (byte ∷ rest) chain is some = (number, chain, is)
 
-pub walked_more : (body : List ℕ) (first last at number k to : ℕ) → IsWalked body first last at number → IsSkippable number → k ≡ required_len_of number (drop at body) → k ≤ length (drop at body) → to ≡ at + k
-    → Passes body first None (slice_index (drop at body) 0) (drop k (drop at body)) → IsWalked body first at to (slice_index (drop at body) 0)
+pub walked_more : (body : List ℕ) (first last at number k to : ℕ) → IsWalked body first last at number → IsSkippable number → k ≡ required_len_of number (drop at body) → k ≤ length (drop at body) → to ≡ at + k → Passes body first None (slice_index (drop at body) 0) (drop k (drop at body)) → IsWalked body first at to (slice_index (drop at body) 0)
 walked_more body first last at number k to w skippable is fits here passes =
     let rest = drop at body in
     let (len, long) = second_byte_tells number k rest is fits in
@@ -61,8 +60,7 @@ walked_none body first passes = record {
 }
 
 -- an atomic fragment header is passed
-pub atomic_passed : (body slice rest : List ℕ) (header : FragmentHeader) (first number : ℕ) → number ≡ 44 → BeginsWith IsFragmentLayout slice header rest → is_part header ≡ false → header.fragment_offset ≡ 0
-    → Passes body first None number slice → Passes body first None (slice_index slice 0) (drop (required_len_of number slice) slice)
+pub atomic_passed : (body slice rest : List ℕ) (header : FragmentHeader) (first number : ℕ) → number ≡ 44 → BeginsWith IsFragmentLayout slice header rest → is_part header ≡ false → header.fragment_offset ≡ 0 → Passes body first None number slice → Passes body first None (slice_index slice 0) (drop (required_len_of number slice) slice)
 atomic_passed body slice rest header first number is begins whole at_front passes =
     let len = begins.layout.len in
     let enough : 8 ≤ length slice = omega (arith, ap length begins.whole, length-append {A = ℕ}) in
@@ -73,15 +71,13 @@ atomic_passed body slice rest header first number is begins whole at_front passe
     rw (named, after) (rw none at (after_fragment (rw is at passes) begins at_front))
 
 -- the same of the rest as the code has it
-pub walked_rest : (body rest : List ℕ) (first last at number to : ℕ) → rest ≡ drop at body → IsWalked body first last at number → IsSkippable number → required_len_of number rest ≤ length rest → to ≡ at + required_len_of number rest
-    → Passes body first None (slice_index rest 0) (drop (required_len_of number rest) rest) → IsWalked body first at to (slice_index rest 0)
+pub walked_rest : (body rest : List ℕ) (first last at number to : ℕ) → rest ≡ drop at body → IsWalked body first last at number → IsSkippable number → required_len_of number rest ≤ length rest → to ≡ at + required_len_of number rest → Passes body first None (slice_index rest 0) (drop (required_len_of number rest) rest) → IsWalked body first at to (slice_index rest 0)
 walked_rest body rest first last at number to is w skippable =
     subst (λ (r : List ℕ). required_len_of number r ≤ length r → to ≡ at + required_len_of number r → Passes body first None (slice_index r 0) (drop (required_len_of number r) r) → IsWalked body first at to (slice_index r 0)) (sym is)
     (λ fits e passes. walked_more body first last at number (required_len_of number (drop at body)) to w skippable refl fits e passes)
 
 -- the error of a header that is incomplete
-pub ends_before : (body rest : List ℕ) (first last at number : ℕ) (e moved : LenError) → rest ≡ drop at body → IsWalked body first last at number → IsSkippable number → length rest < required_len_of number rest
-    → e ≡ incomplete_header_error number rest 0 → moved ≡ len_error_moved at e → EndsBefore body first moved
+pub ends_before : (body rest : List ℕ) (first last at number : ℕ) (e moved : LenError) → rest ≡ drop at body → IsWalked body first last at number → IsSkippable number → length rest < required_len_of number rest → e ≡ incomplete_header_error number rest 0 → moved ≡ len_error_moved at e → EndsBefore body first moved
 ends_before body rest first last at number e moved rest_is w skippable short is move = record {
   number = number;
   rest = rest;

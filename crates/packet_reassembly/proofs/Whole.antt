@@ -45,16 +45,14 @@ takes_same bytes ranges extent f are has = (
 )
 
 -- the same of what a contract sees
-pub takes_view : (bytes after : List ℕ) (ranges later : List IpFragRange) (discarded : Bool) (value : Option (List Fragment)) (f g : Fragment) → kept discarded bytes ranges ≡ value → discarded ≡ false → g ≡ f
-    → Takes (Some (held bytes ranges)) g (Some (held after later)) → Takes value f (kept discarded after later)
+pub takes_view : (bytes after : List ℕ) (ranges later : List IpFragRange) (discarded : Bool) (value : Option (List Fragment)) (f g : Fragment) → kept discarded bytes ranges ≡ value → discarded ≡ false → g ≡ f → Takes (Some (held bytes ranges)) g (Some (held after later)) → Takes value f (kept discarded after later)
 takes_view bytes after ranges later false value f g view alive e takes = subst (λ (v : Option (List Fragment)). Takes v f (Some (held after later))) view (subst (λ (x : Fragment). Takes (Some (held bytes ranges)) x (Some (held after later))) e takes)
 takes_view bytes after ranges later true value f g view alive e takes = cc
 
 range_of_front : (bytes : List ℕ) (n s e : ℕ) → e ≤ n → slice_range (take n bytes) s e ≡ slice_range bytes s e
 range_of_front bytes n s e h = between_is (take n bytes) s e ∙ (ap (drop s) (take-take e n bytes h) ∙ sym (between_is bytes s e))
 
-piece_at : (bytes : List ℕ) (ranges : List IpFragRange) (extent : Extent) (k : ℕ) → AreKept bytes ranges extent → extent.ended ≡ true → 0 < (range_at ranges k).end
-    → IsPieceOf (take extent.reach bytes) (fragment_in bytes (range_at ranges k))
+piece_at : (bytes : List ℕ) (ranges : List IpFragRange) (extent : Extent) (k : ℕ) → AreKept bytes ranges extent → extent.ended ≡ true → 0 < (range_at ranges k).end → IsPieceOf (take extent.reach bytes) (fragment_in bytes (range_at ranges k))
 piece_at bytes ranges extent k are ended some =
     let e = ends bytes ranges extent k are some in
     let within = are.apart.within k in
@@ -65,8 +63,7 @@ piece_at bytes ranges extent k are ended some =
       last = (λ m. e ∙ ((last.0 m).1 ∙ sym l), λ i. last.1 (ended, omega (arith, i)));
     }
 
-covered_at : (bytes : List ℕ) (ranges : List IpFragRange) (extent : Extent) (i : ℕ) → AreKept bytes ranges extent → i < extent.front
-    → (f : Fragment) × Contains (held bytes ranges) f × Covers f i
+covered_at : (bytes : List ℕ) (ranges : List IpFragRange) (extent : Extent) (i : ℕ) → AreKept bytes ranges extent → i < extent.front → (f : Fragment) × Contains (held bytes ranges) f × Covers f i
 covered_at bytes ranges extent i are below =
     let k : ℕ = i / 8 in
     let some = are.front.covered k (omega arith) in
@@ -75,8 +72,7 @@ covered_at bytes ranges extent i are below =
     let to : i < end_of (fragment_in bytes (range_at ranges k)) = elim (cases_lt (range_at ranges k).end extent.reach) [ inl l ↦ omega (arith, are.apart.more k some l) | inr l ↦ omega (arith, are.front.within) ] in
     (fragment_in bytes (range_at ranges k), Contains_from_held bytes ranges k some, (omega arith, to))
 
-pub whole : (bytes : List ℕ) (ranges : List IpFragRange) (extent : Extent) → AreKept bytes ranges extent → extent.ended ≡ true → extent.reach ≤ extent.front
-    → AreCutFrom (take extent.reach bytes) (held bytes ranges)
+pub whole : (bytes : List ℕ) (ranges : List IpFragRange) (extent : Extent) → AreKept bytes ranges extent → extent.ended ≡ true → extent.reach ≤ extent.front → AreCutFrom (take extent.reach bytes) (held bytes ranges)
 whole bytes ranges extent are ended full =
     let l = length-take-le extent.reach bytes (omega (arith, are.room, are.limit)) in record {
       some = omega (arith, are.ended ended);
@@ -86,8 +82,7 @@ whole bytes ranges extent are ended full =
     }
 
 -- the end has not come, or a byte before it
-pub not_whole : (bytes : List ℕ) (ranges : List IpFragRange) (extent : Extent) → AreKept bytes ranges extent → (extent.ended ≡ false) ⊎ (extent.front < extent.reach)
-    → (datagram : List ℕ) → ¬ AreCutFrom datagram (held bytes ranges)
+pub not_whole : (bytes : List ℕ) (ranges : List IpFragRange) (extent : Extent) → AreKept bytes ranges extent → (extent.ended ≡ false) ⊎ (extent.front < extent.reach) → (datagram : List ℕ) → ¬ AreCutFrom datagram (held bytes ranges)
 not_whole bytes ranges extent are (inl not_ended) datagram cut =
     let s = cut.some in
     let (f, has, cover) = cut.covered (length datagram - 1) (omega arith) in
@@ -107,16 +102,13 @@ not_whole bytes ranges extent are (inr gap) datagram cut =
     let same = ap (λ (r : IpFragRange). r.end) (are.apart.same h.at (extent.front / 8) h.some (omega arith, omega arith)) in
     omega (arith, are.front.gap gap, h.some)
 
-pub whole_view : (bytes : List ℕ) (ranges : List IpFragRange) (extent : Extent) (discarded : Bool) (value : Option (List Fragment)) → kept discarded bytes ranges ≡ value → discarded ≡ false
-    → AreKept bytes ranges extent → extent.ended ≡ true → extent.reach ≤ extent.front
-    → IsWhole value (take extent.reach bytes) × ((datagram : List ℕ) → IsWhole value datagram → take extent.reach bytes ≡ datagram)
+pub whole_view : (bytes : List ℕ) (ranges : List IpFragRange) (extent : Extent) (discarded : Bool) (value : Option (List Fragment)) → kept discarded bytes ranges ≡ value → discarded ≡ false → AreKept bytes ranges extent → extent.ended ≡ true → extent.reach ≤ extent.front → IsWhole value (take extent.reach bytes) × ((datagram : List ℕ) → IsWhole value datagram → take extent.reach bytes ≡ datagram)
 whole_view bytes ranges extent false value view alive are ended full =
     let w = whole bytes ranges extent are ended full in
     subst (λ (v : Option (List Fragment)). IsWhole v (take extent.reach bytes) × ((datagram : List ℕ) → IsWhole v datagram → take extent.reach bytes ≡ datagram)) view
     (w, λ datagram cut. one_cut (held bytes ranges) (take extent.reach bytes) datagram w cut)
 whole_view bytes ranges extent true value view alive are ended full = cc
 
-pub not_whole_view : (bytes : List ℕ) (ranges : List IpFragRange) (extent : Extent) (discarded : Bool) (value : Option (List Fragment)) → kept discarded bytes ranges ≡ value → discarded ≡ false
-    → AreKept bytes ranges extent → (extent.ended ≡ false) ⊎ (extent.front < extent.reach) → (datagram : List ℕ) → ¬ IsWhole value datagram
+pub not_whole_view : (bytes : List ℕ) (ranges : List IpFragRange) (extent : Extent) (discarded : Bool) (value : Option (List Fragment)) → kept discarded bytes ranges ≡ value → discarded ≡ false → AreKept bytes ranges extent → (extent.ended ≡ false) ⊎ (extent.front < extent.reach) → (datagram : List ℕ) → ¬ IsWhole value datagram
 not_whole_view bytes ranges extent false value view alive are missing = subst (λ (v : Option (List Fragment)). (datagram : List ℕ) → ¬ IsWhole v datagram) view (not_whole bytes ranges extent are missing)
 not_whole_view bytes ranges extent true value view alive are missing = cc

@@ -1,5 +1,5 @@
--- What has come of a datagram, in any order, with repetitions, and with fragments among them that no
--- datagram can have.
+-- What has come of a datagram, in any order, with repetitions, and with fragments among them that
+-- no datagram can have.
 use Rattle.std.specs.Prelude.{ℕ, ◌↔◌, List, Option, Some, None, map, Contains}
 use Rattle.packet_reassembly.specs.Fragment.{AreCutFrom, Conflict, Fragment, IsRight, fragment}
 use Rattle.packet_reassembly.specs.declared.reassemble.IpFragment.{IpFragment}
@@ -10,7 +10,8 @@ came fragments = map (λ f. fragment f.offset f.more_fragments f.payload.now) fr
 
 -- those that a datagram can have
 abbrev pub AreRightOf : List Fragment → List Fragment → Type 0
-AreRightOf fragments right = (f : Fragment) → (Contains right f ↔ (Contains fragments f × IsRight f))
+AreRightOf fragments right = (f : Fragment)
+    → (Contains right f ↔ (Contains fragments f × IsRight f))
 
 -- those are the datagram, cut into pieces
 pub record HoldDatagram (fragments : List Fragment) (datagram : List ℕ) : Type 0 where

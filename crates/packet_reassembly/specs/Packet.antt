@@ -9,7 +9,7 @@ use Rattle.etherparse.specs.declared.net.ipv4_header.Ipv4Header.{Ipv4Header}
 use Rattle.etherparse.specs.declared.net.ipv6_header.Ipv6Header.{Ipv6Header}
 
 -- The packet is the header of the fragment at offset 0 and the payload: the total length counts
--- both, it is no fragment, and the checksum is that of the header.
+-- both, it is no fragment, the reserved bit is 0, and the checksum is that of the header.
 pub record IsIpv4Packet (first : Ipv4Header) (payload packet : List ℕ) : Type 0 where
   pub header : Ipv4Header
   pub begins : BeginsWith IsIpv4Layout packet header payload
@@ -19,6 +19,7 @@ pub record IsIpv4Packet (first : Ipv4Header) (payload packet : List ℕ) : Type 
     fragment_offset = 0;
     header_checksum = header.header_checksum;
   }
+  pub reserved : begins.layout.reserved ≡ 0
   pub checksum : header.header_checksum ≡ header_checksum_of begins.front
 
 -- the bytes are a chain of extension headers, the last of which names a number

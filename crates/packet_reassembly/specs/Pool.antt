@@ -53,8 +53,11 @@ pub record IsPlaced (old : List IpDefragSlot) (id : IpFragId) (timeout now k : �
     (given_up : Option IpFragId) (new : List IpDefragSlot) : Type 0 where
   pub others : AreSameBut k old new
   pub has : Has new k id
-  pub place : (GoesOn old id timeout now k given_up × ((slot_at new k).buf ≡ (slot_at old k).buf))
-      ⊎ (Begins old id timeout now k given_up × ((slot_at new k).buf ≡ Some []))
+  pub place : (GoesOn old id timeout now k given_up
+      × ((slot_at new k).since ≡ (slot_at old k).since)
+      × ((slot_at new k).buf ≡ (slot_at old k).buf))
+      ⊎ (Begins old id timeout now k given_up
+      × ((slot_at new k).since ≡ now) × ((slot_at new k).buf ≡ Some []))
 
 -- what is known of the datagram
 abbrev pub IsState : Option (List Fragment) → DatagramState → Type 0
@@ -68,8 +71,10 @@ pub record IsAdded (old : List IpDefragSlot) (id : IpFragId) (timeout now : ℕ)
   pub others : AreSameBut added.slot old new
   pub has : Has new added.slot id
   pub takes : (GoesOn old id timeout now added.slot added.given_up
+      × ((slot_at new added.slot).since ≡ (slot_at old added.slot).since)
       × Takes (slot_at old added.slot).buf f (slot_at new added.slot).buf)
       ⊎ (Begins old id timeout now added.slot added.given_up
+      × ((slot_at new added.slot).since ≡ now)
       × Takes (Some []) f (slot_at new added.slot).buf)
   pub state : IsState (slot_at new added.slot).buf added.state
 

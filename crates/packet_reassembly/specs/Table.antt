@@ -27,7 +27,8 @@ abbrev pub IsTaken : List IpFragRange → IpFragRange → Type 0
 IsTaken ranges range = (k : ℕ) × Begins range k × (0 < (range_at ranges k).end)
 
 -- the table, once the range is noted in it
-pub record IsMarked (old : List IpFragRange) (range : IpFragRange) (new : List IpFragRange) : Type 0 where
+pub record IsMarked (old : List IpFragRange) (range : IpFragRange) (new : List IpFragRange)
+    : Type 0 where
   pub inside : (k : ℕ) → Begins range k → range_at new k ≡ range
   pub outside : (k : ℕ) → ¬ Begins range k → range_at new k ≡ range_at old k
 

@@ -13,6 +13,16 @@ use packet_parts::extensions::after_extensions;
 ///
 /// The header of the upper layer is 20 bytes of TCP, or more by its data offset; 8 of UDP; 4 of
 /// ICMPv6. Nothing is asked of others.
+///
+/// # Example
+///
+/// ```
+/// let udp = [4, 0, 0, 53, 0, 12, 0x91, 0xae];
+/// assert!(rt; has_whole_chain(IpNumber::UDP, &udp));
+/// assert!(rt; !has_whole_chain(IpNumber::UDP, &udp[..7]));
+/// // Destination options of 16 bytes, 8 of which are there.
+/// assert!(rt; !has_whole_chain(IpNumber::IPV6_DESTINATION_OPTIONS, &[17, 1, 1, 4, 0, 0, 0, 0]));
+/// ```
 pub fn has_whole_chain(next_header: IpNumber, payload: &[u8]) -> bool
     ensures whole { IsTrue result → HasWholeChain next_header payload.now }
     ensures lacks { IsFalse result → LacksChain next_header payload.now }

@@ -13,6 +13,23 @@ use etherparse::IpFragOffset;
 use std::marker::Model;
 
 /// The fragments that have come of one datagram, in memory that the caller lends.
+///
+/// # Example
+///
+/// ```
+/// let mut bytes = [0; IpDefragBuf::MAX_LEN];
+/// let mut ranges = [IpFragRange::default(); IpDefragBuf::RANGES];
+/// let mut buf = IpDefragBuf::new(&mut bytes, &mut ranges);
+/// // The second fragment, the first, and the second again.
+/// buf.add(IpFragOffset::try_new(1)?, false, b"bytes")?;
+/// assert!(rt; buf.datagram().is_none());
+/// buf.add(IpFragOffset::ZERO, true, b"thirteen")?;
+/// buf.add(IpFragOffset::try_new(1)?, false, b"bytes")?;
+/// assert!(rt; buf.datagram() == Some(b"thirteenbytes".as_slice()));
+/// // One that overlaps the first and has other bytes.
+/// buf.add(IpFragOffset::ZERO, true, b"nineteen")?;
+/// assert!(rt; buf.is_discarded() && buf.datagram().is_none());
+/// ```
 #[derive(Drop)]
 pub struct IpDefragBuf<'a> {
     bytes: &'a mut [u8],
@@ -60,8 +77,8 @@ impl<'a> IpDefragBuf<'a> {
     /// Takes a fragment. An exact duplicate of one that has come changes nothing.
     ///
     /// The datagram is discarded for good if the fragment contradicts one that has come: they
-    /// overlap and are not the same (RFC 5722, RFC 8200 section 4.5; and of IPv4 too, by choice), or
-    /// one goes past the end that the other tells.
+    /// overlap and are not the same (RFC 5722, RFC 8200 section 4.5; of IPv4 too, by choice), or one
+    /// goes past the end that the other tells.
     ///
     /// # Errors
     ///

@@ -3,7 +3,8 @@
 ghost use Rattle.std.specs.Prelude.{ℕ, ◌≡◌, ◌≢◌, ◌<◌, ◌≤◌, ◌+◌, ◌↔◌, ◌⊎◌, [], IfNone, IfSome};
 ghost use Rattle.std.specs.Prelude.{IfErr, IfOk, OnErr, OnOk, IsTrue, None, Some, length};
 ghost use Rattle.packet_reassembly.specs.Pool.{AreSameBut, Begins, GoesOn, Has, IsExpired};
-ghost use Rattle.packet_reassembly.specs.Pool.{IsAdded, IsFree, IsPlaced, IsState, OthersStay, slot_at};
+ghost use Rattle.packet_reassembly.specs.Pool.{IsAdded, IsFree, IsPlaced, IsState, OthersStay};
+ghost use Rattle.packet_reassembly.specs.Pool.{slot_at};
 ghost use Rattle.packet_reassembly.specs.Fragment.{IsRight, Takes, fragment};
 ghost use Rattle.packet_reassembly.specs.Refusal.{Refuses};
 
@@ -47,16 +48,45 @@ pub struct Added {
 }
 
 /// Many datagrams at once, in slots that the caller lends.
+///
+/// # Example
+///
+/// ```
+/// let mut bytes = [0; IpDefragBuf::MAX_LEN];
+/// let mut ranges = [IpFragRange::default(); IpDefragBuf::RANGES];
+/// let buf = IpDefragBuf::new(&mut bytes, &mut ranges);
+/// let mut slots = [IpDefragSlot {
+///     id: None,
+///     since: 0,
+///     buf,
+/// }];
+/// let mut pool = IpDefragPool {
+///     slots: &mut slots,
+///     timeout: IpDefragPool::TIMEOUT_SECONDS,
+/// };
+/// let added = pool.add(id, IpFragOffset::ZERO, true, b"thirteen", 0)?;
+/// assert!(rt; added.state == DatagramState::Incomplete && added.given_up.is_none());
+/// let added = pool.add(id, IpFragOffset::try_new(1)?, false, b"bytes", 59)?;
+/// assert!(rt; added.state == DatagramState::Complete);
+/// assert!(rt; pool.slots[added.slot].buf.datagram() == Some(b"thirteenbytes".as_slice()));
+/// // Another datagram takes the only slot.
+/// let added = pool.add(other, IpFragOffset::ZERO, true, b"thirteen", 60)?;
+/// assert!(rt; added.given_up == Some(id));
+/// ```
 #[derive(Drop)]
 pub struct IpDefragPool<'a, 'b> {
     /// The slots: at least one.
     pub slots: &'a mut [IpDefragSlot<'b>],
-    /// How long a datagram is kept after its first fragment, in ticks of the caller's clock. RFC
-    /// 8200 section 4.5 says 60 seconds.
+    /// How long a datagram is kept after its first fragment, in ticks of the caller's clock:
+    /// [`IpDefragPool::TIMEOUT_SECONDS`], if those are seconds.
     pub timeout: u64,
 }
 
 impl<'a, 'b> IpDefragPool<'a, 'b> {
+    /// How long RFC 8200 section 4.5 has a datagram kept, in seconds: 60. RFC 791 section 3.2 has it
+    /// kept for 15 seconds, or as long as the time to live says.
+    pub const TIMEOUT_SECONDS: u64 = 60;
+
     /// Adds a fragment to its datagram. If none has this id, it takes a slot: one that none has, or
     /// else that of the oldest. A datagram that is older than the timeout is given up when a
     /// fragment with its id comes. The other slots do not change.
@@ -180,6 +210,7 @@ fn take_at(slots: &mut [IpDefragSlot], k: usize, id: IpFragId, now: u64) -> Opti
     requires within { k < length slots.old }
     ensures others { AreSameBut k slots.old slots.new }
     ensures id { (slot_at slots.new k).id ≡ Some id }
+    ensures since { (slot_at slots.new k).since ≡ now }
     ensures empty { (slot_at slots.new k).buf ≡ Some [] }
     ensures given_up { result ≡ (slot_at slots.old k).id }
 {
@@ -219,6 +250,7 @@ fn add_at(
     requires right { IsRight (fragment offset more_fragments payload.now) }
     ensures others { AreSameBut k slots.old slots.new }
     ensures id { (slot_at slots.new k).id ≡ (slot_at slots.old k).id }
+    ensures since { (slot_at slots.new k).since ≡ (slot_at slots.old k).since }
     ensures takes { Takes (slot_at slots.old k).buf (fragment offset more_fragments payload.now)
         (slot_at slots.new k).buf }
     ensures state { IsState (slot_at slots.new k).buf result }

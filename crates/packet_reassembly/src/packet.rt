@@ -14,6 +14,20 @@ use etherparse::{IpFragOffset, IpNumber, Ipv4Header, Ipv6Header};
 /// # Errors
 ///
 /// A `ValueTooBigError` if header and payload are longer than 65535 bytes. Nothing is written.
+///
+/// # Example
+///
+/// ```
+/// let mut first = Ipv4Header::new(8, 64, IpNumber::UDP, [192, 168, 0, 1], [192, 168, 0, 199])?;
+/// (first.dont_fragment, first.more_fragments) = (false, true);
+/// let mut out = [0; 65535];
+/// let len = write_ipv4_packet(first, b"thirteenbytes", &mut out)?;
+/// let packet = [
+///     0x45, 0, 0, 33, 0, 0, 0, 0, 64, 17, 0xf8, 0xb3, 192, 168, 0, 1, 192, 168, 0, 199, b't',
+///     b'h', b'i', b'r', b't', b'e', b'e', b'n', b'b', b'y', b't', b'e', b's',
+/// ];
+/// assert!(rt; out[..len] == packet);
+/// ```
 pub fn write_ipv4_packet(
     first: Ipv4Header,
     payload: &[u8],
@@ -42,6 +56,20 @@ pub fn write_ipv4_packet(
 ///
 /// A `ValueTooBigError` if extension headers and payload are longer than 65535 bytes. Nothing is
 /// written.
+///
+/// # Example
+///
+/// ```
+/// let mut first = Ipv6Header::default();
+/// first.next_header = IpNumber::IPV6_HEADER_HOP_BY_HOP;
+/// // Hop-by-hop options, which name the fragment header.
+/// let last = [44, 0, 1, 4, 0, 0, 0, 0];
+/// let mut out = [0; 65575];
+/// let len = write_ipv6_packet(first, &[], &last, IpNumber::UDP, b"thirteenbytes", &mut out)?;
+/// assert!(rt; len == 61 && out[4..7] == [0, 21, 0]);
+/// assert!(rt; out[40..48] == [17, 0, 1, 4, 0, 0, 0, 0]);
+/// assert!(rt; &out[48..len] == b"thirteenbytes");
+/// ```
 pub fn write_ipv6_packet(
     first: Ipv6Header,
     before: &[u8],

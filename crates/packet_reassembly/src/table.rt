@@ -5,7 +5,8 @@ ghost use Rattle.std.specs.Prelude.{◌↔◌, slice_range};
 ghost use Rattle.packet_reassembly.specs.Fragment.{Takes};
 ghost use Rattle.packet_reassembly.specs.declared.table.Arrival.TheVariants.{New};
 ghost use Rattle.packet_reassembly.specs.Table.{AreKept, AreApart, Arrives, IsClear, IsFront};
-ghost use Rattle.packet_reassembly.specs.Table.{IsMarked, IsTaken, Fits, fragment_of, held, range_at};
+ghost use Rattle.packet_reassembly.specs.Table.{IsMarked, IsTaken, Fits, fragment_of, held};
+ghost use Rattle.packet_reassembly.specs.Table.{range_at};
 
 use crate::ip_frag_range::IpFragRange;
 

@@ -16,6 +16,7 @@ pub mod options;
 pub mod payload;
 pub mod ppp;
 pub mod queue;
+pub mod reassembly;
 pub mod selection;
 pub mod send;
 pub mod translation;

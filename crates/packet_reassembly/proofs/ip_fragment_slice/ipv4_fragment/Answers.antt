@@ -1,4 +1,4 @@
-use Rattle.std.proofs.Common.{◌∙◌, List, ap, inl, subst, sym}
+use Rattle.std.proofs.Common.{◌∙◌, inl, subst}
 use Rattle.etherparse.specs.Ipv4Header.{IsIpv4Layout}
 use Rattle.packet_reassembly.proofs.ip_fragment_slice.ipv4_fragment.Goals as goal
 

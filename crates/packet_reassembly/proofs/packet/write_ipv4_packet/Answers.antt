@@ -1,4 +1,4 @@
-use Rattle.std.proofs.Common.{◌∙◌, ◌++◌, List, ℕ, ap, false}
+use Rattle.std.proofs.Common.{◌∙◌, ◌++◌, List, ℕ, ap, false, refl}
 use Rattle.etherparse.specs.declared.net.ipv4_header.Ipv4Header.{Ipv4Header}
 use Rattle.packet_reassembly.proofs.packet.write_ipv4_packet.Goals as goal
 
@@ -13,5 +13,6 @@ returns-clause-packet c =
         layout = record { reserved = 0; layout = c.to_bytes.ensures.layout };
       };
       fields = ap finish c.in_ok-set_payload_len.ensures.set;
+      reserved = refl;
       checksum = c.calc_header_checksum.ensures.whatever_is_stored c.calc_header_checksum.result c.to_bytes.result.items c.to_bytes.ensures.layout;
     }

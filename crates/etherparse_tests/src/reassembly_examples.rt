@@ -1,0 +1,124 @@
+//! The examples in the doc comments of `packet_reassembly`, line by line as they stand there.
+
+use etherparse::{IpFragOffset, IpNumber, Ipv4Header, Ipv6Header};
+use packet_reassembly::header_chain::has_whole_chain;
+use packet_reassembly::ip_defrag_buf::IpDefragBuf;
+use packet_reassembly::ip_defrag_pool::{DatagramState, IpDefragPool, IpDefragSlot};
+use packet_reassembly::ip_frag_id::{IpFragId, IpFragVersionSpecId};
+use packet_reassembly::ip_frag_range::IpFragRange;
+use packet_reassembly::ip_fragment_slice::ip_fragment;
+use packet_reassembly::packet::{write_ipv4_packet, write_ipv6_packet};
+use std::process::Abort;
+use std::test::Fail;
+
+#[test]
+fn one_datagram(rt: HostRuntime) -> Result<(), Fail> {
+    let mut bytes = [0; IpDefragBuf::MAX_LEN];
+    let mut ranges = [IpFragRange::default(); IpDefragBuf::RANGES];
+    let mut buf = IpDefragBuf::new(&mut bytes, &mut ranges);
+    // The second fragment, the first, and the second again.
+    buf.add(IpFragOffset::try_new(1)?, false, b"bytes")?;
+    assert!(rt; buf.datagram().is_none());
+    buf.add(IpFragOffset::ZERO, true, b"thirteen")?;
+    buf.add(IpFragOffset::try_new(1)?, false, b"bytes")?;
+    assert!(rt; buf.datagram() == Some(b"thirteenbytes".as_slice()));
+    // One that overlaps the first and has other bytes.
+    buf.add(IpFragOffset::ZERO, true, b"nineteen")?;
+    assert!(rt; buf.is_discarded() && buf.datagram().is_none());
+    Ok(())
+}
+
+#[test]
+fn whole_packets(rt: HostRuntime) -> Result<(), Fail> {
+    let mut first = Ipv4Header::new(8, 64, IpNumber::UDP, [192, 168, 0, 1], [192, 168, 0, 199])?;
+    (first.dont_fragment, first.more_fragments) = (false, true);
+    let mut out = [0; 65535];
+    let len = write_ipv4_packet(first, b"thirteenbytes", &mut out)?;
+    let packet = [
+        0x45, 0, 0, 33, 0, 0, 0, 0, 64, 17, 0xf8, 0xb3, 192, 168, 0, 1, 192, 168, 0, 199, b't',
+        b'h', b'i', b'r', b't', b'e', b'e', b'n', b'b', b'y', b't', b'e', b's',
+    ];
+    assert!(rt; out[..len] == packet);
+
+    let mut first = Ipv6Header::default();
+    first.next_header = IpNumber::IPV6_HEADER_HOP_BY_HOP;
+    // Hop-by-hop options, which name the fragment header.
+    let last = [44, 0, 1, 4, 0, 0, 0, 0];
+    let mut out = [0; 65575];
+    let len = write_ipv6_packet(first, &[], &last, IpNumber::UDP, b"thirteenbytes", &mut out)?;
+    assert!(rt; len == 61 && out[4..7] == [0, 21, 0]);
+    assert!(rt; out[40..48] == [17, 0, 1, 4, 0, 0, 0, 0]);
+    assert!(rt; &out[48..len] == b"thirteenbytes");
+    Ok(())
+}
+
+#[test]
+fn header_chains(rt: HostRuntime) -> Result<(), Fail> {
+    let udp = [4, 0, 0, 53, 0, 12, 0x91, 0xae];
+    assert!(rt; has_whole_chain(IpNumber::UDP, &udp));
+    assert!(rt; !has_whole_chain(IpNumber::UDP, &udp[..7]));
+    // Destination options of 16 bytes, 8 of which are there.
+    assert!(rt;
+        !has_whole_chain(
+            IpNumber::IPV6_DESTINATION_OPTIONS,
+            &[17, 1, 1, 4, 0, 0, 0, 0]
+        )
+    );
+    Ok(())
+}
+
+#[test]
+fn fragments_of_packets(rt: HostRuntime) -> Result<(), Fail> {
+    // A fragment that is not the first, and not the last.
+    let mut packet = [
+        0x45, 0, 0, 28, 0x12, 0x34, 0x20, 1, 64, 17, 0, 0, 192, 168, 0, 1, 192, 168, 0, 199, 1, 2,
+        3, 4, 5, 6, 7, 8,
+    ];
+    let fragment = ip_fragment(&packet)?.unwrap();
+    assert!(rt; fragment.offset.value() == 1 && fragment.more_fragments);
+    assert!(rt; fragment.payload == [1, 2, 3, 4, 5, 6, 7, 8].as_slice());
+    // A whole packet.
+    [packet[6], packet[7]] = [0, 0];
+    assert!(rt; ip_fragment(&packet)?.is_none());
+    Ok(())
+}
+
+fn id(identification: u16) -> IpFragId {
+    IpFragId {
+        outer_vlan_id: None,
+        inner_vlan_id: None,
+        ip: IpFragVersionSpecId::Ipv4 {
+            source: [192, 168, 0, 1],
+            destination: [192, 168, 0, 199],
+            protocol: 17,
+            identification,
+        },
+    }
+}
+
+#[test]
+fn a_pool(rt: HostRuntime) -> Result<(), Fail> {
+    let (id, other) = (id(1), id(2));
+
+    let mut bytes = [0; IpDefragBuf::MAX_LEN];
+    let mut ranges = [IpFragRange::default(); IpDefragBuf::RANGES];
+    let buf = IpDefragBuf::new(&mut bytes, &mut ranges);
+    let mut slots = [IpDefragSlot {
+        id: None,
+        since: 0,
+        buf,
+    }];
+    let mut pool = IpDefragPool {
+        slots: &mut slots,
+        timeout: IpDefragPool::TIMEOUT_SECONDS,
+    };
+    let added = pool.add(id, IpFragOffset::ZERO, true, b"thirteen", 0)?;
+    assert!(rt; added.state == DatagramState::Incomplete && added.given_up.is_none());
+    let added = pool.add(id, IpFragOffset::try_new(1)?, false, b"bytes", 59)?;
+    assert!(rt; added.state == DatagramState::Complete);
+    assert!(rt; pool.slots[added.slot].buf.datagram() == Some(b"thirteenbytes".as_slice()));
+    // Another datagram takes the only slot.
+    let added = pool.add(other, IpFragOffset::ZERO, true, b"thirteen", 60)?;
+    assert!(rt; added.given_up == Some(id));
+    Ok(())
+}
