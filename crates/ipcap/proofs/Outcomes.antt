@@ -1,8 +1,8 @@
 -- What a run writes, and what one that fails has written.
-use Rattle.std.proofs.Common.{ℕ, ◌≡◌, ◌<◌, ◌≤◌, ◌⊎◌, inl, inr, Bool, true, false, List, [], ◌++◌, length, take, drop, Option, Some, None, Result, Ok, Err, IfErr, IfOk, OnErr, refl, sym, ap, ◌∙◌, append_assoc, append-nil, arith, IfSome, length-take-le, take-append-drop}
+use Rattle.std.proofs.Common.{ℕ, ◌≡◌, ◌<◌, ◌≤◌, ◌⊎◌, inl, inr, Bool, true, false, List, [], ◌++◌, length, take, drop, Option, Some, None, Result, Ok, Err, IfErr, IfOk, refl, sym, ap, ◌∙◌, append_assoc, append-nil, arith, IfSome, length-take-le, take-append-drop}
 use Rattle.std.proofs.Math.Seq.{take-append_seam}
-use Rattle.std.specs.Io.KnownBytes.{Appends, Consumes, IsAtEnd, prepend_known}
-use Rattle.std.proofs.KnownBytes.{Appends-nil, Appends-trans, Consumes-whole}
+use Rattle.std.specs.Io.KnownBytes.{Consumes, IsAtEnd, prepend_known}
+use Rattle.std.proofs.KnownBytes.{Appends-nil, Consumes-whole}
 use Rattle.packet.specs.Link.{link_type_of}
 use Rattle.packet_capture.specs.Capture.{BeginsWithFileHeader, ReadsFileHeader}
 use Rattle.packet_capture.specs.declared.capture.CaptureError.{CaptureError}
@@ -11,18 +11,17 @@ use Rattle.packet_capture.specs.declared.capture.CutOff as cut
 use Rattle.packet_capture.specs.declared.capture.FileHeader.{FileHeader}
 use Rattle.ipcap.specs.Lines.{capture_error_line, link_type_line}
 use Rattle.ipcap.specs.Listing.{Lists, ends}
-use Rattle.ipcap.specs.Output.{Fails, HasOtherFrames, IsCause, IsListed, IsListing, IsNoCapture, IsOpen, IsOutcome, Outcome, Writes, first_place, front_of, listed, number_of, refused, status_at}
+use Rattle.ipcap.specs.Output.{Fails, HasOtherFrames, IsCause, IsListed, IsNoCapture, IsOpen, IsOutcome, Writes, first_place, listed, number_of, refused, status_at}
 use Rattle.ipcap.specs.Private.Ended.{FailsListing, WritesListing}
 use Rattle.ipcap.specs.Private.Progress.{Because, Breaks, Ends, IsTold, WantsMore}
 use Rattle.ipcap.specs.Request.{copies}
-use Rattle.ipcap.specs.Streams.{CannotRead, Gets, GetsFront, Prints, PrintsFront, Reads, Reports, Takes, kept_if, pending, unlisted, unread}
+use Rattle.ipcap.specs.Streams.{CannotRead, Gets, GetsFront, Prints, PrintsFront, Reports, Takes, kept_if, pending, unlisted, unread}
 use Rattle.ipcap.specs.Totals.{HasRoom, nothing_counted}
 use Rattle.ipcap.specs.declared.failure.Failure.{Failure}
 use Rattle.ipcap.specs.declared.failure.Failure.TheVariants as failure
 use Rattle.ipcap.specs.declared.input.Input.{Input}
 use Rattle.ipcap.specs.declared.output.Output.{Output}
 use Rattle.ipcap.specs.declared.place.Capture.{Capture}
-use Rattle.ipcap.specs.declared.place.Place.{Place}
 use Rattle.ipcap.specs.declared.request.Request.{Request}
 use Rattle.ipcap.specs.declared.status.Status.{Status}
 use Rattle.ipcap.specs.declared.status.Status.TheVariants as status

@@ -1,6 +1,6 @@
 -- What is written of the records of a capture, in their order.
-use Rattle.std.specs.Prelude.{ℕ, ◌≡◌, ◌+◌, ◌<◌, ◌≤◌, ◌⊎◌, ◌&&◌, Bool, true, false, List, [], ◌++◌}
-use Rattle.std.specs.Prelude.{Err, MatchOption, None, Option, Some, if◌then◌else◌, take}
+use Rattle.std.specs.Prelude.{ℕ, ◌≡◌, ◌+◌, ◌<◌, ◌≤◌, ◌⊎◌, Bool, true, false, List, [], ◌++◌}
+use Rattle.std.specs.Prelude.{Err, MatchOption, None, Option, Some, take}
 use Rattle.std.specs.Bool.{then_some}
 use Rattle.std.specs.Option.{is_none}
 use Rattle.packet_capture.specs.Capture.{BeginsWithRecord, Recorded, ReadsRecord, record_head}
@@ -11,7 +11,7 @@ use Rattle.packet_filter.specs.Frame.{Answers}
 use Rattle.packet_filter.specs.Program.{expression_of}
 use Rattle.ipcap.specs.Lines.{record_line}
 use Rattle.ipcap.specs.Reading.{ReadsFrame, is_cut, max_captured_len}
-use Rattle.ipcap.specs.Request.{copies, has_enough}
+use Rattle.ipcap.specs.Request.{has_enough}
 use Rattle.ipcap.specs.Totals.{counted}
 use Rattle.ipcap.specs.declared.place.Capture.{Capture}
 use Rattle.ipcap.specs.declared.place.Place.{Place}

@@ -1,8 +1,6 @@
 -- How a listing ends.
 use Rattle.std.specs.Prelude.{ℕ, ◌≡◌, List, [], ◌++◌, Option}
-use Rattle.std.specs.Option.{is_some}
 use Rattle.packet_capture.specs.declared.capture.CutOff as cut
-use Rattle.ipcap.specs.Lines.{closing_text, end_text, report_text}
 use Rattle.ipcap.specs.Listing.{Lists}
 use Rattle.ipcap.specs.Output.{IsCause, first_place, listed, status_at}
 use Rattle.ipcap.specs.Private.Progress.{WantsMore}

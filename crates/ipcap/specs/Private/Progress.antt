@@ -1,6 +1,6 @@
 -- How much of a capture has been listed.
 use Rattle.std.specs.Prelude.{ℕ, ◌≡◌, ◌<◌, ◌≤◌, ◌⊎◌, List, [], ◌++◌, Option, Some, None, length}
-use Rattle.std.specs.Prelude.{Bool, ◌&&◌, Err, false, true, if◌then◌else◌}
+use Rattle.std.specs.Prelude.{Bool, ◌&&◌, Err, false, true}
 use Rattle.std.specs.Option.{is_none}
 use Rattle.std.specs.Io.KnownBytes.{IsAtEnd}
 use Rattle.packet_capture.specs.Capture.{ReadsRecord}

@@ -1,4 +1,4 @@
-use Rattle.std.proofs.Common.{Err, refl, subst, sym, ◌∙◌}
+use Rattle.std.proofs.Common.{Err, subst, sym, ◌∙◌}
 use Rattle.std.proofs.lemmas.Result.{err_from_is_err_and}
 use Rattle.packet_capture.specs.Capture.{ReadsFileHeader}
 use Rattle.ipcap.proofs.Outcomes.{header_broken, listing_fails_by, lists_by, no_capture, not_begun, other_frames, refuses}

@@ -4,7 +4,7 @@ use Rattle.std.proofs.lemmas.List.{drop-take}
 use Rattle.std.proofs.lemmas.Result.{err_from_is_err_and}
 use Rattle.packet_capture.specs.Capture.{record_head, record_len}
 use Rattle.ipcap.proofs.Fronts.{record_head-append}
-use Rattle.ipcap.proofs.Runs.{front_after, front_of_nothing, tells_both, tells_nothing, told_one}
+use Rattle.ipcap.proofs.Runs.{front_after, front_of_nothing, tells_both, told_one}
 use Rattle.ipcap.proofs.request.Request.list_front.Goals as goal
 
 -- what was taken is the data but for its rest
