@@ -26,7 +26,7 @@ use etherparse::{IpFragOffset, IpNumber, Ipv4Header, Ipv6Header};
 ///     0x45, 0, 0, 33, 0, 0, 0, 0, 64, 17, 0xf8, 0xb3, 192, 168, 0, 1, 192, 168, 0, 199, b't',
 ///     b'h', b'i', b'r', b't', b'e', b'e', b'n', b'b', b'y', b't', b'e', b's',
 /// ];
-/// assert!(rt; out[..len] == packet);
+/// assert!(rt; &out[..len] == packet.as_slice());
 /// ```
 pub fn write_ipv4_packet(
     first: Ipv4Header,
@@ -68,7 +68,7 @@ pub fn write_ipv4_packet(
 /// let len = write_ipv6_packet(first, &[], &last, IpNumber::UDP, b"thirteenbytes", &mut out)?;
 /// assert!(rt; len == 61 && out[4..7] == [0, 21, 0]);
 /// assert!(rt; out[40..48] == [17, 0, 1, 4, 0, 0, 0, 0]);
-/// assert!(rt; &out[48..len] == b"thirteenbytes");
+/// assert!(rt; &out[48..len] == b"thirteenbytes".as_slice());
 /// ```
 pub fn write_ipv6_packet(
     first: Ipv6Header,
