@@ -4,6 +4,7 @@ ghost use Rattle.std.specs.Prelude.{◌≡◌, IfSome, IsTrue, None, option_map}
 ghost use Rattle.etherparse.specs.Bytes.{IsBytes};
 ghost use Rattle.packet.specs.Link.{link_parts};
 ghost use Rattle.packet.specs.SlicedPacket.{HasLinkLayers, carries_ip};
+ghost use Rattle.packet.specs.declared.link.LinkType.TheVariants.{Ethernet2};
 ghost use Rattle.packet_filter.specs.Private.Front.{IsFront};
 
 use packet::ethernet2_header_slice::Ethernet2HeaderSlice;
@@ -13,8 +14,8 @@ use packet::link_layers::LinkLayers;
 use packet::sliced_packet::SlicedPacket;
 use packet_parts::ip_slice::LaxIpSlice;
 
-/// The packet in a plain frame but for its transport header: a frame of Ethernet that carries an IP
-/// packet, which is there whole, and no tag. `None` of any other.
+/// The packet in a plain frame but for its transport header: a frame of Ethernet without a tag, or
+/// one that is an IP packet, if the packet is there whole. `None` of any other.
 #[inline(always)]
 pub(crate) fn plain_in<'a>(link_type: LinkType, frame: &'a [u8]) -> Option<LaxSlicedPacket<'a>>
     ensures found { IfSome result (IsFront link_type frame.now) }
@@ -43,7 +44,7 @@ pub(crate) fn plain_in<'a>(link_type: LinkType, frame: &'a [u8]) -> Option<LaxSl
     }
 }
 
-// The layers of a frame of Ethernet that has no tag before an IP packet.
+// The layers of a frame that is an IP packet, or of one of Ethernet that has no tag before it.
 #[inline(always)]
 fn untagged<'a>(link_type: LinkType, frame: &'a [u8]) -> Option<LinkLayers<'a>>
     ensures found { IfSome result (HasLinkLayers link_type frame.now) }
@@ -51,7 +52,28 @@ fn untagged<'a>(link_type: LinkType, frame: &'a [u8]) -> Option<LinkLayers<'a>>
         IsTrue (carries_ip (option_map link_parts layers.link) layers.ether_type)) }
     ensures whole { IfSome result (λ layers. layers.stop ≡ None) }
 {
-    if !matches!(link_type, LinkType::Ethernet2) || frame.len() < 14 {
+    match link_type {
+        LinkType::Ethernet2 => untagged_ethernet(frame),
+        LinkType::Ip => Some(LinkLayers {
+            link: None,
+            vlan: None,
+            ether_type: None,
+            payload: frame,
+            stop: None,
+        }),
+        _ => None,
+    }
+}
+
+// Those of a frame of Ethernet.
+#[inline(always)]
+fn untagged_ethernet(frame: &[u8]) -> Option<LinkLayers>
+    ensures found { IfSome result (HasLinkLayers Ethernet2 frame.now) }
+    ensures carries_ip { IfSome result (λ layers.
+        IsTrue (carries_ip (option_map link_parts layers.link) layers.ether_type)) }
+    ensures whole { IfSome result (λ layers. layers.stop ≡ None) }
+{
+    if frame.len() < 14 {
         return None;
     }
     let (slice, payload) = frame.split_at(14);
