@@ -4,6 +4,7 @@ ghost use Rattle.std.specs.Prelude.{◌≡◌, IfOk, length};
 
 use crate::arguments::Arguments;
 use crate::shown::{Bytes, Shown, Written, write_shown};
+use etherparse::IpFragOffset;
 use packet_reassembly::ip_defrag_buf::IpDefragBuf;
 use packet_reassembly::ip_defrag_error::IpDefragError;
 use packet_reassembly::ip_frag_range::IpFragRange;
@@ -16,18 +17,32 @@ pub fn answer(arguments: &mut Arguments, answer: &mut String) -> Written {
     let mut bytes = zeros(arguments.alloc, IpDefragBuf::MAX_LEN)?;
     let mut ranges = empty_table(arguments.alloc, IpDefragBuf::RANGES)?;
     let mut buf = IpDefragBuf::new(bytes.as_mut_slice(), ranges.as_mut_slice());
+    add_all(&mut buf, arguments, answer)?;
+    write_datagram(&buf, answer)
+}
+
+// Adds the fragments, and writes what is known after each.
+fn add_all(buf: &mut IpDefragBuf, arguments: &mut Arguments, answer: &mut String) -> Written {
     for _ in 0..arguments.number::<u16>() {
-        let offset = arguments.field::<u16, _>();
-        let more_fragments = arguments.flag();
-        let payload = arguments.bytes();
-        match buf.add(offset, more_fragments, &payload) {
-            Ok(()) => write!(answer, "{} ; ", state_of(&buf))?,
-            Err(e) => {
-                write_shown(&e, answer)?;
-                answer.push_str(" ; ")?;
-            }
-        }
+        add_next(buf, arguments, answer)?;
+        answer.push_str(" ; ")?;
     }
+    Ok(())
+}
+
+// Adds the next fragment, and writes what is known then.
+fn add_next(buf: &mut IpDefragBuf, arguments: &mut Arguments, answer: &mut String) -> Written {
+    let offset = arguments.field::<u16, IpFragOffset>();
+    let more_fragments = arguments.flag();
+    let payload = arguments.bytes();
+    match buf.add(offset, more_fragments, &payload) {
+        Ok(()) => answer.push_str(state_of(buf)),
+        Err(e) => write_shown(&e, answer),
+    }
+}
+
+// Writes the bytes of the datagram, if it is whole.
+fn write_datagram(buf: &IpDefragBuf, answer: &mut String) -> Written {
     match buf.datagram() {
         Some(datagram) => write!(answer, "{}", Bytes(datagram)),
         None => answer.push_str("-"),
