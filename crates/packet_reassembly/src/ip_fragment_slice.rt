@@ -43,9 +43,11 @@ pub struct IpFragmentSlice<'a> {
 ///     0x45, 0, 0, 28, 0x12, 0x34, 0x20, 1, 64, 17, 0, 0, 192, 168, 0, 1, 192, 168, 0, 199, 1,
 ///     2, 3, 4, 5, 6, 7, 8,
 /// ];
-/// let fragment = ip_fragment(&packet)?.unwrap();
-/// assert!(rt; fragment.offset.value() == 1 && fragment.more_fragments);
-/// assert!(rt; fragment.payload == [1, 2, 3, 4, 5, 6, 7, 8].as_slice());
+/// assert!(rt; ip_fragment(&packet)?.is_some());
+/// if let Some(fragment) = ip_fragment(&packet)? {
+///     assert!(rt; fragment.offset.value() == 1 && fragment.more_fragments);
+///     assert!(rt; fragment.payload == [1, 2, 3, 4, 5, 6, 7, 8].as_slice());
+/// }
 /// // A whole packet.
 /// [packet[6], packet[7]] = [0, 0];
 /// assert!(rt; ip_fragment(&packet)?.is_none());
