@@ -181,7 +181,7 @@ help_and_version() {
     for word in -h --help; do
         run "$word" tcp
         code=$?
-        for line in 'Usage: ipcap [OPTIONS] [FILE] [EXPRESSION]...' '  -r <FILE>' '  -w <FILE>' \
+        for line in "Usage: $build [OPTIONS] [FILE] [EXPRESSION]..." '  -r <FILE>' '  -w <FILE>' \
             '  -c <N>' '      --count' '      --quiet' '  -n' '  -h, --help' '  -V, --version' \
             'Link types: ' 'A line has these words:' '  ipcap trace.pcap '; do
             if ! grep -q -F -e "$line" "$room/output"; then
