@@ -1,19 +1,29 @@
--- What is written of the records of a capture, in their order.
-use Rattle.std.specs.Prelude.{ℕ, ◌≡◌, ◌+◌, ◌<◌, ◌≤◌, ◌⊎◌, Bool, true, false, List, [], ◌++◌}
-use Rattle.std.specs.Prelude.{Err, MatchOption, None, Option, Some, take}
+-- What is written of the blocks of a capture, in their order.
+use Rattle.std.specs.Prelude.{ℕ, ◌≡◌, ◌+◌, ◌-◌, ◌<◌, ◌≤◌, ◌⊎◌, Bool, true, false, List, [], ◌++◌}
+use Rattle.std.specs.Prelude.{MatchOption, None, Option, Some, drop, length, take}
 use Rattle.std.specs.Bool.{then_some}
 use Rattle.std.specs.Option.{is_none}
-use Rattle.packet_capture.specs.Capture.{BeginsWithRecord, Recorded, ReadsRecord, record_head}
-use Rattle.packet_capture.specs.Capture.{record_len}
-use Rattle.packet_capture.specs.declared.capture.CutOff as cut
-use Rattle.packet_capture.specs.declared.capture.RecordHead.{RecordHead}
+use Rattle.packet.specs.Link.{link_type_of}
+use Rattle.packet_capture.specs.Any.{BeginsWith, RefusesBlock, Said}
+use Rattle.packet_capture.specs.Any as said
+use Rattle.packet_capture.specs.Skip.{HasBlockFront, HasOtherEnd, front_len}
+use Rattle.packet_capture.specs.declared.any.Capture.{Capture}
+use Rattle.packet_capture.specs.declared.any.PacketHead.{PacketHead}
+use Rattle.packet_capture.specs.declared.pcapng.blocks.BlockError.{BlockError}
+use Rattle.packet_capture.specs.declared.pcapng.blocks.BlockError.TheVariants as error
+use Rattle.packet_capture.specs.declared.skip.BlockFront.{BlockFront}
+use Rattle.packet_capture.specs.declared.skip.Content.{Content}
+use Rattle.packet_capture.specs.declared.skip.Content.TheVariants as content
 use Rattle.packet_filter.specs.Frame.{Answers}
 use Rattle.packet_filter.specs.Program.{expression_of}
+use Rattle.packet_filter.specs.declared.filter.Filter.{Filter}
 use Rattle.ipcap.specs.Lines.{record_line}
-use Rattle.ipcap.specs.Reading.{ReadsFrame, is_cut, max_captured_len}
-use Rattle.ipcap.specs.Request.{has_enough}
-use Rattle.ipcap.specs.Totals.{counted}
-use Rattle.ipcap.specs.declared.place.Capture.{Capture}
+use Rattle.ipcap.specs.Reading.{ReadsNumbered, is_cut, max_len}
+use Rattle.ipcap.specs.Request.{copies, has_enough}
+use Rattle.ipcap.specs.Streams.{kept_if}
+use Rattle.ipcap.specs.Totals.{Told, counted, no_packet, packet}
+use Rattle.ipcap.specs.declared.place.End.{End}
+use Rattle.ipcap.specs.declared.place.End.TheVariants.{Refused, TooLong}
 use Rattle.ipcap.specs.declared.place.Place.{Place}
 use Rattle.ipcap.specs.declared.reading.Reading.{Reading}
 use Rattle.ipcap.specs.declared.reading.Reading.TheVariants.{Skipped}
@@ -22,71 +32,125 @@ use Rattle.ipcap.specs.declared.request.Mode.TheVariants.{Lines, Packets}
 use Rattle.ipcap.specs.declared.request.Request.{Request}
 use Rattle.ipcap.specs.declared.totals.Totals.{Totals}
 
--- Whether a record with this head and this frame is listed: each is, or those are of which the
--- expression is true, with the record's original length as that on the wire.
-abbrev pub IsChosen : Request → Capture → RecordHead → List ℕ → Bool → Type 0
-IsChosen request capture head frame is = MatchOption request.filter (is ≡ true)
-    (λ filter. Answers (expression_of filter) capture.link_type frame head.original_len is)
+-- what a filter says of a packet: what its expression is of the frame, with the packet's original
+-- length as that on the wire; none is true of a frame of a link type that is not read
+abbrev pub Says : Filter → PacketHead → List ℕ → Bool → Type 0
+Says filter head frame is = MatchOption (link_type_of head.link_type) (is ≡ false)
+    (λ link_type. Answers (expression_of filter) link_type frame head.original_len is)
 
--- the reading of a record whose frame is read, if the record is listed
-abbrev pub ReadsChosen : Request → Capture → RecordHead → List ℕ → Option Reading → Type 0
-ReadsChosen request capture head frame (Some reading) =
-    IsChosen request capture head frame true
-    × ReadsFrame capture.link_type (is_cut head) frame reading
-ReadsChosen request capture head frame None = IsChosen request capture head frame false
+-- whether a packet with this head and this frame is listed: each is, or those are of which the
+-- expression is true
+abbrev pub IsChosen : Request → PacketHead → List ℕ → Bool → Type 0
+IsChosen request head frame is =
+    MatchOption request.filter (is ≡ true) (λ filter. Says filter head frame is)
 
--- the same of a record that is too long to be read: no expression is true of it
+-- the reading of a packet whose frame is read, if the packet is listed
+abbrev pub ReadsChosen : Request → PacketHead → List ℕ → Option Reading → Type 0
+ReadsChosen request head frame (Some reading) = IsChosen request head frame true
+    × ReadsNumbered head.link_type (is_cut head) frame reading
+ReadsChosen request head frame None = IsChosen request head frame false
+
+-- what is told of a block that says this, if it is not too long
+abbrev pub ToldOf : Request → Said → Told → Type 0
+ToldOf request (said.packet head frame) (packet same found) =
+    (same ≡ head) × ReadsChosen request head frame found
+ToldOf request said.other no_packet = Unit {0}
+ToldOf request of told = ⊥
+
+-- the reading of a packet in a block that is too long to be read, if it is listed: no expression is
+-- true of it
 abbrev pub if_too_long : Request → Option Reading
 if_too_long request = then_some (is_none request.filter) Skipped
 
--- the reading of a record with this head and these bytes, if it is listed
-abbrev pub ReadsBytes : Request → Capture → RecordHead → List ℕ → Option Reading → Type 0
-ReadsBytes request capture head bytes found =
-    ((head.captured_len ≤ max_captured_len) × ReadsChosen request capture head bytes found)
-    ⊎ ((max_captured_len < head.captured_len) × (found ≡ if_too_long request))
+-- what is told of a block that is too long
+abbrev pub ToldOfLong : Request → Content → Told → Type 0
+ToldOfLong request (content.Packet head) told = told ≡ packet head (if_too_long request)
+ToldOfLong request content.Other told = told ≡ no_packet
+ToldOfLong request of told = ⊥
 
--- what is written of a listed record after those counted in the place: its line, or its bytes as
--- they came, or nothing
-abbrev pub written_as : Mode → Place → RecordHead → List ℕ → Reading → List ℕ
-written_as Lines before head bytes reading =
-    record_line before.capture.header.format.resolution (before.totals.records + 1) head reading
+-- what is written of a listed packet after those counted: its line, or its block as it came, or
+-- nothing
+abbrev pub written_as : Mode → Totals → PacketHead → List ℕ → Reading → List ℕ
+written_as Lines before head bytes reading = record_line (before.records + 1) head reading
 written_as Packets before head bytes reading = bytes
 written_as mode before head bytes reading = []
 
--- the same of any record; of one that is not listed nothing is written
-abbrev pub written : Request → Place → RecordHead → List ℕ → Option Reading → List ℕ
-written request before head bytes (Some reading) =
+-- The same of any block, which has these bytes. Of a packet that is not listed nothing is written.
+-- A block without a packet is written if packets are.
+abbrev pub written : Request → Totals → Told → List ℕ → List ℕ
+written request before (packet head (Some reading)) bytes =
     written_as request.mode before head bytes reading
-written request before head bytes None = []
+written request before (packet head None) bytes = []
+written request before no_packet bytes = kept_if (copies request.mode) bytes
 
--- the place after a record
-abbrev pub passed : RecordHead → Option Reading → Place → Place
-passed head found before = record before { totals = counted head found before.totals }
+-- the place after a block of this length
+abbrev pub passed : ℕ → Bool → Told → Capture → Place → Place
+passed len is_long told after before = record {
+  totals = counted len is_long told before.totals;
+  capture = after;
+}
 
--- The text is what is written of the records that the data consists of, one after the other, and
--- each is counted. The end of the data can cut off the last one: it is told only if it is too long,
--- and then with the bytes that are there. Once as many are listed as were asked for, nothing more
--- is read, whatever follows.
-pub data Lists (request : Request) : Place → List ℕ → List ℕ → Totals → Option cut.CutOff
-    → Type 0 where
+-- A block is refused, or cut off, that is no longer than what is read: no more is needed to see it.
+-- One that is longer can be cut off before its front is there.
+abbrev pub IsShort : Capture → List ℕ → BlockError → Type 0
+IsShort capture s (error.CutOff e) =
+    (e.required_len ≤ max_len capture) ⊎ (length s < front_len capture)
+IsShort capture s e = Unit {0}
+
+pub record RefusesShort (capture : Capture) (s : List ℕ) (e : BlockError) : Type 0 where
+  pub refuses : RefusesBlock capture (take (max_len capture) s) e
+  pub short : IsShort capture s e
+
+-- the data begins with a block that is longer than what is read, and has this front
+pub record HasLongFront (capture : Capture) (s : List ℕ) (front : BlockFront) : Type 0 where
+  pub enough : front_len capture ≤ length s
+  pub has : HasBlockFront capture s front
+  pub long : max_len capture < front.len
+
+-- such a block ends the listing, if it is refused, or says how those after it are read
+abbrev pub EndsAt : ℕ → Content → End → Type 0
+EndsAt len (content.Refused e) end = end ≡ Refused e
+EndsAt len content.Description end = end ≡ TooLong len
+EndsAt len of end = ⊥
+
+-- or it is cut off; or it ends with another length
+abbrev pub IsBroken : List ℕ → BlockFront → BlockError → Type 0
+IsBroken s front e = ((length s < front.len)
+    × (e ≡ error.CutOff (record { required_len = front.len; len = length s })))
+    ⊎ ((front.len ≤ length s)
+    × HasOtherEnd front.head (drop (front.len - 4) (take front.len s)) e)
+
+-- The text is what is written of the blocks that the data consists of, one after the other, and
+-- each is counted. The listing ends with the data; or at a block that is cut off or refused. One
+-- that is too long is told before its end is seen, with the bytes that are there. Once as many
+-- packets are listed as were asked for, nothing more is read, whatever follows.
+pub data Lists (request : Request) : Place → List ℕ → List ℕ → Totals → Option End → Type 0 where
   ends : {place : Place} → Lists request place [] [] place.totals None
   stops : {place : Place} {s : List ℕ} → has_enough request place.totals.listed ≡ true
       → Lists request place s [] place.totals None
-  lists : {before : Place} {last : Totals} {s rest text : List ℕ} {recorded : Recorded}
-      {found : Option Reading} {end : Option cut.CutOff}
-      → has_enough request before.totals.listed ≡ false
-      → BeginsWithRecord before.capture.header s recorded rest
-      → ReadsBytes request before.capture (record_head before.capture.header s) recorded.bytes found
-      → Lists request (passed (record_head before.capture.header s) found before) rest text last end
-      → Lists request before s (written request before (record_head before.capture.header s)
-      (take (record_len before.capture.header s) s) found ++ text) last end
-  is_cut_off : {place : Place} {s : List ℕ} {e : cut.CutOff}
-      → has_enough request place.totals.listed ≡ false
-      → ReadsRecord place.capture.header s (Err e) → e.required_len ≤ 16 + max_captured_len
-      → Lists request place s [] place.totals (Some e)
-  is_cut_off_long : {before : Place} {s : List ℕ} {e : cut.CutOff}
-      → has_enough request before.totals.listed ≡ false
-      → ReadsRecord before.capture.header s (Err e) → 16 + max_captured_len < e.required_len
-      → Lists request before s (written request before (record_head before.capture.header s) s
-      (if_too_long request))
-      (counted (record_head before.capture.header s) (if_too_long request) before.totals) (Some e)
+  lists : {before : Place} {after : Capture} {last : Totals} {s rest text : List ℕ} {of : Said}
+      {told : Told} {end : Option End} → has_enough request before.totals.listed ≡ false
+      → BeginsWith before.capture s after of rest
+      → length s - length rest ≤ max_len before.capture → ToldOf request of told
+      → Lists request (passed (length s - length rest) false told after before) rest text last end
+      → Lists request before s (written request before.totals told
+      (take (length s - length rest) s) ++ text) last end
+  lists_long : {before : Place} {last : Totals} {s rest text : List ℕ} {front : BlockFront}
+      {of : Said} {told : Told} {end : Option End}
+      → has_enough request before.totals.listed ≡ false → HasLongFront before.capture s front
+      → ToldOfLong request front.content told
+      → BeginsWith before.capture s before.capture of rest
+      → Lists request (passed front.len true told before.capture before) rest text last end
+      → Lists request before s (written request before.totals told (take front.len s) ++ text)
+      last end
+  is_refused : {place : Place} {s : List ℕ} {e : BlockError}
+      → has_enough request place.totals.listed ≡ false → RefusesShort place.capture s e
+      → Lists request place s [] place.totals (Some (Refused e))
+  is_refused_long : {place : Place} {s : List ℕ} {front : BlockFront} {end : End}
+      → has_enough request place.totals.listed ≡ false → HasLongFront place.capture s front
+      → EndsAt front.len front.content end → Lists request place s [] place.totals (Some end)
+  is_broken : {before : Place} {s : List ℕ} {front : BlockFront} {told : Told} {e : BlockError}
+      → has_enough request before.totals.listed ≡ false → HasLongFront before.capture s front
+      → ToldOfLong request front.content told → IsBroken s front e
+      → Lists request before s (written request before.totals told (take front.len s))
+      (counted front.len true told before.totals) (Some (Refused e))

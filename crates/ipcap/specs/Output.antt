@@ -1,12 +1,14 @@
 -- What the program writes.
-use Rattle.std.specs.Prelude.{ℕ, ◌≡◌, ◌≢◌, ◌⊎◌, ◌%◌, ◌^◌, List, [], ◌++◌, Option, Some, None}
-use Rattle.std.specs.Prelude.{Err, false, take}
+use Rattle.std.specs.Prelude.{ℕ, ◌≡◌, ◌⊎◌, ◌%◌, ◌^◌, Bool, List, [], ◌++◌, IsSome, Option, Some}
+use Rattle.std.specs.Prelude.{Err, None, Ok, false, take}
 use Rattle.std.specs.Option.{is_some}
 use Rattle.packet.specs.Link.{link_type_of}
-use Rattle.packet_capture.specs.Capture.{BeginsWithFileHeader, ReadsFileHeader}
+use Rattle.packet_capture.specs.Any.{ReadsFront}
+use Rattle.packet_capture.specs.declared.any.Capture.{Capture}
+use Rattle.packet_capture.specs.declared.any.Capture.TheVariants.{Pcap, Pcapng}
 use Rattle.packet_capture.specs.declared.capture.CaptureError.{CaptureError}
-use Rattle.packet_capture.specs.declared.capture.CutOff as cut
 use Rattle.packet_capture.specs.declared.capture.FileHeader.{FileHeader}
+use Rattle.packet_capture.specs.declared.pcapng.blocks.BlockError.TheVariants as error
 use Rattle.ipcap.specs.Lines.{capture_error_line, closing_text, end_text, link_type_line}
 use Rattle.ipcap.specs.Lines.{report_text}
 use Rattle.ipcap.specs.Listing.{Lists}
@@ -17,88 +19,106 @@ use Rattle.ipcap.specs.declared.failure.Failure.{Failure}
 use Rattle.ipcap.specs.declared.failure.Failure.TheVariants as failure
 use Rattle.ipcap.specs.declared.input.Input.{Input}
 use Rattle.ipcap.specs.declared.output.Output.{Output}
-use Rattle.ipcap.specs.declared.place.Capture.{Capture}
+use Rattle.ipcap.specs.declared.place.End.{End}
+use Rattle.ipcap.specs.declared.place.End.TheVariants.{Refused}
 use Rattle.ipcap.specs.declared.place.Place.{Place}
 use Rattle.ipcap.specs.declared.request.Request.{Request}
 use Rattle.ipcap.specs.declared.status.Status.{Status}
 use Rattle.ipcap.specs.declared.status.Status.TheVariants as status
 use Rattle.ipcap.specs.declared.totals.Totals.{Totals}
 
--- a status, what is counted, and the texts: for standard output what is written of the records and
+-- a status, what is counted, and the texts: for standard output what is written of the blocks and
 -- what stands after that, and the text for standard error
 pub record Outcome : Type 0 where
   pub status : Status
   pub totals : Totals
-  pub records : List ℕ
+  pub blocks : List ℕ
   pub closing : List ℕ
   pub errors : List ℕ
 
--- the status if all records are whole, or if the last one is cut off
-abbrev pub status_at : Option cut.CutOff → Status
+-- the status if all blocks are whole, or if the last one is cut off, or refused
+abbrev pub status_at : Option End → Status
 status_at None = status.Done
-status_at (Some e) = status.CutOff
+status_at (Some (Refused (error.CutOff e))) = status.CutOff
+status_at (Some end) = status.Refused
 
--- a run that lists records
-abbrev pub listed : Request → List ℕ → Totals → Option cut.CutOff → Outcome
+-- a run that lists packets
+abbrev pub listed : Request → List ℕ → Totals → Option End → Outcome
 listed request text totals end = record {
   status = status_at end;
   totals = totals;
-  records = text;
+  blocks = text;
   closing = closing_text request.mode (is_some request.filter) totals;
-  errors = end_text end ++ report_text request.mode (is_some request.filter) totals;
+  errors = end_text totals.bytes end
+      ++ report_text request.mode (is_some request.filter) totals;
 }
 
--- a run that ends before any record
+-- a run that ends before any block
 abbrev pub refused : List ℕ → Outcome
 refused line = record {
   status = status.NoCapture;
   totals = nothing_counted;
-  records = [];
+  blocks = [];
   closing = [];
   errors = line;
 }
 
--- the place before any record
+-- the place before any block
 abbrev pub first_place : Capture → Place
 first_place capture = record { totals = nothing_counted; capture = capture }
 
--- what stands before the records: if they are written as they came, the file header as it came
-abbrev pub front_of : Request → List ℕ → List ℕ
-front_of request input = kept_if (copies request.mode) (take 24 input)
+-- how many bytes stand before the first block: the file header; in pcapng all bytes are blocks
+abbrev pub header_len : Capture → ℕ
+header_len (Pcap header) = 24
+header_len (Pcapng section) = 0
 
--- The outcome for a capture with these records, of which something stands before them.
-pub record IsListing (request : Request) (capture : Capture) (front records : List ℕ)
+-- what stands before the blocks: if they are written as they came, the file header as it came
+abbrev pub front_of : Request → Capture → List ℕ → List ℕ
+front_of request capture input = kept_if (copies request.mode) (take (header_len capture) input)
+
+-- the outcome for a capture with these blocks, of which something stands before them
+pub record IsListing (request : Request) (capture : Capture) (front blocks : List ℕ)
     (outcome : Outcome) : Type 0 where
   pub text : List ℕ
   pub totals : Totals
-  pub end : Option cut.CutOff
-  pub lists : Lists request (first_place capture) records text totals end
+  pub end : Option End
+  pub lists : Lists request (first_place capture) blocks text totals end
   pub outcome_of : outcome ≡ listed request (front ++ text) totals end
 
 -- the number of the link type, without the bits above it, which are about a frame check sequence
 abbrev pub number_of : FileHeader → ℕ
 number_of header = header.link_type % 2 ^ 16
 
--- The input is a capture of a link type that is read: a file header and records.
+-- the link type that a file header says for all packets is read; in pcapng each interface has one
+-- of its own
+abbrev pub HasReadFrames : Capture → Type 0
+HasReadFrames (Pcap header) = IsSome (link_type_of (number_of header))
+HasReadFrames (Pcapng section) = Unit {0}
+
+-- The input is a capture that is read, in either format, and these are its blocks.
+pub record IsCapture (input : List ℕ) (capture : Capture) (blocks : List ℕ) : Type 0 where
+  pub front : ReadsFront input (Ok (capture, blocks))
+  pub is_read : HasReadFrames capture
+
+-- Its blocks are listed.
 pub record IsListed (request : Request) (input : List ℕ) (outcome : Outcome) : Type 0 where
   pub capture : Capture
-  pub records : List ℕ
-  pub begins : BeginsWithFileHeader input capture.header records
-  pub is_read : link_type_of (number_of capture.header) ≡ Some capture.link_type
-  pub lists : IsListing request capture (front_of request input) records outcome
+  pub blocks : List ℕ
+  pub is : IsCapture input capture blocks
+  pub lists : IsListing request capture (front_of request capture input) blocks outcome
 
--- The input is a capture of another link type.
+-- The input is a capture in the classic format, of another link type.
 pub record HasOtherFrames (input : List ℕ) (outcome : Outcome) : Type 0 where
   pub header : FileHeader
-  pub records : List ℕ
-  pub begins : BeginsWithFileHeader input header records
+  pub blocks : List ℕ
+  pub front : ReadsFront input (Ok (Pcap header, blocks))
   pub other : link_type_of (number_of header) ≡ None
   pub outcome_of : outcome ≡ refused (link_type_line (number_of header))
 
 -- The input is no capture.
 pub record IsNoCapture (input : List ℕ) (outcome : Outcome) : Type 0 where
   pub error : CaptureError
-  pub reads : ReadsFileHeader input (Err error)
+  pub front : ReadsFront input (Err error)
   pub outcome_of : outcome ≡ refused (capture_error_line error)
 
 -- the outcome of a request for an input
@@ -114,18 +134,30 @@ pub record Writes {W E : Type 0} (contents : W → Option (List ℕ))
   pub outcome : Outcome
   pub is_outcome : P outcome
   pub ended : status ≡ outcome.status
-  pub output : Gets contents old new (outcome.records ++ outcome.closing)
+  pub output : Gets contents old new (outcome.blocks ++ outcome.closing)
   pub errors : Reports contents_of_errors error_failed old_errors new_errors outcome.errors
 
--- more has to be read: fewer records are listed than were asked for, or the last one is cut off, or
--- there is no file header
+-- The outcome if the blocks end before the rest of what was read.
+pub record IsListedTo (request : Request) (read rest : List ℕ) (outcome : Outcome) : Type 0 where
+  pub capture : Capture
+  pub blocks : List ℕ
+  pub is : IsCapture read capture (blocks ++ rest)
+  pub lists : IsListing request capture (front_of request capture read) blocks outcome
+
+-- more has to be read: fewer packets are listed than were asked for; or the last block is cut off;
+-- or what was read is no capture yet
+abbrev pub WantsMoreAt : Bool → Status → Type 0
+WantsMoreAt has_enough status.Done = has_enough ≡ false
+WantsMoreAt has_enough status.CutOff = Unit {0}
+WantsMoreAt has_enough status.Refused = ⊥
+WantsMoreAt has_enough status.NoCapture = Unit {0}
+
 abbrev pub IsOpen : Request → Outcome → Type 0
-IsOpen request outcome =
-    (has_enough request outcome.totals.listed ≡ false) ⊎ (outcome.status ≢ status.Done)
+IsOpen request outcome = WantsMoreAt (has_enough request outcome.totals.listed) outcome.status
 
 -- Why a run fails, if all that is read is listed but a rest: a read has failed, more is wanted, and
 -- nothing is left to list; or a write has failed; or a count is full. Unless a write has failed,
--- all is written that is of the records.
+-- all is written that is of the blocks.
 abbrev pub IsCause : Type 0 → Type 0 → Type 0 → Type 0 → Type 0 → Failure → Type 0
 IsCause read_failed nothing_left write_failed is_full is_written failure.Read =
     read_failed × nothing_left × is_written
@@ -133,22 +165,20 @@ IsCause read_failed nothing_left write_failed is_full is_written failure.Write =
 IsCause read_failed nothing_left write_failed is_full is_written failure.Count =
     is_full × is_written
 
--- A run that fails got these bytes from the source. All that was read is `front`, and a rest that
--- is not listed. The sink got a front of what it gets if the input ends after `front`. Standard
--- error got nothing.
+-- A run that fails got these bytes from the source. All that was read is listed but for a rest. The
+-- sink got a front of what it gets if the blocks end before that. Standard error got nothing.
 pub record Fails {R W E : Type 0} (remaining : R → Option (List ℕ))
     (contents : W → Option (List ℕ)) (read_failed : R → Type 0) (write_failed : W → Type 0)
     (request : Request) (e : Failure) (input left : Input R) (old new : Output W)
     (old_errors new_errors : Output E) : Type 0 where
   pub got : List ℕ
   pub reads : Reads remaining input left got
-  pub front : List ℕ
   pub rest : List ℕ
-  pub whole : unread input ++ got ≡ front ++ rest
   pub outcome : Outcome
-  pub is_outcome : IsOutcome request front outcome
-  pub output : GetsFront contents old new (outcome.records ++ outcome.closing)
+  pub is_outcome : IsListedTo request (unread input ++ got) rest outcome
+      ⊎ ((rest ≡ []) × IsNoCapture (unread input ++ got) outcome)
+  pub output : GetsFront contents old new (outcome.blocks ++ outcome.closing)
   pub errors : new_errors ≡ old_errors
   pub cause : IsCause (CannotRead read_failed left × IsOpen request outcome) (rest ≡ [])
       (write_failed new.sink) (¬ HasRoom outcome.totals)
-      (Gets contents old new outcome.records) e
+      (Gets contents old new outcome.blocks) e

@@ -1,17 +1,21 @@
 -- What a frame is found to carry.
 use Rattle.std.specs.Prelude.{ℕ, ◌≡◌, ◌||◌, ◌⊎◌, Bool, false, MatchBool, List, length, nat_lt}
-use Rattle.std.specs.Prelude.{Option, Some, None, option_map}
+use Rattle.std.specs.Prelude.{MatchOption, Option, Some, None, option_map}
 use Rattle.std.specs.Option.{is_some}
 use Rattle.packet.specs.Link.{FramedParts, LacksLink, LinkParts, LoopbackParts, link_parts}
+use Rattle.packet.specs.Link.{link_type_of}
 use Rattle.packet.specs.SlicedPacket.{HasLinkLayers, carries_ip}
 use Rattle.packet.specs.declared.link.LinkError.{LinkError}
 use Rattle.packet.specs.declared.link.LinkType.{LinkType}
 use Rattle.packet.specs.declared.link_layers.LinkLayers.{LinkLayers}
-use Rattle.packet_capture.specs.declared.capture.RecordHead.{RecordHead}
+use Rattle.packet_capture.specs.declared.any.Capture.{Capture}
+use Rattle.packet_capture.specs.declared.any.Capture.TheVariants.{Pcap, Pcapng}
+use Rattle.packet_capture.specs.declared.any.PacketHead.{PacketHead}
 use Rattle.ipcap.specs.Shown.{IsRefused, IsShown, is_wrong, is_wrong_header}
 use Rattle.ipcap.specs.declared.reading.NoPacket.{NoPacket}
 use Rattle.ipcap.specs.declared.reading.NoPacket.TheVariants.{NoLinkHeader, OtherCarried}
-use Rattle.ipcap.specs.declared.reading.NoPacket.TheVariants.{OtherFamily, OtherType}
+use Rattle.ipcap.specs.declared.reading.NoPacket.TheVariants.{OtherFamily, OtherLinkType}
+use Rattle.ipcap.specs.declared.reading.NoPacket.TheVariants.{OtherType}
 use Rattle.ipcap.specs.declared.reading.Reading.{Reading}
 use Rattle.ipcap.specs.declared.reading.Reading.TheVariants.{Other, Packet, Refused}
 
@@ -56,17 +60,21 @@ abbrev pub ReadsFrame : LinkType → Bool → List ℕ → Reading → Type 0
 ReadsFrame link_type is_cut frame reading =
     ReadsLayers link_type is_cut frame reading ⊎ LacksHeader link_type frame reading
 
+-- the same of a frame whose link type has this number: of one that is not read it says no more
+abbrev pub ReadsNumbered : ℕ → Bool → List ℕ → Reading → Type 0
+ReadsNumbered number is_cut frame reading =
+    MatchOption (link_type_of number) (reading ≡ Other (OtherLinkType number))
+    (λ link_type. ReadsFrame link_type is_cut frame reading)
+
 -- fewer bytes were captured than the packet had
-abbrev pub is_cut : RecordHead → Bool
+abbrev pub is_cut : PacketHead → Bool
 is_cut head = nat_lt head.captured_len head.original_len
 
--- the greatest number of captured bytes in a record that is read
-abbrev pub max_captured_len : ℕ
-max_captured_len = 262144
-
--- more were captured than are read
-abbrev pub is_too_long : RecordHead → Bool
-is_too_long head = nat_lt max_captured_len head.captured_len
+-- The most bytes of a block that are read: a record with 262144 captured bytes and its head; or a
+-- block of pcapng that has room for as many, and for 65536 bytes of fields and options.
+abbrev pub max_len : Capture → ℕ
+max_len (Pcap header) = 262160
+max_len (Pcapng section) = 327680
 
 -- whether one of its checksums is wrong
 abbrev pub has_wrong_checksum : Reading → Bool

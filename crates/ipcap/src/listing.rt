@@ -1,16 +1,15 @@
-//! What is written of the records, in their order.
+//! What is written of the blocks, in their order.
 
-ghost use Rattle.std.specs.Prelude.{◌≡◌, ◌≤◌, ◌<◌, ◌+◌, ◌-◌, ◌&&◌, [], IfErr, IfOk, IfSome};
+ghost use Rattle.std.specs.Prelude.{◌≡◌, ◌≢◌, ◌≤◌, ◌<◌, ◌+◌, ◌-◌, ◌×◌, [], IfErr, IfOk, IfSome};
 ghost use Rattle.std.specs.Prelude.{OnErr, OnOk, Some, drop, false, length, take};
 ghost use Rattle.std.specs.Io.KnownBytes.{IsAtEnd};
-ghost use Rattle.std.specs.Option.{is_none};
-ghost use Rattle.packet_capture.specs.Capture.{record_len};
-ghost use Rattle.ipcap.specs.Listing.{IsChosen, if_too_long, passed, written};
-ghost use Rattle.ipcap.specs.Private.Progress.{Because, Breaks, Ends, Lacks, Skips, Stops, Tells};
-ghost use Rattle.ipcap.specs.Private.Progress.{TellsFrame, TellsFront, TellsLong, TellsRecord};
-ghost use Rattle.ipcap.specs.Private.Progress.{Turns};
-ghost use Rattle.ipcap.specs.Private.Progress.{keeps};
-ghost use Rattle.ipcap.specs.Reading.{max_captured_len};
+ghost use Rattle.packet_capture.specs.Any.{RefusesBlock, said};
+ghost use Rattle.packet_capture.specs.Skip.{CanBeSkipped, front_len};
+ghost use Rattle.ipcap.specs.Listing.{IsChosen, if_too_long};
+ghost use Rattle.ipcap.specs.Private.Progress.{Because, Breaks, Ends, Lacks, Skips, Stops};
+ghost use Rattle.ipcap.specs.Private.Progress.{TellsAll, TellsBlock, TellsFrame, TellsFront};
+ghost use Rattle.ipcap.specs.Private.Progress.{TellsLine, TellsPacket, Turns, keeps, keeps_of};
+ghost use Rattle.ipcap.specs.Reading.{max_len};
 ghost use Rattle.ipcap.specs.Request.{copies, has_enough};
 ghost use Rattle.ipcap.specs.Streams.{CannotRead, Prints, unread};
 ghost use Rattle.ipcap.specs.Totals.{HasRoom};
@@ -19,21 +18,28 @@ use crate::failure::Failure;
 use crate::input::{Input, ROOM};
 use crate::lines::RecordLine;
 use crate::output::Output;
-use crate::place::Place;
-use crate::reading::{Reading, is_cut, read_frame};
+use crate::place::{End, Place};
+use crate::reading::{Reading, is_cut, max_len, read_numbered};
 use crate::request::{Mode, Request};
 use crate::streams::{Sink, Source};
-use packet_capture::capture::{CutOff, RecordHead, next_record};
+use crate::totals::Totals;
+use packet::link::LinkType;
+use packet_capture::any::{Block, PacketHead, next_block};
+use packet_capture::capture::CutOff;
+use packet_capture::pcapng::blocks::BlockError;
+use packet_capture::skip::Content;
 
-/// Why no whole record is read at the front of the bytes that have been read.
+/// Why no whole block is read at the front of the bytes that have been read.
 #[derive(Clone, Copy)]
 pub enum Stop {
     /// As many are listed as were asked for.
     Enough,
     /// There are no bytes.
     Empty,
-    /// The record there is incomplete.
+    /// The block there is incomplete.
     CutOff(CutOff),
+    /// The block there is refused for another reason.
+    Refused(BlockError),
 }
 
 /// Whether there is more to list.
@@ -41,8 +47,8 @@ pub enum Stop {
 pub enum Turn {
     /// There may be more.
     GoesOn,
-    /// There is no more: the last record is whole, or cut off.
-    Ends(Option<CutOff>),
+    /// There is no more: the last block is whole, or this is how the listing ends.
+    Ends(Option<End>),
 }
 
 // Takes `len` bytes, or all that the input has if these are fewer, and prints them if they are

@@ -1,23 +1,24 @@
-//! The state of a listing between two records.
+//! The state of a listing between two blocks, and how it can end before its capture does.
 
 use crate::totals::Totals;
-use packet::link::LinkType;
-use packet_capture::capture::FileHeader;
+use packet_capture::any::Capture;
+use packet_capture::pcapng::blocks::BlockError;
 
-/// What the front of a capture says of its records.
-#[derive(Clone, Copy)]
-pub struct Capture {
-    /// The file header.
-    pub header: FileHeader,
-    /// The type of the frames.
-    pub link_type: LinkType,
-}
-
-/// The state of a listing between two records.
-#[derive(Clone, Copy)]
+/// The state of a listing between two blocks. A block of the classic format is a record.
+#[derive(Drop)]
 pub struct Place {
-    /// What is counted of the records before it.
+    /// What is counted of the blocks before it.
     pub totals: Totals,
     /// What is known of the capture there.
     pub capture: Capture,
+}
+
+/// How a listing ends before its capture does.
+#[derive(Clone, Copy)]
+pub enum End {
+    /// The next block is cut off, or refused.
+    Refused(BlockError),
+    /// The next block says how those after it are read, and it is longer than what is read; the
+    /// number is its length in bytes.
+    TooLong(usize),
 }

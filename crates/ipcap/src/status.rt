@@ -3,8 +3,10 @@
 pub enum Status {
     /// The capture was read to its end.
     Done,
-    /// The capture ends within a record.
+    /// The capture ends within a record or a block.
     CutOff,
+    /// A block is refused.
+    Refused,
     /// The input is no capture, or one of a link type that is not read.
     NoCapture,
 }
@@ -13,13 +15,14 @@ impl Status {
     ghost use Rattle.std.specs.Prelude.{◌≡◌};
     ghost use Rattle.ipcap.specs.Status.{code_of};
 
-    /// The exit status of the process: 0 to 2, in the order of the variants.
+    /// The exit status of the process: 2 if nothing is listed, 1 if what is listed
+    /// ends before the input does, and otherwise 0.
     pub fn code(self) -> u8
         ensures value { result ≡ code_of self }
     {
         match self {
             Status::Done => 0,
-            Status::CutOff => 1,
+            Status::CutOff | Status::Refused => 1,
             Status::NoCapture => 2,
         }
     }

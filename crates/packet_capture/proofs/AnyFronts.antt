@@ -12,7 +12,7 @@ use Rattle.packet_capture.proofs.Fronts.{begins_with_block-front, slice_range-ap
 range_front : (t other more : List ℕ) (i j : ℕ) → i ≤ j → j ≤ length t → slice_range (t ++ other) i j ≡ slice_range (t ++ more) i j
 range_front t other more i j order within = slice_range-append t other i j order within ∙ sym (slice_range-append t more i j order within)
 
-record_head-append : (header : FileHeader) (t more : List ℕ) → 16 ≤ length t → record_head header (t ++ more) ≡ record_head header t
+pub record_head-append : (header : FileHeader) (t more : List ℕ) → 16 ≤ length t → record_head header (t ++ more) ≡ record_head header t
 record_head-append header t more enough = grind (arith, slice_range-append)
 
 -- the head of a record is in its first 16 bytes

@@ -21,7 +21,7 @@ slice_range-append s more i j order within = grind (arith, drop-append-le, take-
 magic_of-append : (s more : List ℕ) → 8 ≤ length s → magic_of (s ++ more) ≡ magic_of s
 magic_of-append s more enough = grind (arith, slice_range-append)
 
-front_len-append : (s more : List ℕ) → 8 ≤ length s → front_len (s ++ more) ≡ front_len s
+pub front_len-append : (s more : List ℕ) → 8 ≤ length s → front_len (s ++ more) ≡ front_len s
 front_len-append s more enough = grind (arith, magic_of-append)
 
 order_of-append : (section : Section) (s more : List ℕ) → 8 ≤ length s → front_len s ≤ length s → order_of section (s ++ more) ≡ order_of section s
@@ -132,7 +132,7 @@ refuses_block-append before s more e enough (for_length {head = head} h w) =
 refuses_block-append before s more e enough (for_body {head = head} {block = block} h w b) =
     for_body (has_front-append before s more head h.0, h.1) (whole-append head s more block w) b
 
-front_len-most : (s : List ℕ) → front_len s ≤ 12
+pub front_len-most : (s : List ℕ) → front_len s ≤ 12
 front_len-most s = grind arith
 
 -- a block alone, where other bytes have followed it

@@ -2,3 +2,4 @@ pub mod Any
 pub mod Capture
 pub mod FileFormat
 pub mod Pcapng
+pub mod Skip

@@ -4,4 +4,6 @@
 pub mod any;
 pub mod capture;
 pub mod file_format;
+
 pub mod pcapng;
+pub mod skip;

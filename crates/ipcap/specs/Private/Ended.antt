@@ -1,6 +1,6 @@
 -- How a listing ends.
 use Rattle.std.specs.Prelude.{ℕ, ◌≡◌, List, [], ◌++◌, Option}
-use Rattle.packet_capture.specs.declared.capture.CutOff as cut
+use Rattle.packet_capture.specs.declared.any.Capture.{Capture}
 use Rattle.ipcap.specs.Listing.{Lists}
 use Rattle.ipcap.specs.Output.{IsCause, first_place, listed, status_at}
 use Rattle.ipcap.specs.Private.Progress.{WantsMore}
@@ -9,20 +9,20 @@ use Rattle.ipcap.specs.Totals.{HasRoom}
 use Rattle.ipcap.specs.declared.failure.Failure.{Failure}
 use Rattle.ipcap.specs.declared.input.Input.{Input}
 use Rattle.ipcap.specs.declared.output.Output.{Output}
-use Rattle.ipcap.specs.declared.place.Capture.{Capture}
+use Rattle.ipcap.specs.declared.place.End.{End}
 use Rattle.ipcap.specs.declared.request.Request.{Request}
 use Rattle.ipcap.specs.declared.status.Status.{Status}
 use Rattle.ipcap.specs.declared.totals.Totals.{Totals}
 
--- the records are listed, and all is passed to the sinks
+-- the blocks are listed, and all is passed to the sinks
 pub record WritesListing {W E : Type 0} (contents : W → Option (List ℕ))
     (contents_of_errors : E → Option (List ℕ)) (error_failed : E → Type 0) (request : Request)
-    (capture : Capture) (records : List ℕ) (status : Status) (old new : Output W)
+    (capture : Capture) (blocks : List ℕ) (status : Status) (old new : Output W)
     (old_errors new_errors : Output E) : Type 0 where
   pub text : List ℕ
   pub totals : Totals
-  pub end : Option cut.CutOff
-  pub lists : Lists request (first_place capture) records text totals end
+  pub end : Option End
+  pub lists : Lists request (first_place capture) blocks text totals end
   pub ended : status ≡ status_at end
   pub prints : Prints contents old new (text ++ (listed request text totals end).closing)
   pub all : pending new ≡ []
@@ -41,7 +41,7 @@ pub record FailsListing {R W E : Type 0} (remaining : R → Option (List ℕ))
   pub whole : unread input ++ got ≡ front ++ rest
   pub text : List ℕ
   pub totals : Totals
-  pub end : Option cut.CutOff
+  pub end : Option End
   pub lists : Lists request (first_place capture) front text totals end
   pub printed : List ℕ
   pub unprinted : List ℕ
