@@ -1,18 +1,19 @@
 -- What a run writes, and what one that fails has written.
-use Rattle.std.proofs.Common.{ℕ, ◌≡◌, ◌<◌, ◌≤◌, ◌⊎◌, inl, inr, Bool, true, false, List, [], ◌++◌, length, take, drop, Option, Some, None, Result, Ok, Err, IfErr, IfOk, refl, sym, ap, ◌∙◌, append_assoc, append-nil, arith, IfSome, length-take-le, take-append-drop}
-use Rattle.std.proofs.Math.Seq.{take-append_seam}
+use Rattle.std.proofs.Common.{ℕ, ◌≡◌, ◌⊎◌, inl, inr, List, [], ◌++◌, take, drop, Option, Some, None, Result, Ok, Err, IfErr, IfOk, refl, subst, sym, ap, ◌∙◌, append_assoc, append-nil, arith, IfSome, take-append-drop}
+use Rattle.std.proofs.lemmas.List.{take-append-le}
 use Rattle.std.specs.Io.KnownBytes.{Consumes, IsAtEnd, prepend_known}
 use Rattle.std.proofs.KnownBytes.{Appends-nil, Consumes-whole}
 use Rattle.packet.specs.Link.{link_type_of}
-use Rattle.packet_capture.specs.Capture.{BeginsWithFileHeader, ReadsFileHeader}
+use Rattle.packet_capture.specs.Any.{ReadsFront}
+use Rattle.packet_capture.specs.declared.any.Capture.{Capture}
+use Rattle.packet_capture.specs.declared.any.Capture.TheVariants.{Pcap}
 use Rattle.packet_capture.specs.declared.capture.CaptureError.{CaptureError}
 use Rattle.packet_capture.specs.declared.capture.CaptureError.TheVariants as capture
-use Rattle.packet_capture.specs.declared.capture.CutOff as cut
 use Rattle.packet_capture.specs.declared.capture.FileHeader.{FileHeader}
 use Rattle.ipcap.specs.Lines.{capture_error_line, link_type_line}
 use Rattle.ipcap.specs.Listing.{Lists, ends}
-use Rattle.ipcap.specs.Output.{Fails, HasOtherFrames, IsCause, IsListed, IsNoCapture, IsOpen, IsOutcome, Writes, first_place, listed, number_of, refused, status_at}
-use Rattle.ipcap.specs.Private.Ended.{FailsListing, WritesListing}
+use Rattle.ipcap.specs.Output.{Fails, HasOtherFrames, IsCapture, IsCause, IsListed, IsListedTo, IsNoCapture, IsOpen, IsOutcome, Writes, first_place, front_of, header_len, listed, number_of, refused, status_at}
+use Rattle.ipcap.specs.Private.Ended.{FailsListing, LacksFront, WritesListing}
 use Rattle.ipcap.specs.Private.Progress.{Because, Breaks, Ends, IsTold, WantsMore}
 use Rattle.ipcap.specs.Request.{copies}
 use Rattle.ipcap.specs.Streams.{CannotRead, Gets, GetsFront, Prints, PrintsFront, Reports, Takes, kept_if, pending, unlisted, unread}
@@ -21,13 +22,13 @@ use Rattle.ipcap.specs.declared.failure.Failure.{Failure}
 use Rattle.ipcap.specs.declared.failure.Failure.TheVariants as failure
 use Rattle.ipcap.specs.declared.input.Input.{Input}
 use Rattle.ipcap.specs.declared.output.Output.{Output}
-use Rattle.ipcap.specs.declared.place.Capture.{Capture}
+use Rattle.ipcap.specs.declared.place.End.{End}
+use Rattle.ipcap.specs.declared.place.End.TheVariants.{CutOff}
 use Rattle.ipcap.specs.declared.request.Request.{Request}
 use Rattle.ipcap.specs.declared.status.Status.{Status}
-use Rattle.ipcap.specs.declared.status.Status.TheVariants as status
 use Rattle.ipcap.specs.declared.totals.Totals.{Totals}
 use Rattle.ipcap.proofs.Runs.{prints_both, prints_then, reads_both, takes_both}
-use Rattle.ipcap.proofs.Fronts.{begins_with_file_header-append, begins_with_file_header-front, reads_no_file_header-append}
+use Rattle.ipcap.proofs.Fronts.{header_there, reads_front-append, reads_no_front-append}
 
 -- ---- what a sink gets
 
@@ -67,35 +68,37 @@ and_any None b bytes P c f = tt
 and_any (Some x) None bytes P c f = absurd c
 and_any (Some x) (Some y) bytes P c f = rw c (f y)
 
+-- what holds of all bytes, from what holds of those that are left after some
+from_rest : (a b : Option (List ℕ)) (u v got s : List ℕ) (P Q : List ℕ → Type 0) → Consumes a b got → u ++ got ≡ s ++ v → ((more : List ℕ) → Q (v ++ more) → P (s ++ (v ++ more))) → IfSome (prepend_known v b) Q → IfSome (prepend_known u a) P
+from_rest None b u v got s P Q c e f q = tt
+from_rest (Some x) None u v got s P Q c e f q = absurd c
+from_rest (Some x) (Some y) u v got s P Q c e f q =
+    let same : u ++ x ≡ s ++ (v ++ y) = grind (arith, append_assoc) in
+    subst P (sym same) (f y q)
+
 -- ---- outcomes
 
-pub is_no_capture : (request : Request) (u : List ℕ) (e : CaptureError) → ReadsFileHeader u (Err e) → IsOutcome request u (refused (capture_error_line e))
-is_no_capture request u e none = let refusal : IsNoCapture u (refused (capture_error_line e)) = record { error = e; reads = none; outcome_of = refl } in inr (inr refusal)
+is_no_capture : (request : Request) (u : List ℕ) (e : CaptureError) → ReadsFront u (Err e) → IsOutcome request u (refused (capture_error_line e))
+is_no_capture request u e none = let refusal : IsNoCapture u (refused (capture_error_line e)) = record { error = e; front = none; outcome_of = refl } in inr (inr refusal)
 
-pub no_capture : (request : Request) (r : Option (List ℕ)) (u : List ℕ) (e : CaptureError) → (24 ≤ length u) ⊎ IsAtEnd r → ReadsFileHeader u (Err e)
+pub no_capture : (request : Request) (r : Option (List ℕ)) (u : List ℕ) (e : CaptureError) → (¬ LacksFront u) ⊎ IsAtEnd r → ReadsFront u (Err e)
     → IfSome (prepend_known u r) (λ input. IsOutcome request input (refused (capture_error_line e)))
 no_capture request None u e enough none = tt
-no_capture request (Some more) u e enough none = is_no_capture request (u ++ more) e (reads_no_file_header-append u more e enough none)
+no_capture request (Some more) u e enough none = is_no_capture request (u ++ more) e (reads_no_front-append u more e enough none)
 
-has_other_frames : (request : Request) (u rest : List ℕ) (header : FileHeader) → BeginsWithFileHeader u header rest → link_type_of (number_of header) ≡ None
+has_other_frames : (request : Request) (u rest : List ℕ) (header : FileHeader) → ReadsFront u (Ok (Pcap header, rest)) → link_type_of (number_of header) ≡ None
     → IsOutcome request u (refused (link_type_line (number_of header)))
-has_other_frames request u rest header begins other =
-    let refusal : HasOtherFrames u (refused (link_type_line (number_of header))) = record { header = header; records = rest; begins = begins; other = other; outcome_of = refl } in
+has_other_frames request u rest header front other =
+    let refusal : HasOtherFrames u (refused (link_type_line (number_of header))) = record { header = header; blocks = rest; front = front; other = other; outcome_of = refl } in
     inr (inl refusal)
 
-pub other_frames : (request : Request) (r : Option (List ℕ)) (u rest : List ℕ) (header : FileHeader) → BeginsWithFileHeader u header rest → link_type_of (number_of header) ≡ None
+pub other_frames : (request : Request) (r : Option (List ℕ)) (u rest : List ℕ) (header : FileHeader) → ReadsFront u (Ok (Pcap header, rest)) → link_type_of (number_of header) ≡ None
     → IfSome (prepend_known u r) (λ input. IsOutcome request input (refused (link_type_line (number_of header))))
-other_frames request None u rest header begins other = tt
-other_frames request (Some more) u rest header begins other = has_other_frames request (u ++ more) (rest ++ more) header (begins_with_file_header-append u more header rest begins) other
+other_frames request None u rest header front other = tt
+other_frames request (Some more) u rest header front other = has_other_frames request (u ++ more) (rest ++ more) header (reads_front-append u more (Pcap header) rest front) other
 
 parts : (s text closing printed left : List ℕ) → text ++ closing ≡ printed ++ left → (s ++ text) ++ closing ≡ (s ++ printed) ++ left
 parts s text closing printed left e = grind (arith, append_assoc)
-
-not_done : ¬ (status.NoCapture ≡ status.Done)
-not_done e = grind arith
-
-not_done_yet : ¬ (status.CutOff ≡ status.Done)
-not_done_yet e = grind arith
 
 -- why a run fails
 cause_then : (P Q N F D P' D' : Type 0) (e : Failure) → (P → P') → (D → D') → IsCause P N Q F D e → IsCause P' N Q F D' e
@@ -156,7 +159,7 @@ module _ {R W V : Type 0} (remaining : R → Option (List ℕ)) (contents : W �
         }
 
     -- all is told
-    module _ (totals : Totals) (end : Option cut.CutOff) (b : Ends remaining contents request (first_place capture) totals end a c o m) where
+    module _ (totals : Totals) (end : Option End) (b : Ends remaining contents request (first_place capture) totals end a c o m) where
       -- and then a write failed
       pub not_closed : PrintsFront contents m n (listed request [] totals end).closing → Q n.sink → FailsListing remaining contents P Q request capture failure.Write a c o n p p
       not_closed k failed = record {
@@ -200,25 +203,21 @@ module _ {R W V : Type 0} (remaining : R → Option (List ℕ)) (contents : W �
             | inr any ↦ and_any (unlisted remaining a) (remaining c.source) (unread a ++ b.got) _ read (λ rest. writes q s ((unread a ++ b.got) ++ rest) (any rest) ended closing over said)
           ]
 
-  -- ---- a run, whose file header is read from what `a` had, and is left to `b`
+  -- ---- a run, whose front is read from what `a` had, and is left to `b`
 
   module _ (a b : Input R) (t : Takes remaining a b []) where
-    -- a read fails before there is a file header
-    pub header_broken : (o : Output W) (p : Output V) → pending o ≡ [] → length (unread b) < 24 → CannotRead P b → Fails remaining contents P Q request failure.Read a b o o p p
-    header_broken o p fresh few failed =
-        let e : cut.CutOff = record { required_len = 24; len = length (unread b) } in
-        record {
-          got = t.got;
-          reads = t.reads;
-          front = unread b;
-          rest = [];
-          whole = t.takes ∙ sym (append-nil (unread b));
-          outcome = refused (capture_error_line (capture.CutOff e));
-          is_outcome = is_no_capture request (unread b) (capture.CutOff e) (record { short = few; error = refl });
-          output = record { front = []; rest = []; whole = refl; gets = Appends-nil (contents o.sink) };
-          errors = refl;
-          cause = ((failed, inr not_done), refl, Appends-nil (contents o.sink));
-        }
+    -- a read fails before the front is there
+    pub header_broken : (o : Output W) (p : Output V) → pending o ≡ [] → LacksFront (unread b) → CannotRead P b → Fails remaining contents P Q request failure.Read a b o o p p
+    header_broken o p fresh few failed = record {
+      got = t.got;
+      reads = t.reads;
+      rest = [];
+      outcome = refused (capture_error_line (capture.CutOff few.0));
+      is_outcome = inr (refl, record { error = capture.CutOff few.0; front = subst (λ s. ReadsFront s (Err (capture.CutOff few.0))) (sym t.takes) few.1; outcome_of = refl });
+      output = record { front = []; rest = []; whole = refl; gets = Appends-nil (contents o.sink) };
+      errors = refl;
+      cause = ((failed, tt), refl, Appends-nil (contents o.sink));
+    }
 
     -- the run ends with this line
     pub refuses : (o : Output W) (p q : Output V) (line : List ℕ) → IfSome (unlisted remaining b) (λ input. IsOutcome request input (refused line)) → Reports also Q' p q line
@@ -231,78 +230,89 @@ module _ {R W V : Type 0} (remaining : R → Option (List ℕ)) (contents : W �
       errors = said;
     }) is
 
-    -- the records are listed after the file header
-    module _ (capture : Capture) (begins : BeginsWithFileHeader (unread b) capture.header (drop 24 (unread b))) (known : link_type_of (number_of capture.header) ≡ Some capture.link_type) where
+    -- the blocks are listed after what stands before them
+    module _ (found : Capture) (is : IsCapture (unread b) found (drop (header_len found) (unread b))) where
       abbrev pub head : List ℕ
-      head = take 24 (unread b)
-
-      front_is : (is : Bool) (records : List ℕ) → kept_if is (take 24 (head ++ records)) ≡ kept_if is head
-      front_is true records = let len : length head ≡ 24 = length-take-le 24 (unread b) begins.enough in ap (λ k. take k (head ++ records)) (sym len) ∙ take-append_seam head records
-      front_is false records = refl
+      head = take (header_len found) (unread b)
 
       abbrev pub kept : List ℕ
       kept = kept_if (copies request.mode) head
 
-      is_listed : (records text : List ℕ) (totals : Totals) (end : Option cut.CutOff) → Lists request (first_place capture) records text totals end → IsOutcome request (head ++ records) (listed request (kept ++ text) totals end)
-      is_listed records text totals end l =
-          let found : IsListed request (head ++ records) (listed request (kept ++ text) totals end) = record {
-            capture = capture;
-            records = records;
-            begins = begins_with_file_header-front (unread b) records capture.header _ begins;
-            is_read = known;
-            lists = record { text = text; totals = totals; end = end; lists = l; outcome_of = ap (λ s. listed request (s ++ text) totals end) (sym (front_is (copies request.mode) records)) };
+      is_capture : (more : List ℕ) → IsCapture (unread b ++ more) found (drop (header_len found) (unread b) ++ more)
+      is_capture more = record { front = reads_front-append (unread b) more found (drop (header_len found) (unread b)) is.front; is_read = is.is_read }
+
+      front_is : (more : List ℕ) → front_of request found (unread b ++ more) ≡ kept
+      front_is more = ap (kept_if (copies request.mode)) (take-append-le (header_len found) (unread b) more (header_there (unread b) found _ is.front))
+
+      all_of : (more : List ℕ) → unread b ++ more ≡ head ++ (drop (header_len found) (unread b) ++ more)
+      all_of more = ap (λ s. s ++ more) (sym (take-append-drop (header_len found) (unread b))) ∙ append_assoc head (drop (header_len found) (unread b)) more
+
+      is_listed : (more text : List ℕ) (totals : Totals) (end : Option End) → Lists request (first_place found) (drop (header_len found) (unread b) ++ more) text totals end → IsOutcome request (unread b ++ more) (listed request (kept ++ text) totals end)
+      is_listed more text totals end l =
+          let outcome : IsListed request (unread b ++ more) (listed request (kept ++ text) totals end) = record {
+            capture = found;
+            blocks = drop (header_len found) (unread b) ++ more;
+            is = is_capture more;
+            lists = record { text = text; totals = totals; end = end; lists = l; outcome_of = ap (λ s. listed request (s ++ text) totals end) (sym (front_is more)) };
           } in
-          inl found
+          inl outcome
+
+      listed_to : (read more front rest text : List ℕ) (totals : Totals) (end : Option End) → read ≡ unread b ++ more → drop (header_len found) (unread b) ++ more ≡ front ++ rest → Lists request (first_place found) front text totals end
+          → IsListedTo request read rest (listed request (kept ++ text) totals end)
+      listed_to read more front rest text totals end e parts l = record {
+        capture = found;
+        blocks = front;
+        is = rw (e, sym parts) (is_capture more);
+        lists = record { text = text; totals = totals; end = end; lists = l; outcome_of = rw e (ap (λ s. listed request (s ++ text) totals end) (sym (front_is more))) };
+      }
 
       module _ (d : Input R) (o m : Output W) (p : Output V) (fresh : pending o ≡ []) where
-        -- the file header is not written
+        -- what stands before the blocks is not written
         pub not_begun : Prints contents o m [] → Q m.sink → Fails remaining contents P Q request failure.Write a b o m p p
         not_begun kept_out failed = record {
           got = t.got;
           reads = t.reads;
-          front = head ++ [];
-          rest = drop 24 (unread b);
-          whole = t.takes ∙ rw (append-nil head) (sym (take-append-drop 24 (unread b)));
+          rest = drop (header_len found) (unread b);
           outcome = listed request (kept ++ []) nothing_counted None;
-          is_outcome = is_listed [] [] nothing_counted None ends;
+          is_outcome = inl (listed_to (unread a ++ t.got) [] [] (drop (header_len found) (unread b)) [] nothing_counted None (t.takes ∙ sym (append-nil (unread b))) (append-nil (drop (header_len found) (unread b))) ends);
           output = printed_front contents o m [] _ fresh kept_out;
           errors = refl;
           cause = failed;
         }
 
-        module _ (u : Takes remaining b d head) (begun : Prints contents o m kept) (c : Input R) (n : Output W) (q : Output V) where
+        module _ (u : Takes remaining b d head) (rest_is : unread d ≡ drop (header_len found) (unread b)) (begun : Prints contents o m kept) (c : Input R) (n : Output W) (q : Output V) where
           takes : Takes remaining a d head
           takes = takes_both remaining a b d [] head t u
 
-          pub lists_by : (r : Result Status Failure) → IfOk r (λ s. IfSome (unlisted remaining d) (λ records. WritesListing contents also Q' request capture records s m n p q))
+          pub lists_by : (r : Result Status Failure) → IfOk r (λ s. IfSome (unlisted remaining d) (λ blocks. WritesListing contents also Q' request found blocks s m n p q))
               → IfOk r (λ s. IfSome (unlisted remaining a) (λ input. Writes contents also Q' (IsOutcome request input) s o n p q))
           lists_by (Err e) w = tt
-          lists_by (Ok s) w = from_records (remaining a.source) (remaining d.source) (unread a) (unread d) takes.got head _ _ takes.reads.gave takes.takes
-              (λ records x. record {
+          lists_by (Ok s) w = from_rest (remaining a.source) (remaining d.source) (unread a) (unread d) takes.got head _ _ takes.reads.gave takes.takes
+              (λ more x. record {
                 outcome = listed request (kept ++ x.text) x.totals x.end;
-                is_outcome = is_listed records x.text x.totals x.end x.lists;
+                is_outcome = rw (rest_is, sym (all_of more)) (is_listed more x.text x.totals x.end (rw rest_is at x.lists));
                 ended = x.ended;
                 output = rw (append_assoc kept x.text _) (printed_all contents o n _ fresh (prints_both contents o m n kept _ begun x.prints) x.all);
                 errors = x.errors;
               }) w
 
-          whole_after : (v s g h front rest : List ℕ) → unread a ++ g ≡ s ++ v → v ++ h ≡ front ++ rest → unread a ++ (g ++ h) ≡ (s ++ front) ++ rest
-          whole_after v s g h front rest e f = grind (arith, append_assoc)
+          read_is : (got : List ℕ) → unread a ++ (takes.got ++ got) ≡ unread b ++ got
+          read_is got =
+              sym (append_assoc (unread a) takes.got got) ∙ (ap (λ s. s ++ got) takes.takes ∙ (ap (λ v. (head ++ v) ++ got) rest_is ∙ ap (λ s. s ++ got) (take-append-drop (header_len found) (unread b))))
 
-          open_at : (totals : Totals) (end : Option cut.CutOff) (text : List ℕ) → WantsMore request totals end → IsOpen request (listed request text totals end)
-          open_at totals None text wants = inl wants
-          open_at totals (Some e) text wants = inr not_done_yet
+          open_at : (totals : Totals) (end : Option End) (text : List ℕ) → WantsMore request totals end → IsOpen request (listed request text totals end)
+          open_at totals None text wants = wants
+          open_at totals (Some (CutOff e)) text wants = tt
+          open_at totals (Some _) text wants = absurd wants
 
-          pub listing_fails_by : (r : Result Status Failure) → IfErr r (λ e. FailsListing remaining contents P Q request capture e d c m n p q) → IfErr r (λ e. Fails remaining contents P Q request e a c o n p q)
+          pub listing_fails_by : (r : Result Status Failure) → IfErr r (λ e. FailsListing remaining contents P Q request found e d c m n p q) → IfErr r (λ e. Fails remaining contents P Q request e a c o n p q)
           listing_fails_by (Ok s) f = tt
           listing_fails_by (Err e) f = record {
             got = takes.got ++ f.got;
             reads = reads_both remaining a d c takes.got f.got takes.reads f.reads;
-            front = head ++ f.front;
             rest = f.rest;
-            whole = whole_after (unread d) head takes.got f.got f.front f.rest takes.takes f.whole;
             outcome = listed request (kept ++ f.text) f.totals f.end;
-            is_outcome = is_listed f.front f.text f.totals f.end f.lists;
+            is_outcome = inl (listed_to _ f.got f.front f.rest f.text f.totals f.end (read_is f.got) (ap (λ v. v ++ f.got) (sym rest_is) ∙ f.whole) f.lists);
             output = rw (parts kept f.text (listed request f.text f.totals f.end).closing f.printed f.unprinted f.parts) (printed_front contents o n (kept ++ f.printed) f.unprinted fresh (prints_both contents o m n kept f.printed begun f.prints));
             errors = f.errors;
             cause = cause_then _ _ _ _ _ _ _ e (λ x. (x.0, open_at f.totals f.end (kept ++ f.text) x.1)) (λ x. printed_all contents o n (kept ++ f.text) fresh (prints_both contents o m n kept f.text begun x.0) x.1) f.cause;

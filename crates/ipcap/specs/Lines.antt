@@ -5,12 +5,10 @@ use Rattle.std.specs.Prelude.{unwrap_or}
 use Rattle.std.specs.Fmt.{digits}
 use Rattle.std.specs.Net.Addr.{segments_of}
 use Rattle.std.specs.Net.Text.{ipv4_text, ipv6_text}
+use Rattle.packet_capture.specs.Any.{is_fine, nanoseconds_of, seconds_of}
+use Rattle.packet_capture.specs.declared.any.PacketHead.{PacketHead}
 use Rattle.packet_capture.specs.declared.capture.CaptureError.{CaptureError}
 use Rattle.packet_capture.specs.declared.capture.CaptureError.TheVariants as capture
-use Rattle.packet_capture.specs.declared.capture.CutOff as cut
-use Rattle.packet_capture.specs.declared.capture.RecordHead.{RecordHead}
-use Rattle.packet_capture.specs.declared.capture.Resolution.{Resolution}
-use Rattle.packet_capture.specs.declared.capture.Resolution.TheVariants.{Microseconds, Nanoseconds}
 use Rattle.packet_links.specs.declared.header.Carried.{Carried}
 use Rattle.packet_links.specs.declared.header.Carried.TheVariants as carried
 use Rattle.packet_parts.specs.Checksum.{verdict_text}
@@ -23,7 +21,8 @@ use Rattle.ipcap.specs.Reading.{is_cut}
 use Rattle.ipcap.specs.Shown.{has_no_length, hops_of, len_of}
 use Rattle.ipcap.specs.declared.reading.NoPacket.{NoPacket}
 use Rattle.ipcap.specs.declared.reading.NoPacket.TheVariants.{NoLinkHeader, OtherCarried}
-use Rattle.ipcap.specs.declared.reading.NoPacket.TheVariants.{OtherFamily, OtherType}
+use Rattle.ipcap.specs.declared.reading.NoPacket.TheVariants.{OtherFamily, OtherLinkType}
+use Rattle.ipcap.specs.declared.reading.NoPacket.TheVariants.{OtherType}
 use Rattle.ipcap.specs.declared.shown.Detail.{Detail}
 use Rattle.ipcap.specs.declared.shown.Detail.TheVariants.{Message, Nothing, Ports}
 use Rattle.ipcap.specs.declared.request.Mode.{Mode}
@@ -37,16 +36,17 @@ use Rattle.ipcap.specs.declared.totals.Totals.{Totals}
 abbrev pub zero_padded : ℕ → List ℕ → List ℕ
 zero_padded width number = replicate (width - length number) 48 ++ number
 
--- a fraction of a second, with as many digits as the file's unit has
-abbrev pub fraction_text : Resolution → ℕ → List ℕ
-fraction_text Microseconds nanoseconds = zero_padded 6 (decimal (nanoseconds / 1000))
-fraction_text Nanoseconds nanoseconds = zero_padded 9 (decimal nanoseconds)
+-- a fraction of a second: nine digits if it is counted in a unit below a microsecond, and else six
+abbrev pub fraction_text : Bool → ℕ → List ℕ
+fraction_text is_fine nanoseconds =
+    if is_fine then zero_padded 9 (decimal nanoseconds)
+    else zero_padded 6 (decimal (nanoseconds / 1000))
 
--- the number of a record and its time
-unfoldable pub head_text : Resolution → ℕ → RecordHead → List ℕ
-head_text resolution number head =
-    decimal number ++ (codes " " ++ (decimal head.seconds ++ (codes "."
-    ++ (fraction_text resolution head.nanoseconds ++ codes " "))))
+-- the number of a packet and its time
+unfoldable pub head_text : ℕ → PacketHead → List ℕ
+head_text number head =
+    decimal number ++ (codes " " ++ (decimal (seconds_of head.stamp) ++ (codes "."
+    ++ (fraction_text (is_fine head.stamp) (nanoseconds_of head.stamp) ++ codes " "))))
 
 -- the keyword of a protocol's number (IANA's registry of protocol numbers)
 unfoldable pub keyword_of : ℕ → Option (List ℕ)
@@ -151,117 +151,6 @@ carried_text carried.LaterFragment = codes "later fragment"
 carried_text carried.Aggregate = codes "aggregate"
 carried_text carried.Unknown = codes "unknown link header"
 
--- why a frame has no packet
-abbrev pub no_packet_text : NoPacket → List ℕ
-no_packet_text (NoLinkHeader len) =
-    codes "truncated link header (" ++ (decimal len ++ codes " bytes)")
-no_packet_text (OtherType ether_type) = codes "type 0x" ++ hex_text ether_type
-no_packet_text (OtherFamily family) = codes "family " ++ decimal family
-no_packet_text (OtherCarried carried) = carried_text carried
-
--- how many bytes were captured, and of how many, if the record was cut
-abbrev pub cut_text : RecordHead → List ℕ
-cut_text head = if is_cut head
-    then codes " cut " ++ (decimal head.captured_len ++ (codes "/" ++ decimal head.original_len))
-    else []
-
--- the text on a frame: what is shown of its packet, or why that is refused, or why there is none;
--- or that the record is too long for the buffer
-unfoldable pub reading_text : RecordHead → Reading → List ℕ
-reading_text head (Packet shown) = shown_text shown ++ cut_text head
-reading_text head (Refused e) = codes "error: " ++ (ip_slice_error_text e ++ cut_text head)
-reading_text head (Other e) = codes "other: " ++ (no_packet_text e ++ cut_text head)
-reading_text head Skipped =
-    codes "skipped: record too long (" ++ (decimal head.captured_len ++ codes " bytes)")
-
--- the line of a record
-abbrev pub record_line : Resolution → ℕ → RecordHead → Reading → List ℕ
-record_line resolution number head reading =
-    head_text resolution number head ++ (reading_text head reading ++ codes "\n")
-
--- the line on a last record that is cut off
-unfoldable pub cut_off_line : cut.CutOff → List ℕ
-cut_off_line e =
-    codes "error: the last record is cut off: it needs " ++ (decimal e.required_len
-    ++ (codes " bytes, and there are " ++ (decimal e.len ++ codes "\n")))
-
--- the line on the end of the capture; none if its last record is whole
-abbrev pub end_text : Option cut.CutOff → List ℕ
-end_text None = []
-end_text (Some e) = cut_off_line e
-
--- how many records there are, and with an expression how many of them match
-abbrev pub count_text : Bool → Totals → List ℕ
-count_text has_filter totals =
-    if has_filter then decimal totals.listed ++ (codes " of " ++ decimal totals.records)
-    else decimal totals.records
-
--- the first half of the closing line: how many records there are, and of which kinds those are that
--- are listed
-unfoldable pub kinds_text : Bool → Totals → List ℕ
-kinds_text has_filter totals =
-    count_text has_filter totals ++ (codes " packets: " ++ (decimal totals.ipv4
-    ++ (codes " IPv4, " ++ (decimal totals.ipv6 ++ (codes " IPv6, "
-    ++ (decimal totals.other ++ (codes " other, "
-    ++ (decimal totals.refused ++ codes " refused, "))))))))
-
--- the second half: how many are skipped, cut, or have a wrong checksum
-unfoldable pub damage_text : Totals → List ℕ
-damage_text totals =
-    decimal totals.skipped ++ (codes " skipped, " ++ (decimal totals.cut ++ (codes " cut, "
-    ++ (decimal totals.wrong ++ codes " with a wrong checksum\n"))))
-
--- the closing line
-abbrev pub closing_line : Bool → Totals → List ℕ
-closing_line has_filter totals = kinds_text has_filter totals ++ damage_text totals
-
--- how many records are listed, in the words of tcpdump's option `--count`
-unfoldable pub packets_line : Totals → List ℕ
-packets_line totals = decimal totals.listed
-    ++ (if totals.listed == 1 then codes " packet\n" else codes " packets\n")
-
--- what stands on standard output after the records: in a quiet run the closing line, or how many
--- are listed if that is what is asked for
-abbrev pub closing_text : Mode → Bool → Totals → List ℕ
-closing_text Quiet has_filter totals = closing_line has_filter totals
-closing_text Count has_filter totals = packets_line totals
-closing_text mode has_filter totals = []
-
--- what standard error gets at the end: the closing line, unless it has its place on standard output
-abbrev pub report_text : Mode → Bool → Totals → List ℕ
-report_text Quiet has_filter totals = []
-report_text Count has_filter totals = []
-report_text mode has_filter totals = closing_line has_filter totals
-
--- another format that files begin with this magic number in, and the command that unpacks it: gzip
--- (RFC 1952 section 2.3), zstd (RFC 8878 section 3.1.1), xz (its file format, section 2.1.1.1),
--- bzip2; and pcapng (draft-ietf-opsawg-pcapng section 4.1)
-unfoldable pub packed_as : ℕ → Option (List ℕ)
-packed_as magic =
-    if magic / 2 ^ 16 == 0x1f8b then Some (codes "gzip: zcat FILE | ipcap")
-    else if magic == 0x28b52ffd then Some (codes "zstd: zstdcat FILE | ipcap")
-    else if magic == 0xfd377a58 then Some (codes "xz: xzcat FILE | ipcap")
-    else if magic / 2 ^ 8 == 0x425a68 then Some (codes "bzip2: bzcat FILE | ipcap")
-    else if magic == 0x0a0d0d0a then Some (codes "pcapng: editcap -F pcap FILE - | ipcap")
-    else None
-
--- what a magic number says that is none of a capture: the other format, or the number in eight hex
--- digits
-abbrev pub magic_text : Option (List ℕ) → ℕ → List ℕ
-magic_text (Some packed) magic = codes "this is " ++ packed
-magic_text None magic =
-    codes "the magic number is 0x" ++ zero_padded 8 (digits 16 false magic)
-
--- why an input is no capture
-unfoldable pub capture_error_line : CaptureError → List ℕ
-capture_error_line (capture.CutOff e) =
-    codes "error: no capture: " ++ (decimal e.len ++ codes " bytes are no file header\n")
-capture_error_line (capture.Magic magic) =
-    codes "error: no capture: " ++ (magic_text (packed_as magic) magic ++ codes "\n")
-capture_error_line (capture.Version major minor) =
-    codes "error: no capture: the version is " ++ (decimal major ++ (codes "."
-    ++ (decimal minor ++ codes "\n")))
-
 -- the name of a link type that is not read, without its prefix (tcpdump.org's registry of
 -- link-layer header types)
 unfoldable pub link_type_name : ℕ → Option (List ℕ)
@@ -314,6 +203,107 @@ link_type_name number =
 abbrev pub name_text : Option (List ℕ) → List ℕ
 name_text None = []
 name_text (Some name) = codes " (" ++ (name ++ codes ")")
+
+-- why a frame has no packet
+abbrev pub no_packet_text : NoPacket → List ℕ
+no_packet_text (NoLinkHeader len) =
+    codes "truncated link header (" ++ (decimal len ++ codes " bytes)")
+no_packet_text (OtherType ether_type) = codes "type 0x" ++ hex_text ether_type
+no_packet_text (OtherFamily family) = codes "family " ++ decimal family
+no_packet_text (OtherCarried carried) = carried_text carried
+no_packet_text (OtherLinkType number) =
+    codes "link type " ++ (decimal number ++ name_text (link_type_name number))
+
+-- how many bytes were captured, and of how many, if the record was cut
+abbrev pub cut_text : PacketHead → List ℕ
+cut_text head = if is_cut head
+    then codes " cut " ++ (decimal head.captured_len ++ (codes "/" ++ decimal head.original_len))
+    else []
+
+-- the text on a frame: what is shown of its packet, or why that is refused, or why there is none;
+-- or that the record is too long for the buffer
+unfoldable pub reading_text : PacketHead → Reading → List ℕ
+reading_text head (Packet shown) = shown_text shown ++ cut_text head
+reading_text head (Refused e) = codes "error: " ++ (ip_slice_error_text e ++ cut_text head)
+reading_text head (Other e) = codes "other: " ++ (no_packet_text e ++ cut_text head)
+reading_text head Skipped =
+    codes "skipped: record too long (" ++ (decimal head.captured_len ++ codes " bytes)")
+
+-- the line of a record
+abbrev pub record_line : ℕ → PacketHead → Reading → List ℕ
+record_line number head reading =
+    head_text number head ++ (reading_text head reading ++ codes "\n")
+
+-- how many records there are, and with an expression how many of them match
+abbrev pub count_text : Bool → Totals → List ℕ
+count_text has_filter totals =
+    if has_filter then decimal totals.listed ++ (codes " of " ++ decimal totals.records)
+    else decimal totals.records
+
+-- the first half of the closing line: how many records there are, and of which kinds those are that
+-- are listed
+unfoldable pub kinds_text : Bool → Totals → List ℕ
+kinds_text has_filter totals =
+    count_text has_filter totals ++ (codes " packets: " ++ (decimal totals.ipv4
+    ++ (codes " IPv4, " ++ (decimal totals.ipv6 ++ (codes " IPv6, "
+    ++ (decimal totals.other ++ (codes " other, "
+    ++ (decimal totals.refused ++ codes " refused, "))))))))
+
+-- the second half: how many are skipped, cut, or have a wrong checksum
+unfoldable pub damage_text : Totals → List ℕ
+damage_text totals =
+    decimal totals.skipped ++ (codes " skipped, " ++ (decimal totals.cut ++ (codes " cut, "
+    ++ (decimal totals.wrong ++ codes " with a wrong checksum\n"))))
+
+-- the closing line
+abbrev pub closing_line : Bool → Totals → List ℕ
+closing_line has_filter totals = kinds_text has_filter totals ++ damage_text totals
+
+-- how many records are listed, in the words of tcpdump's option `--count`
+unfoldable pub packets_line : Totals → List ℕ
+packets_line totals = decimal totals.listed
+    ++ (if totals.listed == 1 then codes " packet\n" else codes " packets\n")
+
+-- what stands on standard output after the records: in a quiet run the closing line, or how many
+-- are listed if that is what is asked for
+abbrev pub closing_text : Mode → Bool → Totals → List ℕ
+closing_text Quiet has_filter totals = closing_line has_filter totals
+closing_text Count has_filter totals = packets_line totals
+closing_text mode has_filter totals = []
+
+-- what standard error gets at the end: the closing line, unless it has its place on standard output
+abbrev pub report_text : Mode → Bool → Totals → List ℕ
+report_text Quiet has_filter totals = []
+report_text Count has_filter totals = []
+report_text mode has_filter totals = closing_line has_filter totals
+
+-- another format that files begin with this magic number in, and the command that unpacks it: gzip
+-- (RFC 1952 section 2.3), zstd (RFC 8878 section 3.1.1), xz (its file format, section 2.1.1.1) and
+-- bzip2
+unfoldable pub packed_as : ℕ → Option (List ℕ)
+packed_as magic =
+    if magic / 2 ^ 16 == 0x1f8b then Some (codes "gzip: zcat FILE | ipcap")
+    else if magic == 0x28b52ffd then Some (codes "zstd: zstdcat FILE | ipcap")
+    else if magic == 0xfd377a58 then Some (codes "xz: xzcat FILE | ipcap")
+    else if magic / 2 ^ 8 == 0x425a68 then Some (codes "bzip2: bzcat FILE | ipcap")
+    else None
+
+-- what a magic number says that is none of a capture: the other format, or the number in eight hex
+-- digits
+abbrev pub magic_text : Option (List ℕ) → ℕ → List ℕ
+magic_text (Some packed) magic = codes "this is " ++ packed
+magic_text None magic =
+    codes "the magic number is 0x" ++ zero_padded 8 (digits 16 false magic)
+
+-- why an input is no capture
+unfoldable pub capture_error_line : CaptureError → List ℕ
+capture_error_line (capture.CutOff e) =
+    codes "error: no capture: " ++ (decimal e.len ++ codes " bytes are no file header\n")
+capture_error_line (capture.Magic magic) =
+    codes "error: no capture: " ++ (magic_text (packed_as magic) magic ++ codes "\n")
+capture_error_line (capture.Version major minor) =
+    codes "error: no capture: the version is " ++ (decimal major ++ (codes "."
+    ++ (decimal minor ++ codes "\n")))
 
 -- the line on a capture with a link type that is not read: its number, and its name if it has one
 -- here

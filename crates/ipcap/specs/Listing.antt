@@ -1,5 +1,5 @@
 -- What is written of the blocks of a capture, in their order.
-use Rattle.std.specs.Prelude.{ℕ, ◌≡◌, ◌+◌, ◌-◌, ◌<◌, ◌≤◌, ◌⊎◌, Bool, true, false, List, [], ◌++◌}
+use Rattle.std.specs.Prelude.{ℕ, ◌≡◌, ◌≢◌, ◌+◌, ◌-◌, ◌<◌, ◌≤◌, ◌⊎◌, Bool, true, false, List, [], ◌++◌}
 use Rattle.std.specs.Prelude.{MatchOption, None, Option, Some, drop, length, take}
 use Rattle.std.specs.Bool.{then_some}
 use Rattle.std.specs.Option.{is_none}
@@ -9,6 +9,7 @@ use Rattle.packet_capture.specs.Any as said
 use Rattle.packet_capture.specs.Skip.{HasBlockFront, HasOtherEnd, front_len}
 use Rattle.packet_capture.specs.declared.any.Capture.{Capture}
 use Rattle.packet_capture.specs.declared.any.PacketHead.{PacketHead}
+use Rattle.packet_capture.specs.declared.capture.CutOff as cut
 use Rattle.packet_capture.specs.declared.pcapng.blocks.BlockError.{BlockError}
 use Rattle.packet_capture.specs.declared.pcapng.blocks.BlockError.TheVariants as error
 use Rattle.packet_capture.specs.declared.skip.BlockFront.{BlockFront}
@@ -23,7 +24,7 @@ use Rattle.ipcap.specs.Request.{copies, has_enough}
 use Rattle.ipcap.specs.Streams.{kept_if}
 use Rattle.ipcap.specs.Totals.{Told, counted, no_packet, packet}
 use Rattle.ipcap.specs.declared.place.End.{End}
-use Rattle.ipcap.specs.declared.place.End.TheVariants.{Refused, TooLong}
+use Rattle.ipcap.specs.declared.place.End.TheVariants.{CutOff, Refused, TooLong}
 use Rattle.ipcap.specs.declared.place.Place.{Place}
 use Rattle.ipcap.specs.declared.reading.Reading.{Reading}
 use Rattle.ipcap.specs.declared.reading.Reading.TheVariants.{Skipped}
@@ -90,16 +91,15 @@ passed len is_long told after before = record {
   capture = after;
 }
 
--- A block is refused, or cut off, that is no longer than what is read: no more is needed to see it.
--- One that is longer can be cut off before its front is there.
-abbrev pub IsShort : Capture → List ℕ → BlockError → Type 0
-IsShort capture s (error.CutOff e) =
-    (e.required_len ≤ max_len capture) ⊎ (length s < front_len capture)
-IsShort capture s e = Unit {0}
+-- The block is cut off, and it is no longer than what is read; or even its front is not there.
+pub record CutsOff (capture : Capture) (s : List ℕ) (e : cut.CutOff) : Type 0 where
+  pub refuses : RefusesBlock capture s (error.CutOff e)
+  pub short : (e.required_len ≤ max_len capture) ⊎ (length s < front_len capture)
 
-pub record RefusesShort (capture : Capture) (s : List ℕ) (e : BlockError) : Type 0 where
+-- A block is refused for another reason, and no more than what is read is needed to see it.
+pub record Refuses (capture : Capture) (s : List ℕ) (e : BlockError) : Type 0 where
   pub refuses : RefusesBlock capture (take (max_len capture) s) e
-  pub short : IsShort capture s e
+  pub other : (of : cut.CutOff) → e ≢ error.CutOff of
 
 -- the data begins with a block that is longer than what is read, and has this front
 pub record HasLongFront (capture : Capture) (s : List ℕ) (front : BlockFront) : Type 0 where
@@ -113,12 +113,10 @@ EndsAt len (content.Refused e) end = end ≡ Refused e
 EndsAt len content.Description end = end ≡ TooLong len
 EndsAt len of end = ⊥
 
--- or it is cut off; or it ends with another length
-abbrev pub IsBroken : List ℕ → BlockFront → BlockError → Type 0
-IsBroken s front e = ((length s < front.len)
-    × (e ≡ error.CutOff (record { required_len = front.len; len = length s })))
-    ⊎ ((front.len ≤ length s)
-    × HasOtherEnd front.head (drop (front.len - 4) (take front.len s)) e)
+-- or it ends with another length
+pub record EndsOtherwise (s : List ℕ) (front : BlockFront) (e : BlockError) : Type 0 where
+  pub enough : front.len ≤ length s
+  pub other : HasOtherEnd front.head (drop (front.len - 4) (take front.len s)) e
 
 -- The text is what is written of the blocks that the data consists of, one after the other, and
 -- each is counted. The listing ends with the data; or at a block that is cut off or refused. One
@@ -128,29 +126,39 @@ pub data Lists (request : Request) : Place → List ℕ → List ℕ → Totals 
   ends : {place : Place} → Lists request place [] [] place.totals None
   stops : {place : Place} {s : List ℕ} → has_enough request place.totals.listed ≡ true
       → Lists request place s [] place.totals None
-  lists : {before : Place} {after : Capture} {last : Totals} {s rest text : List ℕ} {of : Said}
-      {told : Told} {end : Option End} → has_enough request before.totals.listed ≡ false
+  lists : {before : Place} {last : Totals} {s rest text : List ℕ} {end : Option End}
+      (after : Capture) (of : Said) (told : Told) → has_enough request before.totals.listed ≡ false
       → BeginsWith before.capture s after of rest
       → length s - length rest ≤ max_len before.capture → ToldOf request of told
       → Lists request (passed (length s - length rest) false told after before) rest text last end
       → Lists request before s (written request before.totals told
       (take (length s - length rest) s) ++ text) last end
   lists_long : {before : Place} {last : Totals} {s rest text : List ℕ} {front : BlockFront}
-      {of : Said} {told : Told} {end : Option End}
+      {end : Option End} (of : Said) (told : Told)
       → has_enough request before.totals.listed ≡ false → HasLongFront before.capture s front
       → ToldOfLong request front.content told
       → BeginsWith before.capture s before.capture of rest
       → Lists request (passed front.len true told before.capture before) rest text last end
       → Lists request before s (written request before.totals told (take front.len s) ++ text)
       last end
+  is_cut_off : {place : Place} {s : List ℕ} {e : cut.CutOff}
+      → has_enough request place.totals.listed ≡ false → CutsOff place.capture s e
+      → Lists request place s [] place.totals (Some (CutOff e))
   is_refused : {place : Place} {s : List ℕ} {e : BlockError}
-      → has_enough request place.totals.listed ≡ false → RefusesShort place.capture s e
+      → has_enough request place.totals.listed ≡ false → Refuses place.capture s e
       → Lists request place s [] place.totals (Some (Refused e))
+  is_cut_off_long : {before : Place} {s : List ℕ} {front : BlockFront} (told : Told)
+      → has_enough request before.totals.listed ≡ false → HasLongFront before.capture s front
+      → ToldOfLong request front.content told → length s < front.len
+      → Lists request before s (written request before.totals told s)
+      (counted front.len true told before.totals)
+      (Some (CutOff (record { required_len = front.len; len = length s })))
   is_refused_long : {place : Place} {s : List ℕ} {front : BlockFront} {end : End}
       → has_enough request place.totals.listed ≡ false → HasLongFront place.capture s front
       → EndsAt front.len front.content end → Lists request place s [] place.totals (Some end)
-  is_broken : {before : Place} {s : List ℕ} {front : BlockFront} {told : Told} {e : BlockError}
-      → has_enough request before.totals.listed ≡ false → HasLongFront before.capture s front
-      → ToldOfLong request front.content told → IsBroken s front e
+  ends_otherwise : {before : Place} {s : List ℕ} {front : BlockFront} {e : BlockError}
+      (told : Told) → has_enough request before.totals.listed ≡ false
+      → HasLongFront before.capture s front → ToldOfLong request front.content told
+      → EndsOtherwise s front e
       → Lists request before s (written request before.totals told (take front.len s))
       (counted front.len true told before.totals) (Some (Refused e))

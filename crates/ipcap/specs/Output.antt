@@ -8,8 +8,8 @@ use Rattle.packet_capture.specs.declared.any.Capture.{Capture}
 use Rattle.packet_capture.specs.declared.any.Capture.TheVariants.{Pcap, Pcapng}
 use Rattle.packet_capture.specs.declared.capture.CaptureError.{CaptureError}
 use Rattle.packet_capture.specs.declared.capture.FileHeader.{FileHeader}
-use Rattle.packet_capture.specs.declared.pcapng.blocks.BlockError.TheVariants as error
-use Rattle.ipcap.specs.Lines.{capture_error_line, closing_text, end_text, link_type_line}
+use Rattle.ipcap.specs.Ends.{end_text}
+use Rattle.ipcap.specs.Lines.{capture_error_line, closing_text, link_type_line}
 use Rattle.ipcap.specs.Lines.{report_text}
 use Rattle.ipcap.specs.Listing.{Lists}
 use Rattle.ipcap.specs.Request.{copies, has_enough}
@@ -20,7 +20,7 @@ use Rattle.ipcap.specs.declared.failure.Failure.TheVariants as failure
 use Rattle.ipcap.specs.declared.input.Input.{Input}
 use Rattle.ipcap.specs.declared.output.Output.{Output}
 use Rattle.ipcap.specs.declared.place.End.{End}
-use Rattle.ipcap.specs.declared.place.End.TheVariants.{Refused}
+use Rattle.ipcap.specs.declared.place.End.TheVariants.{CutOff}
 use Rattle.ipcap.specs.declared.place.Place.{Place}
 use Rattle.ipcap.specs.declared.request.Request.{Request}
 use Rattle.ipcap.specs.declared.status.Status.{Status}
@@ -39,7 +39,7 @@ pub record Outcome : Type 0 where
 -- the status if all blocks are whole, or if the last one is cut off, or refused
 abbrev pub status_at : Option End → Status
 status_at None = status.Done
-status_at (Some (Refused (error.CutOff e))) = status.CutOff
+status_at (Some (CutOff e)) = status.CutOff
 status_at (Some end) = status.Refused
 
 -- a run that lists packets

@@ -5,15 +5,9 @@ ghost use Rattle.std.specs.Prelude.{◌<◌, ◌≤◌, ◌^◌};
 
 use crate::failure::Failure;
 use crate::streams::Source;
-use packet_capture::capture::RecordHead;
 
-// The greatest number of captured bytes in a record that is read.
-const MAX_CAPTURED_LEN: usize = 262_144;
-
-/// The room for a record and its head.
-pub const ROOM: usize = RecordHead::LEN + MAX_CAPTURED_LEN;
-
-const _: () = prove!(ROOM == 262_160);
+/// The room for a block.
+pub const ROOM: usize = 327_680;
 
 /// A source, and the bytes that have been read of it and are not yet listed.
 #[derive(Drop)]

@@ -8,16 +8,20 @@ ghost use Rattle.ipcap.specs.Lines.{closing_text, count_text};
 ghost use Rattle.ipcap.specs.Lines.{cut_text, link_type_name, magic_text, name_text, packed_as};
 ghost use Rattle.ipcap.specs.Lines.{packets_line, report_text};
 ghost use Rattle.ipcap.specs.Lines.{damage_text};
-ghost use Rattle.ipcap.specs.Lines.{end_text, fraction_text, head_text, header_verdict_text};
+ghost use Rattle.ipcap.specs.Ends.{end_text};
+ghost use Rattle.ipcap.specs.Lines.{fraction_text, head_text, header_verdict_text};
 ghost use Rattle.ipcap.specs.Lines.{hex_text, keyword_of, kinds_text, link_type_line};
 ghost use Rattle.ipcap.specs.Lines.{no_packet_text, reading_text, record_line, shown_text};
 ghost use Rattle.ipcap.specs.Lines.{upper_text};
 
+use crate::ends::write_end;
+use crate::place::End;
 use crate::reading::{NoPacket, Reading, is_cut};
 use crate::request::Mode;
 use crate::shown::{Detail, Shown, has_no_length, hops_of, len_of};
 use crate::totals::Totals;
-use packet_capture::capture::{CaptureError, CutOff, RecordHead, Resolution};
+use packet_capture::any::PacketHead;
+use packet_capture::capture::CaptureError;
 use packet_links::header::Carried;
 use packet_parts::fragment::Fragment;
 use std::fmt;
@@ -74,42 +78,35 @@ fn keyword(number: u8) -> Option<&'static str>
 /// The line of a record.
 #[derive(Drop)]
 pub struct RecordLine<'a> {
-    /// The unit of the file's fractions of a second.
-    pub resolution: Resolution,
-    /// The number of the record, from 1.
+    /// The number of the packet, from 1.
     pub number: u64,
-    /// Its time, and how much of its packet was captured.
-    pub head: RecordHead,
+    /// Its time, and how much of it was captured.
+    pub head: PacketHead,
     /// What its frame is found to carry.
     pub reading: Reading<'a>,
 }
 
 impl fmt::Display for RecordLine<'_> {
-    ghost output = { λ line. Some (record_line line.resolution line.number line.head
-        line.reading) };
+    ghost output = { λ line. Some (record_line line.number line.head line.reading) };
 
     fn fmt<W: fmt::Write>(&self, f: &mut Formatter<W>) -> fmt::Result {
-        write_head(f, self.resolution, self.number, self.head)?;
-        write_reading(f, self.head, &self.reading)?;
+        write_head(f, self.number, &self.head)?;
+        write_reading(f, &self.head, &self.reading)?;
         f.write_str("\n")
     }
 }
 
-// Writes the number of a record and its time.
+// Writes the number of a packet and its time.
 #[tactic(auto, unfolding(crate::specs::Lines::head_text))]
-fn write_head<W: fmt::Write>(
-    f: &mut Formatter<W>,
-    resolution: Resolution,
-    number: u64,
-    head: RecordHead,
-) -> fmt::Result
+fn write_head<W: fmt::Write>(f: &mut Formatter<W>, number: u64, head: &PacketHead) -> fmt::Result
     ensures text { DisplaysOnOk W.write_str_gives f.old result
-        (Some (head_text resolution number head)) f.new }
+        (Some (head_text number head.now)) f.new }
 {
-    let seconds = head.seconds;
+    let time = head.time();
+    let seconds = time.seconds;
     let fraction = Fraction {
-        resolution,
-        nanoseconds: head.nanoseconds,
+        is_fine: head.is_fine(),
+        nanoseconds: time.nanoseconds,
     };
     write!(f, "{number} {seconds}.{fraction} ")
 }
@@ -117,24 +114,21 @@ fn write_head<W: fmt::Write>(
 // A fraction of a second.
 #[derive(Clone, Copy)]
 struct Fraction {
-    resolution: Resolution,
+    is_fine: bool,
     nanoseconds: u64,
 }
 
 impl fmt::Display for Fraction {
-    ghost output = { λ fraction. Some (fraction_text fraction.resolution fraction.nanoseconds) };
+    ghost output = { λ fraction. Some (fraction_text fraction.is_fine fraction.nanoseconds) };
 
     #[tactic(auto, using(crate::proofs::Written::padded_with_zeros))]
     fn fmt<W: fmt::Write>(&self, f: &mut Formatter<W>) -> fmt::Result {
-        match self.resolution {
-            Resolution::Microseconds => {
-                let microseconds = self.nanoseconds / 1000;
-                write!(f, "{microseconds:06}")
-            }
-            Resolution::Nanoseconds => {
-                let nanoseconds = self.nanoseconds;
-                write!(f, "{nanoseconds:09}")
-            }
+        let nanoseconds = self.nanoseconds;
+        if self.is_fine {
+            write!(f, "{nanoseconds:09}")
+        } else {
+            let microseconds = nanoseconds / 1000;
+            write!(f, "{microseconds:06}")
         }
     }
 }
@@ -143,13 +137,13 @@ impl fmt::Display for Fraction {
 #[tactic(auto, unfolding(crate::specs::Lines::reading_text))]
 fn write_reading<W: fmt::Write>(
     f: &mut Formatter<W>,
-    head: RecordHead,
+    head: &PacketHead,
     reading: &Reading,
 ) -> fmt::Result
     ensures text { DisplaysOnOk W.write_str_gives f.old result
-        (Some (reading_text head reading.now)) f.new }
+        (Some (reading_text head.now reading.now)) f.new }
 {
-    let (captured_len, cut) = (head.captured_len, Cut(head));
+    let (captured_len, cut) = (head.captured_len, Cut(*head));
     match reading {
         Reading::Packet(shown) => {
             write_shown(f, shown)?;
@@ -182,6 +176,11 @@ impl fmt::Display for NoPacket {
                 write!(f, "family {family}")
             }
             NoPacket::OtherCarried(carried) => write_carried(f, *carried),
+            NoPacket::OtherLinkType(number) => {
+                let number = *number;
+                let name = Name(link_type_name(u32::from(number)));
+                write!(f, "link type {number}{name}")
+            }
         }
     }
 }
@@ -345,7 +344,7 @@ impl fmt::Display for HeaderVerdict {
 
 // How much of a packet was captured, if not all of it.
 #[derive(Clone, Copy)]
-struct Cut(RecordHead);
+struct Cut(PacketHead);
 
 impl fmt::Display for Cut {
     ghost output = { λ cut. Some (cut_text cut.0) };
@@ -360,22 +359,22 @@ impl fmt::Display for Cut {
     }
 }
 
-/// The lines on standard error at the end: the one on the last record, if that is cut off, and the
-/// closing line, unless it has its place on standard output.
+/// The lines on standard error at the end: the one on how the listing ends, if it ends before the
+/// capture does, and the closing line, unless it has its place on standard output.
 #[derive(Clone, Copy)]
 pub struct Report {
-    /// How the last record is cut off.
-    pub end: Option<CutOff>,
+    /// How the listing ends before the capture does.
+    pub end: Option<End>,
     /// What is counted.
     pub closing: Closing,
 }
 
 impl fmt::Display for Report {
-    ghost output = { λ report. Some (end_text report.end
+    ghost output = { λ report. Some (end_text report.closing.totals.bytes report.end
         ++ report_text report.closing.mode report.closing.has_filter report.closing.totals) };
 
     fn fmt<W: fmt::Write>(&self, f: &mut Formatter<W>) -> fmt::Result {
-        write_end(f, self.end)?;
+        write_end(f, self.closing.totals.bytes, self.end)?;
         match self.closing.mode {
             Mode::Lines | Mode::Packets => write_closing(f, &self.closing),
             Mode::Quiet | Mode::Count => Ok(()),
@@ -405,20 +404,6 @@ impl fmt::Display for Closing {
             Mode::Lines | Mode::Packets => Ok(()),
         }
     }
-}
-
-// Writes that the last record is cut off, if it is.
-#[tactic(auto, unfolding(crate::specs::Lines::cut_off_line))]
-fn write_end<W: fmt::Write>(f: &mut Formatter<W>, end: Option<CutOff>) -> fmt::Result
-    ensures text { DisplaysOnOk W.write_str_gives f.old result (Some (end_text end)) f.new }
-{
-    let Some(CutOff { required_len, len }) = end else {
-        return Ok(());
-    };
-    write!(
-        f,
-        "error: the last record is cut off: it needs {required_len} bytes, and there are {len}\n"
-    )
 }
 
 // Writes the closing line.
@@ -542,8 +527,6 @@ fn packed_as(magic: u32) -> Option<&'static str>
         Some("xz: xzcat FILE | ipcap")
     } else if magic / 256 == 0x42_5a68 {
         Some("bzip2: bzcat FILE | ipcap")
-    } else if magic == 0x0a0d_0d0a {
-        Some("pcapng: editcap -F pcap FILE - | ipcap")
     } else {
         None
     }

@@ -1,18 +1,18 @@
 //! What is written of the blocks, in their order.
 
-ghost use Rattle.std.specs.Prelude.{◌≡◌, ◌≢◌, ◌≤◌, ◌<◌, ◌+◌, ◌-◌, ◌×◌, [], IfErr, IfOk, IfSome};
-ghost use Rattle.std.specs.Prelude.{OnErr, OnOk, Some, drop, false, length, take};
+ghost use Rattle.std.specs.Prelude.{◌≡◌, ◌≤◌, ◌<◌, ◌-◌, [], IfErr, IfOk};
+ghost use Rattle.std.specs.Prelude.{◌++◌, Bool, OnErr, OnOk, Some, drop, false, length, take, true};
 ghost use Rattle.std.specs.Io.KnownBytes.{IsAtEnd};
 ghost use Rattle.packet_capture.specs.Any.{RefusesBlock, said};
 ghost use Rattle.packet_capture.specs.Skip.{CanBeSkipped, front_len};
 ghost use Rattle.ipcap.specs.Listing.{IsChosen, if_too_long};
 ghost use Rattle.ipcap.specs.Private.Progress.{Because, Breaks, Ends, Lacks, Skips, Stops};
-ghost use Rattle.ipcap.specs.Private.Progress.{TellsAll, TellsBlock, TellsFrame, TellsFront};
-ghost use Rattle.ipcap.specs.Private.Progress.{TellsLine, TellsPacket, Turns, keeps, keeps_of};
+ghost use Rattle.ipcap.specs.Private.Progress.{Tells, TellsBlock, TellsFrame, TellsFront};
+ghost use Rattle.ipcap.specs.Private.Progress.{TellsFrontOf, TellsSaid, Turns, keeps};
 ghost use Rattle.ipcap.specs.Reading.{max_len};
-ghost use Rattle.ipcap.specs.Request.{copies, has_enough};
+ghost use Rattle.ipcap.specs.Request.{has_enough};
 ghost use Rattle.ipcap.specs.Streams.{CannotRead, Prints, unread};
-ghost use Rattle.ipcap.specs.Totals.{HasRoom};
+ghost use Rattle.ipcap.specs.Totals.{HasRoom, no_packet, packet};
 
 use crate::failure::Failure;
 use crate::input::{Input, ROOM};
@@ -27,7 +27,7 @@ use packet::link::LinkType;
 use packet_capture::any::{Block, PacketHead, next_block};
 use packet_capture::capture::CutOff;
 use packet_capture::pcapng::blocks::BlockError;
-use packet_capture::skip::Content;
+use packet_capture::skip::{BlockFront, Content};
 
 /// Why no whole block is read at the front of the bytes that have been read.
 #[derive(Clone, Copy)]
@@ -52,63 +52,78 @@ pub enum Turn {
 }
 
 // Takes `len` bytes, or all that the input has if these are fewer, and prints them if they are
-// kept; returns how many.
+// kept; returns how many, and the last four of them.
 fn skip<R: Source, W: Sink>(
     input: &mut Input<R>,
     len: usize,
     keeps: bool,
     output: &mut Output<W>,
-) -> Result<usize, Failure>
-    ensures skips { IfOk result (Skips R.remaining W.contents keeps len input.old input.new
-        output.old output.new) }
-    ensures end { IfOk result (λ n. n < len → IsAtEnd (R.remaining input.new.source)) }
+) -> Result<(usize, [u8; 4]), Failure>
+    ensures skips { IfOk result (λ x. Skips R.remaining W.contents keeps len input.old input.new
+        output.old output.new x.0 x.1) }
+    ensures end { IfOk result (λ x. x.0 < len → IsAtEnd (R.remaining input.new.source)) }
     ensures lacks { IfErr result (λ e. Lacks R.remaining W.contents
         (CannotRead R.has_failed input.new) (W.has_failed output.new.sink) keeps len e
         input.old input.new output.old output.new) }
 {
     let mut left = len;
+    let mut last = [0; 4];
     'turns: loop {
         let bytes = input.unread();
         let passed = bytes.len().min(left);
         output.copy_if(keeps, &bytes[..passed])?;
+        last = last_four(last, &bytes[..passed]);
         input.pass(passed);
         left -= passed;
         if left == 0 {
-            return Ok(len);
+            return Ok((len, last));
         }
         if !input.fill()? {
-            return Ok(len - left);
+            return Ok((len - left, last));
         }
     }
 }
 
+// The last four of four bytes and those that follow them.
+fn last_four(four: [u8; 4], bytes: &[u8]) -> [u8; 4]
+    ensures value { result ≡ drop (length bytes.now) (four ++ bytes.now) }
+{
+    let mut last = four;
+    'bytes: for byte in bytes {
+        last = [last[1], last[2], last[3], *byte];
+    }
+    last
+}
+
 impl Request {
-    // Counts a record that is listed, and writes its line or its bytes.
+    // Counts a packet that is listed, in a block of `len` bytes, and writes its line or the bytes of
+    // the block.
     #[inline(always)] // A quiet run then makes no value of a reading in memory.
-    fn list_record<W: Sink>(
+    fn list_packet<W: Sink>(
         &self,
-        place: &mut Place,
-        head: RecordHead,
+        totals: &mut Totals,
+        len: usize,
+        head: &PacketHead,
         bytes: &[u8],
         reading: Reading,
         output: &mut Output<W>,
     ) -> Result<(), Failure>
         requires fits { length bytes.now ≤ ROOM }
-        ensures told { OnOk result (TellsRecord W.contents self.now place.old place.new head
-            bytes.now (Some reading.entry) output.old output.new) }
+        ensures told { OnOk result ((is_long : Bool) → TellsBlock W.contents self.now len is_long
+            (packet head.now (Some reading.entry)) totals.old totals.new bytes.now
+            output.old output.new) }
         ensures kept { OnErr result (Prints W.contents output.old output.new []) }
         ensures failed { IfErr result (λ e. Because ⊥ (W.has_failed output.new.sink)
-            (¬ HasRoom place.old.totals) e ⊥ [] []) }
+            (¬ HasRoom totals.old) e ⊥ [] []) }
     {
-        let Some(after) = place.totals.count(&head, &reading) else {
+        let Some(after) = totals.count(len, head, &reading) else {
             return Err(Failure::Count);
         };
-        place.totals = after;
+        *totals = after;
         match self.mode {
             Mode::Lines => output.print(RecordLine {
-                resolution: place.capture.header.format.resolution,
                 number: after.records,
-                head,
+                head: *head,
                 reading,
             }),
             Mode::Packets => output.copy(bytes),
@@ -116,81 +131,124 @@ impl Request {
         }
     }
 
-    // Whether a record is listed.
-    fn is_chosen(&self, place: &Place, head: &RecordHead, frame: &[u8]) -> bool
-        ensures value { IsChosen self.now place.now.capture head.now frame.now result }
+    // Whether a packet is listed.
+    fn is_chosen(&self, head: &PacketHead, frame: &[u8]) -> bool
+        ensures value { IsChosen self.now head.now frame.now result }
     {
         match &self.filter {
             None => true,
-            Some(filter) => {
-                let len = head.original_len as usize;
-                filter.matches_frame(place.capture.link_type, frame, len)
-            }
+            Some(filter) => match LinkType::from_number(u32::from(head.link_type)) {
+                Some(link_type) => {
+                    filter.matches_frame(link_type, frame, head.original_len as usize)
+                }
+                None => false,
+            },
         }
     }
 
-    // Counts a record, and writes its line or its bytes if it is listed. The expression is asked
-    // first, since most of what a line says takes longer.
+    // Counts a packet, and writes its line or the bytes of its block if it is listed. The
+    // expression is asked first, since most of what a line says takes longer.
     #[inline(always)]
     fn list_frame<W: Sink>(
         &self,
-        place: &mut Place,
-        head: RecordHead,
+        totals: &mut Totals,
+        head: &PacketHead,
         bytes: &[u8],
         frame: &[u8],
         output: &mut Output<W>,
     ) -> Result<(), Failure>
         requires fits { length bytes.now ≤ ROOM }
-        ensures told { OnOk result (TellsFrame W.contents self.now place.old place.new head
+        ensures told { OnOk result (TellsFrame W.contents self.now totals.old totals.new head.now
             bytes.now frame.now output.old output.new) }
         ensures kept { OnErr result (Prints W.contents output.old output.new []) }
         ensures failed { IfErr result (λ e. Because ⊥ (W.has_failed output.new.sink)
-            (¬ HasRoom place.old.totals) e ⊥ [] []) }
+            (¬ HasRoom totals.old) e ⊥ [] []) }
     {
-        if self.is_chosen(place, &head, frame) {
-            let reading = read_frame(place.capture.link_type, is_cut(&head), frame);
-            return self.list_record(place, head, bytes, reading, output);
+        if self.is_chosen(head, frame) {
+            let reading = read_numbered(head.link_type, is_cut(head), frame);
+            return self.list_packet(totals, bytes.len(), head, bytes, reading, output);
         }
-        let Some(after) = place.totals.pass(&head) else {
+        let Some(after) = totals.pass(bytes.len(), false, head) else {
             return Err(Failure::Count);
         };
-        place.totals = after;
+        *totals = after;
         Ok(())
     }
 
-    // Whether the bytes are kept of a record that is too long.
-    fn keeps(&self) -> bool
-        ensures value { result ≡ keeps self.now }
-    {
-        self.copies() && self.filter.is_none()
-    }
-
-    // Counts a record that is too long, and prints its line if it is listed.
-    fn list_too_long<W: Sink>(
+    // Counts a block without a packet, and writes its bytes if packets are written.
+    fn list_other<W: Sink>(
         &self,
-        place: &mut Place,
-        head: RecordHead,
+        totals: &mut Totals,
+        len: usize,
+        bytes: &[u8],
         output: &mut Output<W>,
     ) -> Result<(), Failure>
-        ensures told { OnOk result (TellsLong W.contents self.now place.old place.new head
+        requires fits { length bytes.now ≤ ROOM }
+        ensures told { OnOk result ((is_long : Bool) → TellsBlock W.contents self.now len is_long
+            no_packet totals.old totals.new bytes.now output.old output.new) }
+        ensures kept { OnErr result (Prints W.contents output.old output.new []) }
+        ensures failed { IfErr result (λ e. Because ⊥ (W.has_failed output.new.sink)
+            (¬ HasRoom totals.old) e ⊥ [] []) }
+    {
+        *totals = totals.pass_block(len);
+        output.copy_if(self.copies(), bytes)
+    }
+
+    // Counts a packet in a block that is too long, and writes its line, or the bytes of the block
+    // that are given, if it is listed.
+    fn list_too_long<W: Sink>(
+        &self,
+        totals: &mut Totals,
+        len: usize,
+        head: &PacketHead,
+        bytes: &[u8],
+        output: &mut Output<W>,
+    ) -> Result<(), Failure>
+        requires fits { length bytes.now ≤ ROOM }
+        ensures told { OnOk result (TellsBlock W.contents self.now len true
+            (packet head.now (if_too_long self.now)) totals.old totals.new bytes.now
             output.old output.new) }
         ensures kept { OnErr result (Prints W.contents output.old output.new []) }
         ensures failed { IfErr result (λ e. Because ⊥ (W.has_failed output.new.sink)
-            (¬ HasRoom place.old.totals) e ⊥ [] []) }
+            (¬ HasRoom totals.old) e ⊥ [] []) }
     {
         match &self.filter {
-            None => self.list_record(place, head, &[], Reading::Skipped, output),
+            None => self.list_packet(totals, len, head, bytes, Reading::Skipped, output),
             Some(_) => {
-                let Some(after) = place.totals.pass(&head) else {
+                let Some(after) = totals.pass(len, true, head) else {
                     return Err(Failure::Count);
                 };
-                place.totals = after;
+                *totals = after;
                 Ok(())
             }
         }
     }
 
-    // Lists the whole records at the front of the data. Returns the rest, and why no whole record
+    // Counts a whole block, and writes what is written of it.
+    #[inline(always)]
+    fn list_block<W: Sink>(
+        &self,
+        totals: &mut Totals,
+        block: &Block,
+        bytes: &[u8],
+        output: &mut Output<W>,
+    ) -> Result<(), Failure>
+        requires fits { length bytes.now ≤ ROOM }
+        ensures told { OnOk result (TellsSaid W.contents self.now totals.old totals.new
+            (said block.now) bytes.now output.old output.new) }
+        ensures kept { OnErr result (Prints W.contents output.old output.new []) }
+        ensures failed { IfErr result (λ e. Because ⊥ (W.has_failed output.new.sink)
+            (¬ HasRoom totals.old) e ⊥ [] []) }
+    {
+        match block {
+            Block::Packet { head, bytes: frame } => {
+                self.list_frame(totals, head, bytes, frame, output)
+            }
+            Block::Other => self.list_other(totals, bytes.len(), bytes, output),
+        }
+    }
+
+    // Lists the whole blocks at the front of the data. Returns the rest, and why no whole block
     // follows.
     fn list_front<'a, W: Sink>(
         &self,
@@ -207,54 +265,106 @@ impl Request {
         ensures failed { IfErr result (λ e. TellsFront W.contents self.now ⊥
             (W.has_failed output.new.sink) place.old e bytes.now output.old output.new) }
     {
+        let most = max_len(&place.capture);
         let mut rest = bytes;
-        'records: loop {
+        'fronts: loop {
             if self.has_enough(place.totals.listed) {
                 return Ok((rest, Stop::Enough));
             }
-            match next_record(&place.capture.header, rest) {
-                Ok(Some((record, after))) => {
-                    let head = place.capture.header.record_head(rest);
+            match next_block(&mut place.capture, rest) {
+                Ok(Some((block, after))) => {
                     let whole = &rest[..rest.len() - after.len()];
-                    self.list_frame(place, head, whole, record.bytes, output)?;
+                    if whole.len() > most {
+                        // A block of pcapng that is too long is never whole in the buffer.
+                        let Block::Packet { head, .. } = &block else {
+                            unreachable!()
+                        };
+                        let totals = &mut place.totals;
+                        self.list_too_long(totals, whole.len(), head, whole, output)?;
+                    } else {
+                        self.list_block(&mut place.totals, &block, whole, output)?;
+                    }
                     rest = after;
                 }
                 Ok(None) => return Ok((rest, Stop::Empty)),
-                Err(e) => return Ok((rest, Stop::CutOff(e))),
+                Err(BlockError::CutOff(e)) => return Ok((rest, Stop::CutOff(e))),
+                Err(e) => return Ok((rest, Stop::Refused(e))),
             }
         }
     }
 
-    // Lists the record at the front of what has been read, which is too long, and skips it.
+    // Whether the bytes are kept of a block that is too long.
+    fn keeps(&self, content: &Content) -> bool
+        ensures value { result ≡ keeps self.now content.now }
+    {
+        match content {
+            Content::Packet(_) => self.copies() && self.filter.is_none(),
+            _ => self.copies(),
+        }
+    }
+
+    // Counts a block that is too long, and writes what is written of it but for its bytes.
+    fn list_front_of<W: Sink>(
+        &self,
+        totals: &mut Totals,
+        front: &BlockFront,
+        output: &mut Output<W>,
+    ) -> Result<(), Failure>
+        requires can { CanBeSkipped front.now.content }
+        ensures told { OnOk result (TellsFrontOf W.contents self.now front.now totals.old
+            totals.new output.old output.new) }
+        ensures kept { OnErr result (Prints W.contents output.old output.new []) }
+        ensures failed { IfErr result (λ e. Because ⊥ (W.has_failed output.new.sink)
+            (¬ HasRoom totals.old) e ⊥ [] []) }
+    {
+        match &front.content {
+            Content::Packet(head) => self.list_too_long(totals, front.len, head, &[], output),
+            Content::Other => self.list_other(totals, front.len, &[], output),
+            Content::Refused(_) | Content::Description => unreachable!(),
+        }
+    }
+
+    // Lists and skips the block at the front of what has been read, which is too long.
     fn list_past<R: Source, W: Sink>(
         &self,
         place: &mut Place,
-        required_len: usize,
+        cut: CutOff,
         input: &mut Input<R>,
         output: &mut Output<W>,
     ) -> Result<Turn, Failure>
         requires going { has_enough self.now place.old.totals.listed ≡ false }
-        requires enough { 16 ≤ length (unread input.old) }
-        requires required { required_len ≡ record_len place.old.capture.header (unread input.old) }
-        requires short { length (unread input.old) < required_len }
-        requires long { 16 + max_captured_len < required_len }
+        requires enough { front_len place.old.capture ≤ length (unread input.old) }
+        requires refused { RefusesBlock place.old.capture (unread input.old)
+            (BlockError.CutOff cut) }
+        requires long { max_len place.old.capture < cut.required_len }
         ensures turns { IfOk result (λ turn. Turns R.remaining W.contents self.now place.old
             place.new turn input.old input.new output.old output.new) }
         ensures failed { IfErr result (λ e. Breaks R.remaining W.contents self.now
             R.has_failed W.has_failed place.old e input.old input.new output.old output.new) }
     {
-        let head = place.capture.header.record_head(input.unread());
-        self.list_too_long(place, head, output)?;
-        let len = skip(input, required_len, self.keeps(), output)?;
-        if len == required_len {
-            Ok(Turn::GoesOn)
-        } else {
-            Ok(Turn::Ends(Some(CutOff { required_len, len })))
+        let front = match place.capture.block_front(input.unread()) {
+            Ok(front) => front,
+            Err(_) => unreachable!(),
+        };
+        match front.content {
+            Content::Refused(e) => return Ok(Turn::Ends(Some(End::Refused(e)))),
+            Content::Description => return Ok(Turn::Ends(Some(End::TooLong(front.len)))),
+            Content::Packet(_) | Content::Other => {}
+        }
+        self.list_front_of(&mut place.totals, &front, output)?;
+        let (len, last) = skip(input, front.len, self.keeps(&front.content), output)?;
+        if len < front.len {
+            let required_len = front.len;
+            return Ok(Turn::Ends(Some(End::CutOff(CutOff { required_len, len }))));
+        }
+        match front.check_end(last) {
+            Ok(()) => Ok(Turn::GoesOn),
+            Err(e) => Ok(Turn::Ends(Some(End::Refused(e)))),
         }
     }
 
-    // Goes on after the whole records that have been read: lists and skips one that is too long,
-    // or reads more.
+    // Goes on after the whole blocks that have been read: lists and skips one that is too long, or
+    // reads more.
     fn go_on<R: Source, W: Sink>(
         &self,
         place: &mut Place,
@@ -270,10 +380,14 @@ impl Request {
     {
         let end = match stop {
             Stop::Enough => return Ok(Turn::Ends(None)),
-            Stop::CutOff(e) if e.required_len > ROOM => {
-                return self.list_past(place, e.required_len, input, output);
+            Stop::Refused(e) => return Ok(Turn::Ends(Some(End::Refused(e)))),
+            Stop::CutOff(e) => {
+                let is_long = e.required_len > max_len(&place.capture);
+                if is_long && input.unread().len() >= place.capture.front_len() {
+                    return self.list_past(place, e, input, output);
+                }
+                Some(End::CutOff(e))
             }
-            Stop::CutOff(e) => Some(e),
             Stop::Empty => None,
         };
         if input.fill()? {
@@ -283,14 +397,14 @@ impl Request {
         }
     }
 
-    /// Lists the records, all or as many as were asked for, and counts them. Returns how the last
-    /// one is cut off.
+    /// Lists the blocks, all or until as many packets are listed as were asked for, and counts them.
+    /// Returns how the listing ends, if it ends before the capture does.
     pub fn list<R: Source, W: Sink>(
         &self,
         place: &mut Place,
         input: &mut Input<R>,
         output: &mut Output<W>,
-    ) -> Result<Option<CutOff>, Failure>
+    ) -> Result<Option<End>, Failure>
         ensures ends { IfOk result (λ end. Ends R.remaining W.contents self.now place.old
             place.new.totals end input.old input.new output.old output.new) }
         ensures failed { IfErr result (λ e. Breaks R.remaining W.contents self.now

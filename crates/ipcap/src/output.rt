@@ -9,10 +9,8 @@ use crate::streams::{Line, Sink};
 use arrayvec::ArrayVec;
 use std::fmt::Display;
 
-// The room for bytes that the sink has not yet got: a record and more.
-const TEXT_ROOM: usize = 327_680;
-
-const _: () = prove!(ROOM <= TEXT_ROOM);
+// The room for bytes that the sink has not yet got: a block, or some thousand lines.
+const TEXT_ROOM: usize = ROOM;
 
 /// A sink, and the bytes that it gets. It has not yet got the last ones.
 #[derive(Drop)]

@@ -2,6 +2,7 @@
 
 use crate::totals::Totals;
 use packet_capture::any::Capture;
+use packet_capture::capture::CutOff;
 use packet_capture::pcapng::blocks::BlockError;
 
 /// The state of a listing between two blocks. A block of the classic format is a record.
@@ -16,7 +17,9 @@ pub struct Place {
 /// How a listing ends before its capture does.
 #[derive(Clone, Copy)]
 pub enum End {
-    /// The next block is cut off, or refused.
+    /// The next block is cut off.
+    CutOff(CutOff),
+    /// The next block is refused for another reason.
     Refused(BlockError),
     /// The next block says how those after it are read, and it is longer than what is read; the
     /// number is its length in bytes.

@@ -2,12 +2,12 @@
 
 ghost use Rattle.std.specs.Prelude.{◌≡◌, ◌↔◌, IsTrue, MatchOption};
 ghost use Rattle.ipcap.specs.Shown.{IsShownAt};
-ghost use Rattle.ipcap.specs.Reading.{ReadsFrame, ReadsPacket, is_cut, is_too_long};
+ghost use Rattle.ipcap.specs.Reading.{ReadsFrame, ReadsNumbered, ReadsPacket, is_cut, max_len};
 
 use crate::shown::{Shown, has_no_length, shown_of};
 use packet::link::{LinkSlice, LinkType};
 use packet::link_layers::LinkLayers;
-use packet_capture::capture::RecordHead;
+use packet_capture::any::{Capture, PacketHead};
 use packet_links::header::Carried;
 use packet_parts::checksum::Verdict;
 use packet_parts::ip_slice::{IpSliceError, LaxIpSlice};
@@ -25,6 +25,8 @@ pub enum NoPacket {
     OtherFamily(u32),
     /// It carries what another framing tells, which is no IP packet.
     OtherCarried(Carried),
+    /// Its link type is not read; the number of that.
+    OtherLinkType(u16),
 }
 
 /// What the frame of a record is found to carry.
@@ -36,22 +38,38 @@ pub enum Reading<'a> {
     Refused(IpSliceError),
     /// No IP packet.
     Other(NoPacket),
-    /// It is not read: the record is too long for the buffer.
+    /// It is not read: its block is too long for the buffer.
     Skipped,
 }
 
 /// Whether fewer bytes were captured than the packet had.
-pub fn is_cut(head: &RecordHead) -> bool
+pub fn is_cut(head: &PacketHead) -> bool
     ensures value { result ≡ is_cut head.now }
 {
     head.captured_len < head.original_len
 }
 
-/// Whether more bytes were captured than are read.
-pub fn is_too_long(head: &RecordHead) -> bool
-    ensures value { result ≡ is_too_long head.now }
+/// The most bytes of a block that are read: a record with 262,144 captured bytes, and in pcapng
+/// 65,536 bytes of fields and options beside as many.
+pub fn max_len(capture: &Capture) -> usize
+    ensures value { result ≡ max_len capture.now }
 {
-    head.captured_len > 262_144
+    match capture {
+        Capture::Pcap(_) => 262_160,
+        Capture::Pcapng(_) => 327_680,
+    }
+}
+
+/// The same as [`read_frame`] of the link type with a number. Of one that is not read, a frame
+/// carries nothing that is.
+#[inline(always)]
+pub fn read_numbered(number: u16, is_cut: bool, frame: &[u8]) -> Reading
+    ensures reads { ReadsNumbered number is_cut frame.now result }
+{
+    match LinkType::from_number(u32::from(number)) {
+        Some(link_type) => read_frame(link_type, is_cut, frame),
+        None => Reading::Other(NoPacket::OtherLinkType(number)),
+    }
 }
 
 /// What a frame of a link type is found to carry. If the capture cut the frame, its packet can be

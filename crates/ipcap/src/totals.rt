@@ -1,10 +1,10 @@
 //! What is counted.
 
-use crate::reading::{Reading, is_cut, is_too_long};
-use packet_capture::capture::RecordHead;
+use crate::reading::{Reading, is_cut};
+use packet_capture::any::PacketHead;
 use packet_parts::ip_slice::IpHeaderSlice;
 
-/// How many records there were, how many of them are listed, and of which kinds these are.
+/// How many packets there were, how many of them are listed, and of which kinds these are.
 #[derive(Clone, Copy)]
 pub struct Totals {
     /// All of them.
@@ -25,11 +25,14 @@ pub struct Totals {
     pub cut: u64,
     /// Those with a wrong checksum.
     pub wrong: u64,
+    /// The bytes of all blocks so far, of packets or not, or 2^64 - 1 if there are more.
+    pub bytes: u64,
 }
 
 impl Totals {
-    ghost use Rattle.std.specs.Prelude.{◌≡◌, IfNone, IfSome, None, Some};
-    ghost use Rattle.ipcap.specs.Totals.{HasRoom, counted, counted_as, nothing_counted};
+    ghost use Rattle.std.specs.Prelude.{◌≡◌, Bool, IfNone, IfSome, None, Some};
+    ghost use Rattle.ipcap.specs.Totals.{HasRoom, counted, counted_as, no_packet};
+    ghost use Rattle.ipcap.specs.Totals.{nothing_counted, packet};
 
     /// No record.
     pub fn none() -> Totals
@@ -45,12 +48,15 @@ impl Totals {
             skipped: 0,
             cut: 0,
             wrong: 0,
+            bytes: 0,
         }
     }
 
-    /// With one more record that is listed; `None` if a count would exceed 2^64 - 1.
-    pub fn count(self, head: &RecordHead, reading: &Reading) -> Option<Totals>
-        ensures some { IfSome result (λ after. after ≡ counted head.now (Some reading.now) self) }
+    /// With one more packet that is listed, in a block of `len` bytes; `None` if a count of packets
+    /// would exceed 2^64 - 1.
+    pub fn count(self, len: usize, head: &PacketHead, reading: &Reading) -> Option<Totals>
+        ensures some { IfSome result (λ after. (is_long : Bool)
+            → after ≡ counted len is_long (packet head.now (Some reading.now)) self) }
         ensures none { IfNone result (¬ HasRoom self) }
     {
         let after = self.count_as(reading)?;
@@ -61,20 +67,34 @@ impl Totals {
             wrong: self
                 .wrong
                 .checked_add(u64::from(reading.has_wrong_checksum()))?,
+            bytes: self.bytes.saturating_add(len as u64),
             ..after
         })
     }
 
-    /// With one more record that is not listed; `None` if a count would exceed 2^64 - 1.
-    pub fn pass(self, head: &RecordHead) -> Option<Totals>
-        ensures some { IfSome result (λ after. after ≡ counted head.now None self) }
+    /// With one more packet that is not listed, in a block of `len` bytes, which is too long or
+    /// not; `None` if a count of packets would exceed 2^64 - 1.
+    pub fn pass(self, len: usize, is_long: bool, head: &PacketHead) -> Option<Totals>
+        ensures some { IfSome result (λ after.
+            after ≡ counted len is_long (packet head.now None) self) }
         ensures none { IfNone result (¬ HasRoom self) }
     {
         Some(Totals {
             records: self.records.checked_add(1)?,
-            skipped: self.skipped.checked_add(u64::from(is_too_long(head)))?,
+            skipped: self.skipped.checked_add(u64::from(is_long))?,
+            bytes: self.bytes.saturating_add(len as u64),
             ..self
         })
+    }
+
+    /// With one more block of `len` bytes, which has no packet.
+    pub fn pass_block(self, len: usize) -> Totals
+        ensures value { (is_long : Bool) → result ≡ counted len is_long no_packet self }
+    {
+        Totals {
+            bytes: self.bytes.saturating_add(len as u64),
+            ..self
+        }
     }
 
     // With one more record of its kind.

@@ -1,8 +1,14 @@
 -- How a listing ends.
-use Rattle.std.specs.Prelude.{ℕ, ◌≡◌, List, [], ◌++◌, Option}
+use Rattle.std.specs.Prelude.{ℕ, ◌≡◌, List, [], ◌++◌, Err, None, Option}
+use Rattle.packet.specs.Link.{link_type_of}
+use Rattle.packet_capture.specs.Any.{ReadsFront}
 use Rattle.packet_capture.specs.declared.any.Capture.{Capture}
+use Rattle.packet_capture.specs.declared.any.Capture.TheVariants.{Pcap}
+use Rattle.packet_capture.specs.declared.capture.CaptureError.TheVariants as capture
+use Rattle.packet_capture.specs.declared.capture.CutOff as cut
+use Rattle.packet_capture.specs.declared.capture.FileHeader.{FileHeader}
 use Rattle.ipcap.specs.Listing.{Lists}
-use Rattle.ipcap.specs.Output.{IsCause, first_place, listed, status_at}
+use Rattle.ipcap.specs.Output.{IsCause, first_place, listed, number_of, status_at}
 use Rattle.ipcap.specs.Private.Progress.{WantsMore}
 use Rattle.ipcap.specs.Streams.{CannotRead, Prints, Reads, Reports, pending, unread}
 use Rattle.ipcap.specs.Totals.{HasRoom}
@@ -13,6 +19,17 @@ use Rattle.ipcap.specs.declared.place.End.{End}
 use Rattle.ipcap.specs.declared.request.Request.{Request}
 use Rattle.ipcap.specs.declared.status.Status.{Status}
 use Rattle.ipcap.specs.declared.totals.Totals.{Totals}
+
+-- there are too few bytes for the front of a capture
+abbrev pub LacksFront : List ℕ → Type 0
+LacksFront bytes = (e : cut.CutOff) × ReadsFront bytes (Err (capture.CutOff e))
+
+-- the frames of the capture are all of a link type with this number, which is not read
+pub record HasUnreadFrames (capture : Capture) (number : ℕ) : Type 0 where
+  pub header : FileHeader
+  pub is : capture ≡ Pcap header
+  pub is_number : number ≡ number_of header
+  pub other : link_type_of number ≡ None
 
 -- the blocks are listed, and all is passed to the sinks
 pub record WritesListing {W E : Type 0} (contents : W → Option (List ℕ))

@@ -23,7 +23,7 @@ use Rattle.ipcap.specs.declared.listing.Turn.{Turn}
 use Rattle.ipcap.specs.declared.listing.Turn.TheVariants as turn
 use Rattle.ipcap.specs.declared.output.Output.{Output}
 use Rattle.ipcap.specs.declared.place.End.{End}
-use Rattle.ipcap.specs.declared.place.End.TheVariants.{Refused, TooLong}
+use Rattle.ipcap.specs.declared.place.End.TheVariants.{CutOff}
 use Rattle.ipcap.specs.declared.place.Place.{Place}
 use Rattle.ipcap.specs.declared.reading.Reading.{Reading}
 use Rattle.ipcap.specs.declared.request.Request.{Request}
@@ -43,7 +43,7 @@ Stops request place rest (stop.Refused e) = (has_enough request place.totals.lis
 -- fewer are listed than were asked for, or the last block is cut off
 abbrev pub WantsMore : Request → Totals → Option End → Type 0
 WantsMore request last None = has_enough request last.listed ≡ false
-WantsMore request last (Some (Refused (error.CutOff e))) = Unit {0}
+WantsMore request last (Some (CutOff e)) = Unit {0}
 WantsMore request last (Some end) = ⊥
 
 -- Why no more is told: more is wanted, nothing is left of what was read, all is printed, and a read

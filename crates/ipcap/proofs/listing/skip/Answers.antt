@@ -1,6 +1,7 @@
-use Rattle.std.proofs.Common.{ℕ, ◌≡◌, ◌<◌, ◌≤◌, ◌-◌, List, [], ◌++◌, length, take, drop, min, arith, ap, append-nil, append_assoc, length-append, length-drop, length-take-le, refl, take-append-drop}
-use Rattle.std.proofs.lemmas.List.{nil_from_length}
+use Rattle.std.proofs.Common.{ℕ, ◌≡◌, ◌∷◌, ◌+◌, sym, ◌∙◌, ◌<◌, ◌≤◌, ◌-◌, List, [], ◌++◌, length, take, drop, min, arith, ap, append-nil, append_assoc, length-append, length-drop, length-take-le, refl, take-append-drop}
+use Rattle.std.proofs.lemmas.List.{drop-append-le, drop-drop, nil_from_length}
 use Rattle.std.proofs.lemmas.Result.{err_from_is_err_and}
+use Rattle.ipcap.specs.Private.Progress.{last_four}
 use Rattle.ipcap.specs.Streams.{unread}
 use Rattle.ipcap.proofs.Runs.{kept_both, kept_nothing, prints_both, prints_nothing, prints_then, takes_both, takes_nothing, takes_then}
 use Rattle.ipcap.proofs.listing.skip.Goals as goal
@@ -18,8 +19,17 @@ many_more len left k r s u many within same least =
 parts : (a s u : List ℕ) (k : ℕ) → a ≡ s ++ u → a ≡ (s ++ take k u) ++ drop k u
 parts a s u k e = let p = take-append-drop k u in grind (arith, append_assoc)
 
+-- the last four then
+last_then : (s t four five : List ℕ) → four ≡ last_four s → five ≡ drop (length t) (four ++ t) → five ≡ last_four (s ++ t)
+last_then s t four five e f =
+    let zeros : List ℕ = 0 ∷ 0 ∷ 0 ∷ 0 ∷ [] in
+    let split : drop (length s) (zeros ++ s) ++ t ≡ drop (length s) (zeros ++ (s ++ t)) = sym (drop-append-le (length s) (zeros ++ s) t (omega (arith, length-append zeros s))) ∙ ap (drop (length s)) (append_assoc zeros s t) in
+    let sum : length s + length t ≡ length (s ++ t) = sym (length-append s t) in
+    let both : drop (length t) (drop (length s) (zeros ++ (s ++ t))) ≡ drop (length (s ++ t)) (zeros ++ (s ++ t)) = drop-drop (length t) (length s) (zeros ++ (s ++ t)) ∙ ap (λ n. drop n (zeros ++ (s ++ t))) sum in
+    f ∙ (ap (λ x. drop (length t) (x ++ t)) e ∙ (ap (drop (length t)) split ∙ both))
+
 pub turns-init : goal.turns-init
-turns-init g c = record { within = omega arith; taken = []; takes = takes_nothing _ _; many = omega arith; prints = rw (kept_nothing c.args.keeps) (prints_nothing _ _) }
+turns-init g c = record { within = omega arith; taken = []; takes = takes_nothing _ _; many = omega arith; last = refl; prints = rw (kept_nothing c.args.keeps) (prints_nothing _ _) }
 
 pub turns-preserved : goal.turns-preserved
 turns-preserved g c =
@@ -29,6 +39,7 @@ turns-preserved g c =
       taken = was.taken ++ take c.min-passed.result (unread c.turns.input);
       takes = takes_then _ _ _ _ _ (takes_both _ _ _ _ _ _ was.takes c.pass.ensures.takes) c.in_ok-fill.ensures.takes;
       many = many_more c.args.len c.turns.left _ c.unread-bytes.result.now was.taken (unread c.turns.input) was.many was.within c.unread-bytes.ensures.value c.min-passed.ensures;
+      last = last_then was.taken (take c.min-passed.result (unread c.turns.input)) c.turns.last _ was.last (rw c.unread-bytes.ensures.value at c.last_four-last.ensures.value);
       prints = rw (kept_both c.args.keeps was.taken (take c.min-passed.result (unread c.turns.input))) (prints_both _ _ _ _ _ _ was.prints (rw c.unread-bytes.ensures.value at c.in_ok-copy_if.ensures.prints));
     }
 
@@ -42,6 +53,7 @@ returns-then-left-eq0-clause-skips g c =
       many = omega (arith, many, c.if-left-eq0.true);
       within = omega arith;
       all = λ few. absurd (omega (arith, few));
+      is_last = last_then was.taken (take c.min-passed.result (unread c.turns.input)) c.turns.last _ was.last (rw c.unread-bytes.ensures.value at c.last_four-last.ensures.value);
       prints = rw (kept_both c.args.keeps was.taken (take c.min-passed.result (unread c.turns.input))) (prints_both _ _ _ _ _ _ was.prints (rw c.unread-bytes.ensures.value at c.in_ok-copy_if.ensures.prints));
     }
 
@@ -97,5 +109,6 @@ returns-then-not-branch-clause-skips g c =
       many = many;
       within = omega arith;
       all = λ few. grind (arith, over, c.in_ok-fill.ensures.same);
+      is_last = last_then was.taken (take c.min-passed.result (unread c.turns.input)) c.turns.last _ was.last (rw c.unread-bytes.ensures.value at c.last_four-last.ensures.value);
       prints = rw (kept_both c.args.keeps was.taken (take c.min-passed.result (unread c.turns.input))) (prints_both _ _ _ _ _ _ was.prints (rw c.unread-bytes.ensures.value at c.in_ok-copy_if.ensures.prints));
     }

@@ -1,4 +1,5 @@
 use Rattle.std.proofs.Common.{◌≡◌, ◌-◌, ◌≤◌, ◌^◌, List, ℕ, length}
+use Rattle.ipcap.specs.Private.Progress.{last_four}
 use Rattle.ipcap.specs.Streams.{Prints, Takes, kept_if}
 use Rattle.ipcap.proofs.listing.skip.Given as goal
 
@@ -8,6 +9,7 @@ invariant-turns g l = record {
   taken : List ℕ;
   takes : Takes g.R.Source.remaining l.fn.input l.input taken;
   many : length taken ≡ l.len - l.left;
+  last : l.last ≡ last_four taken;
   prints : Prints g.W.Sink.contents l.fn.output l.output (kept_if l.keeps taken);
 }
 

@@ -1,7 +1,7 @@
-use Rattle.std.proofs.Common.{Some}
+use Rattle.std.proofs.Common.{Some, false}
 use Rattle.ipcap.proofs.Runs.{on_ok}
 use Rattle.ipcap.proofs.request.Request.list_frame.Goals as goal
 
 pub returns-then-is_chosen-clause-told : goal.returns-then-is_chosen-clause-told
 returns-then-is_chosen-clause-told g c =
-    on_ok c.list_record.result (λ told. record { found = Some c.read_frame-reading.result; reads = (rw c.if-is_chosen.true at c.is_chosen.ensures.value, rw c.is_cut.ensures.value at c.read_frame-reading.ensures.reads); tells = told }) c.list_record.ensures.told
+    on_ok c.list_packet.result (λ told. record { found = Some c.read_numbered-reading.result; reads = (rw c.if-is_chosen.true at c.is_chosen.ensures.value, rw c.is_cut.ensures.value at c.read_numbered-reading.ensures.reads); tells = told false }) c.list_packet.ensures.told

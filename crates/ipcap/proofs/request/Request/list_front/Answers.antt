@@ -1,10 +1,11 @@
-use Rattle.std.proofs.Common.{ℕ, ◌≡◌, ◌-◌, ◌++◌, ◌+◌, List, ap, sym, ◌∙◌, arith, append_assoc, drop, length, length-append, length-drop, length-take-le, take, take-append-drop, inl}
+use Rattle.std.proofs.Common.{ℕ, ◌≡◌, ◌-◌, ◌++◌, List, [], ap, refl, sym, ◌∙◌, arith, append_assoc, drop, length, length-append, take, take-append-drop}
 use Rattle.std.proofs.Math.Seq.{drop-append_seam, take-append_seam}
-use Rattle.std.proofs.lemmas.List.{drop-take}
 use Rattle.std.proofs.lemmas.Result.{err_from_is_err_and}
-use Rattle.packet_capture.specs.Capture.{record_head, record_len}
-use Rattle.ipcap.proofs.Fronts.{record_head-append}
-use Rattle.ipcap.proofs.Runs.{front_after, front_of_nothing, tells_both, told_one}
+use Rattle.packet_capture.specs.Any.{BeginsWith, said}
+use Rattle.packet_capture.proofs.AnyFronts.{begins_with-front}
+use Rattle.ipcap.specs.Listing.{ToldOfLong, if_too_long}
+use Rattle.ipcap.specs.Totals.{packet}
+use Rattle.ipcap.proofs.Runs.{front_after, front_of_nothing, long_record, rest_of, same_head, same_most, tells_both, tells_nothing, told_long, told_one}
 use Rattle.ipcap.proofs.request.Request.list_front.Goals as goal
 
 -- what was taken is the data but for its rest
@@ -14,33 +15,57 @@ taken_is u t r e = let len : length u - length r ≡ length t = omega (arith, ap
 rest_is : (u t r : List ℕ) → u ≡ t ++ r → r ≡ drop (length u - length r) u
 rest_is u t r e = let len : length u - length r ≡ length t = omega (arith, ap length e, length-append t r) in rw (len, e) (sym (drop-append_seam t r))
 
-pub returns-in_err-list_frame-in-Ok-Some-clause-failed : goal.returns-in_err-list_frame-in-Ok-Some-clause-failed
-returns-in_err-list_frame-in-Ok-Some-clause-failed g c =
-    let was = c.records.invariant in
-    let p = err_from_is_err_and c.from_residual.result c.from_residual.ensures.1 in
-    let failed = c.in_err-list_frame-in-Ok-Some.ensures in
-    rw (p.1, p.2, was.whole) (front_after _ _ _ _ _ _ _ _ _ _ _ _ was.tells (front_of_nothing _ _ _ _ ⊥ c.records.place _ c.records.rest.now _ _ failed.kept failed.failed))
+pub fronts-init : goal.fronts-init
+fronts-init g c = record { most = c.max_len-most.ensures.value; taken = []; whole = refl; tells = tells_nothing _ _ _ _ }
 
-pub records-preserved : goal.records-preserved
-records-preserved g c =
-    let was = c.records.invariant in
-    let told = c.in_ok-list_frame-in-Ok-Some.ensures.told in
+pub returns-in_err-list_too_long-in-Ok-Some-clause-failed : goal.returns-in_err-list_too_long-in-Ok-Some-clause-failed
+returns-in_err-list_too_long-in-Ok-Some-clause-failed g c =
+    let was = c.fronts.invariant in
+    let p = err_from_is_err_and c.from_residual.result c.from_residual.ensures.1 in
+    let failed = c.in_err-list_too_long-in-Ok-Some.ensures in
+    rw (p.1, p.2, was.whole) (front_after _ _ _ _ _ _ _ _ _ _ _ _ was.tells (front_of_nothing _ _ _ _ ⊥ c.fronts.place _ c.fronts.rest.now _ _ failed.kept failed.failed))
+
+pub returns-in_err-list_block-in-Ok-Some-clause-failed : goal.returns-in_err-list_block-in-Ok-Some-clause-failed
+returns-in_err-list_block-in-Ok-Some-clause-failed g c =
+    let was = c.fronts.invariant in
+    let p = err_from_is_err_and c.from_residual-in_err-list_block-in-Ok-Some.result c.from_residual-in_err-list_block-in-Ok-Some.ensures.1 in
+    let failed = c.in_err-list_block-in-Ok-Some.ensures in
+    rw (p.1, p.2, was.whole) (front_after _ _ _ _ _ _ _ _ _ _ _ _ was.tells (front_of_nothing _ _ _ _ ⊥ c.fronts.place _ c.fronts.rest.now _ _ failed.kept failed.failed))
+
+pub fronts-preserved : goal.fronts-preserved
+fronts-preserved g c =
+    let was = c.fronts.invariant in
+    let told = c.in_ok-list_block-in-Ok-Some.ensures.told in
     let found = rw c.in-Ok-Some.field-0-is at c.in-Ok-Some.ensures.reads in
-    let rest = c.records.rest.now in
-    let header = c.records.place.capture.header in
-    let s = take (record_len header rest) rest in
-    let parts : s ++ c.in-Ok-Some.after.now ≡ rest = ap (λ r. s ++ r) found.after ∙ take-append-drop _ rest in
-    let captured = (record_head header rest).captured_len in
-    let cut : 16 + captured - 16 ≡ captured = omega arith in
-    let same = c.record_head-head.ensures.value in
-    let len = length-take-le _ rest found.whole in
-    let all : take (length rest - length c.in-Ok-Some.after.now) rest ≡ s = ap (λ n. take n rest) (omega (arith, ap length found.after, length-drop (record_len header rest) rest, found.whole)) in
+    let rest = c.fronts.rest.now in
+    let after = c.in-Ok-Some.after.now in
+    let s = take (length rest - length after) rest in
+    let parts : s ++ after ≡ rest = ap (λ r. s ++ r) (rest_of _ rest _ _ after found) ∙ take-append-drop (length rest - length after) rest in
     record {
+      most = was.most ∙ sym (same_most _ rest _ _ after found);
       taken = was.taken ++ s;
       whole = grind (arith, was.whole, append_assoc, parts);
-      tells = tells_both _ _ _ _ _ _ _ _ _ _ was.tells (rw told.tells.counts (told_one _ _ _ s c.in-Ok-Some.record.bytes.now c.record_head-head.result told.found _ _ (sym c.has_enough.ensures.value ∙ c.if-has_enough.false)
-          (same ∙ ap (record_head header) (sym parts) ∙ record_head-append header s c.in-Ok-Some.after.now (omega (arith, len)))
-          (found.bytes ∙ ap (λ k. take k (drop 16 rest)) cut ∙ sym (drop-take 16 captured rest)) (omega (arith, len)) (len ∙ ap (λ h. 16 + h.captured_len) (sym same))
-          (inl (omega (arith, found.whole, ap (λ h. 16 + h.captured_len) same, ap length was.whole, length-append was.taken rest, c.requires.room), told.reads))
-          (rw all at told.tells.prints)));
+      tells = tells_both _ _ _ _ _ _ _ _ _ _ was.tells (rw told.tells.counts (told_one _ _ c.fronts.place c.next_block.new.capture s after (said c.in-Ok-Some.block) told.told _ _ (sym c.has_enough.ensures.value ∙ c.if-has_enough.false)
+          (rw parts found) (omega (arith, was.most, c.if-whole-most.false)) told.is told.tells.prints));
+    }
+
+pub fronts-preserved-in_ok-list_too_long-in-Ok-Some : goal.fronts-preserved-in_ok-list_too_long-in-Ok-Some
+fronts-preserved-in_ok-list_too_long-in-Ok-Some g c =
+    let was = c.fronts.invariant in
+    let told = c.in_ok-list_too_long-in-Ok-Some.ensures.told in
+    let found = rw c.in-Ok-Some.field-0-is at c.in-Ok-Some.ensures.reads in
+    let rest = c.fronts.rest.now in
+    let after = c.in-Ok-Some.after.now in
+    let s = take (length rest - length after) rest in
+    let parts : s ++ after ≡ rest = ap (λ r. s ++ r) (rest_of _ rest _ _ after found) ∙ take-append-drop (length rest - length after) rest in
+    let begins : BeginsWith c.fronts.place.capture (s ++ after) c.next_block.new.capture (said c.in-Ok-Some.block) after = rw parts found in
+    let long = long_record c.fronts.place.capture s after c.next_block.new.capture (said c.in-Ok-Some.block) begins (omega (arith, was.most, c.if-whole-most.true)) (omega (arith, ap length parts, ap length was.whole, length-append was.taken rest, c.requires.room)) in
+    let head = same_head long.4.0 c.in-Packet.head long.4.1 c.in-Packet.bytes.now (sym long.4.2 ∙ ap said c.in-Packet.is) in
+    let is : ToldOfLong c.args.self.now long.0.content (packet c.in-Packet.head (if_too_long c.args.self.now)) = rw (long.4.3, sym head) refl in
+    record {
+      most = was.most ∙ sym (same_most _ rest _ _ after found);
+      taken = was.taken ++ s;
+      whole = grind (arith, was.whole, append_assoc, parts);
+      tells = tells_both _ _ _ _ _ _ _ _ _ _ was.tells (rw (told.counts, long.3, long.2) (told_long _ _ c.fronts.place s long.0 (packet c.in-Packet.head (if_too_long c.args.self.now)) _ _ (sym c.has_enough.ensures.value ∙ c.if-has_enough.false)
+          long.1 long.2 (λ more. (said c.in-Ok-Some.block, rw long.3 at (begins_with-front c.fronts.place.capture s after more c.next_block.new.capture (said c.in-Ok-Some.block) after begins (sym (length-append s after))))) is told.prints));
     }

@@ -1,6 +1,6 @@
 use Rattle.std.proofs.Common.{[], ◌-◌, ◌^◌}
 use Rattle.ipcap.specs.Streams.{Takes}
-use Rattle.ipcap.proofs.run.fill_to_file_header.Given as goal
+use Rattle.ipcap.proofs.run.fill_to_front.Given as goal
 
 abbrev pub invariant-reads : goal.invariant-reads
 invariant-reads g l = Takes g.R.Source.remaining l.fn.input l.input []

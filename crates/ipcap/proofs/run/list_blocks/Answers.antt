@@ -1,9 +1,9 @@
-use Rattle.std.proofs.Common.{◌≡◌, arith, refl}
+use Rattle.std.proofs.Common.{◌≡◌, arith}
 use Rattle.std.proofs.lemmas.Result.{err_from_is_err_and}
 use Rattle.ipcap.specs.declared.failure.Failure.TheVariants as failure
 use Rattle.ipcap.proofs.Outcomes.{broken, broken_off, closed, not_closed}
 use Rattle.ipcap.proofs.Runs.{prints_nothing}
-use Rattle.ipcap.proofs.run.list_records.Goals as goal
+use Rattle.ipcap.proofs.run.list_blocks.Goals as goal
 
 read_is : ¬ (failure.Read ≡ failure.Write)
 read_is e = grind arith
@@ -49,16 +49,9 @@ returns-in_err-close-clause-failed g c =
     let p = err_from_is_err_and c.from_residual-in_err-close.result c.from_residual-in_err-close.ensures.1 in
     rw (p.1, p.2, failed.failed.0) (not_closed g.R.Source.remaining g.W.Sink.contents g.E.Sink.contents g.R.Source.has_failed g.W.Sink.has_failed g.E.Sink.has_failed c.args.request.now c.args.capture _ _ _ _ _ _ _ _ b (rw c.is_some.ensures at failed.front) failed.failed.1)
 
-pub returns-in-None-clause-output : goal.returns-in-None-clause-output
-returns-in-None-clause-output g c =
+pub returns-clause-output : goal.returns-clause-output
+returns-clause-output g c =
     let b = rw c.none.ensures.value at c.in-Ok.ensures.ends in
     let done = c.in_ok-close.ensures in
-    closed g.R.Source.remaining g.W.Sink.contents g.E.Sink.contents g.R.Source.has_failed g.W.Sink.has_failed g.E.Sink.has_failed c.args.request.now c.args.capture _ _ _ _ _ _ _ _ b _ _ (rw c.in-None.is refl)
-    (rw c.is_some.ensures at done.prints) done.all (rw c.is_some.ensures at c.report.ensures.reports)
-
-pub returns-in-Some-clause-output : goal.returns-in-Some-clause-output
-returns-in-Some-clause-output g c =
-    let b = rw c.none.ensures.value at c.in-Ok.ensures.ends in
-    let done = c.in_ok-close.ensures in
-    closed g.R.Source.remaining g.W.Sink.contents g.E.Sink.contents g.R.Source.has_failed g.W.Sink.has_failed g.E.Sink.has_failed c.args.request.now c.args.capture _ _ _ _ _ _ _ _ b _ _ (rw c.in-Some.is refl)
+    closed g.R.Source.remaining g.W.Sink.contents g.E.Sink.contents g.R.Source.has_failed g.W.Sink.has_failed g.E.Sink.has_failed c.args.request.now c.args.capture _ _ _ _ _ _ _ _ b _ _ c.status_at.ensures.value
     (rw c.is_some.ensures at done.prints) done.all (rw c.is_some.ensures at c.report.ensures.reports)
