@@ -50,10 +50,14 @@ impl<'a, 'b> IpDefragPool<'a, 'b> {
     ///     0x45, 0, 0, 25, 0x12, 0x34, 0, 1, 64, 17, 0, 0, 192, 168, 0, 1, 192, 168, 0, 199, b'b',
     ///     b'y', b't', b'e', b's',
     /// ];
-    /// let added = pool.add_packet(&last, None, None, 0)?;
-    /// assert!(rt; added.is_some_and(|added| added.state == DatagramState::Incomplete));
-    /// let added = pool.add_packet(&first, None, None, 1)?;
-    /// assert!(rt; added.is_some_and(|added| added.state == DatagramState::Complete));
+    /// let mut added = Added {
+    ///     slot: 0,
+    ///     state: DatagramState::Incomplete,
+    ///     given_up: None,
+    /// };
+    /// assert!(rt; pool.add_packet(&last, None, None, 0)? == Some(added));
+    /// added.state = DatagramState::Complete;
+    /// assert!(rt; pool.add_packet(&first, None, None, 1)? == Some(added));
     /// assert!(rt; pool.slots[0].buf.datagram() == Some(b"thirteenbytes".as_slice()));
     /// ```
     pub fn add_packet(
