@@ -27,7 +27,7 @@ def frames(path):
         subprocess.run(['editcap', '-F', 'pcap', path, classic], stderr=subprocess.DEVNULL)
         data = classic.read_bytes() if classic.exists() else b''
     if len(data) < 24:
-        return None, []
+        sys.exit(f"{path}: editcap does not read it")
     order = '<' if data[:4] in (b'\xd4\xc3\xb2\xa1', b'\x4d\x3c\xb2\xa1') else '>'
     link, found, at = struct.unpack(order + 'I', data[20:24])[0] & 0xffff, [], 24
     while at + 16 <= len(data):
