@@ -24,6 +24,7 @@ fragment_of_packet f = fragment f.offset f.more_fragments f.payload.now
 abbrev pub id_of : Option ℕ → Option ℕ → IpFragmentSlice → IpFragId
 id_of outer inner f = record { outer_vlan_id = outer; inner_vlan_id = inner; ip = f.ip }
 
+-- these are the fields of an IPv6 packet
 abbrev pub IsIpv6 : IpFragVersionSpecId → Type 0
 IsIpv6 (version.Ipv4 source destination protocol identification) = ⊥
 IsIpv6 (version.Ipv6 source destination identification) = Unit {0}
