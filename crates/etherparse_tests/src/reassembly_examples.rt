@@ -3,7 +3,8 @@
 use etherparse::{IpFragOffset, IpNumber, Ipv4Header, Ipv6Header};
 use packet_reassembly::header_chain::has_whole_chain;
 use packet_reassembly::ip_defrag_buf::IpDefragBuf;
-use packet_reassembly::ip_defrag_pool::{DatagramState, IpDefragPool, IpDefragSlot};
+use packet_reassembly::ip_defrag_packet::IpDefragPacketError;
+use packet_reassembly::ip_defrag_pool::{Added, DatagramState, IpDefragPool, IpDefragSlot};
 use packet_reassembly::ip_frag_id::{IpFragId, IpFragVersionSpecId};
 use packet_reassembly::ip_frag_range::IpFragRange;
 use packet_reassembly::ip_fragment_slice::ip_fragment;
@@ -25,6 +26,19 @@ fn one_datagram(rt: HostRuntime) -> Result<(), Fail> {
     // One that overlaps the first and has other bytes.
     buf.add(IpFragOffset::ZERO, true, b"nineteen")?;
     assert!(rt; buf.is_discarded() && buf.datagram().is_none());
+    Ok(())
+}
+
+#[test]
+fn entries_of_a_table(rt: HostRuntime) -> Result<(), Fail> {
+    let mut bytes = [0; IpDefragBuf::MAX_LEN];
+    let mut ranges = [IpFragRange::default(); IpDefragBuf::RANGES];
+    let mut buf = IpDefragBuf::new(&mut bytes, &mut ranges);
+    let (added, entries) = buf.add_counted(IpFragOffset::ZERO, true, b"two units of 8b.");
+    assert!(rt; added.is_ok() && entries == 5);
+    // A duplicate is found by its first entry.
+    let (added, entries) = buf.add_counted(IpFragOffset::ZERO, true, b"two units of 8b.");
+    assert!(rt; added.is_ok() && entries == 1);
     Ok(())
 }
 
@@ -122,5 +136,53 @@ fn a_pool(rt: HostRuntime) -> Result<(), Fail> {
     // Another datagram takes the only slot.
     let added = pool.add(other, IpFragOffset::ZERO, true, b"thirteen", 60)?;
     assert!(rt; added.given_up == Some(id));
+    Ok(())
+}
+
+#[test]
+fn packets_in_a_pool(rt: HostRuntime) -> Result<(), Fail> {
+    let mut bytes = [0; IpDefragBuf::MAX_LEN];
+    let mut ranges = [IpFragRange::default(); IpDefragBuf::RANGES];
+    let buf = IpDefragBuf::new(&mut bytes, &mut ranges);
+    let mut slots = [IpDefragSlot {
+        id: None,
+        since: 0,
+        buf,
+    }];
+    let mut pool = IpDefragPool {
+        slots: &mut slots,
+        timeout: IpDefragPool::TIMEOUT_SECONDS,
+    };
+
+    // Two fragments of an IPv4 packet, of 8 bytes and of 5.
+    let first = [
+        0x45, 0, 0, 28, 0x12, 0x34, 0x20, 0, 64, 17, 0, 0, 192, 168, 0, 1, 192, 168, 0, 199, b't',
+        b'h', b'i', b'r', b't', b'e', b'e', b'n',
+    ];
+    let last = [
+        0x45, 0, 0, 25, 0x12, 0x34, 0, 1, 64, 17, 0, 0, 192, 168, 0, 1, 192, 168, 0, 199, b'b',
+        b'y', b't', b'e', b's',
+    ];
+    let mut added = Added {
+        slot: 0,
+        state: DatagramState::Incomplete,
+        given_up: None,
+    };
+    assert!(rt; pool.add_packet(&last, None, None, 0)? == Some(added));
+    added.state = DatagramState::Complete;
+    assert!(rt; pool.add_packet(&first, None, None, 1)? == Some(added));
+    assert!(rt; pool.slots[0].buf.datagram() == Some(b"thirteenbytes".as_slice()));
+
+    // The first fragment of an IPv6 packet, of 8 bytes: a whole UDP header, and a part of one of TCP
+    // (RFC 7112).
+    let mut packet = [0; 56];
+    (packet[0], packet[5], packet[6]) = (0x60, 16, 44);
+    (packet[40], packet[43]) = (17, 1);
+    assert!(rt; pool.add_packet(&packet, None, None, 1)?.is_some());
+    packet[40] = 6;
+    match pool.add_packet(&packet, None, None, 1) {
+        Err(IpDefragPacketError::HeaderChain) => {}
+        _ => assert!(rt; false),
+    }
     Ok(())
 }

@@ -8,7 +8,7 @@ use Rattle.std.specs.List.{Contains}
 use Rattle.packet_reassembly.specs.declared.ip_frag_range.IpFragRange.{IpFragRange}
 use Rattle.packet_reassembly.specs.declared.table.Extent.{Extent}
 use Rattle.packet_reassembly.specs.Fragment.{Conflict, Fragment, Takes}
-use Rattle.packet_reassembly.specs.Table.{AreApart, AreKept, Begins, Fits, IsFront, IsMarked, IsNew, fragment_in, fragment_of, held, range_at}
+use Rattle.packet_reassembly.specs.Table.{AreApart, AreKept, Begins, Fits, IsMarked, IsNew, fragment_in, fragment_of, held, range_at, units_in}
 use Rattle.packet_reassembly.proofs.Held.{Contains_from_held, common, end_at, held_from_Contains}
 
 -- the range of a new fragment is noted in the table
@@ -116,8 +116,8 @@ written bytes payload old new extent range n a len =
     let f : List ℕ → Fragment = λ b. record { start = range.start; more = range.more_fragments; bytes = b } in
     ap f (between-put_mid range.start n bytes payload range.end (omega arith) (omega arith))
 
-pub kept-new : (bytes payload : List ℕ) (old new : List IpFragRange) (extent : Extent) (range : IpFragRange) (n front : ℕ) → Adds bytes payload old new extent range → n ≡ length payload → IsFront new (max extent.reach range.end) front → AreKept (put_mid range.start n bytes payload) new (record { reach = max extent.reach range.end; ended = extent.ended || not range.more_fragments; front = front })
-kept-new bytes payload old new extent range n front a len is_front =
+pub kept-new : (bytes payload : List ℕ) (old new : List IpFragRange) (extent : Extent) (range : IpFragRange) (n units : ℕ) → Adds bytes payload old new extent range → n ≡ length payload → units ≡ units_in new → AreKept (put_mid range.start n bytes payload) new (record { reach = max extent.reach range.end; ended = extent.ended || not range.more_fragments; units = units })
+kept-new bytes payload old new extent range n units a len are_units =
     let room = a.kept.room in let limit = a.kept.limit in let to = a.fits.limit in let ends = a.fits.len in let some = a.fits.some in let table = a.kept.table in let same = a.len in
     record {
       room = simp (length-append, length-take, length-drop) (omega arith);
@@ -131,7 +131,7 @@ kept-new bytes payload old new extent range n front a len is_front =
         | inr l ↦ let unit = a.fits.unit in (range.start / 8, ap (λ (r : IpFragRange). r.end) (a.marked.inside (range.start / 8) (omega arith, omega arith)) ∙ omega arith)
       ];
       ended = λ _. omega arith;
-      front = is_front;
+      units = are_units;
     }
 
 no_conflict : (bytes payload : List ℕ) (old new : List IpFragRange) (extent : Extent) (range : IpFragRange) (k : ℕ) → Adds bytes payload old new extent range → 0 < (range_at old k).end → ¬ Conflict (fragment_in bytes (range_at old k)) (fragment_of range payload)

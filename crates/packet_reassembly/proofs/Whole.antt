@@ -1,5 +1,5 @@
 -- what a datagram is, by its table
-use Rattle.std.proofs.Common.{ℕ, ◌≡◌, ◌-◌, ◌/◌, ◌<◌, ◌≤◌, ◌⊎◌, [], ◌∷◌, List, length, arith, inl, inr, Bool, true, false, ap, sym, subst, ◌∙◌, slice_range, take, drop, Option, Some}
+use Rattle.std.proofs.Common.{ℕ, ◌≡◌, ◌+◌, ◌-◌, ◌*◌, ◌/◌, ◌<◌, ◌≤◌, ◌⊎◌, [], ◌∷◌, List, length, arith, inl, inr, Bool, true, false, ap, sym, subst, ◌∙◌, slice_range, take, drop, Option, Some}
 use Rattle.std.proofs.lemmas.Bool.{cases_lt}
 use Rattle.std.proofs.lemmas.List.{length-take-le, take-take}
 use Rattle.std.proofs.lemmas.List.Elements.{Contains-append_left, Contains-push_cases}
@@ -11,6 +11,7 @@ use Rattle.packet_reassembly.specs.Fragment.{AreCutFrom, Covers, Fragment, IsPie
 use Rattle.packet_reassembly.specs.Table.{AreKept, fragment_in, held, kept, range_at}
 use Rattle.packet_reassembly.proofs.Held.{Contains_from_held, common, end_at, held_from_Contains}
 use Rattle.packet_reassembly.proofs.Cuts.{one_cut}
+use Rattle.packet_reassembly.proofs.Units.{each_come, ends_at, many_come}
 
 ends : (bytes : List ℕ) (ranges : List IpFragRange) (extent : Extent) (k : ℕ) → AreKept bytes ranges extent → 0 < (range_at ranges k).end → end_of (fragment_in bytes (range_at ranges k)) ≡ (range_at ranges k).end
 ends bytes ranges extent k are some = end_at bytes ranges extent.reach k are.apart (omega (arith, are.room, are.limit)) some
@@ -63,26 +64,26 @@ piece_at bytes ranges extent k are ended some =
       last = (λ m. e ∙ ((last.0 m).1 ∙ sym l), λ i. last.1 (ended, omega (arith, i)));
     }
 
-covered_at : (bytes : List ℕ) (ranges : List IpFragRange) (extent : Extent) (i : ℕ) → AreKept bytes ranges extent → i < extent.front → (f : Fragment) × Contains (held bytes ranges) f × Covers f i
-covered_at bytes ranges extent i are below =
+covered_at : (bytes : List ℕ) (ranges : List IpFragRange) (extent : Extent) (i : ℕ) → AreKept bytes ranges extent → (extent.reach + 7) / 8 ≤ extent.units → i < extent.reach → (f : Fragment) × Contains (held bytes ranges) f × Covers f i
+covered_at bytes ranges extent i are full below =
     let k : ℕ = i / 8 in
-    let some = are.front.covered k (omega arith) in
+    let some = each_come ranges ((extent.reach + 7) / 8) k (ends_at ranges extent.reach are.apart) (omega (arith, are.units)) (omega arith) in
     let own = are.apart.begins k some in
     let e = ends bytes ranges extent k are some in
-    let to : i < end_of (fragment_in bytes (range_at ranges k)) = elim (cases_lt (range_at ranges k).end extent.reach) [ inl l ↦ omega (arith, are.apart.more k some l) | inr l ↦ omega (arith, are.front.within) ] in
+    let to : i < end_of (fragment_in bytes (range_at ranges k)) = elim (cases_lt (range_at ranges k).end extent.reach) [ inl l ↦ omega (arith, are.apart.more k some l) | inr l ↦ omega arith ] in
     (fragment_in bytes (range_at ranges k), Contains_from_held bytes ranges k some, (omega arith, to))
 
-pub whole : (bytes : List ℕ) (ranges : List IpFragRange) (extent : Extent) → AreKept bytes ranges extent → extent.ended ≡ true → extent.reach ≤ extent.front → AreCutFrom (take extent.reach bytes) (held bytes ranges)
+pub whole : (bytes : List ℕ) (ranges : List IpFragRange) (extent : Extent) → AreKept bytes ranges extent → extent.ended ≡ true → (extent.reach + 7) / 8 ≤ extent.units → AreCutFrom (take extent.reach bytes) (held bytes ranges)
 whole bytes ranges extent are ended full =
     let l = length-take-le extent.reach bytes (omega (arith, are.room, are.limit)) in record {
       some = omega (arith, are.ended ended);
       pieces = λ f has. let h = held_from_Contains bytes ranges f has in subst (IsPieceOf (take extent.reach bytes)) h.is (piece_at bytes ranges extent h.at are ended h.some);
-      covered = λ i below. covered_at bytes ranges extent i are (omega arith);
+      covered = λ i below. covered_at bytes ranges extent i are full (omega arith);
       apart = apart_in bytes ranges extent are;
     }
 
 -- the end has not come, or a byte before it
-pub not_whole : (bytes : List ℕ) (ranges : List IpFragRange) (extent : Extent) → AreKept bytes ranges extent → (extent.ended ≡ false) ⊎ (extent.front < extent.reach) → (datagram : List ℕ) → ¬ AreCutFrom datagram (held bytes ranges)
+pub not_whole : (bytes : List ℕ) (ranges : List IpFragRange) (extent : Extent) → AreKept bytes ranges extent → (extent.ended ≡ false) ⊎ (extent.units < (extent.reach + 7) / 8) → (datagram : List ℕ) → ¬ AreCutFrom datagram (held bytes ranges)
 not_whole bytes ranges extent are (inl not_ended) datagram cut =
     let s = cut.some in
     let (f, has, cover) = cut.covered (length datagram - 1) (omega arith) in
@@ -91,24 +92,24 @@ not_whole bytes ranges extent are (inl not_ended) datagram cut =
     let m : (fragment_in bytes (range_at ranges h.at)).more ≡ false = ap (λ (x : Fragment). x.more) h.is ∙ p.last.1 (omega arith) in
     let t = ((are.last h.at h.some).0 m).0 in cc
 not_whole bytes ranges extent are (inr gap) datagram cut =
+    let each : (k : ℕ) → k < (extent.reach + 7) / 8 → 0 < (range_at ranges k).end = λ k below.
     let (j, is) = are.reached (omega arith) in
     let there : 0 < (range_at ranges j).end = omega arith in
     let w = (cut.pieces (fragment_in bytes (range_at ranges j)) (Contains_from_held bytes ranges j there)).within in
-    let (f, has, cover) = cut.covered extent.front (omega (arith, ends bytes ranges extent j are there)) in
+    let (f, has, cover) = cut.covered (8 * k) (omega (arith, ends bytes ranges extent j are there)) in
     let h = held_from_Contains bytes ranges f has in
-    let c : Covers (fragment_in bytes (range_at ranges h.at)) extent.front = subst (λ (x : Fragment). Covers x extent.front) (sym h.is) cover in
+    let c : Covers (fragment_in bytes (range_at ranges h.at)) (8 * k) = subst (λ (x : Fragment). Covers x (8 * k)) (sym h.is) cover in
     let e = ends bytes ranges extent h.at are h.some in
-    let u = are.front.unit gap in
-    let same = ap (λ (r : IpFragRange). r.end) (are.apart.same h.at (extent.front / 8) h.some (omega arith, omega arith)) in
-    omega (arith, are.front.gap gap, h.some)
+    rw (are.apart.same h.at k h.some (omega arith, omega arith)) h.some in
+    omega (arith, are.units, many_come ranges ((extent.reach + 7) / 8) each)
 
-pub whole_view : (bytes : List ℕ) (ranges : List IpFragRange) (extent : Extent) (discarded : Bool) (value : Option (List Fragment)) → kept discarded bytes ranges ≡ value → discarded ≡ false → AreKept bytes ranges extent → extent.ended ≡ true → extent.reach ≤ extent.front → IsWhole value (take extent.reach bytes) × ((datagram : List ℕ) → IsWhole value datagram → take extent.reach bytes ≡ datagram)
+pub whole_view : (bytes : List ℕ) (ranges : List IpFragRange) (extent : Extent) (discarded : Bool) (value : Option (List Fragment)) → kept discarded bytes ranges ≡ value → discarded ≡ false → AreKept bytes ranges extent → extent.ended ≡ true → (extent.reach + 7) / 8 ≤ extent.units → IsWhole value (take extent.reach bytes) × ((datagram : List ℕ) → IsWhole value datagram → take extent.reach bytes ≡ datagram)
 whole_view bytes ranges extent false value view alive are ended full =
     let w = whole bytes ranges extent are ended full in
     subst (λ (v : Option (List Fragment)). IsWhole v (take extent.reach bytes) × ((datagram : List ℕ) → IsWhole v datagram → take extent.reach bytes ≡ datagram)) view
     (w, λ datagram cut. one_cut (held bytes ranges) (take extent.reach bytes) datagram w cut)
 whole_view bytes ranges extent true value view alive are ended full = cc
 
-pub not_whole_view : (bytes : List ℕ) (ranges : List IpFragRange) (extent : Extent) (discarded : Bool) (value : Option (List Fragment)) → kept discarded bytes ranges ≡ value → discarded ≡ false → AreKept bytes ranges extent → (extent.ended ≡ false) ⊎ (extent.front < extent.reach) → (datagram : List ℕ) → ¬ IsWhole value datagram
+pub not_whole_view : (bytes : List ℕ) (ranges : List IpFragRange) (extent : Extent) (discarded : Bool) (value : Option (List Fragment)) → kept discarded bytes ranges ≡ value → discarded ≡ false → AreKept bytes ranges extent → (extent.ended ≡ false) ⊎ (extent.units < (extent.reach + 7) / 8) → (datagram : List ℕ) → ¬ IsWhole value datagram
 not_whole_view bytes ranges extent false value view alive are missing = subst (λ (v : Option (List Fragment)). (datagram : List ℕ) → ¬ IsWhole v datagram) view (not_whole bytes ranges extent are missing)
 not_whole_view bytes ranges extent true value view alive are missing = cc

@@ -1,5 +1,5 @@
 -- The fragments of one datagram (RFC 791 section 3.2, RFC 8200 section 4.5).
-use Rattle.std.specs.Prelude.{ℕ, ◌≡◌, ◌≢◌, ◌+◌, ◌*◌, ◌%◌, ◌<◌, ◌≤◌, ◌↔◌, ◌⊎◌, List, length}
+use Rattle.std.specs.Prelude.{ℕ, ◌≡◌, ◌≢◌, ◌+◌, ◌*◌, ◌/◌, ◌%◌, ◌<◌, ◌≤◌, ◌↔◌, ◌⊎◌, List, length}
 use Rattle.std.specs.Prelude.{Bool, true, false, Option, Some, None, slice_range, [], ◌∷◌, ◌++◌}
 use Rattle.std.specs.List.{Contains}
 
@@ -12,6 +12,10 @@ pub record Fragment : Type 0 where
 -- the place after its last byte
 abbrev pub end_of : Fragment → ℕ
 end_of f = f.start + length f.bytes
+
+-- how many units of 8 bytes it has, the last of which can be shorter
+abbrev pub units_of : Fragment → ℕ
+units_of f = (length f.bytes + 7) / 8
 
 -- it has the byte at this place
 abbrev pub Covers : Fragment → ℕ → Type 0

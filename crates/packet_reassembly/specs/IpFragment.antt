@@ -12,7 +12,7 @@ use Rattle.packet_reassembly.specs.declared.ip_fragment_slice.IpFragmentSlice.{I
 use Rattle.packet_reassembly.specs.declared.ipv6_fragment.Ipv6FragmentParts.{Ipv6FragmentParts}
 
 -- The packet, as far as its total length says, is an IPv4 header of a fragment and its bytes. The
--- header says which packet it is of, where it stands and whether more follow.
+-- header says which packet it is of, where it stands, whether more follow and what was fragmented.
 pub record HasIpv4Fragment (packet : List ℕ) (f : IpFragmentSlice) : Type 0 where
   pub header : Ipv4Header
   pub begins : BeginsWith IsIpv4Layout (ipv4_bytes header packet) header f.payload.now
@@ -20,10 +20,11 @@ pub record HasIpv4Fragment (packet : List ℕ) (f : IpFragmentSlice) : Type 0 wh
   pub id : f.ip ≡ Ipv4 header.source header.destination header.protocol header.identification
   pub offset : f.offset ≡ header.fragment_offset
   pub more : f.more_fragments ≡ header.more_fragments
+  pub next : f.next_header ≡ header.protocol
 
 -- The packet, as far as its payload length says, is an IPv6 header and what follows it: extension
 -- headers, a fragment header, and the bytes of the fragment. The fragment header says where it
--- stands and whether more follow.
+-- stands, whether more follow and what was fragmented.
 pub record HasIpv6Fragment (packet : List ℕ) (f : IpFragmentSlice) : Type 0 where
   pub header : Ipv6Header
   pub body : List ℕ
@@ -33,6 +34,7 @@ pub record HasIpv6Fragment (packet : List ℕ) (f : IpFragmentSlice) : Type 0 wh
   pub id : f.ip ≡ Ipv6 header.source header.destination parts.fragment.identification
   pub offset : f.offset ≡ parts.fragment.fragment_offset
   pub more : f.more_fragments ≡ parts.fragment.more_fragments
+  pub next : f.next_header ≡ parts.fragment.next_header
   pub payload : f.payload.now ≡ parts.payload.now
 
 abbrev pub HasIpFragment : List ℕ → IpFragmentSlice → Type 0

@@ -4,6 +4,7 @@ pub mod HeaderChain
 pub mod IpFragment
 pub mod Ipv6Fragment
 pub mod Packet
+pub mod PacketAdded
 pub mod Pool
 pub mod Refusal
 pub mod Table

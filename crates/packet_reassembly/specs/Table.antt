@@ -1,7 +1,8 @@
 -- The table of the fragments that have come: for each 8 bytes the range of the fragment that they
 -- came in.
-use Rattle.std.specs.Prelude.{ℕ, ◌≡◌, ◌+◌, ◌*◌, ◌/◌, ◌%◌, ◌<◌, ◌≤◌, ◌↔◌, List, length}
+use Rattle.std.specs.Prelude.{ℕ, ◌≡◌, ◌+◌, ◌-◌, ◌*◌, ◌/◌, ◌%◌, ◌<◌, ◌≤◌, ◌↔◌, List, length}
 use Rattle.std.specs.Prelude.{Bool, true, false, Option, Some, None, cond, map, filter, Contains}
+use Rattle.std.specs.Prelude.{count_by}
 use Rattle.std.specs.Prelude.{slice_index_or, slice_range, ◌==◌, not}
 use Rattle.packet_reassembly.specs.declared.ip_frag_range.IpFragRange.{IpFragRange}
 use Rattle.packet_reassembly.specs.declared.table.Extent.{Extent}
@@ -17,6 +18,10 @@ range_at ranges k = slice_index_or ranges k (record { start = 0; end = 0; more_f
 -- the range has the first byte of the unit k
 abbrev pub Begins : IpFragRange → ℕ → Type 0
 Begins range k = (range.start ≤ 8 * k) × (8 * k < range.end)
+
+-- how many units begin in the range
+abbrev pub units_at : IpFragRange → ℕ
+units_at range = (range.end + 7) / 8 - (range.start + 7) / 8
 
 -- no fragment has come that has bytes of the range
 abbrev pub IsClear : List IpFragRange → IpFragRange → Type 0
@@ -43,13 +48,6 @@ pub record AreApart (ranges : List IpFragRange) (reach : ℕ) : Type 0 where
   pub same : (j k : ℕ) → 0 < (range_at ranges j).end → Begins (range_at ranges j) k
       → range_at ranges k ≡ range_at ranges j
 
--- so many bytes have come with no gap before them
-pub record IsFront (ranges : List IpFragRange) (reach front : ℕ) : Type 0 where
-  pub within : front ≤ reach
-  pub covered : (k : ℕ) → 8 * k < front → 0 < (range_at ranges k).end
-  pub unit : front < reach → front % 8 ≡ 0
-  pub gap : front < reach → (range_at ranges (front / 8)).end ≡ 0
-
 -- the fragment that a range of the memory holds
 abbrev pub fragment_in : List ℕ → IpFragRange → Fragment
 fragment_in bytes range = record {
@@ -69,6 +67,10 @@ fragment_of range payload = record {
 -- the bytes have come
 abbrev pub has_come : IpFragRange → Bool
 has_come range = not (range.end == 0)
+
+-- how many units of 8 bytes have come; the last of a datagram can be shorter
+abbrev pub units_in : List IpFragRange → ℕ
+units_in ranges = count_by has_come ranges
 
 -- the fragments that are kept; one can be there more than once
 abbrev pub held : List ℕ → List IpFragRange → List Fragment
@@ -90,7 +92,7 @@ pub record AreKept (bytes : List ℕ) (ranges : List IpFragRange) (extent : Exte
   pub reached : 0 < extent.reach → (k : ℕ) × ((range_at ranges k).end ≡ extent.reach)
   pub unit : (k : ℕ) → (range_at ranges k).more_fragments ≡ true → (range_at ranges k).end % 8 ≡ 0
   pub ended : extent.ended ≡ true → 0 < extent.reach
-  pub front : IsFront ranges extent.reach extent.front
+  pub units : extent.units ≡ units_in ranges
 
 -- the range is that of a fragment that a datagram can have, with this payload
 pub record Fits (range : IpFragRange) (payload : List ℕ) : Type 0 where

@@ -1,8 +1,9 @@
 //! The fragments of one datagram, put together in memory that the caller lends.
 
-ghost use Rattle.std.specs.Prelude.{ℕ, ◌≡◌, ◌≤◌, ◌↔◌, List, [], IsTrue, length};
+ghost use Rattle.std.specs.Prelude.{ℕ, ◌≡◌, ◌≤◌, ◌↔◌, ◌+◌, ◌*◌, List, [], Contains, IsTrue, length};
 ghost use Rattle.std.specs.Prelude.{Some, None, IfErr, IfNone, IfOk, IfSome, OnErr, OnOk};
-ghost use Rattle.packet_reassembly.specs.Fragment.{fragment, IsRight, IsWhole, Takes};
+ghost use Rattle.packet_reassembly.specs.Fragment.{Fragment as F, IsRight, IsWhole, Takes, fragment};
+ghost use Rattle.packet_reassembly.specs.Fragment.{units_of};
 ghost use Rattle.packet_reassembly.specs.Refusal.{Refuses};
 ghost use Rattle.packet_reassembly.specs.Table.{Fits, fragment_of};
 
@@ -96,21 +97,67 @@ impl<'a> IpDefragBuf<'a> {
         ensures refused { IfErr result (Refuses (fragment offset more_fragments payload.now)) }
         ensures unchanged { OnErr result (self.new ≡ self.old) }
     {
-        let range = range_of(offset, more_fragments, payload)?;
+        self.add_counted(offset, more_fragments, payload).0
+    }
+
+    /// The result of [`IpDefragBuf::add`], and how many entries of the table were read or written:
+    /// at most two for each 8 bytes of the fragment and one more, whatever has come before. For a
+    /// new fragment that is kept it is exactly that. Apart from this the payload is compared or
+    /// copied at most once.
+    ///
+    /// # Errors
+    ///
+    /// Those of [`IpDefragBuf::add`].
+    ///
+    /// # Example
+    ///
+    /// ```
+    /// let mut bytes = [0; IpDefragBuf::MAX_LEN];
+    /// let mut ranges = [IpFragRange::default(); IpDefragBuf::RANGES];
+    /// let mut buf = IpDefragBuf::new(&mut bytes, &mut ranges);
+    /// let (added, entries) = buf.add_counted(IpFragOffset::ZERO, true, b"two units of 8b.");
+    /// assert!(rt; added.is_ok() && entries == 5);
+    /// // A duplicate is found by its first entry.
+    /// let (added, entries) = buf.add_counted(IpFragOffset::ZERO, true, b"two units of 8b.");
+    /// assert!(rt; added.is_ok() && entries == 1);
+    /// ```
+    pub fn add_counted(
+        &mut self,
+        offset: IpFragOffset,
+        more_fragments: bool,
+        payload: &[u8],
+    ) -> (Result<(), IpDefragError>, usize)
+        ensures taken { OnOk result.0 (Takes self.old (fragment offset more_fragments payload.now)
+            self.new) }
+        ensures right { OnOk result.0 (IsRight (fragment offset more_fragments payload.now)) }
+        ensures refused { IfErr result.0 (Refuses (fragment offset more_fragments payload.now)) }
+        ensures unchanged { OnErr result.0 (self.new ≡ self.old) }
+        ensures entries { OnOk result.0 ((old new : List F) →
+            self.old ≡ Some old → self.new ≡ Some new →
+            ¬ Contains old (fragment offset more_fragments payload.now) →
+            result.1 ≡ 2 * units_of (fragment offset more_fragments payload.now) + 1) }
+        ensures few_entries { result.1 ≤ 2 * units_of (fragment offset more_fragments payload.now) + 1 }
+    {
+        let range = match range_of(offset, more_fragments, payload) {
+            Ok(range) => range,
+            Err(e) => return (Err(e), 0),
+        };
         if self.discarded {
-            return Ok(());
+            return (Ok(()), 0);
         }
         let bytes = &mut *self.bytes;
         let ranges = &mut *self.ranges;
-        match arrival_of(bytes, ranges, self.extent, range, payload) {
+        let (arrival, read) = arrival_of(bytes, ranges, self.extent, range, payload);
+        match arrival {
             Arrival::New => {
-                self.extent = keep(bytes, ranges, self.extent, range, payload);
-                Ok(())
+                let (extent, written) = keep(bytes, ranges, self.extent, range, payload);
+                self.extent = extent;
+                (Ok(()), read + written)
             }
-            Arrival::Same => Ok(()),
+            Arrival::Same => (Ok(()), read),
             Arrival::Conflict => {
                 self.discarded = true;
-                Ok(())
+                (Ok(()), read)
             }
         }
     }
@@ -133,7 +180,7 @@ impl<'a> IpDefragBuf<'a> {
         if self.discarded {
             return None;
         }
-        if !self.extent.ended || self.extent.front < self.extent.reach {
+        if !self.extent.ended || self.extent.units < self.extent.reach.div_ceil(8) {
             return None;
         }
         Some(&self.bytes[..self.extent.reach])

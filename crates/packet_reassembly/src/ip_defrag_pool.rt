@@ -36,7 +36,7 @@ pub enum DatagramState {
 }
 
 /// What became of a fragment.
-#[derive(Clone, Copy, Debug)]
+#[derive(Clone, Copy, Debug, PartialEq, Eq)]
 pub struct Added {
     /// The slot of its datagram.
     pub slot: usize,

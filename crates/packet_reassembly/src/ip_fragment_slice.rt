@@ -12,7 +12,7 @@ ghost use Rattle.packet_reassembly.specs.IpFragment.{HasIpFragment, IsNoFragment
 
 use crate::ip_frag_id::IpFragVersionSpecId;
 use crate::ipv6_fragment::ipv6_fragment_parts;
-use etherparse::{IpFragOffset, Ipv4HeaderSlice, Ipv6Header, Ipv6HeaderSlice};
+use etherparse::{IpFragOffset, IpNumber, Ipv4HeaderSlice, Ipv6Header, Ipv6HeaderSlice};
 use packet_parts::ip_slice::{IpHeaderSlice, IpSlice, IpSliceError};
 
 /// A packet that is a fragment: which packet it is of, where it stands in that, and its bytes.
@@ -24,6 +24,9 @@ pub struct IpFragmentSlice<'a> {
     pub offset: IpFragOffset,
     /// Whether more fragments follow it.
     pub more_fragments: bool,
+    /// The number of what was fragmented, as this fragment has it: the protocol of IPv4; of IPv6 the
+    /// next header in its fragment header, which counts in the fragment at offset 0 alone.
+    pub next_header: IpNumber,
     /// Its bytes.
     pub payload: &'a [u8],
 }
@@ -91,6 +94,7 @@ fn ipv4_fragment<'a>(view: Ipv4HeaderSlice<'a>, payload: &'a [u8]) -> Option<IpF
         },
         offset: view.fragments_offset(),
         more_fragments: view.more_fragments(),
+        next_header: view.protocol(),
         payload,
     })
 }
@@ -127,6 +131,7 @@ fn ipv6_fragment<'a>(
         },
         offset: parts.fragment.fragment_offset,
         more_fragments: parts.fragment.more_fragments,
+        next_header: parts.fragment.next_header,
         payload: parts.payload,
     }))
 }

@@ -3,7 +3,7 @@
 ghost use Rattle.std.specs.Prelude.{◌≡◌, ◌↔◌, IsTrue};
 
 use crate::ip_defrag_error::IpDefragError;
-use crate::ip_defrag_pool::DatagramState;
+use crate::ip_defrag_pool::{Added, DatagramState};
 use crate::ip_frag_id::IpFragId;
 use crate::ip_frag_range::IpFragRange;
 
@@ -30,6 +30,14 @@ pub fn ip_frag_range_equality(one: &IpFragRange, other: &IpFragRange) -> bool
 
 /// States are equal exactly if they are the same variant.
 pub fn datagram_state_equality(one: &DatagramState, other: &DatagramState) -> bool
+    ensures same_value { IsTrue result ↔ (one.now ≡ other.now) }
+{
+    one == other
+}
+
+/// What became of two fragments is equal exactly if they have the same slot, the same is known of
+/// their datagrams, and the same datagram was given up for them.
+pub fn added_equality(one: &Added, other: &Added) -> bool
     ensures same_value { IsTrue result ↔ (one.now ≡ other.now) }
 {
     one == other

@@ -4,9 +4,9 @@ ghost use Rattle.std.specs.Prelude.{ℕ, ◌≡◌, ◌*◌, ◌+◌, ◌<◌, �
 ghost use Rattle.std.specs.Prelude.{◌↔◌, slice_range};
 ghost use Rattle.packet_reassembly.specs.Fragment.{Takes};
 ghost use Rattle.packet_reassembly.specs.declared.table.Arrival.TheVariants.{New};
-ghost use Rattle.packet_reassembly.specs.Table.{AreKept, AreApart, Arrives, IsClear, IsFront};
-ghost use Rattle.packet_reassembly.specs.Table.{IsMarked, IsTaken, Fits, fragment_of, held};
-ghost use Rattle.packet_reassembly.specs.Table.{range_at};
+ghost use Rattle.packet_reassembly.specs.Table.{AreKept, Arrives, IsClear, IsMarked, IsTaken};
+ghost use Rattle.packet_reassembly.specs.Table.{Fits, fragment_of, held, range_at, units_at};
+ghost use Rattle.packet_reassembly.specs.Table.{units_in};
 
 use crate::ip_frag_range::IpFragRange;
 
@@ -17,8 +17,8 @@ pub struct Extent {
     pub reach: usize,
     /// Whether the last fragment has come.
     pub ended: bool,
-    /// How many bytes have come with no gap before them.
-    pub front: usize,
+    /// How many units of 8 bytes have come; the last unit of a datagram can be shorter.
+    pub units: usize,
 }
 
 impl Extent {
@@ -26,7 +26,7 @@ impl Extent {
     pub const NONE: Extent = Extent {
         reach: 0,
         ended: false,
-        front: 0,
+        units: 0,
     };
 }
 
@@ -41,20 +41,26 @@ pub enum Arrival {
     Conflict,
 }
 
-/// Whether no fragment has come that has bytes of a range.
-pub fn is_clear(ranges: &[IpFragRange], range: IpFragRange) -> bool
+/// Whether no fragment has come that has bytes of a range, and how many entries of the table were
+/// read.
+pub fn is_clear(ranges: &[IpFragRange], range: IpFragRange) -> (bool, usize)
     requires table { 8192 ≤ length ranges.now }
-    ensures clear { IsTrue result → IsClear ranges.now range }
-    ensures taken { IsFalse result → IsTaken ranges.now range }
+    requires order { range.start ≤ range.end }
+    ensures clear { IsTrue result.0 → IsClear ranges.now range }
+    ensures taken { IsFalse result.0 → IsTaken ranges.now range }
+    ensures all { IsTrue result.0 → result.1 ≡ units_at range }
+    ensures few { result.1 ≤ units_at range }
 {
     let mut unit = usize::from(range.start).div_ceil(8);
+    let mut entries = 0;
     while 8 * unit < usize::from(range.end) {
+        entries += 1;
         if ranges[unit].end != 0 {
-            return false;
+            return (false, entries);
         }
         unit += 1;
     }
-    true
+    (true, entries)
 }
 
 /// Takes out what the table has for its first units; it has nothing for the others.
@@ -71,34 +77,24 @@ pub fn clear(ranges: &mut [IpFragRange], units: usize)
     }
 }
 
-/// Notes a fragment in the table.
-pub fn mark(ranges: &mut [IpFragRange], range: IpFragRange)
+/// Notes a new fragment in the table. Returns how many entries were written.
+pub fn mark(ranges: &mut [IpFragRange], range: IpFragRange) -> usize
     requires table { 8192 ≤ length ranges.old }
+    requires order { range.start ≤ range.end }
+    requires clear { IsClear ranges.old range }
     ensures len { length ranges.new ≡ length ranges.old }
     ensures marked { IsMarked ranges.old range ranges.new }
+    ensures all { result ≡ units_at range }
+    ensures come { units_in ranges.new ≡ units_in ranges.old + result }
 {
     let mut unit = usize::from(range.start).div_ceil(8);
+    let mut entries = 0;
     while 8 * unit < usize::from(range.end) {
+        entries += 1;
         ranges[unit] = range;
         unit += 1;
     }
-}
-
-/// How many bytes have come with no gap before them, if so many have.
-pub fn front_of(ranges: &[IpFragRange], front: usize, reach: usize) -> usize
-    requires table { 8192 ≤ length ranges.now }
-    requires apart { AreApart ranges.now reach }
-    requires limit { reach ≤ 65535 }
-    requires within { front ≤ reach }
-    requires unit { front < reach → front % 8 ≡ 0 }
-    requires covered { (k : ℕ) → 8 * k < front → 0 < (range_at ranges.now k).end }
-    ensures front { IsFront ranges.now reach result }
-{
-    let mut front = front;
-    while front < reach && ranges[front / 8].end != 0 {
-        front = usize::from(ranges[front / 8].end);
-    }
-    front
+    entries
 }
 
 // Whether the ranges are the same.
@@ -117,60 +113,65 @@ fn holds(bytes: &[u8], range: IpFragRange, payload: &[u8]) -> bool
     &bytes[usize::from(range.start)..usize::from(range.end)] == payload
 }
 
-/// How a fragment stands to those that have come.
+/// How a fragment stands to those that have come, and how many entries of the table were read.
 pub fn arrival_of(
     bytes: &[u8],
     ranges: &[IpFragRange],
     extent: Extent,
     range: IpFragRange,
     payload: &[u8],
-) -> Arrival
+) -> (Arrival, usize)
     requires kept { AreKept bytes.now ranges.now extent }
     requires fits { Fits range payload.now }
-    ensures arrives { Arrives bytes.now ranges.now extent range payload.now result }
+    ensures arrives { Arrives bytes.now ranges.now extent range payload.now result.0 }
+    ensures all { result.0 ≡ New → result.1 ≡ units_at range + 1 }
+    ensures few { result.1 ≤ units_at range + 1 }
 {
     let end = usize::from(range.end);
     if extent.ended && end > extent.reach {
-        return Arrival::Conflict;
+        return (Arrival::Conflict, 0);
     }
     if !range.more_fragments && end < extent.reach {
-        return Arrival::Conflict;
+        return (Arrival::Conflict, 0);
     }
     if is_range(ranges[usize::from(range.start) / 8], range) {
         if holds(bytes, range, payload) {
-            return Arrival::Same;
+            return (Arrival::Same, 1);
         }
-        return Arrival::Conflict;
+        return (Arrival::Conflict, 1);
     }
-    if is_clear(ranges, range) {
-        Arrival::New
+    let (clear, entries) = is_clear(ranges, range);
+    if clear {
+        (Arrival::New, entries + 1)
     } else {
-        Arrival::Conflict
+        (Arrival::Conflict, entries + 1)
     }
 }
 
-/// Keeps a new fragment.
+/// Keeps a new fragment. Returns how far the datagram goes then, and how many entries of the table
+/// were written.
 pub fn keep(
     bytes: &mut [u8],
     ranges: &mut [IpFragRange],
     extent: Extent,
     range: IpFragRange,
     payload: &[u8],
-) -> Extent
+) -> (Extent, usize)
     requires kept { AreKept bytes.old ranges.old extent }
     requires fits { Fits range payload.now }
     requires new { Arrives bytes.old ranges.old extent range payload.now New }
-    ensures kept { AreKept bytes.new ranges.new result }
+    ensures kept { AreKept bytes.new ranges.new result.0 }
     ensures takes { Takes (Some (held bytes.old ranges.old)) (fragment_of range payload.now)
         (Some (held bytes.new ranges.new)) }
+    ensures all { result.1 ≡ units_at range }
 {
     let end = usize::from(range.end);
     bytes[usize::from(range.start)..end].copy_from_slice(payload);
-    mark(ranges, range);
-    let reach = extent.reach.max(end);
-    Extent {
-        reach,
+    let entries = mark(ranges, range);
+    let extent = Extent {
+        reach: extent.reach.max(end),
         ended: extent.ended | !range.more_fragments,
-        front: front_of(ranges, extent.front, reach),
-    }
+        units: extent.units + entries,
+    };
+    (extent, entries)
 }

@@ -21,4 +21,5 @@ returns-clause-found c = λ packet header begins front.
       id = cc;
       offset = c.fragments_offset.ensures.value header is_layout;
       more = c.more_fragments.ensures.value header is_layout;
+      next = c.protocol-2.ensures.value header is_layout;
     })

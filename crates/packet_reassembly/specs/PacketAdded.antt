@@ -1,0 +1,64 @@
+-- A packet whose fragment is added to a pool.
+use Rattle.std.specs.Prelude.{ℕ, ◌≡◌, List, Option}
+use Rattle.packet_parts.specs.IpSlice.{RefusesIp}
+use Rattle.packet_reassembly.specs.Fragment.{Fragment, IsRight, fragment}
+use Rattle.packet_reassembly.specs.HeaderChain.{HasWholeChain, LacksChain}
+use Rattle.packet_reassembly.specs.IpFragment.{HasIpFragment}
+use Rattle.packet_reassembly.specs.Pool.{IsAdded, OthersStay}
+use Rattle.packet_reassembly.specs.Refusal.{Refuses}
+use Rattle.packet_reassembly.specs.declared.ip_defrag_error.IpDefragError.{IpDefragError}
+use Rattle.packet_reassembly.specs.declared.ip_defrag_packet.IpDefragPacketError.{IpDefragPacketError}
+use Rattle.packet_reassembly.specs.declared.ip_defrag_packet.IpDefragPacketError.TheVariants as why
+use Rattle.packet_reassembly.specs.declared.ip_defrag_pool.Added.{Added}
+use Rattle.packet_reassembly.specs.declared.ip_defrag_pool.IpDefragSlot.{IpDefragSlot}
+use Rattle.packet_reassembly.specs.declared.ip_frag_id.IpFragId.{IpFragId}
+use Rattle.packet_reassembly.specs.declared.ip_frag_id.IpFragVersionSpecId.{IpFragVersionSpecId}
+use Rattle.packet_reassembly.specs.declared.ip_frag_id.IpFragVersionSpecId.TheVariants as version
+use Rattle.packet_reassembly.specs.declared.ip_fragment_slice.IpFragmentSlice.{IpFragmentSlice}
+
+-- the fragment that a packet is, as one of its datagram
+abbrev pub fragment_of_packet : IpFragmentSlice → Fragment
+fragment_of_packet f = fragment f.offset f.more_fragments f.payload.now
+
+-- the datagram that it is of, in these VLANs
+abbrev pub id_of : Option ℕ → Option ℕ → IpFragmentSlice → IpFragId
+id_of outer inner f = record { outer_vlan_id = outer; inner_vlan_id = inner; ip = f.ip }
+
+-- these are the fields of an IPv6 packet
+abbrev pub IsIpv6 : IpFragVersionSpecId → Type 0
+IsIpv6 (version.Ipv4 source destination protocol identification) = ⊥
+IsIpv6 (version.Ipv6 source destination identification) = Unit {0}
+
+-- It is the first of an IPv6 packet. The whole header chain has to be in it (RFC 7112 section 5).
+abbrev pub IsFirstOfIpv6 : IpFragmentSlice → Type 0
+IsFirstOfIpv6 f = IsIpv6 f.ip × (f.offset ≡ 0)
+
+-- the packet is a fragment that a datagram can have, and that fragment is added
+pub record IsPacketAdded (old : List IpDefragSlot) (packet : List ℕ) (outer inner : Option ℕ)
+    (timeout now : ℕ) (new : List IpDefragSlot) (added : Added) : Type 0 where
+  pub f : IpFragmentSlice
+  pub has : HasIpFragment packet f
+  pub chain : IsFirstOfIpv6 f → HasWholeChain f.next_header f.payload.now
+  pub right : IsRight (fragment_of_packet f)
+  pub is_added : IsAdded old (id_of outer inner f) timeout now (fragment_of_packet f) added new
+  pub others : OthersStay old (id_of outer inner f) added.given_up new
+
+-- it is the first fragment of an IPv6 packet, and lacks a part of the header chain
+pub record HasLackingChain (packet : List ℕ) : Type 0 where
+  pub f : IpFragmentSlice
+  pub has : HasIpFragment packet f
+  pub first : IsFirstOfIpv6 f
+  pub lacks : LacksChain f.next_header f.payload.now
+
+-- it is a fragment that no datagram can have
+pub record HasRefusedFragment (packet : List ℕ) (e : IpDefragError) : Type 0 where
+  pub f : IpFragmentSlice
+  pub has : HasIpFragment packet f
+  pub chain : IsFirstOfIpv6 f → HasWholeChain f.next_header f.payload.now
+  pub refused : Refuses (fragment_of_packet f) e
+
+-- why nothing is added: the first of these that holds
+abbrev pub RefusesPacket : List ℕ → IpDefragPacketError → Type 0
+RefusesPacket packet (why.Packet e) = RefusesIp packet e
+RefusesPacket packet why.HeaderChain = HasLackingChain packet
+RefusesPacket packet (why.Fragment e) = HasRefusedFragment packet e
