@@ -18,6 +18,7 @@ text in hex. The same arguments give the same cases. KIND is
     values   numbers, addresses, ranges and the like in all their forms and nearly so, on frames
              that have them
     real     those of real.txt in turn, on frames with their addresses and ports
+    masks    expressions that are mostly about networks with masks
 
 `--frames` is how many frames an expression gets. The addresses, ports and flags come from small
 pools, and half of what an expression names is taken from its first frame, so that about half of the
@@ -72,6 +73,7 @@ class Cases:
         self.facts = {}
         self.hardware, self.ports = HARDWARE, PORTS
         self.addresses4, self.addresses6 = ADDRESSES4, ADDRESSES6
+        self.masks = 0.15
         here = os.path.dirname(os.path.abspath(__file__))
         with open(os.path.join(here, 'real.txt'), encoding='ascii') as file:
             self.real = [line.split('\t')[1] for line in file.read().splitlines()]
@@ -364,8 +366,27 @@ class Cases:
             front = [*protocol, *self.direction(), 'host']
         return self.headed(front, lambda: self.other_address(protocol))
 
+    def octets_of(self, number):
+        """an IPv4 address, now and then without its last octets if they are 0"""
+        parts = list(number.to_bytes(4, 'big'))
+        while len(parts) > 2 and parts[-1] == 0 and self.chance(0.3):
+            parts.pop()
+        return '.'.join(map(str, parts))
+
+    def masked_word(self, address):
+        """an IPv4 net with a mask of any bits, now and then one that lacks bits of the address"""
+        mask = self.pick([0xff000000, 0xffff0000, 0xffffff00, 0xffffffff, 0xfff00000, 0xff00ff00,
+                          0xff0000ff, 0x000000ff, 0x0f0f0f0f, 0xaaaaaaaa, 1, 0x80000000, 0,
+                          self.dice.getrandbits(32)])
+        number = grammar.ipv4(address)[1]
+        if not self.chance(0.05):
+            number &= mask
+        return f'{self.octets_of(number)} mask {self.octets_of(mask)}'
+
     def net_word(self, address):
         """a net with an address, now and then with bits after its prefix, which libpcap refuses"""
+        if ':' not in address and self.chance(self.masks):
+            return self.masked_word(address)
         version, number = grammar.address(address)
         width = 32 if version == 4 else 128
         bits = self.pick([0, 4, 8, 12, 16, 24, 25, 32] if version == 4 else
@@ -532,6 +553,8 @@ class Cases:
             self.ether_host] * 6 + [self.net] * 7 + [self.ether_proto] * 4 + [self.vlan] * 4 + [
             self.proto] * 4 + [self.length] * 3 + [self.cast] * 3 + [self.fragment] * 2 + [
             self.checksum_wrong]
+        if self.masks > 0.5:
+            makers = [self.net] * 16 + [self.host] * 2 + [self.word, self.port]
         return self.pick(makers)()
 
     def negated(self, words):
@@ -567,7 +590,8 @@ class Cases:
         """a text of the language"""
         count = self.pick([1, 1, 1, 2, 2, 2, 3, 3, 4, 5, 8])
         while True:
-            words = self.level(count)
+            # a value can be several words
+            words = ' '.join(self.level(count)).split(' ')
             if len(words) <= grammar.MAX_WORDS:
                 return self.spaced(words)
 
@@ -690,6 +714,11 @@ class Cases:
             address = self.pick([self.odd_address4, self.odd_address6])()
             return address + self.pick(['', f'/{self.dice.randrange(34)}', '/128', '/129', '/0',
                                         f'/{self.odd_number(8)}', '/', '/08'])
+        if kind == 'mask':
+            if self.chance(0.5):
+                return self.masked_word('.'.join(map(str, self.some_bytes(4))))
+            value = f'{self.odd_address4()} mask {self.odd_address4()}'
+            return value + self.pick(['', '', '', '/8', ' mask 255.0', ' or 10.0 mask 255.0'])
         if kind == 'host':
             return self.pick([self.odd_address4, self.odd_address6])()
         if kind == 'range':
@@ -713,15 +742,17 @@ class Cases:
         """a primitive with a value, which fits its head most of the time"""
         kind, head = self.pick([
             ('net', 'net'), ('net', 'ip net'), ('net', 'src net'), ('net', 'ip6 dst net'),
-            ('net', 'net 10 or'), ('host', 'host'), ('host', 'ip6 host'), ('host', 'src'),
-            ('host', 'arp host'), ('host', 'host ::1 or'), ('host', ''), ('number', 'port'),
+            ('net', 'net 10 or'), ('mask', 'net'), ('mask', 'arp src net'), ('mask', 'net 10 or'),
+            ('mask', self.pick(['host', 'src', 'ip6 net', 'net not', 'net 10.0/8 or'])),
+            ('host', 'host'), ('host', 'ip6 host'), ('host', 'src'), ('host', 'arp host'),
+            ('host', 'host ::1 or'), ('host', ''), ('number', 'port'),
             ('number', 'port 80 or not'), ('range', 'portrange'), ('number', 'proto'),
             ('number', 'ip proto'), ('number', 'ether proto'), ('hardware', 'ether host'),
             ('hardware', 'ether src'), ('number', 'vlan'), ('number', 'less'),
             ('number', 'greater'), ('number', 'len ='), ('number', 'len & 0xff ='),
             ('number', 'ip[0] & ( 0 |'), ('place', 'ip ['), ('place', 'ether [')])
         if self.chance(0.05):
-            kind = self.pick(['net', 'host', 'range', 'hardware', 'place', 'number'])
+            kind = self.pick(['net', 'mask', 'host', 'range', 'hardware', 'place', 'number'])
         words = [*head.split(), self.odd_value(kind)]
         words += {'[': ['] >= 0'], '|': [') = 0']}.get(head[-1:], [])
         return ' '.join(words).encode('latin-1')
@@ -736,6 +767,10 @@ class Cases:
             tree = tree[-1]
         if tree[0] == 'len' or tree[0] in ('less', 'greater'):
             wire = min(max(0, tree[-1] + self.pick([0, 0, 1, -1])), 2**32 - 1)
+        if tree[0] == 'masked' and frame[12:14] == b'\x08\0':
+            found = tree[-2] | self.dice.getrandbits(32) & ~tree[-1]
+            found ^= self.pick([0, 0, 0, 1, 1 << 31, 1 << self.dice.randrange(32)])
+            frame = frame[:26] + found.to_bytes(4, 'big') + frame[30:]
         if tree[0] == 'ether-type':
             frame = frame[:12] + struct.pack('>H', tree[1]) + frame[14:]
         if tree[0] == 'vlan' and tree[1] is not None:
@@ -763,17 +798,19 @@ def main():
     parser.add_argument('--count', type=int, default=10000)
     parser.add_argument('--kind', default='plain',
                         choices=['plain', 'other', 'covered', 'bytes', 'words', 'changed', 'ways',
-                                 'links', 'real', 'values'])
+                                 'links', 'real', 'values', 'masks'])
     parser.add_argument('--frames', type=int, default=2)
     asked = parser.parse_args()
     cases = Cases(asked.seed)
+    if asked.kind == 'masks':
+        cases.masks = 0.8
     done = 0
     while done < asked.count:
         if asked.kind == 'real':
             text = cases.real[done // asked.frames % len(cases.real)].encode('ascii')
             cases.aim(text)
         first, link_type = cases.frame(asked.kind != 'other'), 1
-        if asked.kind in ('plain', 'other'):
+        if asked.kind in ('plain', 'other', 'masks'):
             text = cases.expression()
             frames = [first] + [cases.frame(asked.kind != 'other')
                                 for _ in range(asked.frames - 1)]
