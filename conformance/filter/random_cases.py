@@ -18,7 +18,7 @@ text in hex. The same arguments give the same cases. KIND is
     values   numbers, addresses, ranges and the like in all their forms and nearly so, on frames
              that have them
     real     those of real.txt in turn, on frames with their addresses and ports
-    masks    expressions that are mostly about networks with masks
+    masks    expressions that are mostly about networks with masks, and what is nearly one
 
 `--frames` is how many frames an expression gets. The addresses, ports and flags come from small
 pools, and half of what an expression names is taken from its first frame, so that about half of the
@@ -73,7 +73,8 @@ class Cases:
         self.facts = {}
         self.hardware, self.ports = HARDWARE, PORTS
         self.addresses4, self.addresses6 = ADDRESSES4, ADDRESSES6
-        self.masks = 0.15
+        # how many networks of IPv4 have a mask
+        self.masks = 0
         here = os.path.dirname(os.path.abspath(__file__))
         with open(os.path.join(here, 'real.txt'), encoding='ascii') as file:
             self.real = [line.split('\t')[1] for line in file.read().splitlines()]
@@ -385,7 +386,7 @@ class Cases:
 
     def net_word(self, address):
         """a net with an address, now and then with bits after its prefix, which libpcap refuses"""
-        if ':' not in address and self.chance(self.masks):
+        if self.masks and ':' not in address and self.chance(self.masks):
             return self.masked_word(address)
         version, number = grammar.address(address)
         width = 32 if version == 4 else 128
@@ -553,7 +554,7 @@ class Cases:
             self.ether_host] * 6 + [self.net] * 7 + [self.ether_proto] * 4 + [self.vlan] * 4 + [
             self.proto] * 4 + [self.length] * 3 + [self.cast] * 3 + [self.fragment] * 2 + [
             self.checksum_wrong]
-        if self.masks > 0.5:
+        if self.masks:
             makers = [self.net] * 16 + [self.host] * 2 + [self.word, self.port]
         return self.pick(makers)()
 
@@ -714,11 +715,6 @@ class Cases:
             address = self.pick([self.odd_address4, self.odd_address6])()
             return address + self.pick(['', f'/{self.dice.randrange(34)}', '/128', '/129', '/0',
                                         f'/{self.odd_number(8)}', '/', '/08'])
-        if kind == 'mask':
-            if self.chance(0.5):
-                return self.masked_word('.'.join(map(str, self.some_bytes(4))))
-            value = f'{self.odd_address4()} mask {self.odd_address4()}'
-            return value + self.pick(['', '', '', '/8', ' mask 255.0', ' or 10.0 mask 255.0'])
         if kind == 'host':
             return self.pick([self.odd_address4, self.odd_address6])()
         if kind == 'range':
@@ -742,20 +738,31 @@ class Cases:
         """a primitive with a value, which fits its head most of the time"""
         kind, head = self.pick([
             ('net', 'net'), ('net', 'ip net'), ('net', 'src net'), ('net', 'ip6 dst net'),
-            ('net', 'net 10 or'), ('mask', 'net'), ('mask', 'arp src net'), ('mask', 'net 10 or'),
-            ('mask', self.pick(['host', 'src', 'ip6 net', 'net not', 'net 10.0/8 or'])),
-            ('host', 'host'), ('host', 'ip6 host'), ('host', 'src'), ('host', 'arp host'),
-            ('host', 'host ::1 or'), ('host', ''), ('number', 'port'),
+            ('net', 'net 10 or'), ('host', 'host'), ('host', 'ip6 host'), ('host', 'src'),
+            ('host', 'arp host'), ('host', 'host ::1 or'), ('host', ''), ('number', 'port'),
             ('number', 'port 80 or not'), ('range', 'portrange'), ('number', 'proto'),
             ('number', 'ip proto'), ('number', 'ether proto'), ('hardware', 'ether host'),
             ('hardware', 'ether src'), ('number', 'vlan'), ('number', 'less'),
             ('number', 'greater'), ('number', 'len ='), ('number', 'len & 0xff ='),
             ('number', 'ip[0] & ( 0 |'), ('place', 'ip ['), ('place', 'ether [')])
         if self.chance(0.05):
-            kind = self.pick(['net', 'mask', 'host', 'range', 'hardware', 'place', 'number'])
+            kind = self.pick(['net', 'host', 'range', 'hardware', 'place', 'number'])
         words = [*head.split(), self.odd_value(kind)]
         words += {'[': ['] >= 0'], '|': [') = 0']}.get(head[-1:], [])
         return ' '.join(words).encode('latin-1')
+
+    def masked_net(self):
+        """a network with a mask, or nearly, after words that can have one most of the time"""
+        front = self.pick(['net', 'net', 'src net', 'dst net', 'src or dst net', 'src and dst net',
+                           'ip net', 'arp net', 'rarp dst net', 'not net', 'net not', 'net 10 or',
+                           'net 10.0/8 or', 'net 1.2 mask 255.255 or', 'port 80 or net', 'net (',
+                           'host', 'src', 'ip6 net', 'tcp net', 'ether net', 'host 10.0.0.1 or'])
+        if self.chance(0.5):
+            value = self.masked_word('.'.join(map(str, self.some_bytes(4))))
+        else:
+            value = f'{self.odd_address4()} mask {self.odd_address4()}'
+            value += self.pick(['', '', '', '/8', ' mask 255.0', ' or 10.0 mask 255.0'])
+        return f'{front} {value}{")" if "(" in front else ""}'.encode('latin-1')
 
     def frame_of(self, text):
         """a frame that has what a text names, if it is an expression, and its length"""
@@ -810,7 +817,10 @@ def main():
             text = cases.real[done // asked.frames % len(cases.real)].encode('ascii')
             cases.aim(text)
         first, link_type = cases.frame(asked.kind != 'other'), 1
-        if asked.kind in ('plain', 'other', 'masks'):
+        if asked.kind == 'masks' and cases.chance(0.3):
+            text = cases.masked_net()
+            frames = [cases.frame_of(text)]
+        elif asked.kind in ('plain', 'other', 'masks'):
             text = cases.expression()
             frames = [first] + [cases.frame(asked.kind != 'other')
                                 for _ in range(asked.frames - 1)]
