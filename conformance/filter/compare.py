@@ -44,6 +44,12 @@ def net_text(protocol, direction, version, address, bits):
     return f'{front}{ENDS[direction]} {value}'
 
 
+def masked_net_text(protocol, direction, address, mask):
+    front = f'{protocol} ' if protocol else ''
+    return (f'{front}{ENDS[direction]} net {ipaddress.IPv4Address(address)}'
+            f' mask {ipaddress.IPv4Address(mask)}')
+
+
 def ports_text(transport, direction, low, high):
     front = f'{transport} ' if transport else ''
     value = f'port {low}' if low == high else f'portrange {low}-{high}'
@@ -69,6 +75,7 @@ TEXTS = {
     'ether-type': lambda number: f'ether proto {number}',
     'proto': lambda version, number: f'{VERSIONS[version]}proto {number}',
     'net': net_text,
+    'masked': masked_net_text,
     'ports': ports_text,
     'ether-host': lambda direction, address: f'ether {ENDS[direction]} host ' + ':'.join(
         '%02x' % byte for byte in address.to_bytes(6, 'big')),

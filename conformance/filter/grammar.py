@@ -119,6 +119,16 @@ def net4(word):
     return None if bits is None else (4, int.from_bytes(octets, 'big'), bits)
 
 
+def octets(word):
+    """two to four decimal octets of an IPv4 address, the others 0, as the number they make"""
+    parts = word.split('.')
+    if not 2 <= len(parts) <= 4 or not all(re.fullmatch('0|[1-9][0-9]{0,2}', p) for p in parts):
+        return None
+    if max(map(int, parts)) > 255:
+        return None
+    return int.from_bytes(bytes([*map(int, parts), 0, 0][:4]), 'big')
+
+
 def net6(word):
     front, slash, length = word.partition('/')
     found, bits = ipv6(front), digits(length, 128) if slash else 128
@@ -194,7 +204,8 @@ VALUES = {
     'range': port_range, 'ip-number': ip_number, 'ether-type': ether_type,
     'hardware-address': hardware_address, 'place': place,
     'host': host_of(address), 'host4': host_of(ipv4), 'host6': host_of(ipv6),
-    'net': lambda word: net4(word) or net6(word), 'net4': net4, 'net6': net6}
+    'net': lambda word: net4(word) or net6(word), 'net4': net4, 'net6': net6,
+    'octets': octets, 'mask': octets}
 
 # ---- phrases: the words of a primitive. A string is a fixed word, `<kind>` a value of that kind,
 # '' nothing. A list is a choice, a tuple one after the other. ('note', EVENT, PHRASE) notes an
@@ -241,7 +252,7 @@ UNSUPPORTED = set(r"""fddi tr wlan link ppp radio slip atalk aarp ipx iso netbeu
     l1 l2 iih lsp snp csnp psnp \atalk \aarp \ipx \iso \netbeui \stp llc inbound outbound ifname on
     rnr rulenum reason rset ruleset srnr subrulenum action ra ta addr1 addr2 addr3 addr4 type
     subtype dir mpls pppoed pppoes geneve vpi vci lane oam oamf4 oamf4e oamf4s metac bcc sc ilmic
-    connectmsg metaconnect gateway protochain mask""".split())
+    connectmsg metaconnect gateway protochain""".split())
 
 # a number, or a list of numbers in parentheses, that stands for their bitwise or
 CONSTANT = 'span', 'sum', ['<number>', ('(', '<number>', ('repeat', ('|', '<number>')), ')')]
@@ -251,11 +262,14 @@ TERM = [put('len', 'len'), ([put(word, word) for word in LOADS], '[', '<place>',
 MASKED_TERM = [(TERM, '&', CONSTANT), ('inside', 'masked term')]
 COMPARISON = [TERM, MASKED_TERM], RELATION, CONSTANT
 
+# an IPv4 network by its address and a mask, which has all bits of the address (`step`)
+WITH_MASK = '<octets>', 'mask', '<mask>'
 # What the value of a head is, by the kind of the head; none is `host` without a word for it.
 VALUE_AFTER = {
-    'none': '<host>', 'host': '<host>', 'host4': '<host4>', 'host6': '<host6>', 'net': '<net>',
-    'net4': '<net4>', 'net6': '<net6>', 'port': '<port>', 'portrange': '<range>',
-    'proto': '<ip-number>', 'ether-proto': '<ether-type>', 'ether-host': '<hardware-address>'}
+    'none': '<host>', 'host': '<host>', 'host4': '<host4>', 'host6': '<host6>',
+    'net': ['<net>', WITH_MASK], 'net4': ['<net4>', WITH_MASK], 'net6': '<net6>',
+    'port': '<port>', 'portrange': '<range>', 'proto': '<ip-number>',
+    'ether-proto': '<ether-type>', 'ether-host': '<hardware-address>'}
 NO_HEAD = 'host', None, 'either'
 
 
@@ -426,12 +440,20 @@ def terminals(word):
 
 # ---- reading
 
+def is_mask_of(noted, word):
+    """whether the mask has all bits of the address two words before it"""
+    address = noted[0][2]
+    return octets(address) & ~octets(word) == 0
+
+
 def step(network, ways, word):
     """all ways on with a word. A way is a state, the states to return to, and what was noted."""
     found = []
     for state, returns, noted in ways:
         table = network.next_words[state]
         for terminal in terminals(word):
+            if terminal == '<mask>' and terminal in table and not is_mask_of(noted, word):
+                continue
             for after, events in table.get(terminal, ()):
                 found.append((after, returns, (noted, events, word)))
         if word == '(':
@@ -524,7 +546,9 @@ def operand(given, at, head):
             end += 1
         span, at = given[at + 1:end], end + 1
         if name == 'value':
-            tree = valued(head, span[0][1])
+            words = words_in(span)
+            tree = valued(head, *words) if len(words) == 1 else (
+                'masked', *head[1:], octets(words[0]), octets(words[2]))
         elif name in HEADS:
             head = (name, *puts(span))
             tree, at, _ = operand(given, at, head)

@@ -236,6 +236,13 @@ def is_net(frame, wire, protocol, direction, version, address, bits):
     return of_ends(direction, *addresses(frame, protocol), within)
 
 
+def has_masked(frame, wire, protocol, direction, address, mask):
+    """an IPv4 network by its address and the bits that count"""
+    def within(found):
+        return found is not None and found[0] == 4 and found[1] & mask == address & mask
+    return of_ends(direction, *addresses(frame, protocol), within)
+
+
 def has_port(frame, wire, transport, direction, low, high):
     ip = frame.ip
     if ip is None or ip.later or len(ip.payload) < 4:
@@ -259,6 +266,7 @@ PRIMITIVES = {
     'ether-type': lambda frame, wire, number: frame.ether_type == number,
     'proto': lambda frame, wire, version, number: has_number(frame, version, number),
     'net': is_net,
+    'masked': has_masked,
     'ports': has_port,
     'ether-host': lambda frame, wire, direction, address: bool(frame.ethernet) and of_ends(
         direction, number_at(frame.ethernet, 6, 6), number_at(frame.ethernet, 0, 6),

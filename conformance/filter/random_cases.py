@@ -18,6 +18,7 @@ text in hex. The same arguments give the same cases. KIND is
     values   numbers, addresses, ranges and the like in all their forms and nearly so, on frames
              that have them
     real     those of real.txt in turn, on frames with their addresses and ports
+    masks    expressions that are mostly about networks with masks, and what is nearly one
 
 `--frames` is how many frames an expression gets. The addresses, ports and flags come from small
 pools, and half of what an expression names is taken from its first frame, so that about half of the
@@ -72,6 +73,8 @@ class Cases:
         self.facts = {}
         self.hardware, self.ports = HARDWARE, PORTS
         self.addresses4, self.addresses6 = ADDRESSES4, ADDRESSES6
+        # how many networks of IPv4 have a mask
+        self.masks = 0
         here = os.path.dirname(os.path.abspath(__file__))
         with open(os.path.join(here, 'real.txt'), encoding='ascii') as file:
             self.real = [line.split('\t')[1] for line in file.read().splitlines()]
@@ -364,8 +367,27 @@ class Cases:
             front = [*protocol, *self.direction(), 'host']
         return self.headed(front, lambda: self.other_address(protocol))
 
+    def octets_of(self, number):
+        """an IPv4 address, now and then without its last octets if they are 0"""
+        parts = list(number.to_bytes(4, 'big'))
+        while len(parts) > 2 and parts[-1] == 0 and self.chance(0.3):
+            parts.pop()
+        return '.'.join(map(str, parts))
+
+    def masked_word(self, address):
+        """an IPv4 net with a mask of any bits, now and then one that lacks bits of the address"""
+        mask = self.pick([0xff000000, 0xffff0000, 0xffffff00, 0xffffffff, 0xfff00000, 0xff00ff00,
+                          0xff0000ff, 0x000000ff, 0x0f0f0f0f, 0xaaaaaaaa, 1, 0x80000000, 0,
+                          self.dice.getrandbits(32)])
+        number = grammar.ipv4(address)[1]
+        if not self.chance(0.05):
+            number &= mask
+        return f'{self.octets_of(number)} mask {self.octets_of(mask)}'
+
     def net_word(self, address):
         """a net with an address, now and then with bits after its prefix, which libpcap refuses"""
+        if self.masks and ':' not in address and self.chance(self.masks):
+            return self.masked_word(address)
         version, number = grammar.address(address)
         width = 32 if version == 4 else 128
         bits = self.pick([0, 4, 8, 12, 16, 24, 25, 32] if version == 4 else
@@ -532,6 +554,8 @@ class Cases:
             self.ether_host] * 6 + [self.net] * 7 + [self.ether_proto] * 4 + [self.vlan] * 4 + [
             self.proto] * 4 + [self.length] * 3 + [self.cast] * 3 + [self.fragment] * 2 + [
             self.checksum_wrong]
+        if self.masks:
+            makers = [self.net] * 16 + [self.host] * 2 + [self.word, self.port]
         return self.pick(makers)()
 
     def negated(self, words):
@@ -567,7 +591,8 @@ class Cases:
         """a text of the language"""
         count = self.pick([1, 1, 1, 2, 2, 2, 3, 3, 4, 5, 8])
         while True:
-            words = self.level(count)
+            # a value can be several words
+            words = ' '.join(self.level(count)).split(' ')
             if len(words) <= grammar.MAX_WORDS:
                 return self.spaced(words)
 
@@ -726,6 +751,19 @@ class Cases:
         words += {'[': ['] >= 0'], '|': [') = 0']}.get(head[-1:], [])
         return ' '.join(words).encode('latin-1')
 
+    def masked_net(self):
+        """a network with a mask, or nearly, after words that can have one most of the time"""
+        front = self.pick(['net', 'net', 'src net', 'dst net', 'src or dst net', 'src and dst net',
+                           'ip net', 'arp net', 'rarp dst net', 'not net', 'net not', 'net 10 or',
+                           'net 10.0/8 or', 'net 1.2 mask 255.255 or', 'port 80 or net', 'net (',
+                           'host', 'src', 'ip6 net', 'tcp net', 'ether net', 'host 10.0.0.1 or'])
+        if self.chance(0.5):
+            value = self.masked_word('.'.join(map(str, self.some_bytes(4))))
+        else:
+            value = f'{self.odd_address4()} mask {self.odd_address4()}'
+            value += self.pick(['', '', '', '/8', ' mask 255.0', ' or 10.0 mask 255.0'])
+        return f'{front} {value}{")" if "(" in front else ""}'.encode('latin-1')
+
     def frame_of(self, text):
         """a frame that has what a text names, if it is an expression, and its length"""
         self.aim(text)
@@ -736,6 +774,10 @@ class Cases:
             tree = tree[-1]
         if tree[0] == 'len' or tree[0] in ('less', 'greater'):
             wire = min(max(0, tree[-1] + self.pick([0, 0, 1, -1])), 2**32 - 1)
+        if tree[0] == 'masked' and frame[12:14] == b'\x08\0':
+            found = tree[-2] | self.dice.getrandbits(32) & ~tree[-1]
+            found ^= self.pick([0, 0, 0, 1, 1 << 31, 1 << self.dice.randrange(32)])
+            frame = frame[:26] + found.to_bytes(4, 'big') + frame[30:]
         if tree[0] == 'ether-type':
             frame = frame[:12] + struct.pack('>H', tree[1]) + frame[14:]
         if tree[0] == 'vlan' and tree[1] is not None:
@@ -763,17 +805,22 @@ def main():
     parser.add_argument('--count', type=int, default=10000)
     parser.add_argument('--kind', default='plain',
                         choices=['plain', 'other', 'covered', 'bytes', 'words', 'changed', 'ways',
-                                 'links', 'real', 'values'])
+                                 'links', 'real', 'values', 'masks'])
     parser.add_argument('--frames', type=int, default=2)
     asked = parser.parse_args()
     cases = Cases(asked.seed)
+    if asked.kind == 'masks':
+        cases.masks = 0.8
     done = 0
     while done < asked.count:
         if asked.kind == 'real':
             text = cases.real[done // asked.frames % len(cases.real)].encode('ascii')
             cases.aim(text)
         first, link_type = cases.frame(asked.kind != 'other'), 1
-        if asked.kind in ('plain', 'other'):
+        if asked.kind == 'masks' and cases.chance(0.3):
+            text = cases.masked_net()
+            frames = [cases.frame_of(text)]
+        elif asked.kind in ('plain', 'other', 'masks'):
             text = cases.expression()
             frames = [first] + [cases.frame(asked.kind != 'other')
                                 for _ in range(asked.frames - 1)]

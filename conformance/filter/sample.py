@@ -1,6 +1,6 @@
 #!/usr/bin/env python3
-"""sample.py [--kinds] [--seed S]: writes the cases `filter` anew at the end of the files stdin and
-stdout of crates/conformance (SAMPLE.md there).
+"""sample.py [--kinds] [--seed S]: writes the cases `filter` anew in the files stdin and stdout of
+crates/conformance, in the place of those that are there (SAMPLE.md there).
 
 Most answers are libpcap's, on plain frames where no intended difference applies (compare.py). Its
 programs have to agree with and without its optimiser, and so has the model (meaning.py), or the
@@ -27,6 +27,8 @@ FILES = [os.path.join(HERE, '../../crates/conformance', name) for name in ('stdi
 # how many cases: random expressions as libpcap reads them, in its own words, on frames with tags
 # and extension headers, on others by the model, after other link headers, and real ones
 RANDOM, IN_ITS_WORDS, COVERED, BY_MODEL, OTHER_LINKS, REAL = 600, 80, 60, 100, 120, 180
+# networks with masks, and texts about them that libpcap refuses too
+MASKS, MASKS_REFUSED = 80, 30
 REFUSED = {'unexpected': 125, 'incomplete': 30, 'too long': 5}
 OTHER_KINDS = {'mixed': 20, 'unsupported': 20}
 # how many are refused at their first word
@@ -192,6 +194,30 @@ class Sample:
             if len(frame) <= LONGEST_FRAME:
                 done += self.take('real', text, frame, wire, wanted=done % 2 == 0)
 
+    def masks(self, count):
+        """networks with masks"""
+        self.cases.masks, done = 0.8, 0
+        while done < count:
+            frame, wire = self.cases.frame()
+            text = self.cases.expression()
+            if b'mask' in text and len(frame) <= LONGEST_FRAME:
+                done += self.take('masks', text, frame, wire, wanted=done % 2 == 0)
+        self.cases.masks = 0
+
+    def masks_refused(self, count):
+        """texts that libpcap refuses too; the place is that of grammar.py"""
+        while count:
+            text = self.cases.masked_net()
+            read = grammar.read(text)
+            case = f'filter 1 {"00" * 14} 14 {text.hex()}'
+            if read[0] == 'ok' or case in self.lines:
+                continue
+            if self.libpcap_answer(text, bytes(14), 14, 1) is not None:
+                continue
+            self.lines[case] = meaning.refusal(*read)
+            self.kinds['masks refused', read[0]] += 1
+            count -= 1
+
     def refused(self, counts):
         counts, at_once = dict(counts), REFUSED_AT_ONCE
         while any(counts.values()):
@@ -232,15 +258,19 @@ def main():
     sample.lengths()
     sample.names()
     sample.refused({**REFUSED, **(OTHER_KINDS if asked.kinds else {})})
+    sample.masks(MASKS)
+    sample.masks_refused(MASKS_REFUSED)
     lines = [*sample.lines.items(), *NO_FRAMES, *((case, 'bad line') for case in NO_CASES)]
-    before = []
+    before, after = [], None
     with open(FILES[0], encoding='ascii') as cases, open(FILES[1], encoding='ascii') as answers:
         for case, answer in zip(cases.read().split('\n')[:-1], answers.read().split('\n')[:-1]):
-            if case.split(' ')[0].split('.')[0] != 'filter':
-                before.append((case, answer))
+            if case.split(' ')[0].split('.')[0] == 'filter':
+                after = after or []
+            else:
+                (before if after is None else after).append((case, answer))
     for at, name in enumerate(FILES):
         with open(name, 'w', encoding='ascii') as file:
-            file.writelines(line[at] + '\n' for line in before + lines)
+            file.writelines(line[at] + '\n' for line in before + lines + (after or []))
     for (kind, said), count in sample.kinds.items():
         print(f'{kind}, {str(said).lower()}: {count}', file=sys.stderr)
     print(f'{len(lines)} cases', file=sys.stderr)

@@ -31,7 +31,7 @@ impl Shown for FilterError {
             FilterError::Mixed { place, .. } => write!(f, "err mixed place={place}"),
             FilterError::Unsupported { place } => write!(f, "err unsupported place={place}"),
             FilterError::Incomplete { .. } => f.write_str("err incomplete"),
-            FilterError::TooLong => f.write_str("err too_long"),
+            FilterError::TooLong { .. } => f.write_str("err too_long"),
         }
     }
 }

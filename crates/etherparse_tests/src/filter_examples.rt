@@ -22,6 +22,9 @@ fn texts_and_refusals(rt: HostRuntime) -> Result<(), Fail> {
     // Parentheses have to say which of `and` and `or` comes first.
     let refused = Filter::from_text(b"udp or tcp and port 22");
     assert!(rt; matches!(refused, Err(FilterError::Mixed { place: 11, .. })));
+    // The mask lacks the last bit of the address.
+    let refused = Filter::from_text(b"net 10.0.0.1 mask 255.0.0.0");
+    assert!(rt; matches!(refused, Err(FilterError::Unexpected { place: 18, .. })));
     // Labels of MPLS are in pcap-filter(7), and not here.
     let refused = Filter::from_text(b"ip or mpls");
     assert!(rt; matches!(refused, Err(FilterError::Unsupported { place: 6 })));

@@ -29,6 +29,7 @@ asks_what_holds (primitive.Net None None (V4 a) bits) lax len =
     let s = within_by_front a bits (source_address lax.packet) in
     let d = within_by_front a bits (destination_address lax.packet) in
     (λ h. (tt, elim h [ inl x ↦ inl (s.0 x) | inr x ↦ inr (d.0 x) ]), λ h. elim h.1 [ inl x ↦ inl (s.1 x) | inr x ↦ inr (d.1 x) ])
+asks_what_holds (primitive.Masked None d address mask) lax len = (λ h. (tt, h), λ h. h.1)
 asks_what_holds (primitive.Proto None number) lax len = (λ h. h, λ h. h)
 asks_what_holds (primitive.Ports t None low high) lax len = (λ h. h, λ h. h)
 asks_what_holds (primitive.Compare Length None r limit) lax len = (λ h. (len, refl, h), λ h. subst (λ n. Compares r n limit) h.1 h.2)

@@ -87,6 +87,7 @@ module _ (lax : LaxSlicedPacket) (transport : Option TransportSlice) (stop : Opt
   )
   same_primitive (primitive.Proto v number) = same_proto lax.packet transport v number
   same_primitive (primitive.Net n d address bits) = let s = same_network lax.packet transport n in (λ h. (s.0 h.0, h.1), λ h. (s.1 h.0, h.1))
+  same_primitive (primitive.Masked n d address mask) = let s = same_network lax.packet transport n in (λ h. (s.0 h.0, h.1), λ h. (s.1 h.0, h.1))
   same_primitive (primitive.Compare q mask r limit) = let s = same_number lax.packet transport q len in (λ h. (h.0, (s h.0).0 h.1, h.2), λ h. (h.0, (s h.0).1 h.1, h.2))
   same_primitive p = (λ h. h, λ h. h)
 

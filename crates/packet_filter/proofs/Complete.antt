@@ -1,12 +1,13 @@
 -- Each expression of the grammar is read, to its steps.
-use Rattle.std.proofs.Common.{◌≡◌, ℕ, Bool, true, false, cond, List, [], ◌∷◌, ◌++◌, Option, Some, None, refl, sym, ap, ◌∙◌, subst, append_assoc}
+use Rattle.std.proofs.Common.{◌≡◌, ℕ, Bool, true, false, ◌&&◌, cond, List, [], ◌∷◌, ◌++◌, Option, Some, None, refl, sym, ap, ◌∙◌, subst, append_assoc}
 use Rattle.std.proofs.lemmas.Bool.{le-leb}
 use Rattle.std.proofs.lemmas.List.{append-nil}
 use Rattle.packet_filter.specs.Meaning.{Expression, one, negation, compound}
 use Rattle.packet_filter.specs.Program.{and_then}
-use Rattle.packet_filter.specs.Grammar.{IsHead, host, directed, net, port, portrange, proto, ether_host, ether_directed, ether_proto, IsPrimitive, word, vlan, less, greater, ether_broadcast, ether_multicast, multicast, first_fragment, checksum_wrong, comparison, AreBits, single, with, IsConstant, number, list, IsTerm, len, load, masked_, grouped, Kind, operand, chain, Reads, primitive, headed, value, not_, parentheses, first, more, IsExpression, direction_words, first_head, value_of, alone, layer_of, loads_at}
-use Rattle.packet_filter.specs.Private.Machine.{State, complete, put, found, after_word, outcome, finish, finish_state, after, step_of, step_operand, step_progress, on_progress, completed, is_only, start}
+use Rattle.packet_filter.specs.Grammar.{IsHead, host, directed, net, port, portrange, proto, ether_host, ether_directed, ether_proto, IsPrimitive, word, vlan, less, greater, ether_broadcast, ether_multicast, multicast, first_fragment, checksum_wrong, comparison, AreBits, single, with, IsConstant, number, list, IsTerm, len, load, masked_, grouped, Kind, operand, chain, Reads, primitive, headed, value, masked_value, not_, parentheses, first, more, IsExpression, direction_words, first_head, fits, provided, value_of, ipv4_of, masked_value_of, alone, layer_of, loads_at}
+use Rattle.packet_filter.specs.Private.Machine.{State, begun_at, chosen, complete, put, put_net, found, after_word, head_of_net, if_fits, net_address_of, net_at, outcome, finish, finish_state, after, primitive_of_net, step_of, step_progress, on_progress, completed, is_only, start}
 use Rattle.packet_filter.specs.declared.address.Address.{Address}
+use Rattle.packet_filter.specs.declared.address.Address.TheVariants.{V4, V6}
 use Rattle.packet_filter.specs.declared.expression.Direction.{Direction}
 use Rattle.packet_filter.specs.declared.expression.Direction.TheVariants as direction
 use Rattle.packet_filter.specs.declared.expression.Layer.{Layer}
@@ -22,11 +23,13 @@ use Rattle.packet_filter.specs.declared.filter.Step.{Step}
 use Rattle.packet_filter.specs.declared.filter.Step.TheVariants as step
 use Rattle.packet_filter.specs.declared.head.Head.{Head}
 use Rattle.packet_filter.specs.declared.head.Head.TheVariants as head
-use Rattle.packet_filter.specs.declared.machine.Doing.TheVariants.{Operand, Within, Operator}
+use Rattle.packet_filter.specs.declared.machine.Doing.TheVariants.{Net, Operand, Within, Operator}
 use Rattle.packet_filter.specs.declared.machine.Waiting.{Waiting}
 use Rattle.packet_filter.specs.declared.machine.Waiting.TheVariants as waiting
+use Rattle.packet_filter.specs.declared.partial.NetAddress.{NetAddress}
 use Rattle.packet_filter.specs.declared.partial.Partial.{Partial}
 use Rattle.packet_filter.specs.declared.partial.Partial.TheVariants as partial
+use Rattle.packet_filter.specs.declared.partial.Progress.{Progress}
 use Rattle.packet_filter.specs.declared.partial.Progress.TheVariants.{Done, Foreign}
 use Rattle.packet_filter.specs.declared.partial.Scope.{Scope}
 use Rattle.packet_filter.specs.declared.partial.Scope.TheVariants as scope
@@ -67,6 +70,76 @@ EndsOperand [] = Unit {0}
 EndsOperand (token.Operator o ∷ words) = Unit {0}
 EndsOperand (token.Close ∷ words) = Unit {0}
 EndsOperand _ = ⊥
+
+-- a complete operand is gone on after, and ends, as any
+pub after_complete : (h : Head) (ws : List Waiting) (out : List Step) (w : Token) → after w (complete h ws out) ≡ step_of (complete h ws out) w
+after_complete h [] out w = refl
+after_complete h (waiting.Open g only ∷ ws) out w = refl
+after_complete h (waiting.Not ∷ ws) out w = after_complete h ws (out ++ step.Not ∷ []) w
+after_complete h (waiting.Head ∷ ws) out w = after_complete h ws out w
+after_complete h (waiting.Operator o ∷ ws) out w = refl
+
+finish_complete : (h : Head) (ws : List Waiting) (out : List Step) → finish_state (complete h ws out) ≡ finish (complete h ws out)
+finish_complete h [] out = refl
+finish_complete h (waiting.Open g only ∷ ws) out = refl
+finish_complete h (waiting.Not ∷ ws) out = finish_complete h ws (out ++ step.Not ∷ [])
+finish_complete h (waiting.Head ∷ ws) out = finish_complete h ws out
+finish_complete h (waiting.Operator o ∷ ws) out = refl
+
+-- ---- addresses of networks
+
+abbrev pub has_net : NetAddress → List Waiting → List Step → State
+has_net a ws out = record { doing = Net a; waiting = ws; steps = out }
+
+provided_some : (b : Bool) (p q : Primitive) → provided b p ≡ Some q → (b ≡ true) × (p ≡ q)
+provided_some true p q e = (refl, some_same p q e)
+provided_some false p q e = cc
+
+left_true : (b c : Bool) → (b && c) ≡ true → b ≡ true
+left_true true c e = refl
+left_true false c e = cc
+
+not_some : (p : Primitive) → None ≡ Some p → ⊥
+not_some p e = cc
+
+-- an address without a mask ends before a word that can follow an operand
+pub net_ends : (a : NetAddress) (ws : List Waiting) (out : List Step) (rest : List Token) → EndsOperand rest → outcome rest (has_net a ws out) ≡ outcome rest (put_net a ws out)
+net_ends a ws out [] k = finish_complete (head_of_net a) ws (out ++ step.Test (primitive_of_net a) ∷ [])
+net_ends a ws out (token.Operator o ∷ rest) k = ap (λ x. and_then x (outcome rest)) (after_complete (head_of_net a) ws (out ++ step.Test (primitive_of_net a) ∷ []) (token.Operator o))
+net_ends a ws out (token.Close ∷ rest) k = ap (λ x. and_then x (outcome rest)) (after_complete (head_of_net a) ws (out ++ step.Test (primitive_of_net a) ∷ []) token.Close)
+net_ends a ws out (_ ∷ rest) k = absurd k
+
+-- where one is begun, after a head and alone
+net_alone : (b : Bool) (a : NetAddress) (y : Progress) (p : Primitive) (ws : List Waiting) (out : List Step) (rest : List Token) → EndsOperand rest → provided b (primitive_of_net a) ≡ Some p → and_then (begun_at (if_fits b a) y ws out) (outcome rest) ≡ outcome rest (put p (head_of_net a) ws out)
+net_alone b a y p ws out rest k e =
+    let x = provided_some b _ p e in
+    ap (λ c. and_then (begun_at (if_fits c a) y ws out) (outcome rest)) x.0 ∙ net_ends a ws out rest k ∙ ap (λ q. outcome rest (put q (head_of_net a) ws out)) x.1
+
+net_after_head : (b : Bool) (a : NetAddress) (q : Partial) (w : Token) (p : Primitive) (ws : List Waiting) (out : List Step) (rest : List Token) → EndsOperand rest → provided b (primitive_of_net a) ≡ Some p → and_then (net_at (if_fits b a) q w ws out) (outcome rest) ≡ outcome rest (put p (head_of_net a) ws out)
+net_after_head b a q w p ws out rest k e =
+    let x = provided_some b _ p e in
+    ap (λ c. and_then (net_at (if_fits c a) q w ws out) (outcome rest)) x.0 ∙ net_ends a (waiting.Head ∷ ws) out rest k ∙ ap (λ r. outcome rest (put r (head_of_net a) ws out)) x.1
+
+-- the mask after it
+mask_read : (a : NetAddress) (m : Token) (p : Primitive) → masked_value_of (head_of_net a) (Some a.address) (ipv4_of m) ≡ Some p → (ws : List Waiting) (out : List Step) (rest : List Token) → outcome (token.Mask ∷ m ∷ rest) (has_net a ws out) ≡ outcome rest (put p (head_of_net a) ws out)
+mask_read a m p e ws out rest = ap (λ o. and_then (on_progress (found (head_of_net a) o) ws out) (outcome rest)) e
+
+fits_mask : (n : Option Network) (d : Option Direction) (a : ℕ) (o : Option ℕ) (p : Primitive) → masked_value_of (head.Net n d) (Some a) o ≡ Some p → fits n (V4 a) ≡ true
+fits_mask n d a (Some mask) p e = left_true _ _ (provided_some _ _ p e).0
+fits_mask n d a None p e = cc
+
+abbrev net_of : Option Network → Option Direction → ℕ → ℕ → NetAddress
+net_of n d a bits = record { network = n; direction = d; address = a; bits = bits }
+
+mask_alone : (n : Option Network) (d : Option Direction) (a bits : ℕ) (y : Progress) (m : Token) (p : Primitive) → masked_value_of (head.Net n d) (Some a) (ipv4_of m) ≡ Some p → (ws : List Waiting) (out : List Step) (rest : List Token) → and_then (begun_at (if_fits (fits n (V4 a)) (net_of n d a bits)) y ws out) (outcome (token.Mask ∷ m ∷ rest)) ≡ outcome rest (put p (head.Net n d) ws out)
+mask_alone n d a bits y m p e ws out rest =
+    ap (λ c. and_then (begun_at (if_fits c (net_of n d a bits)) y ws out) (outcome (token.Mask ∷ m ∷ rest))) (fits_mask n d a (ipv4_of m) p e)
+    ∙ mask_read (net_of n d a bits) m p e ws out rest
+
+mask_after_head : (n : Option Network) (d : Option Direction) (a bits : ℕ) (q : Partial) (w m : Token) (p : Primitive) → masked_value_of (head.Net n d) (Some a) (ipv4_of m) ≡ Some p → (ws : List Waiting) (out : List Step) (rest : List Token) → and_then (net_at (if_fits (fits n (V4 a)) (net_of n d a bits)) q w ws out) (outcome (token.Mask ∷ m ∷ rest)) ≡ outcome rest (put p (head.Net n d) ws out)
+mask_after_head n d a bits q w m p e ws out rest =
+    ap (λ c. and_then (net_at (if_fits c (net_of n d a bits)) q w ws out) (outcome (token.Mask ∷ m ∷ rest))) (fits_mask n d a (ipv4_of m) p e)
+    ∙ mask_read (net_of n d a bits) m p e (waiting.Head ∷ ws) out rest
 
 -- ---- heads
 
@@ -110,51 +183,66 @@ ether_value _ d p e = cc
 
 -- a primitive that has begun takes values with a head
 pub record Takes (q : Partial) (h : Head) : Type 0 where
-  pub value : (w : Token) (p : Primitive) → value_of w h ≡ Some p → (ws : List Waiting) (out : List Step) (rest : List Token) → outcome (w ∷ rest) (amid q ws out) ≡ outcome rest (put p h ws out)
+  pub value : (w : Token) (p : Primitive) → value_of w h ≡ Some p → (ws : List Waiting) (out : List Step) (rest : List Token) → EndsOperand rest → outcome (w ∷ rest) (amid q ws out) ≡ outcome rest (put p h ws out)
+  pub masked : (w m : Token) (p : Primitive) → masked_value_of h (ipv4_of w) (ipv4_of m) ≡ Some p → (ws : List Waiting) (out : List Step) (rest : List Token) → outcome (w ∷ token.Mask ∷ m ∷ rest) (amid q ws out) ≡ outcome rest (put p h ws out)
   pub negation : (ws : List Waiting) (out : List Step) (rest : List Token) → outcome (token.Not ∷ rest) (amid q ws out) ≡ outcome rest (expects h true (waiting.Not ∷ waiting.Head ∷ ws) out)
   pub group : (ws : List Waiting) (out : List Step) (rest : List Token) → outcome (token.Open ∷ rest) (amid q ws out) ≡ outcome rest (expects h true (waiting.Open h true ∷ waiting.Head ∷ ws) out)
 
-value_read : (h : Head) (w : Token) (p : Primitive) → value_of w h ≡ Some p → (ws : List Waiting) (out : List Step) (rest : List Token) → outcome (w ∷ rest) (amid (partial.Value h) ws out) ≡ outcome rest (put p h ws out)
-value_read h (token.Address a) p e ws out rest = ap (λ o. and_then (step_progress (found h o) None (token.Address a) ws out) (outcome rest)) e
-value_read h (token.Prefix a n) p e ws out rest = ap (λ o. and_then (step_progress (found h o) None (token.Prefix a n) ws out) (outcome rest)) e
-value_read h (token.Number n) p e ws out rest = ap (λ o. and_then (step_progress (found h o) None (token.Number n) ws out) (outcome rest)) e
-value_read h (token.Service n) p e ws out rest = ap (λ o. and_then (step_progress (found h o) None (token.Service n) ws out) (outcome rest)) e
-value_read h (token.Range l n) p e ws out rest = ap (λ o. and_then (step_progress (found h o) None (token.Range l n) ws out) (outcome rest)) e
-value_read h (token.IpNumber n) p e ws out rest = ap (λ o. and_then (step_progress (found h o) None (token.IpNumber n) ws out) (outcome rest)) e
-value_read h (token.Hardware a) p e ws out rest = ap (λ o. and_then (step_progress (found h o) None (token.Hardware a) ws out) (outcome rest)) e
-value_read h (token.TypeName n) p e ws out rest = ap (λ o. and_then (step_progress (found h o) None (token.TypeName n) ws out) (outcome rest)) e
-value_read h _ p e ws out rest = cc
+value_read : (h : Head) (w : Token) (p : Primitive) → value_of w h ≡ Some p → (ws : List Waiting) (out : List Step) (rest : List Token) → EndsOperand rest → outcome (w ∷ rest) (amid (partial.Value h) ws out) ≡ outcome rest (put p h ws out)
+value_read (head.Net n d) (token.Address (V4 a)) p e ws out rest k = net_after_head (fits n (V4 a)) (net_of n d a 32) (partial.Value (head.Net n d)) (token.Address (V4 a)) p ws out rest k e
+value_read (head.Net n d) (token.Front a bits) p e ws out rest k = net_after_head (fits n (V4 a)) (net_of n d a bits) (partial.Value (head.Net n d)) (token.Front a bits) p ws out rest k e
+value_read (head.Host n d) (token.Address (V4 a)) p e ws out rest k = ap (λ o. and_then (step_progress (found (head.Host n d) o) None (token.Address (V4 a)) ws out) (outcome rest)) e
+value_read h (token.Address (V6 a)) p e ws out rest k = ap (λ o. and_then (step_progress (found h o) None (token.Address (V6 a)) ws out) (outcome rest)) e
+value_read h (token.Prefix a n) p e ws out rest k = ap (λ o. and_then (step_progress (found h o) None (token.Prefix a n) ws out) (outcome rest)) e
+value_read h (token.Number n) p e ws out rest k = ap (λ o. and_then (step_progress (found h o) None (token.Number n) ws out) (outcome rest)) e
+value_read h (token.Service n) p e ws out rest k = ap (λ o. and_then (step_progress (found h o) None (token.Service n) ws out) (outcome rest)) e
+value_read h (token.Range l n) p e ws out rest k = ap (λ o. and_then (step_progress (found h o) None (token.Range l n) ws out) (outcome rest)) e
+value_read h (token.IpNumber n) p e ws out rest k = ap (λ o. and_then (step_progress (found h o) None (token.IpNumber n) ws out) (outcome rest)) e
+value_read h (token.Hardware a) p e ws out rest k = ap (λ o. and_then (step_progress (found h o) None (token.Hardware a) ws out) (outcome rest)) e
+value_read h (token.TypeName n) p e ws out rest k = ap (λ o. and_then (step_progress (found h o) None (token.TypeName n) ws out) (outcome rest)) e
+value_read h _ p e ws out rest k = cc
+
+masked_read : (h : Head) (w m : Token) (p : Primitive) → masked_value_of h (ipv4_of w) (ipv4_of m) ≡ Some p → (ws : List Waiting) (out : List Step) (rest : List Token) → outcome (w ∷ token.Mask ∷ m ∷ rest) (amid (partial.Value h) ws out) ≡ outcome rest (put p h ws out)
+masked_read (head.Net n d) (token.Address (V4 a)) m p e ws out rest = mask_after_head n d a 32 (partial.Value (head.Net n d)) (token.Address (V4 a)) m p e ws out rest
+masked_read (head.Net n d) (token.Front a bits) m p e ws out rest = mask_after_head n d a bits (partial.Value (head.Net n d)) (token.Front a bits) m p e ws out rest
+masked_read _ _ m p e ws out rest = absurd (not_some p e)
 
 pub head_takes : (h : Head) → Takes (partial.Value h) h
-head_takes h = record { value = value_read h; negation = λ ws out rest. refl; group = λ ws out rest. refl }
+head_takes h = record { value = value_read h; masked = masked_read h; negation = λ ws out rest. refl; group = λ ws out rest. refl }
 
 -- an address after a direction
-host_read : (s : Scope) (d : Direction) (n : Option Network) → ((a : Address) (o : Option Primitive) (ws : List Waiting) (out : List Step) (rest : List Token) → value_of (token.Address a) (head.Host n (Some d)) ≡ o → outcome (token.Address a ∷ rest) (amid (partial.Directed s d) ws out) ≡ and_then (step_progress (found (head.Host n (Some d)) o) None (token.Address a) ws out) (outcome rest)) → (w : Token) (p : Primitive) → value_of w (head.Host n (Some d)) ≡ Some p → (ws : List Waiting) (out : List Step) (rest : List Token) → outcome (w ∷ rest) (amid (partial.Directed s d) ws out) ≡ outcome rest (put p (head.Host n (Some d)) ws out)
-host_read s d n f w p e ws out rest =
+no_net : (a : Address) (n : Option Network) (d : Option Direction) → net_address_of (token.Address a) (Some (head.Host n d)) ≡ None
+no_net (V4 a) n d = refl
+no_net (V6 a) n d = refl
+
+host_read : (s : Scope) (d : Direction) (n : Option Network) → ((a : Address) (o : Option Primitive) (ws : List Waiting) (out : List Step) (rest : List Token) → value_of (token.Address a) (head.Host n (Some d)) ≡ o → outcome (token.Address a ∷ rest) (amid (partial.Directed s d) ws out) ≡ and_then (step_progress (found (head.Host n (Some d)) o) None (token.Address a) ws out) (outcome rest)) → (w : Token) (p : Primitive) → value_of w (head.Host n (Some d)) ≡ Some p → (ws : List Waiting) (out : List Step) (rest : List Token) → EndsOperand rest → outcome (w ∷ rest) (amid (partial.Directed s d) ws out) ≡ outcome rest (put p (head.Host n (Some d)) ws out)
+host_read s d n f w p e ws out rest k =
     let x = host_value w n (Some d) p e in
     subst (λ u. value_of u (head.Host n (Some d)) ≡ Some p → outcome (u ∷ rest) (amid (partial.Directed s d) ws out) ≡ outcome rest (put p (head.Host n (Some d)) ws out)) (sym x.1) (λ g. f x.0 (Some p) ws out rest g) e
 
 pub any_takes : (d : Direction) → Takes (partial.Directed scope.Any d) (head.Host None (Some d))
 any_takes d = record {
-  value = host_read scope.Any d None (λ a o ws out rest e. ap (λ y. and_then (step_progress (found (head.Host None (Some d)) y) None (token.Address a) ws out) (outcome rest)) e);
+  value = host_read scope.Any d None (λ a o ws out rest e. ap (λ x. and_then (net_at x (partial.Directed scope.Any d) (token.Address a) ws out) (outcome rest)) (no_net a None (Some d)) ∙ ap (λ y. and_then (step_progress (found (head.Host None (Some d)) y) None (token.Address a) ws out) (outcome rest)) e);
+  masked = λ w m p e ws out rest. absurd (not_some p e);
   negation = λ ws out rest. refl;
   group = λ ws out rest. refl;
 }
 
 pub network_takes : (n : Network) (d : Direction) → Takes (partial.Directed (scope.Network n) d) (head.Host (Some n) (Some d))
 network_takes n d = record {
-  value = host_read (scope.Network n) d (Some n) (λ a o ws out rest e. ap (λ y. and_then (step_progress (found (head.Host (Some n) (Some d)) y) None (token.Address a) ws out) (outcome rest)) e);
+  value = host_read (scope.Network n) d (Some n) (λ a o ws out rest e. ap (λ x. and_then (net_at x (partial.Directed (scope.Network n) d) (token.Address a) ws out) (outcome rest)) (no_net a (Some n) (Some d)) ∙ ap (λ y. and_then (step_progress (found (head.Host (Some n) (Some d)) y) None (token.Address a) ws out) (outcome rest)) e);
+  masked = λ w m p e ws out rest. absurd (not_some p e);
   negation = λ ws out rest. refl;
   group = λ ws out rest. refl;
 }
 
-station_read : (d : Direction) (w : Token) (p : Primitive) → value_of w (head.Ether (Some d)) ≡ Some p → (ws : List Waiting) (out : List Step) (rest : List Token) → outcome (w ∷ rest) (amid (partial.Directed scope.Ether d) ws out) ≡ outcome rest (put p (head.Ether (Some d)) ws out)
-station_read d w p e ws out rest =
+station_read : (d : Direction) (w : Token) (p : Primitive) → value_of w (head.Ether (Some d)) ≡ Some p → (ws : List Waiting) (out : List Step) (rest : List Token) → EndsOperand rest → outcome (w ∷ rest) (amid (partial.Directed scope.Ether d) ws out) ≡ outcome rest (put p (head.Ether (Some d)) ws out)
+station_read d w p e ws out rest k =
     let x = ether_value w (Some d) p e in
     subst (λ u. value_of u (head.Ether (Some d)) ≡ Some p → outcome (u ∷ rest) (amid (partial.Directed scope.Ether d) ws out) ≡ outcome rest (put p (head.Ether (Some d)) ws out)) (sym x.1) (λ f. ap (λ o. and_then (step_progress (found (head.Ether (Some d)) o) None (token.Hardware x.0) ws out) (outcome rest)) f) e
 
 pub ether_takes : (d : Direction) → Takes (partial.Directed scope.Ether d) (head.Ether (Some d))
-ether_takes d = record { value = station_read d; negation = λ ws out rest. refl; group = λ ws out rest. refl }
+ether_takes d = record { value = station_read d; masked = λ w m p e ws out rest. absurd (not_some p e); negation = λ ws out rest. refl; group = λ ws out rest. refl }
 
 -- the words of a head lead to a primitive that takes its values
 record Leads (words : List Token) (h : Head) : Type 0 where
@@ -192,24 +280,33 @@ head_read words h (directed (Some n) d) = record { to = partial.Directed (scope.
 head_read words h (ether_directed d) = record { to = partial.Directed scope.Ether d; takes = ether_takes d; read = λ g ws out rest. direction_read d scope.Ether g ws out rest }
 
 -- a value alone begins nothing else
-pub value_alone : (only : Bool) (w : Token) (h : Head) (p : Primitive) → value_of w h ≡ Some p → (ws : List Waiting) (out : List Step) → step_operand h only w ws out ≡ Some (put p h ws out)
-value_alone true (token.Address a) h p e ws out = ap (λ o. on_progress (found h o) ws out) e
-value_alone true (token.Prefix a n) h p e ws out = ap (λ o. on_progress (found h o) ws out) e
-value_alone true (token.Number n) h p e ws out = ap (λ o. on_progress (found h o) ws out) e
-value_alone true (token.Service n) h p e ws out = ap (λ o. on_progress (found h o) ws out) e
-value_alone true (token.Range l n) h p e ws out = ap (λ o. on_progress (found h o) ws out) e
-value_alone true (token.IpNumber n) h p e ws out = ap (λ o. on_progress (found h o) ws out) e
-value_alone true (token.Hardware a) h p e ws out = ap (λ o. on_progress (found h o) ws out) e
-value_alone true (token.TypeName n) h p e ws out = ap (λ o. on_progress (found h o) ws out) e
-value_alone false (token.Address a) h p e ws out = ap (λ o. on_progress (found h o) ws out) e
-value_alone false (token.Prefix a n) h p e ws out = ap (λ o. on_progress (found h o) ws out) e
-value_alone false (token.Number n) h p e ws out = ap (λ o. on_progress (found h o) ws out) e
-value_alone false (token.Service n) h p e ws out = ap (λ o. on_progress (found h o) ws out) e
-value_alone false (token.Range l n) h p e ws out = ap (λ o. on_progress (found h o) ws out) e
-value_alone false (token.IpNumber n) h p e ws out = ap (λ o. on_progress (found h o) ws out) e
-value_alone false (token.Hardware a) h p e ws out = ap (λ o. on_progress (found h o) ws out) e
-value_alone false (token.TypeName n) h p e ws out = ap (λ o. on_progress (found h o) ws out) e
-value_alone _ _ h p e ws out = cc
+pub value_alone : (only : Bool) (w : Token) (h : Head) (p : Primitive) → value_of w h ≡ Some p → (ws : List Waiting) (out : List Step) (rest : List Token) → EndsOperand rest → outcome (w ∷ rest) (expects h only ws out) ≡ outcome rest (put p h ws out)
+value_alone only (token.Address (V4 a)) (head.Net n d) p e ws out rest k = net_alone (fits n (V4 a)) (net_of n d a 32) (chosen only (head.Net n d) (token.Address (V4 a))) p ws out rest k e
+value_alone only (token.Front a bits) (head.Net n d) p e ws out rest k = net_alone (fits n (V4 a)) (net_of n d a bits) (chosen only (head.Net n d) (token.Front a bits)) p ws out rest k e
+value_alone true (token.Address (V4 a)) (head.Host n d) p e ws out rest k = ap (λ o. and_then (on_progress (found (head.Host n d) o) ws out) (outcome rest)) e
+value_alone true (token.Address (V6 a)) h p e ws out rest k = ap (λ o. and_then (on_progress (found h o) ws out) (outcome rest)) e
+value_alone true (token.Prefix a n) h p e ws out rest k = ap (λ o. and_then (on_progress (found h o) ws out) (outcome rest)) e
+value_alone true (token.Number n) h p e ws out rest k = ap (λ o. and_then (on_progress (found h o) ws out) (outcome rest)) e
+value_alone true (token.Service n) h p e ws out rest k = ap (λ o. and_then (on_progress (found h o) ws out) (outcome rest)) e
+value_alone true (token.Range l n) h p e ws out rest k = ap (λ o. and_then (on_progress (found h o) ws out) (outcome rest)) e
+value_alone true (token.IpNumber n) h p e ws out rest k = ap (λ o. and_then (on_progress (found h o) ws out) (outcome rest)) e
+value_alone true (token.Hardware a) h p e ws out rest k = ap (λ o. and_then (on_progress (found h o) ws out) (outcome rest)) e
+value_alone true (token.TypeName n) h p e ws out rest k = ap (λ o. and_then (on_progress (found h o) ws out) (outcome rest)) e
+value_alone false (token.Address (V4 a)) (head.Host n d) p e ws out rest k = ap (λ o. and_then (on_progress (found (head.Host n d) o) ws out) (outcome rest)) e
+value_alone false (token.Address (V6 a)) h p e ws out rest k = ap (λ o. and_then (on_progress (found h o) ws out) (outcome rest)) e
+value_alone false (token.Prefix a n) h p e ws out rest k = ap (λ o. and_then (on_progress (found h o) ws out) (outcome rest)) e
+value_alone false (token.Number n) h p e ws out rest k = ap (λ o. and_then (on_progress (found h o) ws out) (outcome rest)) e
+value_alone false (token.Service n) h p e ws out rest k = ap (λ o. and_then (on_progress (found h o) ws out) (outcome rest)) e
+value_alone false (token.Range l n) h p e ws out rest k = ap (λ o. and_then (on_progress (found h o) ws out) (outcome rest)) e
+value_alone false (token.IpNumber n) h p e ws out rest k = ap (λ o. and_then (on_progress (found h o) ws out) (outcome rest)) e
+value_alone false (token.Hardware a) h p e ws out rest k = ap (λ o. and_then (on_progress (found h o) ws out) (outcome rest)) e
+value_alone false (token.TypeName n) h p e ws out rest k = ap (λ o. and_then (on_progress (found h o) ws out) (outcome rest)) e
+value_alone _ _ h p e ws out rest k = cc
+
+masked_alone : (only : Bool) (h : Head) (w m : Token) (p : Primitive) → masked_value_of h (ipv4_of w) (ipv4_of m) ≡ Some p → (ws : List Waiting) (out : List Step) (rest : List Token) → outcome (w ∷ token.Mask ∷ m ∷ rest) (expects h only ws out) ≡ outcome rest (put p h ws out)
+masked_alone only (head.Net n d) (token.Address (V4 a)) m p e ws out rest = mask_alone n d a 32 (chosen only (head.Net n d) (token.Address (V4 a))) m p e ws out rest
+masked_alone only (head.Net n d) (token.Front a bits) m p e ws out rest = mask_alone n d a bits (chosen only (head.Net n d) (token.Front a bits)) m p e ws out rest
+masked_alone only _ _ m p e ws out rest = absurd (not_some p e)
 
 -- ---- words that stand alone
 
@@ -217,20 +314,6 @@ value_alone _ _ h p e ws out = cc
 abbrev state_after : Kind → Head → List Waiting → List Step → State
 state_after operand h ws out = complete h ws out
 state_after (chain o) h ws out = has_read (Some o) h ws out
-
-pub after_complete : (h : Head) (ws : List Waiting) (out : List Step) (w : Token) → after w (complete h ws out) ≡ step_of (complete h ws out) w
-after_complete h [] out w = refl
-after_complete h (waiting.Open g only ∷ ws) out w = refl
-after_complete h (waiting.Not ∷ ws) out w = after_complete h ws (out ++ step.Not ∷ []) w
-after_complete h (waiting.Head ∷ ws) out w = after_complete h ws out w
-after_complete h (waiting.Operator o ∷ ws) out w = refl
-
-finish_complete : (h : Head) (ws : List Waiting) (out : List Step) → finish_state (complete h ws out) ≡ finish (complete h ws out)
-finish_complete h [] out = refl
-finish_complete h (waiting.Open g only ∷ ws) out = refl
-finish_complete h (waiting.Not ∷ ws) out = finish_complete h ws (out ++ step.Not ∷ [])
-finish_complete h (waiting.Head ∷ ws) out = finish_complete h ws out
-finish_complete h (waiting.Operator o ∷ ws) out = refl
 
 pub not_operator : (w : Token) (o : Joiner) → after_word w (token.Operator o) ≡ Foreign
 not_operator (token.Network n) o = refl
@@ -373,7 +456,10 @@ pub read_ends : (k : Kind) (only : Bool) (g h : Head) (words : List Token) (e : 
 read_ends k only g h words e (primitive {words = us} {p = p} x) ws out rest b r = primitive_read us p x g ws out rest r
 read_ends k only g h words e (headed {h = i} {words = us} {values = vs} x (value {p = p} w v)) ws out rest b r =
     let l = head_read us i x in
-    ap (λ z. outcome z (expects g false ws out)) (append_assoc us (w ∷ []) rest) ∙ l.read g ws out (w ∷ rest) ∙ l.takes.value w p v ws out rest
+    ap (λ z. outcome z (expects g false ws out)) (append_assoc us (w ∷ []) rest) ∙ l.read g ws out (w ∷ rest) ∙ l.takes.value w p v ws out rest r
+read_ends k only g h words e (headed {h = i} {words = us} {values = vs} x (masked_value {p = p} w m v)) ws out rest b r =
+    let l = head_read us i x in
+    ap (λ z. outcome z (expects g false ws out)) (append_assoc us (w ∷ token.Mask ∷ m ∷ []) rest) ∙ l.read g ws out (w ∷ token.Mask ∷ m ∷ rest) ∙ l.takes.masked w m p v ws out rest
 read_ends k only g h words e (headed {h = i} {words = us} x (not_ {words = vs} {e = a} y)) ws out rest b r =
     let l = head_read us i x in
     ap (λ z. outcome z (expects g false ws out)) (append_assoc us (token.Not ∷ vs) rest)
@@ -389,7 +475,8 @@ read_ends k only g h words e (headed {h = i} {words = us} x (parentheses {kind =
     ∙ ap (λ z. outcome z (expects i true (waiting.Open i true ∷ waiting.Head ∷ ws) out)) (append_assoc vs (token.Close ∷ []) rest)
     ∙ read_ends j true i m vs a y (waiting.Open i true ∷ waiting.Head ∷ ws) out (token.Close ∷ rest) (can_begin_open j i true (waiting.Head ∷ ws)) tt
     ∙ closes j i m true (waiting.Head ∷ ws) (out ++ postfix a) rest
-read_ends k only g h words e (value {p = p} w v) ws out rest b r = ap (λ o. and_then o (outcome rest)) (value_alone only w h p v ws out)
+read_ends k only g h words e (value {p = p} w v) ws out rest b r = value_alone only w h p v ws out rest r
+read_ends k only g h words e (masked_value {p = p} w m v) ws out rest b r = masked_alone only h w m p v ws out rest
 read_ends k only g h words e (not_ {words = us} {e = a} x) ws out rest b r =
     read_ends operand only g h us a x (waiting.Not ∷ ws) out rest tt r
     ∙ ap (λ o. outcome rest (complete h ws o)) (append_assoc out (postfix a) (step.Not ∷ []))

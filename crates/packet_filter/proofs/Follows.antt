@@ -1,7 +1,9 @@
 -- What can follow the words that were read.
-use Rattle.std.proofs.Common.{zero, suc, lit≤, ◌≡◌, ℕ, Bool, false, List, [], ◌∷◌, ◌++◌, Option, Some, None, refl, sym, ap, ◌∙◌, subst, append_assoc, inr}
+use Rattle.std.proofs.Common.{zero, suc, lit≤, ◌≡◌, ◌==◌, ◌&&◌, ℕ, Bool, true, false, List, [], ◌∷◌, ◌++◌, Option, Some, None, refl, sym, ap, ◌∙◌, subst, append_assoc, inr}
 use Rattle.std.proofs.lemmas.List.{append-nil}
-use Rattle.std.specs.Prelude.{bit_or, codes}
+use Rattle.std.specs.Prelude.{bit_and, bit_or, codes}
+use Rattle.std.specs.Fmt.{digits}
+use Rattle.std.specs.Int.Bits.{and_zero_r}
 use Rattle.std.proofs.lemmas.Fmt.{decimal_digit}
 use Rattle.std.specs.Net.Addr.{ipv4_bits, ipv6_bits}
 use Rattle.std.specs.Net.Text.{dotted_text}
@@ -11,13 +13,13 @@ use Rattle.packet_filter.specs.Language.{AreSpelled}
 use Rattle.packet_filter.specs.Names.{name_of}
 use Rattle.packet_filter.specs.Text.{words_of}
 use Rattle.packet_filter.specs.Values.{named_value_of}
-use Rattle.packet_filter.proofs.Complete.{EndsOperand, Takes, alone_ends, amid, any_takes, ether_takes, expects, head_takes, network_takes, value_alone}
+use Rattle.packet_filter.proofs.Complete.{EndsOperand, Takes, alone_ends, amid, any_takes, ether_takes, expects, has_net, head_takes, net_ends, network_takes, value_alone}
 use Rattle.packet_filter.proofs.Sound.{Amid, Begun, Opens, Read, Stands, StandsAt, read_at_end, stands_on}
 use Rattle.packet_filter.specs.Meaning.{Expression}
 use Rattle.packet_filter.proofs.Runs.{then_some}
 use Rattle.packet_filter.specs.Program.{and_then}
-use Rattle.packet_filter.specs.Grammar.{IsExpression, ethernet_broadcast, first_head, value_of}
-use Rattle.packet_filter.specs.Private.Machine.{State, complete, joined, outcome, put, step_of}
+use Rattle.packet_filter.specs.Grammar.{IsExpression, ethernet_broadcast, first_head, fits, masked_value_of, provided, value_of}
+use Rattle.packet_filter.specs.Private.Machine.{State, complete, found, head_of_net, joined, on_progress, outcome, primitive_of_net, put, step_of}
 use Rattle.packet_filter.specs.declared.address.Address.TheVariants.{V4, V6}
 use Rattle.packet_filter.specs.declared.expression.Direction.{Direction}
 use Rattle.packet_filter.specs.declared.expression.Layer.{Layer}
@@ -38,9 +40,10 @@ use Rattle.packet_filter.specs.declared.filter.Step.TheVariants as step
 use Rattle.packet_filter.specs.declared.head.Head.{Head}
 use Rattle.packet_filter.specs.declared.head.Head.TheVariants as head
 use Rattle.packet_filter.specs.declared.machine.Doing.{Doing}
-use Rattle.packet_filter.specs.declared.machine.Doing.TheVariants.{Operand, Within, Operator}
+use Rattle.packet_filter.specs.declared.machine.Doing.TheVariants.{Mask, Net, Operand, Within, Operator}
 use Rattle.packet_filter.specs.declared.machine.Waiting.{Waiting}
 use Rattle.packet_filter.specs.declared.machine.Waiting.TheVariants as waiting
+use Rattle.packet_filter.specs.declared.partial.NetAddress.{NetAddress}
 use Rattle.packet_filter.specs.declared.partial.Partial.{Partial}
 use Rattle.packet_filter.specs.declared.partial.Partial.TheVariants as partial
 use Rattle.packet_filter.specs.declared.partial.Scope.{Scope}
@@ -65,7 +68,7 @@ unfolding name_of
 closed zero = tt
 closed (suc n) = (refl, closed n)
 
-closing : (n : ℕ) → EndsOperand (closings n)
+pub closing : (n : ℕ) → EndsOperand (closings n)
 closing zero = tt
 closing (suc n) = tt
 
@@ -102,6 +105,26 @@ closed_up (waiting.Operator j ∷ waiting.Operator p ∷ ws) g h only ts out x o
 
 -- ---- words that complete a primitive, and their text
 
+-- a mask of all bits
+dotted_ones : codes "255.255.255.255" ≡ dotted_text 255 255 255 255
+unfolding digits
+dotted_ones = refl
+
+pub ones_4 : IsAddress (codes "255.255.255.255") (Some (V4 4294967295))
+unfolding ipv4_bits
+ones_4 = (
+  Ip.V4 (record { octets = 255 ∷ 255 ∷ 255 ∷ 255 ∷ [] }),
+  record { a = 255; b = 255; c = 255; d = 255; fit = (lit≤ tt, lit≤ tt, lit≤ tt, lit≤ tt); value = refl; spelled = dotted_ones },
+  refl,
+)
+
+abbrev pub with_all_bits : NetAddress → Primitive
+with_all_bits a = says.Masked a.network a.direction a.address 4294967295
+
+pub all_bits : (a : NetAddress) → fits a.network (V4 a.address) ≡ true → masked_value_of (head_of_net a) (Some a.address) (Some 4294967295) ≡ Some (with_all_bits a)
+all_bits a f =
+    ap (λ b. provided (b && (bit_and a.address 0 == 0)) (with_all_bits a)) f ∙ ap (λ k. provided (k == 0) (with_all_bits a)) (and_zero_r a.address)
+
 dotted : codes "0.0.0.0" ≡ dotted_text 0 0 0 0
 dotted = ap (λ z. z ++ codes "." ++ z ++ codes "." ++ z ++ codes "." ++ z) (sym (decimal_digit 0 (lit≤ tt)))
 
@@ -128,6 +151,10 @@ record Says (text : List ℕ) (w : Token) : Type 0 where
 says_4 : Says (codes "0.0.0.0 ") (token.Address (V4 0))
 unfolding name_of named_value_of
 says_4 = record { spells = λ more ts h. (record { address = Some (V4 0); is = zeros_4; says = refl }, h) }
+
+says_mask : Says (codes "255.255.255.255 ") (token.Address (V4 4294967295))
+unfolding name_of named_value_of
+says_mask = record { spells = λ more ts h. (record { address = Some (V4 4294967295); is = ones_4; says = refl }, h) }
 
 says_6 : Says (codes ":: ") (token.Address (V6 0))
 unfolding name_of named_value_of
@@ -199,12 +226,29 @@ go s next w text read x r = record {
   ends = record { steps = r.ends.steps; ends = read r.tokens ∙ r.ends.ends };
 }
 
+-- a text whose words can follow an operand
+record Closed (s : State) : Type 0 where
+  rest : Rest s
+  follows : EndsOperand rest.tokens
+
+-- one word before it
+go_before : (s next : State) (w : Token) (text : List ℕ) → ((us : List Token) → EndsOperand us → outcome (w ∷ us) s ≡ outcome us next) → Says text w → Closed next → Rest s
+go_before s next w text read x c = let r = c.rest in record {
+  more = text ++ r.more;
+  tokens = w ∷ r.tokens;
+  spelled = x.spells r.more r.tokens r.spelled;
+  ends = record { steps = r.ends.steps; ends = read r.tokens c.follows ∙ r.ends.ends };
+}
+
 -- an operand is complete
-closed_rest : (ws : List Waiting) (g h : Head) (only : Bool) (ts : List Token) (out x : List Step) → Opens ws g only ts out → Rest (complete h ws x)
-closed_rest ws g h only ts out x o = record { more = parens (open_in ws); tokens = closings (open_in ws); spelled = closed (open_in ws); ends = closed_up ws g h only ts out x o }
+closed_rest : (ws : List Waiting) (g h : Head) (only : Bool) (ts : List Token) (out x : List Step) → Opens ws g only ts out → Closed (complete h ws x)
+closed_rest ws g h only ts out x o = record {
+  rest = record { more = parens (open_in ws); tokens = closings (open_in ws); spelled = closed (open_in ws); ends = closed_up ws g h only ts out x o };
+  follows = closing (open_in ws);
+}
 
 abbrev Closes : List Waiting → Type 0
-Closes ws = (h : Head) (x : List Step) → Rest (complete h ws x)
+Closes ws = (h : Head) (x : List Step) → Closed (complete h ws x)
 
 -- a value of a head
 record HasValue (h : Head) : Type 0 where
@@ -241,7 +285,7 @@ has_value (head.Ether d) = a_value _ (token.Hardware (0 ∷ 0 ∷ 0 ∷ 0 ∷ 0 
 has_value head.EtherProto = a_value _ (token.Number 2048) (codes "2048 ") says_type _ refl
 
 value_rest : (q : Partial) (h : Head) (ws : List Waiting) (out : List Step) → Takes q h → Closes ws → Rest (amid q ws out)
-value_rest q h ws out t k = let v = has_value h in go _ (put v.primitive h ws out) v.word v.text (λ us. t.value v.word v.primitive v.is ws out us) v.says (k _ _)
+value_rest q h ws out t k = let v = has_value h in go_before _ (put v.primitive h ws out) v.word v.text (λ us f. t.value v.word v.primitive v.is ws out us f) v.says (k _ _)
 
 directed_rest : (s : Scope) (d : Direction) (ws : List Waiting) (out : List Step) → Closes ws → Rest (amid (partial.Directed s d) ws out)
 directed_rest scope.Any d ws out k = value_rest _ _ ws out (any_takes d) k
@@ -253,29 +297,29 @@ joined_rest : (s : Scope) (o : Joiner) (ws : List Waiting) (out : List Step) →
 joined_rest s o ws out k = go _ (amid (partial.Directed s (joined o)) ws out) _ _ (λ us. refl) says_dst (directed_rest s (joined o) ws out k)
 
 term_rest : (q : Quantity) (mask : Option ℕ) (ws : List Waiting) (out : List Step) → Closes ws → Rest (amid (partial.Term q mask) ws out)
-term_rest q mask ws out k = go _ (amid (partial.Constant (Limit q mask relation.Equal)) ws out) _ _ (λ us. refl) says_equal (go _ (put (says.Compare q mask relation.Equal 0) first_head ws out) _ _ (λ us. refl) says_number (k _ _))
+term_rest q mask ws out k = go _ (amid (partial.Constant (Limit q mask relation.Equal)) ws out) _ _ (λ us. refl) says_equal (go _ (put (says.Compare q mask relation.Equal 0) first_head ws out) _ _ (λ us. refl) says_number (k _ _).rest)
 
 constant_rest : (u : Use) (ws : List Waiting) (out : List Step) → Closes ws → Rest (amid (partial.Constant u) ws out)
 constant_rest (Masking q) ws out k = go _ (amid (partial.Term q (Some 0)) ws out) _ _ (λ us. refl) says_number (term_rest q (Some 0) ws out k)
-constant_rest (Limit q mask r) ws out k = go _ (put (says.Compare q mask r 0) first_head ws out) _ _ (λ us. refl) says_number (k _ _)
+constant_rest (Limit q mask r) ws out k = go _ (put (says.Compare q mask r 0) first_head ws out) _ _ (λ us. refl) says_number (k _ _).rest
 
 listed_rest : (u : Use) (bits : ℕ) (ws : List Waiting) (out : List Step) → Closes ws → Rest (amid (partial.Listed u bits) ws out)
 listed_rest (Masking q) bits ws out k = go _ (amid (partial.Term q (Some bits)) ws out) _ _ (λ us. refl) says_close (term_rest q (Some bits) ws out k)
-listed_rest (Limit q mask r) bits ws out k = go _ (put (says.Compare q mask r bits) first_head ws out) _ _ (λ us. refl) says_close (k _ _)
+listed_rest (Limit q mask r) bits ws out k = go _ (put (says.Compare q mask r bits) first_head ws out) _ _ (λ us. refl) says_close (k _ _).rest
 
 placed_rest : (l : Layer) (place : ℕ) (size : Size) (ws : List Waiting) (out : List Step) → Closes ws → Rest (amid (partial.Placed l place size) ws out)
 placed_rest l place size ws out k = go _ (amid (partial.Term (Load l place size) None) ws out) _ _ (λ us. refl) says_bracket (term_rest _ None ws out k)
 
 rest_within : (p : Partial) (ws : List Waiting) (out : List Step) (words : List Token) → Begun p words → Closes ws → ((w : Token) → p ≡ partial.Word w → Rest (amid p ws out)) → Rest (amid p ws out)
 rest_within (partial.Word w) ws out words b k f = f w refl
-rest_within partial.Ether ws out words b k f = go _ (put ethernet_broadcast first_head ws out) _ _ (λ us. refl) says_broadcast (k _ _)
+rest_within partial.Ether ws out words b k f = go _ (put ethernet_broadcast first_head ws out) _ _ (λ us. refl) says_broadcast (k _ _).rest
 rest_within (partial.Directed s d) ws out words b k f = directed_rest s d ws out k
 rest_within (partial.Joined s o) ws out words b k f = joined_rest s o ws out k
 rest_within (partial.Value h) ws out words b k f = value_rest _ h ws out (head_takes h) k
-rest_within partial.Less ws out words b k f = go _ (put (says.Compare Length None relation.LessOrEqual 0) first_head ws out) _ _ (λ us. refl) says_number (k _ _)
-rest_within partial.Greater ws out words b k f = go _ (put (says.Compare Length None relation.GreaterOrEqual 0) first_head ws out) _ _ (λ us. refl) says_number (k _ _)
-rest_within partial.First ws out words b k f = go _ (put says.FirstFragment first_head ws out) _ _ (λ us. refl) says_fragment (k _ _)
-rest_within partial.Checksum ws out words b k f = go _ (put says.WrongChecksum first_head ws out) _ _ (λ us. refl) says_wrong (k _ _)
+rest_within partial.Less ws out words b k f = go _ (put (says.Compare Length None relation.LessOrEqual 0) first_head ws out) _ _ (λ us. refl) says_number (k _ _).rest
+rest_within partial.Greater ws out words b k f = go _ (put (says.Compare Length None relation.GreaterOrEqual 0) first_head ws out) _ _ (λ us. refl) says_number (k _ _).rest
+rest_within partial.First ws out words b k f = go _ (put says.FirstFragment first_head ws out) _ _ (λ us. refl) says_fragment (k _ _).rest
+rest_within partial.Checksum ws out words b k f = go _ (put says.WrongChecksum first_head ws out) _ _ (λ us. refl) says_wrong (k _ _).rest
 rest_within (partial.Bracket l) ws out words b k f = go _ (amid (partial.Placed l 0 One) ws out) _ _ (λ us. refl) says_number (placed_rest l 0 One ws out k)
 rest_within (partial.Placed l place size) ws out words b k f = placed_rest l place size ws out k
 rest_within (partial.Term q mask) ws out words b k f = term_rest q mask ws out k
@@ -296,12 +340,30 @@ word_rest p ws out ts m w e =
       ends = record { steps = c.steps; ends = subst (λ q. outcome (closings (open_in ws)) (amid q ws out) ≡ Some c.steps) (sym e) (alone_ends w b.0 ws out (closings (open_in ws)) b.1 (closing (open_in ws)) ∙ c.ends) };
     }
 
+-- the address of a network is complete, and its mask completes it
+net_rest : (a : NetAddress) (ws : List Waiting) (out : List Step) (ts : List Token) → StandsAt (Net a) ws out ts → Rest (has_net a ws out)
+net_rest a ws out ts x =
+    let c = closed_up ws (head_of_net a) (head_of_net a) x.1.only x.0 out (out ++ step.Test (primitive_of_net a) ∷ []) x.1.opens in
+    record {
+      more = parens (open_in ws);
+      tokens = closings (open_in ws);
+      spelled = closed (open_in ws);
+      ends = record { steps = c.steps; ends = net_ends a ws out (closings (open_in ws)) (closing (open_in ws)) ∙ c.ends };
+    }
+
+mask_rest : (a : NetAddress) (ws : List Waiting) (out : List Step) (ts : List Token) → StandsAt (Mask a) ws out ts → Rest (record { doing = Mask a; waiting = ws; steps = out })
+mask_rest a ws out ts x =
+    go _ (put (with_all_bits a) (head_of_net a) ws out) _ _ (λ us. ap (λ o. and_then (on_progress (found (head_of_net a) o) ws out) (outcome us)) (all_bits a x.1.is.fits)) says_mask
+    (closed_rest ws (head_of_net a) (head_of_net a) x.1.only x.0 out (out ++ step.Test (with_all_bits a) ∷ []) x.1.opens).rest
+
 operand_rest : (only : Bool) (h : Head) (ws : List Waiting) (out : List Step) → Closes ws → Rest (expects h only ws out)
-operand_rest only h ws out k = let v = has_value h in go _ (put v.primitive h ws out) v.word v.text (λ us. ap (λ o. and_then o (outcome us)) (value_alone only v.word h v.primitive v.is ws out)) v.says (k _ _)
+operand_rest only h ws out k = let v = has_value h in go_before _ (put v.primitive h ws out) v.word v.text (λ us f. value_alone only v.word h v.primitive v.is ws out us f) v.says (k _ _)
 
 rest_after : (d : Doing) (ws : List Waiting) (out : List Step) (ts : List Token) → StandsAt d ws out ts → Rest (record { doing = d; waiting = ws; steps = out })
 rest_after (Operand h only) ws out ts o = operand_rest only h ws out (λ i x. closed_rest ws h i only ts out x o)
 rest_after (Within p) ws out ts m = rest_within p ws out m.words m.begun (λ i x. closed_rest ws m.head i false m.before out x m.opens) (word_rest p ws out ts m)
+rest_after (Net a) ws out ts x = net_rest a ws out ts x
+rest_after (Mask a) ws out ts x = mask_rest a ws out ts x
 rest_after (Operator c h) [] out ts b = record { more = []; tokens = []; spelled = tt; ends = record { steps = out; ends = refl } }
 rest_after (Operator c h) (waiting.Open g only ∷ ws) out ts b =
     let e = closed_up ws g g only b.opens.0 b.steps out b.opens.2 in

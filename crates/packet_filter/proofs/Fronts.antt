@@ -1,7 +1,6 @@
 -- Reading words from the first on.
-use Rattle.std.proofs.Common.{◌≡◌, ℕ, ◌+◌, ◌-◌, ◌<◌, ◌≤◌, List, [], ◌∷◌, ◌++◌, Option, Some, None, refl, sym, ap, ◌∙◌, subst, append_assoc, length, length-append, take, arith}
+use Rattle.std.proofs.Common.{◌≡◌, ℕ, ◌+◌, ◌-◌, ◌<◌, ◌≤◌, List, [], ◌∷◌, ◌++◌, Option, Some, None, refl, sym, ap, ◌∙◌, subst, append_assoc, length, length-append, arith}
 use Rattle.std.specs.Option.{unwrap_or}
-use Rattle.std.proofs.Math.Seq.{take-append_seam}
 use Rattle.std.proofs.lemmas.List.{append-nil}
 use Rattle.packet_filter.specs.Meaning.{Expression, one, negation, compound}
 use Rattle.packet_filter.specs.Program.{and_then, built, Computes, expression_of, top_of}
@@ -103,19 +102,36 @@ cannot_go_on s text rest word after count t r h e = λ c.
     (sym (ap (λ l. outcome l start) (p.whole ∙ ap (λ l. l ++ p.right) same ∙ append_assoc r.tokens (t ∷ []) p.right) ∙ r.leads (t ∷ p.right) ∙ ap (λ o. and_then o (outcome p.right)) e)
     ∙ expression_is_read c.sentence.tokens c.expression c.sentence.is)
 
-abbrev unexpected : (s : State) (text rest word after : List ℕ) (count place : ℕ) (t : Token) → (r : Reached s text rest count) → count < 64 → BeginsWithWord rest word after → Spells word t → step_of s t ≡ None → place ≡ length text - length after - length word → IsUnexpected text place
-unexpected s text rest word after count place t r few b h e at =
+-- where the next word stands
+record Place (text word after : List ℕ) (before : List (List ℕ)) (place : ℕ) : Type 0 where
+  front : List ℕ
+  whole : text ≡ front ++ (word ++ after)
+  at : place ≡ length front
+  words : words_of text ≡ before ++ word ∷ words_of after
+
+placed : (s : State) (text rest word after : List ℕ) (count place : ℕ) (r : Reached s text rest count) → BeginsWithWord rest word after → place ≡ length text - length after - length word → Place text word after r.before place
+placed s text rest word after count place r b at =
     let flat : r.front ++ (b.space ++ (word ++ after)) ≡ (r.front ++ b.space) ++ (word ++ after) = simp append_assoc in
     let whole : text ≡ (r.front ++ b.space) ++ (word ++ after) = r.whole ∙ ap (λ l. r.front ++ l) b.whole ∙ flat in
     let len : length text ≡ length (r.front ++ b.space) + (length word + length after) = ap length whole ∙ length-append (r.front ++ b.space) (word ++ after) ∙ ap (λ n. length (r.front ++ b.space) + n) (length-append word after) in
     record {
       front = r.front ++ b.space;
-      word = word;
-      rest = after;
-      before = r.before;
       whole = whole;
       at = omega (arith, at, len);
       words = r.words ∙ ap (λ l. r.before ++ l) b.words;
+    }
+
+abbrev unexpected : (s : State) (text rest word after : List ℕ) (count place : ℕ) (t : Token) → (r : Reached s text rest count) → count < 64 → BeginsWithWord rest word after → Spells word t → step_of s t ≡ None → place ≡ length text - length after - length word → IsUnexpected text place
+unexpected s text rest word after count place t r few b h e at =
+    let p = placed s text rest word after count place r b at in
+    record {
+      front = p.front;
+      word = word;
+      rest = after;
+      before = r.before;
+      whole = p.whole;
+      at = p.at;
+      words = p.words;
       few = omega (arith, r.counted, few);
       can = can_go_on s text rest count r;
       cannot = cannot_go_on s text rest word after count t r h e;
@@ -145,12 +161,20 @@ refused s next text rest word after count place t q x r few b h e at left l f =
     let w = why t (level_of (settled s).doing) (unwrap_or q (expected_of (settled s))) s text place u h k (λ o y. other_operator s r.before r.tokens o r.stands r.spelled (subst (λ z. step_of s z ≡ None) y e)) (λ o y. cannot_go_on s text rest (operator_word o) after count (token.Operator o) r (other_word o) y) in
     subst (Refuses text) (sym (f ∙ ap (λ (n : State). refusal place t (level_of n.doing) (unwrap_or q (expected_of n))) left)) w
 
-pub too_long : (s : State) (text rest word after : List ℕ) → Reached s text rest 64 → BeginsWithWord rest word after → Refuses text error.TooLong
-too_long s text rest word after r b =
-    let first : take 64 (words_of text) ≡ r.before = ap (λ l. take 64 l) r.words ∙ ap (λ n. take n (r.before ++ words_of rest)) r.counted ∙ take-append_seam r.before (words_of rest) in (
-      omega (arith, r.counted, ap length r.words, length-append r.before (words_of rest), ap length b.words),
-      subst CanGoOn (sym first) (can_go_on s text rest 64 r),
-    )
+pub too_long : (s : State) (text rest word after : List ℕ) (place : ℕ) → Reached s text rest 64 → BeginsWithWord rest word after → place ≡ length text - length after - length word → Refuses text (error.TooLong place)
+too_long s text rest word after place r b at =
+    let p = placed s text rest word after 64 place r b at in
+    record {
+      front = p.front;
+      word = word;
+      rest = after;
+      before = r.before;
+      whole = p.whole;
+      at = p.at;
+      words = p.words;
+      many = sym r.counted;
+      can = can_go_on s text rest 64 r;
+    }
 
 all_words : (s : State) (text rest : List ℕ) (count : ℕ) (r : Reached s text rest count) → words_of rest ≡ [] → words_of text ≡ r.before
 all_words s text rest count r h = r.words ∙ ap (λ l. r.before ++ l) h ∙ append-nil r.before
@@ -181,7 +205,7 @@ not_unexpected text e place t u =
     u.cannot (record { more = u.rest; expression = e; sentence = subst (λ w. IsSentence w e) (u.words ∙ sym (append_assoc u.before (u.word ∷ []) (words_of u.rest))) t })
 
 pub not_refused : (text : List ℕ) (e : Expression) (x : FilterError) → IsText text e → length (words_of text) ≤ 64 → Refuses text x → ⊥
-not_refused text e error.TooLong t few r = omega (arith, few, r.0)
+not_refused text e (error.TooLong place) t few r = omega (arith, few, r.many, ap length r.words, length-append r.before (r.word ∷ words_of r.rest))
 not_refused text e (error.Unexpected place expected) t few r = not_unexpected text e place t r.at
 not_refused text e (error.Mixed place o) t few r = not_unexpected text e place t r.at
 not_refused text e (error.Unsupported place) t few r = not_unexpected text e place t r.at

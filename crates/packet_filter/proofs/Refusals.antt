@@ -11,11 +11,11 @@ use Rattle.std.specs.Net.Text.{dotted_text}
 use Rattle.std.specs.declared.net.ip_addr.IpAddr.TheVariants as Ip
 use Rattle.packet_filter.specs.Addresses.{IsAddress}
 use Rattle.packet_filter.specs.Expected.{examples}
-use Rattle.packet_filter.specs.Grammar.{alone, first_head, value_of}
+use Rattle.packet_filter.specs.Grammar.{alone, first_head, fits, value_of}
 use Rattle.packet_filter.specs.Language.{AreSpelled, CanFollow, CanGoOn, operator_word, other}
 use Rattle.packet_filter.specs.Names.{name_of}
 use Rattle.packet_filter.specs.Program.{and_then}
-use Rattle.packet_filter.specs.Private.Machine.{State, after, complete, completed, expected_after, expected_of, expected_value, expected_within, is_open, level_of, outcome, qualifiers_doing, qualifiers_of, settled, settled_at, settled_doing, step_of, step_progress, version_of, whole}
+use Rattle.packet_filter.specs.Private.Machine.{State, after, complete, completed, expected_after, expected_of, expected_value, expected_within, found, head_of_net, is_open, level_of, on_progress, outcome, primitive_of_net, qualifiers_doing, qualifiers_of, settled, settled_at, settled_doing, step_of, step_progress, version_of, whole}
 use Rattle.packet_filter.specs.Text.{Spells, words_of}
 use Rattle.packet_filter.specs.Values.{named_value_of}
 use Rattle.packet_filter.specs.declared.address.Address.TheVariants.{V4, V6}
@@ -31,15 +31,17 @@ use Rattle.packet_filter.specs.declared.expression.Primitive.{Primitive}
 use Rattle.packet_filter.specs.declared.expression.Relation.TheVariants as relation
 use Rattle.packet_filter.specs.declared.expression.Size.TheVariants.{Four}
 use Rattle.packet_filter.specs.declared.expression.Transport.TheVariants.{Tcp}
+use Rattle.packet_filter.specs.declared.expression.Version.{Version}
 use Rattle.packet_filter.specs.declared.expression.Version.TheVariants.{Ipv4, Ipv6}
 use Rattle.packet_filter.specs.declared.filter.Step.{Step}
 use Rattle.packet_filter.specs.declared.filter.Step.TheVariants as step
 use Rattle.packet_filter.specs.declared.head.Head.{Head}
 use Rattle.packet_filter.specs.declared.head.Head.TheVariants as head
 use Rattle.packet_filter.specs.declared.machine.Doing.{Doing}
-use Rattle.packet_filter.specs.declared.machine.Doing.TheVariants.{Operand, Within, Operator}
+use Rattle.packet_filter.specs.declared.machine.Doing.TheVariants.{Mask, Net, Operand, Within, Operator}
 use Rattle.packet_filter.specs.declared.machine.Waiting.{Waiting}
 use Rattle.packet_filter.specs.declared.machine.Waiting.TheVariants as waiting
+use Rattle.packet_filter.specs.declared.partial.NetAddress.{NetAddress}
 use Rattle.packet_filter.specs.declared.partial.Partial.{Partial}
 use Rattle.packet_filter.specs.declared.partial.Partial.TheVariants as partial
 use Rattle.packet_filter.specs.declared.partial.Scope.{Scope}
@@ -48,10 +50,10 @@ use Rattle.packet_filter.specs.declared.partial.Use.{Use}
 use Rattle.packet_filter.specs.declared.partial.Use.TheVariants.{Limit, Masking}
 use Rattle.packet_filter.specs.declared.token.Token.{Token}
 use Rattle.packet_filter.specs.declared.token.Token.TheVariants as token
-use Rattle.packet_filter.proofs.Complete.{Takes, amid, ether_takes, expects, has_read, head_takes, network_takes, not_operator, after_complete, some_same, value_alone}
-use Rattle.packet_filter.proofs.Follows.{closed_up, closings, open_in, stands_can_go_on}
+use Rattle.packet_filter.proofs.Complete.{Takes, amid, ether_takes, expects, has_net, has_read, head_takes, network_takes, not_operator, after_complete, some_same, value_alone}
+use Rattle.packet_filter.proofs.Follows.{all_bits, closed_up, closing, closings, ones_4, open_in, stands_can_go_on}
 use Rattle.packet_filter.proofs.Runs.{then_some}
-use Rattle.packet_filter.proofs.Sound.{Amid, Stands, StandsAt, stands_on, whole_stands}
+use Rattle.packet_filter.proofs.Sound.{Amid, Opens, Stands, StandsAt, net_stands, stands_on, whole_stands}
 use Rattle.packet_filter.proofs.Spelled.{spelled_together}
 
 -- ---- words that a state takes
@@ -178,15 +180,19 @@ all_values : (h : Head) → All (Valued h) (examples (expected_value h))
 all_values h = All-from_recursion (Valued h) (examples (expected_value h)) (values_named h)
 
 -- a value alone
-alone_offers : (h : Head) (ws : List Waiting) (out : List Step) → Offers (expects h true ws out) (expected_value h)
-alone_offers h ws out = recursion_from_All (Taken (expects h true ws out)) (examples (expected_value h)) (λ k d i. let v = all_values h k d i in can v.token v.says (is_taken _ _ (value_alone true v.token h v.primitive v.is ws out)))
+alone_offers : (h : Head) (ws : List Waiting) (out : List Step) (ts : List Token) → Opens ws h true ts out → Offers (expects h true ws out) (expected_value h)
+alone_offers h ws out ts o = recursion_from_All (Taken (expects h true ws out)) (examples (expected_value h)) (λ k d i.
+    let v = all_values h k d i in
+    let c = closed_up ws h h true ts out (out ++ step.Test v.primitive ∷ []) o in
+    let n = then_some (step_of (expects h true ws out) v.token) (outcome (closings (open_in ws))) c.steps (value_alone true v.token h v.primitive v.is ws out (closings (open_in ws)) (closing (open_in ws)) ∙ c.ends) in
+    can v.token v.says (is_taken _ n.0 n.1))
 
 -- a value of a head that has begun
 value_offers : (q : Partial) (h : Head) (ws : List Waiting) (out : List Step) (ts : List Token) → Takes q h → Amid q ws out ts → Offers (amid q ws out) (expected_value h)
 value_offers q h ws out ts t m = recursion_from_All (Taken (amid q ws out)) (examples (expected_value h)) (λ k d i.
     let v = all_values h k d i in
     let c = closed_up ws m.head h false m.before out (out ++ step.Test v.primitive ∷ []) m.opens in
-    let n = then_some (step_of (amid q ws out) v.token) (outcome (closings (open_in ws))) c.steps (t.value v.token v.primitive v.is ws out (closings (open_in ws)) ∙ c.ends) in
+    let n = then_some (step_of (amid q ws out) v.token) (outcome (closings (open_in ws))) c.steps (t.value v.token v.primitive v.is ws out (closings (open_in ws)) (closing (open_in ws)) ∙ c.ends) in
     can v.token v.says (is_taken _ n.0 n.1))
 
 -- ---- primitives that have begun
@@ -228,16 +234,34 @@ within_offers (partial.Listed u bits) ws out ts e m = listed_offers u bits ws ou
 within_offers (partial.Bar u bits) ws out ts e m = (can (token.Number 64) refl tt, tt)
 
 -- words that stand alone, and what can follow them beside an operator
+ip_offers : (v : Version) (ws : List Waiting) (out : List Step) → Offers (amid (partial.Word (token.Network (network.Ip v))) ws out) expected.AfterIp
+unfolding name_of named_value_of
+ip_offers v ws out = (can token.Source refl tt, (can token.Destination refl tt, (can token.Host refl tt, (can token.Net refl tt, (can token.Proto refl tt, (can token.Multicast refl tt, (can token.OpenBracket refl tt, tt)))))))
+
 network_offers : (n : Network) (ws : List Waiting) (out : List Step) → Offers (amid (partial.Word (token.Network n)) ws out) expected.AfterNetwork
 unfolding name_of named_value_of
 network_offers n ws out = (can token.Source refl tt, (can token.Destination refl tt, (can token.Host refl tt, (can token.Net refl tt, (can token.OpenBracket refl tt, tt)))))
 
 word_offers : (p : Partial) (e : Expected) (ws : List Waiting) (out : List Step) → qualifiers_of p ≡ Some e → Offers (amid p ws out) e
 unfolding name_of named_value_of
-word_offers (partial.Word (token.Network n)) e ws out f = subst (Offers _) (some_same _ e f) (network_offers n ws out)
+word_offers (partial.Word (token.Network (network.Ip v))) e ws out f = subst (Offers _) (some_same _ e f) (ip_offers v ws out)
+word_offers (partial.Word (token.Network network.Arp)) e ws out f = subst (Offers _) (some_same _ e f) (network_offers network.Arp ws out)
+word_offers (partial.Word (token.Network network.Rarp)) e ws out f = subst (Offers _) (some_same _ e f) (network_offers network.Rarp ws out)
 word_offers (partial.Word (token.Transport t)) e ws out f = subst (Offers _) (some_same _ e f) ((can token.Source refl tt, (can token.Destination refl tt, (can token.Port refl tt, (can token.PortRange refl tt, (can token.OpenBracket refl tt, tt))))))
 word_offers (partial.Word token.Vlan) e ws out f = subst (Offers _) (some_same _ e f) ((can (token.Number 5) refl tt, tt))
 word_offers _ e ws out f = cc
+
+-- the address of a network, and `mask` after it
+net_offers : (a : NetAddress) (ws : List Waiting) (out : List Step) → Offers (has_net a ws out) expected.AfterAddress
+unfolding name_of named_value_of
+net_offers a ws out = (can token.Mask refl tt, tt)
+
+says_mask : Spells (codes "255.255.255.255") (token.Address (V4 4294967295))
+unfolding name_of named_value_of
+says_mask = record { address = Some (V4 4294967295); is = ones_4; says = refl }
+
+mask_offers : (a : NetAddress) (ws : List Waiting) (out : List Step) → fits a.network (V4 a.address) ≡ true → Offers (record { doing = Mask a; waiting = ws; steps = out }) expected.Mask
+mask_offers a ws out f = (can _ says_mask (is_taken _ _ (ap (λ o. on_progress (found (head_of_net a) o) ws out) (all_bits a f))), tt)
 
 -- ---- operators
 
@@ -263,9 +287,11 @@ whole_offers None p ws out ts e m = within_offers p ws out ts e m
 
 settled_offers : (d : Doing) (ws : List Waiting) (out : List Step) (ts : List Token) → StandsAt d ws out ts → Offers (settled_doing d ws out) (expected_of (settled_doing d ws out))
 unfolding name_of named_value_of
-settled_offers (Operand h true) ws out ts x = alone_offers h ws out
+settled_offers (Operand h true) ws out ts x = alone_offers h ws out ts x
 settled_offers (Operand h false) ws out ts x = (can token.Not refl tt, (can token.Open refl tt, (can (token.Transport Tcp) refl tt, (can token.Host refl tt, tt))))
 settled_offers (Within p) ws out ts m = whole_offers (whole p) p ws out ts refl m
+settled_offers (Net a) ws out ts x = complete_offers (head_of_net a) ws (out ++ step.Test (primitive_of_net a) ∷ [])
+settled_offers (Mask a) ws out ts x = mask_offers a ws out x.1.is.fits
 settled_offers (Operator c h) ws out ts x = operator_offers c h ws out
 
 -- ---- where an operator cannot stand
@@ -312,6 +338,10 @@ operator_tells : (d : Doing) (ws : List Waiting) (out : List Step) (o : Joiner) 
 operator_tells (Operand h true) ws out o f = refl
 operator_tells (Operand h false) ws out o f = refl
 operator_tells (Within p) ws out o f = within_tells p ws out o f
+operator_tells (Net a) ws out o f =
+    let out' = out ++ step.Test (primitive_of_net a) ∷ [] in
+    complete_tells (head_of_net a) ws out' (has_net a ws out) o (sym (after_complete (head_of_net a) ws out' (token.Operator o)) ∙ f)
+operator_tells (Mask a) ws out o f = refl
 operator_tells (Operator c h) ws out o f = after_tells c h ws out (has_read c h ws out) o f
 
 -- ---- texts
@@ -323,6 +353,8 @@ whole_settled None p ws out ts e m = m
 settled_stands : (d : Doing) (ws : List Waiting) (out : List Step) (ts : List Token) → StandsAt d ws out ts → Stands (settled_doing d ws out) ts
 settled_stands (Operand h only) ws out ts x = x
 settled_stands (Within p) ws out ts m = whole_settled (whole p) p ws out ts refl m
+settled_stands (Net a) ws out ts x = net_stands a ws out ts x
+settled_stands (Mask a) ws out ts x = x
 settled_stands (Operator c h) ws out ts x = x
 
 taken_goes : (s : State) (before : List (List ℕ)) (ts : List Token) (word : List ℕ) → Stands s ts → AreSpelled before ts → Taken s word → CanGoOn (before ++ word ∷ [])
@@ -340,6 +372,8 @@ end_offers s before ts x y = offered _ _ before ts (settled_stands s.doing s.wai
 
 qualified : (d : Doing) (e : Expected) (ws : List Waiting) (out : List Step) → qualifiers_doing d ≡ Some e → Offers (record { doing = d; waiting = ws; steps = out }) e
 qualified (Within p) e ws out f = word_offers p e ws out f
+qualified (Net a) e ws out f = subst (Offers _) (some_same _ e f) (net_offers a ws out)
+qualified (Mask a) e ws out f = cc
 qualified (Operand h only) e ws out f = cc
 qualified (Operator c h) e ws out f = cc
 

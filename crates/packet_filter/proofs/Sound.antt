@@ -5,8 +5,9 @@ use Rattle.std.proofs.lemmas.Bool.{leb-true}
 use Rattle.packet_filter.proofs.Complete.{postfix, IsBase, some_same}
 use Rattle.packet_filter.specs.Meaning.{Expression, one, negation, compound}
 use Rattle.packet_filter.specs.Program.{and_then}
-use Rattle.packet_filter.specs.Grammar.{IsHead, host, directed, net, port, portrange, proto, ether_host, ether_directed, ether_proto, IsPrimitive, word, vlan, less, greater, ether_broadcast, ether_multicast, multicast, first_fragment, checksum_wrong, comparison, AreBits, single, with, IsConstant, number, list, IsTerm, len, load, masked_, grouped, Kind, operand, chain, Reads, primitive, headed, value, not_, parentheses, first, more, IsExpression, direction_words, first_head, value_of, alone, layer_of, loads_at}
-use Rattle.packet_filter.specs.Private.Machine.{State, complete, put, found, finish, finish_state, finish_at, finish_doing, after, after_doing, step_of, step_state, step_operator, step_progress, completed, close, closes_term, tail_of, on_progress, or_value, chosen, operand_at, waiting_of, head_of, is_only, values_after, within_at, begin, next, whole, given, start, after_network, after_transport, after_protocol, after_vlan, after_word, after_ether, after_any, after_of_network, after_of_transport, after_of_ether, after_scope, after_source, after_direction, after_joined, after_bracket, after_placed, after_and, after_term, after_use, after_opened, after_listed, after_bar}
+use Rattle.packet_filter.specs.Grammar.{IsHead, host, directed, net, port, portrange, proto, ether_host, ether_directed, ether_proto, IsPrimitive, word, vlan, less, greater, ether_broadcast, ether_multicast, multicast, first_fragment, checksum_wrong, comparison, AreBits, single, with, IsConstant, number, list, IsTerm, len, load, masked_, grouped, Kind, operand, chain, Reads, primitive, headed, value, masked_value, not_, parentheses, first, more, IsExpression, direction_words, first_head, fits, provided, value_of, ipv4_of, masked_value_of, alone, layer_of, loads_at}
+use Rattle.packet_filter.specs.Private.Machine.{State, begun_at, complete, put, put_net, found, head_of_net, if_fits, net_address_of, net_at, primitive_of_net, step_net, finish, finish_state, finish_at, finish_doing, after, after_doing, step_of, step_state, step_operator, step_progress, completed, close, closes_term, tail_of, on_progress, or_value, chosen, operand_at, waiting_of, head_of, is_only, values_after, within_at, begin, next, whole, given, start, after_network, after_transport, after_protocol, after_vlan, after_word, after_ether, after_any, after_of_network, after_of_transport, after_of_ether, after_scope, after_source, after_direction, after_joined, after_bracket, after_placed, after_and, after_term, after_use, after_opened, after_listed, after_bar}
+use Rattle.packet_filter.specs.declared.address.Address.TheVariants.{V4}
 use Rattle.packet_filter.specs.declared.expression.Direction.{Direction}
 use Rattle.packet_filter.specs.declared.expression.Direction.TheVariants as direction
 use Rattle.packet_filter.specs.declared.expression.Layer.{Layer}
@@ -26,9 +27,10 @@ use Rattle.packet_filter.specs.declared.filter.Step.TheVariants as step
 use Rattle.packet_filter.specs.declared.head.Head.{Head}
 use Rattle.packet_filter.specs.declared.head.Head.TheVariants as head
 use Rattle.packet_filter.specs.declared.machine.Doing.{Doing}
-use Rattle.packet_filter.specs.declared.machine.Doing.TheVariants.{Operand, Within, Operator}
+use Rattle.packet_filter.specs.declared.machine.Doing.TheVariants.{Mask, Net, Operand, Within, Operator}
 use Rattle.packet_filter.specs.declared.machine.Waiting.{Waiting}
 use Rattle.packet_filter.specs.declared.machine.Waiting.TheVariants as waiting
+use Rattle.packet_filter.specs.declared.partial.NetAddress.{NetAddress}
 use Rattle.packet_filter.specs.declared.partial.Partial.{Partial}
 use Rattle.packet_filter.specs.declared.partial.Partial.TheVariants as partial
 use Rattle.packet_filter.specs.declared.partial.Progress.{Progress}
@@ -328,9 +330,38 @@ pub record Amid (p : Partial) (ws : List Waiting) (out : List Step) (ts : List T
   pub begun : Begun p words
   pub opens : Opens ws head false before out
 
+-- the word is the address of a network after this head
+pub record IsNet (w : Token) (o : Option Head) (a : NetAddress) : Type 0 where
+  pub head : o ≡ Some (head_of_net a)
+  pub address : ipv4_of w ≡ Some a.address
+  pub value : value_of w (head_of_net a) ≡ Some (primitive_of_net a)
+  pub fits : fits a.network (V4 a.address) ≡ true
+
+net_fits : (b : Bool) (x a : NetAddress) → if_fits b x ≡ Some a → (b ≡ true) × (x ≡ a)
+net_fits true x a e = (refl, some_same x a e)
+net_fits false x a e = cc
+
+net_word : (w : Token) (o : Option Head) (a : NetAddress) → net_address_of w o ≡ Some a → IsNet w o a
+net_word (token.Address (V4 k)) (Some (head.Net n d)) a e =
+    let x = net_fits (fits n (V4 k)) _ a e in
+    subst (IsNet (token.Address (V4 k)) (Some (head.Net n d))) x.1 (record { head = refl; address = refl; value = ap (λ b. provided b (says.Net n d (V4 k) 32)) x.0; fits = x.0 })
+net_word (token.Front k bits) (Some (head.Net n d)) a e =
+    let x = net_fits (fits n (V4 k)) _ a e in
+    subst (IsNet (token.Front k bits) (Some (head.Net n d))) x.1 (record { head = refl; address = refl; value = ap (λ b. provided b (says.Net n d (V4 k) bits)) x.0; fits = x.0 })
+net_word _ _ a e = cc
+
+-- such a word stands after these
+pub record AtNet (a : NetAddress) (ws : List Waiting) (out : List Step) (us : List Token) : Type 0 where
+  pub word : Token
+  pub only : Bool
+  pub is : IsNet word (Some (head_of_net a)) a
+  pub opens : Opens ws (head_of_net a) only us out
+
 abbrev pub StandsAt : Doing → List Waiting → List Step → List Token → Type 0
 StandsAt (Operand h only) ws out ts = Opens ws h only ts out
 StandsAt (Within p) ws out ts = Amid p ws out ts
+StandsAt (Net a) ws out ts = (us : List Token) × (x : AtNet a ws out us) × (ts ≡ us ++ x.word ∷ [])
+StandsAt (Mask a) ws out ts = (us : List Token) × (x : AtNet a ws out us) × (ts ≡ us ++ x.word ∷ token.Mask ∷ [])
 StandsAt (Operator c h) ws out ts = Following c h ws out ts
 
 -- the state is that after these words
@@ -385,6 +416,16 @@ chosen_stands : (only : Bool) (w : Token) (g : Head) (ws : List Waiting) (out : 
 chosen_stands true w g ws out ts s x e = valued_stands (value_of w g) w true g ws out ts s refl x e
 chosen_stands false w g ws out ts s x e = or_value_stands (begin w) w g ws out ts s (begun g w) x e
 
+-- the address of a network, or any other word
+net_begun : (w : Token) (g : Head) (a : NetAddress) (only : Bool) (ws : List Waiting) (out : List Step) (ts : List Token) → IsNet w (Some g) a → Opens ws g only ts out → StandsAt (Net a) ws out (ts ++ w ∷ [])
+net_begun w g a only ws out ts i x =
+    let same = some_same g (head_of_net a) i.head in
+    (ts, record { word = w; only = only; is = subst (λ h. IsNet w (Some h) a) same i; opens = subst (λ h. Opens ws h only ts out) same x }, refl)
+
+begun_steps : (o : Option NetAddress) (w : Token) (only : Bool) (g : Head) (ws : List Waiting) (out : List Step) (ts : List Token) (s : State) → net_address_of w (Some g) ≡ o → Opens ws g only ts out → begun_at o (chosen only g w) ws out ≡ Some s → Stands s (ts ++ w ∷ [])
+begun_steps (Some a) w only g ws out ts s f x e = subst (λ z. Stands z (ts ++ w ∷ [])) (some_same _ s e) (net_begun w g a only ws out ts (net_word w (Some g) a f) x)
+begun_steps None w only g ws out ts s f x e = chosen_stands only w g ws out ts s x e
+
 waits_on : (w : Token) (y : Waiting) (only : Bool) (g : Head) (ws : List Waiting) (out : List Step) (ts : List Token) → waiting_of g only w ≡ Some y → Opens ws g only ts out → Opens (y ∷ ws) g only (ts ++ w ∷ []) out
 waits_on token.Not y only g ws out ts e x = subst (λ z. Opens (z ∷ ws) g only (ts ++ token.Not ∷ []) out) (some_same waiting.Not y e) (ts, refl, x)
 waits_on token.Open y only g ws out ts e x = subst (λ z. Opens (z ∷ ws) g only (ts ++ token.Open ∷ []) out) (some_same (waiting.Open g only) y e) (ts, refl, x, refl, refl)
@@ -392,7 +433,7 @@ waits_on _ y only g ws out ts e x = cc
 
 operand_steps : (o : Option Waiting) (w : Token) (only : Bool) (g : Head) (ws : List Waiting) (out : List Step) (ts : List Token) (s : State) → waiting_of g only w ≡ o → Opens ws g only ts out → operand_at o g only w ws out ≡ Some s → Stands s (ts ++ w ∷ [])
 operand_steps (Some y) w only g ws out ts s f x e = subst (λ z. Stands z (ts ++ w ∷ [])) (some_same _ s e) (waits_on w y only g ws out ts f x)
-operand_steps None w only g ws out ts s f x e = chosen_stands only w g ws out ts s x e
+operand_steps None w only g ws out ts s f x e = begun_steps (net_address_of w (Some g)) w only g ws out ts s refl x e
 
 -- values alone are what can follow, if they stand in a group of such
 only_within : (ws : List Waiting) (h : Head) (only : Bool) (ts : List Token) (out : List Step) → IsBase ws → Opens ws h only ts out → only ≡ is_only ws
@@ -432,6 +473,8 @@ operator_steps _ _ _ ws out ts s b e = cc
 after_steps : (d : Doing) (w : Token) (ws : List Waiting) (out : List Step) (ts : List Token) (s : State) → StandsAt d ws out ts → after_doing d w ws out ≡ Some s → Stands s (ts ++ w ∷ [])
 after_steps (Operand h only) w ws out ts s x e = cc
 after_steps (Within p) w ws out ts s x e = cc
+after_steps (Net a) w ws out ts s x e = cc
+after_steps (Mask a) w ws out ts s x e = cc
 after_steps (Operator c h) w ws out ts s x e = operator_steps c h w ws out ts s x e
 
 amid_more : (p : Partial) (us : List Token) (ws : List Waiting) (out : List Step) (ts : List Token) (m : Amid p ws out ts) → m.before ++ (m.words ++ us) ≡ ts ++ us
@@ -496,17 +539,51 @@ values_opened : (o : Option Head) (w : Token) (x : Head × Waiting) (p : Partial
 values_opened None w x p ws out ts f e m = absurd (no_values w x e)
 values_opened (Some h) w x p ws out ts f e m = values_open h w x p ws out ts f e m
 
+-- so does the address of a network
+net_steps : (o : Option NetAddress) (p : Partial) (w : Token) (ws : List Waiting) (out : List Step) (ts : List Token) (s : State) → net_address_of w (head_of p) ≡ o → Amid p ws out ts → net_at o p w ws out ≡ Some s → Stands s (ts ++ w ∷ [])
+net_steps (Some a) p w ws out ts s f m e =
+    let i = net_word w (head_of p) a f in
+    let opens : Opens (waiting.Head ∷ ws) (head_of_net a) true ts out = (m.before, m.words, m.text, head_begun p (head_of_net a) m.words i.head m.begun, refl, m.head, m.opens) in
+    subst (λ z. Stands z (ts ++ w ∷ [])) (some_same _ s e) (net_begun w (head_of_net a) a true (waiting.Head ∷ ws) out ts (subst (λ o. IsNet w o a) i.head i) opens)
+net_steps None p w ws out ts s f m e = within_progress (next p w) p w ws out ts s m (continued m.head p m.words w m.begun) e
+
 at_steps : (o : Option (Head × Waiting)) (p : Partial) (w : Token) (ws : List Waiting) (out : List Step) (ts : List Token) (s : State) → values_after w (head_of p) ≡ o → Amid p ws out ts → within_at o p w ws out ≡ Some s → Stands s (ts ++ w ∷ [])
 at_steps (Some x) p w ws out ts s f m e = subst (λ z. Stands z (ts ++ w ∷ [])) (some_same _ s e) (values_opened (head_of p) w x p ws out ts refl f m)
-at_steps None p w ws out ts s f m e = within_progress (next p w) p w ws out ts s m (continued m.head p m.words w m.begun) e
+at_steps None p w ws out ts s f m e = net_steps (net_address_of w (head_of p)) p w ws out ts s refl m e
 
 within_steps : (b : Bool) (p : Partial) (w : Token) (ws : List Waiting) (out : List Step) (ts : List Token) (s : State) → closes_term p w ws ≡ b → Amid p ws out ts → cond b (Some (record { doing = Within p; waiting = tail_of ws; steps = out })) (within_at (values_after w (head_of p)) p w ws out) ≡ Some s → Stands s (ts ++ w ∷ [])
 within_steps true p w ws out ts s f m e = subst (λ x. Stands x (ts ++ w ∷ [])) (some_same _ s e) (group_steps p w ws out ts f m)
 within_steps false p w ws out ts s f m e = at_steps (values_after w (head_of p)) p w ws out ts s refl m e
 
+-- after the address of a network, which is complete without a mask
+pub net_stands : (a : NetAddress) (ws : List Waiting) (out : List Step) (ts : List Token) → StandsAt (Net a) ws out ts → Stands (put_net a ws out) ts
+net_stands a ws out ts x =
+    let n = x.1 in
+    subst (Stands (put_net a ws out)) (sym x.2) (completes ws x.0 out (n.word ∷ []) (one (primitive_of_net a)) n.only (head_of_net a) (head_of_net a) n.opens (value n.word n.is.value))
+
+net_on : (a : NetAddress) (w : Token) (ws : List Waiting) (out : List Step) (ts : List Token) (s : State) → StandsAt (Net a) ws out ts → step_net a w ws out ≡ Some s → Stands s (ts ++ w ∷ [])
+net_on a token.Mask ws out ts s x e =
+    subst (λ z. Stands z (ts ++ token.Mask ∷ [])) (some_same _ s e) (x.0, x.1, ap (λ l. l ++ token.Mask ∷ []) x.2 ∙ append_assoc x.0 (x.1.word ∷ []) (token.Mask ∷ []))
+net_on a w ws out ts s x e =
+    let y = put_net a ws out in
+    after_steps y.doing w y.waiting y.steps ts s (net_stands a ws out ts x) e
+
+-- its mask
+mask_on : (o : Option Primitive) (a : NetAddress) (w : Token) (ws : List Waiting) (out : List Step) (ts : List Token) (s : State) → masked_value_of (head_of_net a) (Some a.address) (ipv4_of w) ≡ o → StandsAt (Mask a) ws out ts → on_progress (found (head_of_net a) o) ws out ≡ Some s → Stands s (ts ++ w ∷ [])
+mask_on (Some p) a w ws out ts s f x e =
+    let n = x.1 in
+    let h = head_of_net a in
+    let is : masked_value_of h (ipv4_of n.word) (ipv4_of w) ≡ Some p = ap (λ o. masked_value_of h o (ipv4_of w)) n.is.address ∙ f in
+    let done : Stands (put p h ws out) (x.0 ++ n.word ∷ token.Mask ∷ w ∷ []) = completes ws x.0 out (n.word ∷ token.Mask ∷ w ∷ []) (one p) n.only h h n.opens (masked_value n.word w is) in
+    let place : x.0 ++ n.word ∷ token.Mask ∷ w ∷ [] ≡ ts ++ w ∷ [] = sym (ap (λ l. l ++ w ∷ []) x.2 ∙ append_assoc x.0 (n.word ∷ token.Mask ∷ []) (w ∷ [])) in
+    subst (λ z. Stands z (ts ++ w ∷ [])) (some_same _ s e) (subst (Stands (put p h ws out)) place done)
+mask_on None a w ws out ts s f x e = cc
+
 steps_at : (d : Doing) (w : Token) (ws : List Waiting) (out : List Step) (ts : List Token) (s : State) → StandsAt d ws out ts → step_state d w ws out ≡ Some s → Stands s (ts ++ w ∷ [])
 steps_at (Operand h only) w ws out ts s x e = operand_steps (waiting_of h only w) w only h ws out ts s refl x e
 steps_at (Within p) w ws out ts s x e = within_steps (closes_term p w ws) p w ws out ts s refl x e
+steps_at (Net a) w ws out ts s x e = net_on a w ws out ts s x e
+steps_at (Mask a) w ws out ts s x e = mask_on (masked_value_of (head_of_net a) (Some a.address) (ipv4_of w)) a w ws out ts s refl x e
 steps_at (Operator c h) w ws out ts s x e = operator_steps c h w ws out ts s x e
 
 pub stands_on : (x : State) (w : Token) (ts : List Token) (s : State) → Stands x ts → step_of x w ≡ Some s → Stands s (ts ++ w ∷ [])
@@ -524,6 +601,8 @@ pub record Read (ts : List Token) (out : List Step) : Type 0 where
 ends_at : (d : Doing) (ws : List Waiting) (out o : List Step) (ts : List Token) → StandsAt d ws out ts → finish_at d ws out ≡ Some o → Read ts o
 ends_at (Operand h only) ws out o ts x e = cc
 ends_at (Within p) ws out o ts x e = cc
+ends_at (Net a) ws out o ts x e = cc
+ends_at (Mask a) ws out o ts x e = cc
 ends_at (Operator c h) (w ∷ ws) out o ts x e = cc
 ends_at (Operator c h) [] out o ts b e = record {
   expression = b.expression;
@@ -540,6 +619,10 @@ whole_ends (Some a) p ws out o ts h m e =
 finishes_at : (d : Doing) (ws : List Waiting) (out o : List Step) (ts : List Token) → StandsAt d ws out ts → finish_doing d ws out ≡ Some o → Read ts o
 finishes_at (Operand h only) ws out o ts x e = cc
 finishes_at (Within p) ws out o ts x e = whole_ends (whole p) p ws out o ts refl x e
+finishes_at (Net a) ws out o ts x e =
+    let y = put_net a ws out in
+    ends_at y.doing y.waiting y.steps o ts (net_stands a ws out ts x) e
+finishes_at (Mask a) ws out o ts x e = cc
 finishes_at (Operator c h) ws out o ts x e = ends_at (Operator c h) ws out o ts x e
 
 pub read_at_end : (s : State) (o : List Step) (ts : List Token) → Stands s ts → finish s ≡ Some o → Read ts o

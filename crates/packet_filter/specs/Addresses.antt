@@ -52,12 +52,17 @@ networked (Some address) (Some bits) = Some (token.Prefix (V4 address) bits)
 networked None bits = None
 networked (Some address) None = None
 
+-- the front of an IPv4 address, if it is there, and how many bits it is
+abbrev pub fronted : Option ℕ → ℕ → Option Token
+fronted None bits = None
+fronted (Some address) bits = Some (token.Front address bits)
+
 -- up to three octets, alone or with a slash and a number after them
 abbrev pub short_net_of : List ℕ → Option Token
 short_net_of word =
     if has slash word then
     networked (short_address (before slash word)) (number_of (beyond slash word))
-    else networked (short_address word) (Some (short_len word))
+    else fronted (short_address word) (short_len word)
 
 -- ---- Ethernet addresses
 

@@ -20,6 +20,11 @@ row (expected.Operator (Some And) false) = (codes "and" ∷ [], codes "`and`")
 row (expected.Operator (Some And) true) = (codes "and" ∷ codes ")" ∷ [], codes "`and` or `)`")
 row (expected.Operator (Some Or) false) = (codes "or" ∷ [], codes "`or`")
 row (expected.Operator (Some Or) true) = (codes "or" ∷ codes ")" ∷ [], codes "`or` or `)`")
+row expected.AfterIp = (
+  codes "src" ∷ codes "dst" ∷ codes "host" ∷ codes "net" ∷ codes "proto" ∷ codes "multicast" ∷
+      codes "[" ∷ [],
+  codes "`src`, `dst`, `host`, `net`, `proto`, `multicast`, `[` or an operator",
+)
 row expected.AfterNetwork = (
   codes "src" ∷ codes "dst" ∷ codes "host" ∷ codes "net" ∷ codes "[" ∷ [],
   codes "`src`, `dst`, `host`, `net`, `[` or an operator",
@@ -69,6 +74,11 @@ row (expected.Network (Some Ipv4)) = (
 row (expected.Network (Some Ipv6)) = (
   codes "fe80::/10" ∷ [],
   codes "an IPv6 network, such as `fe80::/10`",
+)
+row expected.AfterAddress = (codes "mask" ∷ [], codes "`mask` or an operator")
+row expected.Mask = (
+  codes "255.255.255.255" ∷ [],
+  codes "a mask with all bits of the address, such as `255.255.255.255`",
 )
 row expected.Port = (codes "80" ∷ codes "http" ∷ [], codes "a port, such as `80` or `http`")
 row expected.PortRange = (codes "6000-6063" ∷ [], codes "a range of ports, such as `6000-6063`")

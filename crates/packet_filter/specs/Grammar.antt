@@ -1,7 +1,7 @@
 -- The language of expressions, over words (pcap-filter(7)).
-use Rattle.std.specs.Prelude.{ℕ, ◌*◌, ◌^◌, ◌&&◌, ◌≡◌, ◌≤◌, Bool, true, false, not, List}
-use Rattle.std.specs.Prelude.{[], ◌∷◌, ◌++◌, Option, None, Some, bit_or, if◌then◌else◌, nat_le}
-use Rattle.std.specs.Prelude.{nat_lt}
+use Rattle.std.specs.Prelude.{ℕ, ◌*◌, ◌-◌, ◌^◌, ◌&&◌, ◌==◌, ◌≡◌, ◌≤◌, Bool, true, false, not}
+use Rattle.std.specs.Prelude.{List, [], ◌∷◌, ◌++◌, Option, None, Some, bit_and, bit_or}
+use Rattle.std.specs.Prelude.{if◌then◌else◌, nat_le, nat_lt}
 use Rattle.packet_filter.specs.Meaning.{Expression, one, negation, compound, transport_number}
 use Rattle.packet_filter.specs.declared.address.Address.{Address}
 use Rattle.packet_filter.specs.declared.address.Address.TheVariants.{V4, V6}
@@ -106,6 +106,8 @@ value_of (token.Address a) (head.Host n d) = provided (fits n a) (says.Net n d a
 value_of (token.Address a) (head.Net n d) = provided (fits n a) (says.Net n d a (bits_of a))
 value_of (token.Prefix a bits) (head.Net n d) =
     provided (fits n a && nat_le bits (bits_of a)) (says.Net n d a bits)
+value_of (token.Front a bits) (head.Net n d) =
+    provided (fits n (V4 a)) (says.Net n d (V4 a) bits)
 value_of (token.Number k) (head.Net n d) =
     provided (fits n (V4 0) && nat_le k 255) (says.Net n d (V4 (k * 2 ^ 24)) 8)
 value_of (token.Number k) (head.Port t d) = provided (nat_le k 65535) (says.Ports t d k k)
@@ -119,6 +121,19 @@ value_of (token.IpNumber k) (head.Proto v) = Some (says.Proto v k)
 value_of (token.Hardware address) (head.Ether d) = Some (says.Hardware d address)
 value_of (token.TypeName k) head.EtherProto = Some (says.EtherType k)
 value_of _ _ = None
+
+-- the IPv4 address that two to four octets are: zeros follow them
+abbrev pub ipv4_of : Token → Option ℕ
+ipv4_of (token.Address (V4 a)) = Some a
+ipv4_of (token.Front a bits) = Some a
+ipv4_of _ = None
+
+-- What an address and a mask say after a head. A mask is of any bits, but has all that the address
+-- has.
+abbrev pub masked_value_of : Head → Option ℕ → Option ℕ → Option Primitive
+masked_value_of (head.Net n d) (Some a) (Some mask) =
+    provided (fits n (V4 a) && (bit_and a (2 ^ 32 - 1 - mask) == 0)) (says.Masked n d a mask)
+masked_value_of _ _ _ = None
 
 -- ---- words that stand alone
 
@@ -242,7 +257,8 @@ first_head = head.Host None None
 -- The words are an expression of this kind. `not` binds tighter than `and` and `or`, which stand
 -- together only where parentheses keep them apart. A value alone has the head of the primitive
 -- before it, past any parentheses: in place of the words its head would be `before`, and after them
--- `after`. If `only` is true, all primitives are values alone: so after a head.
+-- `after`. If `only` is true, all primitives are values alone: so after a head. A network has its
+-- mask after the word `mask`.
 pub data Reads : Kind → Bool → Head → List Token → Expression → Head → Type 0 where
   primitive : {before : Head} {words : List Token} {p : Primitive} → IsPrimitive words p
       → Reads operand false before words (one p) first_head
@@ -250,6 +266,9 @@ pub data Reads : Kind → Bool → Head → List Token → Expression → Head �
       → Reads operand true h values e after → Reads operand false before (words ++ values) e after
   value : {only : Bool} {h : Head} {p : Primitive} → (w : Token) → value_of w h ≡ Some p
       → Reads operand only h (w ∷ []) (one p) h
+  masked_value : {only : Bool} {h : Head} {p : Primitive} → (address mask : Token)
+      → masked_value_of h (ipv4_of address) (ipv4_of mask) ≡ Some p
+      → Reads operand only h (address ∷ token.Mask ∷ mask ∷ []) (one p) h
   not_ : {only : Bool} {before after : Head} {words : List Token} {e : Expression}
       → Reads operand only before words e after
       → Reads operand only before (token.Not ∷ words) (negation e) after

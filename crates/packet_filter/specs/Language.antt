@@ -1,6 +1,6 @@
 -- The texts that are expressions, and why others are none.
 use Rattle.std.specs.Prelude.{ℕ, ◌≡◌, ◌<◌, ◌≤◌, List, [], ◌∷◌, ◌++◌, All, Option, Some, None}
-use Rattle.std.specs.Prelude.{codes, decimal, length, take}
+use Rattle.std.specs.Prelude.{codes, decimal, length}
 use Rattle.packet_filter.specs.Expected.{examples, expected_text}
 use Rattle.packet_filter.specs.Grammar.{IsExpression}
 use Rattle.packet_filter.specs.Meaning.{Expression}
@@ -92,11 +92,23 @@ pub record IsIncomplete (text : List ℕ) (expected : Expected) : Type 0 where
   pub no_expression : (e : Expression) → ¬ IsText text e
   pub examples_can : CanFollow (words_of text) expected
 
+-- At this place in the text, in bytes, stands a word after 64 others, which can go on.
+pub record IsTooLong (text : List ℕ) (place : ℕ) : Type 0 where
+  pub front : List ℕ
+  pub word : List ℕ
+  pub rest : List ℕ
+  pub before : List (List ℕ)
+  pub whole : text ≡ front ++ (word ++ rest)
+  pub at : place ≡ length front
+  pub words : words_of text ≡ before ++ word ∷ words_of rest
+  pub many : length before ≡ 64
+  pub can : CanGoOn before
+
 -- Why a text is no filter. There are more than 64 words, of which the first 64 can go on; or one of
 -- the first 64 cannot stand where it stands; or there are no more, and they are no expression, but
 -- can go on.
 abbrev pub Refuses : List ℕ → FilterError → Type 0
-Refuses text error.TooLong = (64 < length (words_of text)) × CanGoOn (take 64 (words_of text))
+Refuses text (error.TooLong place) = IsTooLong text place
 Refuses text (error.Unexpected place expected) = HasUnexpected text place expected
 Refuses text (error.Mixed place o) = HasMixed text place o
 Refuses text (error.Unsupported place) = HasUnsupported text place
@@ -108,7 +120,7 @@ filter_error_place (error.Unexpected place expected) = Some place
 filter_error_place (error.Mixed place o) = Some place
 filter_error_place (error.Unsupported place) = Some place
 filter_error_place (error.Incomplete expected) = None
-filter_error_place error.TooLong = None
+filter_error_place (error.TooLong place) = Some place
 
 -- both readings of three expressions with two operators between them, of which this is the second
 abbrev pub readings_text : Operator → List ℕ
@@ -130,4 +142,6 @@ filter_error_text (error.Unsupported place) =
 filter_error_text (error.Incomplete expected) =
     codes "Expression Error: It ends where more words have to follow: expected "
     ++ (expected_text expected ++ codes ".")
-filter_error_text error.TooLong = codes "Expression Error: It has more than 64 words."
+filter_error_text (error.TooLong place) =
+    codes "Expression Error: It has more than 64 words: the first beyond them is at byte "
+    ++ (decimal place ++ codes ".")

@@ -137,6 +137,11 @@ IsWithin (V6 a) len (V6 b) = a / 2 ^ (128 - len) ≡ b / 2 ^ (128 - len)
 IsWithin (V4 a) len (V6 b) = ⊥
 IsWithin (V6 a) len (V4 b) = ⊥
 
+-- both addresses are of IPv4, and have the same bits where the mask has one
+abbrev pub IsWithinMask : ℕ → ℕ → Address → Type 0
+IsWithinMask a mask (V4 b) = bit_and a mask ≡ bit_and b mask
+IsWithinMask a mask (V6 b) = ⊥
+
 -- ---- ports
 
 -- an IP packet carries this transport protocol, or any with ports
@@ -262,6 +267,9 @@ Holds (primitive.Proto v number) lax len = HasProto v number lax.packet
 Holds (primitive.Net n d address bits) lax len = IsOf n lax.packet
     × OfEnds d (source_address lax.packet) (destination_address lax.packet)
     (λ found. IsSomeAnd found (IsWithin address bits))
+Holds (primitive.Masked n d address mask) lax len = IsOf n lax.packet
+    × OfEnds d (source_address lax.packet) (destination_address lax.packet)
+    (λ found. IsSomeAnd found (IsWithinMask address mask))
 Holds (primitive.Ports t d low high) lax len =
     IsSomeAnd lax.packet.net (HasPorts t d (λ port. (low ≤ port) × (port ≤ high)))
 Holds (primitive.Hardware d address) lax len =

@@ -82,6 +82,7 @@ qualifiers =
     (codes "dst", token.Destination) ∷
     (codes "host", token.Host) ∷
     (codes "net", token.Net) ∷
+    (codes "mask", token.Mask) ∷
     (codes "port", token.Port) ∷
     (codes "portrange", token.PortRange) ∷
     (codes "proto", token.Proto) ∷
@@ -106,8 +107,7 @@ foreign =
     codes "link" ∷ codes "ppp" ∷ codes "radio" ∷ codes "slip" ∷ codes "tr" ∷ codes "wlan" ∷
     codes "addr1" ∷ codes "addr2" ∷ codes "addr3" ∷ codes "addr4" ∷ codes "dir" ∷ codes "ra" ∷
     codes "subtype" ∷ codes "ta" ∷ codes "type" ∷ codes "llc" ∷ codes "mpls" ∷ codes "pppoed" ∷
-    codes "pppoes" ∷ codes "geneve" ∷ codes "gateway" ∷ codes "mask" ∷ codes "protochain" ∷
-    codes "inbound" ∷
+    codes "pppoes" ∷ codes "geneve" ∷ codes "gateway" ∷ codes "protochain" ∷ codes "inbound" ∷
     codes "outbound" ∷ codes "ifname" ∷ codes "on" ∷ codes "action" ∷ codes "reason" ∷
     codes "rnr" ∷ codes "rset" ∷ codes "rulenum" ∷ codes "ruleset" ∷ codes "srnr" ∷
     codes "subrulenum" ∷ codes "bcc" ∷ codes "connectmsg" ∷ codes "ilmic" ∷ codes "lane" ∷

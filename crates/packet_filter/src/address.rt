@@ -4,9 +4,9 @@ ghost use Rattle.std.specs.Prelude.{◌≡◌, ◌-◌, ◌+◌, ◌/◌, ◌^�
 ghost use Rattle.std.specs.Prelude.{[], ◌∷◌, take};
 ghost use Rattle.std.specs.Int.{from_be_bytes, w32, w128};
 ghost use Rattle.std.specs.Str.{bytes_eq};
-ghost use Rattle.packet_filter.specs.Meaning.{IsWithin, OfEnds, arp_address, destination_address};
-ghost use Rattle.packet_filter.specs.Meaning.{ip_destination, ip_source, is_arp_of_ipv4};
-ghost use Rattle.packet_filter.specs.Meaning.{source_address};
+ghost use Rattle.packet_filter.specs.Meaning.{IsWithin, IsWithinMask, OfEnds, arp_address};
+ghost use Rattle.packet_filter.specs.Meaning.{destination_address, ip_destination, ip_source};
+ghost use Rattle.packet_filter.specs.Meaning.{is_arp_of_ipv4, source_address};
 ghost use Rattle.packet_filter.specs.declared.address.Address.TheVariants.{V4, V6};
 
 use crate::expression::Direction;
@@ -112,6 +112,82 @@ fn is_arp_address(address: &Address, bits: u8, place: usize, packet: &SlicedPack
         }
         Address::V6(_) => false,
     }
+}
+
+// Whether the addresses of a packet at these ends are of IPv4, and have the bits of this one where
+// the mask has one.
+#[inline(always)]
+pub(crate) fn has_masked_address(
+    direction: Option<Direction>,
+    address: u32,
+    mask: u32,
+    packet: &SlicedPacket,
+) -> bool
+    ensures value { IsTrue result ↔ OfEnds direction (source_address packet.now)
+        (destination_address packet.now)
+        (λ found. IsSomeAnd found (IsWithinMask address mask)) }
+{
+    match &packet.net {
+        Some(ip) => match &ip.header {
+            IpHeaderSlice::Ipv4(view) => {
+                let source = is_within_mask(address, mask, view.source());
+                of_ends(
+                    direction,
+                    source,
+                    is_within_mask(address, mask, view.destination()),
+                )
+            }
+            IpHeaderSlice::Ipv6(_) => false,
+        },
+        None => has_masked_arp_address(direction, address, mask, packet),
+    }
+}
+
+// The same of the addresses in an ARP packet.
+#[inline(never)]
+fn has_masked_arp_address(
+    direction: Option<Direction>,
+    address: u32,
+    mask: u32,
+    packet: &SlicedPacket,
+) -> bool
+    ensures value { IsTrue result ↔ OfEnds direction (arp_address 14 packet.now)
+        (arp_address 24 packet.now) (λ found. IsSomeAnd found (IsWithinMask address mask)) }
+{
+    let source = is_masked_arp_address(address, mask, 14, packet);
+    of_ends(
+        direction,
+        source,
+        is_masked_arp_address(address, mask, 24, packet),
+    )
+}
+
+// Whether there is such an address at a place in an ARP packet.
+fn is_masked_arp_address(address: u32, mask: u32, place: usize, packet: &SlicedPacket) -> bool
+    requires small { place ≤ 24 }
+    ensures value { IsTrue result ↔
+        IsSomeAnd (arp_address place packet.now) (IsWithinMask address mask) }
+{
+    let payload = packet.payload;
+    if !is_arp_of_ipv4(packet.ether_type, payload) || payload.len() < place + 4 {
+        return false;
+    }
+    let found = [
+        payload[place],
+        payload[place + 1],
+        payload[place + 2],
+        payload[place + 3],
+    ];
+    is_within_mask(address, mask, found)
+}
+
+// Whether an IPv4 address has the bits of this one where the mask has one.
+#[inline(always)]
+fn is_within_mask(address: u32, mask: u32, found: [u8; 4]) -> bool
+    ensures value { IsTrue result ↔
+        IsWithinMask address mask (V4 (from_be_bytes w32 found)) }
+{
+    address & mask == u32::from_be_bytes(found) & mask
 }
 
 // Whether these bytes begin as an ARP packet for Ethernet and IPv4.

@@ -1,8 +1,9 @@
 //! Words that are addresses, or networks.
 
 ghost use Rattle.std.specs.Prelude.{◌≡◌, ◌+◌, ◌≤◌, length};
-ghost use Rattle.packet_filter.specs.Addresses.{IsAddress, SpellsAddress, addressed, hardware_of};
-ghost use Rattle.packet_filter.specs.Addresses.{has_colons, networked, octet_at, octet_of};
+ghost use Rattle.packet_filter.specs.Addresses.{IsAddress, SpellsAddress, addressed, fronted};
+ghost use Rattle.packet_filter.specs.Addresses.{hardware_of, has_colons, networked, octet_at};
+ghost use Rattle.packet_filter.specs.Addresses.{octet_of};
 ghost use Rattle.packet_filter.specs.Addresses.{prefixed, short_address, short_len, short_net_of};
 ghost use Rattle.packet_filter.specs.Addresses.{with_octets};
 
@@ -21,7 +22,7 @@ pub(crate) fn short_net_of(word: &[u8]) -> Option<Token>
             number_of(beyond(b'/', word)),
         )
     } else {
-        networked(short_address(word), Some(short_len(word)))
+        fronted(short_address(word), short_len(word))
     }
 }
 
@@ -32,6 +33,16 @@ fn networked(address: Option<u32>, bits: Option<u32>) -> Option<Token>
     match (address, bits) {
         (Some(address), Some(bits)) => Some(Token::Prefix(Address::V4(address), bits)),
         _ => None,
+    }
+}
+
+// The front of an IPv4 address.
+fn fronted(address: Option<u32>, bits: u8) -> Option<Token>
+    ensures value { result ≡ fronted address bits }
+{
+    match address {
+        Some(address) => Some(Token::Front(address, bits)),
+        None => None,
     }
 }
 
@@ -54,7 +65,7 @@ fn short_address(word: &[u8]) -> Option<u32>
 }
 
 // How many bits the octets of a word are.
-fn short_len(word: &[u8]) -> u32
+fn short_len(word: &[u8]) -> u8
     ensures value { result ≡ short_len word.now }
 {
     if has(b'.', beyond(b'.', word)) {

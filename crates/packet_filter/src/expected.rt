@@ -23,7 +23,9 @@ pub enum Expected {
         /// Whether a parenthesis is open, so that `)` can stand there.
         open: bool,
     },
-    /// After `ip`, `ip6`, `arp` or `rarp`: what it is asked for, or an operator.
+    /// After `ip` or `ip6`: what it is asked for, or an operator.
+    AfterIp,
+    /// After `arp` or `rarp`: what it is asked for, or an operator.
     AfterNetwork,
     /// After `tcp`, `udp` or `sctp`: what it is asked for, or an operator.
     AfterTransport,
@@ -41,6 +43,10 @@ pub enum Expected {
     Address(Option<Version>),
     /// An address and how many of its bits count, of this version or either.
     Network(Option<Version>),
+    /// After an IPv4 address, or its first octets, as a network: `mask`, or an operator.
+    AfterAddress,
+    /// After `mask`: two to four octets with all bits that the address has.
+    Mask,
     /// A port, by number or name.
     Port,
     /// Two ports with a hyphen between them, the lower first.
@@ -97,6 +103,8 @@ impl fmt::Display for Expected {
                 before: Some(Operator::Or),
                 open: true,
             } => "`or` or `)`",
+            Expected::AfterIp =>
+                "`src`, `dst`, `host`, `net`, `proto`, `multicast`, `[` or an operator",
             Expected::AfterNetwork => "`src`, `dst`, `host`, `net`, `[` or an operator",
             Expected::AfterTransport => "`src`, `dst`, `port`, `portrange`, `[` or an operator",
             Expected::AfterVlan => "the identifier of a VLAN, such as `5`, or an operator",
@@ -112,6 +120,8 @@ impl fmt::Display for Expected {
             Expected::Network(None) => "a network, such as `10.0.0.0/8` or `fe80::/10`",
             Expected::Network(Some(Version::Ipv4)) => "an IPv4 network, such as `10.0.0.0/8`",
             Expected::Network(Some(Version::Ipv6)) => "an IPv6 network, such as `fe80::/10`",
+            Expected::AfterAddress => "`mask` or an operator",
+            Expected::Mask => "a mask with all bits of the address, such as `255.255.255.255`",
             Expected::Port => "a port, such as `80` or `http`",
             Expected::PortRange => "a range of ports, such as `6000-6063`",
             Expected::Protocol => "a protocol that IP carries, such as `6` or `\\tcp`",
@@ -197,6 +207,7 @@ pub(crate) fn qualifiers_of(partial: Partial) -> Option<Expected>
     ensures value { result ≡ qualifiers_of partial }
 {
     match partial {
+        Partial::Word(Token::Network(Network::Ip(_))) => Some(Expected::AfterIp),
         Partial::Word(Token::Network(_)) => Some(Expected::AfterNetwork),
         Partial::Word(Token::Transport(_)) => Some(Expected::AfterTransport),
         Partial::Word(Token::Vlan) => Some(Expected::AfterVlan),

@@ -118,6 +118,8 @@ pub(crate) enum Primitive {
     /// Of the addresses that a packet of this protocol or any has, these ends begin with so many
     /// bits of this address.
     Net(Option<Network>, Option<Direction>, Address, u8),
+    /// The same of the bits that a mask has, over IPv4: these ends have those of this address.
+    Masked(Option<Network>, Option<Direction>, u32, u32),
     /// It carries this transport protocol or any, and at these ends the port is from the first
     /// number to the second.
     Ports(Option<Transport>, Option<Direction>, u16, u16),

@@ -8,7 +8,7 @@ ghost use Rattle.packet_filter.specs.Meaning.{HasWrongChecksum, HasWrongHeader, 
 ghost use Rattle.packet_filter.specs.Meaning.{IsTagOf, OfEnds, SomeTag, ether_type_of};
 ghost use Rattle.packet_filter.specs.Meaning.{ethernet_header, transport_number};
 
-use crate::address::has_address;
+use crate::address::{has_address, has_masked_address};
 use crate::expression::{Direction, Network, Primitive, Transport, Version};
 use crate::number::is_number;
 use etherparse::IpNumber;
@@ -35,6 +35,9 @@ impl Primitive {
             Primitive::Proto(version, number) => has_proto(*version, IpNumber(*number), packet),
             Primitive::Net(network, direction, address, bits) => {
                 is_of(*network, packet) && has_address(*direction, address, *bits, packet)
+            }
+            Primitive::Masked(network, direction, address, mask) => {
+                is_of(*network, packet) && has_masked_address(*direction, *address, *mask, packet)
             }
             Primitive::Ports(transport, direction, low, high) => match &packet.net {
                 Some(ip) => has_ports(*transport, *direction, *low, *high, ip),

@@ -6,15 +6,17 @@ ghost use Rattle.packet_filter.specs.Private.Machine.{after, chosen, close, clos
 ghost use Rattle.packet_filter.specs.Private.Machine.{expected_of, finish, finish_state, is_only};
 ghost use Rattle.packet_filter.specs.Private.Machine.{is_open, kept, level_of, on_progress};
 ghost use Rattle.packet_filter.specs.Private.Machine.{or_value, put, qualifiers_doing, settled};
-ghost use Rattle.packet_filter.specs.Private.Machine.{size_of, start, state_of, values_after};
-ghost use Rattle.packet_filter.specs.Private.Machine.{step_of, step_operand, step_operator};
-ghost use Rattle.packet_filter.specs.Private.Machine.{step_within, waiting_of, waits};
+ghost use Rattle.packet_filter.specs.Private.Machine.{size_of, start, state_of, step_net, step_of};
+ghost use Rattle.packet_filter.specs.Private.Machine.{step_operand, step_operator, step_within};
+ghost use Rattle.packet_filter.specs.Private.Machine.{values_after, waiting_of, waits};
 
 use crate::expected::{Expected, expected_value, expected_within, qualifiers_of};
 use crate::expression::{Operator, Primitive};
 use crate::filter::Step;
 use crate::head::Head;
-use crate::partial::{FIRST_HEAD, Partial, Progress, begin, head_of, next, valued, whole};
+use crate::partial::{
+    FIRST_HEAD, NetAddress, Partial, Progress, begin, head_of, net_address_of, next, valued, whole,
+};
 use crate::token::Token;
 use arrayvec::ArrayVec;
 use std::marker::Model;
@@ -40,6 +42,10 @@ pub(crate) enum Doing {
     Operand(Head, bool),
     /// The rest of a primitive.
     Within(Partial),
+    /// `mask` after the address of a network, or an operator, or a closing parenthesis.
+    Net(NetAddress),
+    /// The mask of a network, after its address and `mask`.
+    Mask(NetAddress),
     /// An operator, or a closing parenthesis. Before it this operator stands on the same level, or
     /// none; a value alone after it would have this head.
     Operator(Option<Operator>, Head),
@@ -134,6 +140,8 @@ impl Machine {
         match self.doing {
             Doing::Operand(head, only) => self.step_operand(head, only, token),
             Doing::Within(partial) => self.step_within(partial, token),
+            Doing::Net(address) => self.step_net(address, token),
+            Doing::Mask(address) => self.go_on(address.with_mask(token)),
             Doing::Operator(before, head) => self.step_operator(before, head, token),
         }
     }
@@ -155,6 +163,11 @@ impl Machine {
                 }
                 None => false,
             },
+            Doing::Net(address) => {
+                self.put(address.primitive(), address.head());
+                self.is_whole()
+            }
+            Doing::Mask(_) => false,
             Doing::Operator(_, _) => self.waiting.is_empty(),
         }
     }
@@ -166,7 +179,7 @@ impl Machine {
     {
         match self.doing {
             Doing::Operator(_, _) => self.waiting.is_empty(),
-            Doing::Operand(_, _) | Doing::Within(_) => false,
+            Doing::Operand(_, _) | Doing::Within(_) | Doing::Net(_) | Doing::Mask(_) => false,
         }
     }
 
@@ -178,6 +191,9 @@ impl Machine {
             Doing::Operand(head, true) => expected_value(head),
             Doing::Operand(_, false) => Expected::Operand,
             Doing::Within(partial) => expected_within(partial),
+            // Without a mask it is complete.
+            Doing::Net(_) => Expected::AfterAddress,
+            Doing::Mask(_) => Expected::Mask,
             Doing::Operator(before, _) => {
                 let open = self.waiting.is_open();
                 Expected::Operator { before, open }
@@ -191,7 +207,8 @@ impl Machine {
     {
         match self.doing {
             Doing::Within(partial) => qualifiers_of(partial),
-            Doing::Operand(_, _) | Doing::Operator(_, _) => None,
+            Doing::Net(_) => Some(Expected::AfterAddress),
+            Doing::Operand(_, _) | Doing::Mask(_) | Doing::Operator(_, _) => None,
         }
     }
 
@@ -201,7 +218,7 @@ impl Machine {
     {
         match self.doing {
             Doing::Operator(before, _) => before,
-            Doing::Operand(_, _) | Doing::Within(_) => None,
+            Doing::Operand(_, _) | Doing::Within(_) | Doing::Net(_) | Doing::Mask(_) => None,
         }
     }
 
@@ -225,7 +242,13 @@ impl Machine {
     {
         match waiting_of(head, only, token) {
             Some(waiting) => self.wait(waiting, head, only),
-            None => self.go_on(chosen(only, head, token)),
+            None => match net_address_of(token, Some(head)) {
+                Some(address) => {
+                    self.doing = Doing::Net(address);
+                    true
+                }
+                None => self.go_on(chosen(only, head, token)),
+            },
         }
     }
 
@@ -273,6 +296,11 @@ impl Machine {
             self.waiting.push(Waiting::Head);
             return self.wait(waiting, head, true);
         }
+        if let Some(address) = net_address_of(token, head_of(partial)) {
+            self.waiting.push(Waiting::Head);
+            self.doing = Doing::Net(address);
+            return true;
+        }
         match next(partial, token) {
             Progress::Foreign => match whole(partial) {
                 Some(primitive) => {
@@ -282,6 +310,30 @@ impl Machine {
                 None => false,
             },
             progress => self.go_on(progress),
+        }
+    }
+
+    // After the address of a network.
+    fn step_net(&mut self, address: NetAddress, token: Token) -> bool
+        requires at { self.old.doing ≡ Doing.Net address }
+        requires room { kept (state_of self.old) < 63 }
+        ensures yes { IsTrue result →
+            step_net address token self.old.waiting self.old.steps.items
+            ≡ Some (state_of self.new) }
+        ensures no { IsFalse result →
+            step_net address token self.old.waiting self.old.steps.items ≡ None }
+        ensures left { IsFalse result → state_of self.new ≡ settled (state_of self.old) }
+        ensures size { IsTrue result → size_of (state_of self.new) ≤ kept (state_of self.old) + 2 }
+    {
+        match token {
+            Token::Mask => {
+                self.doing = Doing::Mask(address);
+                true
+            }
+            _ => {
+                self.put(address.primitive(), address.head());
+                self.step_after(token)
+            }
         }
     }
 
@@ -302,7 +354,7 @@ impl Machine {
     {
         match self.doing {
             Doing::Operator(before, head) => self.step_operator(before, head, token),
-            Doing::Operand(_, _) | Doing::Within(_) => false,
+            Doing::Operand(_, _) | Doing::Within(_) | Doing::Net(_) | Doing::Mask(_) => false,
         }
     }
 

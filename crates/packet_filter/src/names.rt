@@ -8,7 +8,7 @@ use crate::expression::{Network, Operator, Relation, Transport, Version};
 use crate::token::Token;
 
 // The words of the language.
-static WORDS: [(&[u8], Token); 58] = [
+static WORDS: [(&[u8], Token); 59] = [
     // Words that join expressions, brackets, and what numbers are compared by.
     (b"not", Token::Not),
     (b"!", Token::Not),
@@ -58,6 +58,7 @@ static WORDS: [(&[u8], Token); 58] = [
     (b"dst", Token::Destination),
     (b"host", Token::Host),
     (b"net", Token::Net),
+    (b"mask", Token::Mask),
     (b"port", Token::Port),
     (b"portrange", Token::PortRange),
     (b"proto", Token::Proto),
@@ -74,7 +75,7 @@ static WORDS: [(&[u8], Token); 58] = [
 ];
 
 // Words of pcap-filter(7) that this language does not have.
-static FOREIGN: [(&[u8], Token); 71] = [
+static FOREIGN: [(&[u8], Token); 70] = [
     (b"\\aarp", Token::Foreign),
     (b"\\atalk", Token::Foreign),
     (b"\\ipx", Token::Foreign),
@@ -119,7 +120,6 @@ static FOREIGN: [(&[u8], Token); 71] = [
     (b"pppoes", Token::Foreign),
     (b"geneve", Token::Foreign),
     (b"gateway", Token::Foreign),
-    (b"mask", Token::Foreign),
     (b"protochain", Token::Foreign),
     (b"inbound", Token::Foreign),
     (b"outbound", Token::Foreign),

@@ -2,7 +2,7 @@
 
 ghost use Rattle.std.specs.Prelude.{◌≡◌};
 ghost use Rattle.packet_filter.specs.Grammar.{alone, bits_of, ethernet_broadcast};
-ghost use Rattle.packet_filter.specs.Grammar.{ethernet_multicast, fits, ip_multicast};
+ghost use Rattle.packet_filter.specs.Grammar.{ethernet_multicast, fits, ip_multicast, ipv4_of};
 ghost use Rattle.packet_filter.specs.Grammar.{network_layer, network_primitive, value_of};
 ghost use Rattle.packet_filter.specs.Meaning.{transport_number};
 ghost use Rattle.packet_filter.specs.Private.Machine.{after_any, after_direction, after_ether};
@@ -10,8 +10,9 @@ ghost use Rattle.packet_filter.specs.Private.Machine.{after_listed, after_networ
 ghost use Rattle.packet_filter.specs.Private.Machine.{after_of_network, after_of_transport};
 ghost use Rattle.packet_filter.specs.Private.Machine.{after_scope, after_term, after_transport};
 ghost use Rattle.packet_filter.specs.Private.Machine.{after_use, after_word, begin, given, joined};
-ghost use Rattle.packet_filter.specs.Private.Machine.{head_of, made, next, scope_head, valued};
-ghost use Rattle.packet_filter.specs.Private.Machine.{whole};
+ghost use Rattle.packet_filter.specs.Private.Machine.{head_of, head_of_net, made, net_address_of};
+ghost use Rattle.packet_filter.specs.Private.Machine.{next, primitive_of_net, scope_head, valued};
+ghost use Rattle.packet_filter.specs.Private.Machine.{whole, with_mask};
 
 use crate::address::Address;
 use crate::expression::{
@@ -40,6 +41,16 @@ pub(crate) enum Use {
     Masking(Quantity),
     /// What a number, with its mask, is compared with.
     Limit(Quantity, Option<u32>, Relation),
+}
+
+/// An IPv4 address after `net`, or its first octets with zeros after them: a mask can follow.
+#[derive(Clone, Copy)]
+pub(crate) struct NetAddress {
+    pub network: Option<Network>,
+    pub direction: Option<Direction>,
+    pub address: u32,
+    /// How many of its bits count without a mask.
+    pub bits: u8,
 }
 
 /// A primitive that has begun, by what was read of it last.
@@ -318,6 +329,10 @@ fn value_of(token: Token, head: Head) -> Option<Primitive>
             if fits(network, address) && bits <= u32::from(bits_of(address)) => {
             Some(Primitive::Net(network, direction, address, bits as u8))
         }
+        (Token::Front(address, bits), Head::Net(network, direction))
+            if fits(network, Address::V4(address)) => {
+            Some(Primitive::Net(network, direction, Address::V4(address), bits))
+        }
         (Token::Number(first), Head::Net(network, direction))
             if fits(network, Address::V4(0)) && first <= 255 => {
             Some(Primitive::Net(network, direction, Address::V4(first << 24), 8))
@@ -377,6 +392,69 @@ pub(crate) fn valued(head: Head, token: Token) -> Progress
     match value_of(token, head) {
         Some(primitive) => Progress::Done(primitive, head),
         None => Progress::Foreign,
+    }
+}
+
+/// The address of a network, which a mask can follow.
+pub(crate) fn net_address_of(token: Token, head: Option<Head>) -> Option<NetAddress>
+    ensures value { result ≡ net_address_of token head }
+{
+    let (address, bits) = match token {
+        Token::Address(Address::V4(address)) => (address, 32),
+        Token::Front(address, bits) => (address, bits),
+        _ => return None,
+    };
+    match head {
+        Some(Head::Net(network, direction)) if fits(network, Address::V4(address)) => {
+            Some(NetAddress {
+                network,
+                direction,
+                address,
+                bits,
+            })
+        }
+        _ => None,
+    }
+}
+
+impl NetAddress {
+    /// Its head.
+    pub(crate) fn head(self) -> Head
+        ensures value { result ≡ head_of_net self }
+    {
+        Head::Net(self.network, self.direction)
+    }
+
+    /// What it says without a mask.
+    pub(crate) fn primitive(self) -> Primitive
+        ensures value { result ≡ primitive_of_net self }
+    {
+        let address = Address::V4(self.address);
+        Primitive::Net(self.network, self.direction, address, self.bits)
+    }
+
+    /// What it says with this mask, if the word is one that has all its bits.
+    pub(crate) fn with_mask(self, token: Token) -> Progress
+        ensures value { result ≡ with_mask self token }
+    {
+        match ipv4_of(token) {
+            Some(mask)
+                if fits(self.network, Address::V4(self.address)) && self.address & !mask == 0 => {
+                let primitive = Primitive::Masked(self.network, self.direction, self.address, mask);
+                Progress::Done(primitive, self.head())
+            }
+            _ => Progress::Foreign,
+        }
+    }
+}
+
+// The IPv4 address that two to four octets are.
+fn ipv4_of(token: Token) -> Option<u32>
+    ensures value { result ≡ ipv4_of token }
+{
+    match token {
+        Token::Address(Address::V4(address)) | Token::Front(address, _) => Some(address),
+        _ => None,
     }
 }
 

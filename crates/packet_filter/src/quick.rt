@@ -6,7 +6,7 @@ ghost use Rattle.packet_filter.specs.Meaning.{arp_address, destination_address, 
 ghost use Rattle.packet_filter.specs.Private.Quick.{Asks, HasFront, quick_of, quick_of_step};
 ghost use Rattle.packet_filter.specs.declared.filter.Step.{Step as AnyStep};
 
-use crate::address::{Address, is_arp_of_ipv4};
+use crate::address::{Address, has_masked_address, is_arp_of_ipv4};
 use crate::expression::{Direction, Primitive, Quantity, Relation, Transport, Version};
 use crate::filter::Step;
 use crate::holds::{has_ports, has_proto, is_ip};
@@ -31,6 +31,8 @@ pub(crate) enum Quick {
     Destination(u8, u32),
     /// One of them is.
     Host(u8, u32),
+    /// The IPv4 addresses at these ends have the bits of this one where the mask has one.
+    Masked(Option<Direction>, u32, u32),
     /// The length of the frame is in this relation to a number.
     Length(Relation, u32),
     /// Anything else: see the step.
@@ -67,6 +69,9 @@ fn quick_of(primitive: &Primitive) -> Quick
                 Some(Direction::Either | Direction::Both) => Quick::Other,
             }
         }
+        Primitive::Masked(None, direction, address, mask) => {
+            Quick::Masked(*direction, *address, *mask)
+        }
         Primitive::Compare(Quantity::Length, None, relation, limit) => {
             Quick::Length(*relation, *limit)
         }
@@ -102,6 +107,9 @@ impl Quick {
             Quick::Host(others, front) => {
                 has_source(others, front, packet) | has_destination(others, front, packet)
             }
+            Quick::Masked(direction, address, mask) => {
+                has_masked_address(direction, address, mask, packet)
+            }
             Quick::Length(relation, limit) => compares(relation, len, limit as usize),
             Quick::Other => other_holds(step, lax, len),
         }
@@ -126,6 +134,9 @@ impl Quick {
             Quick::Host(others, front) => {
                 let source = has_source(others, front, packet);
                 Some(source | has_destination(others, front, packet))
+            }
+            Quick::Masked(direction, address, mask) => {
+                Some(has_masked_address(direction, address, mask, packet))
             }
             Quick::Length(relation, limit) => Some(compares(relation, len, limit as usize)),
             Quick::Other => None,

@@ -17,7 +17,7 @@ use crate::token::Token;
 use std::fmt;
 
 /// Why a text is no filter. Places are where a word begins, in bytes from the start of the text:
-/// no expression begins with the words up to there and that word.
+/// no expression begins with the words up to there and that word, or it is one too many.
 #[derive(Clone, Copy, Debug, PartialEq, Eq)]
 pub enum FilterError {
     /// A word that cannot stand where it stands.
@@ -46,7 +46,10 @@ pub enum FilterError {
         expected: Expected,
     },
     /// The text has more than [`Filter::MAX_WORDS`] words. No word up to there is unexpected.
-    TooLong,
+    TooLong {
+        /// Where the first word beyond them begins.
+        place: usize,
+    },
 }
 
 impl FilterError {
@@ -64,8 +67,9 @@ impl FilterError {
         match self {
             FilterError::Unexpected { place, .. }
             | FilterError::Mixed { place, .. }
-            | FilterError::Unsupported { place } => Some(*place),
-            FilterError::Incomplete { .. } | FilterError::TooLong => None,
+            | FilterError::Unsupported { place }
+            | FilterError::TooLong { place } => Some(*place),
+            FilterError::Incomplete { .. } => None,
         }
     }
 }
@@ -103,7 +107,13 @@ impl fmt::Display for FilterError {
                     "Expression Error: It ends where more words have to follow: expected {expected}."
                 )
             }
-            FilterError::TooLong => { write!(f, "Expression Error: It has more than 64 words.") }
+            FilterError::TooLong { place } => {
+                let place = *place;
+                write!(
+                    f,
+                    "Expression Error: It has more than 64 words: the first beyond them is at byte {place}."
+                )
+            }
         }
     }
 }
@@ -166,6 +176,9 @@ impl Filter {
     /// // Parentheses have to say which of `and` and `or` comes first.
     /// let refused = Filter::from_text(b"udp or tcp and port 22");
     /// assert!(rt; matches!(refused, Err(FilterError::Mixed { place: 11, .. })));
+    /// // The mask lacks the last bit of the address.
+    /// let refused = Filter::from_text(b"net 10.0.0.1 mask 255.0.0.0");
+    /// assert!(rt; matches!(refused, Err(FilterError::Unexpected { place: 18, .. })));
     /// // Labels of MPLS are in pcap-filter(7), and not here.
     /// let refused = Filter::from_text(b"ip or mpls");
     /// assert!(rt; matches!(refused, Err(FilterError::Unsupported { place: 6 })));
@@ -180,13 +193,13 @@ impl Filter {
         let mut rest = text;
         let mut count = 0;
         'words: while let Some((word, after)) = first_word(rest) {
+            let place = text.len() - after.len() - word.len();
             if count == Filter::MAX_WORDS {
-                return Err(FilterError::TooLong);
+                return Err(FilterError::TooLong { place });
             }
             let token = token_of(word);
             let qualifiers = machine.qualifiers();
             if !machine.step(token) {
-                let place = text.len() - after.len() - word.len();
                 let expected = qualifiers.unwrap_or(machine.expected());
                 return Err(refusal(place, token, machine.operator(), expected));
             }

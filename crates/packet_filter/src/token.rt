@@ -42,6 +42,8 @@ pub(crate) enum Token {
     Host,
     /// `net`.
     Net,
+    /// `mask`.
+    Mask,
     /// `port`.
     Port,
     /// `portrange`.
@@ -84,6 +86,9 @@ pub(crate) enum Token {
     Address(Address),
     /// An address, and how many of its bits count.
     Prefix(Address, u32),
+    /// The first two or three octets of an IPv4 address, as the address with zeros after them, and
+    /// how many bits they are.
+    Front(u32, u8),
     /// An Ethernet address.
     Hardware([u8; 6]),
     /// A word of pcap-filter(7) that this language does not have.

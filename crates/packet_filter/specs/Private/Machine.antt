@@ -2,9 +2,11 @@
 use Rattle.std.specs.Prelude.{ℕ, ◌+◌, Bool, true, false, Option, Some, None, List, [], ◌∷◌, ◌++◌}
 use Rattle.std.specs.Prelude.{bit_or, if◌then◌else◌, length, nat_le}
 use Rattle.packet_filter.specs.Grammar.{alone, ethernet_broadcast, ethernet_multicast, first_head}
-use Rattle.packet_filter.specs.Grammar.{ip_multicast, network_layer, value_of}
+use Rattle.packet_filter.specs.Grammar.{fits, ip_multicast, ipv4_of, masked_value_of}
+use Rattle.packet_filter.specs.Grammar.{network_layer, value_of}
 use Rattle.packet_filter.specs.Meaning.{transport_number}
 use Rattle.packet_filter.specs.Program.{and_then}
+use Rattle.packet_filter.specs.declared.address.Address.TheVariants.{V4}
 use Rattle.packet_filter.specs.declared.expected.Expected.{Expected}
 use Rattle.packet_filter.specs.declared.expected.Expected.TheVariants as expected
 use Rattle.packet_filter.specs.declared.expression.Direction.{Direction}
@@ -30,10 +32,12 @@ use Rattle.packet_filter.specs.declared.filter.Step.TheVariants as step
 use Rattle.packet_filter.specs.declared.head.Head.{Head}
 use Rattle.packet_filter.specs.declared.head.Head.TheVariants as head
 use Rattle.packet_filter.specs.declared.machine.Doing.{Doing}
-use Rattle.packet_filter.specs.declared.machine.Doing.TheVariants.{Operand, Within, Operator}
+use Rattle.packet_filter.specs.declared.machine.Doing.TheVariants.{Mask, Net, Operand, Operator}
+use Rattle.packet_filter.specs.declared.machine.Doing.TheVariants.{Within}
 use Rattle.packet_filter.specs.declared.machine.Machine.{Machine}
 use Rattle.packet_filter.specs.declared.machine.Waiting.{Waiting}
 use Rattle.packet_filter.specs.declared.machine.Waiting.TheVariants as waiting
+use Rattle.packet_filter.specs.declared.partial.NetAddress.{NetAddress}
 use Rattle.packet_filter.specs.declared.partial.Partial.{Partial}
 use Rattle.packet_filter.specs.declared.partial.Partial.TheVariants as partial
 use Rattle.packet_filter.specs.declared.partial.Progress.{Progress}
@@ -261,6 +265,32 @@ abbrev pub whole : Partial → Option Primitive
 whole (partial.Word w) = alone w
 whole _ = None
 
+-- ---- networks
+
+-- an address after `net`, or its first octets, if it is of a version that the protocol has
+abbrev pub if_fits : Bool → NetAddress → Option NetAddress
+if_fits is a = if is then Some a else None
+
+-- the address of a network, which a mask can follow
+abbrev pub net_address_of : Token → Option Head → Option NetAddress
+net_address_of (token.Address (V4 a)) (Some (head.Net n d)) =
+    if_fits (fits n (V4 a)) (record { network = n; direction = d; address = a; bits = 32 })
+net_address_of (token.Front a bits) (Some (head.Net n d)) =
+    if_fits (fits n (V4 a)) (record { network = n; direction = d; address = a; bits = bits })
+net_address_of _ _ = None
+
+-- its head, and what it says without a mask
+abbrev pub head_of_net : NetAddress → Head
+head_of_net a = head.Net a.network a.direction
+
+abbrev pub primitive_of_net : NetAddress → Primitive
+primitive_of_net a = says.Net a.network a.direction (V4 a.address) a.bits
+
+-- what it says with one
+abbrev pub with_mask : NetAddress → Token → Progress
+with_mask a w =
+    found (head_of_net a) (masked_value_of (head_of_net a) (Some a.address) (ipv4_of w))
+
 -- ---- expressions
 
 pub record State : Type 0 where
@@ -278,6 +308,8 @@ start = record { doing = Operand first_head false; waiting = []; steps = [] }
 abbrev pub partial_size : Doing → ℕ
 partial_size (Operand h only) = 0
 partial_size (Within p) = 1
+partial_size (Net a) = 1
+partial_size (Mask a) = 1
 partial_size (Operator c h) = 0
 
 abbrev pub size_of : State → ℕ
@@ -338,10 +370,15 @@ waiting_of h only token.Not = Some waiting.Not
 waiting_of h only token.Open = Some (waiting.Open h only)
 waiting_of h only _ = None
 
+-- the address of a network, or any other word
+abbrev pub begun_at : Option NetAddress → Progress → List Waiting → List Step → Option State
+begun_at (Some a) y ws out = Some (record { doing = Net a; waiting = ws; steps = out })
+begun_at None y ws out = on_progress y ws out
+
 abbrev pub operand_at : Option Waiting → Head → Bool → Token → List Waiting → List Step
     → Option State
 operand_at (Some x) h only w ws out = waits x h only ws out
-operand_at None h only w ws out = on_progress (chosen only h w) ws out
+operand_at None h only w ws out = begun_at (net_address_of w (Some h)) (chosen only h w) ws out
 
 abbrev pub step_operand : Head → Bool → Token → List Waiting → List Step → Option State
 step_operand h only w ws out = operand_at (waiting_of h only w) h only w ws out
@@ -363,6 +400,8 @@ step_operator before h _ ws out = None
 abbrev pub after_doing : Doing → Token → List Waiting → List Step → Option State
 after_doing (Operand h only) w ws out = None
 after_doing (Within p) w ws out = None
+after_doing (Net a) w ws out = None
+after_doing (Mask a) w ws out = None
 after_doing (Operator c h) w ws out = step_operator c h w ws out
 
 abbrev pub after : Token → State → Option State
@@ -408,19 +447,35 @@ values_after token.Not (Some h) = Some (h, waiting.Not)
 values_after token.Open (Some h) = Some (h, waiting.Open h true)
 values_after _ _ = None
 
+-- so is the address of a network
+abbrev pub net_at : Option NetAddress → Partial → Token → List Waiting → List Step → Option State
+net_at (Some a) p w ws out =
+    Some (record { doing = Net a; waiting = waiting.Head ∷ ws; steps = out })
+net_at None p w ws out = step_progress (next p w) (whole p) w ws out
+
 abbrev pub within_at : Option (Head × Waiting) → Partial → Token → List Waiting → List Step
     → Option State
 within_at (Some x) p w ws out = waits x.1 x.0 true (waiting.Head ∷ ws) out
-within_at None p w ws out = step_progress (next p w) (whole p) w ws out
+within_at None p w ws out = net_at (net_address_of w (head_of p)) p w ws out
 
 abbrev pub step_within : Partial → Token → List Waiting → List Step → Option State
 step_within p w ws out = if closes_term p w ws
     then Some (record { doing = Within p; waiting = tail_of ws; steps = out })
     else within_at (values_after w (head_of p)) p w ws out
 
+-- such an address without a mask is complete
+abbrev pub put_net : NetAddress → List Waiting → List Step → State
+put_net a ws out = put (primitive_of_net a) (head_of_net a) ws out
+
+abbrev pub step_net : NetAddress → Token → List Waiting → List Step → Option State
+step_net a token.Mask ws out = Some (record { doing = Mask a; waiting = ws; steps = out })
+step_net a w ws out = after w (put_net a ws out)
+
 abbrev pub step_state : Doing → Token → List Waiting → List Step → Option State
 step_state (Operand h only) w ws out = step_operand h only w ws out
 step_state (Within p) w ws out = step_within p w ws out
+step_state (Net a) w ws out = step_net a w ws out
+step_state (Mask a) w ws out = on_progress (with_mask a w) ws out
 step_state (Operator c h) w ws out = step_operator c h w ws out
 
 abbrev pub step_of : State → Token → Option State
@@ -432,6 +487,8 @@ finish_at (Operator c h) [] out = Some out
 finish_at (Operator c h) (w ∷ ws) out = None
 finish_at (Operand h only) ws out = None
 finish_at (Within p) ws out = None
+finish_at (Net a) ws out = None
+finish_at (Mask a) ws out = None
 
 abbrev pub finish_state : State → Option (List Step)
 finish_state s = finish_at s.doing s.waiting s.steps
@@ -439,6 +496,8 @@ finish_state s = finish_at s.doing s.waiting s.steps
 abbrev pub finish_doing : Doing → List Waiting → List Step → Option (List Step)
 finish_doing (Operand h only) ws out = None
 finish_doing (Within p) ws out = and_then (completed (whole p) ws out) finish_state
+finish_doing (Net a) ws out = finish_state (put_net a ws out)
+finish_doing (Mask a) ws out = None
 finish_doing (Operator c h) ws out = finish_at (Operator c h) ws out
 
 abbrev pub finish : State → Option (List Step)
@@ -460,6 +519,8 @@ abbrev pub settled_doing : Doing → List Waiting → List Step → State
 settled_doing (Operand h only) ws out =
     record { doing = Operand h only; waiting = ws; steps = out }
 settled_doing (Within p) ws out = settled_at (whole p) p ws out
+settled_doing (Net a) ws out = put_net a ws out
+settled_doing (Mask a) ws out = record { doing = Mask a; waiting = ws; steps = out }
 settled_doing (Operator c h) ws out =
     record { doing = Operator c h; waiting = ws; steps = out }
 
@@ -510,10 +571,12 @@ expected_within (partial.Opened u) = expected.Number
 expected_within (partial.Listed u bits) = expected.Bits
 expected_within (partial.Bar u bits) = expected.Number
 
--- what can stand next
+-- what can stand next; an address without a mask is complete
 abbrev pub expected_doing : Doing → List Waiting → Expected
 expected_doing (Operand h only) ws = if only then expected_value h else expected.Operand
 expected_doing (Within p) ws = expected_within p
+expected_doing (Net a) ws = expected.AfterAddress
+expected_doing (Mask a) ws = expected.Mask
 expected_doing (Operator c h) ws = expected.Operator c (is_open ws)
 
 abbrev pub expected_of : State → Expected
@@ -521,13 +584,17 @@ expected_of s = expected_doing s.doing s.waiting
 
 -- what can follow a word that is a primitive by itself, if more than an operator can
 abbrev pub qualifiers_of : Partial → Option Expected
+qualifiers_of (partial.Word (token.Network (network.Ip v))) = Some expected.AfterIp
 qualifiers_of (partial.Word (token.Network n)) = Some expected.AfterNetwork
 qualifiers_of (partial.Word (token.Transport t)) = Some expected.AfterTransport
 qualifiers_of (partial.Word token.Vlan) = Some expected.AfterVlan
 qualifiers_of _ = None
 
+-- and the address of a network
 abbrev pub qualifiers_doing : Doing → Option Expected
 qualifiers_doing (Within p) = qualifiers_of p
+qualifiers_doing (Net a) = Some expected.AfterAddress
+qualifiers_doing (Mask a) = None
 qualifiers_doing (Operand h only) = None
 qualifiers_doing (Operator c h) = None
 
@@ -536,6 +603,8 @@ abbrev pub level_of : Doing → Option Joiner
 level_of (Operator c h) = c
 level_of (Operand h only) = None
 level_of (Within p) = None
+level_of (Net a) = None
+level_of (Mask a) = None
 
 -- Why a word cannot stand at a place, by what it says, by the operator before it on its level, and
 -- by what can stand there.

@@ -1,8 +1,8 @@
 -- Tests in which all that the packet does not say is computed before.
 use Rattle.std.specs.Prelude.{ℕ, ◌≡◌, ◌-◌, ◌/◌, ◌%◌, ◌^◌, ◌≤◌, ◌⊎◌, IsSomeAnd, None, Some}
 use Rattle.packet.specs.declared.lax_sliced_packet.LaxSlicedPacket.{LaxSlicedPacket}
-use Rattle.packet_filter.specs.Meaning.{Compares, HasPorts, HasProto, Holds, IsIp}
-use Rattle.packet_filter.specs.Meaning.{destination_address, source_address}
+use Rattle.packet_filter.specs.Meaning.{Compares, HasPorts, HasProto, Holds, IsIp, IsWithinMask}
+use Rattle.packet_filter.specs.Meaning.{OfEnds, destination_address, source_address}
 use Rattle.packet_filter.specs.declared.address.Address.{Address}
 use Rattle.packet_filter.specs.declared.address.Address.TheVariants.{V4, V6}
 use Rattle.packet_filter.specs.declared.expression.Direction.TheVariants as direction
@@ -24,6 +24,7 @@ quick_of (primitive.Net None (Some direction.Source) (V4 a) bits) =
 quick_of (primitive.Net None (Some direction.Destination) (V4 a) bits) =
     quick.Destination (32 - bits) (a / 2 ^ (32 - bits))
 quick_of (primitive.Net None None (V4 a) bits) = quick.Host (32 - bits) (a / 2 ^ (32 - bits))
+quick_of (primitive.Masked None d address mask) = quick.Masked d address mask
 quick_of (primitive.Compare Length None relation limit) = quick.Length relation limit
 quick_of p = quick.Other
 
@@ -50,6 +51,9 @@ Asks (quick.Destination others front) s lax len =
 Asks (quick.Host others front) s lax len =
     IsSomeAnd (source_address lax.packet) (HasFront others front)
     ⊎ IsSomeAnd (destination_address lax.packet) (HasFront others front)
+Asks (quick.Masked d address mask) s lax len =
+    OfEnds d (source_address lax.packet) (destination_address lax.packet)
+    (λ found. IsSomeAnd found (IsWithinMask address mask))
 Asks (quick.Length relation limit) s lax len = Compares relation len limit
 Asks quick.Other (step.Test p) lax len = Holds p lax len
 Asks quick.Other s lax len = ⊥

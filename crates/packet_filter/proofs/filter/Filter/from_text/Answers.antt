@@ -17,8 +17,8 @@ words-preserved c = record {
 
 pub returns-then-count-eq-MAX_WORDS : goal.returns-then-count-eq-MAX_WORDS
 returns-then-count-eq-MAX_WORDS c =
-    let r = too_long _ _ _ _ _ (subst (Reached _ c.args.text.now c.words.rest.now) c.if-count-eq-MAX_WORDS.true c.words.invariant.reached) c.in-Some.ensures.some in
-    record { read = tt; refused = r; accepted = λ e t few. absurd (not_refused c.args.text.now e error.TooLong t few r) }
+    let r = too_long _ _ _ _ _ _ (subst (Reached _ c.args.text.now c.words.rest.now) c.if-count-eq-MAX_WORDS.true c.words.invariant.reached) c.in-Some.ensures.some refl in
+    record { read = tt; refused = r; accepted = λ e t few. absurd (not_refused c.args.text.now e (error.TooLong _) t few r) }
 
 pub returns-then-not-step : goal.returns-then-not-step
 returns-then-not-step c =
