@@ -1,3 +1,4 @@
+mod Calendar
 mod Fronts
 mod Outcomes
 mod Runs

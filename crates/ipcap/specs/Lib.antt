@@ -1,4 +1,5 @@
 pub mod Arguments
+pub mod Dates
 pub mod Ends
 pub mod Lines
 pub mod Listing

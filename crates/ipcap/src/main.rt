@@ -2,6 +2,7 @@
 #![tactic(auto)]
 
 mod arguments;
+mod dates;
 mod ends;
 mod failure;
 mod files;
