@@ -1,7 +1,7 @@
 -- Texts in std's terms.
 use Rattle.std.proofs.Common.{ℕ, ◌≡◌, ◌-◌, List, [], length, arith, append-nil, refl, false}
 use Rattle.std.specs.Fmt.{char_count, format_spec, padded_integral}
-use Rattle.ipcap.specs.Lines.{zero_padded}
+use Rattle.ipcap.specs.Digits.{zero_padded}
 
 -- a number with leading zeros
 pub padded_with_zeros : (width : ℕ) (number : List ℕ) → padded_integral (format_spec 32 0 4 width 18446744073709551615) false [] number ≡ zero_padded width number

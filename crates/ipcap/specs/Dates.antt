@@ -1,7 +1,7 @@
 -- The date and the time of day of a number of seconds.
 use Rattle.std.specs.Prelude.{ℕ, zero, suc, ◌+◌, ◌/◌, ◌%◌, ◌==◌, ◌&&◌, ◌||◌, Bool, not, nat_lt}
 use Rattle.std.specs.Prelude.{if◌then◌else◌, Option, Some, None, List, ◌++◌, codes, decimal}
-use Rattle.ipcap.specs.Lines.{zero_padded}
+use Rattle.ipcap.specs.Digits.{zero_padded}
 use Rattle.ipcap.specs.declared.dates.Date.{Date}
 use Rattle.ipcap.specs.declared.dates.DateTime.{DateTime}
 

@@ -4,7 +4,7 @@ use Rattle.std.specs.Fmt.{digits}
 use Rattle.packet_capture.specs.declared.capture.CutOff as cut
 use Rattle.packet_capture.specs.declared.pcapng.blocks.BlockError.{BlockError}
 use Rattle.packet_capture.specs.declared.pcapng.blocks.BlockError.TheVariants as error
-use Rattle.ipcap.specs.Lines.{zero_padded}
+use Rattle.ipcap.specs.Digits.{zero_padded}
 use Rattle.ipcap.specs.declared.place.End.{End}
 use Rattle.ipcap.specs.declared.place.End.TheVariants.{CutOff, Refused, TooLong}
 

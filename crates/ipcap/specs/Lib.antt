@@ -1,5 +1,6 @@
 pub mod Arguments
 pub mod Dates
+pub mod Digits
 pub mod Ends
 pub mod Lines
 pub mod Listing

@@ -1,6 +1,6 @@
 -- The line of a record, and the lines at the end.
-use Rattle.std.specs.Prelude.{ℕ, ◌-◌, ◌/◌, ◌^◌, ◌==◌, Bool, List, [], ◌++◌, length, codes, decimal}
-use Rattle.std.specs.Prelude.{replicate, if◌then◌else◌, Option, Some, None, false, true}
+use Rattle.std.specs.Prelude.{ℕ, ◌/◌, ◌^◌, ◌==◌, Bool, List, [], ◌++◌, codes, decimal}
+use Rattle.std.specs.Prelude.{if◌then◌else◌, Option, Some, None, false, true}
 use Rattle.std.specs.Prelude.{unwrap_or}
 use Rattle.std.specs.Fmt.{digits}
 use Rattle.std.specs.Net.Addr.{segments_of}
@@ -17,7 +17,10 @@ use Rattle.packet_parts.specs.declared.fragment.Fragment.{Fragment}
 use Rattle.packet_parts.specs.declared.ip_slice.IpHeaderSlice.{IpHeaderSlice}
 use Rattle.packet_parts.specs.declared.ip_slice.IpHeaderSlice.TheVariants as header
 use Rattle.packet_parts.specs.declared.ip_slice.IpSlice.{IpSlice}
+use Rattle.ipcap.specs.Dates.{date_time_of, date_time_text}
+use Rattle.ipcap.specs.Digits.{zero_padded}
 use Rattle.ipcap.specs.Reading.{is_cut}
+use Rattle.ipcap.specs.declared.dates.DateTime.{DateTime}
 use Rattle.ipcap.specs.Shown.{has_no_length, hops_of, len_of}
 use Rattle.ipcap.specs.declared.reading.NoPacket.{NoPacket}
 use Rattle.ipcap.specs.declared.reading.NoPacket.TheVariants.{NoLinkHeader, OtherCarried}
@@ -32,21 +35,30 @@ use Rattle.ipcap.specs.declared.reading.Reading.{Reading}
 use Rattle.ipcap.specs.declared.reading.Reading.TheVariants.{Other, Packet, Refused, Skipped}
 use Rattle.ipcap.specs.declared.totals.Totals.{Totals}
 
--- a number in decimal, with leading zeros up to this many digits
-abbrev pub zero_padded : ℕ → List ℕ → List ℕ
-zero_padded width number = replicate (width - length number) 48 ++ number
-
 -- a fraction of a second: nine digits if it is counted in a unit below a microsecond, and else six
 abbrev pub fraction_text : Bool → ℕ → List ℕ
 fraction_text is_fine nanoseconds =
     if is_fine then zero_padded 9 (decimal nanoseconds)
     else zero_padded 6 (decimal (nanoseconds / 1000))
 
--- the number of a packet and its time
-unfoldable pub head_text : ℕ → PacketHead → List ℕ
-head_text number head =
-    decimal number ++ (codes " " ++ (decimal (seconds_of head.stamp) ++ (codes "."
-    ++ (fraction_text (is_fine head.stamp) (nanoseconds_of head.stamp) ++ codes " "))))
+-- the date of a time, if dates are asked for and it has one in four digits of year
+abbrev pub date_at : Bool → ℕ → Option DateTime
+date_at is_utc seconds = if is_utc then date_time_of seconds else None
+
+-- the fraction of a second in the time of a packet
+abbrev pub fraction_of : PacketHead → List ℕ
+fraction_of head = fraction_text (is_fine head.stamp) (nanoseconds_of head.stamp)
+
+-- the number of a packet and its time: a date in UTC (RFC 3339 section 5.6), or else seconds
+unfoldable pub dated_text : Option DateTime → ℕ → PacketHead → List ℕ
+dated_text (Some date) number head = decimal number ++ (codes " " ++ (date_time_text date
+    ++ (codes "." ++ (fraction_of head ++ codes "Z "))))
+dated_text None number head = decimal number ++ (codes " " ++ (decimal (seconds_of head.stamp)
+    ++ (codes "." ++ (fraction_of head ++ codes " "))))
+
+-- the same, with a date if dates are asked for
+abbrev pub head_text : Bool → ℕ → PacketHead → List ℕ
+head_text is_utc number head = dated_text (date_at is_utc (seconds_of head.stamp)) number head
 
 -- the keyword of a protocol's number (IANA's registry of protocol numbers)
 unfoldable pub keyword_of : ℕ → Option (List ℕ)
@@ -230,9 +242,9 @@ reading_text head Skipped =
     codes "skipped: record too long (" ++ (decimal head.captured_len ++ codes " bytes)")
 
 -- the line of a record
-abbrev pub record_line : ℕ → PacketHead → Reading → List ℕ
-record_line number head reading =
-    head_text number head ++ (reading_text head reading ++ codes "\n")
+abbrev pub record_line : Bool → ℕ → PacketHead → Reading → List ℕ
+record_line is_utc number head reading =
+    head_text is_utc number head ++ (reading_text head reading ++ codes "\n")
 
 -- how many records there are, and with an expression how many of them match
 abbrev pub count_text : Bool → Totals → List ℕ

@@ -71,16 +71,17 @@ ToldOfLong request of told = ⊥
 
 -- what is written of a listed packet after those counted: its line, or its block as it came, or
 -- nothing
-abbrev pub written_as : Mode → Totals → PacketHead → List ℕ → Reading → List ℕ
-written_as Lines before head bytes reading = record_line (before.records + 1) head reading
-written_as Packets before head bytes reading = bytes
-written_as mode before head bytes reading = []
+abbrev pub written_as : Mode → Bool → Totals → PacketHead → List ℕ → Reading → List ℕ
+written_as Lines is_utc before head bytes reading =
+    record_line is_utc (before.records + 1) head reading
+written_as Packets is_utc before head bytes reading = bytes
+written_as mode is_utc before head bytes reading = []
 
 -- The same of any block, which has these bytes. Of a packet that is not listed nothing is written.
 -- A block without a packet is written if packets are.
 abbrev pub written : Request → Totals → Told → List ℕ → List ℕ
 written request before (packet head (Some reading)) bytes =
-    written_as request.mode before head bytes reading
+    written_as request.mode request.is_utc before head bytes reading
 written request before (packet head None) bytes = []
 written request before no_packet bytes = kept_if (copies request.mode) bytes
 

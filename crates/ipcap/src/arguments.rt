@@ -20,6 +20,8 @@ pub type Text = ArrayVec<u8, TEXT_ROOM>;
 pub struct Arguments<'a> {
     /// What is written of the records that are listed.
     pub mode: Mode,
+    /// Whether times are written as dates in UTC.
+    pub is_utc: bool,
     /// After how many listed records the run ends.
     pub limit: Option<u64>,
     /// The file that is read; `None` for standard input.
@@ -36,9 +38,9 @@ pub struct TooLong;
 
 // What follows the options in the text of `--help`.
 const AFTER_HELP: &str = "\
-FILE is read; `-` and none are standard input. It is the first word that is no option, unless an
-expression can begin with it (then `-r FILE` names the file). EXPRESSION chooses packets, in the
-words of pcap-filter(7): `tcp port 80 or udp port 53`.
+FILE is read, a capture in the classic format or in pcapng; `-` and none are standard input. It is
+the first word that is no option, unless an expression can begin with it (then `-r FILE` names the
+file). EXPRESSION chooses packets, in the words of pcap-filter(7): `tcp port 80 or udp port 53`.
 
 Link types: 0 (BSD loopback), 1 (Ethernet), 8 (SLIP), 9 and 50 (PPP), 12, 14, 101, 228 and 229
 (raw IP), 104 (Cisco HDLC), 105 and 127 (802.11), 107 (frame relay), 108 (OpenBSD loopback), 113
@@ -54,7 +56,8 @@ Examples:
   ipcap -c 10 trace.pcap icmp or arp         the first ten packets that match
   ipcap -w dns.pcap trace.pcap port 53       the packets that match, as a capture
 
-Exit status: 0 done, 1 the capture is cut off, 2 it cannot be read, 3 a read or a write failed.";
+Exit status: 0 done, 1 the capture is cut off or a block of it is refused, 2 it cannot be read, 3 a
+read or a write failed.";
 
 /// The options and the words that there are.
 pub fn command<'a>(alloc: Global) -> Result<Command<'a>, AllocError> {
@@ -93,6 +96,12 @@ pub fn command<'a>(alloc: Global) -> Result<Command<'a>, AllocError> {
                 .action(ArgAction::Count)
                 .help("Changes nothing: addresses and ports are always numbers"),
         )?
+        .arg(
+            Arg::new(alloc, "utc")
+                .long("utc")
+                .action(ArgAction::SetTrue)
+                .help("Print times as dates in UTC"),
+        )?
         .arg(Arg::new(alloc, "FILE"))?
         .arg(
             Arg::new(alloc, "EXPRESSION")
@@ -106,6 +115,7 @@ impl<'a> Arguments<'a> {
     pub fn from_matches(matches: &ArgMatches<'a>) -> Result<Arguments<'a>, TooLong> {
         let mut arguments = Arguments {
             mode: mode_of(matches),
+            is_utc: matches.get_flag("utc"),
             limit: matches.get_one::<u64>("limit"),
             input: matches.get_str("read"),
             output: matches.get_str("write"),

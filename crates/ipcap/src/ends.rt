@@ -13,11 +13,7 @@ use std::fmt::Formatter;
 
 /// Writes how a listing ends, if it ends before the capture does; `place` is how many bytes of
 /// blocks stand before the one that ends it.
-pub fn write_end<W: fmt::Write>(
-    f: &mut Formatter<W>,
-    place: u64,
-    end: Option<End>,
-) -> fmt::Result
+pub fn write_end<W: fmt::Write>(f: &mut Formatter<W>, place: u64, end: Option<End>) -> fmt::Result
     ensures text { DisplaysOnOk W.write_str_gives f.old result (Some (end_text place end)) f.new }
 {
     match end {

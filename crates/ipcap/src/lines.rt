@@ -9,18 +9,21 @@ ghost use Rattle.ipcap.specs.Lines.{cut_text, link_type_name, magic_text, name_t
 ghost use Rattle.ipcap.specs.Lines.{packets_line, report_text};
 ghost use Rattle.ipcap.specs.Lines.{damage_text};
 ghost use Rattle.ipcap.specs.Ends.{end_text};
-ghost use Rattle.ipcap.specs.Lines.{fraction_text, head_text, header_verdict_text};
+ghost use Rattle.packet_capture.specs.Any.{nanoseconds_of, seconds_of};
+ghost use Rattle.ipcap.specs.Lines.{date_at, dated_text, fraction_text, head_text};
+ghost use Rattle.ipcap.specs.Lines.{header_verdict_text};
 ghost use Rattle.ipcap.specs.Lines.{hex_text, keyword_of, kinds_text, link_type_line};
 ghost use Rattle.ipcap.specs.Lines.{no_packet_text, reading_text, record_line, shown_text};
 ghost use Rattle.ipcap.specs.Lines.{upper_text};
 
+use crate::dates::{DateTime, date_time_of};
 use crate::ends::write_end;
 use crate::place::End;
 use crate::reading::{NoPacket, Reading, is_cut};
 use crate::request::Mode;
 use crate::shown::{Detail, Shown, has_no_length, hops_of, len_of};
 use crate::totals::Totals;
-use packet_capture::any::PacketHead;
+use packet_capture::any::{PacketHead, Time};
 use packet_capture::capture::CaptureError;
 use packet_links::header::Carried;
 use packet_parts::fragment::Fragment;
@@ -78,6 +81,8 @@ fn keyword(number: u8) -> Option<&'static str>
 /// The line of a record.
 #[derive(Drop)]
 pub struct RecordLine<'a> {
+    /// Whether its time is written as a date in UTC.
+    pub is_utc: bool,
     /// The number of the packet, from 1.
     pub number: u64,
     /// Its time, and how much of it was captured.
@@ -87,28 +92,60 @@ pub struct RecordLine<'a> {
 }
 
 impl fmt::Display for RecordLine<'_> {
-    ghost output = { λ line. Some (record_line line.number line.head line.reading) };
+    ghost output = { λ line. Some (record_line line.is_utc line.number line.head line.reading) };
 
     fn fmt<W: fmt::Write>(&self, f: &mut Formatter<W>) -> fmt::Result {
-        write_head(f, self.number, &self.head)?;
+        write_head(f, self.is_utc, self.number, &self.head)?;
         write_reading(f, &self.head, &self.reading)?;
         f.write_str("\n")
     }
 }
 
 // Writes the number of a packet and its time.
-#[tactic(auto, unfolding(crate::specs::Lines::head_text))]
-fn write_head<W: fmt::Write>(f: &mut Formatter<W>, number: u64, head: &PacketHead) -> fmt::Result
+fn write_head<W: fmt::Write>(
+    f: &mut Formatter<W>,
+    is_utc: bool,
+    number: u64,
+    head: &PacketHead,
+) -> fmt::Result
     ensures text { DisplaysOnOk W.write_str_gives f.old result
-        (Some (head_text number head.now)) f.new }
+        (Some (head_text is_utc number head.now)) f.new }
 {
     let time = head.time();
+    let date = date_at(is_utc, time.seconds);
+    write_dated(f, date, number, head, time)
+}
+
+// The date of a time, if dates are asked for.
+fn date_at(is_utc: bool, seconds: u64) -> Option<DateTime>
+    ensures value { result ≡ date_at is_utc seconds }
+{
+    if is_utc { date_time_of(seconds) } else { None }
+}
+
+// Writes the number of a packet and its time, as this date if there is one.
+#[tactic(auto, unfolding(crate::specs::Lines::dated_text))]
+fn write_dated<W: fmt::Write>(
+    f: &mut Formatter<W>,
+    date: Option<DateTime>,
+    number: u64,
+    head: &PacketHead,
+    time: Time,
+) -> fmt::Result
+    requires seconds { time.seconds ≡ seconds_of head.now.stamp }
+    requires nanoseconds { time.nanoseconds ≡ nanoseconds_of head.now.stamp }
+    ensures text { DisplaysOnOk W.write_str_gives f.old result
+        (Some (dated_text date number head.now)) f.new }
+{
     let seconds = time.seconds;
     let fraction = Fraction {
         is_fine: head.is_fine(),
         nanoseconds: time.nanoseconds,
     };
-    write!(f, "{number} {seconds}.{fraction} ")
+    match date {
+        Some(date) => write!(f, "{number} {date}.{fraction}Z "),
+        None => write!(f, "{number} {seconds}.{fraction} "),
+    }
 }
 
 // A fraction of a second.

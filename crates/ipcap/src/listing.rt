@@ -122,6 +122,7 @@ impl Request {
         *totals = after;
         match self.mode {
             Mode::Lines => output.print(RecordLine {
+                is_utc: self.is_utc,
                 number: after.records,
                 head: *head,
                 reading,

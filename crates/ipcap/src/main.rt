@@ -90,6 +90,7 @@ fn answer(rt: &HostRuntime, arguments: Arguments) -> u8 {
     };
     let request = Request {
         mode: arguments.mode,
+        is_utc: arguments.is_utc,
         limit: arguments.limit,
         filter,
     };

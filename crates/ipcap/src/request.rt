@@ -26,6 +26,8 @@ pub enum Mode {
 pub struct Request {
     /// What is written of the records that are listed.
     pub mode: Mode,
+    /// Whether times are written as dates in UTC.
+    pub is_utc: bool,
     /// After how many listed records the run ends; `None` if it goes on to the end of the capture.
     pub limit: Option<u64>,
     /// The expression that records are chosen by; `None` if all are.

@@ -32,11 +32,11 @@ pub returns-in_err-fill-clause-failed : goal.returns-in_err-fill-clause-failed
 returns-in_err-fill-clause-failed g c =
     let told : IsTold g.W.Sink.contents c.args.self.now c.args.place.now c.args.place.now.totals c.match-stop.end c.args.output.now c.args.output.now (unread c.args.input.now) = elim c.match-stop.branch [
       | in-CutOff+else-is_long w ↦ (let stops = rw w.in-CutOff.is at c.requires.stops in
-        let short : (w.in-CutOff.e.required_len ≤ max_len c.args.place.now.capture) ⊎ (length (unread c.args.input.now) < front_len c.args.place.now.capture) = elim w.else-is_long.branch [
-          | else-is_long-via-then-is_long+else-unread-front_len v ↦ inr (omega (arith, v.if-unread-front_len.false, ap length v.unread.ensures.value, v.front_len.ensures.value))
-          | else-is_long-via-else-is_long v ↦ inl (omega (arith, v.if-is_long.false, w.max_len.ensures.value))
-        ] in
-        rw w.end-is (told_cut_off _ _ c.args.place.now _ w.in-CutOff.e _ _ stops.0 (record { refuses = stops.1; short = short }) (prints_nothing _ _)))
+          let short : (w.in-CutOff.e.required_len ≤ max_len c.args.place.now.capture) ⊎ (length (unread c.args.input.now) < front_len c.args.place.now.capture) = elim w.else-is_long.branch [
+            | else-is_long-via-then-is_long+else-unread-front_len v ↦ inr (omega (arith, v.if-unread-front_len.false, ap length v.unread.ensures.value, v.front_len.ensures.value))
+            | else-is_long-via-else-is_long v ↦ inl (omega (arith, v.if-is_long.false, w.max_len.ensures.value))
+          ] in
+          rw w.end-is (told_cut_off _ _ c.args.place.now _ w.in-CutOff.e _ _ stops.0 (record { refuses = stops.1; short = short }) (prints_nothing _ _)))
       | in-Empty w ↦ (let stops = rw w.in-Empty.is at c.requires.stops in rw w.end-is (told_end _ _ _ _ _ _ stops.1 (prints_nothing _ _)))
     ] in
     let wants : WantsMore c.args.self.now c.args.place.now.totals c.match-stop.end = elim c.match-stop.branch [
@@ -54,11 +54,11 @@ pub returns-else-branch-clause-turns : goal.returns-else-branch-clause-turns
 returns-else-branch-clause-turns g c =
     let told : IsTold g.W.Sink.contents c.args.self.now c.args.place.now c.args.place.now.totals c.match-stop.end c.args.output.now c.args.output.now (unread c.args.input.now) = elim c.match-stop.branch [
       | in-CutOff+else-is_long w ↦ (let stops = rw w.in-CutOff.is at c.requires.stops in
-        let short : (w.in-CutOff.e.required_len ≤ max_len c.args.place.now.capture) ⊎ (length (unread c.args.input.now) < front_len c.args.place.now.capture) = elim w.else-is_long.branch [
-          | else-is_long-via-then-is_long+else-unread-front_len v ↦ inr (omega (arith, v.if-unread-front_len.false, ap length v.unread.ensures.value, v.front_len.ensures.value))
-          | else-is_long-via-else-is_long v ↦ inl (omega (arith, v.if-is_long.false, w.max_len.ensures.value))
-        ] in
-        rw w.end-is (told_cut_off _ _ c.args.place.now _ w.in-CutOff.e _ _ stops.0 (record { refuses = stops.1; short = short }) (prints_nothing _ _)))
+          let short : (w.in-CutOff.e.required_len ≤ max_len c.args.place.now.capture) ⊎ (length (unread c.args.input.now) < front_len c.args.place.now.capture) = elim w.else-is_long.branch [
+            | else-is_long-via-then-is_long+else-unread-front_len v ↦ inr (omega (arith, v.if-unread-front_len.false, ap length v.unread.ensures.value, v.front_len.ensures.value))
+            | else-is_long-via-else-is_long v ↦ inl (omega (arith, v.if-is_long.false, w.max_len.ensures.value))
+          ] in
+          rw w.end-is (told_cut_off _ _ c.args.place.now _ w.in-CutOff.e _ _ stops.0 (record { refuses = stops.1; short = short }) (prints_nothing _ _)))
       | in-Empty w ↦ (let stops = rw w.in-Empty.is at c.requires.stops in rw w.end-is (told_end _ _ _ _ _ _ stops.1 (prints_nothing _ _)))
     ] in
     let fill = c.in_ok-fill.ensures in
