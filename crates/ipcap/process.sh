@@ -2,7 +2,8 @@
 # Runs the built program as a process, and compares its exit code and all its output with what is
 # expected: on the capture in `stdin`, on that capture cut at each of its bytes and with bytes
 # changed, on its packets in each format and after the headers of each other link type, on its
-# records 11000 times over, on the longest records that are read and on longer ones, with expressions,
+# records 11000 times over, on the longest records that are read and on longer ones, on the same
+# packets in pcapng, with blocks of each kind and blocks that are refused, with expressions,
 # with each option, with files that are read and written, with arguments that are refused, with
 # standard streams that are closed, full or read by nobody, and with reads that fail after some
 # records.
@@ -182,7 +183,7 @@ help_and_version() {
         run "$word" tcp
         code=$?
         for line in "Usage: $build [OPTIONS] [FILE] [EXPRESSION]..." '  -r <FILE>' '  -w <FILE>' \
-            '  -c <N>' '      --count' '      --quiet' '  -n' '  -h, --help' '  -V, --version' \
+            '  -c <N>' '      --count' '      --quiet' '  -n' '      --utc' '  -h, --help' '  -V, --version' \
             'Link types: ' 'A line has these words:' '  ipcap trace.pcap '; do
             if ! grep -q -F -e "$line" "$room/output"; then
                 fail "$word" "it does not say '$line'"
@@ -808,7 +809,6 @@ no_captures() {
     packed '\50\265\57\375' 'zstd: zstdcat FILE | ipcap'
     packed '\375\67\172\130' 'xz: xzcat FILE | ipcap'
     packed '\102\132\150\71' 'bzip2: bzcat FILE | ipcap'
-    packed '\12\15\15\12' 'pcapng: editcap -F pcap FILE - | ipcap'
 }
 
 # A record of one byte more than is read, the first packet of `stdin`, and a record as long as the
@@ -929,6 +929,431 @@ longest_records() {
     judge 'the longest records, written' $? 0
     cat "$room/input" | "$program" -w - >"$room/output" 2>"$room/errors"
     judge 'the longest records, written, from a pipe' $? 0
+}
+
+# little PLACE: the number of 32 bits at this place of `stdin`, whose low byte stands first.
+little() {
+    od -An -v -tu4 -j "$1" -N 4 stdin | tr -d ' '
+}
+
+# block TYPE [BYTES]: a block of pcapng of this type, with these bytes, as `printf` takes them, and
+# then those of the file `body`.
+block() {
+    local length
+    {
+        printf "${2-}"
+        cat "$room/body"
+    } >"$room/block"
+    length=$(wc -c <"$room/block")
+    head -c $(((4 - length % 4) % 4)) /dev/zero >>"$room/block"
+    length=$((12 + (length + 3) / 4 * 4))
+    number "$1"
+    number $length
+    cat "$room/block"
+    number $length
+}
+
+# section [VERSION]: a section header.
+section() {
+    : >"$room/body"
+    block 168627466 "\115\74\53\32${1-\1\0\0\0}\377\377\377\377\377\377\377\377"
+}
+
+# interface TYPE [OPTIONS]: an interface of this link type, with these options.
+interface() {
+    : >"$room/body"
+    block 1 "$(printf '\\%03o\\%03o' $(($1 % 256)) $(($1 / 256)))\0\0\0\0\0\0${2-}"
+}
+
+# ticks NUMBER: a timestamp, whose upper half stands first.
+ticks() {
+    number $(($1 / 4294967296))
+    number $(($1 % 4294967296))
+}
+
+# enhanced ID PLACE [UNIT]: the record at this place of `stdin` as a packet of the interface with
+# this number. Its time is counted in microseconds, or in so many units for each.
+enhanced() {
+    local length
+    length=$(little $(($2 + 8)))
+    {
+        number "$1"
+        ticks $((($(little "$2") * 1000000 + $(little $(($2 + 4)))) * ${3-1}))
+        number "$length"
+        number "$(little $(($2 + 12)))"
+        bytes $(($2 + 16)) "$length"
+    } >"$room/body"
+    block 6
+}
+
+# places: where the records of `stdin` begin.
+places() {
+    local place=24
+    while [ $place -lt "$size" ]; do
+        echo $place
+        place=$((place + 16 + $(little $((place + 8)))))
+    done
+}
+
+# The same packets in pcapng, in microseconds and in nanoseconds, whole and in pieces, and written
+# again. A block of names, one of statistics and one of nobody's stand between them.
+pcapng_captures() {
+    local place other
+    printf 'names' >"$room/body"
+    other="$(block 4 | od -An -v -to1 | tr -d '\n' | tr ' ' '\\')"
+    {
+        section
+        interface 1
+        for place in $(places); do
+            enhanced 0 "$place"
+            printf "$other"
+        done
+    } >"$room/input"
+    cp "$room/input" "$room/pcapng"
+    cp stdout "$room/wanted"
+    closing_of 6 >"$room/wanted.errors"
+    run
+    judge 'pcapng' $? 0
+    in_pieces 1
+    judge 'pcapng, a byte at a time' $? 0
+    cp "$room/pcapng" "$room/wanted"
+    run -w -
+    judge 'pcapng, written' $? 0
+    in_pieces 7 -w -
+    judge 'pcapng, written, 7 bytes at a time' $? 0
+    head -n 2 stdout >"$room/wanted"
+    closing_of 2 >"$room/wanted.errors"
+    run -c 2
+    judge 'two packets of pcapng' $? 0
+    {
+        section
+        interface 1
+        enhanced 0 24
+        for place in $(places); do
+            printf "$other"
+        done
+    } >"$room/wanted"
+    closing '1 of 6' 1 0 0 0 0 >"$room/wanted.errors"
+    run -w - 'udp and src host 192.0.2.1'
+    judge 'one packet of pcapng, written with all other blocks' $? 0
+    {
+        section
+        interface 1 '\11\0\1\0\11\0\0\0\0\0\0\0'
+        for place in $(places); do
+            enhanced 0 "$place" 1000
+        done
+    } >"$room/input"
+    sed 's/\(\.[0-9]*\)/\1000/' stdout >"$room/wanted"
+    closing_of 6 >"$room/wanted.errors"
+    run
+    judge 'pcapng in nanoseconds' $? 0
+}
+
+# Packets of several interfaces, with link types of their own, and one that is not read; a section in
+# the other byte order, with a packet that has no time; and a packet of the kind that is obsolete.
+interfaces() {
+    local packet
+    packet=$(bytes 54 33 | od -An -v -to1 | tr -d '\n' | tr ' ' '\\')
+    {
+        section
+        interface 1
+        interface 101
+        interface 147
+        enhanced 0 24
+        {
+            number 1
+            ticks 1700000001001001
+            number 33
+            number 33
+            bytes 54 33
+        } >"$room/body"
+        block 6
+        {
+            number 2
+            ticks 1700000001001001
+            number 33
+            number 34
+            bytes 54 33
+        } >"$room/body"
+        block 6
+        {
+            printf '\1\0\0\0'
+            ticks 1700000001001001
+            number 33
+            number 33
+            bytes 54 33
+        } >"$room/body"
+        block 2
+        printf '\12\15\15\12\0\0\0\34\32\53\74\115\0\1\0\0\377\377\377\377\377\377\377\377\0\0\0\34'
+        printf '\0\0\0\1\0\0\0\24\0\145\0\0\0\0\0\0\0\0\0\24'
+        printf '\0\0\0\3\0\0\0\64\0\0\0\41'"$packet"'\0\0\0\0\0\0\64'
+    } >"$room/input"
+    {
+        echo "1${lines[0]#1}"
+        echo "2${lines[0]#1}"
+        echo '3 1700000001.001001 other: link type 147 (USER0) cut 33/34'
+        echo "4${lines[0]#1}"
+        echo "5 0.000000 ${lines[0]#* * }"
+    } >"$room/wanted"
+    closing 5 4 0 1 1 0 >"$room/wanted.errors"
+    run
+    judge 'packets of several interfaces' $? 0
+    numbered 1 >"$room/wanted"
+    {
+        echo "2${lines[0]#1}"
+        echo "4${lines[0]#1}"
+        echo "5 0.000000 ${lines[0]#* * }"
+    } >>"$room/wanted"
+    closing '4 of 5' 4 0 0 0 0 >"$room/wanted.errors"
+    run 'not tcp'
+    judge 'no expression is true of a packet whose link type is not read' $? 0
+}
+
+# refused_block PLACE REASON: a packet, and the blocks of the file `blocks`, of which the one at this
+# byte is refused, and another packet after them, which is not listed.
+refused_block() {
+    {
+        section
+        interface 1
+        enhanced 0 24
+        cat "$room/blocks"
+        enhanced 0 24
+    } >"$room/input"
+    numbered 1 >"$room/wanted"
+    {
+        echo "error: the block at byte $1 is refused: $2"
+        closing 1 1 0 0 0 0
+    } >"$room/wanted.errors"
+    run
+    judge "pcapng: $2" $? 1
+}
+
+refused_blocks() {
+    local after=140
+    : >"$room/body"
+    {
+        number 6
+        number 33
+    } >"$room/blocks"
+    refused_block $after 'its length is 33 bytes'
+    {
+        number 6
+        number 28
+    } >"$room/blocks"
+    refused_block $after 'its length is 28 bytes'
+    {
+        number 4
+        number 12
+        number 16
+    } >"$room/blocks"
+    refused_block $after 'its length is 12 bytes, and 16 at its end'
+    enhanced 1 24 >"$room/blocks"
+    refused_block $after 'its packet is of interface 1, and there are 1'
+    {
+        number 0
+        ticks 0
+        number 5
+        number 5
+        printf abcd
+    } >"$room/body"
+    block 6 >"$room/blocks"
+    refused_block $after 'it has room for 4 bytes of its packet, and not for 5'
+    section '\2\0\0\0' >"$room/blocks"
+    refused_block $after 'the version is 2.0'
+    section | sed 's/\x4d\x3c/\x4d\x3d/' >"$room/blocks"
+    refused_block $after 'the byte-order magic is 0x4d3d2b1a'
+    interface 1 '\11\0\1\0\24\0\0\0' >"$room/blocks"
+    refused_block $after 'its unit of time is too small (if_tsresol 20)'
+    interface 1 '\16\0\4\0\0\0\0\0' >"$room/blocks"
+    refused_block $after 'its option 14 at byte 16 has 4 bytes'
+    interface 1 '\2\0\10\0abcd' >"$room/blocks"
+    refused_block $after 'its option 2 at byte 16 has 8 bytes'
+    for _ in {1..256}; do
+        interface 1
+    done >"$room/blocks"
+    refused_block $((after + 255 * 20)) 'the section has 256 interfaces already'
+    head -c 400000 /dev/zero >"$room/body"
+    interface 1 >"$room/blocks"
+    : >"$room/body"
+    {
+        number 1
+        number 400000
+        head -c 400000 /dev/zero
+    } >"$room/blocks"
+    refused_block $after 'it is too long (400000 bytes)'
+}
+
+# A packet and blocks that are longer than what is read: a packet of so many bytes, a block of names,
+# and at the end a packet again whose block ends with another length, or is cut off.
+long_blocks() {
+    long_packet() {
+        number 6
+        number 400032
+        number 0
+        ticks 1700000001001001
+        number 400000
+        number 400000
+        bytes 40 60
+        head -c 399940 /dev/zero
+        number "$1"
+    }
+    {
+        section
+        interface 1
+        long_packet 400032
+        number 4
+        number 400000
+        head -c 399988 /dev/zero
+        number 400000
+        enhanced 0 24
+    } >"$room/pcapng"
+    {
+        echo '1 1700000001.001001 skipped: record too long (400000 bytes)'
+        echo "2${lines[0]#1}"
+    } >"$room/lines"
+    cp "$room/pcapng" "$room/input"
+    cp "$room/lines" "$room/wanted"
+    echo '2 packets: 1 IPv4, 0 IPv6, 0 other, 0 refused, 1 skipped, 0 cut,' \
+        '0 with a wrong checksum' >"$room/wanted.errors"
+    run
+    judge 'long blocks' $? 0
+    in_pieces 1000
+    judge 'long blocks, 1000 bytes at a time' $? 0
+    cp "$room/pcapng" "$room/wanted"
+    run -w -
+    judge 'long blocks, written' $? 0
+    in_pieces 1001 -w -
+    judge 'long blocks, written, 1001 bytes at a time' $? 0
+    {
+        section
+        interface 1
+        number 4
+        number 400000
+        head -c 399988 /dev/zero
+        number 400000
+        enhanced 0 24
+    } >"$room/wanted"
+    echo '1 of 2 packets: 1 IPv4, 0 IPv6, 0 other, 0 refused, 1 skipped, 0 cut,' \
+        '0 with a wrong checksum' >"$room/wanted.errors"
+    run -w - udp
+    judge 'long blocks, and an expression' $? 0
+    {
+        cat "$room/pcapng"
+        long_packet 400036
+        enhanced 0 24
+    } >"$room/input"
+    {
+        cat "$room/lines"
+        echo '3 1700000001.001001 skipped: record too long (400000 bytes)'
+    } >"$room/wanted"
+    {
+        echo 'error: the block at byte 800172 is refused: its length is 400032 bytes,' \
+            'and 400036 at its end'
+        echo '3 packets: 1 IPv4, 0 IPv6, 0 other, 0 refused, 2 skipped, 0 cut,' \
+            '0 with a wrong checksum'
+    } >"$room/wanted.errors"
+    run
+    judge 'a long block that ends with another length' $? 1
+    {
+        cat "$room/pcapng"
+        long_packet 400032 | head -c 1000
+    } >"$room/input"
+    {
+        echo 'error: the last record is cut off: it needs 400032 bytes, and there are 1000'
+        echo '3 packets: 1 IPv4, 0 IPv6, 0 other, 0 refused, 2 skipped, 0 cut,' \
+            '0 with a wrong checksum'
+    } >"$room/wanted.errors"
+    run
+    judge 'a long block that is cut off' $? 1
+    cp "$room/input" "$room/wanted"
+    run -w -
+    judge 'a long block that is cut off, written' $? 1
+    {
+        cat "$room/pcapng"
+        long_packet 400032 | head -c 20
+    } >"$room/input"
+    cp "$room/lines" "$room/wanted"
+    {
+        echo 'error: the last record is cut off: it needs 400032 bytes, and there are 20'
+        echo '2 packets: 1 IPv4, 0 IPv6, 0 other, 0 refused, 1 skipped, 0 cut,' \
+            '0 with a wrong checksum'
+    } >"$room/wanted.errors"
+    run
+    judge 'a long block that is cut off in its head' $? 1
+}
+
+# The capture in pcapng, cut at some of its bytes: the whole packets are listed. The section header
+# and the interface have 48 bytes.
+cut_pcapng() {
+    local len place listed all ends=()
+    {
+        section
+        interface 1
+        for place in $(places); do
+            enhanced 0 "$place"
+        done
+    } >"$room/pcapng"
+    all=$(wc -c <"$room/pcapng")
+    len=48
+    for place in $(places); do
+        len=$((len + 32 + ($(little $((place + 8))) + 3) / 4 * 4))
+        ends+=($len)
+    done
+    [ "$len" -eq "$all" ] || fail 'the capture in pcapng' 'it has another length'
+    for ((len = 4; len < all; len += 5)); do
+        listed=0
+        for place in "${ends[@]}"; do
+            [ "$place" -gt $len ] || listed=$((listed + 1))
+        done
+        [ $len -ne 28 ] && [ $len -ne 48 ] || continue
+        [ $listed -eq 0 ] || [ "${ends[listed - 1]}" -ne $len ] || continue
+        head -c $len "$room/pcapng" >"$room/input"
+        first_lines $listed >"$room/wanted"
+        run
+        if [ $? -ne 1 ]; then
+            fail "pcapng cut to $len bytes" 'it did not end with 1'
+        elif ! cmp -s "$room/output" "$room/wanted"; then
+            fail "pcapng cut to $len bytes" 'it did not list the whole packets'
+        elif ! head -n 1 "$room/errors" | grep -q '^error: the last record is cut off: it needs '; then
+            fail "pcapng cut to $len bytes" 'it did not say that it is cut off'
+        else
+            pass
+        fi
+    done
+}
+
+# Times as dates: those of the capture, and the last second that has one and the first that has none.
+dates() {
+    local day=1700000001
+    cp stdin "$room/input"
+    sed 's/ 170000000\([0-9]\)\.\([0-9]*\)/ 2023-11-14T22:13:2\1.\2Z/' stdout >"$room/wanted"
+    closing_of 6 >"$room/wanted.errors"
+    run --utc
+    judge 'dates' $? 0
+    {
+        section
+        interface 101 '\11\0\1\0\0\0\0\0\0\0\0\0'
+        for day in 0 68169599 68169600 951782400 2147483647 4107542399 253402300799 253402300800; do
+            {
+                number 0
+                ticks $day
+                number 33
+                number 33
+                bytes 54 33
+            } >"$room/body"
+            block 6
+        done
+    } >"$room/input"
+    number=0
+    for day in 1970-01-01T00:00:00.000000Z 1972-02-28T23:59:59.000000Z 1972-02-29T00:00:00.000000Z \
+        2000-02-29T00:00:00.000000Z 2038-01-19T03:14:07.000000Z 2100-02-28T23:59:59.000000Z \
+        9999-12-31T23:59:59.000000Z 253402300800.000000; do
+        number=$((number + 1))
+        echo "$number $day ${lines[0]#* * }"
+    done >"$room/wanted"
+    closing 8 8 0 0 0 0 >"$room/wanted.errors"
+    run --utc
+    judge 'the days of years' $? 0
 }
 
 # The keywords of IANA's registry of protocol numbers.
@@ -1144,6 +1569,12 @@ for build; do
     no_captures
     long_records
     longest_records
+    pcapng_captures
+    interfaces
+    refused_blocks
+    long_blocks
+    cut_pcapng
+    dates
     link_types
     cut_packets
     lengths

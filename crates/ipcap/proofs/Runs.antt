@@ -1,5 +1,5 @@
 -- What is read, taken, printed and told in parts.
-use Rattle.std.proofs.Common.{ℕ, ◌≡◌, ◌≢◌, ◌<◌, ◌≤◌, ◌+◌, ◌-◌, ◌⊎◌, inl, inr, List, [], ◌∷◌, ◌++◌, length, take, drop, ◌&&◌, Bool, true, false, Option, Some, None, Result, Ok, Err, OnErr, OnOk, refl, subst, sym, ap, ◌∙◌, append_assoc, append-nil, arith, length-append, length-drop, length-take, take-append-drop}
+use Rattle.std.proofs.Common.{ℕ, ◌^◌, min, ◌≡◌, ◌≢◌, ◌<◌, ◌≤◌, ◌+◌, ◌-◌, ◌⊎◌, inl, inr, List, [], ◌∷◌, ◌++◌, length, take, drop, ◌&&◌, Bool, true, false, Option, Some, None, Result, Ok, Err, OnErr, OnOk, refl, subst, sym, ap, ◌∙◌, append_assoc, append-nil, arith, length-append, length-drop, length-take, take-append-drop}
 use Rattle.std.proofs.Math.Nat.{eq-or-lt_of_le}
 use Rattle.std.proofs.Math.Seq.{drop-append-add, take-append-add, take-append_seam}
 use Rattle.std.proofs.lemmas.Bool.Decides.{eqb_tells}
@@ -31,7 +31,7 @@ use Rattle.ipcap.specs.Reading.{max_len}
 use Rattle.ipcap.specs.Request.{copies, has_enough}
 use Rattle.ipcap.specs.Private.Progress.{Because, Breaks, Ends, GoesOn, IsTold, Lacks, Skips, Tells, TellsFront, TellsFrontOf, Turns, WantsMore, keeps, last_four}
 use Rattle.ipcap.specs.Streams.{CannotRead, Prints, Reads, Takes, kept_if, pending, unread}
-use Rattle.ipcap.specs.Totals.{HasRoom, Told, counted, packet}
+use Rattle.ipcap.specs.Totals.{HasRoom, Told, counted, counted_block, no_packet, packet}
 use Rattle.ipcap.specs.declared.failure.Failure.{Failure}
 use Rattle.ipcap.specs.declared.failure.Failure.TheVariants as failure
 use Rattle.ipcap.specs.declared.input.Input.{Input}
@@ -108,6 +108,12 @@ kept_nothing false = refl
 pub written_long : (request : Request) (before : Totals) (head : PacketHead) (bytes : List ℕ)
     → written request before (packet head (if_too_long request)) bytes ≡ written request before (packet head (if_too_long request)) [] ++ kept_if (copies request.mode && is_none request.filter) bytes
 written_long request before head bytes = grind (arith, append-nil)
+
+-- the length of a block is counted after it
+counted_then : (len : ℕ) (told : Told) (t : Totals) → counted len true no_packet (counted 0 true told t) ≡ counted len true told t
+counted_then len told t =
+    let bytes : min (min (t.bytes + 0) (2 ^ 64 - 1) + len) (2 ^ 64 - 1) ≡ min (t.bytes + len) (2 ^ 64 - 1) = grind arith in
+    ap (λ b. record (counted_block true told t) { bytes = b }) bytes
 
 -- why no more is told of a record that is too long, as why no more is told
 past_cause : (e : Failure) (P Q : Type 0) (is : Bool) (required : ℕ) (first piece rest : List ℕ) (wants full : Type 0) → (length (first ++ piece) < required → wants) → Because P Q ⊥ e (length (first ++ piece) < required) rest piece
@@ -314,12 +320,12 @@ module _ {W : Type 0} (contents : W → Option (List ℕ)) where
     -- a block that is too long, and is cut off or ends with another length
     otherwise_at : (t : Place) (s bytes : List ℕ) (front : BlockFront) (told : Told) (e : BlockError)
         → has_enough request t.totals.listed ≡ false → bytes ≡ take front.len s → HasLongFront t.capture s front → ToldOfLong request front.content told → EndsOtherwise s front e
-        → Lists request t s (written request t.totals told bytes) (counted front.len true told t.totals) (Some (Refused e))
+        → Lists request t s (written request t.totals told bytes) (counted 0 true told t.totals) (Some (Refused e))
     otherwise_at t s bytes front told e going b has is otherwise = rw b (ends_otherwise told going has is otherwise)
 
     lists_otherwise : (t : Place) (s more : List ℕ) (front : BlockFront) (told : Told) (e : BlockError)
         → has_enough request t.totals.listed ≡ false → HasLongFront t.capture s front → ToldOfLong request front.content told → length s ≡ front.len → HasOtherEnd front.head (drop (length s - 4) s) e
-        → Lists request t (s ++ more) (written request t.totals told s) (counted front.len true told t.totals) (Some (Refused e))
+        → Lists request t (s ++ more) (written request t.totals told s) (counted 0 true told t.totals) (Some (Refused e))
     lists_otherwise t s more front told e going has is len other =
         let all : s ≡ take front.len (s ++ more) = sym (ap (λ n. take n (s ++ more)) (sym len) ∙ take-append_seam s more) in
         let end : drop (length s - 4) s ≡ drop (front.len - 4) (take front.len (s ++ more)) = ap (λ n. drop (n - 4) s) len ∙ ap (drop (front.len - 4)) all in
@@ -329,17 +335,18 @@ module _ {W : Type 0} (contents : W → Option (List ℕ)) where
     -- all of it that is there
     pub lists_upto : (t : Place) (s : List ℕ) (front : BlockFront) (told : Told)
         → has_enough request t.totals.listed ≡ false → HasLongFront t.capture s front → ToldOfLong request front.content told → length s ≤ front.len
-        → (end : Option End) × Lists request t s (written request t.totals told s) (counted front.len true told t.totals) end × (length s < front.len → WantsMore request (counted front.len true told t.totals) end)
+        → (last : Totals) × (end : Option End) × Lists request t s (written request t.totals told s) last end × (length s < front.len → WantsMore request last end)
     lists_upto t s front told going has is within = elim (eq-or-lt_of_le within) [
       | inl len ↦ elim (ends_or_not front.head (drop (length s - 4) s)) [
         | inl right ↦ (
+          counted front.len true told t.totals,
           None,
           rw (append-nil s, append-nil (written request t.totals told s)) at (lists_long_one t s front told _ None [] [] going has len (λ rest. begins_with_long t.capture s rest front has.enough has.has len right (can_be_skipped request front.content told is)) is ends),
           λ less. absurd (omega (arith, len, less)),
         )
-        | inr wrong ↦ (Some (Refused wrong.0), rw (append-nil s) at (lists_otherwise t s [] front told wrong.0 going has is len wrong.1), λ less. absurd (omega (arith, len, less)))
+        | inr wrong ↦ (counted 0 true told t.totals, Some (Refused wrong.0), rw (append-nil s) at (lists_otherwise t s [] front told wrong.0 going has is len wrong.1), λ less. absurd (omega (arith, len, less)))
       ]
-      | inr less ↦ (Some (CutOff (record { required_len = front.len; len = length s })), is_cut_off_long told going has is less, λ wants. tt)
+      | inr less ↦ (counted 0 true told t.totals, Some (CutOff (record { required_len = front.len; len = length s })), is_cut_off_long told going has is less, λ wants. tt)
     ]
 
     -- nothing is told
@@ -485,9 +492,6 @@ module _ {R W : Type 0} (remaining : R → Option (List ℕ)) (contents : W → 
   -- a block that is too long is told, as far as it is there
   module _ (t : Place) (u : Totals) (front : BlockFront) (a c : Input R) (o m n : Output W) (going : has_enough request t.totals.listed ≡ false) (has : HasLongFront t.capture (unread a) front) (short : length (unread a) < front.len)
       (line : TellsFrontOf contents request front t.totals u o m) where
-    abbrev pub after : Place
-    after = record { totals = u; capture = t.capture }
-
     front_of : (got s rest : List ℕ) → unread a ++ got ≡ s ++ rest → (length s < front.len → rest ≡ []) → length s ≤ front.len → HasLongFront t.capture s front
     front_of got s rest same all within =
         let longer : length (unread a) ≤ length s = elim (eq-or-lt_of_le within) [
@@ -506,14 +510,14 @@ module _ {R W : Type 0} (remaining : R → Option (List ℕ)) (contents : W → 
       last_of : len ≡ front.len → last ≡ drop (length k.taken - 4) k.taken
       last_of all = k.is_last ∙ last_is k.taken (omega (arith, k.many, all, has.long, least_long t.capture))
 
-      pub past_skipped : len ≡ front.len → EndsRight front.head last → GoesOn remaining contents request t after a c o n
-      past_skipped all right =
+      pub past_skipped : (v : Totals) → v ≡ counted front.len true no_packet u → len ≡ front.len → EndsRight front.head last → GoesOn remaining contents request t (record { totals = v; capture = t.capture }) a c o n
+      past_skipped v more all right =
           let whole : length k.taken ≡ front.len = k.many ∙ all in
           let end = subst (λ x. EndsRight front.head x) (last_of all) right in
           record {
             taken = k.taken;
             takes = k.takes;
-            tells = rw line.counts (told_long contents request t k.taken front line.told o n going is_there whole (λ rest. begins_with_long t.capture k.taken rest front is_there.enough is_there.has whole end (can_be_skipped request front.content line.told line.is)) line.is wrote);
+            tells = rw (more ∙ (ap (counted front.len true no_packet) line.counts ∙ counted_then front.len line.told t.totals)) (told_long contents request t k.taken front line.told o n going is_there whole (λ rest. begins_with_long t.capture k.taken rest front is_there.enough is_there.has whole end (can_be_skipped request front.content line.told line.is)) line.is wrote);
             more = omega (arith, k.takes.reads.count, short, whole, ap length k.takes.takes, length-append (unread a) k.takes.got, length-append k.taken (unread c));
           }
 
@@ -558,13 +562,13 @@ module _ {R W : Type 0} (remaining : R → Option (List ℕ)) (contents : W → 
             front = s;
             rest = k.rest;
             whole = k.whole;
-            last = _;
-            end = found.0;
+            last = found.0;
+            end = found.1;
             printed = line.line ++ kept_if is k.first;
             left = kept_if is k.piece;
-            lists = rw text at found.1;
+            lists = rw text at found.2;
             prints = prints_both contents o m n line.line (kept_if is k.first) line.prints k.prints;
-            cause = past_cause e (CannotRead P c) (Q n.sink) is front.len k.first k.piece k.rest _ _ found.2 k.cause;
+            cause = past_cause e (CannotRead P c) (Q n.sink) is front.len k.first k.piece k.rest _ _ found.3 k.cause;
           };
         }
 

@@ -121,7 +121,8 @@ pub record EndsOtherwise (s : List ℕ) (front : BlockFront) (e : BlockError) : 
 
 -- The text is what is written of the blocks that the data consists of, one after the other, and
 -- each is counted. The listing ends with the data; or at a block that is cut off or refused. One
--- that is too long is told before its end is seen, with the bytes that are there. Once as many
+-- that is too long is told before its end is seen, with the bytes that are there; its length
+-- counts once it is whole. Once as many
 -- packets are listed as were asked for, nothing more is read, whatever follows.
 pub data Lists (request : Request) : Place → List ℕ → List ℕ → Totals → Option End → Type 0 where
   ends : {place : Place} → Lists request place [] [] place.totals None
@@ -152,7 +153,7 @@ pub data Lists (request : Request) : Place → List ℕ → List ℕ → Totals 
       → has_enough request before.totals.listed ≡ false → HasLongFront before.capture s front
       → ToldOfLong request front.content told → length s < front.len
       → Lists request before s (written request before.totals told s)
-      (counted front.len true told before.totals)
+      (counted 0 true told before.totals)
       (Some (CutOff (record { required_len = front.len; len = length s })))
   is_refused_long : {place : Place} {s : List ℕ} {front : BlockFront} {end : End}
       → has_enough request place.totals.listed ≡ false → HasLongFront place.capture s front
@@ -162,4 +163,4 @@ pub data Lists (request : Request) : Place → List ℕ → List ℕ → Totals 
       → HasLongFront before.capture s front → ToldOfLong request front.content told
       → EndsOtherwise s front e
       → Lists request before s (written request before.totals told (take front.len s))
-      (counted front.len true told before.totals) (Some (Refused e))
+      (counted 0 true told before.totals) (Some (Refused e))

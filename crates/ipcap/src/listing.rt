@@ -304,7 +304,8 @@ impl Request {
         }
     }
 
-    // Counts a block that is too long, and writes what is written of it but for its bytes.
+    // Counts a block that is too long, but for its length, and writes what is written of it but for
+    // its bytes.
     fn list_front_of<W: Sink>(
         &self,
         totals: &mut Totals,
@@ -319,8 +320,8 @@ impl Request {
             (¬ HasRoom totals.old) e ⊥ [] []) }
     {
         match &front.content {
-            Content::Packet(head) => self.list_too_long(totals, front.len, head, &[], output),
-            Content::Other => self.list_other(totals, front.len, &[], output),
+            Content::Packet(head) => self.list_too_long(totals, 0, head, &[], output),
+            Content::Other => self.list_other(totals, 0, &[], output),
             Content::Refused(_) | Content::Description => unreachable!(),
         }
     }
@@ -359,7 +360,10 @@ impl Request {
             return Ok(Turn::Ends(Some(End::CutOff(CutOff { required_len, len }))));
         }
         match front.check_end(last) {
-            Ok(()) => Ok(Turn::GoesOn),
+            Ok(()) => {
+                place.totals = place.totals.pass_block(front.len);
+                Ok(Turn::GoesOn)
+            }
             Err(e) => Ok(Turn::Ends(Some(End::Refused(e)))),
         }
     }

@@ -113,12 +113,12 @@ module _ {W : Type 0} (contents : W → Option (List ℕ)) (request : Request) w
     pub is : ToldOf request of told
     pub tells : TellsBlock (length bytes) false told before after bytes old new
 
-  -- the same of a block that is too long, but for its bytes
+  -- the same of a block that is too long, but for its bytes and its length
   pub record TellsFrontOf (front : BlockFront) (before after : Totals) (old new : Output W)
       : Type 0 where
     pub told : Told
     pub is : ToldOfLong request front.content told
-    pub counts : after ≡ counted front.len true told before
+    pub counts : after ≡ counted 0 true told before
     pub line : List ℕ
     pub prints : Prints contents old new line
     pub all : (bytes : List ℕ) → written request before told bytes
