@@ -51,7 +51,9 @@ impl<W: Sink> Output<W> {
         }
         let len = self.line.len();
         self.make_room(len)?;
-        let _fits = self.text.try_extend_from_slice(self.line.as_slice());
+        let _fits = self
+            .text
+            .try_extend_from_slice(self.line.as_str().as_bytes());
         Ok(())
     }
 

@@ -5,16 +5,16 @@ ghost use Rattle.std.specs.Prelude.{IsSome, None, length};
 ghost use Rattle.std.specs.Io.{ReadsAtMost, WritesAtMost};
 ghost use Rattle.std.specs.Io.KnownBytes.{Keeps, ReadConsumes, WriteAppends};
 
-use arrayvec::ArrayVec;
-use std::fmt::Display;
-use std::io;
+use arrayvec::ArrayString;
+use std::fmt::{Display, Write as _};
 use std::io::{ErrorKind, Read, Write};
+use std::{fmt, io};
 
 // The most bytes in a line, or in the lines at the end.
 const LINE_ROOM: usize = 1024;
 
 /// A line, or the lines at the end.
-pub type Line = ArrayVec<u8, LINE_ROOM>;
+pub type Line = ArrayString<LINE_ROOM>;
 
 /// What a run reads from.
 ///
@@ -51,8 +51,8 @@ pub trait Sink {
 
     /// Writes a text to an empty line, as `write!` does. What the sink holds stays as it is.
     fn format<D: Display + Drop>(&mut self, text: D, line: &mut Line) -> io::Result<()>
-        requires empty { line.old.items ≡ [] }
-        ensures text { OnOk result (IfSome (D.output text) (λ bytes. line.new.items ≡ bytes)) }
+        requires empty { line.old.bytes ≡ [] }
+        ensures text { OnOk result (IfSome (D.output text) (λ bytes. line.new.bytes ≡ bytes)) }
         ensures kept { Keeps (contents self.old) (contents self.new) }
         ensures failed { OnErr result (has_failed self.new) };
 }
@@ -123,9 +123,10 @@ impl<W: Write> Sink for Watched<W> {
     }
 
     fn format<D: Display + Drop>(&mut self, text: D, line: &mut Line) -> io::Result<()> {
-        match line.write_fmt(text) {
+        match write!(line, "{text}") {
             Ok(()) => Ok(()),
-            Err(e) => {
+            Err(fmt::Error) => {
+                let e = io::Error::from(ErrorKind::WriteZero);
                 self.failure = Some(e);
                 Err(e)
             }
