@@ -43,6 +43,8 @@ mod reassembly_examples;
 #[cfg(test)]
 mod shared;
 #[cfg(test)]
+mod skipping;
+#[cfg(test)]
 mod udp;
 #[cfg(test)]
 mod updates;

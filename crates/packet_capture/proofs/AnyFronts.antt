@@ -1,6 +1,5 @@
 -- What a block of either format says is read from its own bytes, whatever follows them.
-use Rattle.std.proofs.Common.{ℕ, ◌≡◌, ◌≤◌, ◌+◌, ◌-◌, List, [], ◌++◌, length, slice_range, take, drop, ap, sym, ◌∙◌, arith, length-append, length-drop}
-use Rattle.std.proofs.lemmas.List.{drop-append-le, take-append-le}
+use Rattle.std.proofs.Common.{ℕ, ◌≡◌, ◌≤◌, ◌+◌, ◌-◌, List, ◌++◌, length, slice_range, drop, ap, sym, ◌∙◌, arith, length-append, length-drop}
 use Rattle.std.proofs.Math.Seq.{drop-append_seam}
 use Rattle.packet_capture.specs.Any.{BeginsWith, Said, head_of_record, packet}
 use Rattle.packet_capture.specs.Capture.{BeginsWithRecord, Recorded, record_head, record_len}

@@ -1,7 +1,7 @@
 -- A block of a capture in either format is read in one way.
-use Rattle.std.proofs.Common.{ℕ, ◌≡◌, ◌∙◌, List, Option, Some, None, Result, Ok, Err, ap, refl, arith, sym, option_map}
+use Rattle.std.proofs.Common.{ℕ, ◌≡◌, ◌∙◌, List, Some, None, Ok, Err, ap, option_map}
 use Rattle.std.specs.Result.{result_map_both}
-use Rattle.packet_capture.specs.Any.{NextReading, ReadsNext, head_of_record, other, packet, said_of}
+use Rattle.packet_capture.specs.Any.{NextReading, ReadsNext, head_of_record, packet, said_of}
 use Rattle.packet_capture.specs.Capture.{ReadsRecord, RecordReading}
 use Rattle.packet_capture.specs.Pcapng.Blocks.{BlockReading, ReadsBlock}
 use Rattle.packet_capture.specs.declared.any.Capture.TheVariants.{Pcap, Pcapng}

@@ -1,5 +1,5 @@
 -- A block that is cut off.
-use Rattle.std.proofs.Common.{ℕ, ◌≡◌, ◌≢◌, ◌<◌, ◌≤◌, ◌⊎◌, inl, inr, List, length, Ok, Err, ap, refl, sym, ◌∙◌, arith}
+use Rattle.std.proofs.Common.{ℕ, ◌≡◌, ◌≢◌, ◌<◌, ◌⊎◌, inl, inr, List, length, Ok, Err, ap, refl, sym, ◌∙◌, arith}
 use Rattle.packet_capture.specs.Any.{RefusesBlock}
 use Rattle.packet_capture.specs.Capture.{IsCutOff}
 use Rattle.packet_capture.specs.Pcapng.Blocks.{HeadReading, IsFrontCutOff, ReadsBody, ReadsHead, for_body, for_head, for_length, front_len}

@@ -1,5 +1,5 @@
 -- A block that a program skips, from its front and its end, whatever follows it.
-use Rattle.std.proofs.Common.{ℕ, ◌≡◌, ◌≢◌, ◌≤◌, ◌<◌, ◌+◌, ◌-◌, List, [], ◌++◌, length, slice_range, take, drop, Some, Ok, Err, ap, lit≤, refl, subst, sym, ◌∙◌, arith, append-nil, length-append, length-drop}
+use Rattle.std.proofs.Common.{ℕ, ◌≡◌, ◌≢◌, ◌≤◌, ◌+◌, ◌-◌, List, [], ◌++◌, length, slice_range, drop, Ok, Err, ap, lit≤, refl, subst, sym, ◌∙◌, arith, append-nil, length-append, length-drop}
 use Rattle.std.proofs.lemmas.List.{drop_all, take_all}
 use Rattle.packet_capture.specs.Any.{BeginsWith, RefusesBlock, Said, packet, said_of}
 use Rattle.packet_capture.specs.Capture.{Recorded, record_head, record_len}

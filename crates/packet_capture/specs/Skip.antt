@@ -1,5 +1,5 @@
 -- What the front of a block says, whether or not the rest of the block is there.
-use Rattle.std.specs.Prelude.{ℕ, ◌≡◌, ◌≢◌, ◌≤◌, List, length, MatchOption, Option, Some, None}
+use Rattle.std.specs.Prelude.{ℕ, ◌≡◌, ◌≢◌, List, MatchOption, Option, Some, None}
 use Rattle.std.specs.Prelude.{Result, Ok, Err}
 use Rattle.std.specs.Int.{w32}
 use Rattle.packet_capture.specs.Any.{head_of_packet, head_of_record}

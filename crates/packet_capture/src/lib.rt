@@ -4,6 +4,5 @@
 pub mod any;
 pub mod capture;
 pub mod file_format;
-
 pub mod pcapng;
 pub mod skip;

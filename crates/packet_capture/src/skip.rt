@@ -29,15 +29,16 @@ pub enum Content {
     /// A packet that is refused: it is of no interface of the section (`Interface`), or the block
     /// has no room for its bytes (`CapturedLength`).
     Refused(BlockError),
-    /// A section header or the description of an interface: what the next blocks are read by.
+    /// A section header or the description of an interface: what the next blocks are read by. A
+    /// program that skips it cannot read them.
     Description,
     /// Another block of pcapng.
     Other,
 }
 
 impl Capture {
-    /// How many bytes the front of a block has, of those that it says anything in that is told
-    /// here: the 16 of the head of a record, or 28 of a block of pcapng.
+    /// How many bytes [`Capture::block_front`] reads: in the classic format the 16 of the head of a
+    /// record; in pcapng 28, which is all that stands before the bytes of a packet.
     pub fn front_len(&self) -> usize
         ensures value { result ≡ front_len self.now }
     {
@@ -48,7 +49,8 @@ impl Capture {
     }
 
     /// What the front of the block at the front of a slice says, whether or not the rest of the
-    /// block is there.
+    /// block is there. The slice must have [`Capture::front_len`] bytes. A short block at the end of
+    /// a file does not have as many; [`crate::any::next_block`] reads it.
     ///
     /// # Errors
     ///
