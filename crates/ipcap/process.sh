@@ -1356,6 +1356,46 @@ dates() {
     judge 'the days of years' $? 0
 }
 
+# The command lines of README.md, with what they print: standard output, and then standard error.
+readme() {
+    local folder=$room/readme line command='' place here=$PWD
+    rm -rf "$folder"
+    mkdir "$folder"
+    cp stdin "$folder/trace.pcap"
+    {
+        section
+        interface 1
+        for place in $(places); do
+            enhanced 0 "$place"
+        done
+    } >"$folder/trace.pcapng"
+    ln -s "$here/$program" "$folder/ipcap"
+    while IFS= read -r line; do
+        case $line in
+        '    $ '*)
+            command=${line#    \$ }
+            : >"$room/wanted"
+            ;;
+        '    '*)
+            echo "${line#    }" >>"$room/wanted"
+            ;;
+        '')
+            [ -z "$command" ] || {
+                (cd "$folder" && PATH=$folder:$PATH && eval "$command") \
+                    >"$room/output" 2>"$room/readme.errors"
+                cat "$room/readme.errors" >>"$room/output"
+                if cmp -s "$room/output" "$room/wanted"; then
+                    pass
+                else
+                    fail "$command" 'it does not print what README.md says'
+                fi
+            }
+            command=''
+            ;;
+        esac
+    done < <(sed -n '/^## A dozen command lines/,/^## Choosing packets/p' README.md)
+}
+
 # The keywords of IANA's registry of protocol numbers.
 keywords='1:ICMP 2:IGMP 4:IPv4 6:TCP 17:UDP 41:IPv6 46:RSVP 47:GRE 50:ESP 51:AH 58:IPv6-ICMP
     59:IPv6-NoNxt 88:EIGRP 89:OSPFIGP 94:IPIP 103:PIM 108:IPComp 112:VRRP 115:L2TP 132:SCTP
@@ -1575,6 +1615,7 @@ for build; do
     long_blocks
     cut_pcapng
     dates
+    readme
     link_types
     cut_packets
     lengths
