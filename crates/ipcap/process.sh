@@ -1322,9 +1322,26 @@ cut_pcapng() {
     done
 }
 
-# Times as dates: those of the capture, and the last second that has one and the first that has none.
+# Seconds since 1970 began, and the texts that Python's `datetime` has for them; the last second has
+# a year of five digits, and stays a number.
+seconds_and_dates='
+    0:1970-01-01T00:00:00 1:1970-01-01T00:00:01 59:1970-01-01T00:00:59 60:1970-01-01T00:01:00
+    3599:1970-01-01T00:59:59 3600:1970-01-01T01:00:00 43200:1970-01-01T12:00:00
+    46800:1970-01-01T13:00:00 86399:1970-01-01T23:59:59 86400:1970-01-02T00:00:00
+    68169599:1972-02-28T23:59:59 68169600:1972-02-29T00:00:00 68255999:1972-02-29T23:59:59
+    68256000:1972-03-01T00:00:00 946684799:1999-12-31T23:59:59 946684800:2000-01-01T00:00:00
+    951782399:2000-02-28T23:59:59 951782400:2000-02-29T00:00:00 951868799:2000-02-29T23:59:59
+    951868800:2000-03-01T00:00:00 1709164799:2024-02-28T23:59:59 1709164800:2024-02-29T00:00:00
+    1709251199:2024-02-29T23:59:59 1709251200:2024-03-01T00:00:00 1795773141:2026-11-27T09:52:21
+    2147483647:2038-01-19T03:14:07 2147483648:2038-01-19T03:14:08 4107542399:2100-02-28T23:59:59
+    4107542400:2100-03-01T00:00:00 253402214400:9999-12-31T00:00:00
+    253402300799:9999-12-31T23:59:59
+    253402300800:253402300800
+'
+
+# Times as dates: those of the capture, and those of the table in pcapng.
 dates() {
-    local day=1700000001
+    local case text
     cp stdin "$room/input"
     sed 's/ 170000000\([0-9]\)\.\([0-9]*\)/ 2023-11-14T22:13:2\1.\2Z/' stdout >"$room/wanted"
     closing_of 6 >"$room/wanted.errors"
@@ -1333,10 +1350,10 @@ dates() {
     {
         section
         interface 101 '\11\0\1\0\0\0\0\0\0\0\0\0'
-        for day in 0 68169599 68169600 951782400 2147483647 4107542399 253402300799 253402300800; do
+        for case in $seconds_and_dates; do
             {
                 number 0
-                ticks $day
+                ticks "${case%%:*}"
                 number 33
                 number 33
                 bytes 54 33
@@ -1345,13 +1362,13 @@ dates() {
         done
     } >"$room/input"
     number=0
-    for day in 1970-01-01T00:00:00.000000Z 1972-02-28T23:59:59.000000Z 1972-02-29T00:00:00.000000Z \
-        2000-02-29T00:00:00.000000Z 2038-01-19T03:14:07.000000Z 2100-02-28T23:59:59.000000Z \
-        9999-12-31T23:59:59.000000Z 253402300800.000000; do
+    for case in $seconds_and_dates; do
         number=$((number + 1))
-        echo "$number $day ${lines[0]#* * }"
+        text=${case#*:}.000000Z
+        [ $number -lt 32 ] || text=${text%Z}
+        echo "$number $text ${lines[0]#* * }"
     done >"$room/wanted"
-    closing 8 8 0 0 0 0 >"$room/wanted.errors"
+    closing 32 32 0 0 0 0 >"$room/wanted.errors"
     run --utc
     judge 'the days of years' $? 0
 }

@@ -7,9 +7,6 @@ use jiff_core::civil;
 use std::fmt;
 use std::fmt::Formatter;
 
-#[cfg(test)]
-mod tests;
-
 // The seconds of a day: the times of captures count no leap seconds.
 const SECONDS_OF_DAY: u64 = 86_400;
 
