@@ -9,7 +9,9 @@ use Rattle.packet_filter.specs.declared.address.Address.TheVariants.{V4, V6}
 use Rattle.packet_filter.specs.declared.expression.Direction.TheVariants as direction
 use Rattle.packet_filter.specs.declared.expression.Primitive.{Primitive}
 use Rattle.packet_filter.specs.declared.expression.Primitive.TheVariants as primitive
-use Rattle.packet_filter.specs.declared.expression.Quantity.TheVariants.{Length}
+use Rattle.packet_filter.specs.declared.expression.Layer.TheVariants as layer
+use Rattle.packet_filter.specs.declared.expression.Quantity.TheVariants.{Length, Load}
+use Rattle.packet_filter.specs.declared.expression.Size.TheVariants.{One}
 use Rattle.packet_filter.specs.declared.filter.Step.TheVariants as step
 
 -- an address begins with the bits of another if the fronts of both are equal
@@ -33,4 +35,6 @@ asks_what_holds (primitive.Masked None d address mask) lax len = (λ h. (tt, h),
 asks_what_holds (primitive.Proto None number) lax len = (λ h. h, λ h. h)
 asks_what_holds (primitive.Ports t None low high) lax len = (λ h. h, λ h. h)
 asks_what_holds (primitive.Compare Length None r limit) lax len = (λ h. (len, refl, h), λ h. subst (λ n. Compares r n limit) h.1 h.2)
+asks_what_holds (primitive.Compare (Load (layer.Ip v) place One) mask r limit) lax len = (λ h. h, λ h. h)
+asks_what_holds (primitive.Compare (Load (layer.Payload v number) place One) mask r limit) lax len = (λ h. h, λ h. h)
 asks_what_holds p lax len = (λ h. h, λ h. h)

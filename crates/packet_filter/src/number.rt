@@ -27,6 +27,22 @@ pub(crate) fn is_number(
     ensures value { IsTrue result ↔ (number : ℕ) × Tells quantity packet.now len number
         × Compares relation (masked mask number) limit }
 {
+    tells(quantity, mask, relation, limit, packet, len)
+}
+
+// The same, for a quantity of a kind that is known where it is called.
+#[inline(always)]
+pub(crate) fn tells(
+    quantity: Quantity,
+    mask: Option<u32>,
+    relation: Relation,
+    limit: u32,
+    packet: &SlicedPacket,
+    len: usize,
+) -> bool
+    ensures value { IsTrue result ↔ (number : ℕ) × Tells quantity packet.now len number
+        × Compares relation (masked mask number) limit }
+{
     match told(quantity, packet, len) {
         Some(number) => compares(relation, masked(mask, number), limit as usize),
         None => false,

@@ -3,14 +3,16 @@
 ghost use Rattle.std.specs.Prelude.{◌≡◌, ◌/◌, ◌%◌, ◌^◌, ◌≤◌, ◌↔◌, IfSome, IsSomeAnd, IsTrue};
 ghost use Rattle.std.specs.Int.{from_be_bytes, w32};
 ghost use Rattle.packet_filter.specs.Meaning.{arp_address, destination_address, source_address};
-ghost use Rattle.packet_filter.specs.Private.Quick.{Asks, HasFront, quick_of, quick_of_step};
+ghost use Rattle.packet_filter.specs.Private.Quick.{Asks, HasFront, byte_at, quick_of, quick_of_step};
 ghost use Rattle.packet_filter.specs.declared.filter.Step.{Step as AnyStep};
 
 use crate::address::{Address, has_masked_address, is_arp_of_ipv4};
-use crate::expression::{Direction, Primitive, Quantity, Relation, Transport, Version};
+use crate::expression::{
+    Direction, Layer, Primitive, Quantity, Relation, Size, Transport, Version,
+};
 use crate::filter::Step;
 use crate::holds::{has_ports, has_proto, is_ip};
-use crate::number::compares;
+use crate::number::{compares, tells};
 use etherparse::IpNumber;
 use packet::lax_sliced_packet::LaxSlicedPacket;
 use packet::sliced_packet::SlicedPacket;
@@ -35,6 +37,10 @@ pub(crate) enum Quick {
     Masked(Option<Direction>, u32, u32),
     /// The length of the frame is in this relation to a number.
     Length(Relation, u32),
+    /// The bits that a mask has of the byte at a place of an IP packet of this version are.
+    IpByte(Version, u32, Option<u32>, Relation, u32),
+    /// Those of the byte at a place of what IP, of this version or any, carries by this number are.
+    PayloadByte(Option<Version>, u8, u32, Option<u32>, Relation, u32),
     /// Anything else: see the step.
     #[default]
     Other,
@@ -75,6 +81,15 @@ fn quick_of(primitive: &Primitive) -> Quick
         Primitive::Compare(Quantity::Length, None, relation, limit) => {
             Quick::Length(*relation, *limit)
         }
+        Primitive::Compare(Quantity::Load(layer, place, Size::One), mask, relation, limit) => {
+            match layer {
+                Layer::Ip(version) => Quick::IpByte(*version, *place, *mask, *relation, *limit),
+                Layer::Payload(version, number) => {
+                    Quick::PayloadByte(*version, *number, *place, *mask, *relation, *limit)
+                }
+                Layer::Ether | Layer::Type(_) => Quick::Other,
+            }
+        }
         _ => Quick::Other,
     }
 }
@@ -86,6 +101,14 @@ fn front_of(address: u32, others: u8) -> u32
     ensures value { result ≡ address / 2 ^ others }
 {
     (u64::from(address) >> others) as u32
+}
+
+// The byte at a place of a layer.
+#[inline(always)]
+fn byte_at(layer: Layer, place: u32) -> Quantity
+    ensures value { result ≡ byte_at layer place }
+{
+    Quantity::Load(layer, place, Size::One)
 }
 
 impl Quick {
@@ -111,6 +134,14 @@ impl Quick {
                 has_masked_address(direction, address, mask, packet)
             }
             Quick::Length(relation, limit) => compares(relation, len, limit as usize),
+            Quick::IpByte(version, place, mask, relation, limit) => {
+                let byte = byte_at(Layer::Ip(version), place);
+                tells(byte, mask, relation, limit, packet, len)
+            }
+            Quick::PayloadByte(version, number, place, mask, relation, limit) => {
+                let byte = byte_at(Layer::Payload(version, number), place);
+                tells(byte, mask, relation, limit, packet, len)
+            }
             Quick::Other => other_holds(step, lax, len),
         }
     }
@@ -139,6 +170,14 @@ impl Quick {
                 Some(has_masked_address(direction, address, mask, packet))
             }
             Quick::Length(relation, limit) => Some(compares(relation, len, limit as usize)),
+            Quick::IpByte(version, place, mask, relation, limit) => {
+                let byte = byte_at(Layer::Ip(version), place);
+                Some(tells(byte, mask, relation, limit, packet, len))
+            }
+            Quick::PayloadByte(version, number, place, mask, relation, limit) => {
+                let byte = byte_at(Layer::Payload(version, number), place);
+                Some(tells(byte, mask, relation, limit, packet, len))
+            }
             Quick::Other => None,
         }
     }

@@ -1,18 +1,33 @@
 -- Tests in which all that the packet does not say is computed before.
-use Rattle.std.specs.Prelude.{ℕ, ◌≡◌, ◌-◌, ◌/◌, ◌%◌, ◌^◌, ◌≤◌, ◌⊎◌, IsSomeAnd, None, Some}
+use Rattle.std.specs.Prelude.{ℕ, ◌≡◌, ◌-◌, ◌/◌, ◌%◌, ◌^◌, ◌≤◌, ◌⊎◌, IsSomeAnd, None, Option, Some}
 use Rattle.packet.specs.declared.lax_sliced_packet.LaxSlicedPacket.{LaxSlicedPacket}
+use Rattle.packet.specs.declared.sliced_packet.SlicedPacket.{SlicedPacket}
 use Rattle.packet_filter.specs.Meaning.{Compares, HasPorts, HasProto, Holds, IsIp, IsWithinMask}
-use Rattle.packet_filter.specs.Meaning.{OfEnds, destination_address, source_address}
+use Rattle.packet_filter.specs.Meaning.{OfEnds, Tells, destination_address, masked, source_address}
 use Rattle.packet_filter.specs.declared.address.Address.{Address}
 use Rattle.packet_filter.specs.declared.address.Address.TheVariants.{V4, V6}
 use Rattle.packet_filter.specs.declared.expression.Direction.TheVariants as direction
 use Rattle.packet_filter.specs.declared.expression.Primitive.{Primitive}
 use Rattle.packet_filter.specs.declared.expression.Primitive.TheVariants as primitive
-use Rattle.packet_filter.specs.declared.expression.Quantity.TheVariants.{Length}
+use Rattle.packet_filter.specs.declared.expression.Layer.{Layer}
+use Rattle.packet_filter.specs.declared.expression.Layer.TheVariants as layer
+use Rattle.packet_filter.specs.declared.expression.Quantity.{Quantity}
+use Rattle.packet_filter.specs.declared.expression.Quantity.TheVariants.{Length, Load}
+use Rattle.packet_filter.specs.declared.expression.Relation.{Relation}
+use Rattle.packet_filter.specs.declared.expression.Size.TheVariants.{One}
 use Rattle.packet_filter.specs.declared.filter.Step.{Step}
 use Rattle.packet_filter.specs.declared.filter.Step.TheVariants as step
 use Rattle.packet_filter.specs.declared.quick.Quick.{Quick}
 use Rattle.packet_filter.specs.declared.quick.Quick.TheVariants as quick
+
+-- the byte at a place of a layer
+abbrev pub byte_at : Layer → ℕ → Quantity
+byte_at l place = Load l place One
+
+-- the packet tells a number, of which the bits of the mask are in this relation to another
+abbrev pub IsNumber : Quantity → Option ℕ → Relation → ℕ → SlicedPacket → ℕ → Type 0
+IsNumber quantity mask relation limit packet len =
+    (n : ℕ) × Tells quantity packet len n × Compares relation (masked mask n) limit
 
 -- the test that a primitive is
 unfoldable pub quick_of : Primitive → Quick
@@ -26,6 +41,10 @@ quick_of (primitive.Net None (Some direction.Destination) (V4 a) bits) =
 quick_of (primitive.Net None None (V4 a) bits) = quick.Host (32 - bits) (a / 2 ^ (32 - bits))
 quick_of (primitive.Masked None d address mask) = quick.Masked d address mask
 quick_of (primitive.Compare Length None relation limit) = quick.Length relation limit
+quick_of (primitive.Compare (Load (layer.Ip v) place One) mask relation limit) =
+    quick.IpByte v place mask relation limit
+quick_of (primitive.Compare (Load (layer.Payload v number) place One) mask relation limit) =
+    quick.PayloadByte v number place mask relation limit
 quick_of p = quick.Other
 
 -- and a step
@@ -55,5 +74,9 @@ Asks (quick.Masked d address mask) s lax len =
     OfEnds d (source_address lax.packet) (destination_address lax.packet)
     (λ found. IsSomeAnd found (IsWithinMask address mask))
 Asks (quick.Length relation limit) s lax len = Compares relation len limit
+Asks (quick.IpByte v place mask relation limit) s lax len =
+    IsNumber (byte_at (layer.Ip v) place) mask relation limit lax.packet len
+Asks (quick.PayloadByte v number place mask relation limit) s lax len =
+    IsNumber (byte_at (layer.Payload v number) place) mask relation limit lax.packet len
 Asks quick.Other (step.Test p) lax len = Holds p lax len
 Asks quick.Other s lax len = ⊥
