@@ -1,6 +1,6 @@
 //! Tests in which all that the packet does not say is computed before.
 
-ghost use Rattle.std.specs.Prelude.{◌≡◌, ◌/◌, ◌%◌, ◌^◌, ◌≤◌, ◌↔◌, IfSome, IsSomeAnd, IsTrue};
+ghost use Rattle.std.specs.Prelude.{◌≡◌, ◌/◌, ◌%◌, ◌^◌, ◌≤◌, ◌↔◌, ◌⊎◌, IfSome, IsSomeAnd, IsTrue};
 ghost use Rattle.std.specs.Int.{from_be_bytes, w32};
 ghost use Rattle.packet_filter.specs.Meaning.{arp_address, destination_address, source_address};
 ghost use Rattle.packet_filter.specs.Private.Quick.{Asks, HasFront, IsNumber, byte_test, quick_of};
@@ -147,11 +147,11 @@ fn has_byte(
 impl Quick {
     /// Whether a packet is what it asks for, or else what the step asks for.
     #[inline(always)]
-    pub(crate) fn holds(self, step: &Step, lax: &LaxSlicedPacket, len: usize) -> bool
-        ensures value { IsTrue result ↔ Asks self step.now lax.now len }
+    pub(crate) fn holds(&self, step: &Step, lax: &LaxSlicedPacket, len: usize) -> bool
+        ensures value { IsTrue result ↔ Asks self.now step.now lax.now len }
     {
         let packet = &lax.packet;
-        match self {
+        match *self {
             Quick::Version(version) => is_ip(version, packet),
             Quick::Proto(number) => has_proto(None, IpNumber(number), packet),
             Quick::Ports(transport, low, high) => match &packet.net {
@@ -160,9 +160,7 @@ impl Quick {
             },
             Quick::Source(others, front) => has_source(others, front, packet),
             Quick::Destination(others, front) => has_destination(others, front, packet),
-            Quick::Host(others, front) => {
-                has_source(others, front, packet) | has_destination(others, front, packet)
-            }
+            Quick::Host(others, front) => has_either(others, front, packet),
             Quick::Masked(direction, address, mask) => {
                 has_masked_address(direction, address, mask, packet)
             }
@@ -188,12 +186,12 @@ impl Quick {
 
     /// The same of what it asks for itself; `None` if the step has to be asked.
     #[inline(always)]
-    pub(crate) fn holds_by_itself(self, lax: &LaxSlicedPacket, len: usize) -> Option<bool>
+    pub(crate) fn holds_by_itself(&self, lax: &LaxSlicedPacket, len: usize) -> Option<bool>
         ensures value { (step : AnyStep) →
-            IfSome result (λ holds. IsTrue holds ↔ Asks self step lax.now len) }
+            IfSome result (λ holds. IsTrue holds ↔ Asks self.now step lax.now len) }
     {
         let packet = &lax.packet;
-        match self {
+        match *self {
             Quick::Version(version) => Some(is_ip(version, packet)),
             Quick::Proto(number) => Some(has_proto(None, IpNumber(number), packet)),
             Quick::Ports(transport, low, high) => match &packet.net {
@@ -202,10 +200,7 @@ impl Quick {
             },
             Quick::Source(others, front) => Some(has_source(others, front, packet)),
             Quick::Destination(others, front) => Some(has_destination(others, front, packet)),
-            Quick::Host(others, front) => {
-                let source = has_source(others, front, packet);
-                Some(source | has_destination(others, front, packet))
-            }
+            Quick::Host(others, front) => Some(has_either(others, front, packet)),
             Quick::Masked(direction, address, mask) => {
                 Some(has_masked_address(direction, address, mask, packet))
             }
@@ -262,6 +257,15 @@ fn has_destination(others: u8, front: u32, packet: &SlicedPacket) -> bool
         },
         None => has_front_in_arp(others, front, 24, packet),
     }
+}
+
+// The same of one of them.
+#[inline(always)]
+fn has_either(others: u8, front: u32, packet: &SlicedPacket) -> bool
+    ensures value { IsTrue result ↔ IsSomeAnd (source_address packet.now) (HasFront others front)
+        ⊎ IsSomeAnd (destination_address packet.now) (HasFront others front) }
+{
+    has_source(others, front, packet) | has_destination(others, front, packet)
 }
 
 // The same of an address at a place in an ARP packet.
