@@ -110,9 +110,11 @@ fn value_of(steps: &[Step], decisions: &[Decision], packet: &LaxSlicedPacket, le
 {
     let mut place = steps.len() + 1;
     'steps: while place > 1 {
-        let Decision { quick, jump } = decisions[place - 2];
-        let holds = quick.holds(&steps[steps.len() + 1 - place], packet, len);
-        place = jump.place(holds);
+        let decision = &decisions[place - 2];
+        let holds = decision
+            .quick
+            .holds(&steps[steps.len() + 1 - place], packet, len);
+        place = decision.jump.place(holds);
     }
     place == 1
 }
@@ -132,12 +134,12 @@ fn prepared_value_of(
 {
     let mut place = steps.len() + 1;
     'steps: while place > 1 {
-        let Decision { quick, jump } = decisions[place - 2];
-        let holds = match quick.holds_by_itself(packet, len) {
+        let decision = &decisions[place - 2];
+        let holds = match decision.quick.holds_by_itself(packet, len) {
             Some(holds) => holds,
             None => return None,
         };
-        place = jump.place(holds);
+        place = decision.jump.place(holds);
     }
     Some(place == 1)
 }

@@ -1,9 +1,12 @@
 //! Tests in which all that the packet does not say is computed before.
 
-ghost use Rattle.std.specs.Prelude.{◌≡◌, ◌/◌, ◌%◌, ◌^◌, ◌≤◌, ◌↔◌, IfSome, IsSomeAnd, IsTrue};
+ghost use Rattle.std.specs.Prelude.{◌≡◌, ◌/◌, ◌%◌, ◌^◌, ◌≤◌, ◌↔◌, ◌⊎◌, IfSome, IsSomeAnd, IsTrue};
 ghost use Rattle.std.specs.Int.{from_be_bytes, w32};
 ghost use Rattle.packet_filter.specs.Meaning.{arp_address, destination_address, source_address};
-ghost use Rattle.packet_filter.specs.Private.Quick.{Asks, HasFront, byte_at, quick_of, quick_of_step};
+ghost use Rattle.packet_filter.specs.Private.Quick.{Asks, HasFront, IsNumber, byte_test, quick_of};
+ghost use Rattle.packet_filter.specs.Private.Quick.{quick_of_step};
+ghost use Rattle.packet_filter.specs.declared.expression.Quantity.TheVariants.{Load};
+ghost use Rattle.packet_filter.specs.declared.expression.Size.TheVariants.{One};
 ghost use Rattle.packet_filter.specs.declared.filter.Step.{Step as AnyStep};
 
 use crate::address::{Address, has_masked_address, is_arp_of_ipv4};
@@ -38,9 +41,9 @@ pub(crate) enum Quick {
     /// The length of the frame is in this relation to a number.
     Length(Relation, u32),
     /// The bits that a mask has of the byte at a place of an IP packet of this version are.
-    IpByte(Version, u32, Option<u32>, Relation, u32),
+    IpByte(Version, u8, Option<u8>, Relation, u8),
     /// Those of the byte at a place of what IP, of this version or any, carries by this number are.
-    PayloadByte(Option<Version>, u8, u32, Option<u32>, Relation, u32),
+    PayloadByte(Option<Version>, u8, u8, Option<u8>, Relation, u8),
     /// Anything else: see the step.
     #[default]
     Other,
@@ -82,15 +85,31 @@ fn quick_of(primitive: &Primitive) -> Quick
             Quick::Length(*relation, *limit)
         }
         Primitive::Compare(Quantity::Load(layer, place, Size::One), mask, relation, limit) => {
-            match layer {
-                Layer::Ip(version) => Quick::IpByte(*version, *place, *mask, *relation, *limit),
-                Layer::Payload(version, number) => {
-                    Quick::PayloadByte(*version, *number, *place, *mask, *relation, *limit)
-                }
-                Layer::Ether | Layer::Type(_) => Quick::Other,
-            }
+            byte_test(*layer, *place, *mask, *relation, *limit)
         }
         _ => Quick::Other,
+    }
+}
+
+// The test of a byte of a layer, if all its numbers are bytes: a test is then no larger than others.
+fn byte_test(layer: Layer, place: u32, mask: Option<u32>, relation: Relation, limit: u32) -> Quick
+    ensures value { result ≡ byte_test layer place mask relation limit }
+{
+    let mask = match mask {
+        None => None,
+        Some(mask) if mask < 256 => Some(mask as u8),
+        Some(_) => return Quick::Other,
+    };
+    if place >= 256 || limit >= 256 {
+        return Quick::Other;
+    }
+    let (place, limit) = (place as u8, limit as u8);
+    match layer {
+        Layer::Ip(version) => Quick::IpByte(version, place, mask, relation, limit),
+        Layer::Payload(version, number) => {
+            Quick::PayloadByte(version, number, place, mask, relation, limit)
+        }
+        Layer::Ether | Layer::Type(_) => Quick::Other,
     }
 }
 
@@ -103,22 +122,36 @@ fn front_of(address: u32, others: u8) -> u32
     (u64::from(address) >> others) as u32
 }
 
-// The byte at a place of a layer.
+// Whether the bits that a mask has of the byte at a place of a layer are in a relation to a number.
 #[inline(always)]
-fn byte_at(layer: Layer, place: u32) -> Quantity
-    ensures value { result ≡ byte_at layer place }
+fn has_byte(
+    layer: Layer,
+    place: u8,
+    mask: Option<u8>,
+    relation: Relation,
+    limit: u8,
+    packet: &SlicedPacket,
+    len: usize,
+) -> bool
+    ensures value { IsTrue result ↔
+        IsNumber (Load layer place One) mask relation limit packet.now len }
 {
-    Quantity::Load(layer, place, Size::One)
+    let byte = Quantity::Load(layer, u32::from(place), Size::One);
+    let mask = match mask {
+        Some(mask) => Some(u32::from(mask)),
+        None => None,
+    };
+    tells(byte, mask, relation, u32::from(limit), packet, len)
 }
 
 impl Quick {
     /// Whether a packet is what it asks for, or else what the step asks for.
     #[inline(always)]
-    pub(crate) fn holds(self, step: &Step, lax: &LaxSlicedPacket, len: usize) -> bool
-        ensures value { IsTrue result ↔ Asks self step.now lax.now len }
+    pub(crate) fn holds(&self, step: &Step, lax: &LaxSlicedPacket, len: usize) -> bool
+        ensures value { IsTrue result ↔ Asks self.now step.now lax.now len }
     {
         let packet = &lax.packet;
-        match self {
+        match *self {
             Quick::Version(version) => is_ip(version, packet),
             Quick::Proto(number) => has_proto(None, IpNumber(number), packet),
             Quick::Ports(transport, low, high) => match &packet.net {
@@ -127,20 +160,25 @@ impl Quick {
             },
             Quick::Source(others, front) => has_source(others, front, packet),
             Quick::Destination(others, front) => has_destination(others, front, packet),
-            Quick::Host(others, front) => {
-                has_source(others, front, packet) | has_destination(others, front, packet)
-            }
+            Quick::Host(others, front) => has_either(others, front, packet),
             Quick::Masked(direction, address, mask) => {
                 has_masked_address(direction, address, mask, packet)
             }
             Quick::Length(relation, limit) => compares(relation, len, limit as usize),
             Quick::IpByte(version, place, mask, relation, limit) => {
-                let byte = byte_at(Layer::Ip(version), place);
-                tells(byte, mask, relation, limit, packet, len)
+                has_byte(
+                    Layer::Ip(version),
+                    place,
+                    mask,
+                    relation,
+                    limit,
+                    packet,
+                    len,
+                )
             }
             Quick::PayloadByte(version, number, place, mask, relation, limit) => {
-                let byte = byte_at(Layer::Payload(version, number), place);
-                tells(byte, mask, relation, limit, packet, len)
+                let layer = Layer::Payload(version, number);
+                has_byte(layer, place, mask, relation, limit, packet, len)
             }
             Quick::Other => other_holds(step, lax, len),
         }
@@ -148,12 +186,12 @@ impl Quick {
 
     /// The same of what it asks for itself; `None` if the step has to be asked.
     #[inline(always)]
-    pub(crate) fn holds_by_itself(self, lax: &LaxSlicedPacket, len: usize) -> Option<bool>
+    pub(crate) fn holds_by_itself(&self, lax: &LaxSlicedPacket, len: usize) -> Option<bool>
         ensures value { (step : AnyStep) →
-            IfSome result (λ holds. IsTrue holds ↔ Asks self step lax.now len) }
+            IfSome result (λ holds. IsTrue holds ↔ Asks self.now step lax.now len) }
     {
         let packet = &lax.packet;
-        match self {
+        match *self {
             Quick::Version(version) => Some(is_ip(version, packet)),
             Quick::Proto(number) => Some(has_proto(None, IpNumber(number), packet)),
             Quick::Ports(transport, low, high) => match &packet.net {
@@ -162,21 +200,18 @@ impl Quick {
             },
             Quick::Source(others, front) => Some(has_source(others, front, packet)),
             Quick::Destination(others, front) => Some(has_destination(others, front, packet)),
-            Quick::Host(others, front) => {
-                let source = has_source(others, front, packet);
-                Some(source | has_destination(others, front, packet))
-            }
+            Quick::Host(others, front) => Some(has_either(others, front, packet)),
             Quick::Masked(direction, address, mask) => {
                 Some(has_masked_address(direction, address, mask, packet))
             }
             Quick::Length(relation, limit) => Some(compares(relation, len, limit as usize)),
             Quick::IpByte(version, place, mask, relation, limit) => {
-                let byte = byte_at(Layer::Ip(version), place);
-                Some(tells(byte, mask, relation, limit, packet, len))
+                let layer = Layer::Ip(version);
+                Some(has_byte(layer, place, mask, relation, limit, packet, len))
             }
             Quick::PayloadByte(version, number, place, mask, relation, limit) => {
-                let byte = byte_at(Layer::Payload(version, number), place);
-                Some(tells(byte, mask, relation, limit, packet, len))
+                let layer = Layer::Payload(version, number);
+                Some(has_byte(layer, place, mask, relation, limit, packet, len))
             }
             Quick::Other => None,
         }
@@ -222,6 +257,15 @@ fn has_destination(others: u8, front: u32, packet: &SlicedPacket) -> bool
         },
         None => has_front_in_arp(others, front, 24, packet),
     }
+}
+
+// The same of one of them.
+#[inline(always)]
+fn has_either(others: u8, front: u32, packet: &SlicedPacket) -> bool
+    ensures value { IsTrue result ↔ IsSomeAnd (source_address packet.now) (HasFront others front)
+        ⊎ IsSomeAnd (destination_address packet.now) (HasFront others front) }
+{
+    has_source(others, front, packet) | has_destination(others, front, packet)
 }
 
 // The same of an address at a place in an ARP packet.

@@ -1,5 +1,6 @@
 -- Tests in which all that the packet does not say is computed before.
 use Rattle.std.specs.Prelude.{ℕ, ◌≡◌, ◌-◌, ◌/◌, ◌%◌, ◌^◌, ◌≤◌, ◌⊎◌, IsSomeAnd, None, Option, Some}
+use Rattle.std.specs.Prelude.{◌&&◌, Bool, if◌then◌else◌, nat_lt, true}
 use Rattle.packet.specs.declared.lax_sliced_packet.LaxSlicedPacket.{LaxSlicedPacket}
 use Rattle.packet.specs.declared.sliced_packet.SlicedPacket.{SlicedPacket}
 use Rattle.packet_filter.specs.Meaning.{Compares, HasPorts, HasProto, Holds, IsIp, IsWithinMask}
@@ -20,14 +21,28 @@ use Rattle.packet_filter.specs.declared.filter.Step.TheVariants as step
 use Rattle.packet_filter.specs.declared.quick.Quick.{Quick}
 use Rattle.packet_filter.specs.declared.quick.Quick.TheVariants as quick
 
--- the byte at a place of a layer
-abbrev pub byte_at : Layer → ℕ → Quantity
-byte_at l place = Load l place One
-
 -- the packet tells a number, of which the bits of the mask are in this relation to another
 abbrev pub IsNumber : Quantity → Option ℕ → Relation → ℕ → SlicedPacket → ℕ → Type 0
 IsNumber quantity mask relation limit packet len =
     (n : ℕ) × Tells quantity packet len n × Compares relation (masked mask n) limit
+
+-- the mask has no more than the bits of a byte
+abbrev pub fits : Option ℕ → Bool
+fits None = true
+fits (Some mask) = nat_lt mask 256
+
+-- the test of a byte of a layer
+abbrev pub test_in : Layer → ℕ → Option ℕ → Relation → ℕ → Quick
+test_in (layer.Ip v) place mask relation limit = quick.IpByte v place mask relation limit
+test_in (layer.Payload v number) place mask relation limit =
+    quick.PayloadByte v number place mask relation limit
+test_in l place mask relation limit = quick.Other
+
+-- the same, if all its numbers are bytes
+abbrev pub byte_test : Layer → ℕ → Option ℕ → Relation → ℕ → Quick
+byte_test l place mask relation limit =
+    if fits mask && (nat_lt place 256 && nat_lt limit 256)
+    then test_in l place mask relation limit else quick.Other
 
 -- the test that a primitive is
 unfoldable pub quick_of : Primitive → Quick
@@ -41,10 +56,8 @@ quick_of (primitive.Net None (Some direction.Destination) (V4 a) bits) =
 quick_of (primitive.Net None None (V4 a) bits) = quick.Host (32 - bits) (a / 2 ^ (32 - bits))
 quick_of (primitive.Masked None d address mask) = quick.Masked d address mask
 quick_of (primitive.Compare Length None relation limit) = quick.Length relation limit
-quick_of (primitive.Compare (Load (layer.Ip v) place One) mask relation limit) =
-    quick.IpByte v place mask relation limit
-quick_of (primitive.Compare (Load (layer.Payload v number) place One) mask relation limit) =
-    quick.PayloadByte v number place mask relation limit
+quick_of (primitive.Compare (Load l place One) mask relation limit) =
+    byte_test l place mask relation limit
 quick_of p = quick.Other
 
 -- and a step
@@ -75,8 +88,8 @@ Asks (quick.Masked d address mask) s lax len =
     (λ found. IsSomeAnd found (IsWithinMask address mask))
 Asks (quick.Length relation limit) s lax len = Compares relation len limit
 Asks (quick.IpByte v place mask relation limit) s lax len =
-    IsNumber (byte_at (layer.Ip v) place) mask relation limit lax.packet len
+    IsNumber (Load (layer.Ip v) place One) mask relation limit lax.packet len
 Asks (quick.PayloadByte v number place mask relation limit) s lax len =
-    IsNumber (byte_at (layer.Payload v number) place) mask relation limit lax.packet len
+    IsNumber (Load (layer.Payload v number) place One) mask relation limit lax.packet len
 Asks quick.Other (step.Test p) lax len = Holds p lax len
 Asks quick.Other s lax len = ⊥

@@ -13,11 +13,6 @@ bounds-decisions-place c =
     let at_most = within c.args.packet.now c.args.len (expression_of c.args.steps.now) c.args.steps.now c.steps.place c.steps.invariant.right in
     omega (arith, at_most, length_decisions c.args.steps.now, ap length c.requires.decisions)
 
-pub bounds-decisions-place-in-steps : goal.bounds-decisions-place-in-steps
-bounds-decisions-place-in-steps c =
-    let at_most = within c.args.packet.now c.args.len (expression_of c.args.steps.now) c.args.steps.now c.steps.place c.steps.invariant.right in
-    omega (arith, at_most, length_decisions c.args.steps.now, ap length c.requires.decisions)
-
 next : (c : After-place-place) → IsRight c.args.packet.now c.args.len c.args.steps.now (expression_of c.args.steps.now) c.place-place.result × (c.place-place.result < c.steps.place)
 next c =
     let here = step_at c.args.packet.now c.args.len c.args.steps.now (expression_of c.args.steps.now) c.steps.place _ step.Not c.steps.invariant.right c.steps-test.true refl in
