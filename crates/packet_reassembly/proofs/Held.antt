@@ -1,5 +1,5 @@
 -- what the table holds
-use Rattle.std.proofs.Common.{ℕ, ◌≡◌, ◌≢◌, ◌+◌, ◌-◌, ◌*◌, ◌/◌, ◌<◌, ◌≤◌, ◌⊎◌, ◌++◌, ◌==◌, ◌&&◌, ◌↔◌, not, [], ◌∷◌, List, length, arith, inl, inr, Bool, true, false, map, ap, sym, subst, ◌∙◌, refl, take, drop, slice_index, slice_index_or, slice_range, suc, zero, IsTrue, IsFalse}
+use Rattle.std.proofs.Common.{ℕ, ◌≡◌, ◌≢◌, ◌+◌, ◌-◌, ◌*◌, ◌/◌, ◌<◌, ◌≤◌, ◌⊎◌, ◌++◌, ◌==◌, ◌&&◌, ◌↔◌, not, [], ◌∷◌, List, length, arith, inl, inr, Bool, true, false, map, ap, sym, subst, ◌∙◌, refl, take, drop, slice_index, slice_index_or, slice_range, IsTrue, IsFalse}
 use Rattle.std.proofs.lemmas.Bool.{cases_Bool, cases_eq, cases_lt}
 use Rattle.std.proofs.lemmas.Grind.{common_steps}
 use Rattle.std.proofs.lemmas.List.{drop_more, get_or-drop, get_or-map, get_or_default, get_or_past, get_or-take, length-drop, length-map, length-take-le, take-append-drop}
@@ -15,10 +15,6 @@ use Rattle.packet_reassembly.specs.Table.{AreKept, Begins, Fits, HasCome, IsInsi
 
 is_num : (u n : ℕ) → ((u == n) ≡ true → u ≡ n) × ((u == n) ≡ false → u ≢ n) × (u ≡ n → (u == n) ≡ true)
 is_num u n = (λ e. grind (arith, common_steps), λ e f. grind (arith, common_steps), λ e. grind (arith, common_steps))
-
-pub not_false : (b : Bool) → not b ≡ false → b ≡ false → ⊥
-not_false true e f = cc
-not_false false e f = cc
 
 last : (ended : Bool) (end reach : ℕ) → (not (ended && (end == reach)) ≡ false) ↔ ((ended ≡ true) × (end ≡ reach))
 last true end reach = (λ e. (refl, grind (arith, common_steps)), λ e. let f = e.1 in grind (arith, common_steps))
@@ -53,15 +49,6 @@ past_is units k n after all stops = elim (cases_lt (past units k) n) [
 -- a fragment ends before the next begins
 pub in_order : (units : List ℕ) (j k : ℕ) → Begins units k → j < k → past units j ≤ k
 in_order units j k begins before = elim (cases_lt k (past units j)) [ inl l ↦ absurd (omega (arith, inside units j k before l)) | inr l ↦ l ]
-
--- a unit that has come is one of a fragment
-pub begun : (units : List ℕ) (extent : Extent) → IsTable units extent → (k : ℕ) → HasCome units k → (j : ℕ) × (j ≤ k) × Begins units j × (k < past units j)
-begun units extent table zero come = (0, omega arith, omega (arith, table.front), omega arith)
-begun units extent table (suc k) come = elim (cases_eq (slice_index units (suc k)) 2) [
-  | inl e ↦ let (j, le, begins, below) = begun units extent table k (table.goes_on k (subst (λ (n : ℕ). slice_index units n ≡ 2) (omega arith) e)) in
-      (j, omega arith, begins, elim (cases_eq (past units j) (suc k)) [ inl f ↦ absurd (not_past units j (rw f e)) | inr f ↦ omega arith ])
-  | inr d ↦ (suc k, omega arith, omega (arith, table.marks (suc k)), omega arith)
-]
 
 -- the units of a fragment have come
 pub come : (units : List ℕ) (k j : ℕ) → Begins units k → k ≤ j → j < past units k → HasCome units j
@@ -132,7 +119,7 @@ conflict_other bytes payload units extent range k are fits begins other l r = co
 -- the fragment that goes furthest
 pub furthest : (units : List ℕ) (extent : Extent) → IsTable units extent → 0 < extent.reach → (k : ℕ) × Begins units k × ((range_at units extent k).end ≡ extent.reach)
 furthest units extent table some =
-    let (k, from, begins, below) = begun units extent table ((extent.reach - 1) / 8) (table.reached some) in
+    let (k, from, begins, below) = table.begun ((extent.reach - 1) / 8) (table.reached some) in
     (k, begins, omega arith)
 
 -- one that goes past the end, and one that ends before what has come
@@ -178,7 +165,7 @@ pub same_if : (units : List ℕ) (extent : Extent) (range : IpFragRange) → IsT
 same_if units extent range table is begins alone before_end at_end more some stops =
     let first : ℕ = range.start / 8 in let last : ℕ = units_to range - 1 in
     let order = is.some in let unit = is.unit in
-    let (k, le, own, below) = begun units extent table last some in
+    let (k, le, own, below) = table.begun last some in
     let at : k ≡ first = elim (cases_lt first k) [
       | inl l ↦ absurd (alone k (l, omega arith) own)
       | inr l ↦ elim (cases_eq k first) [ inl e ↦ e | inr d ↦ absurd (omega (arith, in_order units k first begins (omega arith))) ]
@@ -208,7 +195,7 @@ same_only units extent range table is begins same =
 pub all_clear : (units : List ℕ) (extent : Extent) (range : IpFragRange) → IsTable units extent → slice_index units (range.start / 8) ≡ 0 → ((k : ℕ) → IsInside range k → ¬ Begins units k) → (k : ℕ) → range.start / 8 ≤ k → k < units_to range → slice_index units k ≡ 0
 all_clear units extent range table clear alone k from to = elim (cases_lt 0 (slice_index units k)) [
   | inr l ↦ omega arith
-  | inl l ↦ let (j, le, begins, below) = begun units extent table k l in
+  | inl l ↦ let (j, le, begins, below) = table.begun k l in
       absurd (elim (cases_lt (range.start / 8) j) [ inl m ↦ alone j (m, omega arith) begins | inr m ↦ omega (arith, come units j (range.start / 8) begins m (omega arith)) ])
 ]
 

@@ -49,6 +49,11 @@ stays bytes payload old new extent range a k n is some =
     let c = clear bytes payload old new extent range a k in
     by_unit bytes payload old new extent range a (λ u. u ≡ n) k (λ e. absurd (omega (arith, c (omega arith) (omega (arith, a.fits.right.some))))) (λ l r. absurd (omega (arith, c (omega arith) r))) (λ o. is)
 
+come_new : (bytes payload old new : List ℕ) (extent : Extent) (range : IpFragRange) → Adds bytes payload old new extent range → (k : ℕ) → HasCome new k → ((range.start / 8 ≤ k) × (k < units_to range)) ⊎ HasCome old k
+come_new bytes payload old new extent range a k =
+    let some = a.fits.right.some in
+    by_unit bytes payload old new extent range a (λ u. 0 < u → ((range.start / 8 ≤ k) × (k < units_to range)) ⊎ HasCome old k) k (λ e c. inl (omega arith, omega arith)) (λ l r c. inl (omega arith, r)) (λ o c. inr c)
+
 begins_new : (bytes payload old new : List ℕ) (extent : Extent) (range : IpFragRange) → Adds bytes payload old new extent range → (k : ℕ) → Begins new k → (k ≡ range.start / 8) ⊎ Begins old k
 begins_new bytes payload old new extent range a k =
     by_unit bytes payload old new extent range a (λ u. u ≡ 1 → (k ≡ range.start / 8) ⊎ Begins old k) k (λ e b. inl e) (λ l r b. absurd (omega arith)) (λ o b. inr b)
@@ -66,10 +71,12 @@ no_overlap bytes payload old new extent range k a begins l r =
 -- the unit after the last of a fragment, the new one and any other
 past_first : (bytes payload old new : List ℕ) (extent : Extent) (range : IpFragRange) → Adds bytes payload old new extent range → past new (range.start / 8) ≡ units_to range
 past_first bytes payload old new extent range a =
-    let some = a.fits.right.some in
-    past_is new (range.start / 8) (units_to range) (omega arith) (λ k from to. a.marked.inside k (from, to))
-    (λ e. let goes_on : slice_index old (units_to range - 1 + 1) ≡ 2 = subst (λ (k : ℕ). slice_index old k ≡ 2) (omega arith) (sym (a.marked.outside (units_to range) (inr (omega arith))) ∙ e) in
-    omega (arith, a.kept.table.goes_on (units_to range - 1) goes_on, clear bytes payload old new extent range a (units_to range - 1) (omega arith) (omega arith)))
+    let some = a.fits.right.some in let to : ℕ = units_to range in
+    past_is new (range.start / 8) to (omega arith) (λ k l r. a.marked.inside k (l, r))
+    (λ e. let two : slice_index old to ≡ 2 = sym (a.marked.outside to (inr (omega arith))) ∙ e in
+    let (j, le, begins, below) = a.kept.table.begun to (omega arith) in
+    let before : j < to = elim (cases_eq j to) [ inl f ↦ absurd (omega (arith, two, subst (Begins old) f begins)) | inr d ↦ omega arith ] in
+    omega (arith, come old j (to - 1) begins (omega arith) (omega arith), clear bytes payload old new extent range a (to - 1) (omega arith) (omega arith)))
 
 past_other : (bytes payload old new : List ℕ) (extent : Extent) (range : IpFragRange) (k : ℕ) → Adds bytes payload old new extent range → Begins old k → past new k ≡ past old k
 past_other bytes payload old new extent range k a begins =
@@ -119,21 +126,20 @@ pub kept-new : (bytes payload old new : List ℕ) (extent : Extent) (range : IpF
 kept-new bytes payload old new extent range n units a len are_units =
     let t = a.kept.table in let room = a.kept.room in let table = t.len in let limit = t.limit in
     let fits = a.fits.right in let some = fits.some in let unit = fits.unit in let to = fits.limit in let ends = a.fits.len in
-    let by : (P : ℕ → Type 0) (k : ℕ) → (k ≡ range.start / 8 → P 1) → (range.start / 8 < k → k < units_to range → P 2) → ((k < range.start / 8) ⊎ (units_to range ≤ k) → P (slice_index old k)) → P (slice_index new k) = by_unit bytes payload old new extent range a in
-    let own : (k : ℕ) → range.start / 8 ≤ k → k < units_to range → HasCome new k = λ k l r. by (λ u. 0 < u) k (λ e. omega arith) (λ f t. omega arith) (λ o. elim o [ inl x ↦ absurd (omega arith) | inr x ↦ absurd (omega arith) ]) in
+    let own : (k : ℕ) → range.start / 8 ≤ k → k < units_to range → HasCome new k = λ k l r. by_unit bytes payload old new extent range a (λ u. 0 < u) k (λ e. omega arith) (λ f t. omega arith) (λ o. elim o [ inl x ↦ absurd (omega arith) | inr x ↦ absurd (omega arith) ]) in
     let other : (k : ℕ) → HasCome old k → HasCome new k = λ k c. omega (arith, stays bytes payload old new extent range a k (slice_index old k) refl c) in
     record {
       room = simp (length-append, length-take, length-drop) (omega arith);
       table = record {
         len = omega (arith, a.marked.len);
         limit = omega arith;
-        marks = λ k. by (λ u. u ≤ 2) k (λ e. omega arith) (λ l r. omega arith) (λ o. t.marks k);
-        front = by (λ u. u ≤ 1) 0 (λ e. omega arith) (λ l r. absurd (omega arith)) (λ o. t.front);
-        goes_on = λ k. by (λ u. u ≡ 2 → HasCome new k) (k + 1)
-            (λ e two. absurd (omega arith))
-            (λ l r two. own k (omega arith) (omega arith))
-            (λ o two. other k (t.goes_on k two));
-        within = λ k. by (λ u. 0 < u → 8 * k < max extent.reach range.end) k (λ e s. omega arith) (λ l r s. omega arith) (λ o s. omega (arith, t.within k s));
+        marks = λ k. by_unit bytes payload old new extent range a (λ u. u ≤ 2) k (λ e. omega arith) (λ l r. omega arith) (λ o. t.marks k);
+        begun = λ k c. elim (come_new bytes payload old new extent range a k c) [
+          | inl o ↦ (range.start / 8, o.0, a.marked.begins, omega (arith, o.1, past_first bytes payload old new extent range a))
+          | inr o ↦ let (j, le, begins, below) = t.begun k o in
+              (j, le, stays bytes payload old new extent range a j 1 begins (omega arith), omega (arith, past_other bytes payload old new extent range j a begins))
+        ];
+        within = λ k c. elim (come_new bytes payload old new extent range a k c) [ inl o ↦ omega (arith, o.1) | inr o ↦ omega (arith, t.within k o) ];
         reached = λ _. elim (cases_lt range.end extent.reach) [
           | inl l ↦ let e : (extent.reach - 1) / 8 ≡ (max extent.reach range.end - 1) / 8 = omega arith in
               subst (HasCome new) e (other ((extent.reach - 1) / 8) (t.reached (omega arith)))

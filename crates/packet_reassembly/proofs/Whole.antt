@@ -1,5 +1,5 @@
 -- what a datagram is, by its table
-use Rattle.std.proofs.Common.{ℕ, ◌≡◌, ◌+◌, ◌-◌, ◌*◌, ◌/◌, ◌<◌, ◌≤◌, ◌⊎◌, [], ◌∷◌, List, length, arith, inl, inr, Bool, true, false, ap, sym, subst, ◌∙◌, slice_index, slice_range, take, drop, Option, Some}
+use Rattle.std.proofs.Common.{ℕ, ◌≡◌, ◌+◌, ◌-◌, ◌*◌, ◌/◌, ◌<◌, ◌≤◌, ◌⊎◌, [], ◌∷◌, List, length, arith, inl, inr, Bool, true, false, ap, sym, subst, ◌∙◌, slice_range, take, drop, Option, Some}
 use Rattle.std.proofs.lemmas.Bool.{cases_eq, cases_lt}
 use Rattle.std.proofs.lemmas.List.{length-take-le, take-take}
 use Rattle.std.proofs.lemmas.List.Elements.{Contains-append_left, Contains-push_cases}
@@ -7,8 +7,8 @@ use Rattle.std.proofs.lemmas.Slice.{between_is}
 use Rattle.std.specs.List.{Contains}
 use Rattle.packet_reassembly.specs.declared.table.Extent.{Extent}
 use Rattle.packet_reassembly.specs.Fragment.{AreCutFrom, Covers, Fragment, IsPieceOf, IsWhole, Overlap, Takes, end_of}
-use Rattle.packet_reassembly.specs.Table.{AreKept, Begins, fragment_in, held, kept, range_at}
-use Rattle.packet_reassembly.proofs.Held.{Contains_from_held, begun, come, end_at, furthest, held_from_Contains, in_order, last_is}
+use Rattle.packet_reassembly.specs.Table.{AreKept, Begins, HasCome, fragment_in, held, kept, range_at}
+use Rattle.packet_reassembly.proofs.Held.{Contains_from_held, come, end_at, furthest, held_from_Contains, in_order, last_is}
 use Rattle.packet_reassembly.proofs.Cuts.{one_cut}
 use Rattle.packet_reassembly.proofs.Units.{each_come, ends_at, many_come}
 
@@ -71,7 +71,7 @@ piece_at bytes units extent k are ended begins =
 covered_at : (bytes units : List ℕ) (extent : Extent) (i : ℕ) → AreKept bytes units extent → (extent.reach + 7) / 8 ≤ extent.units → i < extent.reach → (f : Fragment) × Contains (held bytes units extent) f × Covers f i
 covered_at bytes units extent i are full below =
     let some = each_come units ((extent.reach + 7) / 8) (i / 8) (ends_at units extent are.table) (omega (arith, are.table.count)) (omega arith) in
-    let (k, from, begins, to) = begun units extent are.table (i / 8) some in
+    let (k, from, begins, to) = are.table.begun (i / 8) some in
     (fragment_in bytes (range_at units extent k), Contains_from_held bytes units extent k begins, (omega arith, omega (arith, end_at bytes units extent k are begins)))
 
 pub whole : (bytes units : List ℕ) (extent : Extent) → AreKept bytes units extent → extent.ended ≡ true → (extent.reach + 7) / 8 ≤ extent.units → AreCutFrom (take extent.reach bytes) (held bytes units extent)
@@ -83,6 +83,13 @@ whole bytes units extent are ended full =
       apart = apart_in bytes units extent are;
     }
 
+-- the unit of a byte that a fragment has
+come_at : (bytes units : List ℕ) (extent : Extent) → AreKept bytes units extent → (f : Fragment) (k : ℕ) → Contains (held bytes units extent) f → Covers f (8 * k) → HasCome units k
+come_at bytes units extent are f k has cover =
+    let h = held_from_Contains bytes units extent f has in
+    let (from, to) : Covers (fragment_in bytes (range_at units extent h.at)) (8 * k) = subst (λ (x : Fragment). Covers x (8 * k)) (sym h.is) cover in
+    come units h.at k h.begins (omega arith) (omega (arith, end_at bytes units extent h.at are h.begins))
+
 -- the end has not come, or a byte before it
 pub not_whole : (bytes units : List ℕ) (extent : Extent) → AreKept bytes units extent → (extent.ended ≡ false) ⊎ (extent.units < (extent.reach + 7) / 8) → (datagram : List ℕ) → ¬ AreCutFrom datagram (held bytes units extent)
 not_whole bytes units extent are (inl not_ended) datagram cut =
@@ -93,13 +100,11 @@ not_whole bytes units extent are (inl not_ended) datagram cut =
     let m : (fragment_in bytes (range_at units extent h.at)).more ≡ false = ap (λ (x : Fragment). x.more) h.is ∙ p.last.1 (omega arith) in
     let t = ((last_is extent (range_at units extent h.at).end).0 m).0 in cc
 not_whole bytes units extent are (inr gap) datagram cut =
-    let each : (k : ℕ) → k < (extent.reach + 7) / 8 → 0 < slice_index units k = λ k below.
+    let each : (k : ℕ) → k < (extent.reach + 7) / 8 → HasCome units k = λ k below.
     let (j, bj, is) = furthest units extent are.table (omega arith) in
     let w = (cut.pieces (fragment_in bytes (range_at units extent j)) (Contains_from_held bytes units extent j bj)).within in
     let (f, has, cover) = cut.covered (8 * k) (omega (arith, end_at bytes units extent j are bj)) in
-    let h = held_from_Contains bytes units extent f has in
-    let (from, to) : Covers (fragment_in bytes (range_at units extent h.at)) (8 * k) = subst (λ (x : Fragment). Covers x (8 * k)) (sym h.is) cover in
-    come units h.at k h.begins (omega arith) (omega (arith, end_at bytes units extent h.at are h.begins)) in
+    come_at bytes units extent are f k has cover in
     omega (arith, are.table.count, many_come units ((extent.reach + 7) / 8) each)
 
 pub whole_view : (bytes units : List ℕ) (extent : Extent) (discarded : Bool) (value : Option (List Fragment)) → kept discarded bytes units extent ≡ value → discarded ≡ false → AreKept bytes units extent → extent.ended ≡ true → (extent.reach + 7) / 8 ≤ extent.units → IsWhole value (take extent.reach bytes) × ((datagram : List ℕ) → IsWhole value datagram → take extent.reach bytes ≡ datagram)

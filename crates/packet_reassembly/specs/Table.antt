@@ -1,4 +1,4 @@
--- The table of the fragments that have come: for each 8 bytes, a unit, the number 0 if they have not
+-- The table of the fragments that have come. For each 8 bytes, a unit, it has 0 if they have not
 -- come, 1 if a fragment begins with them, and 2 if one goes on with them.
 use Rattle.std.specs.Prelude.{ℕ, ◌≡◌, ◌+◌, ◌-◌, ◌*◌, ◌/◌, ◌%◌, ◌<◌, ◌≤◌, ◌⊎◌, List, length, min}
 use Rattle.std.specs.Prelude.{Bool, true, false, Option, Some, None, cond, map, filter, Contains}
@@ -36,11 +36,12 @@ IsInside range k = (range.start / 8 < k) × (k < units_to range)
 abbrev pub units_at : IpFragRange → ℕ
 units_at range = units_to range - range.start / 8
 
--- Whether more fragments follow one that ends at this place.
+-- whether more fragments follow one that is kept and ends at this place
 abbrev pub has_more : Extent → ℕ → Bool
 has_more extent end = not (extent.ended && (end == extent.reach))
 
--- the range of the units from k up to p; only the last unit of a datagram can be shorter than 8 bytes
+-- the range of the units from k up to p; only the last unit of a datagram can have fewer than 8
+-- bytes
 abbrev pub range_to : Extent → ℕ → ℕ → IpFragRange
 range_to extent k p = record {
   start = 8 * k;
@@ -81,14 +82,14 @@ held bytes units extent = map (λ k. fragment_in bytes (range_at units extent k)
 abbrev pub kept : Bool → List ℕ → List ℕ → Extent → Option (List Fragment)
 kept discarded bytes units extent = cond discarded None (Some (held bytes units extent))
 
--- The table is that of a datagram that goes so far. A fragment goes on only with a unit after one
--- that has come, and the unit of the last byte that has come is the last that has.
+-- The table is that of a datagram that goes so far. Each unit that has come is one of a fragment,
+-- and the last of them is that of the last byte that has come.
 pub record IsTable (units : List ℕ) (extent : Extent) : Type 0 where
   pub len : 8192 ≤ length units
   pub limit : extent.reach ≤ 65535
   pub marks : (k : ℕ) → slice_index units k ≤ 2
-  pub front : slice_index units 0 ≤ 1
-  pub goes_on : (k : ℕ) → slice_index units (k + 1) ≡ 2 → HasCome units k
+  pub begun : (k : ℕ) → HasCome units k
+      → (j : ℕ) × (j ≤ k) × Begins units j × (k < past units j)
   pub within : (k : ℕ) → HasCome units k → 8 * k < extent.reach
   pub reached : 0 < extent.reach → HasCome units ((extent.reach - 1) / 8)
   pub unit : extent.ended ≡ false → extent.reach % 8 ≡ 0

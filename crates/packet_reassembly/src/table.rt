@@ -5,8 +5,9 @@ ghost use Rattle.std.specs.Prelude.{◌↔◌, IsTrue, IsFalse, slice_index, sli
 ghost use Rattle.packet_reassembly.specs.Fragment.{Takes};
 ghost use Rattle.packet_reassembly.specs.declared.table.Arrival.TheVariants.{New};
 ghost use Rattle.packet_reassembly.specs.Table.{AreKept, Arrives, Begins, Fits, HasCome, IsMarked};
-ghost use Rattle.packet_reassembly.specs.Table.{IsInside, IsRange, IsTable, fragment_of, has_more as more_after};
-ghost use Rattle.packet_reassembly.specs.Table.{held, range_at, units_at, units_to};
+ghost use Rattle.packet_reassembly.specs.Table.{IsInside, IsRange, IsTable, fragment_of, held};
+ghost use Rattle.packet_reassembly.specs.Table.{has_more as more_after, range_at, units_at};
+ghost use Rattle.packet_reassembly.specs.Table.{units_to};
 
 use crate::ip_frag_range::IpFragRange;
 
@@ -90,7 +91,8 @@ fn begins_inside(units: &[u8], range: IpFragRange) -> bool
 fn ends_before(units: &[u8], unit: usize) -> bool
     requires some { 0 < unit }
     requires within { unit ≤ length units.now }
-    ensures ends { IsTrue result ↔ (HasCome units.now (unit - 1) × (slice_index units.now unit ≢ 2)) }
+    ensures ends { IsTrue result ↔
+        (HasCome units.now (unit - 1) × (slice_index units.now unit ≢ 2)) }
 {
     units[unit - 1] != EMPTY && (unit == units.len() || units[unit] != GOES_ON)
 }

@@ -1,8 +1,8 @@
-use Rattle.std.proofs.Common.{ℕ, ◌≡◌, ◌/◌, arith, false, inl, inr, slice_index, subst}
+use Rattle.std.proofs.Common.{ℕ, ◌≡◌, ◌/◌, arith, Bool, false, not, inl, inr, slice_index, subst}
 use Rattle.std.specs.List.{Contains}
 use Rattle.std.proofs.lemmas.Bool.{cases_Bool}
 use Rattle.packet_reassembly.specs.Table.{Begins, held}
-use Rattle.packet_reassembly.proofs.Held.{Contains_from_held, all_clear, begun, conflict_at, conflict_other, conflict_past, not_false, reaches, same_fragment, same_parts}
+use Rattle.packet_reassembly.proofs.Held.{Contains_from_held, all_clear, conflict_at, conflict_other, conflict_past, reaches, same_fragment, same_parts}
 use Rattle.packet_reassembly.proofs.table.arrival_of.Goals.{else-extent-via-then-extent+else-end-extent, else-extent-via-else-extent, else-not-range-via-then-not-range+else-end-extent-2, else-not-range-via-else-not-range}
 use Rattle.packet_reassembly.proofs.table.arrival_of.Goals.{else-is_range-via-then-is_range+else-holds, else-is_range-via-else-is_range}
 use Rattle.packet_reassembly.proofs.table.arrival_of.Goals as goal
@@ -28,7 +28,7 @@ returns-then-found-eq-EMPTY-clause-arrives c = record {
   clear = λ k from to. all_clear c.args.units.now c.args.extent c.args.range c.requires.kept.table (subst (λ (n : ℕ). slice_index c.args.units.now (n / 8) ≡ 0) c.from-first.ensures c.if-found-eq-EMPTY.true)
       (c.begins_inside.ensures.none c.if-begins_inside.false) k (omega arith) (omega arith);
   before_end = λ ended. elim c.else-extent.branch [ else-extent-via-then-extent+else-end-extent w ↦ omega arith | else-extent-via-else-extent w ↦ absurd (let f = w.if-extent.false in cc) ];
-  at_end = λ last. elim c.else-not-range.branch [ else-not-range-via-then-not-range+else-end-extent-2 w ↦ omega arith | else-not-range-via-else-not-range w ↦ absurd (not_false c.args.range.more_fragments w.if-not-range.false last) ];
+  at_end = λ last. elim c.else-not-range.branch [ else-not-range-via-then-not-range+else-end-extent-2 w ↦ omega arith | else-not-range-via-else-not-range w ↦ absurd (let f : not false ≡ false = subst (λ (b : Bool). not b ≡ false) last w.if-not-range.false in cc) ];
 }
 
 pub returns-then-found-eq-GOES_ON-clause-arrives :
@@ -36,7 +36,7 @@ pub returns-then-found-eq-GOES_ON-clause-arrives :
 returns-then-found-eq-GOES_ON-clause-arrives c =
     let unit = c.requires.fits.right.unit in let some = c.requires.fits.right.some in
     let found : slice_index c.args.units.now (c.args.range.start / 8) ≡ 2 = subst (λ (n : ℕ). slice_index c.args.units.now (n / 8) ≡ 2) c.from-first.ensures c.if-found-eq-GOES_ON.true in
-    let (k, le, begins, below) = begun c.args.units.now c.args.extent c.requires.kept.table (c.args.range.start / 8) (omega arith) in
+    let (k, le, begins, below) = c.requires.kept.table.begun (c.args.range.start / 8) (omega arith) in
     let above = reaches c.args.units.now c.args.extent k (c.args.range.start / 8) c.requires.kept.table begins le below in
     conflict_other c.args.bytes.now c.args.payload.now c.args.units.now c.args.extent c.args.range k c.requires.kept c.requires.fits begins
     (λ e. omega (arith, found, subst (Begins c.args.units.now) e begins)) (omega arith) (omega arith)
