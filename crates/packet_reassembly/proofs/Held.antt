@@ -2,9 +2,9 @@
 use Rattle.std.proofs.Common.{ℕ, ◌≡◌, ◌≢◌, ◌+◌, ◌-◌, ◌*◌, ◌/◌, ◌<◌, ◌≤◌, ◌⊎◌, ◌++◌, ◌==◌, ◌&&◌, ◌↔◌, not, [], ◌∷◌, List, length, arith, inl, inr, Bool, true, false, map, ap, sym, subst, ◌∙◌, refl, take, drop, slice_index, slice_index_or, slice_range, IsTrue, IsFalse}
 use Rattle.std.proofs.lemmas.Bool.{cases_Bool, cases_eq, cases_lt}
 use Rattle.std.proofs.lemmas.Grind.{common_steps}
-use Rattle.std.proofs.lemmas.List.{drop_more, get_or-drop, get_or-map, get_or_default, get_or_past, get_or-take, length-drop, length-map, length-take-le, take-append-drop}
+use Rattle.std.proofs.lemmas.List.{drop_more, get_or-drop, get_or-map, get_or_past, get_or-take, length-drop, length-map, length-take-le, take-append-drop}
 use Rattle.std.proofs.lemmas.List.Edits.{length-between}
-use Rattle.std.proofs.lemmas.List.Elements.{All-contains, Contains-append_right, filter-append, filter_passes}
+use Rattle.std.proofs.lemmas.List.Elements.{All-contains, All-map, Contains-append_right, filter-append, filter_passes}
 use Rattle.std.proofs.lemmas.List.FromFn.{get_or-range_with_len, length-range_with_len}
 use Rattle.std.proofs.lemmas.List.Sums.{prefix_len_passes, prefix_len_stops}
 use Rattle.std.specs.List.{Contains, IsAnyAnswer, filter, prefix_len, range_with_len}
@@ -77,20 +77,14 @@ to_filter p xs k x w is come =
     let all : filter p xs ≡ filter p (take k xs) ++ x ∷ filter p (drop (k + 1) xs) = ap (filter p) split ∙ (filter-append p (take k xs) (x ∷ drop (k + 1) xs) ∙ ap (λ (r : List ℕ). filter p (take k xs) ++ r) kept) in
     subst (λ (r : List ℕ). Contains r x) (sym all) (Contains-append_right (filter p (take k xs)) (x ∷ filter p (drop (k + 1) xs)) x (0, omega arith, refl))
 
-in_map : (g : ℕ → Fragment) (xs : List ℕ) (y : Fragment) → Contains (map g xs) y → (x : ℕ) × Contains xs x × (g x ≡ y)
-in_map g xs y (k, w, is) =
-    let w' : k < length xs = omega (arith, w, length-map xs g) in
-    (slice_index xs k, (k, w', get_or_default xs k (slice_index xs k) 0 w'), sym (get_or-map g xs k 0 y w') ∙ is)
-
 to_map : (g : ℕ → Fragment) (xs : List ℕ) (x : ℕ) → Contains xs x → Contains (map g xs) (g x)
 to_map g xs x (k, w, is) = (k, omega (arith, length-map xs g), get_or-map g xs k x (g x) w ∙ ap g is)
 
 pub held_from_Contains : (bytes units : List ℕ) (extent : Extent) (f : Fragment) → Contains (held bytes units extent) f → IsHeld bytes units extent f
 held_from_Contains bytes units extent f h =
-    let p : ℕ → Bool = λ (k : ℕ). slice_index units k == 1 in
-    let all : List ℕ = range_with_len 0 (length units) in
-    let (k, has, is) = in_map (λ (k : ℕ). fragment_in bytes (range_at units extent k)) (filter p all) f h in
-    record { at = k; begins = (is_num (slice_index units k) 1).0 (All-contains (λ (k : ℕ). p k ≡ true) (filter p all) k (filter_passes p all) has); is = is }
+    let begin : List ℕ = filter (λ (k : ℕ). slice_index units k == 1) (range_with_len 0 (length units)) in
+    All-contains (IsHeld bytes units extent) (held bytes units extent) f (All-map (IsHeld bytes units extent) (λ (k : ℕ). fragment_in bytes (range_at units extent k)) begin
+    (λ i d w. record { at = slice_index_or begin i d; begins = (is_num (slice_index units (slice_index_or begin i d)) 1).0 (filter_passes (λ (k : ℕ). slice_index units k == 1) (range_with_len 0 (length units)) i d w); is = refl })) h
 
 pub Contains_from_held : (bytes units : List ℕ) (extent : Extent) (k : ℕ) → Begins units k → Contains (held bytes units extent) (fragment_in bytes (range_at units extent k))
 Contains_from_held bytes units extent k begins =
