@@ -7,7 +7,6 @@ use crate::shown::{Bytes, Shown, Written, write_shown};
 use etherparse::IpFragOffset;
 use packet_reassembly::ip_defrag_buf::IpDefragBuf;
 use packet_reassembly::ip_defrag_error::IpDefragError;
-use packet_reassembly::ip_frag_range::IpFragRange;
 use std::alloc::{AllocError, Global};
 use std::fmt;
 
@@ -15,8 +14,8 @@ use std::fmt;
 /// fragments, and its bytes.
 pub fn answer(arguments: &mut Arguments, answer: &mut String) -> Written {
     let mut bytes = zeros(arguments.alloc, IpDefragBuf::MAX_LEN)?;
-    let mut ranges = empty_table(arguments.alloc, IpDefragBuf::RANGES)?;
-    let mut buf = IpDefragBuf::new(bytes.as_mut_slice(), ranges.as_mut_slice());
+    let mut units = zeros(arguments.alloc, IpDefragBuf::UNITS)?;
+    let mut buf = IpDefragBuf::new(bytes.as_mut_slice(), units.as_mut_slice());
     add_all(&mut buf, arguments, answer)?;
     write_datagram(&buf, answer)
 }
@@ -65,13 +64,6 @@ fn zeros(alloc: Global, len: usize) -> Result<Vec<u8>, AllocError>
     ensures len { IfOk result (λ v. length v.items ≡ len) }
 {
     vec![in alloc; 0; len]
-}
-
-// A table with so many entries.
-fn empty_table(alloc: Global, len: usize) -> Result<Vec<IpFragRange>, AllocError>
-    ensures len { IfOk result (λ v. length v.items ≡ len) }
-{
-    vec![in alloc; IpFragRange::default(); len]
 }
 
 impl Shown for IpDefragError {

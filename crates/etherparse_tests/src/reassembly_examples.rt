@@ -6,7 +6,6 @@ use packet_reassembly::ip_defrag_buf::IpDefragBuf;
 use packet_reassembly::ip_defrag_packet::IpDefragPacketError;
 use packet_reassembly::ip_defrag_pool::{Added, DatagramState, IpDefragPool, IpDefragSlot};
 use packet_reassembly::ip_frag_id::{IpFragId, IpFragVersionSpecId};
-use packet_reassembly::ip_frag_range::IpFragRange;
 use packet_reassembly::ip_fragment_slice::ip_fragment;
 use packet_reassembly::packet::{write_ipv4_packet, write_ipv6_packet};
 use std::process::Abort;
@@ -15,8 +14,8 @@ use std::test::Fail;
 #[test]
 fn one_datagram(rt: HostRuntime) -> Result<(), Fail> {
     let mut bytes = [0; IpDefragBuf::MAX_LEN];
-    let mut ranges = [IpFragRange::default(); IpDefragBuf::RANGES];
-    let mut buf = IpDefragBuf::new(&mut bytes, &mut ranges);
+    let mut units = [0; IpDefragBuf::UNITS];
+    let mut buf = IpDefragBuf::new(&mut bytes, &mut units);
     // The second fragment, the first, and the second again.
     buf.add(IpFragOffset::try_new(1)?, false, b"bytes")?;
     assert!(rt; buf.datagram().is_none());
@@ -32,13 +31,13 @@ fn one_datagram(rt: HostRuntime) -> Result<(), Fail> {
 #[test]
 fn entries_of_a_table(rt: HostRuntime) -> Result<(), Fail> {
     let mut bytes = [0; IpDefragBuf::MAX_LEN];
-    let mut ranges = [IpFragRange::default(); IpDefragBuf::RANGES];
-    let mut buf = IpDefragBuf::new(&mut bytes, &mut ranges);
+    let mut units = [0; IpDefragBuf::UNITS];
+    let mut buf = IpDefragBuf::new(&mut bytes, &mut units);
     let (added, entries) = buf.add_counted(IpFragOffset::ZERO, true, b"two units of 8b.");
     assert!(rt; added.is_ok() && entries == 5);
-    // A duplicate is found by its first entry.
+    // A duplicate: the entries of its units, that of the last one again, and the one after it.
     let (added, entries) = buf.add_counted(IpFragOffset::ZERO, true, b"two units of 8b.");
-    assert!(rt; added.is_ok() && entries == 1);
+    assert!(rt; added.is_ok() && entries == 4);
     Ok(())
 }
 
@@ -117,8 +116,8 @@ fn a_pool(rt: HostRuntime) -> Result<(), Fail> {
     let (id, other) = (id(1), id(2));
 
     let mut bytes = [0; IpDefragBuf::MAX_LEN];
-    let mut ranges = [IpFragRange::default(); IpDefragBuf::RANGES];
-    let buf = IpDefragBuf::new(&mut bytes, &mut ranges);
+    let mut units = [0; IpDefragBuf::UNITS];
+    let buf = IpDefragBuf::new(&mut bytes, &mut units);
     let mut slots = [IpDefragSlot {
         id: None,
         since: 0,
@@ -142,8 +141,8 @@ fn a_pool(rt: HostRuntime) -> Result<(), Fail> {
 #[test]
 fn packets_in_a_pool(rt: HostRuntime) -> Result<(), Fail> {
     let mut bytes = [0; IpDefragBuf::MAX_LEN];
-    let mut ranges = [IpFragRange::default(); IpDefragBuf::RANGES];
-    let buf = IpDefragBuf::new(&mut bytes, &mut ranges);
+    let mut units = [0; IpDefragBuf::UNITS];
+    let buf = IpDefragBuf::new(&mut bytes, &mut units);
     let mut slots = [IpDefragSlot {
         id: None,
         since: 0,

@@ -1,9 +1,10 @@
--- The table of the fragments that have come: for each 8 bytes the range of the fragment that they
--- came in.
-use Rattle.std.specs.Prelude.{ℕ, ◌≡◌, ◌+◌, ◌-◌, ◌*◌, ◌/◌, ◌%◌, ◌<◌, ◌≤◌, ◌↔◌, List, length}
+-- The table of the fragments that have come. For each 8 bytes, a unit, it has 0 if they have not
+-- come, 1 if a fragment begins with them, and 2 if one goes on with them.
+use Rattle.std.specs.Prelude.{ℕ, ◌≡◌, ◌+◌, ◌-◌, ◌*◌, ◌/◌, ◌%◌, ◌<◌, ◌≤◌, ◌⊎◌, List, length, min}
 use Rattle.std.specs.Prelude.{Bool, true, false, Option, Some, None, cond, map, filter, Contains}
-use Rattle.std.specs.Prelude.{count_by}
-use Rattle.std.specs.Prelude.{slice_index_or, slice_range, ◌==◌, not}
+use Rattle.std.specs.Prelude.{count_by, drop}
+use Rattle.std.specs.Prelude.{slice_index, slice_range, ◌==◌, ◌&&◌, not}
+use Rattle.std.specs.List.{prefix_len, range_with_len}
 use Rattle.packet_reassembly.specs.declared.ip_frag_range.IpFragRange.{IpFragRange}
 use Rattle.packet_reassembly.specs.declared.table.Extent.{Extent}
 use Rattle.packet_reassembly.specs.declared.table.Arrival.{Arrival}
@@ -11,42 +12,46 @@ use Rattle.packet_reassembly.specs.declared.table.Arrival.TheVariants.{New, Same
 use Rattle.packet_reassembly.specs.declared.table.Arrival.TheVariants.{Conflict as Contradicts}
 use Rattle.packet_reassembly.specs.Fragment.{Conflict, Fragment}
 
--- the range that the table has for the unit k of 8 bytes; past its end it has none
-abbrev pub range_at : List IpFragRange → ℕ → IpFragRange
-range_at ranges k = slice_index_or ranges k (record { start = 0; end = 0; more_fragments = false })
+-- the unit k has come
+abbrev pub HasCome : List ℕ → ℕ → Type 0
+HasCome units k = 0 < slice_index units k
 
--- the range has the first byte of the unit k
-abbrev pub Begins : IpFragRange → ℕ → Type 0
-Begins range k = (range.start ≤ 8 * k) × (8 * k < range.end)
+-- a fragment begins with the unit k
+abbrev pub Begins : List ℕ → ℕ → Type 0
+Begins units k = slice_index units k ≡ 1
 
--- how many units begin in the range
+-- the unit after those of the fragment that begins with the unit k
+abbrev pub past : List ℕ → ℕ → ℕ
+past units k = k + 1 + prefix_len (λ u. u == 2) (drop (k + 1) units)
+
+-- the unit after those of the range
+abbrev pub units_to : IpFragRange → ℕ
+units_to range = (range.end + 7) / 8
+
+-- the unit k is one of those of the range after its first
+abbrev pub IsInside : IpFragRange → ℕ → Type 0
+IsInside range k = (range.start / 8 < k) × (k < units_to range)
+
+-- how many units the range has
 abbrev pub units_at : IpFragRange → ℕ
-units_at range = (range.end + 7) / 8 - (range.start + 7) / 8
+units_at range = units_to range - range.start / 8
 
--- no fragment has come that has bytes of the range
-abbrev pub IsClear : List IpFragRange → IpFragRange → Type 0
-IsClear ranges range = (k : ℕ) → Begins range k → (range_at ranges k).end ≡ 0
+-- whether more fragments follow one that is kept and ends at this place
+abbrev pub has_more : Extent → ℕ → Bool
+has_more extent end = not (extent.ended && (end == extent.reach))
 
--- a fragment has come that has bytes of the range
-abbrev pub IsTaken : List IpFragRange → IpFragRange → Type 0
-IsTaken ranges range = (k : ℕ) × Begins range k × (0 < (range_at ranges k).end)
+-- the range of the units from k up to p; only the last unit of a datagram can have fewer than 8
+-- bytes
+abbrev pub range_to : Extent → ℕ → ℕ → IpFragRange
+range_to extent k p = record {
+  start = 8 * k;
+  end = min extent.reach (8 * p);
+  more_fragments = has_more extent (min extent.reach (8 * p));
+}
 
--- the table, once the range is noted in it
-pub record IsMarked (old : List IpFragRange) (range : IpFragRange) (new : List IpFragRange)
-    : Type 0 where
-  pub inside : (k : ℕ) → Begins range k → range_at new k ≡ range
-  pub outside : (k : ℕ) → ¬ Begins range k → range_at new k ≡ range_at old k
-
--- The ranges of the table begin at multiples of 8, as they end if more follow, and do not go past
--- the reach. Each stands at all units that begin in it, and at no others.
-pub record AreApart (ranges : List IpFragRange) (reach : ℕ) : Type 0 where
-  pub begins : (k : ℕ) → 0 < (range_at ranges k).end → Begins (range_at ranges k) k
-  pub unit : (k : ℕ) → 0 < (range_at ranges k).end → (range_at ranges k).start % 8 ≡ 0
-  pub more : (k : ℕ) → 0 < (range_at ranges k).end → (range_at ranges k).end < reach
-      → (range_at ranges k).end % 8 ≡ 0
-  pub within : (k : ℕ) → (range_at ranges k).end ≤ reach
-  pub same : (j k : ℕ) → 0 < (range_at ranges j).end → Begins (range_at ranges j) k
-      → range_at ranges k ≡ range_at ranges j
+-- the range of the fragment that begins with the unit k
+abbrev pub range_at : List ℕ → Extent → ℕ → IpFragRange
+range_at units extent k = range_to extent k (past units k)
 
 -- the fragment that a range of the memory holds
 abbrev pub fragment_in : List ℕ → IpFragRange → Fragment
@@ -64,54 +69,68 @@ fragment_of range payload = record {
   bytes = payload;
 }
 
--- the bytes have come
-abbrev pub has_come : IpFragRange → Bool
-has_come range = not (range.end == 0)
+-- how many units have come
+abbrev pub units_in : List ℕ → ℕ
+units_in units = count_by (λ u. not (u == 0)) units
 
--- how many units of 8 bytes have come; the last of a datagram can be shorter
-abbrev pub units_in : List IpFragRange → ℕ
-units_in ranges = count_by has_come ranges
-
--- the fragments that are kept; one can be there more than once
-abbrev pub held : List ℕ → List IpFragRange → List Fragment
-held bytes ranges = map (fragment_in bytes) (filter has_come ranges)
+-- the fragments that are kept: one for each unit with which a fragment begins
+abbrev pub held : List ℕ → List ℕ → Extent → List Fragment
+held bytes units extent = map (λ k. fragment_in bytes (range_at units extent k))
+    (filter (λ k. slice_index units k == 1) (range_with_len 0 (length units)))
 
 -- what is kept; nothing, once two fragments have contradicted each other
-abbrev pub kept : Bool → List ℕ → List IpFragRange → Option (List Fragment)
-kept discarded bytes ranges = cond discarded None (Some (held bytes ranges))
+abbrev pub kept : Bool → List ℕ → List ℕ → Extent → Option (List Fragment)
+kept discarded bytes units extent = cond discarded None (Some (held bytes units extent))
 
--- the memory and its table hold the fragments of a datagram that goes so far
-pub record AreKept (bytes : List ℕ) (ranges : List IpFragRange) (extent : Extent) : Type 0 where
-  pub room : 65535 ≤ length bytes
-  pub table : 8192 ≤ length ranges
+-- The table is that of a datagram that goes so far. Each unit that has come is one of a fragment,
+-- and the last of them is that of the last byte that has come.
+pub record IsTable (units : List ℕ) (extent : Extent) : Type 0 where
+  pub len : 8192 ≤ length units
   pub limit : extent.reach ≤ 65535
-  pub apart : AreApart ranges extent.reach
-  pub last : (k : ℕ) → 0 < (range_at ranges k).end
-      → ((range_at ranges k).more_fragments ≡ false)
-      ↔ ((extent.ended ≡ true) × ((range_at ranges k).end ≡ extent.reach))
-  pub reached : 0 < extent.reach → (k : ℕ) × ((range_at ranges k).end ≡ extent.reach)
-  pub unit : (k : ℕ) → (range_at ranges k).more_fragments ≡ true → (range_at ranges k).end % 8 ≡ 0
+  pub marks : (k : ℕ) → slice_index units k ≤ 2
+  pub begun : (k : ℕ) → HasCome units k
+      → (j : ℕ) × (j ≤ k) × Begins units j × (k < past units j)
+  pub within : (k : ℕ) → HasCome units k → 8 * k < extent.reach
+  pub reached : 0 < extent.reach → HasCome units ((extent.reach - 1) / 8)
+  pub unit : extent.ended ≡ false → extent.reach % 8 ≡ 0
   pub ended : extent.ended ≡ true → 0 < extent.reach
-  pub units : extent.units ≡ units_in ranges
+  pub count : extent.units ≡ units_in units
 
--- the range is that of a fragment that a datagram can have, with this payload
-pub record Fits (range : IpFragRange) (payload : List ℕ) : Type 0 where
+-- the memory has room for a datagram, and the table says which fragments it holds
+pub record AreKept (bytes : List ℕ) (units : List ℕ) (extent : Extent) : Type 0 where
+  pub room : 65535 ≤ length bytes
+  pub table : IsTable units extent
+
+-- the table, once a fragment at this range is noted in it
+pub record IsMarked (old : List ℕ) (range : IpFragRange) (new : List ℕ) : Type 0 where
+  pub len : length new ≡ length old
+  pub begins : Begins new (range.start / 8)
+  pub inside : (k : ℕ) → IsInside range k → slice_index new k ≡ 2
+  pub outside : (k : ℕ) → (k < range.start / 8) ⊎ (units_to range ≤ k)
+      → slice_index new k ≡ slice_index old k
+
+-- a fragment that a datagram can have can be at this range
+pub record IsRange (range : IpFragRange) : Type 0 where
   pub some : range.start < range.end
-  pub len : range.start + length payload ≡ range.end
   pub unit : range.start % 8 ≡ 0
   pub more : range.more_fragments ≡ true → range.end % 8 ≡ 0
   pub limit : range.end ≤ 65535
 
+-- one with this payload can
+pub record Fits (range : IpFragRange) (payload : List ℕ) : Type 0 where
+  pub right : IsRange range
+  pub len : range.start + length payload ≡ range.end
+
 -- nothing of the range has come, it does not go past the end, nor is the end before what has come
-pub record IsNew (ranges : List IpFragRange) (extent : Extent) (range : IpFragRange) : Type 0 where
-  pub clear : IsClear ranges range
+pub record IsNew (units : List ℕ) (extent : Extent) (range : IpFragRange) : Type 0 where
+  pub clear : (k : ℕ) → range.start ≤ 8 * k → 8 * k < range.end → slice_index units k ≡ 0
   pub before_end : extent.ended ≡ true → range.end ≤ extent.reach
   pub at_end : range.more_fragments ≡ false → extent.reach ≤ range.end
 
 -- how the fragment stands to those that are kept
-abbrev pub Arrives : List ℕ → List IpFragRange → Extent → IpFragRange → List ℕ → Arrival → Type 0
-Arrives bytes ranges extent range payload New = IsNew ranges extent range
-Arrives bytes ranges extent range payload Same =
-    Contains (held bytes ranges) (fragment_of range payload)
-Arrives bytes ranges extent range payload Contradicts = (f : Fragment)
-    × Contains (held bytes ranges) f × Conflict f (fragment_of range payload)
+abbrev pub Arrives : List ℕ → List ℕ → Extent → IpFragRange → List ℕ → Arrival → Type 0
+Arrives bytes units extent range payload New = IsNew units extent range
+Arrives bytes units extent range payload Same =
+    Contains (held bytes units extent) (fragment_of range payload)
+Arrives bytes units extent range payload Contradicts = (f : Fragment)
+    × Contains (held bytes units extent) f × Conflict f (fragment_of range payload)

@@ -19,8 +19,8 @@ use std::marker::Model;
 ///
 /// ```
 /// let mut bytes = [0; IpDefragBuf::MAX_LEN];
-/// let mut ranges = [IpFragRange::default(); IpDefragBuf::RANGES];
-/// let mut buf = IpDefragBuf::new(&mut bytes, &mut ranges);
+/// let mut units = [0; IpDefragBuf::UNITS];
+/// let mut buf = IpDefragBuf::new(&mut bytes, &mut units);
 /// // The second fragment, the first, and the second again.
 /// buf.add(IpFragOffset::try_new(1)?, false, b"bytes")?;
 /// assert!(rt; buf.datagram().is_none());
@@ -34,7 +34,7 @@ use std::marker::Model;
 #[derive(Drop)]
 pub struct IpDefragBuf<'a> {
     bytes: &'a mut [u8],
-    ranges: &'a mut [IpFragRange],
+    units: &'a mut [u8],
     extent: Extent,
     discarded: bool,
 }
@@ -47,29 +47,30 @@ impl<'a> Model for IpDefragBuf<'a> {
 
     ghost use Rattle.packet_reassembly.specs.Table.{AreKept, kept};
 
-    ghost view = { λ s. kept s.discarded s.bytes.now s.ranges.now };
+    ghost view = { λ s. kept s.discarded s.bytes.now s.units.now s.extent };
 
-    ghost invariant = { λ s. AreKept s.bytes.now s.ranges.now s.extent };
+    ghost invariant = { λ s. AreKept s.bytes.now s.units.now s.extent };
 }
 
 impl<'a> IpDefragBuf<'a> {
     /// The memory that a datagram takes, in bytes: 65535.
     pub const MAX_LEN: usize = 65535;
 
-    /// The entries of its table: 8192, one for each 8 bytes.
-    pub const RANGES: usize = 8192;
+    /// The memory that its table takes, in bytes: 8192, one for each 8 bytes of the datagram.
+    pub const UNITS: usize = 8192;
 
-    /// A datagram of which nothing has come.
-    pub fn new(bytes: &'a mut [u8], ranges: &'a mut [IpFragRange]) -> IpDefragBuf<'a>
+    /// A datagram of which nothing has come. What the memory has before makes no difference.
+    #[tactic(auto, using(crate::proofs::Held::held_none, crate::proofs::Units::table_none))]
+    pub fn new(bytes: &'a mut [u8], units: &'a mut [u8]) -> IpDefragBuf<'a>
         requires bytes { 65535 ≤ length bytes.old }
-        requires ranges { 8192 ≤ length ranges.old }
+        requires units { 8192 ≤ length units.old }
         ensures empty { result ≡ Some [] }
     {
-        let len = ranges.len();
-        clear(ranges, len);
+        let len = units.len();
+        clear(units, len);
         IpDefragBuf {
             bytes,
-            ranges,
+            units,
             extent: Extent::NONE,
             discarded: false,
         }
@@ -101,8 +102,9 @@ impl<'a> IpDefragBuf<'a> {
     }
 
     /// The result of [`IpDefragBuf::add`], and how many entries of the table were read or written:
-    /// at most two for each 8 bytes of the fragment and one more, whatever has come before. For a
-    /// new fragment that is kept it is exactly that. Apart from this the payload is compared or
+    /// at most two for each 8 bytes of the fragment and one more, whatever has come before. An
+    /// entry is a byte. For a new fragment that is kept it is exactly that: each is read once and
+    /// written once, and the first is written again. Apart from this the payload is compared or
     /// copied at most once.
     ///
     /// # Errors
@@ -113,13 +115,13 @@ impl<'a> IpDefragBuf<'a> {
     ///
     /// ```
     /// let mut bytes = [0; IpDefragBuf::MAX_LEN];
-    /// let mut ranges = [IpFragRange::default(); IpDefragBuf::RANGES];
-    /// let mut buf = IpDefragBuf::new(&mut bytes, &mut ranges);
+    /// let mut units = [0; IpDefragBuf::UNITS];
+    /// let mut buf = IpDefragBuf::new(&mut bytes, &mut units);
     /// let (added, entries) = buf.add_counted(IpFragOffset::ZERO, true, b"two units of 8b.");
     /// assert!(rt; added.is_ok() && entries == 5);
-    /// // A duplicate is found by its first entry.
+    /// // A duplicate: the entries of its units, that of the last one again, and the one after it.
     /// let (added, entries) = buf.add_counted(IpFragOffset::ZERO, true, b"two units of 8b.");
-    /// assert!(rt; added.is_ok() && entries == 1);
+    /// assert!(rt; added.is_ok() && entries == 4);
     /// ```
     pub fn add_counted(
         &mut self,
@@ -146,11 +148,11 @@ impl<'a> IpDefragBuf<'a> {
             return (Ok(()), 0);
         }
         let bytes = &mut *self.bytes;
-        let ranges = &mut *self.ranges;
-        let (arrival, read) = arrival_of(bytes, ranges, self.extent, range, payload);
+        let units = &mut *self.units;
+        let (arrival, read) = arrival_of(bytes, units, self.extent, range, payload);
         match arrival {
             Arrival::New => {
-                let (extent, written) = keep(bytes, ranges, self.extent, range, payload);
+                let (extent, written) = keep(bytes, units, self.extent, range, payload);
                 self.extent = extent;
                 (Ok(()), read + written)
             }
@@ -171,6 +173,7 @@ impl<'a> IpDefragBuf<'a> {
     }
 
     /// The datagram, once each of its bytes has come.
+    #[tactic(auto, using(crate::proofs::Whole::whole_view, crate::proofs::Whole::not_whole_view))]
     pub fn datagram(&self) -> Option<&[u8]>
         ensures whole { IfSome result (λ datagram. IsWhole self.now datagram.now) }
         ensures not_yet { IfNone result ((datagram : List ℕ) → ¬ IsWhole self.now datagram) }
@@ -187,10 +190,11 @@ impl<'a> IpDefragBuf<'a> {
     }
 
     /// Forgets all that has come.
+    #[tactic(auto, using(crate::proofs::Held::held_none, crate::proofs::Units::table_none))]
     pub fn clear(&mut self)
         ensures empty { self.new ≡ Some [] }
     {
-        clear(&mut *self.ranges, self.extent.reach.div_ceil(8));
+        clear(&mut *self.units, self.extent.reach.div_ceil(8));
         self.extent = Extent::NONE;
         self.discarded = false;
     }

@@ -53,8 +53,8 @@ pub struct Added {
 ///
 /// ```
 /// let mut bytes = [0; IpDefragBuf::MAX_LEN];
-/// let mut ranges = [IpFragRange::default(); IpDefragBuf::RANGES];
-/// let buf = IpDefragBuf::new(&mut bytes, &mut ranges);
+/// let mut units = [0; IpDefragBuf::UNITS];
+/// let buf = IpDefragBuf::new(&mut bytes, &mut units);
 /// let mut slots = [IpDefragSlot {
 ///     id: None,
 ///     since: 0,

@@ -1,8 +1,7 @@
 //! The place of a fragment in its datagram.
 
-/// The place of a fragment in its datagram. The table of a datagram has one for each 8 bytes: that
-/// of the fragment which these bytes came in. One that ends at 0 says that they have not come.
-#[derive(Clone, Copy, Debug, Default, PartialEq, Eq)]
+/// The place of a fragment in its datagram.
+#[derive(Clone, Copy, Debug)]
 pub struct IpFragRange {
     /// The place of its first byte.
     pub start: u16,

@@ -5,7 +5,6 @@ ghost use Rattle.std.specs.Prelude.{◌≡◌, ◌↔◌, IsTrue};
 use crate::ip_defrag_error::IpDefragError;
 use crate::ip_defrag_pool::{Added, DatagramState};
 use crate::ip_frag_id::IpFragId;
-use crate::ip_frag_range::IpFragRange;
 
 /// Errors are equal exactly if all that they say is.
 pub fn ip_defrag_error_equality(one: &IpDefragError, other: &IpDefragError) -> bool
@@ -16,13 +15,6 @@ pub fn ip_defrag_error_equality(one: &IpDefragError, other: &IpDefragError) -> b
 
 /// Ids are equal exactly if all their fields are.
 pub fn ip_frag_id_equality(one: &IpFragId, other: &IpFragId) -> bool
-    ensures same_value { IsTrue result ↔ (one.now ≡ other.now) }
-{
-    one == other
-}
-
-/// Ranges are equal exactly if all their fields are.
-pub fn ip_frag_range_equality(one: &IpFragRange, other: &IpFragRange) -> bool
     ensures same_value { IsTrue result ↔ (one.now ≡ other.now) }
 {
     one == other

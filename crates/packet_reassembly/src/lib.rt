@@ -8,7 +8,7 @@ pub mod ip_defrag_error;
 pub mod ip_defrag_packet;
 pub mod ip_defrag_pool;
 pub mod ip_frag_id;
-pub mod ip_frag_range;
+mod ip_frag_range;
 pub mod ip_fragment_slice;
 pub mod ipv6_fragment;
 mod laws;

@@ -6,7 +6,6 @@ ghost use Rattle.packet_reassembly.specs.Arrivals.{StandsFor, came};
 ghost use Rattle.packet_reassembly.specs.Fragment.{AreCutFrom, Fragment as F, IsWhole, fragment};
 
 use crate::ip_defrag_buf::IpDefragBuf;
-use crate::ip_frag_range::IpFragRange;
 use etherparse::IpFragOffset;
 
 /// A fragment as it comes.
@@ -24,16 +23,16 @@ pub struct IpFragment<'a> {
 /// passed over.
 pub fn reassemble<'a>(
     bytes: &'a mut [u8],
-    ranges: &'a mut [IpFragRange],
+    units: &'a mut [u8],
     fragments: &[IpFragment],
 ) -> IpDefragBuf<'a>
     requires bytes { 65535 ≤ length bytes.old }
-    requires ranges { 8192 ≤ length ranges.old }
+    requires units { 8192 ≤ length units.old }
     ensures whole { (datagram : List ℕ) →
         (IsWhole result datagram ↔ HoldDatagram (came fragments.now) datagram) }
     ensures discarded { (result ≡ None) ↔ HaveConflict (came fragments.now) }
 {
-    let mut buf = IpDefragBuf::new(bytes, ranges);
+    let mut buf = IpDefragBuf::new(bytes, units);
     for fragment in fragments {
         add_or_pass(
             &mut buf,

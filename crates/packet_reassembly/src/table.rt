@@ -1,14 +1,24 @@
-//! The table of the fragments that have come.
+//! The table of the fragments that have come: a byte for each 8 bytes of the datagram, a unit.
 
-ghost use Rattle.std.specs.Prelude.{ℕ, ◌≡◌, ◌*◌, ◌+◌, ◌<◌, ◌≤◌, ◌%◌, Some, length, IsTrue, IsFalse};
-ghost use Rattle.std.specs.Prelude.{◌↔◌, slice_range};
+ghost use Rattle.std.specs.Prelude.{ℕ, ◌≡◌, ◌*◌, ◌+◌, ◌-◌, ◌<◌, ◌≤◌, ◌%◌, ◌/◌, ◌≢◌, Some, length};
+ghost use Rattle.std.specs.Prelude.{◌↔◌, IsTrue, IsFalse, slice_index, slice_range, true, false};
 ghost use Rattle.packet_reassembly.specs.Fragment.{Takes};
 ghost use Rattle.packet_reassembly.specs.declared.table.Arrival.TheVariants.{New};
-ghost use Rattle.packet_reassembly.specs.Table.{AreKept, Arrives, IsClear, IsMarked, IsTaken};
-ghost use Rattle.packet_reassembly.specs.Table.{Fits, fragment_of, held, range_at, units_at};
-ghost use Rattle.packet_reassembly.specs.Table.{units_in};
+ghost use Rattle.packet_reassembly.specs.Table.{AreKept, Arrives, Begins, Fits, HasCome, IsMarked};
+ghost use Rattle.packet_reassembly.specs.Table.{IsInside, IsRange, IsTable, fragment_of, held};
+ghost use Rattle.packet_reassembly.specs.Table.{has_more as more_after, range_at, units_at};
+ghost use Rattle.packet_reassembly.specs.Table.{units_to};
 
 use crate::ip_frag_range::IpFragRange;
+
+/// A unit that has not come.
+pub const EMPTY: u8 = 0;
+
+/// The first unit of a fragment that has come.
+pub const BEGINS: u8 = 1;
+
+/// Any other unit of a fragment that has come.
+pub const GOES_ON: u8 = 2;
 
 /// How far a datagram goes, by the fragments that have come.
 #[derive(Clone, Copy, Debug, PartialEq, Eq)]
@@ -41,67 +51,57 @@ pub enum Arrival {
     Conflict,
 }
 
-/// Whether no fragment has come that has bytes of a range, and how many entries of the table were
-/// read.
-pub fn is_clear(ranges: &[IpFragRange], range: IpFragRange) -> (bool, usize)
-    requires table { 8192 ≤ length ranges.now }
-    requires order { range.start ≤ range.end }
-    ensures clear { IsTrue result.0 → IsClear ranges.now range }
-    ensures taken { IsFalse result.0 → IsTaken ranges.now range }
-    ensures all { IsTrue result.0 → result.1 ≡ units_at range }
-    ensures few { result.1 ≤ units_at range }
-{
-    let mut unit = usize::from(range.start).div_ceil(8);
-    let mut entries = 0;
-    while 8 * unit < usize::from(range.end) {
-        entries += 1;
-        if ranges[unit].end != 0 {
-            return (false, entries);
-        }
-        unit += 1;
-    }
-    (true, entries)
-}
-
 /// Takes out what the table has for its first units; it has nothing for the others.
-pub fn clear(ranges: &mut [IpFragRange], units: usize)
-    requires within { units ≤ length ranges.old }
-    requires others { (k : ℕ) → units ≤ k → (range_at ranges.old k).end ≡ 0 }
-    ensures len { length ranges.new ≡ length ranges.old }
-    ensures empty { (k : ℕ) → (range_at ranges.new k).end ≡ 0 }
+pub fn clear(units: &mut [u8], count: usize)
+    requires within { count ≤ length units.old }
+    requires others { (k : ℕ) → count ≤ k → slice_index units.old k ≡ 0 }
+    ensures len { length units.new ≡ length units.old }
+    ensures empty { (k : ℕ) → slice_index units.new k ≡ 0 }
 {
-    let mut unit = 0;
-    while unit < units {
-        ranges[unit] = IpFragRange::default();
-        unit += 1;
-    }
+    units[..count].fill(EMPTY);
 }
 
-/// Notes a new fragment in the table. Returns how many entries were written.
-pub fn mark(ranges: &mut [IpFragRange], range: IpFragRange) -> usize
-    requires table { 8192 ≤ length ranges.old }
-    requires order { range.start ≤ range.end }
-    requires clear { IsClear ranges.old range }
-    ensures len { length ranges.new ≡ length ranges.old }
-    ensures marked { IsMarked ranges.old range ranges.new }
-    ensures all { result ≡ units_at range }
-    ensures come { units_in ranges.new ≡ units_in ranges.old + result }
+/// Notes a new fragment in the table. Returns how many units it has.
+pub fn mark(units: &mut [u8], range: IpFragRange) -> usize
+    requires table { 8192 ≤ length units.old }
+    requires range { IsRange range }
+    ensures marked { IsMarked units.old range units.new }
+    ensures count { result ≡ units_at range }
 {
-    let mut unit = usize::from(range.start).div_ceil(8);
-    let mut entries = 0;
-    while 8 * unit < usize::from(range.end) {
-        entries += 1;
-        ranges[unit] = range;
-        unit += 1;
-    }
-    entries
+    let first = usize::from(range.start) / 8;
+    let after = usize::from(range.end).div_ceil(8);
+    units[first..after].fill(GOES_ON);
+    units[first] = BEGINS;
+    after - first
 }
 
-// Whether the ranges are the same.
-fn is_range(one: IpFragRange, other: IpFragRange) -> bool
-    ensures same { IsTrue result ↔ (one ≡ other) }
+// Whether a fragment begins with one of the units of a range after its first.
+fn begins_inside(units: &[u8], range: IpFragRange) -> bool
+    requires table { 8192 ≤ length units.now }
+    requires range { IsRange range }
+    ensures some { IsTrue result → (k : ℕ) × IsInside range k × Begins units.now k }
+    ensures none { IsFalse result → (k : ℕ) → IsInside range k → ¬ Begins units.now k }
 {
-    one == other
+    let first = usize::from(range.start) / 8;
+    let after = usize::from(range.end).div_ceil(8);
+    units[first + 1..after].contains(&BEGINS)
+}
+
+// Whether a fragment ends before a unit, and has the one before it.
+fn ends_before(units: &[u8], unit: usize) -> bool
+    requires some { 0 < unit }
+    requires within { unit ≤ length units.now }
+    ensures ends { IsTrue result ↔
+        (HasCome units.now (unit - 1) × (slice_index units.now unit ≢ 2)) }
+{
+    units[unit - 1] != EMPTY && (unit == units.len() || units[unit] != GOES_ON)
+}
+
+// Whether more fragments follow one that is kept and ends at a place.
+fn has_more(extent: Extent, end: usize) -> bool
+    ensures more { result ≡ more_after extent end }
+{
+    !(extent.ended && end == extent.reach)
 }
 
 // Whether the memory holds a payload at a range.
@@ -113,19 +113,33 @@ fn holds(bytes: &[u8], range: IpFragRange, payload: &[u8]) -> bool
     &bytes[usize::from(range.start)..usize::from(range.end)] == payload
 }
 
+// Whether a fragment has the range of the one that begins with the same unit.
+fn is_range(units: &[u8], extent: Extent, range: IpFragRange) -> bool
+    requires table { IsTable units.now extent }
+    requires fits { IsRange range }
+    requires begins { Begins units.now (range.start / 8) }
+    requires alone { (k : ℕ) → IsInside range k → ¬ Begins units.now k }
+    requires before_end { extent.ended ≡ true → range.end ≤ extent.reach }
+    requires at_end { range.more_fragments ≡ false → extent.reach ≤ range.end }
+    ensures same { IsTrue result ↔ (range_at units.now extent (range.start / 8) ≡ range) }
+{
+    let end = usize::from(range.end);
+    range.more_fragments == has_more(extent, end) && ends_before(units, end.div_ceil(8))
+}
+
 /// How a fragment stands to those that have come, and how many entries of the table were read.
 pub fn arrival_of(
     bytes: &[u8],
-    ranges: &[IpFragRange],
+    units: &[u8],
     extent: Extent,
     range: IpFragRange,
     payload: &[u8],
 ) -> (Arrival, usize)
-    requires kept { AreKept bytes.now ranges.now extent }
+    requires kept { AreKept bytes.now units.now extent }
     requires fits { Fits range payload.now }
-    ensures arrives { Arrives bytes.now ranges.now extent range payload.now result.0 }
-    ensures all { result.0 ≡ New → result.1 ≡ units_at range + 1 }
-    ensures few { result.1 ≤ units_at range + 1 }
+    ensures arrives { Arrives bytes.now units.now extent range payload.now result.0 }
+    ensures all { result.0 ≡ New → result.1 ≡ units_at range }
+    ensures few { result.1 ≤ units_at range + 2 }
 {
     let end = usize::from(range.end);
     if extent.ended && end > extent.reach {
@@ -134,44 +148,49 @@ pub fn arrival_of(
     if !range.more_fragments && end < extent.reach {
         return (Arrival::Conflict, 0);
     }
-    if is_range(ranges[usize::from(range.start) / 8], range) {
-        if holds(bytes, range, payload) {
-            return (Arrival::Same, 1);
-        }
-        return (Arrival::Conflict, 1);
+    let first = usize::from(range.start) / 8;
+    let entries = end.div_ceil(8) - first;
+    if begins_inside(units, range) {
+        return (Arrival::Conflict, entries - 1);
     }
-    let (clear, entries) = is_clear(ranges, range);
-    if clear {
-        (Arrival::New, entries + 1)
+    let found = units[first];
+    if found == EMPTY {
+        return (Arrival::New, entries);
+    }
+    if found == GOES_ON {
+        return (Arrival::Conflict, entries);
+    }
+    if is_range(units, extent, range) && holds(bytes, range, payload) {
+        (Arrival::Same, entries + 2)
     } else {
-        (Arrival::Conflict, entries + 1)
+        (Arrival::Conflict, entries + 2)
     }
 }
 
 /// Keeps a new fragment. Returns how far the datagram goes then, and how many entries of the table
-/// were written.
+/// were written; the first is written twice.
 pub fn keep(
     bytes: &mut [u8],
-    ranges: &mut [IpFragRange],
+    units: &mut [u8],
     extent: Extent,
     range: IpFragRange,
     payload: &[u8],
 ) -> (Extent, usize)
-    requires kept { AreKept bytes.old ranges.old extent }
+    requires kept { AreKept bytes.old units.old extent }
     requires fits { Fits range payload.now }
-    requires new { Arrives bytes.old ranges.old extent range payload.now New }
-    ensures kept { AreKept bytes.new ranges.new result.0 }
-    ensures takes { Takes (Some (held bytes.old ranges.old)) (fragment_of range payload.now)
-        (Some (held bytes.new ranges.new)) }
-    ensures all { result.1 ≡ units_at range }
+    requires new { Arrives bytes.old units.old extent range payload.now New }
+    ensures kept { AreKept bytes.new units.new result.0 }
+    ensures takes { Takes (Some (held bytes.old units.old extent)) (fragment_of range payload.now)
+        (Some (held bytes.new units.new result.0)) }
+    ensures all { result.1 ≡ units_at range + 1 }
 {
     let end = usize::from(range.end);
     bytes[usize::from(range.start)..end].copy_from_slice(payload);
-    let entries = mark(ranges, range);
+    let count = mark(units, range);
     let extent = Extent {
         reach: extent.reach.max(end),
         ended: extent.ended | !range.more_fragments,
-        units: extent.units + entries,
+        units: extent.units + count,
     };
-    (extent, entries)
+    (extent, count + 1)
 }

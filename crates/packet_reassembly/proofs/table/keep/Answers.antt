@@ -5,12 +5,13 @@ use Rattle.packet_reassembly.proofs.table.keep.Goals as goal
 pub returns-clause-kept : goal.returns-clause-kept
 returns-clause-kept c =
     let reach = c.max.ensures ∙ ap (max c.args.extent.reach) c.from-end.ensures in
-    rw (c.copy_from_slice.ensures.after, c.from.ensures, reach) (kept-new c.args.bytes.now c.args.payload.now c.args.ranges.now c.mark-entries.new.ranges c.args.extent c.args.range (c.from-end.result - c.args.range.start) (c.args.extent.units + c.mark-entries.result)
-    (record { kept = c.requires.kept; fits = c.requires.fits; is_new = c.requires.new; marked = c.mark-entries.ensures.marked; len = c.mark-entries.ensures.len })
-    (let f = c.requires.fits in omega arith) (omega (arith, c.mark-entries.ensures.come, c.requires.kept.units)))
+    let len = c.requires.fits.len in
+    rw (c.copy_from_slice.ensures.after, c.from.ensures, reach) (kept-new c.args.bytes.now c.args.payload.now c.args.units.now c.mark-count.new.units c.args.extent c.args.range (c.from-end.result - c.args.range.start) (c.args.extent.units + c.mark-count.result)
+    (record { kept = c.requires.kept; fits = c.requires.fits; is_new = c.requires.new; marked = c.mark-count.ensures.marked }) (omega arith) (omega (arith, c.mark-count.ensures.count)))
 
 pub returns-clause-takes : goal.returns-clause-takes
 returns-clause-takes c =
-    rw (c.copy_from_slice.ensures.after, c.from.ensures) (takes-new c.args.bytes.now c.args.payload.now c.args.ranges.now c.mark-entries.new.ranges c.args.extent c.args.range (c.from-end.result - c.args.range.start)
-    (record { kept = c.requires.kept; fits = c.requires.fits; is_new = c.requires.new; marked = c.mark-entries.ensures.marked; len = c.mark-entries.ensures.len })
-    (let f = c.requires.fits in omega arith))
+    let reach = c.max.ensures ∙ ap (max c.args.extent.reach) c.from-end.ensures in
+    let len = c.requires.fits.len in
+    rw (c.copy_from_slice.ensures.after, c.from.ensures, reach) (takes-new c.args.bytes.now c.args.payload.now c.args.units.now c.mark-count.new.units c.args.extent c.args.range (c.from-end.result - c.args.range.start) (c.args.extent.units + c.mark-count.result)
+    (record { kept = c.requires.kept; fits = c.requires.fits; is_new = c.requires.new; marked = c.mark-count.ensures.marked }) (omega arith))
