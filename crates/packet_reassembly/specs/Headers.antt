@@ -16,7 +16,7 @@ use Rattle.packet_reassembly.specs.declared.ip_frag_id.IpFragVersionSpecId.{IpFr
 use Rattle.packet_reassembly.specs.declared.ip_frag_id.IpFragVersionSpecId.TheVariants as version
 use Rattle.packet_reassembly.specs.declared.ip_fragment_slice.IpFragmentSlice.{IpFragmentSlice}
 
--- they are an IPv6 header, extension headers, and the fragment header that the last of these names
+-- they are an IPv6 header, the extension headers before a fragment header, and that one
 pub record AreIpv6Headers (headers : List ℕ) (first : Ipv6Header) (before last : List ℕ)
     (fragment : FragmentHeader) : Type 0 where
   pub front : List ℕ

@@ -23,6 +23,7 @@ pub record HasIpv4Fragment (packet : List ℕ) (f : IpFragmentSlice) : Type 0 wh
   pub more : f.more_fragments ≡ header.more_fragments
   pub next : f.next_header ≡ header.protocol
   pub headers : f.headers.now ≡ begins.front
+  pub last_extension : f.last_extension ≡ length f.headers.now
 
 -- The packet, as far as its payload length says, is an IPv6 header and what follows it: extension
 -- headers, a fragment header, and the bytes of the fragment. The fragment header says where it

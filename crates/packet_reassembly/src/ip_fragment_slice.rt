@@ -92,6 +92,7 @@ fn ipv4_fragment<'a>(view: Ipv4HeaderSlice<'a>, payload: &'a [u8]) -> Option<IpF
     if !view.is_fragmenting_payload() {
         return None;
     }
+    let headers = view.slice();
     Some(IpFragmentSlice {
         ip: IpFragVersionSpecId::Ipv4 {
             source: view.source(),
@@ -102,8 +103,8 @@ fn ipv4_fragment<'a>(view: Ipv4HeaderSlice<'a>, payload: &'a [u8]) -> Option<IpF
         offset: view.fragments_offset(),
         more_fragments: view.more_fragments(),
         next_header: view.protocol(),
-        headers: view.slice(),
-        last_extension: view.slice().len(),
+        headers,
+        last_extension: headers.len(),
         payload,
     })
 }
