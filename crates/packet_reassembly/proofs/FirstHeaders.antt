@@ -18,14 +18,16 @@ pub whole_has : (slot : IpDefragSlot) (datagram : List ℕ) → HasFirstHeaders 
 whole_has slot datagram has None is cut = elim cut [ ]
 whole_has slot datagram has (Some kept) is cut =
     let (f, contains, covers) = cut.covered 0 cut.some in
-    has kept f is contains (omega (arith, covers.0))
+    has.known kept f is contains (omega (arith, covers.0))
 
 -- one slot has changed, which has them if a datagram has it
 pub others_have : (k : ℕ) (old new : List IpDefragSlot) → AreSameBut k old new → ((id : IpFragId) → Has new k id → HasFirstHeaders (slot_at new k)) → HaveFirstHeaders old → HaveFirstHeaders new
-others_have k old new same this have = λ j id has. elim (cases_eq j k) [
-  | inl e ↦ rw e (this id (rw e at has))
-  | inr other ↦ let is = same.1 j other in rw is (have j id (omega (arith, has.0, same.0), rw is at has.1))
-]
+others_have k old new same this have = record {
+  each = λ j id has. elim (cases_eq j k) [
+    | inl e ↦ rw e (this id (rw e at has))
+    | inr other ↦ let is = same.1 j other in rw is (have.each j id (omega (arith, has.0, same.0), rw is at has.1))
+  ];
+}
 
 some_or : (a b : Option (List ℕ)) → b ≢ None → option_or a b ≢ None
 some_or None b some = some
@@ -55,12 +57,14 @@ takes_have (Some old) (Some new) f before came takes brings has kept g is contai
 -- the same of the slots of a pool
 pub added_have : (old : List IpDefragSlot) (id : IpFragId) (timeout now : ℕ) (f : Fragment) (came : Option (List ℕ)) (added : Added) (new : List IpDefragSlot)
     → IsAdded old id timeout now f came added new → (f.start ≡ 0 → came ≢ None) → HaveFirstHeaders old → HaveFirstHeaders new
-added_have old id timeout now f came added new is brings have = others_have added.slot old new is.others (λ other has kept g buf contains front. elim is.takes [
-  | inl goes ↦ let (on, since, headers, takes) = goes in
-      rw headers (takes_have (slot_at old added.slot).buf (slot_at new added.slot).buf f (slot_at old added.slot).headers came takes brings (λ before h e. have added.slot id on.has before h e) kept g buf contains front)
-  | inr begins ↦ let (on, since, headers, takes) = begins in
-      rw headers (takes_have (Some []) (slot_at new added.slot).buf f None came takes brings (λ before h e c _. absurd (contains_none before h e c)) kept g buf contains front)
-]) have
+added_have old id timeout now f came added new is brings have = others_have added.slot old new is.others (λ other has. record {
+  known = λ kept g buf contains front. elim is.takes [
+    | inl goes ↦ let (on, since, headers, takes) = goes in
+        rw headers (takes_have (slot_at old added.slot).buf (slot_at new added.slot).buf f (slot_at old added.slot).headers came takes brings (have.each added.slot id on.has).known kept g buf contains front)
+    | inr begins ↦ let (on, since, headers, takes) = begins in
+        rw headers (takes_have (Some []) (slot_at new added.slot).buf f None came takes brings (λ before h e c _. absurd (contains_none before h e c)) kept g buf contains front)
+  ];
+}) have
 
 pub released_have : (k : ℕ) (old new : List IpDefragSlot) → AreSameBut k old new → (slot_at new k).id ≡ None → HaveFirstHeaders old → HaveFirstHeaders new
 released_have k old new same free = others_have k old new same (λ id has. absurd (none-some id (sym free ∙ has.1)))

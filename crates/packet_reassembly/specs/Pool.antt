@@ -91,11 +91,10 @@ OthersStay old id given_up new = (j : ℕ) (other : IpFragId) → Has old j othe
     → given_up ≢ Some other → slot_at new j ≡ slot_at old j
 
 -- the headers of the first fragment are there, if a fragment at offset 0 has come
-abbrev pub HasFirstHeaders : IpDefragSlot → Type 0
-HasFirstHeaders slot = (kept : List Fragment) (f : Fragment) → slot.buf ≡ Some kept
-    → Contains kept f → f.start ≡ 0 → slot.headers ≢ None
+pub record HasFirstHeaders (slot : IpDefragSlot) : Type 0 where
+  pub known : (kept : List Fragment) (f : Fragment) → slot.buf ≡ Some kept → Contains kept f
+      → f.start ≡ 0 → slot.headers ≢ None
 
--- that of each datagram
-abbrev pub HaveFirstHeaders : List IpDefragSlot → Type 0
-HaveFirstHeaders slots =
-    (k : ℕ) (id : IpFragId) → Has slots k id → HasFirstHeaders (slot_at slots k)
+-- those of each datagram are, as they are if all its fragments came by `add_packet`
+pub record HaveFirstHeaders (slots : List IpDefragSlot) : Type 0 where
+  pub each : (k : ℕ) (id : IpFragId) → Has slots k id → HasFirstHeaders (slot_at slots k)
