@@ -39,6 +39,7 @@ mod limited_walk;
 #[cfg(test)]
 mod packet_examples;
 #[cfg(test)]
+mod reassembly;
 mod reassembly_examples;
 #[cfg(test)]
 mod shared;

@@ -3,6 +3,7 @@
 use etherparse::{IpFragOffset, IpNumber, Ipv4Header, Ipv6Header};
 use packet_reassembly::header_chain::has_whole_chain;
 use packet_reassembly::ip_defrag_buf::IpDefragBuf;
+use packet_reassembly::ip_defrag_headers::IpDefragHeaders;
 use packet_reassembly::ip_defrag_packet::IpDefragPacketError;
 use packet_reassembly::ip_defrag_pool::{Added, DatagramState, IpDefragPool, IpDefragSlot};
 use packet_reassembly::ip_frag_id::{IpFragId, IpFragVersionSpecId};
@@ -91,6 +92,7 @@ fn fragments_of_packets(rt: HostRuntime) -> Result<(), Fail> {
     if let Some(fragment) = ip_fragment(&packet)? {
         assert!(rt; fragment.offset.value() == 1 && fragment.more_fragments);
         assert!(rt; fragment.payload == [1, 2, 3, 4, 5, 6, 7, 8].as_slice());
+        assert!(rt; fragment.headers == &packet[..20]);
     }
     // A whole packet.
     [packet[6], packet[7]] = [0, 0];
@@ -117,11 +119,12 @@ fn a_pool(rt: HostRuntime) -> Result<(), Fail> {
 
     let mut bytes = [0; IpDefragBuf::MAX_LEN];
     let mut units = [0; IpDefragBuf::UNITS];
-    let buf = IpDefragBuf::new(&mut bytes, &mut units);
+    let mut headers = [0; IpDefragHeaders::MAX_LEN];
     let mut slots = [IpDefragSlot {
         id: None,
         since: 0,
-        buf,
+        headers: IpDefragHeaders::new(&mut headers),
+        buf: IpDefragBuf::new(&mut bytes, &mut units),
     }];
     let mut pool = IpDefragPool {
         slots: &mut slots,
@@ -142,11 +145,12 @@ fn a_pool(rt: HostRuntime) -> Result<(), Fail> {
 fn packets_in_a_pool(rt: HostRuntime) -> Result<(), Fail> {
     let mut bytes = [0; IpDefragBuf::MAX_LEN];
     let mut units = [0; IpDefragBuf::UNITS];
-    let buf = IpDefragBuf::new(&mut bytes, &mut units);
+    let mut headers = [0; IpDefragHeaders::MAX_LEN];
     let mut slots = [IpDefragSlot {
         id: None,
         since: 0,
-        buf,
+        headers: IpDefragHeaders::new(&mut headers),
+        buf: IpDefragBuf::new(&mut bytes, &mut units),
     }];
     let mut pool = IpDefragPool {
         slots: &mut slots,
@@ -171,6 +175,14 @@ fn packets_in_a_pool(rt: HostRuntime) -> Result<(), Fail> {
     added.state = DatagramState::Complete;
     assert!(rt; pool.add_packet(&first, None, None, 1)? == Some(added));
     assert!(rt; pool.slots[0].buf.datagram() == Some(b"thirteenbytes".as_slice()));
+    // The packet, with the header of the first fragment.
+    let mut out = [0; 65575];
+    assert!(rt; pool.write_packet(0, &mut out)? == Some(33));
+    let packet = [
+        0x45, 0, 0, 33, 0x12, 0x34, 0, 0, 64, 17, 0xe6, 0x7f, 192, 168, 0, 1, 192, 168, 0, 199,
+        b't', b'h', b'i', b'r', b't', b'e', b'e', b'n', b'b', b'y', b't', b'e', b's',
+    ];
+    assert!(rt; &out[..33] == packet.as_slice());
 
     // The first fragment of an IPv6 packet, of 8 bytes: a whole UDP header, and a part of one of TCP
     // (RFC 7112).

@@ -1,5 +1,5 @@
 -- A packet of either version that is a fragment (RFC 791 section 3.1, RFC 8200 section 4.5).
-use Rattle.std.specs.Prelude.{ℕ, ◌≡◌, ◌⊎◌, List}
+use Rattle.std.specs.Prelude.{ℕ, ◌≡◌, ◌+◌, ◌⊎◌, List, ◌++◌, length}
 use Rattle.etherparse.specs.Ipv4Header.{IsFragment, IsIpv4Layout}
 use Rattle.etherparse.specs.Ipv6Header.{IsIpv6Layout}
 use Rattle.etherparse.specs.Reading.{BeginsWith}
@@ -13,6 +13,7 @@ use Rattle.packet_reassembly.specs.declared.ipv6_fragment.Ipv6FragmentParts.{Ipv
 
 -- The packet, as far as its total length says, is an IPv4 header of a fragment and its bytes. The
 -- header says which packet it is of, where it stands, whether more follow and what was fragmented.
+-- Its bytes are the headers.
 pub record HasIpv4Fragment (packet : List ℕ) (f : IpFragmentSlice) : Type 0 where
   pub header : Ipv4Header
   pub begins : BeginsWith IsIpv4Layout (ipv4_bytes header packet) header f.payload.now
@@ -21,10 +22,13 @@ pub record HasIpv4Fragment (packet : List ℕ) (f : IpFragmentSlice) : Type 0 wh
   pub offset : f.offset ≡ header.fragment_offset
   pub more : f.more_fragments ≡ header.more_fragments
   pub next : f.next_header ≡ header.protocol
+  pub headers : f.headers.now ≡ begins.front
+  pub last_extension : f.last_extension ≡ length f.headers.now
 
 -- The packet, as far as its payload length says, is an IPv6 header and what follows it: extension
 -- headers, a fragment header, and the bytes of the fragment. The fragment header says where it
--- stands, whether more follow and what was fragmented.
+-- stands, whether more follow and what was fragmented. All bytes before those of the fragment are
+-- the headers.
 pub record HasIpv6Fragment (packet : List ℕ) (f : IpFragmentSlice) : Type 0 where
   pub header : Ipv6Header
   pub body : List ℕ
@@ -36,6 +40,9 @@ pub record HasIpv6Fragment (packet : List ℕ) (f : IpFragmentSlice) : Type 0 wh
   pub more : f.more_fragments ≡ parts.fragment.more_fragments
   pub next : f.next_header ≡ parts.fragment.next_header
   pub payload : f.payload.now ≡ parts.payload.now
+  pub headers : f.headers.now ≡ begins.front
+      ++ (parts.before.now ++ (parts.last.now ++ are_parts.begins.front))
+  pub last_extension : f.last_extension ≡ 40 + length parts.before.now
 
 abbrev pub HasIpFragment : List ℕ → IpFragmentSlice → Type 0
 HasIpFragment packet f = HasIpv4Fragment packet f ⊎ HasIpv6Fragment packet f

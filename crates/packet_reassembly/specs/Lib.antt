@@ -1,6 +1,7 @@
 pub mod Arrivals
 pub mod Fragment
 pub mod HeaderChain
+pub mod Headers
 pub mod IpFragment
 pub mod Ipv6Fragment
 pub mod Packet

@@ -1,6 +1,7 @@
 -- Many datagrams at once.
 use Rattle.std.specs.Prelude.{ℕ, ◌≡◌, ◌≢◌, ◌+◌, ◌<◌, ◌≤◌, ◌⊎◌, List, [], length, slice_index_or}
-use Rattle.std.specs.Prelude.{Option, Some, None}
+use Rattle.std.specs.Prelude.{Option, Some, None, Contains}
+use Rattle.std.specs.Option.{option_or}
 use Rattle.packet_reassembly.specs.Fragment.{Fragment, IsWhole, Takes}
 use Rattle.packet_reassembly.specs.declared.ip_defrag_pool.Added.{Added}
 use Rattle.packet_reassembly.specs.declared.ip_defrag_pool.DatagramState.{DatagramState}
@@ -10,7 +11,7 @@ use Rattle.packet_reassembly.specs.declared.ip_frag_id.IpFragId.{IpFragId}
 
 -- a slot that no datagram has, which is what there is past the last
 abbrev pub no_slot : IpDefragSlot
-no_slot = record { id = None; since = 0; buf = Some [] }
+no_slot = record { id = None; since = 0; headers = None; buf = Some [] }
 
 abbrev pub slot_at : List IpDefragSlot → ℕ → IpDefragSlot
 slot_at slots k = slice_index_or slots k no_slot
@@ -55,9 +56,11 @@ pub record IsPlaced (old : List IpDefragSlot) (id : IpFragId) (timeout now k : �
   pub has : Has new k id
   pub place : (GoesOn old id timeout now k given_up
       × ((slot_at new k).since ≡ (slot_at old k).since)
+      × ((slot_at new k).headers ≡ (slot_at old k).headers)
       × ((slot_at new k).buf ≡ (slot_at old k).buf))
       ⊎ (Begins old id timeout now k given_up
-      × ((slot_at new k).since ≡ now) × ((slot_at new k).buf ≡ Some []))
+      × ((slot_at new k).since ≡ now) × ((slot_at new k).headers ≡ None)
+      × ((slot_at new k).buf ≡ Some []))
 
 -- what is known of the datagram
 abbrev pub IsState : Option (List Fragment) → DatagramState → Type 0
@@ -65,16 +68,19 @@ IsState kept state.Incomplete = (kept ≢ None) × ((datagram : List ℕ) → ¬
 IsState kept state.Complete = (datagram : List ℕ) × IsWhole kept datagram
 IsState kept state.Discarded = kept ≡ None
 
--- the slots, once a fragment of the datagram with this id has come
+-- The slots, once a fragment of the datagram with this id has come, and with it maybe the headers
+-- of the first one. Those that came before stay.
 pub record IsAdded (old : List IpDefragSlot) (id : IpFragId) (timeout now : ℕ) (f : Fragment)
-    (added : Added) (new : List IpDefragSlot) : Type 0 where
+    (headers : Option (List ℕ)) (added : Added) (new : List IpDefragSlot) : Type 0 where
   pub others : AreSameBut added.slot old new
   pub has : Has new added.slot id
   pub takes : (GoesOn old id timeout now added.slot added.given_up
       × ((slot_at new added.slot).since ≡ (slot_at old added.slot).since)
+      × ((slot_at new added.slot).headers ≡ option_or (slot_at old added.slot).headers headers)
       × Takes (slot_at old added.slot).buf f (slot_at new added.slot).buf)
       ⊎ (Begins old id timeout now added.slot added.given_up
       × ((slot_at new added.slot).since ≡ now)
+      × ((slot_at new added.slot).headers ≡ headers)
       × Takes (Some []) f (slot_at new added.slot).buf)
   pub state : IsState (slot_at new added.slot).buf added.state
 
@@ -83,3 +89,12 @@ pub record IsAdded (old : List IpDefragSlot) (id : IpFragId) (timeout now : ℕ)
 abbrev pub OthersStay : List IpDefragSlot → IpFragId → Option IpFragId → List IpDefragSlot → Type 0
 OthersStay old id given_up new = (j : ℕ) (other : IpFragId) → Has old j other → other ≢ id
     → given_up ≢ Some other → slot_at new j ≡ slot_at old j
+
+-- the headers of the first fragment are there, if a fragment at offset 0 has come
+pub record HasFirstHeaders (slot : IpDefragSlot) : Type 0 where
+  pub known : (kept : List Fragment) (f : Fragment) → slot.buf ≡ Some kept → Contains kept f
+      → f.start ≡ 0 → slot.headers ≢ None
+
+-- those of each datagram are, as they are if all its fragments came by `add_packet`
+pub record HaveFirstHeaders (slots : List IpDefragSlot) : Type 0 where
+  pub each : (k : ℕ) (id : IpFragId) → Has slots k id → HasFirstHeaders (slot_at slots k)

@@ -1,14 +1,16 @@
-//! Packets that are added to a pool.
+//! Packets that are added to a pool, and packets that are taken from it.
 
-ghost use Rattle.std.specs.Prelude.{IsFalse, IsTrue};
+ghost use Rattle.std.specs.Prelude.{◌≡◌, ◌<◌, IfSome, IsFalse, IsTrue, length, option_map};
 ghost use Rattle.packet_reassembly.specs.HeaderChain.{HasWholeChain, LacksChain};
-ghost use Rattle.packet_reassembly.specs.PacketAdded.{IsFirstOfIpv6};
+ghost use Rattle.packet_reassembly.specs.PacketAdded.{HasShortHeaders, IsFirstOfIpv6, headers_of};
 
 use crate::header_chain::has_whole_chain;
 use crate::ip_defrag_error::IpDefragError;
-use crate::ip_defrag_pool::{Added, IpDefragPool};
+use crate::ip_defrag_headers::IpDefragHeaders;
+use crate::ip_defrag_pool::{Added, IpDefragPool, IpDefragSlot, add_to};
 use crate::ip_frag_id::{IpFragId, IpFragVersionSpecId};
 use crate::ip_fragment_slice::{IpFragmentSlice, ip_fragment};
+use etherparse::err::ValueTooBigError;
 use packet_parts::ip_slice::IpSliceError;
 
 /// Why a packet is not added to a pool.
@@ -19,24 +21,39 @@ pub enum IpDefragPacketError {
     /// It is the first fragment of an IPv6 packet, and lacks a part of the header chain (RFC 7112
     /// section 5).
     HeaderChain,
+    /// It is the first fragment of a datagram, and its headers are longer than
+    /// [`IpDefragHeaders::MAX_LEN`].
+    HeadersTooLong {
+        /// Their length in bytes.
+        len: usize,
+    },
     /// It is a fragment that no datagram can have.
     Fragment(IpDefragError),
 }
 
 impl<'a, 'b> IpDefragPool<'a, 'b> {
-    ghost use Rattle.std.specs.Prelude.{◌≡◌, ◌<◌, IfErr, IfNone, IfOk, IfSome, OnErr};
-    ghost use Rattle.std.specs.Prelude.{length};
+    ghost use Rattle.std.specs.Prelude.{ℕ, ◌≡◌, ◌<◌, ◌≤◌, IfErr, IfNone, IfOk, IfSome, IsSome, List};
+    ghost use Rattle.std.specs.Prelude.{OnErr, length, take};
+    ghost use Rattle.packet_reassembly.specs.Fragment.{IsWhole};
     ghost use Rattle.packet_reassembly.specs.IpFragment.{IsNoFragment};
-    ghost use Rattle.packet_reassembly.specs.PacketAdded.{IsPacketAdded, RefusesPacket};
+    ghost use Rattle.packet_reassembly.specs.PacketAdded.{HasNoPacket, HasTooLongPacket};
+    ghost use Rattle.packet_reassembly.specs.PacketAdded.{IsPacketAdded, IsPacketIn, RefusesPacket};
+    ghost use Rattle.packet_reassembly.specs.Pool.{HasFirstHeaders, HaveFirstHeaders, slot_at};
 
     /// Adds the fragment that an IP packet is, in the VLANs that it came in, as
     /// [`IpDefragPool::add`] adds it. `None` if the packet is no fragment: then nothing changes, and
     /// the packet is whole. What follows the packet, as the padding of a frame, does not count.
     ///
+    /// The slot keeps the headers of the first fragment at offset 0 that comes of its datagram. Of a
+    /// later copy they can differ, as in the time to live, and do not count.
+    ///
+    /// Once the datagram is complete, [`IpDefragPool::write_packet`] writes its packet.
+    ///
     /// # Errors
     ///
-    /// In this order: `Packet` with the error of [`ip_fragment`]; `HeaderChain`; `Fragment` with the
-    /// error of [`IpDefragPool::add`]. Each depends on the packet alone, and nothing changes.
+    /// In this order: `Packet` with the error of [`ip_fragment`]; `HeaderChain`; `HeadersTooLong`;
+    /// `Fragment` with the error of [`IpDefragPool::add`]. Each depends on the packet alone, and
+    /// nothing changes.
     ///
     /// # Example
     ///
@@ -59,6 +76,14 @@ impl<'a, 'b> IpDefragPool<'a, 'b> {
     /// added.state = DatagramState::Complete;
     /// assert!(rt; pool.add_packet(&first, None, None, 1)? == Some(added));
     /// assert!(rt; pool.slots[0].buf.datagram() == Some(b"thirteenbytes".as_slice()));
+    /// // The packet, with the header of the first fragment.
+    /// let mut out = [0; 65575];
+    /// assert!(rt; pool.write_packet(0, &mut out)? == Some(33));
+    /// let packet = [
+    ///     0x45, 0, 0, 33, 0x12, 0x34, 0, 0, 64, 17, 0xe6, 0x7f, 192, 168, 0, 1, 192, 168, 0, 199,
+    ///     b't', b'h', b'i', b'r', b't', b'e', b'e', b'n', b'b', b'y', b't', b'e', b's',
+    /// ];
+    /// assert!(rt; &out[..33] == packet.as_slice());
     /// ```
     pub fn add_packet(
         &mut self,
@@ -75,6 +100,8 @@ impl<'a, 'b> IpDefragPool<'a, 'b> {
             IfNone found (self.new.slots.now ≡ self.old.slots.now)) }
         ensures refused { IfErr result (RefusesPacket packet.now) }
         ensures unchanged { OnErr result (self.new.slots.now ≡ self.old.slots.now) }
+        ensures headers { HaveFirstHeaders self.old.slots.now →
+            HaveFirstHeaders self.new.slots.now }
         ensures timeout { self.new.timeout ≡ self.old.timeout }
     {
         let fragment = match ip_fragment(packet) {
@@ -85,22 +112,116 @@ impl<'a, 'b> IpDefragPool<'a, 'b> {
         if lacks_chain(&fragment) {
             return Err(IpDefragPacketError::HeaderChain);
         }
+        if has_long_headers(&fragment) {
+            return Err(IpDefragPacketError::HeadersTooLong {
+                len: fragment.headers.len(),
+            });
+        }
         let id = IpFragId {
             outer_vlan_id,
             inner_vlan_id,
             ip: fragment.ip,
         };
-        match self.add(
+        let timeout = self.timeout;
+        let slots = &mut *self.slots;
+        match add_to(
+            slots,
             id,
+            timeout,
+            now,
             fragment.offset,
             fragment.more_fragments,
             fragment.payload,
-            now,
+            first_of(&fragment),
         ) {
             Ok(added) => Ok(Some(added)),
             Err(e) => Err(IpDefragPacketError::Fragment(e)),
         }
     }
+
+    /// Writes the packet of the datagram in the slot at an index, as [`IpDefragSlot::write_packet`]
+    /// does. The slots do not change: release this one when the packet is done with.
+    ///
+    /// # Errors
+    ///
+    /// Those of [`IpDefragSlot::write_packet`].
+    pub fn write_packet(
+        &mut self,
+        slot: usize,
+        out: &mut [u8],
+    ) -> Result<Option<usize>, ValueTooBigError<usize>>
+        requires within { slot < length self.old.slots.now }
+        requires room { 65575 ≤ length out.old }
+        ensures packet { IfOk result (λ found. IfSome found (λ len.
+            IsPacketIn (slot_at self.old.slots.now slot) (take len out.new))) }
+        ensures none { IfOk result (λ found.
+            IfNone found (HasNoPacket (slot_at self.old.slots.now slot))) }
+        ensures refused { IfErr result (λ e. HasTooLongPacket (slot_at self.old.slots.now slot)) }
+        ensures some { HasFirstHeaders (slot_at self.old.slots.now slot) → (datagram : List ℕ) →
+            IsWhole (slot_at self.old.slots.now slot).buf datagram → IfOk result IsSome }
+        ensures unchanged { OnErr result (out.new ≡ out.old) }
+        ensures nothing { IfOk result (λ found. IfNone found (out.new ≡ out.old)) }
+        ensures slots { self.new.slots.now ≡ self.old.slots.now }
+        ensures timeout { self.new.timeout ≡ self.old.timeout }
+    {
+        let slots = &mut *self.slots;
+        let slots = &*slots;
+        let slot = &slots[slot];
+        slot.write_packet(out)
+    }
+}
+
+impl<'a> IpDefragSlot<'a> {
+    ghost use Rattle.std.specs.Prelude.{ℕ, ◌≡◌, ◌≤◌, IfErr, IfNone, IfOk, IfSome, IsSome, List};
+    ghost use Rattle.std.specs.Prelude.{OnErr, length, take};
+    ghost use Rattle.packet_reassembly.specs.Fragment.{IsWhole};
+    ghost use Rattle.packet_reassembly.specs.PacketAdded.{HasNoPacket, HasTooLongPacket, IsPacketIn};
+    ghost use Rattle.packet_reassembly.specs.Pool.{HasFirstHeaders};
+
+    /// Writes the packet of the datagram that has the slot, as [`IpDefragHeaders::write_packet`]
+    /// does. Returns its length in bytes; `None` if the datagram is not complete, or if no fragment
+    /// of it at offset 0 came by [`IpDefragPool::add_packet`].
+    ///
+    /// # Errors
+    ///
+    /// A `ValueTooBigError` if the datagram is complete, and its packet would be longer than its
+    /// total length or its payload length can say. Nothing is written.
+    pub fn write_packet(&self, out: &mut [u8]) -> Result<Option<usize>, ValueTooBigError<usize>>
+        requires room { 65575 ≤ length out.old }
+        ensures packet { IfOk result (λ found. IfSome found (λ len.
+            IsPacketIn self.now (take len out.new))) }
+        ensures none { IfOk result (λ found. IfNone found (HasNoPacket self.now)) }
+        ensures refused { IfErr result (λ e. HasTooLongPacket self.now) }
+        ensures some { HasFirstHeaders self.now → (datagram : List ℕ) →
+            IsWhole self.now.buf datagram → IfOk result IsSome }
+        ensures unchanged { OnErr result (out.new ≡ out.old) }
+        ensures nothing { IfOk result (λ found. IfNone found (out.new ≡ out.old)) }
+    {
+        match self.buf.datagram() {
+            Some(datagram) => self.headers.write_packet(datagram, out),
+            None => Ok(None),
+        }
+    }
+}
+
+// Whether a fragment is the first of its datagram, and there is no room for its headers.
+fn has_long_headers(fragment: &IpFragmentSlice) -> bool
+    ensures first { IsTrue result → fragment.now.offset ≡ 0 }
+    ensures long { IsTrue result → 1280 < length fragment.now.headers.now }
+    ensures short { IsFalse result → HasShortHeaders fragment.now }
+{
+    fragment.offset.value() == 0 && fragment.headers.len() > IpDefragHeaders::MAX_LEN
+}
+
+// The fragment, if it is the first of its datagram.
+fn first_of<'a, 'b>(fragment: &'b IpFragmentSlice<'a>) -> Option<&'b IpFragmentSlice<'a>>
+    ensures headers { option_map (λ f. f.now.headers.now) result ≡ headers_of fragment.now }
+    ensures same { IfSome result (λ f. f.now ≡ fragment.now) }
+{
+    if fragment.offset.value() == 0 {
+        return Some(fragment);
+    }
+    None
 }
 
 // Whether a fragment has to have the whole header chain, and lacks a part of it.

@@ -2,15 +2,20 @@
 
 ghost use Rattle.std.specs.Prelude.{ℕ, ◌≡◌, ◌≢◌, ◌<◌, ◌≤◌, ◌+◌, ◌↔◌, ◌⊎◌, [], IfNone, IfSome};
 ghost use Rattle.std.specs.Prelude.{IfErr, IfOk, OnErr, OnOk, IsTrue, None, Some, length};
-ghost use Rattle.packet_reassembly.specs.Pool.{AreSameBut, Begins, GoesOn, Has, IsExpired};
-ghost use Rattle.packet_reassembly.specs.Pool.{IsAdded, IsFree, IsPlaced, IsState, OthersStay};
-ghost use Rattle.packet_reassembly.specs.Pool.{slot_at};
+ghost use Rattle.std.specs.Prelude.{option_map};
+ghost use Rattle.std.specs.Option.{option_or};
+ghost use Rattle.packet_reassembly.specs.Pool.{AreSameBut, Begins, GoesOn, Has, HaveFirstHeaders};
+ghost use Rattle.packet_reassembly.specs.Pool.{IsAdded, IsExpired, IsFree, IsPlaced, IsState};
+ghost use Rattle.packet_reassembly.specs.Pool.{OthersStay, slot_at};
 ghost use Rattle.packet_reassembly.specs.Fragment.{IsRight, Takes, fragment};
+ghost use Rattle.packet_reassembly.specs.Headers.{HasHeaders};
 ghost use Rattle.packet_reassembly.specs.Refusal.{Refuses};
 
 use crate::ip_defrag_buf::{IpDefragBuf, range_of};
 use crate::ip_defrag_error::IpDefragError;
+use crate::ip_defrag_headers::IpDefragHeaders;
 use crate::ip_frag_id::IpFragId;
+use crate::ip_fragment_slice::IpFragmentSlice;
 use etherparse::IpFragOffset;
 
 /// The memory of one datagram, and which one has it.
@@ -20,6 +25,9 @@ pub struct IpDefragSlot<'a> {
     pub id: Option<IpFragId>,
     /// When the first fragment of that came, by the caller's clock.
     pub since: u64,
+    /// The headers of the first fragment of it that came by [`IpDefragPool::add_packet`] and is at
+    /// offset 0.
+    pub headers: IpDefragHeaders<'a>,
     /// What has come of it.
     pub buf: IpDefragBuf<'a>,
 }
@@ -54,11 +62,12 @@ pub struct Added {
 /// ```
 /// let mut bytes = [0; IpDefragBuf::MAX_LEN];
 /// let mut units = [0; IpDefragBuf::UNITS];
-/// let buf = IpDefragBuf::new(&mut bytes, &mut units);
+/// let mut headers = [0; IpDefragHeaders::MAX_LEN];
 /// let mut slots = [IpDefragSlot {
 ///     id: None,
 ///     since: 0,
-///     buf,
+///     headers: IpDefragHeaders::new(&mut headers),
+///     buf: IpDefragBuf::new(&mut bytes, &mut units),
 /// }];
 /// let mut pool = IpDefragPool {
 ///     slots: &mut slots,
@@ -91,6 +100,9 @@ impl<'a, 'b> IpDefragPool<'a, 'b> {
     /// else that of the oldest. A datagram that is older than the timeout is given up when a
     /// fragment with its id comes. The other slots do not change.
     ///
+    /// No headers are kept: if the fragment at offset 0 comes this way alone,
+    /// [`IpDefragPool::write_packet`] finds no packet.
+    ///
     /// # Errors
     ///
     /// Those of [`IpDefragBuf::add`]. Nothing changes.
@@ -104,7 +116,7 @@ impl<'a, 'b> IpDefragPool<'a, 'b> {
     ) -> Result<Added, IpDefragError>
         requires some { 0 < length self.old.slots.now }
         ensures added { IfOk result (λ added. IsAdded self.old.slots.now id self.old.timeout now
-            (fragment offset more_fragments payload.now) added self.new.slots.now) }
+            (fragment offset more_fragments payload.now) None added self.new.slots.now) }
         ensures others { IfOk result (λ added.
             OthersStay self.old.slots.now id added.given_up self.new.slots.now) }
         ensures right { OnOk result (IsRight (fragment offset more_fragments payload.now)) }
@@ -114,20 +126,42 @@ impl<'a, 'b> IpDefragPool<'a, 'b> {
     {
         let timeout = self.timeout;
         let slots = &mut *self.slots;
-        add_to(slots, id, timeout, now, offset, more_fragments, payload)
+        let first = None;
+        add_to(
+            slots,
+            id,
+            timeout,
+            now,
+            offset,
+            more_fragments,
+            payload,
+            first,
+        )
     }
 
-    /// Takes the slot at an index from its datagram.
+    /// Takes the slot at an index from its datagram. What has come of that stays until another one
+    /// takes the slot.
     pub fn release(&mut self, slot: usize)
         requires within { slot < length self.old.slots.now }
         ensures others { AreSameBut slot self.old.slots.now self.new.slots.now }
         ensures free { (slot_at self.new.slots.now slot).id ≡ None }
+        ensures headers { HaveFirstHeaders self.old.slots.now →
+            HaveFirstHeaders self.new.slots.now }
         ensures timeout { self.new.timeout ≡ self.old.timeout }
     {
         let slots = &mut *self.slots;
-        let slot = &mut slots[slot];
-        slot.id = None;
+        release_at(slots, slot);
     }
+}
+
+// Takes the slot at an index from its datagram.
+fn release_at(slots: &mut [IpDefragSlot], k: usize)
+    requires within { k < length slots.old }
+    ensures others { AreSameBut k slots.old slots.new }
+    ensures free { (slot_at slots.new k).id ≡ None }
+{
+    let slot = &mut slots[k];
+    slot.id = None;
 }
 
 // Whether the datagram with this id has the slot.
@@ -175,12 +209,14 @@ fn free(slots: &[IpDefragSlot]) -> usize
 fn take(slot: &mut IpDefragSlot, id: IpFragId, now: u64) -> Option<IpFragId>
     ensures id { slot.new.id ≡ Some id }
     ensures since { slot.new.since ≡ now }
+    ensures headers { slot.new.headers ≡ None }
     ensures empty { slot.new.buf ≡ Some [] }
     ensures given_up { result ≡ slot.old.id }
 {
     let given_up = slot.id;
     slot.id = Some(id);
     slot.since = now;
+    slot.headers.clear();
     slot.buf.clear();
     given_up
 }
@@ -211,6 +247,7 @@ fn take_at(slots: &mut [IpDefragSlot], k: usize, id: IpFragId, now: u64) -> Opti
     ensures others { AreSameBut k slots.old slots.new }
     ensures id { (slot_at slots.new k).id ≡ Some id }
     ensures since { (slot_at slots.new k).since ≡ now }
+    ensures headers { (slot_at slots.new k).headers ≡ None }
     ensures empty { (slot_at slots.new k).buf ≡ Some [] }
     ensures given_up { result ≡ (slot_at slots.old k).id }
 {
@@ -238,32 +275,40 @@ fn place(
     (k, take_at(slots, k, id, now))
 }
 
-// Adds a fragment that a datagram can have to the datagram in the slot at an index.
+// Adds a fragment that a datagram can have to the datagram in the slot at an index, and keeps the
+// headers that the first one brings.
 fn add_at(
     slots: &mut [IpDefragSlot],
     k: usize,
     offset: IpFragOffset,
     more_fragments: bool,
     payload: &[u8],
+    first: Option<&IpFragmentSlice>,
 ) -> DatagramState
     requires within { k < length slots.old }
     requires right { IsRight (fragment offset more_fragments payload.now) }
+    requires first { IfSome first (λ f. HasHeaders f.now) }
     ensures others { AreSameBut k slots.old slots.new }
     ensures id { (slot_at slots.new k).id ≡ (slot_at slots.old k).id }
     ensures since { (slot_at slots.new k).since ≡ (slot_at slots.old k).since }
+    ensures headers { (slot_at slots.new k).headers
+        ≡ option_or (slot_at slots.old k).headers (option_map (λ f. f.now.headers.now) first.entry) }
     ensures takes { Takes (slot_at slots.old k).buf (fragment offset more_fragments payload.now)
         (slot_at slots.new k).buf }
     ensures state { IsState (slot_at slots.new k).buf result }
 {
     let slot = &mut slots[k];
+    if let Some(fragment) = first {
+        slot.headers.keep(fragment);
+    }
     match slot.buf.add(offset, more_fragments, payload) {
         Ok(()) => state_of(&slot.buf),
         Err(_) => unreachable!(), // A datagram can have it.
     }
 }
 
-// Adds a fragment to its datagram.
-fn add_to(
+/// Adds a fragment to its datagram, and the headers that the first one brings.
+pub(crate) fn add_to(
     slots: &mut [IpDefragSlot],
     id: IpFragId,
     timeout: u64,
@@ -271,10 +316,14 @@ fn add_to(
     offset: IpFragOffset,
     more_fragments: bool,
     payload: &[u8],
+    first: Option<&IpFragmentSlice>,
 ) -> Result<Added, IpDefragError>
     requires some { 0 < length slots.old }
+    requires first { IfSome first (λ f. HasHeaders f.now) }
     ensures added { IfOk result (λ added. IsAdded slots.old id timeout now
-        (fragment offset more_fragments payload.now) added slots.new) }
+        (fragment offset more_fragments payload.now) (option_map (λ f. f.now.headers.now) first.entry) added
+        slots.new) }
+    ensures others { IfOk result (λ added. OthersStay slots.old id added.given_up slots.new) }
     ensures right { OnOk result (IsRight (fragment offset more_fragments payload.now)) }
     ensures refused { IfErr result (Refuses (fragment offset more_fragments payload.now)) }
     ensures unchanged { OnErr result (slots.new ≡ slots.old) }
@@ -283,7 +332,7 @@ fn add_to(
         return Err(e);
     }
     let (slot, given_up) = place(slots, id, timeout, now);
-    let state = add_at(slots, slot, offset, more_fragments, payload);
+    let state = add_at(slots, slot, offset, more_fragments, payload, first);
     Ok(Added {
         slot,
         state,

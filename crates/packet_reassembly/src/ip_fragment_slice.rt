@@ -27,6 +27,12 @@ pub struct IpFragmentSlice<'a> {
     /// The number of what was fragmented, as this fragment has it: the protocol of IPv4; of IPv6 the
     /// next header in its fragment header, which counts in the fragment at offset 0 alone.
     pub next_header: IpNumber,
+    /// The bytes of the packet before these: the IPv4 header with its options; or the IPv6 header,
+    /// its extension headers before the fragment header, and that one.
+    pub headers: &'a [u8],
+    /// Of IPv6 the place in `headers` of the last extension header before the fragment header, or of
+    /// the fragment header if there is none. Of IPv4 their length.
+    pub last_extension: usize,
     /// Its bytes.
     pub payload: &'a [u8],
 }
@@ -50,6 +56,7 @@ pub struct IpFragmentSlice<'a> {
 /// if let Some(fragment) = ip_fragment(&packet)? {
 ///     assert!(rt; fragment.offset.value() == 1 && fragment.more_fragments);
 ///     assert!(rt; fragment.payload == [1, 2, 3, 4, 5, 6, 7, 8].as_slice());
+///     assert!(rt; fragment.headers == &packet[..20]);
 /// }
 /// // A whole packet.
 /// [packet[6], packet[7]] = [0, 0];
@@ -68,7 +75,7 @@ pub fn ip_fragment(packet: &[u8]) -> Result<Option<IpFragmentSlice>, IpSliceErro
         IpHeaderSlice::Ipv4(view) => Ok(ipv4_fragment(view, slice.payload)),
         IpHeaderSlice::Ipv6(view) => {
             let len = Ipv6Header::LEN + usize::from(view.payload_length());
-            ipv6_fragment(view, &packet[Ipv6Header::LEN..len])
+            ipv6_fragment(view, &packet[..len], &packet[Ipv6Header::LEN..len])
         }
     }
 }
@@ -85,6 +92,7 @@ fn ipv4_fragment<'a>(view: Ipv4HeaderSlice<'a>, payload: &'a [u8]) -> Option<IpF
     if !view.is_fragmenting_payload() {
         return None;
     }
+    let headers = view.slice();
     Some(IpFragmentSlice {
         ip: IpFragVersionSpecId::Ipv4 {
             source: view.source(),
@@ -95,19 +103,23 @@ fn ipv4_fragment<'a>(view: Ipv4HeaderSlice<'a>, payload: &'a [u8]) -> Option<IpF
         offset: view.fragments_offset(),
         more_fragments: view.more_fragments(),
         next_header: view.protocol(),
+        headers,
+        last_extension: headers.len(),
         payload,
     })
 }
 
-// The fragment with this header and what follows it.
+// The fragment with this header and what follows it, of the packet that is both.
 fn ipv6_fragment<'a>(
     view: Ipv6HeaderSlice<'a>,
+    whole: &'a [u8],
     body: &'a [u8],
 ) -> Result<Option<IpFragmentSlice<'a>>, IpSliceError>
     requires within { length body.now ≤ 65535 }
+    requires whole { length body.now ≤ length whole.now }
     ensures found { (packet : List ℕ) → (header : Header6) →
         (begins : BeginsWith IsIpv6Layout (ipv6_bytes header packet) header body.now) →
-        begins.front ≡ view.entry.slice.now →
+        begins.front ≡ view.entry.slice.now → ipv6_bytes header packet ≡ whole.now →
         IfOk result (λ found. IfSome found (HasIpFragment packet)) }
     ensures none { (packet : List ℕ) → (header : Header6) →
         (begins : BeginsWith IsIpv6Layout (ipv6_bytes header packet) header body.now) →
@@ -132,6 +144,8 @@ fn ipv6_fragment<'a>(
         offset: parts.fragment.fragment_offset,
         more_fragments: parts.fragment.more_fragments,
         next_header: parts.fragment.next_header,
+        headers: &whole[..whole.len() - parts.payload.len()],
+        last_extension: Ipv6Header::LEN + parts.before.len(),
         payload: parts.payload,
     }))
 }

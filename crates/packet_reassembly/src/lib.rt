@@ -5,6 +5,7 @@
 pub mod header_chain;
 pub mod ip_defrag_buf;
 pub mod ip_defrag_error;
+pub mod ip_defrag_headers;
 pub mod ip_defrag_packet;
 pub mod ip_defrag_pool;
 pub mod ip_frag_id;

@@ -100,8 +100,8 @@ pub fn write_ipv6_packet(
     Ok(put(payload, out, at))
 }
 
-// Writes a part after the others. Returns the place after it.
-fn put(part: &[u8], out: &mut [u8], at: usize) -> usize
+/// Writes a part after the others. Returns the place after it.
+pub(crate) fn put(part: &[u8], out: &mut [u8], at: usize) -> usize
     requires room { at + length part.now ≤ length out.old }
     ensures joined { take result out.new ≡ take at out.old ++ part.now }
     ensures end { result ≡ at + length part.now }

@@ -3,6 +3,7 @@ pub mod Datagram
 pub mod Filter
 pub mod Forward
 pub mod Gre
+pub mod Monitor
 pub mod Options
 pub mod Payload
 pub mod Queue

@@ -30,7 +30,7 @@ unfolding begins_in
 returns-in-Ipv6-clause-found c =
     let p : HasIpv6Parts c.args.packet.now c.in-Ipv6.view.slice.now c.in-Ok.slice = subst (λ (h : IpHeaderSlice). HasPartsWith h c.args.packet.now c.in-Ok.slice) c.in-Ipv6.is c.in-Ok.ensures.found.parts in
     let len : 40 + c.from-len.result ≡ 40 + p.header.payload_length = ap (λ (n : ℕ). 40 + n) (c.from-len.ensures ∙ c.payload_length.ensures.value p.header (subst (IsIpv6Layout p.header) p.view p.begins.layout)) in
-    c.ipv6_fragment.ensures.found c.args.packet.now p.header (begins_in c.args.packet.now c.in-Ipv6.view.slice.now c.in-Ok.slice (40 + c.from-len.result) p len) p.view
+    c.ipv6_fragment.ensures.found c.args.packet.now p.header (begins_in c.args.packet.now c.in-Ipv6.view.slice.now c.in-Ok.slice (40 + c.from-len.result) p len) p.view (ap (λ (n : ℕ). take n c.args.packet.now) (sym len))
 
 pub returns-in-Ipv6-clause-none : goal.returns-in-Ipv6-clause-none
 unfolding begins_in

@@ -1,4 +1,4 @@
-use Rattle.std.proofs.Common.{◌∙◌, inl, subst}
+use Rattle.std.proofs.Common.{◌∙◌, inl, refl, subst, sym}
 use Rattle.etherparse.specs.Ipv4Header.{IsIpv4Layout}
 use Rattle.packet_reassembly.proofs.ip_fragment_slice.ipv4_fragment.Goals as goal
 
@@ -22,4 +22,6 @@ returns-clause-found c = λ packet header begins front.
       offset = c.fragments_offset.ensures.value header is_layout;
       more = c.more_fragments.ensures.value header is_layout;
       next = c.protocol-2.ensures.value header is_layout;
+      headers = c.slice-headers.ensures.value ∙ sym front;
+      last_extension = refl;
     })

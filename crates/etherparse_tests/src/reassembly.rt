@@ -1,0 +1,128 @@
+//! Whole packets from a pool, beside those that scapy 2.5.0 cut into fragments.
+
+use packet_reassembly::ip_defrag_buf::IpDefragBuf;
+use packet_reassembly::ip_defrag_headers::IpDefragHeaders;
+use packet_reassembly::ip_defrag_packet::IpDefragPacketError;
+use packet_reassembly::ip_defrag_pool::{IpDefragPool, IpDefragSlot};
+use std::process::Abort;
+
+// A packet of UDP over IPv4 with a router alert option, and its two fragments.
+const IPV4_PACKET: [u8; 65] = [
+    0x46, 0x28, 0, 0x41, 0x1c, 0x46, 0, 0, 0x3d, 0x11, 0xdf, 0xfd, 0xc0, 0, 2, 1, 0xc6, 0x33, 0x64,
+    7, 0x94, 4, 0, 0, 0x12, 0x34, 0, 0x35, 0, 0x29, 0xbc, 0xf2, 0x30, 0x31, 0x32, 0x33, 0x34, 0x35,
+    0x36, 0x37, 0x38, 0x39, 0x3a, 0x3b, 0x3c, 0x3d, 0x3e, 0x3f, 0x40, 0x41, 0x42, 0x43, 0x44, 0x45,
+    0x46, 0x47, 0x48, 0x49, 0x4a, 0x4b, 0x4c, 0x4d, 0x4e, 0x4f, 0x50,
+];
+
+const IPV4_FIRST: [u8; 48] = [
+    0x46, 0x28, 0, 0x30, 0x1c, 0x46, 0x20, 0, 0x3d, 0x11, 0xc0, 0x0e, 0xc0, 0, 2, 1, 0xc6, 0x33,
+    0x64, 7, 0x94, 4, 0, 0, 0x12, 0x34, 0, 0x35, 0, 0x29, 0xbc, 0xf2, 0x30, 0x31, 0x32, 0x33, 0x34,
+    0x35, 0x36, 0x37, 0x38, 0x39, 0x3a, 0x3b, 0x3c, 0x3d, 0x3e, 0x3f,
+];
+
+const IPV4_LAST: [u8; 41] = [
+    0x46, 0x28, 0, 0x29, 0x1c, 0x46, 0, 3, 0x3d, 0x11, 0xe0, 0x12, 0xc0, 0, 2, 1, 0xc6, 0x33, 0x64,
+    7, 0x94, 4, 0, 0, 0x40, 0x41, 0x42, 0x43, 0x44, 0x45, 0x46, 0x47, 0x48, 0x49, 0x4a, 0x4b, 0x4c,
+    0x4d, 0x4e, 0x4f, 0x50,
+];
+
+// A packet of UDP over IPv6 with hop-by-hop options of 8 bytes and destination options of 16, and its
+// two fragments.
+const IPV6_PACKET: [u8; 105] = [
+    0x62, 1, 0x23, 0x45, 0, 0x41, 0, 0x3f, 0x20, 1, 0x0d, 0xb8, 0, 0, 0, 0, 0, 0, 0, 0, 0, 0, 0, 1,
+    0x20, 1, 0x0d, 0xb8, 0, 0, 0, 0, 0, 0, 0, 0, 0, 0, 0, 2, 0x3c, 0, 1, 4, 0, 0, 0, 0, 0x11, 1, 1,
+    0x0c, 0, 0, 0, 0, 0, 0, 0, 0, 0, 0, 0, 0, 0x12, 0x34, 0, 0x35, 0, 0x29, 0x4d, 0xba, 0x30, 0x31,
+    0x32, 0x33, 0x34, 0x35, 0x36, 0x37, 0x38, 0x39, 0x3a, 0x3b, 0x3c, 0x3d, 0x3e, 0x3f, 0x40, 0x41,
+    0x42, 0x43, 0x44, 0x45, 0x46, 0x47, 0x48, 0x49, 0x4a, 0x4b, 0x4c, 0x4d, 0x4e, 0x4f, 0x50,
+];
+
+const IPV6_FIRST: [u8; 96] = [
+    0x62, 1, 0x23, 0x45, 0, 0x38, 0, 0x3f, 0x20, 1, 0x0d, 0xb8, 0, 0, 0, 0, 0, 0, 0, 0, 0, 0, 0, 1,
+    0x20, 1, 0x0d, 0xb8, 0, 0, 0, 0, 0, 0, 0, 0, 0, 0, 0, 2, 0x3c, 0, 1, 4, 0, 0, 0, 0, 0x2c, 1, 1,
+    0x0c, 0, 0, 0, 0, 0, 0, 0, 0, 0, 0, 0, 0, 0x11, 0, 0, 1, 0xde, 0xad, 0xbe, 0xef, 0x12, 0x34, 0,
+    0x35, 0, 0x29, 0x4d, 0xba, 0x30, 0x31, 0x32, 0x33, 0x34, 0x35, 0x36, 0x37, 0x38, 0x39, 0x3a,
+    0x3b, 0x3c, 0x3d, 0x3e, 0x3f,
+];
+
+const IPV6_LAST: [u8; 89] = [
+    0x62, 1, 0x23, 0x45, 0, 0x31, 0, 0x3f, 0x20, 1, 0x0d, 0xb8, 0, 0, 0, 0, 0, 0, 0, 0, 0, 0, 0, 1,
+    0x20, 1, 0x0d, 0xb8, 0, 0, 0, 0, 0, 0, 0, 0, 0, 0, 0, 2, 0x3c, 0, 1, 4, 0, 0, 0, 0, 0x2c, 1, 1,
+    0x0c, 0, 0, 0, 0, 0, 0, 0, 0, 0, 0, 0, 0, 0x11, 0, 0, 0x18, 0xde, 0xad, 0xbe, 0xef, 0x40, 0x41,
+    0x42, 0x43, 0x44, 0x45, 0x46, 0x47, 0x48, 0x49, 0x4a, 0x4b, 0x4c, 0x4d, 0x4e, 0x4f, 0x50,
+];
+
+// How long the packet is that these make, one after another; 0 if it is none. It is in `out`.
+fn put_together(packets: &[&[u8]], out: &mut [u8; 65575]) -> Result<usize, IpDefragPacketError> {
+    let mut bytes = [0; IpDefragBuf::MAX_LEN];
+    let mut units = [0; IpDefragBuf::UNITS];
+    let mut headers = [0; IpDefragHeaders::MAX_LEN];
+    let mut slots = [IpDefragSlot {
+        id: None,
+        since: 0,
+        headers: IpDefragHeaders::new(&mut headers),
+        buf: IpDefragBuf::new(&mut bytes, &mut units),
+    }];
+    let mut pool = IpDefragPool {
+        slots: &mut slots,
+        timeout: IpDefragPool::TIMEOUT_SECONDS,
+    };
+    for packet in packets {
+        if let Err(e) = pool.add_packet(packet, None, None, 0) {
+            return Err(e);
+        }
+    }
+    match pool.write_packet(0, out) {
+        Ok(Some(len)) => Ok(len),
+        _ => Ok(0),
+    }
+}
+
+// The packet that they make.
+fn assert_packet(rt: &impl Abort, packets: &[&[u8]], packet: &[u8]) {
+    let mut out = [0; 65575];
+    match put_together(packets, &mut out) {
+        Ok(len) if len <= out.len() => assert_eq!(rt; &out[..len], packet),
+        _ => assert!(rt; false),
+    }
+}
+
+#[test]
+fn the_headers_of_the_copy_that_comes_first_count(rt: HostRuntime) {
+    // A copy with another time to live, and with that a checksum that is wrong.
+    let mut copy = IPV4_FIRST;
+    copy[8] = 7;
+    assert_packet(&rt, &[&IPV4_LAST, &IPV4_FIRST, &copy], &IPV4_PACKET);
+    assert_packet(&rt, &[&IPV4_FIRST, &copy, &IPV4_LAST], &IPV4_PACKET);
+    assert_packet(&rt, &[&IPV4_FIRST, &copy], &[]);
+}
+
+#[test]
+fn the_next_header_of_the_first_fragment_counts(rt: HostRuntime) {
+    // The last fragment names no next header (59).
+    let mut last = IPV6_LAST;
+    last[64] = 59;
+    assert_packet(&rt, &[&last, &IPV6_FIRST], &IPV6_PACKET);
+    assert_packet(&rt, &[&IPV6_FIRST, &last], &IPV6_PACKET);
+}
+
+#[test]
+fn headers_of_1280_bytes_are_kept_and_longer_ones_refused(rt: HostRuntime) {
+    // A fragment at offset 0 with destination options of 1232 bytes and a payload of 8.
+    let mut out = [0; 65575];
+    let mut packet = [0; 1296];
+    (packet[0], packet[4], packet[5], packet[6]) = (0x60, 0x04, 0xe0, 60);
+    (packet[40], packet[41]) = (44, 153);
+    (packet[1272], packet[1275]) = (17, 1);
+    match put_together(&[&packet], &mut out) {
+        Ok(0) => {}
+        _ => assert!(rt; false),
+    }
+    // 8 bytes of options more.
+    (packet[5], packet[41]) = (0xe8, 154);
+    (packet[1272], packet[1275]) = (0, 0);
+    (packet[1280], packet[1283]) = (17, 1);
+    match put_together(&[&packet], &mut out) {
+        Err(IpDefragPacketError::HeadersTooLong { len: 1288 }) => {}
+        _ => assert!(rt; false),
+    }
+}
