@@ -51,8 +51,13 @@ const IPV6_LAST: [u8; 89] = [
     0x42, 0x43, 0x44, 0x45, 0x46, 0x47, 0x48, 0x49, 0x4a, 0x4b, 0x4c, 0x4d, 0x4e, 0x4f, 0x50,
 ];
 
-// How long the packet is that these make, one after another; 0 if it is none. It is in `out`.
-fn put_together(packets: &[&[u8]], out: &mut [u8; 65575]) -> Result<usize, IpDefragPacketError> {
+// How long the packet is that these make, one after another, as `out` has it then; 0 if it is none.
+fn put_together(
+    first: &[u8],
+    second: &[u8],
+    third: &[u8],
+    out: &mut [u8; 65575],
+) -> Result<usize, IpDefragPacketError> {
     let mut bytes = [0; IpDefragBuf::MAX_LEN];
     let mut units = [0; IpDefragBuf::UNITS];
     let mut headers = [0; IpDefragHeaders::MAX_LEN];
@@ -66,11 +71,9 @@ fn put_together(packets: &[&[u8]], out: &mut [u8; 65575]) -> Result<usize, IpDef
         slots: &mut slots,
         timeout: IpDefragPool::TIMEOUT_SECONDS,
     };
-    for packet in packets {
-        if let Err(e) = pool.add_packet(packet, None, None, 0) {
-            return Err(e);
-        }
-    }
+    pool.add_packet(first, None, None, 0)?;
+    pool.add_packet(second, None, None, 0)?;
+    pool.add_packet(third, None, None, 0)?;
     match pool.write_packet(0, out) {
         Ok(Some(len)) => Ok(len),
         _ => Ok(0),
@@ -78,9 +81,9 @@ fn put_together(packets: &[&[u8]], out: &mut [u8; 65575]) -> Result<usize, IpDef
 }
 
 // The packet that they make.
-fn assert_packet(rt: &impl Abort, packets: &[&[u8]], packet: &[u8]) {
+fn assert_packet(rt: &impl Abort, first: &[u8], second: &[u8], third: &[u8], packet: &[u8]) {
     let mut out = [0; 65575];
-    match put_together(packets, &mut out) {
+    match put_together(first, second, third, &mut out) {
         Ok(len) if len <= out.len() => assert_eq!(rt; &out[..len], packet),
         _ => assert!(rt; false),
     }
@@ -91,9 +94,9 @@ fn the_headers_of_the_copy_that_comes_first_count(rt: HostRuntime) {
     // A copy with another time to live, and with that a checksum that is wrong.
     let mut copy = IPV4_FIRST;
     copy[8] = 7;
-    assert_packet(&rt, &[&IPV4_LAST, &IPV4_FIRST, &copy], &IPV4_PACKET);
-    assert_packet(&rt, &[&IPV4_FIRST, &copy, &IPV4_LAST], &IPV4_PACKET);
-    assert_packet(&rt, &[&IPV4_FIRST, &copy], &[]);
+    assert_packet(&rt, &IPV4_LAST, &IPV4_FIRST, &copy, &IPV4_PACKET);
+    assert_packet(&rt, &IPV4_FIRST, &copy, &IPV4_LAST, &IPV4_PACKET);
+    assert_packet(&rt, &IPV4_FIRST, &copy, &copy, &[]);
 }
 
 #[test]
@@ -101,8 +104,8 @@ fn the_next_header_of_the_first_fragment_counts(rt: HostRuntime) {
     // The last fragment names no next header (59).
     let mut last = IPV6_LAST;
     last[64] = 59;
-    assert_packet(&rt, &[&last, &IPV6_FIRST], &IPV6_PACKET);
-    assert_packet(&rt, &[&IPV6_FIRST, &last], &IPV6_PACKET);
+    assert_packet(&rt, &last, &last, &IPV6_FIRST, &IPV6_PACKET);
+    assert_packet(&rt, &IPV6_FIRST, &last, &last, &IPV6_PACKET);
 }
 
 #[test]
@@ -113,7 +116,7 @@ fn headers_of_1280_bytes_are_kept_and_longer_ones_refused(rt: HostRuntime) {
     (packet[0], packet[4], packet[5], packet[6]) = (0x60, 0x04, 0xe0, 60);
     (packet[40], packet[41]) = (44, 153);
     (packet[1272], packet[1275]) = (17, 1);
-    match put_together(&[&packet], &mut out) {
+    match put_together(&packet, &packet, &packet, &mut out) {
         Ok(0) => {}
         _ => assert!(rt; false),
     }
@@ -121,7 +124,7 @@ fn headers_of_1280_bytes_are_kept_and_longer_ones_refused(rt: HostRuntime) {
     (packet[5], packet[41]) = (0xe8, 154);
     (packet[1272], packet[1275]) = (0, 0);
     (packet[1280], packet[1283]) = (17, 1);
-    match put_together(&[&packet], &mut out) {
+    match put_together(&packet, &packet, &packet, &mut out) {
         Err(IpDefragPacketError::HeadersTooLong { len: 1288 }) => {}
         _ => assert!(rt; false),
     }

@@ -20,7 +20,7 @@ use std::marker::Model;
 
 // Which headers the memory holds.
 #[derive(Clone, Copy)]
-pub enum Kept {
+enum Kept {
     // None.
     Nothing,
     // An IPv4 header of so many bytes.

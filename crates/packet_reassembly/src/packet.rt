@@ -1,7 +1,8 @@
 //! The packet that fragments were cut from (RFC 791 section 3.2, RFC 8200 section 4.5).
 
-ghost use Rattle.std.specs.Prelude.{◌≡◌, ◌+◌, ◌++◌, ◌≤◌, ◌↔◌, IfOk, IsOk, OnErr, length, take};
+ghost use Rattle.std.specs.Prelude.{◌≡◌, ◌+◌, ◌++◌, ◌≤◌, ◌↔◌, IfErr, IfOk, IsOk, OnErr, length, take};
 ghost use Rattle.etherparse.specs.Ipv4Header.{ipv4_max_payload_len};
+ghost use Rattle.etherparse.specs.declared.err.ValueType.TheVariants as ValueType;
 ghost use Rattle.packet_reassembly.specs.Packet.{AreUnfragmentable, IsIpv4Packet, IsIpv6Packet};
 
 use etherparse::err::ValueTooBigError;
@@ -36,6 +37,11 @@ pub fn write_ipv4_packet(
     requires room { 65535 ≤ length out.old }
     ensures accepted { IsOk result ↔ (length payload.now ≤ ipv4_max_payload_len first) }
     ensures packet { IfOk result (λ len. IsIpv4Packet first payload.now (take len out.new)) }
+    ensures refused { IfErr result (λ e. e ≡ record {
+      actual = length payload.now;
+      max_allowed = ipv4_max_payload_len first;
+      value_type = ValueType.Ipv4PayloadLength;
+    }) }
     ensures unchanged { OnErr result (out.new ≡ out.old) }
 {
     let mut header = first;
@@ -85,6 +91,11 @@ pub fn write_ipv6_packet(
         ↔ (length before.now + length last.now + length payload.now ≤ 65535) }
     ensures packet { IfOk result (λ len. IsIpv6Packet first before.now last.now next_header
         payload.now (take len out.new)) }
+    ensures refused { IfErr result (λ e. e ≡ record {
+      actual = length before.now + length last.now + length payload.now;
+      max_allowed = 65535;
+      value_type = ValueType.Ipv6PayloadLength;
+    }) }
     ensures unchanged { OnErr result (out.new ≡ out.old) }
 {
     let mut header = first;
