@@ -1,10 +1,11 @@
 #!/usr/bin/env bash
 # callers.sh [--after-ci]: builds the library and its callers in C, C++ and Rust, and runs them:
-# worked values through the header file, the header file in each dialect of each compiler, the
-# examples, whose output has to be examples/inspect.txt, what a call stores at which offset, each
-# way to link, and the tests of the safe Rust crate over it. With --after-ci it takes the libraries
-# below as `rt ci` has just proved them, and proves this crate alone. It names each compiler that is
-# missing and leaves it out. The last line is 'N passed, M failed, K left out'.
+# the commands of the page in a fresh folder, worked values through the header file, the header file
+# in each dialect of each compiler, the examples, whose output has to be examples/inspect.txt, what a
+# call stores at which offset, each way to link, and the tests of the safe Rust crate over it. With
+# --after-ci it takes the libraries below as `rt ci` has just proved them, and proves this crate
+# alone. It names each compiler that is missing and leaves it out. The last line is 'N passed, M
+# failed, K left out'.
 set -euo pipefail
 here=$(cd "$(dirname "$0")" && pwd)
 out=$here/out/callers
@@ -80,6 +81,12 @@ if has nm; then
   try "the library wants nothing of the C library" wants_nothing
 else
   leave_out "what the library wants: nm is not there"
+fi
+
+if has make && has pkg-config && has gcc; then
+  try "the commands of the page" "$here/install.sh"
+else
+  leave_out "the commands of the page: make, pkg-config or gcc is not there"
 fi
 
 strict=(-O2 -Wall -Wextra -Wpedantic -Wconversion -Wshadow -Werror -I "$here/include")
