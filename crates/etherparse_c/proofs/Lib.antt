@@ -1,2 +1,3 @@
+mod Within
 mod Answered
 mod Fields

@@ -6,12 +6,14 @@
 
 pub mod answer;
 pub mod checksum;
+pub mod frame;
 pub mod ipv4_header;
 pub mod ipv4_view;
 pub mod ipv6_header;
 pub mod ipv6_view;
 pub mod ipv6_walk;
 mod laws;
+pub mod packet_layers;
 mod room;
 pub mod text;
 

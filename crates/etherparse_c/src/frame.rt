@@ -1,0 +1,117 @@
+//! A frame in its layers in one call.
+
+ghost use Rattle.std.specs.Prelude.{◌≡◌, Some, length};
+ghost use Rattle.packet.specs.Link.{link_type_of};
+ghost use Rattle.packet.specs.SlicedPacket.{IsLaxReadingAfter, IsLaxReadingOf};
+ghost use Rattle.packet.specs.SlicedPacket.{IsReadingAfter, IsReadingOf};
+ghost use Rattle.etherparse_c.specs.Layers.{GetsAnswer, IsLaxInC, IsPacketInC, IsWholeInC};
+ghost use Rattle.etherparse_c.specs.Layers.{OfLinkType, refused_packet};
+
+use crate::answer::Error;
+use crate::packet_layers::{Packet, packet_of};
+use packet::ether_type::EtherType;
+use packet::lax_sliced_packet::LaxSlicedPacket;
+use packet::link::LinkType;
+use packet::sliced_packet::SlicedPacket;
+
+/// The layers of a frame, as far as they can be read. The link type is a number of the registry of
+/// tcpdump.org. If `checksums` is true, the checksums of the IP packet are judged.
+///
+/// If there are none, all else is 0, and the error is the first of these: the link type is none that
+/// is read; the frame ends within its link header.
+#[unsafe(no_mangle)]
+pub extern "C" fn etherparse_packet_lax_from_link_type(
+    link_type: u32,
+    frame: &[u8],
+    checksums: bool,
+) -> Packet
+    ensures reads { OfLinkType (link_type_of link_type)
+        (λ known. GetsAnswer (IsLaxReadingOf known frame.now)
+        (IsLaxInC (length frame.now) checksums result)) link_type result }
+{
+    match LinkType::from_number(link_type) {
+        Some(link_type) => lax_of(link_type, frame, checksums),
+        None => refused(Error::of_link_type(link_type)),
+    }
+}
+
+/// The layers of a frame that is read whole. All else is 0 if it is not, and the error is what
+/// `etherparse_packet_lax_from_link_type` finds.
+#[unsafe(no_mangle)]
+pub extern "C" fn etherparse_packet_strict_from_link_type(
+    link_type: u32,
+    frame: &[u8],
+    checksums: bool,
+) -> Packet
+    ensures reads { OfLinkType (link_type_of link_type)
+        (λ known. GetsAnswer (IsReadingOf known frame.now)
+        (IsWholeInC (length frame.now) checksums result)) link_type result }
+{
+    match LinkType::from_number(link_type) {
+        Some(link_type) => match SlicedPacket::from_link_type(link_type, frame) {
+            Ok(packet) => {
+                let lax = LaxSlicedPacket { packet, stop: None };
+                packet_of(frame.len(), &lax, checksums)
+            }
+            Err(e) => refused(Error::of_slice_error(&e)),
+        },
+        None => refused(Error::of_link_type(link_type)),
+    }
+}
+
+/// The layers of bytes that an EtherType names: a VLAN tag and what it tags, an IP packet, or another
+/// protocol; as far as they can be read.
+#[unsafe(no_mangle)]
+pub extern "C" fn etherparse_packet_lax_from_ether_type(
+    ether_type: u16,
+    bytes: &[u8],
+    checksums: bool,
+) -> Packet
+    ensures reads { GetsAnswer (IsLaxReadingAfter (Some ether_type) bytes.now)
+        (λ lax. IsPacketInC (length bytes.now) checksums lax.packet lax.stop result) }
+{
+    let lax = LaxSlicedPacket::from_ether_type(EtherType(ether_type), bytes);
+    packet_of(bytes.len(), &lax, checksums)
+}
+
+/// The same of bytes that are read whole. All else is 0 if they are not.
+#[unsafe(no_mangle)]
+pub extern "C" fn etherparse_packet_strict_from_ether_type(
+    ether_type: u16,
+    bytes: &[u8],
+    checksums: bool,
+) -> Packet
+    ensures reads { GetsAnswer (IsReadingAfter (Some ether_type) bytes.now)
+        (IsWholeInC (length bytes.now) checksums result) }
+{
+    match SlicedPacket::from_ether_type(EtherType(ether_type), bytes) {
+        Ok(packet) => {
+            let lax = LaxSlicedPacket { packet, stop: None };
+            packet_of(bytes.len(), &lax, checksums)
+        }
+        Err(e) => refused(Error::of_slice_error(&e)),
+    }
+}
+
+// The layers of a frame of a link type that is read.
+#[inline(always)]
+fn lax_of(link_type: LinkType, frame: &[u8], checksums: bool) -> Packet
+    ensures reads { GetsAnswer (IsLaxReadingOf link_type frame.now)
+        (IsLaxInC (length frame.now) checksums result) }
+{
+    match LaxSlicedPacket::from_link_type(link_type, frame) {
+        Ok(lax) => packet_of(frame.len(), &lax, checksums),
+        Err(e) => refused(Error::of_link(&e)),
+    }
+}
+
+// No layers, but an error.
+#[inline(always)]
+fn refused(error: Error) -> Packet
+    ensures value { result ≡ refused_packet error }
+{
+    Packet {
+        stop: error,
+        ..Packet::default()
+    }
+}
