@@ -1,3 +1,4 @@
+mod Batch
 mod Within
 mod Answered
 mod Fields

@@ -4,7 +4,8 @@ use Rattle.std.specs.Prelude.{IsSomeAnd, List, MatchOption, length, nat_lt, slic
 use Rattle.std.specs.Prelude.{Option, Some, None, Result, Ok, Err}
 use Rattle.etherparse.specs.WordSums.{SumsToAllOnes}
 use Rattle.packet.specs.Bytes.{number_at}
-use Rattle.packet.specs.SlicedPacket.{IsVerdictOn}
+use Rattle.packet.specs.Link.{link_type_of}
+use Rattle.packet.specs.SlicedPacket.{IsLaxReadingOf, IsVerdictOn}
 use Rattle.packet.specs.Transport.{HasPorts}
 use Rattle.packet.specs.declared.error.SliceError.{SliceError}
 use Rattle.packet.specs.declared.lax_sliced_packet.LaxSlicedPacket.{LaxSlicedPacket}
@@ -320,3 +321,9 @@ pub record GetsAnswer {A : Type 0} (Allowed : A → Type 0) (InC : A → Type 0)
 abbrev pub OfLinkType : Option LinkType → (LinkType → Type 0) → ℕ → Packet → Type 0
 OfLinkType None Gets number in_c = in_c ≡ refused_packet (link_type_error number)
 OfLinkType (Some link_type) Gets number in_c = Gets link_type
+
+-- what C gets for a frame of the link type of this number, as far as it can be read
+abbrev pub GivesLax : ℕ → Bool → List ℕ → Packet → Type 0
+GivesLax link_type checksums frame in_c = OfLinkType (link_type_of link_type)
+    (λ known. GetsAnswer (IsLaxReadingOf known frame)
+    (IsLaxInC (length frame) checksums in_c)) link_type in_c

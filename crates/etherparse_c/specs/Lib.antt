@@ -1,4 +1,5 @@
 pub mod Answer
+pub mod Batch
 pub mod Error
 pub mod ErrorText
 pub mod Ipv4

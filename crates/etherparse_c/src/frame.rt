@@ -4,7 +4,8 @@ ghost use Rattle.std.specs.Prelude.{◌≡◌, Some, length};
 ghost use Rattle.packet.specs.Link.{link_type_of};
 ghost use Rattle.packet.specs.SlicedPacket.{IsLaxReadingAfter, IsLaxReadingOf};
 ghost use Rattle.packet.specs.SlicedPacket.{IsReadingAfter, IsReadingOf};
-ghost use Rattle.etherparse_c.specs.Layers.{GetsAnswer, IsLaxInC, IsPacketInC, IsWholeInC};
+ghost use Rattle.etherparse_c.specs.Batch.{AreAnswers};
+ghost use Rattle.etherparse_c.specs.Layers.{GetsAnswer, GivesLax, IsLaxInC, IsPacketInC, IsWholeInC};
 ghost use Rattle.etherparse_c.specs.Layers.{OfLinkType, refused_packet};
 
 use crate::answer::Error;
@@ -25,9 +26,7 @@ pub extern "C" fn etherparse_packet_lax_from_link_type(
     frame: &[u8],
     checksums: bool,
 ) -> Packet
-    ensures reads { OfLinkType (link_type_of link_type)
-        (λ known. GetsAnswer (IsLaxReadingOf known frame.now)
-        (IsLaxInC (length frame.now) checksums result)) link_type result }
+    ensures reads { GivesLax link_type checksums frame.now result }
 {
     match LinkType::from_number(link_type) {
         Some(link_type) => lax_of(link_type, frame, checksums),
@@ -91,6 +90,37 @@ pub extern "C" fn etherparse_packet_strict_from_ether_type(
         }
         Err(e) => refused(Error::of_slice_error(&e)),
     }
+}
+
+/// A frame of a list.
+#[repr(C)]
+#[derive(Clone, Copy)]
+pub struct Frame<'a> {
+    /// What there is of it.
+    pub bytes: &'a [u8],
+    /// How many bytes it had on the wire; a capture can have fewer.
+    pub original_len: usize,
+}
+
+/// The layers of each frame of a list, as `etherparse_packet_lax_from_link_type` has them, at the
+/// same place in a list of answers. It returns how many there are, which is the length of the
+/// shorter list; answers after them stay as they are.
+#[unsafe(no_mangle)]
+pub extern "C" fn etherparse_packet_lax_batch(
+    link_type: u32,
+    frames: &[Frame],
+    checksums: bool,
+    answers: &mut [Packet],
+) -> usize
+    ensures reads { AreAnswers (λ frame answer.
+        GivesLax link_type checksums frame.bytes.now answer)
+        frames.now answers.old answers.new result }
+{
+    let count = frames.len().min(answers.len());
+    for i in 0..count {
+        answers[i] = etherparse_packet_lax_from_link_type(link_type, frames[i].bytes, checksums);
+    }
+    count
 }
 
 // The layers of a frame of a link type that is read.
