@@ -6,6 +6,7 @@ set -euo pipefail
 here=$(cd "$(dirname "$0")" && pwd)
 fresh=$here/out/install
 rm -rf "$fresh"
+trap 'rm -rf "$fresh"' EXIT # `rt` takes no links in out/.
 mkdir -p "$fresh/bin" "$fresh/crates/etherparse_c/out"
 cp "$here"/../../crates.txt "$fresh"
 cp -r "$here"/{Makefile,README.md,exports.map,include} "$here"/*.pc.in "$fresh/crates/etherparse_c"

@@ -434,15 +434,20 @@ static void compare_packets(void)
         {"stop.layer_start_offset", 200, 8, 0}, {"stop.limit", 208, 8, 0}, {"header_checksum", 216, 1, 1},
         {"payload_checksum", 217, 1, 1},
     };
-    struct etherparse_packet tagged_packet = etherparse_packet_lax_from_link_type(1, TAGGED, sizeof TAGGED, true);
-    struct etherparse_packet truncated_packet = etherparse_packet_lax_from_link_type(276, TRUNCATED, sizeof TRUNCATED, true);
-    struct etherparse_packet later_packet = etherparse_packet_lax_from_link_type(0, LATER, sizeof LATER, true);
-    struct etherparse_packet message_packet = etherparse_packet_lax_from_link_type(113, MESSAGE, sizeof MESSAGE, true);
+    struct etherparse_packet tagged_packet;
+    etherparse_packet_lax_from_link_type(1, TAGGED, sizeof TAGGED, true, &tagged_packet);
+    struct etherparse_packet truncated_packet;
+    etherparse_packet_lax_from_link_type(276, TRUNCATED, sizeof TRUNCATED, true, &truncated_packet);
+    struct etherparse_packet later_packet;
+    etherparse_packet_lax_from_link_type(0, LATER, sizeof LATER, true, &later_packet);
+    struct etherparse_packet message_packet;
+    etherparse_packet_lax_from_link_type(113, MESSAGE, sizeof MESSAGE, true, &message_packet);
     COMPARE("packet_lax_from_link_type, two tags, options, UDP, padding", tagged_packet, tagged);
     COMPARE("packet_lax_from_link_type, first fragment over IPv6, truncated", truncated_packet, truncated);
     COMPARE("packet_lax_from_link_type, later fragment, loopback", later_packet, later);
     COMPARE("packet_lax_from_link_type, ICMP, one tag, Linux cooked capture", message_packet, message);
-    tagged_packet = etherparse_packet_strict_from_link_type(1, TAGGED, sizeof TAGGED, true);
+    memset(&tagged_packet, 7, sizeof tagged_packet);
+    etherparse_packet_strict_from_link_type(1, TAGGED, sizeof TAGGED, true, &tagged_packet);
     COMPARE("packet_strict_from_link_type", tagged_packet, tagged);
 
     /* Frames are written as bytes, too: a pointer and two lengths each. */

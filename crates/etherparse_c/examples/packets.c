@@ -105,11 +105,12 @@ int main(void)
     for (size_t i = 0; i < COUNT; i++) {
         uint32_t link_type = FRAMES[i].link_type;
         size_t len = bytes_of(FRAMES[i].digits, bytes[i]);
-        struct etherparse_packet lax = etherparse_packet_lax_from_link_type(link_type, bytes[i], len, true);
-        struct etherparse_packet strict = etherparse_packet_strict_from_link_type(link_type, bytes[i], len, true);
-        describe(&lax, text);
+        struct etherparse_packet packet;
+        etherparse_packet_lax_from_link_type(link_type, bytes[i], len, true, &packet);
+        describe(&packet, text);
         printf("%s, lax\n%s", FRAMES[i].name, text);
-        describe(&strict, text);
+        etherparse_packet_strict_from_link_type(link_type, bytes[i], len, true, &packet);
+        describe(&packet, text);
         printf("%s, strict\n%s", FRAMES[i].name, text);
         if (link_type == ETHERPARSE_LINKTYPE_ETHERNET) {
             frames[count].at = bytes[i];
@@ -124,8 +125,8 @@ int main(void)
     memset(answers, 7, sizeof answers);
     size_t done = etherparse_packet_lax_batch(ETHERPARSE_LINKTYPE_ETHERNET, frames, count, true, answers, count - 1);
     for (size_t i = 0; i < done; i++) {
-        struct etherparse_packet one =
-            etherparse_packet_lax_from_link_type(ETHERPARSE_LINKTYPE_ETHERNET, frames[i].at, frames[i].len, true);
+        struct etherparse_packet one;
+        etherparse_packet_lax_from_link_type(ETHERPARSE_LINKTYPE_ETHERNET, frames[i].at, frames[i].len, true, &one);
         describe(&answers[i], text);
         describe(&one, again);
         same += strcmp(text, again) == 0;
@@ -134,10 +135,11 @@ int main(void)
         answers[done].payload_checksum == 7);
 
     /* What an EtherType names, and without its last byte. */
-    struct etherparse_packet after = etherparse_packet_lax_from_ether_type(0x0800, bytes[0] + 22, 36, false);
+    struct etherparse_packet after;
+    etherparse_packet_lax_from_ether_type(0x0800, bytes[0] + 22, 36, false, &after);
     describe(&after, text);
     printf("after an EtherType, lax\n%s", text);
-    after = etherparse_packet_strict_from_ether_type(0x0800, bytes[0] + 22, 35, true);
+    etherparse_packet_strict_from_ether_type(0x0800, bytes[0] + 22, 35, true, &after);
     describe(&after, text);
     printf("after an EtherType, cut, strict\n%s", text);
     return 0;

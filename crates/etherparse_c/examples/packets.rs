@@ -100,13 +100,21 @@ fn bytes_of(digits: &str) -> Vec<u8> {
 }
 
 fn lax(link_type: u32, frame: &[u8]) -> Packet {
+    let mut packet = Packet::default();
     // SAFETY: the pointer is to as many bytes.
-    unsafe { etherparse_packet_lax_from_link_type(link_type, frame.as_ptr(), frame.len(), true) }
+    unsafe {
+        etherparse_packet_lax_from_link_type(link_type, frame.as_ptr(), frame.len(), true, &mut packet)
+    };
+    packet
 }
 
 fn strict(link_type: u32, frame: &[u8]) -> Packet {
+    let mut packet = Packet::default();
     // SAFETY: as above.
-    unsafe { etherparse_packet_strict_from_link_type(link_type, frame.as_ptr(), frame.len(), true) }
+    unsafe {
+        etherparse_packet_strict_from_link_type(link_type, frame.as_ptr(), frame.len(), true, &mut packet)
+    };
+    packet
 }
 
 fn text_of(error: &Error) -> String {
@@ -224,10 +232,11 @@ fn main() {
 
     // What an EtherType names, and without its last byte.
     let bytes = &frames[0].2[22..58];
+    let mut after = Packet::default();
     // SAFETY: as above.
-    let after = unsafe { etherparse_packet_lax_from_ether_type(0x0800, bytes.as_ptr(), 36, false) };
+    unsafe { etherparse_packet_lax_from_ether_type(0x0800, bytes.as_ptr(), 36, false, &mut after) };
     show("after an EtherType, lax", &after);
     // SAFETY: as above.
-    let cut = unsafe { etherparse_packet_strict_from_ether_type(0x0800, bytes.as_ptr(), 35, true) };
-    show("after an EtherType, cut, strict", &cut);
+    unsafe { etherparse_packet_strict_from_ether_type(0x0800, bytes.as_ptr(), 35, true, &mut after) };
+    show("after an EtherType, cut, strict", &after);
 }

@@ -425,7 +425,8 @@ struct etherparse_ipv6_walk_answer etherparse_ipv6_walk_up_to(const uint8_t *at,
  * One call takes a frame apart: link header, VLAN tags, IP packet with its extension headers, and
  * transport header. It copies none of it: each part is an offset from the start of the frame and a
  * length in bytes. The lax calls read as far as the frame goes and say why they stop; the strict
- * ones give nothing but the error if they have to stop. */
+ * ones give nothing but the error if they have to stop. A call writes all fields of the answer that
+ * it is given, which is not null and does not overlap the frame. */
 
 /* A part of a frame. Of a header that is not there both numbers are 0. */
 struct etherparse_part {
@@ -535,21 +536,21 @@ enum {
  * If stop.kind is LINK_TYPE, or LEN with the layer LINK_HEADER, there are no layers and all else
  * is 0. Otherwise what was read is there: if the frame ends within the IP packet, ip has its parts,
  * and transport the header if that is whole. */
-struct etherparse_packet etherparse_packet_lax_from_link_type(uint32_t link_type,
-    const uint8_t *at, size_t len, bool checksums);
+void etherparse_packet_lax_from_link_type(uint32_t link_type, const uint8_t *at, size_t len,
+    bool checksums, struct etherparse_packet *answer);
 
 /* The same of a frame that is read whole. If stop.kind is not ETHERPARSE_OK, all else is 0. The
  * error is the first of these: LINK_TYPE; of the link header; of a VLAN tag; of the IP packet; of
  * the transport header. */
-struct etherparse_packet etherparse_packet_strict_from_link_type(uint32_t link_type,
-    const uint8_t *at, size_t len, bool checksums);
+void etherparse_packet_strict_from_link_type(uint32_t link_type, const uint8_t *at, size_t len,
+    bool checksums, struct etherparse_packet *answer);
 
 /* The same of bytes that an EtherType names, in network byte order as a number: a VLAN tag and what
  * it tags, an IP packet (0x0800, 0x86dd), or another protocol. */
-struct etherparse_packet etherparse_packet_lax_from_ether_type(uint16_t ether_type,
-    const uint8_t *at, size_t len, bool checksums);
-struct etherparse_packet etherparse_packet_strict_from_ether_type(uint16_t ether_type,
-    const uint8_t *at, size_t len, bool checksums);
+void etherparse_packet_lax_from_ether_type(uint16_t ether_type, const uint8_t *at, size_t len,
+    bool checksums, struct etherparse_packet *answer);
+void etherparse_packet_strict_from_ether_type(uint16_t ether_type, const uint8_t *at, size_t len,
+    bool checksums, struct etherparse_packet *answer);
 
 /* A frame of a list. */
 struct etherparse_frame {

@@ -387,25 +387,29 @@ unsafe extern "C" {
         at: *const u8,
         len: usize,
         checksums: bool,
-    ) -> Packet;
+        answer: &mut Packet,
+    );
     pub fn etherparse_packet_strict_from_link_type(
         link_type: u32,
         at: *const u8,
         len: usize,
         checksums: bool,
-    ) -> Packet;
+        answer: &mut Packet,
+    );
     pub fn etherparse_packet_lax_from_ether_type(
         ether_type: u16,
         at: *const u8,
         len: usize,
         checksums: bool,
-    ) -> Packet;
+        answer: &mut Packet,
+    );
     pub fn etherparse_packet_strict_from_ether_type(
         ether_type: u16,
         at: *const u8,
         len: usize,
         checksums: bool,
-    ) -> Packet;
+        answer: &mut Packet,
+    );
     pub fn etherparse_packet_lax_batch(
         link_type: u32,
         frames: *const Frame,

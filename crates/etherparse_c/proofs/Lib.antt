@@ -1,3 +1,4 @@
+mod Whole
 mod Batch
 mod Within
 mod Answered

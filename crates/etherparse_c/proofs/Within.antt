@@ -1,29 +1,21 @@
 -- The parts of a frame are within it.
-use Rattle.std.proofs.Common.{ℕ, ◌+◌, ◌≤◌, IfSome, List, Option, Some, None, length, ap, arith, inl, inr, length-append, subst, sym}
+use Rattle.std.proofs.Common.{ℕ, ◌≤◌, IfSome, List, Option, Some, None, length, ap, arith, inl, inr, length-append, subst, sym}
+use Rattle.packet.proofs.Places.{header_within}
 use Rattle.packet.specs.Network.{HasNetwork}
 use Rattle.packet.specs.SlicedPacket.{HasLayers, HasLayersAfter, IsFrame}
 use Rattle.packet.specs.declared.error.SliceError.{SliceError}
 use Rattle.packet.specs.declared.link.LinkType.{LinkType}
 use Rattle.packet.specs.declared.sliced_packet.SlicedPacket.{SlicedPacket}
 use Rattle.packet.specs.declared.transport.TransportSlice.{TransportSlice}
-use Rattle.packet_parts.proofs.IpParts.{ipv4_front, ipv6_front}
-use Rattle.packet_parts.specs.IpSlice.{HasPartsWith, header_bytes, header_len_of}
-use Rattle.packet_parts.specs.declared.ip_slice.IpHeaderSlice.{IpHeaderSlice}
-use Rattle.packet_parts.specs.declared.ip_slice.IpHeaderSlice.TheVariants as header
+use Rattle.packet_parts.specs.IpSlice.{header_len_of}
 use Rattle.packet_parts.specs.declared.ip_slice.IpSlice.{IpSlice}
 use Rattle.etherparse_c.specs.Private.Within.{ArePartsWithin}
 
 -- the headers of an IP packet are in it
-headers : (packet : List ℕ) (slice : IpSlice) (h : IpHeaderSlice) → HasPartsWith h packet slice → length (header_bytes h) + length slice.extensions.now ≤ length packet
-headers packet slice (header.Ipv4 view) p =
-    omega (arith, ap length (ipv4_front p.header packet).1, ap length p.begins.whole, ap length p.view, ap length p.no_extensions, length-append {A = ℕ})
-headers packet slice (header.Ipv6 view) p =
-    omega (arith, ap length (ipv6_front p.header packet).1, ap length p.begins.whole, ap length p.view, ap length p.parts, length-append {A = ℕ})
-
 network : (place : ℕ) (payload : List ℕ) (net : Option IpSlice) (transport : Option TransportSlice) (stop : Option SliceError)
     → HasNetwork place payload net transport stop → IfSome net (λ ip. header_len_of ip ≤ length payload)
 network place payload None transport stop n = tt
-network place payload (Some ip) transport stop n = headers payload ip ip.header n.parts.parts
+network place payload (Some ip) transport stop n = header_within payload ip n.parts.parts
 
 layers : (frame_len : ℕ) (first : Option ℕ) (bytes : List ℕ) (packet : SlicedPacket) (stop : Option SliceError) → HasLayers frame_len first bytes packet stop
     → length bytes ≤ frame_len → ArePartsWithin frame_len packet

@@ -1,6 +1,6 @@
 //! A frame in its layers in one call.
 
-ghost use Rattle.std.specs.Prelude.{◌≡◌, Some, length};
+ghost use Rattle.std.specs.Prelude.{◌≡◌, ◌≢◌, Some, length};
 ghost use Rattle.packet.specs.Link.{link_type_of};
 ghost use Rattle.packet.specs.SlicedPacket.{IsLaxReadingAfter, IsLaxReadingOf};
 ghost use Rattle.packet.specs.SlicedPacket.{IsReadingAfter, IsReadingOf};
@@ -13,7 +13,6 @@ use crate::packet_layers::{Packet, packet_of};
 use packet::ether_type::EtherType;
 use packet::lax_sliced_packet::LaxSlicedPacket;
 use packet::link::LinkType;
-use packet::sliced_packet::SlicedPacket;
 
 /// The layers of a frame, as far as they can be read. The link type is a number of the registry of
 /// tcpdump.org. If `checksums` is true, the checksums of the IP packet are judged.
@@ -25,12 +24,13 @@ pub extern "C" fn etherparse_packet_lax_from_link_type(
     link_type: u32,
     frame: &[u8],
     checksums: bool,
-) -> Packet
-    ensures reads { GivesLax link_type checksums frame.now result }
+    answer: &mut Packet,
+)
+    ensures reads { GivesLax link_type checksums frame.now answer.new }
 {
     match LinkType::from_number(link_type) {
-        Some(link_type) => lax_of(link_type, frame, checksums),
-        None => refused(Error::of_link_type(link_type)),
+        Some(link_type) => put_lax(link_type, frame, checksums, answer),
+        None => *answer = refused(Error::of_link_type(link_type)),
     }
 }
 
@@ -41,20 +41,18 @@ pub extern "C" fn etherparse_packet_strict_from_link_type(
     link_type: u32,
     frame: &[u8],
     checksums: bool,
-) -> Packet
+    answer: &mut Packet,
+)
     ensures reads { OfLinkType (link_type_of link_type)
         (λ known. GetsAnswer (IsReadingOf known frame.now)
-        (IsWholeInC (length frame.now) checksums result)) link_type result }
+        (IsWholeInC (length frame.now) checksums answer.new)) link_type answer.new }
 {
     match LinkType::from_number(link_type) {
-        Some(link_type) => match SlicedPacket::from_link_type(link_type, frame) {
-            Ok(packet) => {
-                let lax = LaxSlicedPacket { packet, stop: None };
-                packet_of(frame.len(), &lax, checksums)
-            }
-            Err(e) => refused(Error::of_slice_error(&e)),
-        },
-        None => refused(Error::of_link_type(link_type)),
+        Some(link_type) => {
+            put_lax(link_type, frame, checksums, answer);
+            refuse_stopped(answer);
+        }
+        None => *answer = refused(Error::of_link_type(link_type)),
     }
 }
 
@@ -65,12 +63,16 @@ pub extern "C" fn etherparse_packet_lax_from_ether_type(
     ether_type: u16,
     bytes: &[u8],
     checksums: bool,
-) -> Packet
+    answer: &mut Packet,
+)
     ensures reads { GetsAnswer (IsLaxReadingAfter (Some ether_type) bytes.now)
-        (λ lax. IsPacketInC (length bytes.now) checksums lax.packet lax.stop result) }
+        (λ lax. IsPacketInC (length bytes.now) checksums lax.packet lax.stop answer.new) }
 {
-    let lax = LaxSlicedPacket::from_ether_type(EtherType(ether_type), bytes);
-    packet_of(bytes.len(), &lax, checksums)
+    let LaxSlicedPacket { packet, stop } = LaxSlicedPacket::from_ether_type(
+        EtherType(ether_type),
+        bytes,
+    );
+    *answer = packet_of(bytes.len(), &packet, &stop, checksums);
 }
 
 /// The same of bytes that are read whole. All else is 0 if they are not.
@@ -79,17 +81,13 @@ pub extern "C" fn etherparse_packet_strict_from_ether_type(
     ether_type: u16,
     bytes: &[u8],
     checksums: bool,
-) -> Packet
+    answer: &mut Packet,
+)
     ensures reads { GetsAnswer (IsReadingAfter (Some ether_type) bytes.now)
-        (IsWholeInC (length bytes.now) checksums result) }
+        (IsWholeInC (length bytes.now) checksums answer.new) }
 {
-    match SlicedPacket::from_ether_type(EtherType(ether_type), bytes) {
-        Ok(packet) => {
-            let lax = LaxSlicedPacket { packet, stop: None };
-            packet_of(bytes.len(), &lax, checksums)
-        }
-        Err(e) => refused(Error::of_slice_error(&e)),
-    }
+    etherparse_packet_lax_from_ether_type(ether_type, bytes, checksums, answer);
+    refuse_stopped(answer);
 }
 
 /// A frame of a list.
@@ -118,20 +116,54 @@ pub extern "C" fn etherparse_packet_lax_batch(
 {
     let count = frames.len().min(answers.len());
     for i in 0..count {
-        answers[i] = etherparse_packet_lax_from_link_type(link_type, frames[i].bytes, checksums);
+        etherparse_packet_lax_from_link_type(
+            link_type,
+            frames[i].bytes,
+            checksums,
+            &mut answers[i],
+        );
     }
     count
 }
 
 // The layers of a frame of a link type that is read.
-#[inline(always)]
-fn lax_of(link_type: LinkType, frame: &[u8], checksums: bool) -> Packet
+fn put_lax(link_type: LinkType, frame: &[u8], checksums: bool, answer: &mut Packet)
     ensures reads { GetsAnswer (IsLaxReadingOf link_type frame.now)
-        (IsLaxInC (length frame.now) checksums result) }
+        (IsLaxInC (length frame.now) checksums answer.new) }
 {
-    match LaxSlicedPacket::from_link_type(link_type, frame) {
-        Ok(lax) => packet_of(frame.len(), &lax, checksums),
+    *answer = match LaxSlicedPacket::from_link_type(link_type, frame) {
+        Ok(lax) => {
+            let LaxSlicedPacket { packet, stop } = lax;
+            packet_of(frame.len(), &packet, &stop, checksums)
+        }
         Err(e) => refused(Error::of_link(&e)),
+    };
+}
+
+// Of layers that something stopped, the error alone.
+fn refuse_stopped(answer: &mut Packet)
+    ensures whole { answer.old.stop.kind ≡ 0 → answer.new ≡ answer.old }
+    ensures refused { answer.old.stop.kind ≢ 0 → answer.new ≡ refused_packet answer.old.stop }
+{
+    if answer.stop.kind != 0 {
+        let Error {
+            kind,
+            number,
+            layer,
+            required_len,
+            len,
+            layer_start_offset,
+            limit,
+        } = answer.stop;
+        *answer = refused(Error {
+            kind,
+            number,
+            layer,
+            required_len,
+            len,
+            layer_start_offset,
+            limit,
+        });
     }
 }
 

@@ -1,6 +1,8 @@
 //! The layers of a frame as C has them: offsets, lengths and numbers.
 
 ghost use Rattle.std.specs.Prelude.{◌≡◌, ◌+◌, ◌^◌, ◌<◌, ◌≤◌, IfSome, length, true};
+ghost use Rattle.packet.specs.SlicedPacket.{IsVerdictOn};
+ghost use Rattle.packet_parts.specs.Checksum.{IsVerdict};
 ghost use Rattle.packet_parts.specs.IpSlice.{header_len_of};
 ghost use Rattle.etherparse_c.specs.Layers.{HasTransportInC, IsHeaderVerdict, IsPacketInC};
 ghost use Rattle.etherparse_c.specs.Layers.{IsPayloadVerdict, header_at, icmp_at, ip_in_c};
@@ -10,7 +12,7 @@ ghost use Rattle.etherparse_c.specs.Private.Within.{ArePartsWithin};
 
 use crate::answer::Error;
 use etherparse::checksum::u64_16bit_word;
-use packet::lax_sliced_packet::LaxSlicedPacket;
+use packet::error::SliceError;
 use packet::link::LinkSlice;
 use packet::single_vlan_header_slice::SingleVlanHeaderSlice;
 use packet::sliced_packet::SlicedPacket;
@@ -140,21 +142,31 @@ pub struct Packet {
     pub payload_checksum: u8,
 }
 
-// A frame of this length in its layers; its checksums are judged if that is asked for.
-pub(crate) fn packet_of(frame_len: usize, lax: &LaxSlicedPacket, checksums: bool) -> Packet
+// A frame of this length in its layers, and why they end; its checksums are judged if that is asked
+// for. No call takes the packet by reference, so that it is in registers alone.
+#[inline(always)]
+pub(crate) fn packet_of(
+    frame_len: usize,
+    packet: &SlicedPacket,
+    stop: &Option<SliceError>,
+    checksums: bool,
+) -> Packet
     requires fits { frame_len < 2 ^ 63 }
-    requires within { ArePartsWithin frame_len lax.now.packet }
-    ensures shows { IsPacketInC frame_len checksums lax.now.packet lax.now.stop result }
+    requires within { ArePartsWithin frame_len packet.now }
+    ensures shows { IsPacketInC frame_len checksums packet.now stop.now result }
 {
-    let packet = &lax.packet;
     let place = frame_len - packet.payload.len();
     Packet {
         link: link_of(place, packet),
         ip: ip_of(place, packet),
         transport: transport_of(place, packet),
-        stop: Error::of_stop(&lax.stop),
+        stop: Error::of_stop(stop),
         header_checksum: if checksums { header_verdict(packet) } else { 0 },
-        payload_checksum: if checksums { payload_verdict(lax) } else { 0 },
+        payload_checksum: if checksums {
+            payload_verdict(packet, stop)
+        } else {
+            0
+        },
     }
 }
 
@@ -364,6 +376,7 @@ fn icmp_at(start: usize, kind: u8, icmp_type: u8, icmp_code: u8, payload: &[u8])
 }
 
 // Whether the checksum of an IPv4 header is right.
+#[inline(always)]
 fn header_verdict(packet: &SlicedPacket) -> u8
     ensures judges { IsHeaderVerdict true packet.now.net result }
 {
@@ -383,10 +396,11 @@ fn header_verdict(packet: &SlicedPacket) -> u8
 }
 
 // What a receiver finds of the checksum of a payload.
-fn payload_verdict(lax: &LaxSlicedPacket) -> u8
-    ensures judges { IsPayloadVerdict true lax.now.packet.net lax.now.stop result }
+#[inline(always)]
+fn payload_verdict(packet: &SlicedPacket, stop: &Option<SliceError>) -> u8
+    ensures judges { IsPayloadVerdict true packet.now.net stop.now result }
 {
-    match lax.verdict() {
+    match verdict_on(packet, stop) {
         None => 0,
         Some(Verdict::Right) => 1,
         Some(Verdict::Wrong) => 2,
@@ -395,4 +409,34 @@ fn payload_verdict(lax: &LaxSlicedPacket) -> u8
         Some(Verdict::Absent(Absence::Incomplete)) => 5,
         Some(Verdict::Absent(Absence::NotComputed)) => 6,
     }
+}
+
+// The verdict, as `LaxSlicedPacket::verdict` has it.
+#[inline(always)]
+fn verdict_on(packet: &SlicedPacket, stop: &Option<SliceError>) -> Option<Verdict>
+    ensures judges { IsVerdictOn packet.now.net stop.now result }
+{
+    match &packet.net {
+        None => None,
+        Some(ip) => match stop {
+            Some(SliceError::Ip(_)) => Some(Verdict::Absent(Absence::Incomplete)),
+            _ => Some(verdict_of(ip)),
+        },
+    }
+}
+
+// The verdict on the payload of a packet that is whole. The call takes a copy by reference.
+#[inline(always)]
+fn verdict_of(ip: &IpSlice) -> Verdict
+    ensures judges { IsVerdict ip.now result }
+{
+    let copy = IpSlice {
+        header: ip.header,
+        extensions: ip.extensions,
+        fragment: ip.fragment,
+        is_later_fragment: ip.is_later_fragment,
+        upper: ip.upper,
+        payload: ip.payload,
+    };
+    copy.verdict()
 }

@@ -1,6 +1,8 @@
-use Rattle.std.proofs.Common.{Some, None}
-use Rattle.etherparse_c.proofs.Within.{of_bytes}
+use Rattle.std.proofs.Common.{Some, length}
+use Rattle.etherparse_c.proofs.Whole.{whole_bytes}
 use Rattle.etherparse_c.proofs.frame.etherparse_packet_strict_from_ether_type.Goals as goal
 
-pub packet_of-requires-clause-within : goal.packet_of-requires-clause-within
-packet_of-requires-clause-within c = of_bytes (Some c.args.ether_type) c.args.bytes.now c.in-Ok.packet None c.in-Ok.ensures.reads.reads
+pub returns : goal.returns
+returns c = record {
+  reads = whole_bytes (Some c.args.ether_type) c.args.bytes.now (length c.args.bytes.now) c.args.checksums _ _ c.etherparse_packet_lax_from_ether_type.ensures.reads (c.refuse_stopped.ensures.whole, c.refuse_stopped.ensures.refused);
+}

@@ -1,6 +1,9 @@
-use Rattle.std.proofs.Common.{None}
-use Rattle.etherparse_c.proofs.Within.{of_frame}
+use Rattle.std.proofs.Common.{length}
+use Rattle.etherparse_c.proofs.Whole.{whole_frame}
 use Rattle.etherparse_c.proofs.frame.etherparse_packet_strict_from_link_type.Goals as goal
 
-pub packet_of-requires-clause-within : goal.packet_of-requires-clause-within
-packet_of-requires-clause-within c = of_frame c.in-Some.link_type c.args.frame.now c.in-Ok.packet None c.in-Ok.ensures.reads.reads
+pub returns-in-Some : goal.returns-in-Some
+returns-in-Some c = record {
+  reads = rw (← c.in-Some.ensures.value)
+      (whole_frame c.in-Some.link_type c.args.frame.now (length c.args.frame.now) c.args.checksums _ _ c.put_lax.ensures.reads (c.refuse_stopped.ensures.whole, c.refuse_stopped.ensures.refused));
+}
