@@ -1,3 +1,4 @@
+mod Places
 mod Whole
 mod Batch
 mod Within

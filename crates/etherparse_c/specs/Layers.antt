@@ -1,6 +1,6 @@
 -- The layers of a frame, as C has them: offsets, lengths and numbers.
 use Rattle.std.specs.Prelude.{ℕ, ◌≡◌, ◌+◌, ◌-◌, ◌/◌, ◌%◌, ◌^◌, ◌==◌, ◌⊎◌, Bool, true, false, IfSome}
-use Rattle.std.specs.Prelude.{IsSomeAnd, List, MatchOption, length, nat_lt, slice_index}
+use Rattle.std.specs.Prelude.{IsSomeAnd, List, MatchOption, drop, length, nat_lt, slice_index, take}
 use Rattle.std.specs.Prelude.{Option, Some, None, Result, Ok, Err}
 use Rattle.etherparse.specs.WordSums.{SumsToAllOnes}
 use Rattle.packet.specs.Bytes.{number_at}
@@ -327,3 +327,20 @@ abbrev pub GivesLax : ℕ → Bool → List ℕ → Packet → Type 0
 GivesLax link_type checksums frame in_c = OfLinkType (link_type_of link_type)
     (λ known. GetsAnswer (IsLaxReadingOf known frame)
     (IsLaxInC (length frame) checksums in_c)) link_type in_c
+
+-- ---- where the parts lie
+
+-- the bytes of a frame in a part
+abbrev pub bytes_in : Part → List ℕ → List ℕ
+bytes_in part frame = take part.len (drop part.offset frame)
+
+-- the parts of an IP packet are the bytes at their places in a frame
+pub record LiesThere (frame : List ℕ) (ip : IpSlice) (in_c : PacketIp) : Type 0 where
+  pub header : bytes_in in_c.header frame ≡ header_bytes ip.header
+  pub extensions : bytes_in in_c.extensions frame ≡ ip.extensions.now
+  pub payload : bytes_in in_c.payload frame ≡ ip.payload.now
+
+-- so are those of a packet
+pub record LieThere (frame : List ℕ) (packet : SlicedPacket) (in_c : Packet) : Type 0 where
+  pub payload : bytes_in in_c.link.payload frame ≡ packet.payload.now
+  pub net : IfSome packet.net (λ ip. LiesThere frame ip in_c.ip)
