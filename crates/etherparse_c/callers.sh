@@ -1,10 +1,11 @@
 #!/usr/bin/env bash
 # callers.sh [--after-ci]: builds the library and its callers in C, C++ and Rust, and runs them:
-# worked values through the header file, the header file in each dialect of each compiler, the
-# examples, whose output has to be examples/inspect.txt, what a call stores at which offset, each
-# way to link, and the tests of the safe Rust crate over it. With --after-ci it takes the libraries
-# below as `rt ci` has just proved them, and proves this crate alone. It names each compiler that is
-# missing and leaves it out. The last line is 'N passed, M failed, K left out'.
+# the commands of the page in a fresh folder, worked values through the header file, the header file
+# in each dialect of each compiler, the examples, whose output has to be examples/inspect.txt, what a
+# call stores at which offset, each way to link, and the tests of the safe Rust crate over it. With
+# --after-ci it takes the libraries below as `rt ci` has just proved them, and proves this crate
+# alone. It names each compiler that is missing and leaves it out. The last line is 'N passed, M
+# failed, K left out'.
 set -euo pipefail
 here=$(cd "$(dirname "$0")" && pwd)
 out=$here/out/callers
@@ -40,10 +41,14 @@ wants_nothing() {
   ! grep -w U "$out/undefined.txt"
 }
 
-# Builds the example by a command, and compares what it prints.
-prints() {
-  "$@" -o "$out/inspect" && "$out/inspect" > "$out/inspect.txt" && diff "$here/examples/inspect.txt" "$out/inspect.txt"
+# Builds an example by a command, and compares what it prints.
+prints_as() {
+  local example=$1
+  shift
+  "$@" -o "$out/$example" && "$out/$example" > "$out/$example.txt" && diff "$here/examples/$example.txt" "$out/$example.txt"
 }
+
+prints() { prints_as inspect "$@"; }
 
 # The same over a shared object made of the library.
 prints_shared() {
@@ -64,8 +69,13 @@ build_after_ci() {
   kit=$(dirname "$(dirname "$(readlink -f "$(command -v rt)")")")
   crates=$(dirname "$here")
   for below in std itoa; do words+=(--extern "$below=$kit/rlibs/$below.rlib"); done
-  words+=(-L "dependency=$kit/rlibs" --extern "etherparse=$crates/etherparse/out/rlib/etherparse.rlib")
-  for below in etherparse_base etherparse_fields etherparse; do words+=(-L "dependency=$crates/$below/out/rlib"); done
+  words+=(-L "dependency=$kit/rlibs")
+  for below in etherparse packet packet_parts; do
+    words+=(--extern "$below=$crates/$below/out/rlib/$below.rlib")
+  done
+  for below in etherparse_base etherparse_fields etherparse packet_links packet_parts packet; do
+    words+=(-L "dependency=$crates/$below/out/rlib")
+  done
   words+=(--antt-project "$kit/rattle/logic/antt-project.json" --logic-built "$kit/logic_built" --jobs 1)
   words+=(--links etherparse_c= --crate-type staticlib --toolchain "$kit/toolchain" --backend llvm)
   "$kit/bin/rattle" build --crate-name etherparse_c src/lib.rt "${words[@]}" -o out/libetherparse_c.a
@@ -82,6 +92,12 @@ else
   leave_out "what the library wants: nm is not there"
 fi
 
+if has make && has pkg-config && has gcc; then
+  try "the commands of the page" "$here/install.sh"
+else
+  leave_out "the commands of the page: make, pkg-config or gcc is not there"
+fi
+
 strict=(-O2 -Wall -Wextra -Wpedantic -Wconversion -Wshadow -Werror -I "$here/include")
 for compiler in gcc clang; do
   if ! has "$compiler"; then
@@ -90,6 +106,8 @@ for compiler in gcc clang; do
   fi
   for dialect in c99 c11 c17; do
     try "$compiler, $dialect" prints "$compiler" "-std=$dialect" "${strict[@]}" "$here/examples/inspect.c" "$library"
+    try "$compiler, $dialect, packets" prints_as packets "$compiler" "-std=$dialect" "${strict[@]}" \
+      "$here/examples/packets.c" "$library"
   done
   try "$compiler, worked values" answers_right "$compiler" -std=c11 "${strict[@]}" "$here/tests/cases.c" "$library"
   try "$compiler, what a call stores where" stands_there "$compiler" -std=c11 "${strict[@]}" "$here/examples/offsets.c" "$library"
@@ -114,6 +132,8 @@ for compiler in g++ clang++; do
   fi
   for dialect in c++11 c++14 c++17 c++20; do
     try "$compiler, $dialect" prints "$compiler" "-std=$dialect" "${strict[@]}" -xc++ "$here/examples/inspect.c" -xnone "$library"
+    try "$compiler, $dialect, packets" prints_as packets "$compiler" "-std=$dialect" "${strict[@]}" \
+      -xc++ "$here/examples/packets.c" -xnone "$library"
   done
 done
 
@@ -121,6 +141,8 @@ if has rustc; then
   for edition in 2021 2024; do
     try "rustc, edition $edition" prints rustc --edition "$edition" -O -D warnings "$here/examples/inspect.rs" \
       -L "$here/out" -l static=etherparse_c
+    try "rustc, edition $edition, packets" prints_as packets rustc --edition "$edition" -O -D warnings \
+      "$here/examples/packets.rs" -L "$here/out" -l static=etherparse_c
   done
 else
   leave_out "Rust: rustc is not there"

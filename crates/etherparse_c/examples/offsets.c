@@ -337,6 +337,134 @@ static void compare_walks(void)
     COMPARE("ipv6_walk_up_to, too many", limited, too_many);
 }
 
+/* Frames whose parts differ: two tags and UDP; a truncated first fragment of IPv6 with TCP; a later fragment behind a loopback
+ * header; one tag and ICMP behind the header of a Linux cooked capture. */
+static const uint8_t TAGGED[61] = {
+    2, 0, 0, 0, 0, 2, 2, 0, 0, 0, 0, 1, 136, 168, 177, 35, 129, 0, 74, 188, 8, 0, 70, 0, 0, 36, 0, 0, 0, 0, 64, 17, 99, 198,
+    10, 0, 0, 1, 10, 0, 0, 2, 1, 1, 1, 0, 18, 52, 86, 120, 0, 12, 127, 33, 1, 2, 3, 4, 0, 0, 0,
+};
+
+static const uint8_t TRUNCATED[103] = {
+    134, 221, 0, 0, 0, 0, 0, 3, 0, 1, 4, 6, 2, 0, 0, 0, 0, 1, 0, 0, 96, 0, 0, 0, 0, 48, 0, 64, 32, 1, 13, 184, 0, 0, 0, 0, 0,
+    0, 0, 0, 0, 0, 0, 1, 32, 1, 13, 184, 0, 0, 0, 0, 0, 0, 0, 0, 0, 0, 0, 2, 44, 0, 1, 4, 0, 0, 0, 0, 6, 0, 0, 1, 17, 18, 19,
+    20, 35, 69, 103, 137, 0, 0, 0, 1, 0, 0, 0, 2, 96, 18, 16, 0, 0, 0, 0, 0, 2, 4, 5, 180, 7, 7, 7,
+};
+
+static const uint8_t LATER[40] = {
+    2, 0, 0, 0, 69, 0, 0, 36, 154, 188, 32, 66, 64, 17, 171, 200, 10, 0, 0, 1, 10, 0, 0, 2, 0, 1, 2, 3, 4, 5, 6, 7, 8, 9, 10,
+    11, 12, 13, 14, 15,
+};
+
+static const uint8_t MESSAGE[50] = {
+    0, 4, 0, 1, 0, 6, 2, 0, 0, 0, 0, 1, 0, 0, 129, 0, 208, 7, 8, 0, 69, 0, 0, 30, 0, 0, 0, 0, 64, 1, 102, 221, 10, 0, 0, 1, 10,
+    0, 0, 2, 3, 1, 183, 253, 0, 0, 0, 0, 69, 1,
+};
+
+static void compare_packets(void)
+{
+    static const struct place tagged[] = {
+        {"link.header.offset", 0, 8, 0}, {"link.header.len", 8, 8, 14}, {"link.payload.offset", 16, 8, 22},
+        {"link.payload.len", 24, 8, 39}, {"link.family", 32, 4, 0}, {"link.ether_type", 36, 2, 2048},
+        {"outer_vlan.identifier", 38, 2, 291}, {"outer_vlan.priority", 40, 1, 5}, {"outer_vlan.drop_eligible", 41, 1, 1},
+        {"inner_vlan.identifier", 42, 2, 2748}, {"inner_vlan.priority", 44, 1, 2}, {"inner_vlan.drop_eligible", 45, 1, 0},
+        {"link.kind", 46, 1, 1}, {"vlan_count", 47, 1, 2}, {"has_ether_type", 48, 1, 1}, {"ip.header.offset", 56, 8, 22},
+        {"ip.header.len", 64, 8, 24}, {"ip.extensions.offset", 72, 8, 46}, {"ip.extensions.len", 80, 8, 0},
+        {"ip.payload.offset", 88, 8, 46}, {"ip.payload.len", 96, 8, 12}, {"packet_len", 104, 8, 36},
+        {"identification", 112, 4, 0}, {"fragment_offset", 116, 4, 0}, {"version", 120, 1, 4}, {"upper", 121, 1, 17},
+        {"is_fragment", 122, 1, 0}, {"more_fragments", 123, 1, 0}, {"is_later_fragment", 124, 1, 0},
+        {"is_truncated", 125, 1, 0}, {"transport.header.offset", 128, 8, 46}, {"transport.header.len", 136, 8, 8},
+        {"transport.payload.offset", 144, 8, 54}, {"transport.payload.len", 152, 8, 4}, {"source_port", 160, 2, 4660},
+        {"destination_port", 162, 2, 22136}, {"transport.kind", 164, 1, 17}, {"has_ports", 165, 1, 1},
+        {"tcp_flags", 166, 1, 0}, {"icmp_type", 167, 1, 0}, {"icmp_code", 168, 1, 0}, {"stop.kind", 176, 4, 0},
+        {"stop.number", 180, 2, 0}, {"stop.layer", 182, 2, 0}, {"stop.required_len", 184, 8, 0}, {"stop.len", 192, 8, 0},
+        {"stop.layer_start_offset", 200, 8, 0}, {"stop.limit", 208, 8, 0}, {"header_checksum", 216, 1, 1},
+        {"payload_checksum", 217, 1, 1},
+    };
+    static const struct place truncated[] = {
+        {"link.header.offset", 0, 8, 0}, {"link.header.len", 8, 8, 20}, {"link.payload.offset", 16, 8, 20},
+        {"link.payload.len", 24, 8, 83}, {"link.family", 32, 4, 0}, {"link.ether_type", 36, 2, 34525},
+        {"outer_vlan.identifier", 38, 2, 0}, {"outer_vlan.priority", 40, 1, 0}, {"outer_vlan.drop_eligible", 41, 1, 0},
+        {"inner_vlan.identifier", 42, 2, 0}, {"inner_vlan.priority", 44, 1, 0}, {"inner_vlan.drop_eligible", 45, 1, 0},
+        {"link.kind", 46, 1, 3}, {"vlan_count", 47, 1, 0}, {"has_ether_type", 48, 1, 1}, {"ip.header.offset", 56, 8, 20},
+        {"ip.header.len", 64, 8, 40}, {"ip.extensions.offset", 72, 8, 60}, {"ip.extensions.len", 80, 8, 16},
+        {"ip.payload.offset", 88, 8, 76}, {"ip.payload.len", 96, 8, 27}, {"packet_len", 104, 8, 88},
+        {"identification", 112, 4, 286397204}, {"fragment_offset", 116, 4, 0}, {"version", 120, 1, 6}, {"upper", 121, 1, 6},
+        {"is_fragment", 122, 1, 1}, {"more_fragments", 123, 1, 1}, {"is_later_fragment", 124, 1, 0},
+        {"is_truncated", 125, 1, 1}, {"transport.header.offset", 128, 8, 76}, {"transport.header.len", 136, 8, 24},
+        {"transport.payload.offset", 144, 8, 100}, {"transport.payload.len", 152, 8, 3}, {"source_port", 160, 2, 9029},
+        {"destination_port", 162, 2, 26505}, {"transport.kind", 164, 1, 6}, {"has_ports", 165, 1, 1},
+        {"tcp_flags", 166, 1, 18}, {"icmp_type", 167, 1, 0}, {"icmp_code", 168, 1, 0}, {"stop.kind", 176, 4, 1},
+        {"stop.number", 180, 2, 0}, {"stop.layer", 182, 2, 9}, {"stop.required_len", 184, 8, 88}, {"stop.len", 192, 8, 83},
+        {"stop.layer_start_offset", 200, 8, 20}, {"stop.limit", 208, 8, 0}, {"header_checksum", 216, 1, 0},
+        {"payload_checksum", 217, 1, 5},
+    };
+    static const struct place later[] = {
+        {"link.header.offset", 0, 8, 0}, {"link.header.len", 8, 8, 4}, {"link.payload.offset", 16, 8, 4},
+        {"link.payload.len", 24, 8, 36}, {"link.family", 32, 4, 2}, {"link.ether_type", 36, 2, 0},
+        {"outer_vlan.identifier", 38, 2, 0}, {"outer_vlan.priority", 40, 1, 0}, {"outer_vlan.drop_eligible", 41, 1, 0},
+        {"inner_vlan.identifier", 42, 2, 0}, {"inner_vlan.priority", 44, 1, 0}, {"inner_vlan.drop_eligible", 45, 1, 0},
+        {"link.kind", 46, 1, 4}, {"vlan_count", 47, 1, 0}, {"has_ether_type", 48, 1, 0}, {"ip.header.offset", 56, 8, 4},
+        {"ip.header.len", 64, 8, 20}, {"ip.extensions.offset", 72, 8, 24}, {"ip.extensions.len", 80, 8, 0},
+        {"ip.payload.offset", 88, 8, 24}, {"ip.payload.len", 96, 8, 16}, {"packet_len", 104, 8, 36},
+        {"identification", 112, 4, 39612}, {"fragment_offset", 116, 4, 528}, {"version", 120, 1, 4}, {"upper", 121, 1, 17},
+        {"is_fragment", 122, 1, 1}, {"more_fragments", 123, 1, 1}, {"is_later_fragment", 124, 1, 1},
+        {"is_truncated", 125, 1, 0}, {"transport.header.offset", 128, 8, 0}, {"transport.header.len", 136, 8, 0},
+        {"transport.payload.offset", 144, 8, 0}, {"transport.payload.len", 152, 8, 0}, {"source_port", 160, 2, 0},
+        {"destination_port", 162, 2, 0}, {"transport.kind", 164, 1, 0}, {"has_ports", 165, 1, 0}, {"tcp_flags", 166, 1, 0},
+        {"icmp_type", 167, 1, 0}, {"icmp_code", 168, 1, 0}, {"stop.kind", 176, 4, 0}, {"stop.number", 180, 2, 0},
+        {"stop.layer", 182, 2, 0}, {"stop.required_len", 184, 8, 0}, {"stop.len", 192, 8, 0},
+        {"stop.layer_start_offset", 200, 8, 0}, {"stop.limit", 208, 8, 0}, {"header_checksum", 216, 1, 1},
+        {"payload_checksum", 217, 1, 3},
+    };
+    static const struct place message[] = {
+        {"link.header.offset", 0, 8, 0}, {"link.header.len", 8, 8, 16}, {"link.payload.offset", 16, 8, 20},
+        {"link.payload.len", 24, 8, 30}, {"link.family", 32, 4, 0}, {"link.ether_type", 36, 2, 2048},
+        {"outer_vlan.identifier", 38, 2, 7}, {"outer_vlan.priority", 40, 1, 6}, {"outer_vlan.drop_eligible", 41, 1, 1},
+        {"inner_vlan.identifier", 42, 2, 0}, {"inner_vlan.priority", 44, 1, 0}, {"inner_vlan.drop_eligible", 45, 1, 0},
+        {"link.kind", 46, 1, 2}, {"vlan_count", 47, 1, 1}, {"has_ether_type", 48, 1, 1}, {"ip.header.offset", 56, 8, 20},
+        {"ip.header.len", 64, 8, 20}, {"ip.extensions.offset", 72, 8, 40}, {"ip.extensions.len", 80, 8, 0},
+        {"ip.payload.offset", 88, 8, 40}, {"ip.payload.len", 96, 8, 10}, {"packet_len", 104, 8, 30},
+        {"identification", 112, 4, 0}, {"fragment_offset", 116, 4, 0}, {"version", 120, 1, 4}, {"upper", 121, 1, 1},
+        {"is_fragment", 122, 1, 0}, {"more_fragments", 123, 1, 0}, {"is_later_fragment", 124, 1, 0},
+        {"is_truncated", 125, 1, 0}, {"transport.header.offset", 128, 8, 40}, {"transport.header.len", 136, 8, 4},
+        {"transport.payload.offset", 144, 8, 44}, {"transport.payload.len", 152, 8, 6}, {"source_port", 160, 2, 0},
+        {"destination_port", 162, 2, 0}, {"transport.kind", 164, 1, 1}, {"has_ports", 165, 1, 0}, {"tcp_flags", 166, 1, 0},
+        {"icmp_type", 167, 1, 3}, {"icmp_code", 168, 1, 1}, {"stop.kind", 176, 4, 0}, {"stop.number", 180, 2, 0},
+        {"stop.layer", 182, 2, 0}, {"stop.required_len", 184, 8, 0}, {"stop.len", 192, 8, 0},
+        {"stop.layer_start_offset", 200, 8, 0}, {"stop.limit", 208, 8, 0}, {"header_checksum", 216, 1, 1},
+        {"payload_checksum", 217, 1, 1},
+    };
+    struct etherparse_packet tagged_packet;
+    etherparse_packet_lax_from_link_type(1, TAGGED, sizeof TAGGED, true, &tagged_packet);
+    struct etherparse_packet truncated_packet;
+    etherparse_packet_lax_from_link_type(276, TRUNCATED, sizeof TRUNCATED, true, &truncated_packet);
+    struct etherparse_packet later_packet;
+    etherparse_packet_lax_from_link_type(0, LATER, sizeof LATER, true, &later_packet);
+    struct etherparse_packet message_packet;
+    etherparse_packet_lax_from_link_type(113, MESSAGE, sizeof MESSAGE, true, &message_packet);
+    COMPARE("packet_lax_from_link_type, two tags, options, UDP, padding", tagged_packet, tagged);
+    COMPARE("packet_lax_from_link_type, first fragment over IPv6, truncated", truncated_packet, truncated);
+    COMPARE("packet_lax_from_link_type, later fragment, loopback", later_packet, later);
+    COMPARE("packet_lax_from_link_type, ICMP, one tag, Linux cooked capture", message_packet, message);
+    memset(&tagged_packet, 7, sizeof tagged_packet);
+    etherparse_packet_strict_from_link_type(1, TAGGED, sizeof TAGGED, true, &tagged_packet);
+    COMPARE("packet_strict_from_link_type", tagged_packet, tagged);
+
+    /* Frames are written as bytes, too: a pointer and two lengths each. */
+    const uint8_t *at[2] = {WORDS, TAGGED};
+    const size_t len[4] = {8, 60, sizeof TAGGED, 70};
+    struct etherparse_frame frames[2];
+    struct etherparse_packet answers[2];
+    for (size_t i = 0; i < 2; i++) {
+        memcpy((uint8_t *)frames + 24 * i, &at[i], 8);
+        memcpy((uint8_t *)frames + 24 * i + 8, &len[2 * i], 16);
+    }
+    size_t count = etherparse_packet_lax_batch(1, frames, 2, true, answers, 2);
+    static const struct place two[] = {{"count", 0, 8, 2}};
+    COMPARE("packet_lax_batch", count, two);
+    COMPARE("packet_lax_batch", answers[1], tagged);
+}
+
 int main(void)
 {
     compare_sums();
@@ -345,6 +473,7 @@ int main(void)
     compare_ipv4_numbers();
     compare_ipv6();
     compare_walks();
+    compare_packets();
     printf("%d numbers stand where they should, %d do not.\n", right, wrong);
     return wrong != 0;
 }

@@ -364,9 +364,9 @@ static void check_text(void)
     char text[ETHERPARSE_ERROR_TEXT_SIZE];
     struct etherparse_error *error = (struct etherparse_error *)(page_end - sizeof *error);
     memset(error, 0, sizeof *error);
-    error->kind = (uint32_t)(below(16) == 0 ? next_random() : below(8));
+    error->kind = (uint32_t)(below(16) == 0 ? next_random() : below(10));
     error->number = (uint16_t)(below(16) == 0 ? next_random() : below(16));
-    error->layer = (uint16_t)(below(16) == 0 ? next_random() : below(6));
+    error->layer = (uint16_t)(below(16) == 0 ? next_random() : below(16));
     error->required_len = below(4) == 0 ? (size_t)some_number(UINT64_MAX) : below(2000);
     error->len = below(4) == 0 ? (size_t)some_number(UINT64_MAX) : below(2000);
     error->layer_start_offset = below(2) == 0 ? 0 : (size_t)some_number(UINT64_MAX);

@@ -92,7 +92,32 @@ size_t reference_text(const struct etherparse_error *error, char text[ETHERPARSE
             len = len_text(text, "IPv6 Header Error", "IPv6 header", "slice length", error);
         if (error->layer == ETHERPARSE_IPV6_EXT_HEADER)
             len = len_text(text, "IPv6 Extension Header Error", "IPv6 extension header", "slice length", error);
+        if (error->layer == ETHERPARSE_LINK_HEADER)
+            len = snprintf(text, ETHERPARSE_ERROR_TEXT_SIZE, "Link Header Error: The header has %zu bytes, the frame %zu.",
+                error->required_len, error->len);
+        if (error->layer == ETHERPARSE_VLAN_HEADER)
+            len = len_text(text, "VLAN Header Error", "VLAN header", "slice length", error);
+        if (error->layer == ETHERPARSE_IP_HEADER)
+            len = len_text(text, "IP Header Error", "IP header", "slice length", error);
+        if (error->layer == ETHERPARSE_IPV4_PACKET_BYTES)
+            len = len_text(text, "IPv4 Packet Error", "IPv4 packet", "slice length", error);
+        if (error->layer == ETHERPARSE_IPV6_PACKET)
+            len = len_text(text, "IPv6 Packet Error", "IPv6 packet", "slice length", error);
+        if (error->layer == ETHERPARSE_UDP_HEADER)
+            len = len_text(text, "UDP Header Error", "UDP header", "slice length", error);
+        if (error->layer == ETHERPARSE_TCP_HEADER)
+            len = len_text(text, "TCP Header Error", "TCP header", "slice length", error);
+        if (error->layer == ETHERPARSE_ICMPV4)
+            len = len_text(text, "ICMP Packet Error", "ICMP packet", "slice length", error);
+        if (error->layer == ETHERPARSE_ICMPV6)
+            len = len_text(text, "ICMPv6 Packet Error", "ICMPv6 packet", "slice length", error);
     }
+    if (error->kind == ETHERPARSE_UNEXPECTED_VERSION && error->layer == ETHERPARSE_IP_HEADER)
+        len = snprintf(text, ETHERPARSE_ERROR_TEXT_SIZE, "IP Header Error: Version %u is neither 4 nor 6.", error->number);
+    if (error->kind == ETHERPARSE_DATA_OFFSET)
+        len = snprintf(text, ETHERPARSE_ERROR_TEXT_SIZE, "TCP Header Error: Data offset %u is less than 5.", error->number);
+    if (error->kind == ETHERPARSE_LINK_TYPE)
+        len = snprintf(text, ETHERPARSE_ERROR_TEXT_SIZE, "Link Type Error: Frames of link type %zu are not read.", error->len);
     if (error->kind == ETHERPARSE_UNEXPECTED_VERSION && error->layer == ETHERPARSE_IPV4_HEADER)
         len = version_text(text, 4, error->number);
     if (error->kind == ETHERPARSE_UNEXPECTED_VERSION && error->layer == ETHERPARSE_IPV6_HEADER)

@@ -1,4 +1,4 @@
-/* IP headers and their checksums: the proved library for C.
+/* Packets, IP headers and their checksums: the proved library for C.
  *
  * A slice is a pointer and a length in bytes, which is at most half of the address space. A null
  * pointer with the length 0 is the empty slice. No call keeps a pointer, allocates memory or makes
@@ -110,14 +110,16 @@ uint16_t etherparse_update_16bytes(uint16_t checksum, const uint8_t old_bytes[16
 struct etherparse_error {
     uint32_t kind; /* one of the kinds below; 0 if nothing was refused */
     /* depending on the kind: the version, the IHL, the number of the header that is one too many,
-     * or which value it is */
+     * which value it is, or the data offset */
     uint16_t number;
-    /* of LEN, UNEXPECTED_VERSION, HEADER_LENGTH_SMALLER_THAN_HEADER and TOO_MANY: a layer below */
+    /* of LEN, UNEXPECTED_VERSION, HEADER_LENGTH_SMALLER_THAN_HEADER, TOO_MANY and DATA_OFFSET: a
+     * layer below */
     uint16_t layer;
     size_t required_len; /* of LEN: the length in bytes that is required */
-    /* of LEN and BAD_OPTIONS_LEN: the actual length in bytes; of VALUE_TOO_BIG: the value */
+    /* of LEN and BAD_OPTIONS_LEN: the actual length in bytes; of VALUE_TOO_BIG: the value; of
+     * LINK_TYPE: the number of the link type */
     size_t len;
-    /* of LEN and TOO_MANY: where the header starts, in bytes from the start of the slice */
+    /* of LEN and TOO_MANY: where the layer starts, in bytes from the start of the slice */
     size_t layer_start_offset;
     /* of TOO_MANY: how many headers were allowed; of VALUE_TOO_BIG: the greatest value that is
      * allowed */
@@ -132,7 +134,9 @@ enum {
     ETHERPARSE_HEADER_LENGTH_SMALLER_THAN_HEADER = 3, /* the IHL field is below 5 */
     ETHERPARSE_TOO_MANY = 4, /* there are more extension headers than are allowed */
     ETHERPARSE_VALUE_TOO_BIG = 5, /* a value does not fit its field */
-    ETHERPARSE_BAD_OPTIONS_LEN = 6 /* options cannot have this length */
+    ETHERPARSE_BAD_OPTIONS_LEN = 6, /* options cannot have this length */
+    ETHERPARSE_DATA_OFFSET = 7, /* the data offset of a TCP header is below 5 */
+    ETHERPARSE_LINK_TYPE = 8 /* frames of this link type are not read */
 };
 
 /* The layers that an error is about. */
@@ -140,7 +144,16 @@ enum {
     ETHERPARSE_IPV4_HEADER = 1, /* its length is that of the slice */
     ETHERPARSE_IPV4_PACKET = 2, /* its length is the total_len of its header */
     ETHERPARSE_IPV6_HEADER = 3, /* its length is that of the slice */
-    ETHERPARSE_IPV6_EXT_HEADER = 4 /* its length is that of what is left of the slice */
+    ETHERPARSE_IPV6_EXT_HEADER = 4, /* its length is that of what is left of the slice */
+    ETHERPARSE_LINK_HEADER = 5, /* its length is that of the frame */
+    ETHERPARSE_VLAN_HEADER = 6, /* its length is that of what is left of the frame */
+    ETHERPARSE_IP_HEADER = 7, /* of neither version, or of no bytes */
+    ETHERPARSE_IPV4_PACKET_BYTES = 8, /* its length is that of what is left of the frame */
+    ETHERPARSE_IPV6_PACKET = 9, /* its length is that of what is left of the frame */
+    ETHERPARSE_UDP_HEADER = 10, /* its length is that of the payload of the IP packet */
+    ETHERPARSE_TCP_HEADER = 11, /* likewise */
+    ETHERPARSE_ICMPV4 = 12, /* likewise */
+    ETHERPARSE_ICMPV6 = 13 /* likewise */
 };
 
 /* The values that can be too big. */
@@ -407,6 +420,151 @@ struct etherparse_ipv6_walk_answer etherparse_ipv6_walk(const uint8_t *at, size_
 struct etherparse_ipv6_walk_answer etherparse_ipv6_walk_up_to(const uint8_t *at, size_t len,
     uint8_t next_header, size_t limit);
 
+/* Packets.
+ *
+ * One call takes a frame apart: link header, VLAN tags, IP packet with its extension headers, and
+ * transport header. It copies none of it: each part is an offset from the start of the frame and a
+ * length in bytes. The lax calls read as far as the frame goes and say why they stop; the strict
+ * ones give nothing but the error if they have to stop. A call writes all fields of the answer that
+ * it is given, which is not null and does not overlap the frame. */
+
+/* A part of a frame. Of a header that is not there both numbers are 0. */
+struct etherparse_part {
+    size_t offset;
+    size_t len;
+};
+
+/* A VLAN tag (IEEE 802.1Q section 9.6). */
+struct etherparse_vlan_tag {
+    uint16_t identifier; /* at most 4095 */
+    uint8_t priority; /* at most 7 */
+    bool drop_eligible;
+};
+
+/* The link headers. */
+enum {
+    ETHERPARSE_NO_LINK = 0, /* before an IP packet, or after an EtherType */
+    ETHERPARSE_ETHERNET = 1,
+    ETHERPARSE_LINUX_SLL = 2, /* of a Linux cooked capture */
+    ETHERPARSE_LINUX_SLL2 = 3, /* of one of version 2 */
+    ETHERPARSE_LOOPBACK = 4, /* four bytes with the family */
+    ETHERPARSE_FRAMED = 5 /* PPP, Cisco's HDLC, frame relay, SLIP or IEEE 802.11 */
+};
+
+/* The link header of a frame and its VLAN tags. */
+struct etherparse_packet_link {
+    struct etherparse_part header;
+    struct etherparse_part payload; /* all bytes after the link header and the tags */
+    uint32_t family; /* of LOOPBACK: what the frame carries, by the numbers of its system */
+    uint16_t ether_type; /* of what follows the tags, if has_ether_type */
+    struct etherparse_vlan_tag outer_vlan; /* if vlan_count is 1 or 2 */
+    struct etherparse_vlan_tag inner_vlan; /* if vlan_count is 2 */
+    uint8_t kind; /* a link header above */
+    uint8_t vlan_count; /* at most 2: a third tag is another protocol */
+    bool has_ether_type;
+};
+
+/* The IP packet of a frame, if version is not 0. */
+struct etherparse_packet_ip {
+    struct etherparse_part header; /* with the options of IPv4, without extension headers */
+    /* the extension headers of IPv6, with a fragment header; len is 0 if there are none */
+    struct etherparse_part extensions;
+    /* what follows them, as far as it is there and the packet goes: without Ethernet's padding */
+    struct etherparse_part payload;
+    size_t packet_len; /* how long the packet says it is, in bytes and with the header */
+    uint32_t identification; /* of a fragment */
+    uint32_t fragment_offset; /* of a fragment, in bytes */
+    uint8_t version; /* 4 or 6 */
+    uint8_t upper; /* the number of the payload */
+    bool is_fragment; /* more fragments follow, or the offset is not 0 */
+    bool more_fragments; /* of a fragment: more follow */
+    bool is_later_fragment; /* the payload begins with no header of an upper layer */
+    bool is_truncated; /* fewer bytes are there than packet_len */
+};
+
+/* The transport header of an IP packet: UDP, TCP, ICMP over IPv4 or ICMPv6 over IPv6. */
+struct etherparse_packet_transport {
+    struct etherparse_part header; /* of ICMP and ICMPv6: type, code and checksum */
+    struct etherparse_part payload; /* all bytes of the packet after it */
+    uint16_t source_port; /* of UDP and TCP, if has_ports */
+    uint16_t destination_port;
+    uint8_t kind; /* 17, 6, 1 or 58 if the header is there whole; otherwise 0 */
+    bool has_ports; /* also in a first fragment or a truncated packet without the whole header */
+    uint8_t tcp_flags; /* of TCP: FIN is bit 0, SYN 1, RST 2, PSH 3, ACK 4, URG 5, ECE 6, CWR 7 */
+    uint8_t icmp_type; /* of ICMP and ICMPv6 */
+    uint8_t icmp_code;
+};
+
+/* What a receiver finds of a checksum. */
+enum {
+    ETHERPARSE_NOT_JUDGED = 0, /* it was not asked for, or there is no such header or packet */
+    ETHERPARSE_RIGHT = 1,
+    ETHERPARSE_WRONG = 2,
+    ETHERPARSE_FRAGMENT = 3, /* it covers other fragments too */
+    ETHERPARSE_OTHER_PROTOCOL = 4, /* none of UDP, TCP, ICMP and ICMPv6 */
+    ETHERPARSE_INCOMPLETE = 5, /* not all bytes that it covers are there */
+    ETHERPARSE_NOT_COMPUTED = 6 /* the field of UDP over IPv4 is 0 (RFC 768) */
+};
+
+/* A frame in its layers. */
+struct etherparse_packet {
+    struct etherparse_packet_link link;
+    struct etherparse_packet_ip ip;
+    struct etherparse_packet_transport transport;
+    /* why the frame is not read further; each layer_start_offset counts from the start of the
+     * frame. ETHERPARSE_OK if nothing stopped the reading */
+    struct etherparse_error stop;
+    uint8_t header_checksum; /* of an IPv4 header: NOT_JUDGED, RIGHT or WRONG */
+    uint8_t payload_checksum; /* of UDP, TCP, ICMP or ICMPv6, with its pseudo-header */
+};
+
+/* Link types, by their numbers in the registry of tcpdump.org, which pcap_datalink returns (with
+ * other numbers for RAW on some systems, which are read too). */
+enum {
+    ETHERPARSE_LINKTYPE_NULL = 0,
+    ETHERPARSE_LINKTYPE_ETHERNET = 1,
+    ETHERPARSE_LINKTYPE_RAW = 101, /* an IP packet without a link header */
+    ETHERPARSE_LINKTYPE_LOOP = 108,
+    ETHERPARSE_LINKTYPE_LINUX_SLL = 113,
+    ETHERPARSE_LINKTYPE_LINUX_SLL2 = 276
+};
+
+/* The layers of a frame of a link type, as far as they can be read: of one that a capture cut, of
+ * one that is damaged, or of a packet whose sender left its length to the network card. If
+ * checksums is true, the checksums are judged, which reads all bytes of the packet.
+ *
+ * If stop.kind is LINK_TYPE, or LEN with the layer LINK_HEADER, there are no layers and all else
+ * is 0. Otherwise what was read is there: if the frame ends within the IP packet, ip has its parts,
+ * and transport the header if that is whole. */
+void etherparse_packet_lax_from_link_type(uint32_t link_type, const uint8_t *at, size_t len,
+    bool checksums, struct etherparse_packet *answer);
+
+/* The same of a frame that is read whole. If stop.kind is not ETHERPARSE_OK, all else is 0. The
+ * error is the first of these: LINK_TYPE; of the link header; of a VLAN tag; of the IP packet; of
+ * the transport header. */
+void etherparse_packet_strict_from_link_type(uint32_t link_type, const uint8_t *at, size_t len,
+    bool checksums, struct etherparse_packet *answer);
+
+/* The same of bytes that an EtherType names, in network byte order as a number: a VLAN tag and what
+ * it tags, an IP packet (0x0800, 0x86dd), or another protocol. */
+void etherparse_packet_lax_from_ether_type(uint16_t ether_type, const uint8_t *at, size_t len,
+    bool checksums, struct etherparse_packet *answer);
+void etherparse_packet_strict_from_ether_type(uint16_t ether_type, const uint8_t *at, size_t len,
+    bool checksums, struct etherparse_packet *answer);
+
+/* A frame of a list. */
+struct etherparse_frame {
+    const uint8_t *at;
+    size_t len; /* of what there is of it, in bytes */
+    size_t original_len; /* on the wire, in bytes: layers do not depend on it */
+};
+
+/* etherparse_packet_lax_from_link_type of each frame of a list: answers[i] is that of frames[i]. It
+ * returns how many there are, the smaller count of both; the answers after them stay as they are.
+ * The lists do not overlap. */
+size_t etherparse_packet_lax_batch(uint32_t link_type, const struct etherparse_frame *frames,
+    size_t frame_count, bool checksums, struct etherparse_packet *answers, size_t answer_count);
+
 /* The layout, as the library has it. */
 #ifdef ETHERPARSE_STATIC_ASSERT
 ETHERPARSE_SIZE(etherparse_slice, 16);
@@ -509,6 +667,57 @@ ETHERPARSE_SIZE(etherparse_ipv6_walk_answer, 64);
 ETHERPARSE_FIELD(etherparse_ipv6_walk_answer, next_header, 0, 1);
 ETHERPARSE_FIELD(etherparse_ipv6_walk_answer, error, 8, 40);
 ETHERPARSE_FIELD(etherparse_ipv6_walk_answer, rest, 48, 16);
+ETHERPARSE_SIZE(etherparse_part, 16);
+ETHERPARSE_FIELD(etherparse_part, offset, 0, 8);
+ETHERPARSE_FIELD(etherparse_part, len, 8, 8);
+ETHERPARSE_SIZE(etherparse_vlan_tag, 4);
+ETHERPARSE_FIELD(etherparse_vlan_tag, identifier, 0, 2);
+ETHERPARSE_FIELD(etherparse_vlan_tag, priority, 2, 1);
+ETHERPARSE_FIELD(etherparse_vlan_tag, drop_eligible, 3, 1);
+ETHERPARSE_SIZE(etherparse_packet_link, 56);
+ETHERPARSE_FIELD(etherparse_packet_link, header, 0, 16);
+ETHERPARSE_FIELD(etherparse_packet_link, payload, 16, 16);
+ETHERPARSE_FIELD(etherparse_packet_link, family, 32, 4);
+ETHERPARSE_FIELD(etherparse_packet_link, ether_type, 36, 2);
+ETHERPARSE_FIELD(etherparse_packet_link, outer_vlan, 38, 4);
+ETHERPARSE_FIELD(etherparse_packet_link, inner_vlan, 42, 4);
+ETHERPARSE_FIELD(etherparse_packet_link, kind, 46, 1);
+ETHERPARSE_FIELD(etherparse_packet_link, vlan_count, 47, 1);
+ETHERPARSE_FIELD(etherparse_packet_link, has_ether_type, 48, 1);
+ETHERPARSE_SIZE(etherparse_packet_ip, 72);
+ETHERPARSE_FIELD(etherparse_packet_ip, header, 0, 16);
+ETHERPARSE_FIELD(etherparse_packet_ip, extensions, 16, 16);
+ETHERPARSE_FIELD(etherparse_packet_ip, payload, 32, 16);
+ETHERPARSE_FIELD(etherparse_packet_ip, packet_len, 48, 8);
+ETHERPARSE_FIELD(etherparse_packet_ip, identification, 56, 4);
+ETHERPARSE_FIELD(etherparse_packet_ip, fragment_offset, 60, 4);
+ETHERPARSE_FIELD(etherparse_packet_ip, version, 64, 1);
+ETHERPARSE_FIELD(etherparse_packet_ip, upper, 65, 1);
+ETHERPARSE_FIELD(etherparse_packet_ip, is_fragment, 66, 1);
+ETHERPARSE_FIELD(etherparse_packet_ip, more_fragments, 67, 1);
+ETHERPARSE_FIELD(etherparse_packet_ip, is_later_fragment, 68, 1);
+ETHERPARSE_FIELD(etherparse_packet_ip, is_truncated, 69, 1);
+ETHERPARSE_SIZE(etherparse_packet_transport, 48);
+ETHERPARSE_FIELD(etherparse_packet_transport, header, 0, 16);
+ETHERPARSE_FIELD(etherparse_packet_transport, payload, 16, 16);
+ETHERPARSE_FIELD(etherparse_packet_transport, source_port, 32, 2);
+ETHERPARSE_FIELD(etherparse_packet_transport, destination_port, 34, 2);
+ETHERPARSE_FIELD(etherparse_packet_transport, kind, 36, 1);
+ETHERPARSE_FIELD(etherparse_packet_transport, has_ports, 37, 1);
+ETHERPARSE_FIELD(etherparse_packet_transport, tcp_flags, 38, 1);
+ETHERPARSE_FIELD(etherparse_packet_transport, icmp_type, 39, 1);
+ETHERPARSE_FIELD(etherparse_packet_transport, icmp_code, 40, 1);
+ETHERPARSE_SIZE(etherparse_packet, 224);
+ETHERPARSE_FIELD(etherparse_packet, link, 0, 56);
+ETHERPARSE_FIELD(etherparse_packet, ip, 56, 72);
+ETHERPARSE_FIELD(etherparse_packet, transport, 128, 48);
+ETHERPARSE_FIELD(etherparse_packet, stop, 176, 40);
+ETHERPARSE_FIELD(etherparse_packet, header_checksum, 216, 1);
+ETHERPARSE_FIELD(etherparse_packet, payload_checksum, 217, 1);
+ETHERPARSE_SIZE(etherparse_frame, 24);
+ETHERPARSE_FIELD(etherparse_frame, at, 0, 8);
+ETHERPARSE_FIELD(etherparse_frame, len, 8, 8);
+ETHERPARSE_FIELD(etherparse_frame, original_len, 16, 8);
 #undef ETHERPARSE_SIZE
 #undef ETHERPARSE_FIELD
 #undef ETHERPARSE_STATIC_ASSERT

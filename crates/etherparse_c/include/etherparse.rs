@@ -13,11 +13,22 @@ pub const HEADER_LENGTH_SMALLER_THAN_HEADER: u32 = 3;
 pub const TOO_MANY: u32 = 4;
 pub const VALUE_TOO_BIG: u32 = 5;
 pub const BAD_OPTIONS_LEN: u32 = 6;
+pub const DATA_OFFSET: u32 = 7;
+pub const LINK_TYPE: u32 = 8;
 
 pub const IPV4_HEADER: u16 = 1;
 pub const IPV4_PACKET: u16 = 2;
 pub const IPV6_HEADER: u16 = 3;
 pub const IPV6_EXT_HEADER: u16 = 4;
+pub const LINK_HEADER: u16 = 5;
+pub const VLAN_HEADER: u16 = 6;
+pub const IP_HEADER: u16 = 7;
+pub const IPV4_PACKET_BYTES: u16 = 8;
+pub const IPV6_PACKET: u16 = 9;
+pub const UDP_HEADER: u16 = 10;
+pub const TCP_HEADER: u16 = 11;
+pub const ICMPV4: u16 = 12;
+pub const ICMPV6: u16 = 13;
 
 pub const IP_FRAGMENT_OFFSET: u16 = 1;
 pub const IP_DSCP: u16 = 2;
@@ -25,6 +36,30 @@ pub const IP_ECN: u16 = 3;
 pub const IPV6_FLOW_LABEL: u16 = 4;
 pub const IPV4_PAYLOAD_LENGTH: u16 = 5;
 pub const IPV6_PAYLOAD_LENGTH: u16 = 6;
+
+// Link headers.
+pub const NO_LINK: u8 = 0;
+pub const ETHERNET: u8 = 1;
+pub const LINUX_SLL: u8 = 2;
+pub const LINUX_SLL2: u8 = 3;
+pub const LOOPBACK: u8 = 4;
+pub const FRAMED: u8 = 5;
+
+// What a receiver finds of a checksum.
+pub const NOT_JUDGED: u8 = 0;
+pub const RIGHT: u8 = 1;
+pub const WRONG: u8 = 2;
+pub const FRAGMENT: u8 = 3;
+pub const OTHER_PROTOCOL: u8 = 4;
+pub const INCOMPLETE: u8 = 5;
+pub const NOT_COMPUTED: u8 = 6;
+
+pub const LINKTYPE_NULL: u32 = 0;
+pub const LINKTYPE_ETHERNET: u32 = 1;
+pub const LINKTYPE_RAW: u32 = 101;
+pub const LINKTYPE_LOOP: u32 = 108;
+pub const LINKTYPE_LINUX_SLL: u32 = 113;
+pub const LINKTYPE_LINUX_SLL2: u32 = 276;
 
 /// Room in bytes for the longest text of an error and the 0 after it.
 pub const ERROR_TEXT_SIZE: usize = 301;
@@ -214,6 +249,92 @@ pub struct Ipv6WalkAnswer {
     pub rest: Rest,
 }
 
+/// A part of a frame.
+#[repr(C)]
+#[derive(Clone, Copy, Debug, Default, PartialEq, Eq)]
+pub struct Part {
+    pub offset: usize,
+    pub len: usize,
+}
+
+/// A VLAN tag.
+#[repr(C)]
+#[derive(Clone, Copy, Debug, Default, PartialEq, Eq)]
+pub struct VlanTag {
+    pub identifier: u16,
+    pub priority: u8,
+    pub drop_eligible: bool,
+}
+
+/// The link header of a frame and its VLAN tags.
+#[repr(C)]
+#[derive(Clone, Copy, Debug, Default, PartialEq, Eq)]
+pub struct PacketLink {
+    pub header: Part,
+    pub payload: Part,
+    pub family: u32,
+    pub ether_type: u16,
+    pub outer_vlan: VlanTag,
+    pub inner_vlan: VlanTag,
+    pub kind: u8,
+    pub vlan_count: u8,
+    pub has_ether_type: bool,
+}
+
+/// The IP packet of a frame.
+#[repr(C)]
+#[derive(Clone, Copy, Debug, Default, PartialEq, Eq)]
+pub struct PacketIp {
+    pub header: Part,
+    pub extensions: Part,
+    pub payload: Part,
+    pub packet_len: usize,
+    pub identification: u32,
+    pub fragment_offset: u32,
+    pub version: u8,
+    pub upper: u8,
+    pub is_fragment: bool,
+    pub more_fragments: bool,
+    pub is_later_fragment: bool,
+    pub is_truncated: bool,
+}
+
+/// The transport header of an IP packet.
+#[repr(C)]
+#[derive(Clone, Copy, Debug, Default, PartialEq, Eq)]
+pub struct PacketTransport {
+    pub header: Part,
+    pub payload: Part,
+    pub source_port: u16,
+    pub destination_port: u16,
+    pub kind: u8,
+    pub has_ports: bool,
+    pub tcp_flags: u8,
+    pub icmp_type: u8,
+    pub icmp_code: u8,
+}
+
+/// A frame in its layers.
+#[repr(C)]
+#[derive(Clone, Copy, Debug, Default, PartialEq, Eq)]
+pub struct Packet {
+    pub link: PacketLink,
+    pub ip: PacketIp,
+    pub transport: PacketTransport,
+    pub stop: Error,
+    pub header_checksum: u8,
+    pub payload_checksum: u8,
+}
+
+/// A frame of a list.
+#[repr(C)]
+#[derive(Clone, Copy, Debug)]
+pub struct Frame {
+    pub at: *const u8,
+    pub len: usize,
+    pub original_len: usize,
+}
+
 unsafe extern "C" {
     pub fn etherparse_u64_16bit_word_add_slice(start_sum: u64, at: *const u8, len: usize) -> u64;
     pub fn etherparse_u32_16bit_word_add_slice(start_sum: u32, at: *const u8, len: usize) -> u32;
@@ -260,6 +381,43 @@ unsafe extern "C" {
         next_header: u8,
         limit: usize,
     ) -> Ipv6WalkAnswer;
+
+    pub fn etherparse_packet_lax_from_link_type(
+        link_type: u32,
+        at: *const u8,
+        len: usize,
+        checksums: bool,
+        answer: &mut Packet,
+    );
+    pub fn etherparse_packet_strict_from_link_type(
+        link_type: u32,
+        at: *const u8,
+        len: usize,
+        checksums: bool,
+        answer: &mut Packet,
+    );
+    pub fn etherparse_packet_lax_from_ether_type(
+        ether_type: u16,
+        at: *const u8,
+        len: usize,
+        checksums: bool,
+        answer: &mut Packet,
+    );
+    pub fn etherparse_packet_strict_from_ether_type(
+        ether_type: u16,
+        at: *const u8,
+        len: usize,
+        checksums: bool,
+        answer: &mut Packet,
+    );
+    pub fn etherparse_packet_lax_batch(
+        link_type: u32,
+        frames: *const Frame,
+        frame_count: usize,
+        checksums: bool,
+        answers: *mut Packet,
+        answer_count: usize,
+    ) -> usize;
 }
 
 // The layout, as the library has it: a size in bytes, and each field's offset.
@@ -308,3 +466,25 @@ layout!(Ipv6ViewAnswer: 104, view 0, error 48, rest 88);
 layout!(Ipv6ReadAnswer: 104, fields 0, error 48, rest 88);
 layout!(Ipv6Bytes: 41, bytes 0, len 40);
 layout!(Ipv6WalkAnswer: 64, next_header 0, error 8, rest 48);
+layout!(Part: 16, offset 0, len 8);
+layout!(VlanTag: 4, identifier 0, priority 2, drop_eligible 3);
+layout!(
+    PacketLink: 56,
+    header 0, payload 16, family 32, ether_type 36, outer_vlan 38, inner_vlan 42, kind 46,
+    vlan_count 47, has_ether_type 48
+);
+layout!(
+    PacketIp: 72,
+    header 0, extensions 16, payload 32, packet_len 48, identification 56, fragment_offset 60,
+    version 64, upper 65, is_fragment 66, more_fragments 67, is_later_fragment 68, is_truncated 69
+);
+layout!(
+    PacketTransport: 48,
+    header 0, payload 16, source_port 32, destination_port 34, kind 36, has_ports 37, tcp_flags 38,
+    icmp_type 39, icmp_code 40
+);
+layout!(
+    Packet: 224,
+    link 0, ip 56, transport 128, stop 176, header_checksum 216, payload_checksum 217
+);
+layout!(Frame: 24, at 0, len 8, original_len 16);

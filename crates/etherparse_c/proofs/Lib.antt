@@ -1,2 +1,6 @@
+mod Places
+mod Whole
+mod Batch
+mod Within
 mod Answered
 mod Fields

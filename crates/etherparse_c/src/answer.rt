@@ -3,9 +3,16 @@
 ghost use Rattle.std.specs.Prelude.{ℕ, ◌≡◌, ◌≤◌, ◌+◌, List, length};
 ghost use Rattle.etherparse_c.specs.Answer.{rest_of};
 ghost use Rattle.etherparse_c.specs.Error.{chain_error_in_c, ipv4_error_in_c, ipv6_error_in_c};
-ghost use Rattle.etherparse_c.specs.Error.{layer_in_c, len_error_in_c};
+ghost use Rattle.etherparse_c.specs.Error.{ip_error_in_c, ip_packet_layer_in_c, layer_in_c};
+ghost use Rattle.etherparse_c.specs.Error.{len_error_in_c, link_error_in_c, link_type_error};
+ghost use Rattle.etherparse_c.specs.Error.{slice_error_in_c, stop_in_c, tcp_error_in_c};
 
+use etherparse::LenSource;
 use etherparse::err::{Layer, LenError, ipv4, ipv6};
+use packet::error::SliceError;
+use packet::link::LinkError;
+use packet_parts::ip_slice::IpSliceError;
+use packet_parts::tcp::TcpError;
 
 // The kinds of errors; 0 is none.
 pub(crate) const LEN: u32 = 1;
@@ -20,6 +27,10 @@ pub(crate) const VALUE_TOO_BIG: u32 = 5;
 
 pub(crate) const BAD_OPTIONS_LEN: u32 = 6;
 
+pub(crate) const DATA_OFFSET: u32 = 7;
+
+pub(crate) const LINK_TYPE: u32 = 8;
+
 // The layers.
 pub(crate) const IPV4_HEADER: u16 = 1;
 
@@ -28,6 +39,24 @@ pub(crate) const IPV4_PACKET: u16 = 2;
 pub(crate) const IPV6_HEADER: u16 = 3;
 
 pub(crate) const IPV6_EXT_HEADER: u16 = 4;
+
+pub(crate) const LINK_HEADER: u16 = 5;
+
+pub(crate) const VLAN_HEADER: u16 = 6;
+
+pub(crate) const IP_HEADER: u16 = 7;
+
+pub(crate) const IPV4_PACKET_BYTES: u16 = 8;
+
+pub(crate) const IPV6_PACKET: u16 = 9;
+
+pub(crate) const UDP_HEADER: u16 = 10;
+
+pub(crate) const TCP_HEADER: u16 = 11;
+
+pub(crate) const ICMPV4: u16 = 12;
+
+pub(crate) const ICMPV6: u16 = 13;
 
 // The values that can be too big.
 pub(crate) const IP_FRAGMENT_OFFSET: u16 = 1;
@@ -47,20 +76,26 @@ pub(crate) const IPV6_PAYLOAD_LENGTH: u16 = 6;
 #[derive(Default, Drop)]
 pub struct Error {
     /// Which error it is: 0 none, 1 a length, 2 another version, 3 an IHL below 5, 4 too many
-    /// extension headers, 5 a value that is too big, 6 a length that options cannot have.
+    /// extension headers, 5 a value that is too big, 6 a length that options cannot have, 7 a data
+    /// offset below 5, 8 a link type that is not read.
     pub kind: u32,
     /// For kind 2 the version number, for kind 3 the IHL, for kind 4 the number of the header that
     /// is one too many, for kind 5 which value it is: 1 a fragment offset, 2 a DSCP, 3 an ECN, 4 a
-    /// flow label, 5 the length of an IPv4 payload, 6 that of an IPv6 payload.
+    /// flow label, 5 the length of an IPv4 payload, 6 that of an IPv6 payload. For kind 7 the data
+    /// offset.
     pub number: u16,
-    /// For kinds 1 to 4 the layer: 1 an IPv4 header, 2 an IPv4 packet, whose length is the total
-    /// length of its header, 3 an IPv6 header, 4 an IPv6 extension header.
+    /// For kinds 1 to 4 and 7 the layer: 1 an IPv4 header, 2 an IPv4 packet, whose length is the
+    /// total length of its header, 3 an IPv6 header, 4 an IPv6 extension header, 5 a link header, 6
+    /// a VLAN tag, 7 an IP header of any version, 8 an IPv4 packet, whose length is how many bytes
+    /// there are, 9 an IPv6 packet, 10 a UDP header, 11 a TCP header, 12 an ICMP message, 13 an
+    /// ICMPv6 message.
     pub layer: u16,
     /// For kind 1 the required length, in bytes.
     pub required_len: usize,
-    /// For kinds 1 and 6 the actual length, in bytes; for kind 5 the value.
+    /// For kinds 1 and 6 the actual length, in bytes; for kind 5 the value; for kind 8 the number of
+    /// the link type.
     pub len: usize,
-    /// For kinds 1 and 4 where the header starts, in bytes from the start of the slice.
+    /// For kinds 1 and 4 where the layer starts, in bytes from the start of the slice.
     pub layer_start_offset: usize,
     /// For kind 4 how many headers were allowed, for kind 5 the greatest allowed value.
     pub limit: usize,
@@ -157,6 +192,99 @@ impl Error {
             },
         }
     }
+
+    // The error of an IP packet.
+    fn of_ip(e: &IpSliceError) -> Error
+        ensures value { result ≡ ip_error_in_c e.now }
+    {
+        match e {
+            IpSliceError::Empty => Error {
+                kind: LEN,
+                layer: IP_HEADER,
+                required_len: 1,
+                ..Error::default()
+            },
+            IpSliceError::UnexpectedVersion { version_number } => Error {
+                kind: UNEXPECTED_VERSION,
+                number: u16::from(*version_number),
+                layer: IP_HEADER,
+                ..Error::default()
+            },
+            IpSliceError::Ipv4Header(e) => Error::of_ipv4(e),
+            IpSliceError::Ipv6Header(e) => Error::of_ipv6(e),
+            IpSliceError::Packet(e) => Error {
+                layer: packet_layer_number(e.len_source, e.layer),
+                ..Error::of_len(e)
+            },
+            IpSliceError::Extensions(e) => Error::of_len(e),
+        }
+    }
+
+    // The error of a link header.
+    pub(crate) fn of_link(e: &LinkError) -> Error
+        ensures value { result ≡ link_error_in_c e.now }
+    {
+        Error {
+            kind: LEN,
+            layer: LINK_HEADER,
+            required_len: e.required_len,
+            len: e.len,
+            ..Error::default()
+        }
+    }
+
+    // The error of a TCP header.
+    fn of_tcp(e: &TcpError) -> Error
+        ensures value { result ≡ tcp_error_in_c e.now }
+    {
+        match e {
+            TcpError::Len(e) => Error::of_len(e),
+            TcpError::DataOffset(offset) => Error {
+                kind: DATA_OFFSET,
+                number: u16::from(*offset),
+                layer: TCP_HEADER,
+                ..Error::default()
+            },
+        }
+    }
+
+    // Why a frame is not read further.
+    #[cold]
+    #[inline(never)] // A frame that nothing stops then needs no room for it.
+    pub(crate) fn of_slice_error(e: &SliceError) -> Error
+        ensures value { result ≡ slice_error_in_c e.now }
+    {
+        match e {
+            SliceError::Link(e) => Error::of_link(e),
+            SliceError::Vlan(e) => Error::of_len(e),
+            SliceError::Ip(e) => Error::of_ip(e),
+            SliceError::Udp(e) => Error::of_len(e),
+            SliceError::Tcp(e) => Error::of_tcp(e),
+            SliceError::Icmp(e) => Error::of_len(e),
+        }
+    }
+
+    // The same, or no error.
+    #[inline(always)]
+    pub(crate) fn of_stop(stop: &Option<SliceError>) -> Error
+        ensures value { result ≡ stop_in_c stop.now }
+    {
+        match stop {
+            Some(e) => Error::of_slice_error(e),
+            None => Error::default(),
+        }
+    }
+
+    // The error of a link type that is not read.
+    pub(crate) fn of_link_type(number: u32) -> Error
+        ensures value { result ≡ link_type_error number }
+    {
+        Error {
+            kind: LINK_TYPE,
+            len: number as usize,
+            ..Error::default()
+        }
+    }
 }
 
 impl Rest {
@@ -196,6 +324,23 @@ fn layer_number(layer: Layer) -> u16
         Layer::Ipv4Packet => IPV4_PACKET,
         Layer::Ipv6Header => IPV6_HEADER,
         Layer::Ipv6ExtHeader => IPV6_EXT_HEADER,
+        Layer::VlanHeader => VLAN_HEADER,
+        Layer::IpHeader => IP_HEADER,
+        Layer::Ipv6Packet => IPV6_PACKET,
+        Layer::UdpHeader => UDP_HEADER,
+        Layer::TcpHeader => TCP_HEADER,
+        Layer::Icmpv4 => ICMPV4,
+        Layer::Icmpv6 => ICMPV6,
         _ => 0,
+    }
+}
+
+// The number of the layer of an IP packet with a wrong length.
+fn packet_layer_number(source: LenSource, layer: Layer) -> u16
+    ensures value { result ≡ ip_packet_layer_in_c source layer }
+{
+    match (source, layer) {
+        (LenSource::Slice, Layer::Ipv4Packet) => IPV4_PACKET_BYTES,
+        _ => layer_number(layer),
     }
 }

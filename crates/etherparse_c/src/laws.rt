@@ -1,7 +1,7 @@
-//! Laws of the texts of errors: the text of each error that a call returns is the library's own.
-//! Nothing calls this function: it is there to be proved.
+//! Laws: the text of each error that a call returns is the library's own; the parts of a packet are
+//! the bytes at their places. Nothing calls these functions: they are there to be proved.
 
-ghost use Rattle.std.specs.Prelude.{ℕ, ◌≡◌, ◌<◌, List, Err, length};
+ghost use Rattle.std.specs.Prelude.{ℕ, ◌≡◌, ◌<◌, Bool, List, Err, Option, length};
 ghost use Rattle.etherparse.specs.ExtensionHeaderChain.{WalksUpTo};
 ghost use Rattle.etherparse.specs.Ipv4Errors.{ipv4_header_slice_error_text};
 ghost use Rattle.etherparse.specs.Ipv4Header.{ReadsIpv4, ipv4_payload_len};
@@ -16,6 +16,12 @@ ghost use Rattle.etherparse.specs.declared.net.ipv4_header.Ipv4Header.{Ipv4Heade
 ghost use Rattle.etherparse_c.specs.Error.{chain_error_in_c, ipv4_error_in_c, ipv6_error_in_c};
 ghost use Rattle.etherparse_c.specs.Error.{len_error_in_c};
 ghost use Rattle.etherparse_c.specs.ErrorText.{GivesText};
+ghost use Rattle.etherparse_c.specs.Layers.{IsPacketInC, LieThere};
+ghost use Rattle.etherparse_c.specs.declared.packet_layers.Packet.{Packet};
+ghost use Rattle.packet.specs.SlicedPacket.{IsFrame};
+ghost use Rattle.packet.specs.declared.error.SliceError.{SliceError};
+ghost use Rattle.packet.specs.declared.link.LinkType.{LinkType};
+ghost use Rattle.packet.specs.declared.sliced_packet.SlicedPacket.{SlicedPacket};
 
 use crate::answer::Error;
 use crate::text::etherparse_error_text;
@@ -38,3 +44,12 @@ fn text_of_answers(error: &Error, text: &mut [u8]) -> usize
 {
     etherparse_error_text(error, text)
 }
+
+// Where C is told that the payload of a frame's link and the parts of its IP packet are, there are
+// those bytes.
+fn parts_of_answers()
+    ensures lie_there { (link_type : LinkType) → (frame : List ℕ) → (packet : SlicedPacket) →
+        (stop : Option SliceError) → (checksums : Bool) → (in_c : Packet) →
+        IsFrame link_type frame packet stop →
+        IsPacketInC (length frame) checksums packet stop in_c → LieThere frame packet in_c }
+{}

@@ -14,13 +14,21 @@ ghost use Rattle.etherparse.specs.declared.err.ValueType.{ValueType};
 ghost use Rattle.etherparse.specs.declared.err.ipv4.HeaderError.TheVariants as ipv4;
 ghost use Rattle.etherparse.specs.declared.err.ipv6.ChainError.TheVariants as chain;
 ghost use Rattle.etherparse.specs.declared.err.ipv6.HeaderError.TheVariants as ipv6;
-ghost use Rattle.etherparse_c.specs.Error.{len_error_in_c, value_in_c};
-ghost use Rattle.etherparse_c.specs.ErrorText.{GivesText, HasNumbers};
+ghost use Rattle.packet.specs.Link.{link_error_text};
+ghost use Rattle.packet_parts.specs.IpSlice.{ip_slice_error_text};
+ghost use Rattle.packet_parts.specs.Tcp.{tcp_error_text};
+ghost use Rattle.packet_parts.specs.declared.ip_slice.IpSliceError.TheVariants as ip;
+ghost use Rattle.packet_parts.specs.declared.tcp.TcpError.TheVariants as tcp;
+ghost use Rattle.etherparse_c.specs.Error.{layer_in_c, len_error_in_c, value_in_c};
+ghost use Rattle.etherparse_c.specs.ErrorText.{GivesText, HasNumbers, IsShortIpv4Packet};
+ghost use Rattle.etherparse_c.specs.ErrorText.{link_type_error_text};
 
 use crate::answer::{
-    BAD_OPTIONS_LEN, Error, HEADER_LENGTH_SMALLER_THAN_HEADER, IP_DSCP, IP_ECN, IP_FRAGMENT_OFFSET,
-    IPV4_HEADER, IPV4_PACKET, IPV4_PAYLOAD_LENGTH, IPV6_EXT_HEADER, IPV6_FLOW_LABEL, IPV6_HEADER,
-    IPV6_PAYLOAD_LENGTH, LEN, TOO_MANY, UNEXPECTED_VERSION, VALUE_TOO_BIG,
+    BAD_OPTIONS_LEN, DATA_OFFSET, Error, HEADER_LENGTH_SMALLER_THAN_HEADER, ICMPV4, ICMPV6,
+    IP_DSCP, IP_ECN, IP_FRAGMENT_OFFSET, IP_HEADER, IPV4_HEADER, IPV4_PACKET, IPV4_PACKET_BYTES,
+    IPV4_PAYLOAD_LENGTH, IPV6_EXT_HEADER, IPV6_FLOW_LABEL, IPV6_HEADER, IPV6_PACKET,
+    IPV6_PAYLOAD_LENGTH, LEN, LINK_HEADER, LINK_TYPE, TCP_HEADER, TOO_MANY, UDP_HEADER,
+    UNEXPECTED_VERSION, VALUE_TOO_BIG, VLAN_HEADER,
 };
 use itoa::Buffer;
 
@@ -56,13 +64,32 @@ pub extern "C" fn etherparse_error_text(error: &Error, text: &mut [u8]) -> usize
         GivesText (bad_options_len_text (record { bad_len = error.now.len }))
         text.old text.new result }
 
+    ensures ipv4_packet { (e : LenError) → IsShortIpv4Packet e →
+        record error.now { number = 0; limit = 0 } ≡ record (len_error_in_c e) { layer = 8 } →
+        GivesText (len_error_text e) text.old text.new result }
+    ensures link { error.now.kind ≡ 1 → error.now.layer ≡ 5 →
+        error.now.len < error.now.required_len →
+        GivesText (link_error_text (record {
+          required_len = error.now.required_len;
+          len = error.now.len;
+        })) text.old text.new result }
+    ensures ip_version { error.now.kind ≡ 2 → error.now.layer ≡ 7 →
+        GivesText (ip_slice_error_text (ip.UnexpectedVersion error.now.number))
+        text.old text.new result }
+    ensures data_offset { error.now.kind ≡ 7 →
+        GivesText (tcp_error_text (tcp.DataOffset error.now.number)) text.old text.new result }
+    ensures link_type { error.now.kind ≡ 8 →
+        GivesText (link_type_error_text error.now.len) text.old text.new result }
+
     // No error has the kind, the layer or the value, or the length is not too small.
     ensures none { (error.now.kind ≡ 1 → error.now.len < error.now.required_len →
-        (error.now.layer ≡ 0) ⊎ (4 < error.now.layer)) →
-        (error.now.kind ≡ 2 → (error.now.layer ≢ 1) × (error.now.layer ≢ 3)) →
+        (error.now.layer ≡ 0) ⊎ (13 < error.now.layer)) →
+        (error.now.kind ≡ 2 →
+        (error.now.layer ≢ 1) × (error.now.layer ≢ 3) × (error.now.layer ≢ 7)) →
         error.now.kind ≢ 3 → error.now.kind ≢ 4 →
         (error.now.kind ≡ 5 → (error.now.number ≡ 0) ⊎ (6 < error.now.number)) →
-        error.now.kind ≢ 6 → GivesText [] text.old text.new result }
+        error.now.kind ≢ 6 → error.now.kind ≢ 7 → error.now.kind ≢ 8 →
+        GivesText [] text.old text.new result }
 {
     match error.kind {
         LEN
@@ -71,6 +98,33 @@ pub extern "C" fn etherparse_error_text(error: &Error, text: &mut [u8]) -> usize
                 && error.layer <= IPV6_EXT_HEADER => {
             return put_len(error, text);
         }
+        LEN if error.len < error.required_len && error.layer == LINK_HEADER => {
+            return put_link_len(error, text);
+        }
+        LEN
+            if error.len < error.required_len
+                && error.layer > LINK_HEADER
+                && error.layer <= ICMPV6 => {
+            return put_frame_len(error, text);
+        }
+        UNEXPECTED_VERSION if error.layer == IP_HEADER => return put_number(
+            "IP Header Error: Version ",
+            usize::from(error.number),
+            " is neither 4 nor 6.",
+            text,
+        ),
+        DATA_OFFSET => return put_number(
+            "TCP Header Error: Data offset ",
+            usize::from(error.number),
+            " is less than 5.",
+            text,
+        ),
+        LINK_TYPE => return put_number(
+            "Link Type Error: Frames of link type ",
+            error.len,
+            " are not read.",
+            text,
+        ),
         UNEXPECTED_VERSION if error.layer == IPV4_HEADER => return put_number(
             "IPv4 Header Error: Encountered '",
             usize::from(error.number),
@@ -130,6 +184,51 @@ fn put_len(error: &Error, text: &mut [u8]) -> usize
     put_len_in(error, title, layer, source, text)
 }
 
+// The same for a layer of a frame.
+fn put_frame_len(error: &Error, text: &mut [u8]) -> usize
+    requires below { error.now.len < error.now.required_len }
+    requires above { 5 < error.now.layer }
+    requires known { error.now.layer ≤ 13 }
+    ensures gives { (e : LenError) → HasNumbers e →
+        record error.now { number = 0; limit = 0 } ≡ len_error_in_c e →
+        GivesText (len_error_text e) text.old text.new result }
+    ensures ipv4_packet { (e : LenError) → IsShortIpv4Packet e →
+        record error.now { number = 0; limit = 0 } ≡ record (len_error_in_c e) { layer = 8 } →
+        GivesText (len_error_text e) text.old text.new result }
+{
+    let (title, layer): (&'static str, &'static str) = match error.layer {
+        VLAN_HEADER => ("VLAN Header Error", "VLAN header"),
+        IP_HEADER => ("IP Header Error", "IP header"),
+        IPV4_PACKET_BYTES => ("IPv4 Packet Error", "IPv4 packet"),
+        IPV6_PACKET => ("IPv6 Packet Error", "IPv6 packet"),
+        UDP_HEADER => ("UDP Header Error", "UDP header"),
+        TCP_HEADER => ("TCP Header Error", "TCP header"),
+        ICMPV4 => ("ICMP Packet Error", "ICMP packet"),
+        _ => ("ICMPv6 Packet Error", "ICMPv6 packet"),
+    };
+    put_len_in(error, title, layer, "slice length", text)
+}
+
+// The text of a frame that is shorter than its link header.
+fn put_link_len(error: &Error, text: &mut [u8]) -> usize
+    ensures gives { GivesText (link_error_text (record {
+      required_len = error.now.required_len;
+      len = error.now.len;
+    })) text.old text.new result }
+{
+    let (mut required_len, mut len) = (Buffer::new(), Buffer::new());
+    put(
+        &[
+            "Link Header Error: The header has ",
+            digits(error.required_len, &mut required_len),
+            " bytes, the frame ",
+            digits(error.len, &mut len),
+            ".",
+        ],
+        text,
+    )
+}
+
 // The same for a layer with this title and name. Where the layer starts is left out if that is byte
 // 0.
 fn put_len_in(
@@ -142,7 +241,8 @@ fn put_len_in(
     requires below { error.now.len < error.now.required_len }
     requires short_layer { length layer.now ≤ 32 }
     requires short { length title.now + length source.now ≤ 128 }
-    ensures gives { (e : LenError) → record error.now { number = 0; limit = 0 } ≡ len_error_in_c e →
+    ensures gives { (e : LenError) →
+        record error.now { number = 0; limit = 0; layer = layer_in_c e.layer } ≡ len_error_in_c e →
         title.now ≡ layer_title e.layer → layer.now ≡ layer_text e.layer →
         source.now ≡ len_source_text e.len_source →
         GivesText (len_error_text e) text.old text.new result }

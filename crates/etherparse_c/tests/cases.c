@@ -325,7 +325,7 @@ static void texts(void)
     EXPECT_BYTES(text, cut, 8);
     EXPECT(etherparse_error_text(&error, text, 0), 107);
     EXPECT_BYTES(text, cut, 8);
-    error = error_of(7, 0, 0);
+    error = error_of(9, 0, 0);
     EXPECT(etherparse_error_text(&error, text, 8), 0);
     EXPECT(text[0], 0);
     EXPECT(text[1], 'P');

@@ -198,6 +198,12 @@ pub frame_read : (link_type : LinkType) (frame : List ℕ) (p : SlicedPacket) (i
 frame_read link_type frame p i reads =
     record { reads = read_frame link_type frame p i reads; only = λ b q. whole_frame_once link_type frame b (whole_of p i) q (read_frame link_type frame p i reads) }
 
+-- so is the error of a frame that ends within its link header
+pub link_refused : (link_type : LinkType) (frame : List ℕ) (e : LinkError) → LacksLink link_type frame e → IsReadingOf link_type frame (Err (error.Link e))
+link_refused link_type frame e lacks =
+    let reads : ReadsFrame link_type frame (Err (error.Link e)) = inl (record { inside = e; lacks = lacks; error = refl }) in
+    record { reads = reads; only = λ b q. whole_frame_once link_type frame b (Err (error.Link e)) q reads }
+
 pub after_read : (first : Option ℕ) (bytes : List ℕ) (p : SlicedPacket) (i : Option SliceError) → HasLayersAfter first bytes p i → IsReadingAfter first bytes (whole_of p i)
 after_read first bytes p i reads = record {
   reads = read_whole (HasLayersAfter first bytes) p i reads;

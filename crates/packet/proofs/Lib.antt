@@ -1,3 +1,3 @@
-mod Frames
-mod Places
+pub mod Frames
+pub mod Places
 mod Transports

@@ -135,6 +135,7 @@ impl<'a> LaxSlicedPacket<'a> {
     /// assert!(rt; lax.packet.link == Some(LinkSlice::Loopback { family: 2 }));
     /// assert!(rt; matches!(lax.stop, Some(SliceError::Ip(_))));
     /// ```
+    #[inline(always)] // The caller has its parts in registers.
     pub fn from_link_type(
         link_type: LinkType,
         frame: &'a [u8],
@@ -158,6 +159,7 @@ impl<'a> LaxSlicedPacket<'a> {
     /// assert!(rt; matches!(lax.stop, Some(SliceError::Vlan(_))));
     /// assert!(rt; lax.packet.vlan.is_none() && lax.packet.payload == [1, 2, 3].as_slice());
     /// ```
+    #[inline(always)] // Likewise.
     pub fn from_ether_type(ether_type: EtherType, bytes: &'a [u8]) -> LaxSlicedPacket<'a>
         ensures reads { IsLaxReadingAfter (Some ether_type) bytes.now result }
     {
@@ -201,6 +203,7 @@ impl<'a> LaxSlicedPacket<'a> {
 }
 
 // The layers after the link header of a frame of this length, as far as they can be read.
+#[inline(always)]
 fn layers<'a>(
     frame_len: usize,
     link: Option<LinkSlice<'a>>,

@@ -16,6 +16,7 @@ pub(crate) struct Network<'a> {
 }
 
 // The IP packet at a place in a frame and its transport header, as far as they can be read.
+#[inline(always)] // The caller has its parts in registers.
 #[tactic(auto, using(crate::proofs::Places::error_within, crate::proofs::Places::header_within))]
 pub(crate) fn network_at(place: usize, packet: &[u8]) -> Network
     requires fits { place + length packet.now < 2 ^ 63 }

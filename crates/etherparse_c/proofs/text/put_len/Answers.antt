@@ -14,10 +14,11 @@ pub returns : goal.returns
 returns c = record {
   gives = λ e has is.
       let number : c.args.error.now.layer ≡ layer_in_c e.layer = ap (λ (n : Error). n.layer) is in
+      let given = ap (λ (n : Error). record n { layer = layer_in_c e.layer }) is in
       elim c.match-error.branch [
-        | in-1 w ↦ let l = same_layer e.layer layer.Ipv4Header has.layer (omega arith) in c.put_len_in.ensures.gives e is (rw (w.t-7-is, l) refl) (rw (w.t-7-is, l) refl) (rw (w.t-7-is, has.source, l) refl)
-        | in-2 w ↦ let l = same_layer e.layer layer.Ipv4Packet has.layer (omega arith) in c.put_len_in.ensures.gives e is (rw (w.t-7-is, l) refl) (rw (w.t-7-is, l) refl) (rw (w.t-7-is, has.source, l) refl)
-        | in-3 w ↦ let l = same_layer e.layer layer.Ipv6Header has.layer (omega arith) in c.put_len_in.ensures.gives e is (rw (w.t-7-is, l) refl) (rw (w.t-7-is, l) refl) (rw (w.t-7-is, has.source, l) refl)
-        | in_default w ↦ let l = same_layer e.layer layer.Ipv6ExtHeader has.layer (omega arith) in c.put_len_in.ensures.gives e is (rw (w.t-7-is, l) refl) (rw (w.t-7-is, l) refl) (rw (w.t-7-is, has.source, l) refl)
+        | in-1 w ↦ let l = same_layer e.layer layer.Ipv4Header has.layer (omega arith) in c.put_len_in.ensures.gives e given (rw (w.t-7-is, l) refl) (rw (w.t-7-is, l) refl) (rw (w.t-7-is, has.source, l) refl)
+        | in-2 w ↦ let l = same_layer e.layer layer.Ipv4Packet has.layer (omega arith) in c.put_len_in.ensures.gives e given (rw (w.t-7-is, l) refl) (rw (w.t-7-is, l) refl) (rw (w.t-7-is, has.source, l) refl)
+        | in-3 w ↦ let l = same_layer e.layer layer.Ipv6Header has.layer (omega arith) in c.put_len_in.ensures.gives e given (rw (w.t-7-is, l) refl) (rw (w.t-7-is, l) refl) (rw (w.t-7-is, has.source, l) refl)
+        | in_default w ↦ let l = same_layer e.layer layer.Ipv6ExtHeader has.layer (omega arith) in c.put_len_in.ensures.gives e given (rw (w.t-7-is, l) refl) (rw (w.t-7-is, l) refl) (rw (w.t-7-is, has.source, l) refl)
       ];
 }

@@ -1,0 +1,76 @@
+#!/usr/bin/env bash
+# install.sh: runs the commands of README.md, "Install, and a program of ten lines", one after the
+# other in a fresh folder that has the library of out/, and installs below a folder of its own. Then
+# it checks when `make` runs `rt`, and for which level. It prints what fails, and ends with 1.
+set -euo pipefail
+here=$(cd "$(dirname "$0")" && pwd)
+fresh=$here/out/install
+rm -rf "$fresh"
+trap 'rm -rf "$fresh"' EXIT # `rt` takes no links in out/.
+mkdir -p "$fresh/bin" "$fresh/crates/etherparse_c/out"
+cp "$here"/../../crates.txt "$fresh"
+cp -r "$here"/{Makefile,README.md,exports.map,include} "$here"/*.pc.in "$fresh/crates/etherparse_c"
+cd "$fresh/crates/etherparse_c"
+
+fails() { echo "install.sh: $1"; exit 1; }
+
+# An `rt` that builds nothing: it puts the proved library where `rt lib` would, and notes its words.
+cat > "$fresh/bin/rt" <<END
+#!/bin/sh
+echo "\$*" >> "$fresh/asked.txt"
+cp "$here/out/libetherparse_c.a" out/
+END
+printf '#!/bin/sh\nexec "$@"\n' > "$fresh/bin/sudo"
+chmod +x "$fresh/bin/rt" "$fresh/bin/sudo"
+
+# The folders of PATH that have no `rt`.
+others=
+while read -r -d : folder; do
+  [[ -x $folder/rt ]] || others+=$folder:
+done <<< "$PATH:"
+for tool in make cc gcc pkg-config; do
+  PATH=$others command -v "$tool" > /dev/null || fails "$tool is not there"
+done
+
+export PATH=$fresh/bin:$others
+export MAKEFLAGS="PREFIX=$fresh/usr"
+export PKG_CONFIG_PATH=$fresh/usr/lib/pkgconfig
+asked() { [[ $(cat "$fresh/asked.txt" 2> /dev/null) == "$1" ]] || fails "$2: rt was asked: $(cat "$fresh/asked.txt")"; }
+level() { [[ $(pkg-config --variable=cpu etherparse) == "$1" ]] || fails "$2: installed for $(pkg-config --variable=cpu etherparse)"; }
+
+# The page: the program, and each command.
+section() { sed -n '/^## Install, and/,/^It needs neither/p' README.md; }
+section | sed -n '/^```c$/,/^```$/p' | sed '/^```/d' > program.c
+section | sed '/^```c$/,/^```$/d' | sed -n 's/^    \(.*\)/\1/p' > commands.txt
+bash -euxo pipefail commands.txt > said.txt 2> run.txt || { cat run.txt; fails "a command of the page"; }
+printed='protocol 17, 0 bytes follow. '
+[[ $(grep -c "^$printed$" said.txt) == 3 ]] || { cat said.txt; fails "the program printed something else"; }
+asked 'lib --cpu=x86-64-v2' 'the commands of the page'
+level x86-64-v2 'the commands of the page'
+# A program of the static library needs no folder of ours when it starts.
+gcc program.c $(pkg-config --cflags --libs etherparse)
+! ldd a.out | grep -q etherparse || fails "the program wants the shared object"
+
+# Each runs `rt` only if the library is not there, is for another level, or is older than a source.
+make > said.txt 2>&1 && asked 'lib --cpu=x86-64-v2' 'a second make'
+rm "$fresh/asked.txt"
+{ make CPU=x86-64 && make install; } > said.txt 2>&1
+asked 'lib --cpu=x86-64' 'another level, then an installation'
+level x86-64 'another level, then an installation'
+mkdir src && touch src/lib.rt
+make install > said.txt 2>&1
+asked $'lib --cpu=x86-64\nlib --cpu=x86-64' 'a new source'
+rm "$fresh/asked.txt"
+rm out/libetherparse_c.a
+make install > said.txt 2>&1
+asked 'lib --cpu=x86-64-v2' 'an installation alone'
+level x86-64-v2 'an installation alone'
+
+# Without `rt`: what is there is installed, for its level, and no other.
+rm "$fresh/bin/rt" "$fresh/asked.txt"
+touch -d '+1 minute' src/lib.rt
+make uninstall > said.txt 2>&1
+[[ -z $(find "$fresh/usr" -type f -o -type l) ]] || fails "something is left after make uninstall"
+make install > said.txt 2>&1 || { cat said.txt; fails "an installation without rt"; }
+level x86-64-v2 'an installation without rt'
+! make CPU=x86-64-v3 install > said.txt 2>&1 || fails "a level that was not built is installed"

@@ -1,0 +1,179 @@
+//! A frame in its layers in one call.
+
+ghost use Rattle.std.specs.Prelude.{◌≡◌, ◌≢◌, Some, length};
+ghost use Rattle.packet.specs.Link.{link_type_of};
+ghost use Rattle.packet.specs.SlicedPacket.{IsLaxReadingAfter, IsLaxReadingOf};
+ghost use Rattle.packet.specs.SlicedPacket.{IsReadingAfter, IsReadingOf};
+ghost use Rattle.etherparse_c.specs.Batch.{AreAnswers};
+ghost use Rattle.etherparse_c.specs.Layers.{GetsAnswer, GivesLax, IsLaxInC, IsPacketInC, IsWholeInC};
+ghost use Rattle.etherparse_c.specs.Layers.{OfLinkType, refused_packet};
+
+use crate::answer::Error;
+use crate::packet_layers::{Packet, packet_of};
+use packet::ether_type::EtherType;
+use packet::lax_sliced_packet::LaxSlicedPacket;
+use packet::link::LinkType;
+
+/// The layers of a frame, as far as they can be read. The link type is a number of the registry of
+/// tcpdump.org. If `checksums` is true, the checksums of the IP packet are judged.
+///
+/// If there are none, all else is 0, and the error is the first of these: the link type is none that
+/// is read; the frame ends within its link header.
+#[unsafe(no_mangle)]
+pub extern "C" fn etherparse_packet_lax_from_link_type(
+    link_type: u32,
+    frame: &[u8],
+    checksums: bool,
+    answer: &mut Packet,
+)
+    ensures reads { GivesLax link_type checksums frame.now answer.new }
+{
+    match LinkType::from_number(link_type) {
+        Some(link_type) => put_lax(link_type, frame, checksums, answer),
+        None => *answer = refused(Error::of_link_type(link_type)),
+    }
+}
+
+/// The layers of a frame that is read whole. All else is 0 if it is not, and the error is what
+/// `etherparse_packet_lax_from_link_type` finds.
+#[unsafe(no_mangle)]
+pub extern "C" fn etherparse_packet_strict_from_link_type(
+    link_type: u32,
+    frame: &[u8],
+    checksums: bool,
+    answer: &mut Packet,
+)
+    ensures reads { OfLinkType (link_type_of link_type)
+        (λ known. GetsAnswer (IsReadingOf known frame.now)
+        (IsWholeInC (length frame.now) checksums answer.new)) link_type answer.new }
+{
+    match LinkType::from_number(link_type) {
+        Some(link_type) => {
+            put_lax(link_type, frame, checksums, answer);
+            refuse_stopped(answer);
+        }
+        None => *answer = refused(Error::of_link_type(link_type)),
+    }
+}
+
+/// The layers of bytes that an EtherType names: a VLAN tag and what it tags, an IP packet, or another
+/// protocol; as far as they can be read.
+#[unsafe(no_mangle)]
+pub extern "C" fn etherparse_packet_lax_from_ether_type(
+    ether_type: u16,
+    bytes: &[u8],
+    checksums: bool,
+    answer: &mut Packet,
+)
+    ensures reads { GetsAnswer (IsLaxReadingAfter (Some ether_type) bytes.now)
+        (λ lax. IsPacketInC (length bytes.now) checksums lax.packet lax.stop answer.new) }
+{
+    let LaxSlicedPacket { packet, stop } = LaxSlicedPacket::from_ether_type(
+        EtherType(ether_type),
+        bytes,
+    );
+    *answer = packet_of(bytes.len(), &packet, &stop, checksums);
+}
+
+/// The same of bytes that are read whole. All else is 0 if they are not.
+#[unsafe(no_mangle)]
+pub extern "C" fn etherparse_packet_strict_from_ether_type(
+    ether_type: u16,
+    bytes: &[u8],
+    checksums: bool,
+    answer: &mut Packet,
+)
+    ensures reads { GetsAnswer (IsReadingAfter (Some ether_type) bytes.now)
+        (IsWholeInC (length bytes.now) checksums answer.new) }
+{
+    etherparse_packet_lax_from_ether_type(ether_type, bytes, checksums, answer);
+    refuse_stopped(answer);
+}
+
+/// A frame of a list.
+#[repr(C)]
+#[derive(Clone, Copy)]
+pub struct Frame<'a> {
+    /// What there is of it.
+    pub bytes: &'a [u8],
+    /// How many bytes it had on the wire; a capture can have fewer.
+    pub original_len: usize,
+}
+
+/// The layers of each frame of a list, as `etherparse_packet_lax_from_link_type` has them, at the
+/// same place in a list of answers. It returns how many there are, which is the length of the
+/// shorter list; answers after them stay as they are.
+#[unsafe(no_mangle)]
+pub extern "C" fn etherparse_packet_lax_batch(
+    link_type: u32,
+    frames: &[Frame],
+    checksums: bool,
+    answers: &mut [Packet],
+) -> usize
+    ensures reads { AreAnswers (λ frame answer.
+        GivesLax link_type checksums frame.bytes.now answer)
+        frames.now answers.old answers.new result }
+{
+    let count = frames.len().min(answers.len());
+    for i in 0..count {
+        etherparse_packet_lax_from_link_type(
+            link_type,
+            frames[i].bytes,
+            checksums,
+            &mut answers[i],
+        );
+    }
+    count
+}
+
+// The layers of a frame of a link type that is read.
+fn put_lax(link_type: LinkType, frame: &[u8], checksums: bool, answer: &mut Packet)
+    ensures reads { GetsAnswer (IsLaxReadingOf link_type frame.now)
+        (IsLaxInC (length frame.now) checksums answer.new) }
+{
+    *answer = match LaxSlicedPacket::from_link_type(link_type, frame) {
+        Ok(lax) => {
+            let LaxSlicedPacket { packet, stop } = lax;
+            packet_of(frame.len(), &packet, &stop, checksums)
+        }
+        Err(e) => refused(Error::of_link(&e)),
+    };
+}
+
+// Of layers that something stopped, the error alone.
+fn refuse_stopped(answer: &mut Packet)
+    ensures whole { answer.old.stop.kind ≡ 0 → answer.new ≡ answer.old }
+    ensures refused { answer.old.stop.kind ≢ 0 → answer.new ≡ refused_packet answer.old.stop }
+{
+    if answer.stop.kind != 0 {
+        let Error {
+            kind,
+            number,
+            layer,
+            required_len,
+            len,
+            layer_start_offset,
+            limit,
+        } = answer.stop;
+        *answer = refused(Error {
+            kind,
+            number,
+            layer,
+            required_len,
+            len,
+            layer_start_offset,
+            limit,
+        });
+    }
+}
+
+// No layers, but an error.
+#[inline(always)]
+fn refused(error: Error) -> Packet
+    ensures value { result ≡ refused_packet error }
+{
+    Packet {
+        stop: error,
+        ..Packet::default()
+    }
+}
