@@ -183,7 +183,7 @@ help_and_version() {
         run "$word" tcp
         code=$?
         for line in "Usage: $build [OPTIONS] [FILE] [EXPRESSION]..." '  -r <FILE>' '  -w <FILE>' \
-            '  -c <N>' '      --count' '      --quiet' '  -n' '      --utc' '  -h, --help' '  -V, --version' \
+            '  -c <N>' '      --count' '      --quiet' '  -n' '      --utc' '      --reassemble' '  -h, --help' '  -V, --version' \
             'Link types: ' 'A line has these words:' '  ipcap trace.pcap '; do
             if ! grep -q -F -e "$line" "$room/output"; then
                 fail "$word" "it does not say '$line'"
@@ -1373,6 +1373,166 @@ dates() {
     judge 'the days of years' $? 0
 }
 
+# in_hex HEX: these bytes.
+in_hex() {
+    printf "$(sed 's/../\\x&/g' <<<"$1")"
+}
+
+# hex_record SECONDS HEX [ORIGINAL]: a record with these bytes, of a packet with as many or ORIGINAL
+# bytes.
+hex_record() {
+    number "$1"
+    number 0
+    number $((${#2} / 2))
+    number "${3:-$((${#2} / 2))}"
+    in_hex "$2"
+}
+
+# Frames with fragments, which Scapy made: two datagrams with the same identification in VLANs 5 and
+# 6, one that is contradicted twice, the front of another, one of IPv6 whose end comes first, and the
+# end of that front.
+ether=02000000000202000000000108004500
+vlan=020000000002020000000001810000
+ipv6=02000000000202000000000186dd6000000000
+ends=c0000201c6336407
+ends6=20010db800000000000000000000000120010db8000000000000000000000002
+fragments=(
+    "${vlan}050800450000240102200040116d8b${ends}138800350014cb85616c70686120696e"
+    "${vlan}060800450000240102200040116d8b${ends}177000350014c789627261766f20696e"
+    "${vlan}060800450000180102000240118d95${ends}2074776f"
+    "${vlan}050800450000180102000240118d95${ends}2074776f"
+    "${ether}00240103200040116d8a${ends}1b58003500106192636861726c69652e"
+    "${ether}00240103200040116d8a${ends}1b58003500106192636861726c696521"
+    "${ether}00240103200040116d8a${ends}1b58003500106192636861726c696521"
+    "${ether}00240104200040116d89${ends}1f4000350014c0c864656c746120696e"
+    "${ipv6}0c2c3c${ends6}110000100000000574776f2e"
+    "${ipv6}182c3c${ends6}110000010000000523280035001440f26563686f20696e20"
+    "${ether}00180104000240118d93${ends}2074776f"
+)
+
+# fragmented LAST: a capture of them, the last one so many seconds after the others.
+fragmented() {
+    local place
+    bytes 0 24
+    for ((place = 0; place < 11; place++)); do
+        hex_record $((1700000000 + (place == 10 ? $1 : 0))) "${fragments[place]}"
+    done
+}
+
+# fragment NUMBER DETAIL LENGTH PLACE VERDICT: the line on one of them; that on the whole packet if
+# PLACE is `-`.
+fragment() {
+    local time=1700000000 pair='192.0.2.1 > 198.51.100.7' hops=64 header=right
+    [[ $1 = 9 || $1 = 10 ]] && pair='2001:db8::1 > 2001:db8::2' hops=60 header=none
+    [ "$1" = 11 ] && time=1700000060
+    echo "$1 $time.000000 $pair UDP $2 length $3 hops $hops fragment $4 checksums $header $5"
+}
+
+# datagrams PACKETS IPV4 IPV6 CUT WHOLE DISCARDED INCOMPLETE: the closing line with --reassemble.
+datagrams() {
+    echo "$(closing "$1" "$2" "$3" 0 "$4" 0); datagrams: $5 reassembled, $6 discarded, $7 incomplete"
+}
+
+# first_fragments COUNT: the fronts of so many other datagrams, a second later.
+first_fragments() {
+    local k
+    for ((k = 0; k < $1; k++)); do
+        hex_record 1700000001 "${ether}002400$(printf %02x "$k")20004011$(printf %04x \
+            $((0x6e8d - k)))${ends}138800350014cb85616c70686120696e"
+    done
+}
+
+# Fragments, each as it came and put together: in VLANs of their own, contradicted, in the other
+# order, too late, for want of room, and cut by the capture.
+reassembled() {
+    fragmented 60 >"$room/input"
+    {
+        fragment 1 '5000>53' 16 258@0+ none
+        fragment 2 '6000>53' 16 258@0+ none
+        fragment 3 - 4 258@16 none
+        fragment 4 - 4 258@16 none
+        fragment 5 '7000>53' 16 259@0+ none
+        fragment 6 '7000>53' 16 259@0+ none
+        fragment 7 '7000>53' 16 259@0+ none
+        fragment 8 '8000>53' 16 260@0+ none
+        fragment 9 - 4 5@16 none
+        fragment 10 '9000>53' 16 5@0+ none
+        fragment 11 - 4 260@16 none
+    } >"$room/wanted"
+    closing 11 9 2 0 0 0 >"$room/wanted.errors"
+    run
+    judge 'fragments as they came' $? 0
+    cp "$room/wanted" "$room/pieces"
+    {
+        fragment 3 '6000>53' 20 - 'right reassembled'
+        fragment 4 '5000>53' 20 - 'right reassembled'
+        fragment 10 '9000>53' 20 - 'right reassembled'
+    } >"$room/wholes"
+    {
+        sed -n 1,2p "$room/pieces"
+        sed -n 1,2p "$room/wholes"
+        sed -n 5,9p "$room/pieces"
+        sed -n 3p "$room/wholes"
+        sed -n 11p "$room/pieces"
+    } >"$room/wanted"
+    datagrams 11 9 2 0 3 1 2 >"$room/wanted.errors"
+    run --reassemble
+    judge 'fragments put together' $? 0
+    in_pieces 1 --reassemble
+    judge 'fragments put together, a byte at a time' $? 0
+    cp "$room/wanted.errors" "$room/wanted"
+    : >"$room/wanted.errors"
+    run --reassemble --quiet
+    judge 'fragments put together, quiet' $? 0
+    echo '9 packets' >"$room/wanted"
+    run --reassemble --count udp dst port 53
+    judge 'fragments put together, those of a port' $? 0
+    echo '0 packets' >"$room/wanted"
+    run --reassemble --count greater 75
+    judge 'fragments put together, by the length of the whole' $? 0
+    sed -n 1p "$room/wholes" | cat <(sed -n 2p "$room/pieces") - >"$room/wanted"
+    datagrams '2 of 11' 2 0 0 3 1 2 >"$room/wanted.errors"
+    run --reassemble port 6000
+    judge 'fragments put together, with an expression' $? 0
+    sed -n 1,2p "$room/pieces" | cat - <(sed -n 1p "$room/wholes") >"$room/wanted"
+    datagrams 3 3 0 0 1 0 1 >"$room/wanted.errors"
+    run --reassemble -c 3
+    judge 'fragments put together, three packets' $? 0
+    closing_of 6 | sed 's/$/; datagrams: 0 reassembled, 0 discarded, 0 incomplete/' \
+        >"$room/wanted.errors"
+    cp stdout "$room/wanted"
+    cp stdin "$room/input"
+    run --reassemble
+    judge 'no fragments to put together' $? 0
+    : >"$room/wanted.errors"
+    fragmented 59 >"$room/input"
+    datagrams 11 9 2 0 4 1 0 >"$room/wanted"
+    run --reassemble --quiet
+    judge 'a fragment after 59 seconds' $? 0
+    # A front, those of others, and its end: one more than there is room for pushes out the oldest.
+    for others in 31 32; do
+        {
+            bytes 0 24
+            hex_record 1700000000 "${fragments[7]}"
+            first_fragments "$others"
+            hex_record 1700000002 "${fragments[10]}"
+        } >"$room/input"
+        datagrams $((others + 2)) $((others + 2)) 0 0 $((32 - others)) 0 \
+            $((others == 31 ? 31 : 34)) >"$room/wanted"
+        run --reassemble --quiet
+        judge "a fragment after those of $others other datagrams" $? 0
+    done
+    {
+        bytes 0 24
+        hex_record 1700000000 "${fragments[7]:0:98}" 50
+        hex_record 1700000000 "${fragments[10]}"
+    } >"$room/input"
+    datagrams 2 2 0 0 0 0 1 | sed 's/0 cut/1 cut/' >"$room/wanted"
+    run --reassemble --quiet
+    judge 'a fragment that the capture cut' $? 0
+    refused "error: the argument '--reassemble' cannot be used with '-w <FILE>'" --reassemble -w -
+}
+
 # The command lines of README.md, with what they print: standard output, and then standard error.
 readme() {
     local folder=$room/readme line command='' place here=$PWD
@@ -1632,6 +1792,7 @@ for build; do
     long_blocks
     cut_pcapng
     dates
+    reassembled
     readme
     link_types
     cut_packets

@@ -1,5 +1,7 @@
 mod Calendar
+mod Frames
 mod Fronts
 mod Outcomes
 mod Runs
+mod Taken
 mod Written

@@ -1,6 +1,7 @@
 -- What a run writes, and what one that fails has written.
 use Rattle.std.proofs.Common.{ℕ, ◌≡◌, ◌⊎◌, inl, inr, List, [], ◌++◌, take, drop, Option, Some, None, Result, Ok, Err, IfErr, IfOk, refl, subst, sym, ap, ◌∙◌, append_assoc, append-nil, arith, IfSome, take-append-drop}
 use Rattle.std.proofs.lemmas.List.{take-append-le}
+use Rattle.std.specs.Option.{is_some}
 use Rattle.std.specs.Io.KnownBytes.{Consumes, IsAtEnd, prepend_known}
 use Rattle.std.proofs.KnownBytes.{Appends-nil, Consumes-whole}
 use Rattle.packet.specs.Link.{link_type_of}
@@ -15,9 +16,10 @@ use Rattle.ipcap.specs.Listing.{Lists, ends}
 use Rattle.ipcap.specs.Output.{Fails, HasOtherFrames, IsCapture, IsCause, IsListed, IsListedTo, IsNoCapture, IsOpen, IsOutcome, Writes, first_place, front_of, header_len, listed, number_of, refused, status_at}
 use Rattle.ipcap.specs.Private.Ended.{FailsListing, LacksFront, WritesListing}
 use Rattle.ipcap.specs.Private.Progress.{Because, Breaks, Ends, IsTold, WantsMore}
+use Rattle.ipcap.specs.Reassembled.{Memory}
 use Rattle.ipcap.specs.Request.{copies}
 use Rattle.ipcap.specs.Streams.{CannotRead, Gets, GetsFront, Prints, PrintsFront, Reports, Takes, kept_if, pending, unlisted, unread}
-use Rattle.ipcap.specs.Totals.{HasRoom, nothing_counted}
+use Rattle.ipcap.specs.Totals.{HasRoom, first_totals}
 use Rattle.ipcap.specs.declared.failure.Failure.{Failure}
 use Rattle.ipcap.specs.declared.failure.Failure.TheVariants as failure
 use Rattle.ipcap.specs.declared.input.Input.{Input}
@@ -78,24 +80,24 @@ from_rest (Some x) (Some y) u v got s P Q c e f q =
 
 -- ---- outcomes
 
-is_no_capture : (request : Request) (u : List ℕ) (e : CaptureError) → ReadsFront u (Err e) → IsOutcome request u (refused (capture_error_line e))
-is_no_capture request u e none = let refusal : IsNoCapture u (refused (capture_error_line e)) = record { error = e; front = none; outcome_of = refl } in inr (inr refusal)
+is_no_capture : (request : Request) (memory : Memory) (u : List ℕ) (e : CaptureError) → ReadsFront u (Err e) → IsOutcome request memory u (refused (capture_error_line e))
+is_no_capture request memory u e none = let refusal : IsNoCapture u (refused (capture_error_line e)) = record { error = e; front = none; outcome_of = refl } in inr (inr refusal)
 
-pub no_capture : (request : Request) (r : Option (List ℕ)) (u : List ℕ) (e : CaptureError) → (¬ LacksFront u) ⊎ IsAtEnd r → ReadsFront u (Err e)
-    → IfSome (prepend_known u r) (λ input. IsOutcome request input (refused (capture_error_line e)))
-no_capture request None u e enough none = tt
-no_capture request (Some more) u e enough none = is_no_capture request (u ++ more) e (reads_no_front-append u more e enough none)
+pub no_capture : (request : Request) (memory : Memory) (r : Option (List ℕ)) (u : List ℕ) (e : CaptureError) → (¬ LacksFront u) ⊎ IsAtEnd r → ReadsFront u (Err e)
+    → IfSome (prepend_known u r) (λ input. IsOutcome request memory input (refused (capture_error_line e)))
+no_capture request memory None u e enough none = tt
+no_capture request memory (Some more) u e enough none = is_no_capture request memory (u ++ more) e (reads_no_front-append u more e enough none)
 
-has_other_frames : (request : Request) (u rest : List ℕ) (header : FileHeader) → ReadsFront u (Ok (Pcap header, rest)) → link_type_of (number_of header) ≡ None
-    → IsOutcome request u (refused (link_type_line (number_of header)))
-has_other_frames request u rest header front other =
+has_other_frames : (request : Request) (memory : Memory) (u rest : List ℕ) (header : FileHeader) → ReadsFront u (Ok (Pcap header, rest)) → link_type_of (number_of header) ≡ None
+    → IsOutcome request memory u (refused (link_type_line (number_of header)))
+has_other_frames request memory u rest header front other =
     let refusal : HasOtherFrames u (refused (link_type_line (number_of header))) = record { header = header; blocks = rest; front = front; other = other; outcome_of = refl } in
     inr (inl refusal)
 
-pub other_frames : (request : Request) (r : Option (List ℕ)) (u rest : List ℕ) (header : FileHeader) → ReadsFront u (Ok (Pcap header, rest)) → link_type_of (number_of header) ≡ None
-    → IfSome (prepend_known u r) (λ input. IsOutcome request input (refused (link_type_line (number_of header))))
-other_frames request None u rest header front other = tt
-other_frames request (Some more) u rest header front other = has_other_frames request (u ++ more) (rest ++ more) header (reads_front-append u more (Pcap header) rest front) other
+pub other_frames : (request : Request) (memory : Memory) (r : Option (List ℕ)) (u rest : List ℕ) (header : FileHeader) → ReadsFront u (Ok (Pcap header, rest)) → link_type_of (number_of header) ≡ None
+    → IfSome (prepend_known u r) (λ input. IsOutcome request memory input (refused (link_type_line (number_of header))))
+other_frames request memory None u rest header front other = tt
+other_frames request memory (Some more) u rest header front other = has_other_frames request memory (u ++ more) (rest ++ more) header (reads_front-append u more (Pcap header) rest front) other
 
 parts : (s text closing printed left : List ℕ) → text ++ closing ≡ printed ++ left → (s ++ text) ++ closing ≡ (s ++ printed) ++ left
 parts s text closing printed left e = grind (arith, append_assoc)
@@ -108,10 +110,10 @@ cause_then P Q N F D P' D' failure.Count f g c = (c.0, g c.1)
 
 -- ---- a listing
 
-module _ {R W V : Type 0} (remaining : R → Option (List ℕ)) (contents : W → Option (List ℕ)) (also : V → Option (List ℕ)) (P : R → Type 0) (Q : W → Type 0) (Q' : V → Type 0) (request : Request) where
+module _ {R W V : Type 0} (remaining : R → Option (List ℕ)) (contents : W → Option (List ℕ)) (also : V → Option (List ℕ)) (P : R → Type 0) (Q : W → Type 0) (Q' : V → Type 0) (request : Request) (memory : Memory) where
   module _ (capture : Capture) (a c : Input R) (o m n : Output W) (p : Output V) where
     -- some records are told, and a write failed
-    pub broken : (e : Failure) → Breaks remaining contents request P Q (first_place capture) e a c o m → Prints contents m n [] → Q n.sink → FailsListing remaining contents P Q request capture failure.Write a c o n p p
+    pub broken : (e : Failure) → Breaks remaining contents request P Q (first_place memory capture) e a c o m → Prints contents m n [] → Q n.sink → FailsListing remaining contents P Q request memory capture failure.Write a c o n p p
     broken e b handed failed = record {
       got = b.got;
       reads = b.reads;
@@ -137,7 +139,7 @@ module _ {R W V : Type 0} (remaining : R → Option (List ℕ)) (contents : W �
     cause_of failure.Count wants full rest printed left b other wrote all = (b.0, (rw (b.1, append-nil printed) wrote, all))
 
     -- or a read failed or a count was full
-    pub broken_off : (e : Failure) → ¬ (e ≡ failure.Write) → Breaks remaining contents request P Q (first_place capture) e a c o m → Prints contents m n [] → pending n ≡ [] → FailsListing remaining contents P Q request capture e a c o n p p
+    pub broken_off : (e : Failure) → ¬ (e ≡ failure.Write) → Breaks remaining contents request P Q (first_place memory capture) e a c o m → Prints contents m n [] → pending n ≡ [] → FailsListing remaining contents P Q request memory capture e a c o n p p
     broken_off e other b handed all =
         let wrote = prints_then contents o m n b.tells.printed b.tells.prints handed in
         record {
@@ -159,9 +161,9 @@ module _ {R W V : Type 0} (remaining : R → Option (List ℕ)) (contents : W �
         }
 
     -- all is told
-    module _ (totals : Totals) (end : Option End) (b : Ends remaining contents request (first_place capture) totals end a c o m) where
+    module _ (totals : Totals) (end : Option End) (b : Ends remaining contents request (first_place memory capture) totals end a c o m) where
       -- and then a write failed
-      pub not_closed : PrintsFront contents m n (listed request [] totals end).closing → Q n.sink → FailsListing remaining contents P Q request capture failure.Write a c o n p p
+      pub not_closed : PrintsFront contents m n (listed request [] totals end).closing → Q n.sink → FailsListing remaining contents P Q request memory capture failure.Write a c o n p p
       not_closed k failed = record {
         got = b.got;
         reads = b.reads;
@@ -180,8 +182,8 @@ module _ {R W V : Type 0} (remaining : R → Option (List ℕ)) (contents : W �
         cause = failed;
       }
 
-      writes : (q : Output V) (s : Status) (records : List ℕ) → IsTold contents request (first_place capture) totals end o m records → s ≡ status_at end → Prints contents m n (listed request [] totals end).closing → pending n ≡ []
-          → Reports also Q' p q (listed request [] totals end).errors → WritesListing contents also Q' request capture records s o n p q
+      writes : (q : Output V) (s : Status) (records : List ℕ) → IsTold contents request (first_place memory capture) totals end o m records → s ≡ status_at end → Prints contents m n (listed request [] totals end).closing → pending n ≡ []
+          → Reports also Q' p q (listed request [] totals end).errors → WritesListing contents also Q' request memory capture records s o n p q
       writes q s records told ended closing all said = record {
         text = told.text;
         totals = totals;
@@ -195,7 +197,7 @@ module _ {R W V : Type 0} (remaining : R → Option (List ℕ)) (contents : W �
 
       -- or all is written
       pub closed : (q : Output V) (s : Status) → s ≡ status_at end → Prints contents m n (listed request [] totals end).closing → pending n ≡ [] → Reports also Q' p q (listed request [] totals end).errors
-          → IfSome (unlisted remaining a) (λ records. WritesListing contents also Q' request capture records s o n p q)
+          → IfSome (unlisted remaining a) (λ records. WritesListing contents also Q' request memory capture records s o n p q)
       closed q s ended closing over said =
           let read = all_read (remaining a.source) (remaining c.source) (unread a) b.got b.reads.gave in
           elim b.all [
@@ -207,7 +209,7 @@ module _ {R W V : Type 0} (remaining : R → Option (List ℕ)) (contents : W �
 
   module _ (a b : Input R) (t : Takes remaining a b []) where
     -- a read fails before the front is there
-    pub header_broken : (o : Output W) (p : Output V) → pending o ≡ [] → LacksFront (unread b) → CannotRead P b → Fails remaining contents P Q request failure.Read a b o o p p
+    pub header_broken : (o : Output W) (p : Output V) → pending o ≡ [] → LacksFront (unread b) → CannotRead P b → Fails remaining contents P Q request memory failure.Read a b o o p p
     header_broken o p fresh few failed = record {
       got = t.got;
       reads = t.reads;
@@ -220,8 +222,8 @@ module _ {R W V : Type 0} (remaining : R → Option (List ℕ)) (contents : W �
     }
 
     -- the run ends with this line
-    pub refuses : (o : Output W) (p q : Output V) (line : List ℕ) → IfSome (unlisted remaining b) (λ input. IsOutcome request input (refused line)) → Reports also Q' p q line
-        → IfSome (unlisted remaining a) (λ input. Writes contents also Q' (IsOutcome request input) (refused line).status o o p q)
+    pub refuses : (o : Output W) (p q : Output V) (line : List ℕ) → IfSome (unlisted remaining b) (λ input. IsOutcome request memory input (refused line)) → Reports also Q' p q line
+        → IfSome (unlisted remaining a) (λ input. Writes contents also Q' (IsOutcome request memory input) (refused line).status o o p q)
     refuses o p q line is said = from_records (remaining a.source) (remaining b.source) (unread a) (unread b) t.got [] _ _ t.reads.gave t.takes (λ input found. record {
       outcome = refused line;
       is_outcome = found;
@@ -247,9 +249,9 @@ module _ {R W V : Type 0} (remaining : R → Option (List ℕ)) (contents : W �
       all_of : (more : List ℕ) → unread b ++ more ≡ head ++ (drop (header_len found) (unread b) ++ more)
       all_of more = ap (λ s. s ++ more) (sym (take-append-drop (header_len found) (unread b))) ∙ append_assoc head (drop (header_len found) (unread b)) more
 
-      is_listed : (more text : List ℕ) (totals : Totals) (end : Option End) → Lists request (first_place found) (drop (header_len found) (unread b) ++ more) text totals end → IsOutcome request (unread b ++ more) (listed request (kept ++ text) totals end)
+      is_listed : (more text : List ℕ) (totals : Totals) (end : Option End) → Lists request (first_place memory found) (drop (header_len found) (unread b) ++ more) text totals end → IsOutcome request memory (unread b ++ more) (listed request (kept ++ text) totals end)
       is_listed more text totals end l =
-          let outcome : IsListed request (unread b ++ more) (listed request (kept ++ text) totals end) = record {
+          let outcome : IsListed request memory (unread b ++ more) (listed request (kept ++ text) totals end) = record {
             capture = found;
             blocks = drop (header_len found) (unread b) ++ more;
             is = is_capture more;
@@ -257,8 +259,8 @@ module _ {R W V : Type 0} (remaining : R → Option (List ℕ)) (contents : W �
           } in
           inl outcome
 
-      listed_to : (read more front rest text : List ℕ) (totals : Totals) (end : Option End) → read ≡ unread b ++ more → drop (header_len found) (unread b) ++ more ≡ front ++ rest → Lists request (first_place found) front text totals end
-          → IsListedTo request read rest (listed request (kept ++ text) totals end)
+      listed_to : (read more front rest text : List ℕ) (totals : Totals) (end : Option End) → read ≡ unread b ++ more → drop (header_len found) (unread b) ++ more ≡ front ++ rest → Lists request (first_place memory found) front text totals end
+          → IsListedTo request memory read rest (listed request (kept ++ text) totals end)
       listed_to read more front rest text totals end e parts l = record {
         capture = found;
         blocks = front;
@@ -268,13 +270,13 @@ module _ {R W V : Type 0} (remaining : R → Option (List ℕ)) (contents : W �
 
       module _ (d : Input R) (o m : Output W) (p : Output V) (fresh : pending o ≡ []) where
         -- what stands before the blocks is not written
-        pub not_begun : Prints contents o m [] → Q m.sink → Fails remaining contents P Q request failure.Write a b o m p p
+        pub not_begun : Prints contents o m [] → Q m.sink → Fails remaining contents P Q request memory failure.Write a b o m p p
         not_begun kept_out failed = record {
           got = t.got;
           reads = t.reads;
           rest = drop (header_len found) (unread b);
-          outcome = listed request (kept ++ []) nothing_counted None;
-          is_outcome = inl (listed_to (unread a ++ t.got) [] [] (drop (header_len found) (unread b)) [] nothing_counted None (t.takes ∙ sym (append-nil (unread b))) (append-nil (drop (header_len found) (unread b))) ends);
+          outcome = listed request (kept ++ []) (first_totals (is_some memory)) None;
+          is_outcome = inl (listed_to (unread a ++ t.got) [] [] (drop (header_len found) (unread b)) [] (first_totals (is_some memory)) None (t.takes ∙ sym (append-nil (unread b))) (append-nil (drop (header_len found) (unread b))) ends);
           output = printed_front contents o m [] _ fresh kept_out;
           errors = refl;
           cause = failed;
@@ -284,8 +286,8 @@ module _ {R W V : Type 0} (remaining : R → Option (List ℕ)) (contents : W �
           takes : Takes remaining a d head
           takes = takes_both remaining a b d [] head t u
 
-          pub lists_by : (r : Result Status Failure) → IfOk r (λ s. IfSome (unlisted remaining d) (λ blocks. WritesListing contents also Q' request found blocks s m n p q))
-              → IfOk r (λ s. IfSome (unlisted remaining a) (λ input. Writes contents also Q' (IsOutcome request input) s o n p q))
+          pub lists_by : (r : Result Status Failure) → IfOk r (λ s. IfSome (unlisted remaining d) (λ blocks. WritesListing contents also Q' request memory found blocks s m n p q))
+              → IfOk r (λ s. IfSome (unlisted remaining a) (λ input. Writes contents also Q' (IsOutcome request memory input) s o n p q))
           lists_by (Err e) w = tt
           lists_by (Ok s) w = from_rest (remaining a.source) (remaining d.source) (unread a) (unread d) takes.got head _ _ takes.reads.gave takes.takes
               (λ more x. record {
@@ -305,7 +307,7 @@ module _ {R W V : Type 0} (remaining : R → Option (List ℕ)) (contents : W �
           open_at totals (Some (CutOff e)) text wants = tt
           open_at totals (Some _) text wants = absurd wants
 
-          pub listing_fails_by : (r : Result Status Failure) → IfErr r (λ e. FailsListing remaining contents P Q request found e d c m n p q) → IfErr r (λ e. Fails remaining contents P Q request e a c o n p q)
+          pub listing_fails_by : (r : Result Status Failure) → IfErr r (λ e. FailsListing remaining contents P Q request memory found e d c m n p q) → IfErr r (λ e. Fails remaining contents P Q request memory e a c o n p q)
           listing_fails_by (Ok s) f = tt
           listing_fails_by (Err e) f = record {
             got = takes.got ++ f.got;

@@ -106,7 +106,7 @@ kept_nothing false = refl
 
 -- what is written of a packet in a block that is too long: its line, or else its bytes
 pub written_long : (request : Request) (before : Totals) (head : PacketHead) (bytes : List ℕ)
-    → written request before (packet head (if_too_long request)) bytes ≡ written request before (packet head (if_too_long request)) [] ++ kept_if (copies request.mode && is_none request.filter) bytes
+    → written request before (packet false head (if_too_long request)) bytes ≡ written request before (packet false head (if_too_long request)) [] ++ kept_if (copies request.mode && is_none request.filter) bytes
 written_long request before head bytes = grind (arith, append-nil)
 
 -- the length of a block is counted after it
@@ -277,40 +277,40 @@ module _ {W : Type 0} (contents : W → Option (List ℕ)) where
       prints = prints_both o m n a.text b.text a.prints b.prints;
     }
 
-    lists_at : (t : Place) (u : Capture) (last : Totals) (s rest text bytes : List ℕ) (n : ℕ) (of : Said) (told : Told) (end : Option End)
+    lists_at : (t u : Place) (last : Totals) (s rest text bytes : List ℕ) (n : ℕ) (of : Said) (told : Told) (end : Option End)
         → has_enough request t.totals.listed ≡ false → n ≡ length s - length rest → bytes ≡ take n s
-        → BeginsWith t.capture s u of rest → n ≤ max_len t.capture → ToldOf request of told
-        → Lists request (passed n false told u t) rest text last end → Lists request t s (written request t.totals told bytes ++ text) last end
+        → BeginsWith t.capture s u.capture of rest → n ≤ max_len t.capture → ToldOf request of t.totals t.memory u.totals u.memory told
+        → Lists request (passed n false told u) rest text last end → Lists request t s (written request u.totals told bytes ++ text) last end
     lists_at t u last s rest text bytes n of told end going e b begins within is l = rw (b, e) (lists u of told going begins (rw e at within) is (rw e at l))
 
     lists_long_at : (t : Place) (last : Totals) (s rest text bytes : List ℕ) (front : BlockFront) (of : Said) (told : Told) (end : Option End)
         → has_enough request t.totals.listed ≡ false → bytes ≡ take front.len s
         → HasLongFront t.capture s front → ToldOfLong request front.content told → BeginsWith t.capture s t.capture of rest
-        → Lists request (passed front.len true told t.capture t) rest text last end → Lists request t s (written request t.totals told bytes ++ text) last end
+        → Lists request (passed front.len true told t) rest text last end → Lists request t s (written request t.totals told bytes ++ text) last end
     lists_long_at t last s rest text bytes front of told end going b has is begins l = rw b (lists_long of told going has is begins l)
 
     -- the bytes of one block
-    pub told_one : (t : Place) (u : Capture) (s other : List ℕ) (of : Said) (told : Told) (o m : Output W)
-        → has_enough request t.totals.listed ≡ false → BeginsWith t.capture (s ++ other) u of other → length s ≤ max_len t.capture → ToldOf request of told
-        → Prints contents o m (written request t.totals told s) → Tells contents request t (passed (length s) false told u t) s o m
+    pub told_one : (t u : Place) (s other : List ℕ) (of : Said) (told : Told) (o m : Output W)
+        → has_enough request t.totals.listed ≡ false → BeginsWith t.capture (s ++ other) u.capture of other → length s ≤ max_len t.capture → ToldOf request of t.totals t.memory u.totals u.memory told
+        → Prints contents o m (written request u.totals told s) → Tells contents request t (passed (length s) false told u) s o m
     told_one t u s other of told o m going begins within is wrote = record {
-      text = written request t.totals told s;
+      text = written request u.totals told s;
       lists = λ last end more tail l. lists_at t u last (s ++ more) more tail s (length s) of told end going (omega (arith, length-append s more)) (sym (take-append_seam s more))
-          (begins_with-front t.capture s other more u of other begins (sym (length-append s other))) within is l;
+          (begins_with-front t.capture s other more u.capture of other begins (sym (length-append s other))) within is l;
       prints = wrote;
     }
 
     -- the same of one that is too long
     lists_long_one : (t : Place) (s : List ℕ) (front : BlockFront) (told : Told) (last : Totals) (end : Option End) (more tail : List ℕ)
         → has_enough request t.totals.listed ≡ false → HasLongFront t.capture s front → length s ≡ front.len → ((rest : List ℕ) → (of : Said) × BeginsWith t.capture (s ++ rest) t.capture of rest) → ToldOfLong request front.content told
-        → Lists request (passed front.len true told t.capture t) more tail last end → Lists request t (s ++ more) (written request t.totals told s ++ tail) last end
+        → Lists request (passed front.len true told t) more tail last end → Lists request t (s ++ more) (written request t.totals told s ++ tail) last end
     lists_long_one t s front told last end more tail going has len begins is l =
         lists_long_at t last (s ++ more) more tail s front (begins more).0 told end going (sym (ap (λ n. take n (s ++ more)) (sym len) ∙ take-append_seam s more))
         (long_front-append t.capture s more front has) is (begins more).1 l
 
     pub told_long : (t : Place) (s : List ℕ) (front : BlockFront) (told : Told) (o m : Output W)
         → has_enough request t.totals.listed ≡ false → HasLongFront t.capture s front → length s ≡ front.len → ((rest : List ℕ) → (of : Said) × BeginsWith t.capture (s ++ rest) t.capture of rest) → ToldOfLong request front.content told
-        → Prints contents o m (written request t.totals told s) → Tells contents request t (passed front.len true told t.capture t) s o m
+        → Prints contents o m (written request t.totals told s) → Tells contents request t (passed front.len true told t) s o m
     told_long t s front told o m going has len begins is wrote = record {
       text = written request t.totals told s;
       lists = λ last end more tail l. lists_long_one t s front told last end more tail going has len begins is l;
@@ -510,7 +510,7 @@ module _ {R W : Type 0} (remaining : R → Option (List ℕ)) (contents : W → 
       last_of : len ≡ front.len → last ≡ drop (length k.taken - 4) k.taken
       last_of all = k.is_last ∙ last_is k.taken (omega (arith, k.many, all, has.long, least_long t.capture))
 
-      pub past_skipped : (v : Totals) → v ≡ counted front.len true no_packet u → len ≡ front.len → EndsRight front.head last → GoesOn remaining contents request t (record { totals = v; capture = t.capture }) a c o n
+      pub past_skipped : (v : Totals) → v ≡ counted front.len true no_packet u → len ≡ front.len → EndsRight front.head last → GoesOn remaining contents request t (record t { totals = v }) a c o n
       past_skipped v more all right =
           let whole : length k.taken ≡ front.len = k.many ∙ all in
           let end = subst (λ x. EndsRight front.head x) (last_of all) right in

@@ -7,6 +7,7 @@ pub mod Listing
 pub mod Output
 pub mod Private
 pub mod Reading
+pub mod Reassembled
 pub mod Refusal
 pub mod Request
 pub mod Shown

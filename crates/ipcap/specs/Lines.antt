@@ -5,6 +5,8 @@ use Rattle.std.specs.Prelude.{unwrap_or}
 use Rattle.std.specs.Fmt.{digits}
 use Rattle.std.specs.Net.Addr.{segments_of}
 use Rattle.std.specs.Net.Text.{ipv4_text, ipv6_text}
+use Rattle.frame_reassembly.specs.Counts.{left_over}
+use Rattle.frame_reassembly.specs.declared.datagrams.Datagrams.{Datagrams}
 use Rattle.packet_capture.specs.Any.{is_fine, nanoseconds_of, seconds_of}
 use Rattle.packet_capture.specs.declared.any.PacketHead.{PacketHead}
 use Rattle.packet_capture.specs.declared.capture.CaptureError.{CaptureError}
@@ -241,10 +243,14 @@ reading_text head (Other e) = codes "other: " ++ (no_packet_text e ++ cut_text h
 reading_text head Skipped =
     codes "skipped: record too long (" ++ (decimal head.captured_len ++ codes " bytes)")
 
+-- the end of a line: whether the packet is put together
+abbrev pub mark_text : Bool → List ℕ
+mark_text is_reassembled = if is_reassembled then codes " reassembled\n" else codes "\n"
+
 -- the line of a record
-abbrev pub record_line : Bool → ℕ → PacketHead → Reading → List ℕ
-record_line is_utc number head reading =
-    head_text is_utc number head ++ (reading_text head reading ++ codes "\n")
+abbrev pub record_line : Bool → ℕ → Bool → PacketHead → Reading → List ℕ
+record_line is_utc number is_reassembled head reading =
+    head_text is_utc number head ++ (reading_text head reading ++ mark_text is_reassembled)
 
 -- how many records there are, and with an expression how many of them match
 abbrev pub count_text : Bool → Totals → List ℕ
@@ -265,11 +271,19 @@ kinds_text has_filter totals =
 unfoldable pub damage_text : Totals → List ℕ
 damage_text totals =
     decimal totals.skipped ++ (codes " skipped, " ++ (decimal totals.cut ++ (codes " cut, "
-    ++ (decimal totals.wrong ++ codes " with a wrong checksum\n"))))
+    ++ (decimal totals.wrong ++ codes " with a wrong checksum"))))
+
+-- what became of the datagrams, if packets are put together, and the end of the line
+unfoldable pub datagrams_text : Option Datagrams → List ℕ
+datagrams_text None = codes "\n"
+datagrams_text (Some datagrams) = codes "; datagrams: " ++ (decimal datagrams.put_together
+    ++ (codes " reassembled, " ++ (decimal datagrams.discarded ++ (codes " discarded, "
+    ++ (decimal (left_over datagrams) ++ codes " incomplete\n")))))
 
 -- the closing line
 abbrev pub closing_line : Bool → Totals → List ℕ
-closing_line has_filter totals = kinds_text has_filter totals ++ damage_text totals
+closing_line has_filter totals =
+    kinds_text has_filter totals ++ (damage_text totals ++ datagrams_text totals.datagrams)
 
 -- how many records are listed, in the words of tcpdump's option `--count`
 unfoldable pub packets_line : Totals → List ℕ

@@ -20,6 +20,7 @@ use Rattle.packet_filter.specs.Program.{expression_of}
 use Rattle.packet_filter.specs.declared.filter.Filter.{Filter}
 use Rattle.ipcap.specs.Lines.{record_line}
 use Rattle.ipcap.specs.Reading.{ReadsNumbered, is_cut, max_len}
+use Rattle.ipcap.specs.Reassembled.{Memory, Reassembles, seen_as}
 use Rattle.ipcap.specs.Request.{copies, has_enough}
 use Rattle.ipcap.specs.Streams.{kept_if}
 use Rattle.ipcap.specs.Totals.{Told, counted, no_packet, packet}
@@ -51,12 +52,24 @@ ReadsChosen request head frame (Some reading) = IsChosen request head frame true
     × ReadsNumbered head.link_type (is_cut head) frame reading
 ReadsChosen request head frame None = IsChosen request head frame false
 
--- what is told of a block that says this, if it is not too long
-abbrev pub ToldOf : Request → Said → Told → Type 0
-ToldOf request (said.packet head frame) (packet same found) =
-    (same ≡ head) × ReadsChosen request head frame found
-ToldOf request said.other no_packet = Unit {0}
-ToldOf request of told = ⊥
+-- this is told of a packet with this head and this frame: it is told as what is seen in its place
+pub record TellsPacket (request : Request) (head : PacketHead) (frame : List ℕ)
+    (before : Totals) (old : Memory) (after : Totals) (new : Memory) (is_reassembled : Bool)
+    (same : PacketHead) (found : Option Reading) : Type 0 where
+  pub whole : Option (List ℕ)
+  pub reassembles : Reassembles head frame before old after new whole
+  pub is_mark : is_reassembled ≡ (seen_as head frame whole).is_reassembled
+  pub is_head : same ≡ (seen_as head frame whole).head
+  pub reads : ReadsChosen request (seen_as head frame whole).head (seen_as head frame whole).frame
+      found
+
+-- what is told of a block that says this, if it is not too long; and what it does to what is counted
+-- and to what has come of datagrams
+abbrev pub ToldOf : Request → Said → Totals → Memory → Totals → Memory → Told → Type 0
+ToldOf request (said.packet head frame) before old after new (packet is_reassembled same found) =
+    TellsPacket request head frame before old after new is_reassembled same found
+ToldOf request said.other before old after new no_packet = (after ≡ before) × (new ≡ old)
+ToldOf request of before old after new told = ⊥
 
 -- the reading of a packet in a block that is too long to be read, if it is listed: no expression is
 -- true of it
@@ -65,32 +78,29 @@ if_too_long request = then_some (is_none request.filter) Skipped
 
 -- what is told of a block that is too long
 abbrev pub ToldOfLong : Request → Content → Told → Type 0
-ToldOfLong request (content.Packet head) told = told ≡ packet head (if_too_long request)
+ToldOfLong request (content.Packet head) told = told ≡ packet false head (if_too_long request)
 ToldOfLong request content.Other told = told ≡ no_packet
 ToldOfLong request of told = ⊥
 
 -- what is written of a listed packet after those counted: its line, or its block as it came, or
 -- nothing
-abbrev pub written_as : Mode → Bool → Totals → PacketHead → List ℕ → Reading → List ℕ
-written_as Lines is_utc before head bytes reading =
-    record_line is_utc (before.records + 1) head reading
-written_as Packets is_utc before head bytes reading = bytes
-written_as mode is_utc before head bytes reading = []
+abbrev pub written_as : Mode → Bool → Totals → Bool → PacketHead → List ℕ → Reading → List ℕ
+written_as Lines is_utc before is_reassembled head bytes reading =
+    record_line is_utc (before.records + 1) is_reassembled head reading
+written_as Packets is_utc before is_reassembled head bytes reading = bytes
+written_as mode is_utc before is_reassembled head bytes reading = []
 
 -- The same of any block, which has these bytes. Of a packet that is not listed nothing is written.
 -- A block without a packet is written if packets are.
 abbrev pub written : Request → Totals → Told → List ℕ → List ℕ
-written request before (packet head (Some reading)) bytes =
-    written_as request.mode request.is_utc before head bytes reading
-written request before (packet head None) bytes = []
+written request before (packet is_reassembled head (Some reading)) bytes =
+    written_as request.mode request.is_utc before is_reassembled head bytes reading
+written request before (packet is_reassembled head None) bytes = []
 written request before no_packet bytes = kept_if (copies request.mode) bytes
 
 -- the place after a block of this length
-abbrev pub passed : ℕ → Bool → Told → Capture → Place → Place
-passed len is_long told after before = record {
-  totals = counted len is_long told before.totals;
-  capture = after;
-}
+abbrev pub passed : ℕ → Bool → Told → Place → Place
+passed len is_long told place = record place { totals = counted len is_long told place.totals }
 
 -- The block is cut off, and it is no longer than what is read; or even its front is not there.
 pub record CutsOff (capture : Capture) (s : List ℕ) (e : cut.CutOff) : Type 0 where
@@ -120,7 +130,8 @@ pub record EndsOtherwise (s : List ℕ) (front : BlockFront) (e : BlockError) : 
   pub other : HasOtherEnd front.head (drop (front.len - 4) (take front.len s)) e
 
 -- The text is what is written of the blocks that the data consists of, one after the other, and
--- each is counted. The listing ends with the data; or at a block that is cut off or refused. One
+-- each is counted. After a block the capture, and what has come of datagrams, are what the next one
+-- is told by. The listing ends with the data; or at a block that is cut off or refused. One
 -- that is too long is told before its end is seen, with the bytes that are there; its length
 -- counts once it is whole. Once as many
 -- packets are listed as were asked for, nothing more is read, whatever follows.
@@ -129,18 +140,19 @@ pub data Lists (request : Request) : Place → List ℕ → List ℕ → Totals 
   stops : {place : Place} {s : List ℕ} → has_enough request place.totals.listed ≡ true
       → Lists request place s [] place.totals None
   lists : {before : Place} {last : Totals} {s rest text : List ℕ} {end : Option End}
-      (after : Capture) (of : Said) (told : Told) → has_enough request before.totals.listed ≡ false
-      → BeginsWith before.capture s after of rest
-      → length s - length rest ≤ max_len before.capture → ToldOf request of told
-      → Lists request (passed (length s - length rest) false told after before) rest text last end
-      → Lists request before s (written request before.totals told
+      (after : Place) (of : Said) (told : Told) → has_enough request before.totals.listed ≡ false
+      → BeginsWith before.capture s after.capture of rest
+      → length s - length rest ≤ max_len before.capture
+      → ToldOf request of before.totals before.memory after.totals after.memory told
+      → Lists request (passed (length s - length rest) false told after) rest text last end
+      → Lists request before s (written request after.totals told
       (take (length s - length rest) s) ++ text) last end
   lists_long : {before : Place} {last : Totals} {s rest text : List ℕ} {front : BlockFront}
       {end : Option End} (of : Said) (told : Told)
       → has_enough request before.totals.listed ≡ false → HasLongFront before.capture s front
       → ToldOfLong request front.content told
       → BeginsWith before.capture s before.capture of rest
-      → Lists request (passed front.len true told before.capture before) rest text last end
+      → Lists request (passed front.len true told before) rest text last end
       → Lists request before s (written request before.totals told (take front.len s) ++ text)
       last end
   is_cut_off : {place : Place} {s : List ℕ} {e : cut.CutOff}

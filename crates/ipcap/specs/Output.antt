@@ -12,9 +12,10 @@ use Rattle.ipcap.specs.Ends.{end_text}
 use Rattle.ipcap.specs.Lines.{capture_error_line, closing_text, link_type_line}
 use Rattle.ipcap.specs.Lines.{report_text}
 use Rattle.ipcap.specs.Listing.{Lists}
+use Rattle.ipcap.specs.Reassembled.{Memory}
 use Rattle.ipcap.specs.Request.{copies, has_enough}
 use Rattle.ipcap.specs.Streams.{CannotRead, Gets, GetsFront, Reads, Reports, kept_if, unread}
-use Rattle.ipcap.specs.Totals.{HasRoom, nothing_counted}
+use Rattle.ipcap.specs.Totals.{HasRoom, first_totals, nothing_counted}
 use Rattle.ipcap.specs.declared.failure.Failure.{Failure}
 use Rattle.ipcap.specs.declared.failure.Failure.TheVariants as failure
 use Rattle.ipcap.specs.declared.input.Input.{Input}
@@ -64,8 +65,12 @@ refused line = record {
 }
 
 -- the place before any block
-abbrev pub first_place : Capture → Place
-first_place capture = record { totals = nothing_counted; capture = capture }
+abbrev pub first_place : Memory → Capture → Place
+first_place memory capture = record {
+  totals = first_totals (is_some memory);
+  capture = capture;
+  memory = memory;
+}
 
 -- how many bytes stand before the first block: the file header; in pcapng all bytes are blocks
 abbrev pub header_len : Capture → ℕ
@@ -77,12 +82,12 @@ abbrev pub front_of : Request → Capture → List ℕ → List ℕ
 front_of request capture input = kept_if (copies request.mode) (take (header_len capture) input)
 
 -- the outcome for a capture with these blocks, of which something stands before them
-pub record IsListing (request : Request) (capture : Capture) (front blocks : List ℕ)
+pub record IsListing (request : Request) (memory : Memory) (capture : Capture) (front blocks : List ℕ)
     (outcome : Outcome) : Type 0 where
   pub text : List ℕ
   pub totals : Totals
   pub end : Option End
-  pub lists : Lists request (first_place capture) blocks text totals end
+  pub lists : Lists request (first_place memory capture) blocks text totals end
   pub outcome_of : outcome ≡ listed request (front ++ text) totals end
 
 -- the number of the link type, without the bits above it, which are about a frame check sequence
@@ -101,11 +106,12 @@ pub record IsCapture (input : List ℕ) (capture : Capture) (blocks : List ℕ) 
   pub is_read : HasReadFrames capture
 
 -- Its blocks are listed.
-pub record IsListed (request : Request) (input : List ℕ) (outcome : Outcome) : Type 0 where
+pub record IsListed (request : Request) (memory : Memory) (input : List ℕ) (outcome : Outcome)
+    : Type 0 where
   pub capture : Capture
   pub blocks : List ℕ
   pub is : IsCapture input capture blocks
-  pub lists : IsListing request capture (front_of request capture input) blocks outcome
+  pub lists : IsListing request memory capture (front_of request capture input) blocks outcome
 
 -- The input is a capture in the classic format, of another link type.
 pub record HasOtherFrames (input : List ℕ) (outcome : Outcome) : Type 0 where
@@ -121,9 +127,9 @@ pub record IsNoCapture (input : List ℕ) (outcome : Outcome) : Type 0 where
   pub front : ReadsFront input (Err error)
   pub outcome_of : outcome ≡ refused (capture_error_line error)
 
--- the outcome of a request for an input
-abbrev pub IsOutcome : Request → List ℕ → Outcome → Type 0
-IsOutcome request input outcome = IsListed request input outcome
+-- the outcome of a request for an input, with slots if packets are put together
+abbrev pub IsOutcome : Request → Memory → List ℕ → Outcome → Type 0
+IsOutcome request memory input outcome = IsListed request memory input outcome
     ⊎ HasOtherFrames input outcome ⊎ IsNoCapture input outcome
 
 -- the sinks get the texts of such an outcome; standard error, if it takes its text
@@ -138,11 +144,12 @@ pub record Writes {W E : Type 0} (contents : W → Option (List ℕ))
   pub errors : Reports contents_of_errors error_failed old_errors new_errors outcome.errors
 
 -- The outcome if the blocks end before the rest of what was read.
-pub record IsListedTo (request : Request) (read rest : List ℕ) (outcome : Outcome) : Type 0 where
+pub record IsListedTo (request : Request) (memory : Memory) (read rest : List ℕ)
+    (outcome : Outcome) : Type 0 where
   pub capture : Capture
   pub blocks : List ℕ
   pub is : IsCapture read capture (blocks ++ rest)
-  pub lists : IsListing request capture (front_of request capture read) blocks outcome
+  pub lists : IsListing request memory capture (front_of request capture read) blocks outcome
 
 -- more has to be read: fewer packets are listed than were asked for; or the last block is cut off;
 -- or what was read is no capture yet
@@ -169,13 +176,13 @@ IsCause read_failed nothing_left write_failed is_full is_written failure.Count =
 -- sink got a front of what it gets if the blocks end before that. Standard error got nothing.
 pub record Fails {R W E : Type 0} (remaining : R → Option (List ℕ))
     (contents : W → Option (List ℕ)) (read_failed : R → Type 0) (write_failed : W → Type 0)
-    (request : Request) (e : Failure) (input left : Input R) (old new : Output W)
+    (request : Request) (memory : Memory) (e : Failure) (input left : Input R) (old new : Output W)
     (old_errors new_errors : Output E) : Type 0 where
   pub got : List ℕ
   pub reads : Reads remaining input left got
   pub rest : List ℕ
   pub outcome : Outcome
-  pub is_outcome : IsListedTo request (unread input ++ got) rest outcome
+  pub is_outcome : IsListedTo request memory (unread input ++ got) rest outcome
       ⊎ ((rest ≡ []) × IsNoCapture (unread input ++ got) outcome)
   pub output : GetsFront contents old new (outcome.blocks ++ outcome.closing)
   pub errors : new_errors ≡ old_errors

@@ -1,6 +1,8 @@
 -- What is counted.
 use Rattle.std.specs.Prelude.{ℕ, ◌+◌, ◌-◌, ◌^◌, ◌<◌, Bool, Option, Some, None, min}
+use Rattle.std.specs.Bool.{then_some}
 use Rattle.std.specs.Int.{from_bool}
+use Rattle.frame_reassembly.specs.Counts.{no_datagrams}
 use Rattle.packet_capture.specs.declared.any.PacketHead.{PacketHead}
 use Rattle.packet_parts.specs.declared.ip_slice.IpHeaderSlice.{IpHeaderSlice}
 use Rattle.packet_parts.specs.declared.ip_slice.IpHeaderSlice.TheVariants as header
@@ -22,7 +24,13 @@ nothing_counted = record {
   cut = 0;
   wrong = 0;
   bytes = 0;
+  datagrams = None;
 }
+
+-- the same if packets are put together, or not: then no datagram has begun
+abbrev pub first_totals : Bool → Totals
+first_totals reassembles =
+    record nothing_counted { datagrams = then_some reassembles no_datagrams }
 
 -- with one more packet that is shown, of either version
 abbrev pub counted_packet : IpHeaderSlice → Totals → Totals
@@ -50,15 +58,15 @@ counted_packet_of is_long head None totals = record totals {
   skipped = totals.skipped + from_bool is_long;
 }
 
--- what is told of a block: of a packet its head, and its reading if it is listed; of another block
--- nothing
+-- what is told of a block: of a packet whether it is put together, its head, and its reading if it is
+-- listed; of another block nothing
 pub data Told : Type 0 where
-  packet : PacketHead → Option Reading → Told
+  packet : Bool → PacketHead → Option Reading → Told
   no_packet : Told
 
 -- with one more block, of a packet or not
 abbrev pub counted_block : Bool → Told → Totals → Totals
-counted_block is_long (packet head found) totals = counted_packet_of is_long head found totals
+counted_block is_long (packet is_reassembled head found) totals = counted_packet_of is_long head found totals
 counted_block is_long no_packet totals = totals
 
 -- the same with its bytes, as far as 64 bits can count them

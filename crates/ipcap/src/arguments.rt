@@ -22,6 +22,8 @@ pub struct Arguments<'a> {
     pub mode: Mode,
     /// Whether times are written as dates in UTC.
     pub is_utc: bool,
+    /// Whether packets are put together of their fragments.
+    pub reassembles: bool,
     /// After how many listed records the run ends.
     pub limit: Option<u64>,
     /// The file that is read; `None` for standard input.
@@ -49,12 +51,14 @@ and 276 (Linux cooked).
 A line has these words:
   1 NUMBER  2 TIME  3 SOURCE  4 >  5 DESTINATION  6 PROTOCOL  7 PORTS or TYPE/CODE  8 length
   9 BYTES  10 hops  11 HOPS  12 fragment  13 PLACE  14 checksums  15 HEADER  16 PAYLOAD
-or after NUMBER and TIME `error:`, `other:` or `skipped:` and a reason.
+or after NUMBER and TIME `error:`, `other:` or `skipped:` and a reason. With --reassemble the line of
+the packet that completes a fragmented one is about the whole, and ends with `reassembled`.
 
 Examples:
   ipcap trace.pcap                           a line for each packet
   ipcap -c 10 trace.pcap icmp or arp         the first ten packets that match
   ipcap -w dns.pcap trace.pcap port 53       the packets that match, as a capture
+  ipcap --reassemble trace.pcap              also what fragmented packets are as a whole
 
 Exit status: 0 done, 1 the capture is cut off or a block of it is refused, 2 it cannot be read, 3 a
 read or a write failed.";
@@ -102,6 +106,13 @@ pub fn command<'a>(alloc: Global) -> Result<Command<'a>, AllocError> {
                 .action(ArgAction::SetTrue)
                 .help("Print times as dates in UTC"),
         )?
+        .arg(
+            Arg::new(alloc, "reassemble")
+                .long("reassemble")
+                .action(ArgAction::SetTrue)
+                .conflicts_with("write")?
+                .help("Put packets together of their fragments"),
+        )?
         .arg(Arg::new(alloc, "FILE"))?
         .arg(
             Arg::new(alloc, "EXPRESSION")
@@ -116,6 +127,7 @@ impl<'a> Arguments<'a> {
         let mut arguments = Arguments {
             mode: mode_of(matches),
             is_utc: matches.get_flag("utc"),
+            reassembles: matches.get_flag("reassemble"),
             limit: matches.get_one::<u64>("limit"),
             input: matches.get_str("read"),
             output: matches.get_str("write"),

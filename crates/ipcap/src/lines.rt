@@ -7,7 +7,7 @@ ghost use Rattle.ipcap.specs.Lines.{byte_text, capture_error_line, carried_text,
 ghost use Rattle.ipcap.specs.Lines.{closing_text, count_text};
 ghost use Rattle.ipcap.specs.Lines.{cut_text, link_type_name, magic_text, name_text, packed_as};
 ghost use Rattle.ipcap.specs.Lines.{packets_line, report_text};
-ghost use Rattle.ipcap.specs.Lines.{damage_text};
+ghost use Rattle.ipcap.specs.Lines.{damage_text, datagrams_text};
 ghost use Rattle.ipcap.specs.Ends.{end_text};
 ghost use Rattle.packet_capture.specs.Any.{nanoseconds_of, seconds_of};
 ghost use Rattle.ipcap.specs.Lines.{date_at, dated_text, fraction_text, head_text};
@@ -23,6 +23,7 @@ use crate::reading::{NoPacket, Reading, is_cut};
 use crate::request::Mode;
 use crate::shown::{Detail, Shown, has_no_length, hops_of, len_of};
 use crate::totals::Totals;
+use frame_reassembly::datagrams::Datagrams;
 use packet_capture::any::{PacketHead, Time};
 use packet_capture::capture::CaptureError;
 use packet_links::header::Carried;
@@ -89,15 +90,23 @@ pub struct RecordLine<'a> {
     pub head: PacketHead,
     /// What its frame is found to carry.
     pub reading: Reading<'a>,
+    /// Whether the packet is put together.
+    pub is_reassembled: bool,
 }
 
 impl fmt::Display for RecordLine<'_> {
-    ghost output = { λ line. Some (record_line line.is_utc line.number line.head line.reading) };
+    ghost output = { λ line. Some (record_line line.is_utc line.number
+        line.is_reassembled line.head line.reading) };
 
     fn fmt<W: fmt::Write>(&self, f: &mut Formatter<W>) -> fmt::Result {
         write_head(f, self.is_utc, self.number, &self.head)?;
         write_reading(f, &self.head, &self.reading)?;
-        f.write_str("\n")
+        let mark = if self.is_reassembled {
+            " reassembled\n"
+        } else {
+            "\n"
+        };
+        f.write_str(mark)
     }
 }
 
@@ -449,7 +458,8 @@ fn write_closing<W: fmt::Write>(f: &mut Formatter<W>, closing: &Closing) -> fmt:
         (Some (closing_line closing.now.has_filter closing.now.totals)) f.new }
 {
     write_kinds(f, closing.has_filter, closing.totals)?;
-    write_damage(f, closing.totals)
+    write_damage(f, closing.totals)?;
+    write_datagrams(f, closing.totals.datagrams)
 }
 
 // Writes how many records are listed.
@@ -504,8 +514,27 @@ fn write_damage<W: fmt::Write>(f: &mut Formatter<W>, totals: Totals) -> fmt::Res
     let (skipped, cut, wrong) = (totals.skipped, totals.cut, totals.wrong);
     write!(
         f,
-        "{skipped} skipped, {cut} cut, {wrong} with a wrong checksum\n"
+        "{skipped} skipped, {cut} cut, {wrong} with a wrong checksum"
     )
+}
+
+// Writes how many datagrams there were, if packets are put together, and the end of the line.
+#[tactic(auto, unfolding(crate::specs::Lines::datagrams_text))]
+fn write_datagrams<W: fmt::Write>(f: &mut Formatter<W>, datagrams: Option<Datagrams>) -> fmt::Result
+    ensures text { DisplaysOnOk W.write_str_gives f.old result
+        (Some (datagrams_text datagrams)) f.new }
+{
+    match datagrams {
+        None => f.write_str("\n"),
+        Some(datagrams) => {
+            let (whole, discarded) = (datagrams.put_together, datagrams.discarded);
+            let left_over = datagrams.left_over();
+            write!(
+                f,
+                "; datagrams: {whole} reassembled, {discarded} discarded, {left_over} incomplete\n"
+            )
+        }
+    }
 }
 
 /// The line on an input that is no capture.

@@ -4,16 +4,18 @@ ghost use Rattle.std.specs.Prelude.{◌≡◌, ◌≤◌, ◌<◌, ◌-◌, [], 
 ghost use Rattle.std.specs.Prelude.{◌++◌, Bool, OnErr, OnOk, Some, drop, false, length, take, true};
 ghost use Rattle.std.specs.Io.KnownBytes.{IsAtEnd};
 ghost use Rattle.packet_capture.specs.Any.{RefusesBlock, said};
+ghost use Rattle.packet_capture.specs.Any as said;
 ghost use Rattle.packet_capture.specs.Skip.{CanBeSkipped, front_len};
 ghost use Rattle.ipcap.specs.Listing.{IsChosen, if_too_long};
 ghost use Rattle.ipcap.specs.Private.Progress.{Because, Breaks, Ends, Lacks, Skips, Stops};
 ghost use Rattle.ipcap.specs.Private.Progress.{Tells, TellsBlock, TellsFrame, TellsFront};
-ghost use Rattle.ipcap.specs.Private.Progress.{TellsFrontOf, TellsSaid, Turns, keeps};
+ghost use Rattle.ipcap.specs.Private.Progress.{IsShort, TellsFrontOf, TellsSaid, Turns, keeps};
 ghost use Rattle.ipcap.specs.Reading.{max_len};
 ghost use Rattle.ipcap.specs.Request.{has_enough};
 ghost use Rattle.ipcap.specs.Streams.{CannotRead, Prints, unread};
 ghost use Rattle.ipcap.specs.Totals.{HasRoom, no_packet, packet};
 
+use crate::completing::{completed, head_of_whole};
 use crate::failure::Failure;
 use crate::input::{Input, ROOM};
 use crate::lines::RecordLine;
@@ -23,6 +25,7 @@ use crate::reading::{Reading, is_cut, max_len, read_numbered};
 use crate::request::{Mode, Request};
 use crate::streams::{Sink, Source};
 use crate::totals::Totals;
+use frame_reassembly::frame_reassembly::FrameReassembly;
 use packet::link::LinkType;
 use packet_capture::any::{Block, PacketHead, next_block};
 use packet_capture::capture::CutOff;
@@ -103,6 +106,7 @@ impl Request {
         &self,
         totals: &mut Totals,
         len: usize,
+        is_reassembled: bool,
         head: &PacketHead,
         bytes: &[u8],
         reading: Reading,
@@ -110,7 +114,7 @@ impl Request {
     ) -> Result<(), Failure>
         requires fits { length bytes.now ≤ ROOM }
         ensures told { OnOk result ((is_long : Bool) → TellsBlock W.contents self.now len is_long
-            (packet head.now (Some reading.entry)) totals.old totals.new bytes.now
+            (packet is_reassembled head.now (Some reading.entry)) totals.old totals.new bytes.now
             output.old output.new) }
         ensures kept { OnErr result (Prints W.contents output.old output.new []) }
         ensures failed { IfErr result (λ e. Because ⊥ (W.has_failed output.new.sink)
@@ -126,6 +130,7 @@ impl Request {
                 number: after.records,
                 head: *head,
                 reading,
+                is_reassembled,
             }),
             Mode::Packets => output.copy(bytes),
             Mode::Quiet | Mode::Count => Ok(()),
@@ -153,21 +158,23 @@ impl Request {
     fn list_frame<W: Sink>(
         &self,
         totals: &mut Totals,
+        is_reassembled: bool,
         head: &PacketHead,
         bytes: &[u8],
         frame: &[u8],
         output: &mut Output<W>,
     ) -> Result<(), Failure>
         requires fits { length bytes.now ≤ ROOM }
-        ensures told { OnOk result (TellsFrame W.contents self.now totals.old totals.new head.now
-            bytes.now frame.now output.old output.new) }
+        ensures told { OnOk result (TellsFrame W.contents self.now is_reassembled totals.old totals.new
+            head.now bytes.now frame.now output.old output.new) }
         ensures kept { OnErr result (Prints W.contents output.old output.new []) }
         ensures failed { IfErr result (λ e. Because ⊥ (W.has_failed output.new.sink)
             (¬ HasRoom totals.old) e ⊥ [] []) }
     {
         if self.is_chosen(head, frame) {
             let reading = read_numbered(head.link_type, is_cut(head), frame);
-            return self.list_packet(totals, bytes.len(), head, bytes, reading, output);
+            let len = bytes.len();
+            return self.list_packet(totals, len, is_reassembled, head, bytes, reading, output);
         }
         let Some(after) = totals.pass(bytes.len(), false, head) else {
             return Err(Failure::Count);
@@ -207,14 +214,14 @@ impl Request {
     ) -> Result<(), Failure>
         requires fits { length bytes.now ≤ ROOM }
         ensures told { OnOk result (TellsBlock W.contents self.now len true
-            (packet head.now (if_too_long self.now)) totals.old totals.new bytes.now
+            (packet false head.now (if_too_long self.now)) totals.old totals.new bytes.now
             output.old output.new) }
         ensures kept { OnErr result (Prints W.contents output.old output.new []) }
         ensures failed { IfErr result (λ e. Because ⊥ (W.has_failed output.new.sink)
             (¬ HasRoom totals.old) e ⊥ [] []) }
     {
         match &self.filter {
-            None => self.list_packet(totals, len, head, bytes, Reading::Skipped, output),
+            None => self.list_packet(totals, len, false, head, bytes, Reading::Skipped, output),
             Some(_) => {
                 let Some(after) = totals.pass(len, true, head) else {
                     return Err(Failure::Count);
@@ -225,26 +232,64 @@ impl Request {
         }
     }
 
+    // Takes the frame of a packet, and counts and writes the packet that it completes, or else itself.
+    // There is room for the whole frame in `out`.
+    fn list_taken<W: Sink>(
+        &self,
+        totals: &mut Totals,
+        frames: &mut FrameReassembly,
+        out: &mut [u8],
+        head: &PacketHead,
+        bytes: &[u8],
+        frame: &[u8],
+        output: &mut Output<W>,
+    ) -> Result<(), Failure>
+        requires fits { length bytes.now ≤ ROOM }
+        requires short { length frame.now ≤ 327680 }
+        requires room { length out.old ≡ 393255 }
+        ensures told { OnOk result (TellsSaid W.contents self.now totals.old (Some frames.old)
+            totals.new (Some frames.new) (said.packet head.now frame.now) bytes.now output.old
+            output.new) }
+        ensures kept { OnErr result (Prints W.contents output.old output.new []) }
+        ensures failed { IfErr result (λ e. Because ⊥ (W.has_failed output.new.sink)
+            (¬ HasRoom totals.old) e ⊥ [] []) }
+        ensures same_len { length out.new ≡ 393255 }
+    {
+        let Some(len) = completed(totals, frames, head, frame, out) else {
+            return self.list_frame(totals, false, head, bytes, frame, output);
+        };
+        let head = head_of_whole(head, len);
+        self.list_frame(totals, true, &head, bytes, &out[..len], output)
+    }
+
     // Counts a whole block, and writes what is written of it.
     #[inline(always)]
     fn list_block<W: Sink>(
         &self,
-        totals: &mut Totals,
+        place: &mut Place,
         block: &Block,
         bytes: &[u8],
         output: &mut Output<W>,
     ) -> Result<(), Failure>
         requires fits { length bytes.now ≤ ROOM }
-        ensures told { OnOk result (TellsSaid W.contents self.now totals.old totals.new
-            (said block.now) bytes.now output.old output.new) }
+        requires short { IsShort (said block.now) }
+        ensures told { OnOk result (TellsSaid W.contents self.now place.old.totals
+            place.old.memory place.new.totals place.new.memory (said block.now) bytes.now
+            output.old output.new) }
+        ensures capture { place.new.capture ≡ place.old.capture }
         ensures kept { OnErr result (Prints W.contents output.old output.new []) }
         ensures failed { IfErr result (λ e. Because ⊥ (W.has_failed output.new.sink)
-            (¬ HasRoom totals.old) e ⊥ [] []) }
+            (¬ HasRoom place.old.totals) e ⊥ [] []) }
     {
+        let totals = &mut place.totals;
         match block {
-            Block::Packet { head, bytes: frame } => {
-                self.list_frame(totals, head, bytes, frame, output)
-            }
+            Block::Packet { head, bytes: frame } => match &mut place.memory {
+                None => self.list_frame(totals, false, head, bytes, frame, output),
+                Some(memory) => {
+                    let (frames, out) = (&mut memory.frames, &mut *memory.out);
+                    self.list_taken(totals, frames, out, head, bytes, frame, output)
+                }
+            },
             Block::Other => self.list_other(totals, bytes.len(), bytes, output),
         }
     }
@@ -283,7 +328,7 @@ impl Request {
                         let totals = &mut place.totals;
                         self.list_too_long(totals, whole.len(), head, whole, output)?;
                     } else {
-                        self.list_block(&mut place.totals, &block, whole, output)?;
+                        self.list_block(place, &block, whole, output)?;
                     }
                     rest = after;
                 }

@@ -2,6 +2,7 @@
 #![tactic(auto)]
 
 mod arguments;
+mod completing;
 mod dates;
 mod ends;
 mod failure;
@@ -9,6 +10,7 @@ mod files;
 mod input;
 mod lines;
 mod listing;
+mod memory;
 mod output;
 mod place;
 mod reading;
@@ -23,7 +25,9 @@ mod totals;
 use arguments::{Arguments, command};
 use failure::Failure;
 use files::{Reader, Writer};
+use frame_reassembly::frame_reassembly::FrameReassembly;
 use input::Input;
+use memory::{FRAME_ROOM, Reassembly, SLOT_LEN, slots_in};
 use output::Output;
 use refusal::RefusalLines;
 use request::{Request, read_filter};
@@ -69,7 +73,7 @@ fn start(rt: &HostRuntime) -> io::Result<u8> {
         }
     };
     match Arguments::from_matches(&matches) {
-        Ok(arguments) => Ok(answer(rt, arguments)),
+        Ok(arguments) => answer(rt, arguments),
         Err(_) => {
             let _ = eprintln!(rt; "error: the expression has more than 4096 bytes");
             Ok(REFUSED)
@@ -78,14 +82,14 @@ fn start(rt: &HostRuntime) -> io::Result<u8> {
 }
 
 // Reads the expression, opens the files, and runs. Returns the exit status.
-fn answer(rt: &HostRuntime, arguments: Arguments) -> u8 {
+fn answer(rt: &HostRuntime, arguments: Arguments) -> io::Result<u8> {
     let text = arguments.text.as_slice();
     let filter = match read_filter(text) {
         Ok(filter) => filter,
         Err(error) => {
             let lines = RefusalLines { text, error };
             let _ = eprint!(rt; "{lines}");
-            return REFUSED;
+            return Ok(REFUSED);
         }
     };
     let request = Request {
@@ -96,13 +100,17 @@ fn answer(rt: &HostRuntime, arguments: Arguments) -> u8 {
     };
     let reader = match Reader::open(rt, arguments.input) {
         Ok(reader) => reader,
-        Err(e) => return refuse(rt, arguments.input, e),
+        Err(e) => return Ok(refuse(rt, arguments.input, e)),
     };
     let writer = match Writer::create(rt, arguments.output) {
         Ok(writer) => writer,
-        Err(e) => return refuse(rt, arguments.output, e),
+        Err(e) => return Ok(refuse(rt, arguments.output, e)),
     };
-    list(rt, &request, reader, writer)
+    if arguments.reassembles {
+        list_reassembled(rt, &request, reader, writer)
+    } else {
+        Ok(list(rt, &request, None, reader, writer))
+    }
 }
 
 // Says why a file is not opened. Returns the exit status.
@@ -112,12 +120,34 @@ fn refuse(rt: &HostRuntime, name: Option<&str>, e: io::Error) -> u8 {
     REFUSED
 }
 
+// Lists a capture, and puts packets together of their fragments, in memory that is taken before.
+// Returns the exit status.
+fn list_reassembled(
+    rt: &HostRuntime,
+    request: &Request,
+    reader: Reader,
+    writer: Writer,
+) -> io::Result<u8> {
+    let alloc = rt.alloc();
+    let mut memory = vec![in alloc; 0; FrameReassembly::SLOTS * SLOT_LEN]?;
+    let mut slots = slots_in(alloc, &mut memory)?;
+    let mut frame = vec![in alloc; 0; FRAME_ROOM]?;
+    let reassembly = Reassembly::new(&mut slots, &mut frame);
+    Ok(list(rt, request, Some(reassembly), reader, writer))
+}
+
 // Lists a capture. Returns the exit status.
-fn list(rt: &HostRuntime, request: &Request, reader: Reader, writer: Writer) -> u8 {
+fn list(
+    rt: &HostRuntime,
+    request: &Request,
+    memory: Option<Reassembly>,
+    reader: Reader,
+    writer: Writer,
+) -> u8 {
     let mut input = Input::new(Watched::new(reader));
     let mut output = Output::new(Watched::new(writer));
     let mut errors = Output::new(Watched::new(rt.stderr()));
-    match run(request, &mut input, &mut output, &mut errors) {
+    match run(request, memory, &mut input, &mut output, &mut errors) {
         Ok(status) => status.code(),
         Err(failure) => {
             say(rt, failure, &input, &output);

@@ -1,5 +1,6 @@
 //! The state of a listing between two blocks, and how it can end before its capture does.
 
+use crate::memory::Reassembly;
 use crate::totals::Totals;
 use packet_capture::any::Capture;
 use packet_capture::capture::CutOff;
@@ -7,11 +8,13 @@ use packet_capture::pcapng::blocks::BlockError;
 
 /// The state of a listing between two blocks. A block of the classic format is a record.
 #[derive(Drop)]
-pub struct Place {
+pub struct Place<'a, 'b> {
     /// What is counted of the blocks before it.
     pub totals: Totals,
     /// What is known of the capture there.
     pub capture: Capture,
+    /// What has come of datagrams, if packets are put together.
+    pub memory: Option<Reassembly<'a, 'b>>,
 }
 
 /// How a listing ends before its capture does.

@@ -12,6 +12,7 @@ ghost use Rattle.ipcap.specs.Streams.{CannotRead, Takes, pending, unlisted, unre
 use crate::failure::Failure;
 use crate::input::Input;
 use crate::lines::{Closing, LinkTypeLine, NoCaptureLine, Report};
+use crate::memory::Reassembly;
 use crate::output::Output;
 use crate::place::{End, Place};
 use crate::request::Request;
@@ -41,16 +42,17 @@ use packet_capture::capture::{CaptureError, FileHeader};
 /// of the records before a read that fails is written.
 pub fn run<R: Source, W: Sink, E: Sink>(
     request: &Request,
+    memory: Option<Reassembly>,
     input: &mut Input<R>,
     output: &mut Output<W>,
     errors: &mut Output<E>,
 ) -> Result<Status, Failure>
     requires fresh { (pending output.old ≡ []) × (pending errors.old ≡ []) }
     ensures output { IfOk result (λ status. IfSome (unlisted R.remaining input.old) (λ bytes.
-        Writes W.contents E.contents E.has_failed (IsOutcome request.now bytes) status
+        Writes W.contents E.contents E.has_failed (IsOutcome request.now memory.entry bytes) status
         output.old output.new errors.old errors.new)) }
     ensures failed { IfErr result (λ e. Fails R.remaining W.contents R.has_failed W.has_failed
-        request.now e input.old input.new output.old output.new errors.old errors.new) }
+        request.now memory.entry e input.old input.new output.old output.new errors.old errors.new) }
 {
     fill_to_front(input)?;
     let front = input.unread();
@@ -71,7 +73,7 @@ pub fn run<R: Source, W: Sink, E: Sink>(
     let len = header_len(&capture);
     output.copy_if(request.copies(), &front[..len])?;
     input.pass(len);
-    list_blocks(request, capture, input, output, errors)
+    list_blocks(request, memory, capture, input, output, errors)
 }
 
 // The link type that a capture has for all its frames, if that is not read.
@@ -129,6 +131,7 @@ fn lacks_front(bytes: &[u8]) -> bool
 // Lists the blocks of a capture, and writes the lines at the end.
 fn list_blocks<R: Source, W: Sink, E: Sink>(
     request: &Request,
+    memory: Option<Reassembly>,
     capture: Capture,
     input: &mut Input<R>,
     output: &mut Output<W>,
@@ -136,15 +139,17 @@ fn list_blocks<R: Source, W: Sink, E: Sink>(
 ) -> Result<Status, Failure>
     requires fresh { pending errors.old ≡ [] }
     ensures output { IfOk result (λ status. IfSome (unlisted R.remaining input.old) (λ bytes.
-        WritesListing W.contents E.contents E.has_failed request.now capture bytes status
+        WritesListing W.contents E.contents E.has_failed request.now memory.entry capture bytes status
         output.old output.new errors.old errors.new)) }
     ensures failed { IfErr result (λ e. FailsListing R.remaining W.contents
-        R.has_failed W.has_failed request.now capture e
+        R.has_failed W.has_failed request.now memory.entry capture e
         input.old input.new output.old output.new errors.old errors.new) }
 {
+    let reassembles = memory.is_some();
     let mut place = Place {
-        totals: Totals::none(),
+        totals: Totals::none(reassembles),
         capture,
+        memory,
     };
     let end = match request.list(&mut place, input, output) {
         Ok(end) => end,

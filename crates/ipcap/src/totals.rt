@@ -1,6 +1,7 @@
 //! What is counted.
 
 use crate::reading::{Reading, is_cut};
+use frame_reassembly::datagrams::Datagrams;
 use packet_capture::any::PacketHead;
 use packet_parts::ip_slice::IpHeaderSlice;
 
@@ -27,16 +28,18 @@ pub struct Totals {
     pub wrong: u64,
     /// The bytes of all blocks so far, of packets or not, or 2^64 - 1 if there are more.
     pub bytes: u64,
+    /// How many datagrams there were, if packets are put together.
+    pub datagrams: Option<Datagrams>,
 }
 
 impl Totals {
     ghost use Rattle.std.specs.Prelude.{◌≡◌, Bool, IfNone, IfSome, None, Some};
-    ghost use Rattle.ipcap.specs.Totals.{HasRoom, counted, counted_as, no_packet};
-    ghost use Rattle.ipcap.specs.Totals.{nothing_counted, packet};
+    ghost use Rattle.ipcap.specs.Totals.{HasRoom, counted, counted_as, first_totals, no_packet};
+    ghost use Rattle.ipcap.specs.Totals.{packet};
 
-    /// No record.
-    pub fn none() -> Totals
-        ensures value { result ≡ nothing_counted }
+    /// No record, and no datagram if packets are put together.
+    pub fn none(reassembles: bool) -> Totals
+        ensures value { result ≡ first_totals reassembles }
     {
         Totals {
             records: 0,
@@ -49,14 +52,15 @@ impl Totals {
             cut: 0,
             wrong: 0,
             bytes: 0,
+            datagrams: reassembles.then_some(Datagrams::none()),
         }
     }
 
     /// With one more packet that is listed, in a block of `len` bytes; `None` if a count of packets
     /// would exceed 2^64 - 1.
     pub fn count(self, len: usize, head: &PacketHead, reading: &Reading) -> Option<Totals>
-        ensures some { IfSome result (λ after. (is_long : Bool)
-            → after ≡ counted len is_long (packet head.now (Some reading.now)) self) }
+        ensures some { IfSome result (λ after. (is_long is_reassembled : Bool)
+            → after ≡ counted len is_long (packet is_reassembled head.now (Some reading.now)) self) }
         ensures none { IfNone result (¬ HasRoom self) }
     {
         let after = self.count_as(reading)?;
@@ -76,7 +80,8 @@ impl Totals {
     /// not; `None` if a count of packets would exceed 2^64 - 1.
     pub fn pass(self, len: usize, is_long: bool, head: &PacketHead) -> Option<Totals>
         ensures some { IfSome result (λ after.
-            after ≡ counted len is_long (packet head.now None) self) }
+            (is_reassembled : Bool)
+            → after ≡ counted len is_long (packet is_reassembled head.now None) self) }
         ensures none { IfNone result (¬ HasRoom self) }
     {
         Some(Totals {

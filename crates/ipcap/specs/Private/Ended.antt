@@ -10,6 +10,7 @@ use Rattle.packet_capture.specs.declared.capture.FileHeader.{FileHeader}
 use Rattle.ipcap.specs.Listing.{Lists}
 use Rattle.ipcap.specs.Output.{IsCause, first_place, listed, number_of, status_at}
 use Rattle.ipcap.specs.Private.Progress.{WantsMore}
+use Rattle.ipcap.specs.Reassembled.{Memory}
 use Rattle.ipcap.specs.Streams.{CannotRead, Prints, Reads, Reports, pending, unread}
 use Rattle.ipcap.specs.Totals.{HasRoom}
 use Rattle.ipcap.specs.declared.failure.Failure.{Failure}
@@ -34,12 +35,12 @@ pub record HasUnreadFrames (capture : Capture) (number : ℕ) : Type 0 where
 -- the blocks are listed, and all is passed to the sinks
 pub record WritesListing {W E : Type 0} (contents : W → Option (List ℕ))
     (contents_of_errors : E → Option (List ℕ)) (error_failed : E → Type 0) (request : Request)
-    (capture : Capture) (blocks : List ℕ) (status : Status) (old new : Output W)
+    (memory : Memory) (capture : Capture) (blocks : List ℕ) (status : Status) (old new : Output W)
     (old_errors new_errors : Output E) : Type 0 where
   pub text : List ℕ
   pub totals : Totals
   pub end : Option End
-  pub lists : Lists request (first_place capture) blocks text totals end
+  pub lists : Lists request (first_place memory capture) blocks text totals end
   pub ended : status ≡ status_at end
   pub prints : Prints contents old new (text ++ (listed request text totals end).closing)
   pub all : pending new ≡ []
@@ -49,7 +50,7 @@ pub record WritesListing {W E : Type 0} (contents : W → Option (List ℕ))
 -- a front of what was read is listed, and then a call failed or a count was full
 pub record FailsListing {R W E : Type 0} (remaining : R → Option (List ℕ))
     (contents : W → Option (List ℕ)) (read_failed : R → Type 0) (write_failed : W → Type 0)
-    (request : Request) (capture : Capture) (e : Failure) (input left : Input R)
+    (request : Request) (memory : Memory) (capture : Capture) (e : Failure) (input left : Input R)
     (old new : Output W) (old_errors new_errors : Output E) : Type 0 where
   pub got : List ℕ
   pub reads : Reads remaining input left got
@@ -59,7 +60,7 @@ pub record FailsListing {R W E : Type 0} (remaining : R → Option (List ℕ))
   pub text : List ℕ
   pub totals : Totals
   pub end : Option End
-  pub lists : Lists request (first_place capture) front text totals end
+  pub lists : Lists request (first_place memory capture) front text totals end
   pub printed : List ℕ
   pub unprinted : List ℕ
   pub parts : text ++ (listed request text totals end).closing ≡ printed ++ unprinted

@@ -4,6 +4,7 @@ use Rattle.std.specs.Prelude.{Bool, ◌&&◌, ◌∷◌, drop, false, true}
 use Rattle.std.specs.Option.{is_none}
 use Rattle.std.specs.Io.KnownBytes.{IsAtEnd}
 use Rattle.packet_capture.specs.Any.{RefusesBlock, Said}
+use Rattle.packet_capture.specs.Any as said
 use Rattle.packet_capture.specs.declared.any.PacketHead.{PacketHead}
 use Rattle.packet_capture.specs.declared.capture.CutOff as cut
 use Rattle.packet_capture.specs.declared.pcapng.blocks.BlockError.TheVariants as error
@@ -11,6 +12,7 @@ use Rattle.packet_capture.specs.declared.skip.BlockFront.{BlockFront}
 use Rattle.packet_capture.specs.declared.skip.Content.{Content}
 use Rattle.packet_capture.specs.declared.skip.Content.TheVariants as content
 use Rattle.ipcap.specs.Listing.{Lists, ReadsChosen, ToldOf, ToldOfLong, written}
+use Rattle.ipcap.specs.Reassembled.{Memory}
 use Rattle.ipcap.specs.Request.{copies, has_enough}
 use Rattle.ipcap.specs.Streams.{CannotRead, Prints, Reads, Takes, kept_if, unread}
 use Rattle.ipcap.specs.Totals.{HasRoom, Told, counted, packet}
@@ -92,6 +94,11 @@ pub record Lacks {R W : Type 0} (remaining : R → Option (List ℕ)) (contents 
   pub prints : Prints contents old_output new_output (kept_if keeps first)
   pub cause : Because read_failed write_failed ⊥ e (length (first ++ piece) < wanted) rest piece
 
+-- a frame is no longer than what is read of a block
+abbrev pub IsShort : Said → Type 0
+IsShort (said.packet head frame) = length frame ≤ 327680
+IsShort said.other = Unit {0}
+
 module _ {W : Type 0} (contents : W → Option (List ℕ)) (request : Request) where
   -- a block of this length, of which this is told, is counted, and what is written of it is printed
   pub record TellsBlock (len : ℕ) (is_long : Bool) (told : Told) (before after : Totals)
@@ -100,18 +107,21 @@ module _ {W : Type 0} (contents : W → Option (List ℕ)) (request : Request) w
     pub prints : Prints contents old new (written request before told bytes)
 
   -- the same of a packet whose frame is read
-  pub record TellsFrame (before after : Totals) (head : PacketHead) (bytes frame : List ℕ)
-      (old new : Output W) : Type 0 where
+  pub record TellsFrame (is_reassembled : Bool) (before after : Totals) (head : PacketHead)
+      (bytes frame : List ℕ) (old new : Output W) : Type 0 where
     pub found : Option Reading
     pub reads : ReadsChosen request head frame found
-    pub tells : TellsBlock (length bytes) false (packet head found) before after bytes old new
+    pub tells : TellsBlock (length bytes) false (packet is_reassembled head found) before after
+        bytes old new
 
   -- the same of any block that says this
-  pub record TellsSaid (before after : Totals) (of : Said) (bytes : List ℕ) (old new : Output W)
-      : Type 0 where
+  pub record TellsSaid (before : Totals) (old : Memory) (after : Totals) (new : Memory)
+      (of : Said) (bytes : List ℕ) (old_output new_output : Output W) : Type 0 where
     pub told : Told
-    pub is : ToldOf request of told
-    pub tells : TellsBlock (length bytes) false told before after bytes old new
+    pub mid : Totals
+    pub is : ToldOf request of before old mid new told
+    pub counts : after ≡ counted (length bytes) false told mid
+    pub prints : Prints contents old_output new_output (written request mid told bytes)
 
   -- the same of a block that is too long, but for its bytes and its length
   pub record TellsFrontOf (front : BlockFront) (before after : Totals) (old new : Output W)

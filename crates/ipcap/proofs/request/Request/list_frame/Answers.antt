@@ -1,7 +1,10 @@
-use Rattle.std.proofs.Common.{Some, false}
-use Rattle.ipcap.proofs.Runs.{on_ok}
+use Rattle.std.proofs.Common.{None, Some, false}
+use Rattle.ipcap.proofs.Runs.{on_ok, prints_nothing}
 use Rattle.ipcap.proofs.request.Request.list_frame.Goals as goal
 
 pub returns-then-is_chosen-clause-told : goal.returns-then-is_chosen-clause-told
 returns-then-is_chosen-clause-told g c =
     on_ok c.list_packet.result (λ told. record { found = Some c.read_numbered-reading.result; reads = (rw c.if-is_chosen.true at c.is_chosen.ensures.value, rw c.is_cut.ensures.value at c.read_numbered-reading.ensures.reads); tells = told false }) c.list_packet.ensures.told
+
+pub returns-clause-told : goal.returns-clause-told
+returns-clause-told g c = record { found = None; reads = rw c.if-is_chosen.false at c.is_chosen.ensures.value; tells = record { counts = c.in-Some.ensures.some c.args.is_reassembled; prints = prints_nothing _ _ } }

@@ -1,4 +1,4 @@
-use Rattle.std.proofs.Common.{[], ◌++◌, ap, refl, sym, true}
+use Rattle.std.proofs.Common.{[], ◌++◌, ap, false, refl, sym, true}
 use Rattle.ipcap.specs.Listing.{if_too_long, written}
 use Rattle.ipcap.specs.Request.{copies}
 use Rattle.ipcap.specs.Streams.{kept_if}
@@ -8,10 +8,10 @@ use Rattle.ipcap.proofs.request.Request.list_front_of.Goals as goal
 
 pub returns-in-Packet-clause-told : goal.returns-in-Packet-clause-told
 returns-in-Packet-clause-told g c = on_ok c.list_too_long.result (λ t. record {
-  told = packet c.in-Packet.head (if_too_long c.args.self.now);
+  told = packet false c.in-Packet.head (if_too_long c.args.self.now);
   is = rw c.in-Packet.is refl;
   counts = t.counts;
-  line = written c.args.self.now c.args.totals.now (packet c.in-Packet.head (if_too_long c.args.self.now)) [];
+  line = written c.args.self.now c.args.totals.now (packet false c.in-Packet.head (if_too_long c.args.self.now)) [];
   prints = t.prints;
   all = rw c.in-Packet.is (written_long c.args.self.now c.args.totals.now c.in-Packet.head);
 }) c.list_too_long.ensures.told

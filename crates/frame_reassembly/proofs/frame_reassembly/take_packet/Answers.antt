@@ -1,0 +1,16 @@
+use Rattle.std.proofs.Common.{inr, refl}
+use Rattle.packet_reassembly.specs.declared.ip_defrag_packet.IpDefragPacketError.TheVariants as why
+use Rattle.frame_reassembly.proofs.frame_reassembly.take_packet.Goals as goal
+
+pub returns-in-Err-clause-takes : goal.returns-in-Err-clause-takes
+returns-in-Err-clause-takes c = inr (record { why = inr (why.Packet c.in-Err.field-0, c.in-Err.ensures.refused); slots = refl; counts = refl; none = refl })
+
+pub follow-requires-clause-headers : goal.follow-requires-clause-headers
+follow-requires-clause-headers c = c.in-Ok-Some-add_packet.ensures.headers c.requires.headers
+
+pub returns-in-Ok-None-add_packet-clause-headers :
+    goal.returns-in-Ok-None-add_packet-clause-headers
+returns-in-Ok-None-add_packet-clause-headers c = c.in-Ok-None-add_packet.ensures.headers c.requires.headers
+
+pub returns-in-Err-add_packet-clause-headers : goal.returns-in-Err-add_packet-clause-headers
+returns-in-Err-add_packet-clause-headers c = c.in-Err-add_packet.ensures.headers c.requires.headers

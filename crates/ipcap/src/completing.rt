@@ -1,0 +1,43 @@
+//! The packets that fragments complete.
+
+ghost use Rattle.std.specs.Prelude.{◌≡◌, ◌≤◌, ◌+◌, ◌<◌, ◌^◌, IfSome, Some, length, option_map, take};
+ghost use Rattle.ipcap.specs.Reassembled.{Reassembles, head_of_whole};
+
+use crate::totals::Totals;
+use frame_reassembly::frame_reassembly::FrameReassembly;
+use packet::link::LinkType;
+use packet_capture::any::PacketHead;
+
+/// Takes the frame of a packet: if it carries a fragment, that is added to its datagram. If it
+/// completes that, `out` gets the frame that it completes, whose length is returned.
+pub fn completed(
+    totals: &mut Totals,
+    frames: &mut FrameReassembly,
+    head: &PacketHead,
+    frame: &[u8],
+    out: &mut [u8],
+) -> Option<usize>
+    requires room { length frame.now + 65575 ≤ length out.old }
+    ensures completes { Reassembles head.now frame.now totals.old (Some frames.old) totals.new
+        (Some frames.new) (option_map (λ len. take len out.new) result) }
+    ensures within { IfSome result (λ len. len ≤ length out.new) }
+    ensures same_len { length out.new ≡ length out.old }
+{
+    let mut datagrams = totals.datagrams?;
+    let link_type = LinkType::from_number(u32::from(head.link_type))?;
+    let len = frames.take(link_type, frame, head.time().seconds, &mut datagrams, out);
+    totals.datagrams = Some(datagrams);
+    len
+}
+
+/// The head of a packet that is put together, whose frame has `len` bytes.
+pub fn head_of_whole(head: &PacketHead, len: usize) -> PacketHead
+    requires fits { len < 2 ^ 32 }
+    ensures value { result ≡ head_of_whole head.now len }
+{
+    PacketHead {
+        captured_len: len as u32,
+        original_len: len as u32,
+        ..*head
+    }
+}
