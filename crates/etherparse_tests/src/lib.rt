@@ -51,3 +51,5 @@ mod udp;
 mod updates;
 #[cfg(test)]
 mod views;
+#[cfg(test)]
+mod whole_frames;
