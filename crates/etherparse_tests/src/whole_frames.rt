@@ -6,7 +6,6 @@ use packet::link::LinkType;
 use packet_reassembly::ip_defrag_buf::IpDefragBuf;
 use packet_reassembly::ip_defrag_headers::IpDefragHeaders;
 use packet_reassembly::ip_defrag_pool::IpDefragSlot;
-use packet_reassembly::ip_frag_range::IpFragRange;
 use std::process::Abort;
 use std::test::Fail;
 
@@ -25,12 +24,12 @@ fn counts(rt: HostRuntime) -> Result<(), Fail> {
 fn frames(rt: HostRuntime) -> Result<(), Fail> {
     let mut headers = [0; IpDefragHeaders::MAX_LEN];
     let mut bytes = [0; IpDefragBuf::MAX_LEN];
-    let mut ranges = [IpFragRange::default(); IpDefragBuf::RANGES];
+    let mut units = [0; IpDefragBuf::UNITS];
     let mut slots = [IpDefragSlot {
         id: None,
         since: 0,
         headers: IpDefragHeaders::new(&mut headers),
-        buf: IpDefragBuf::new(&mut bytes, &mut ranges),
+        buf: IpDefragBuf::new(&mut bytes, &mut units),
     }];
     let mut frames = FrameReassembly::new(&mut slots);
     let mut out = [0; 65_700];
