@@ -298,7 +298,7 @@ fn complete(pool: &mut IpDefragPool, slot: usize, out: &mut [u8]) -> Option<usiz
     match pool.write_packet(slot, out) {
         Ok(Some(len)) => {
             pool.release(slot);
-            Some(len.min(out.len()))
+            Some(len)
         }
         Ok(None) => unreachable!(), // Its first fragment has come.
         Err(_) => {

@@ -234,6 +234,7 @@ impl Request {
 
     // Takes the frame of a packet, and counts and writes the packet that it completes, or else itself.
     // There is room for the whole frame in `out`.
+    #[inline(never)] // A listing without this is then no slower for it.
     fn list_taken<W: Sink>(
         &self,
         totals: &mut Totals,

@@ -118,6 +118,7 @@ impl<'a> IpDefragHeaders<'a> {
         requires room { 65575 ≤ length out.old }
         ensures packet { IfOk result (λ found. IfSome found (λ len.
             IsPacketOf self.now datagram.now (take len out.new))) }
+        ensures within { IfOk result (λ found. IfSome found (λ len. len ≤ length out.new)) }
         ensures none { IfOk result (λ found. IfNone found (self.now ≡ None)) }
         ensures refused { IfErr result (λ e. IsTooLongFor self.now datagram.now) }
         ensures unchanged { OnErr result (out.new ≡ out.old) }
@@ -161,6 +162,7 @@ fn write_ipv4(
     requires header { (first : Header4) × IsIpv4Layout first headers.now }
     ensures packet { IfOk result (λ len. IsIpv4PacketWith headers.now datagram.now
         (take len out.new)) }
+    ensures within { IfOk result (λ len. len ≤ length out.new) }
     ensures refused { IfErr result (λ e. IsTooLongForIpv4 headers.now datagram.now) }
     ensures unchanged { OnErr result (out.new ≡ out.old) }
 {
@@ -183,6 +185,7 @@ fn write_ipv6(
     requires headers { AreIpv6HeadersAt headers.now place }
     ensures packet { IfOk result (λ len. IsIpv6PacketWith headers.now datagram.now
         (take len out.new)) }
+    ensures within { IfOk result (λ len. len ≤ length out.new) }
     ensures refused { IfErr result (λ e. IsTooLongForIpv6 headers.now datagram.now) }
     ensures unchanged { OnErr result (out.new ≡ out.old) }
 {

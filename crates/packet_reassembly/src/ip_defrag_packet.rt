@@ -154,6 +154,7 @@ impl<'a, 'b> IpDefragPool<'a, 'b> {
         requires room { 65575 ≤ length out.old }
         ensures packet { IfOk result (λ found. IfSome found (λ len.
             IsPacketIn (slot_at self.old.slots.now slot) (take len out.new))) }
+        ensures within { IfOk result (λ found. IfSome found (λ len. len ≤ length out.new)) }
         ensures none { IfOk result (λ found.
             IfNone found (HasNoPacket (slot_at self.old.slots.now slot))) }
         ensures refused { IfErr result (λ e. HasTooLongPacket (slot_at self.old.slots.now slot)) }
@@ -190,6 +191,7 @@ impl<'a> IpDefragSlot<'a> {
         requires room { 65575 ≤ length out.old }
         ensures packet { IfOk result (λ found. IfSome found (λ len.
             IsPacketIn self.now (take len out.new))) }
+        ensures within { IfOk result (λ found. IfSome found (λ len. len ≤ length out.new)) }
         ensures none { IfOk result (λ found. IfNone found (HasNoPacket self.now)) }
         ensures refused { IfErr result (λ e. HasTooLongPacket self.now) }
         ensures some { HasFirstHeaders self.now → (datagram : List ℕ) →

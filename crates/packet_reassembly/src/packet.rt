@@ -37,6 +37,7 @@ pub fn write_ipv4_packet(
     requires room { 65535 ≤ length out.old }
     ensures accepted { IsOk result ↔ (length payload.now ≤ ipv4_max_payload_len first) }
     ensures packet { IfOk result (λ len. IsIpv4Packet first payload.now (take len out.new)) }
+    ensures within { IfOk result (λ len. len ≤ length out.new) }
     ensures refused { IfErr result (λ e. e ≡ record {
       actual = length payload.now;
       max_allowed = ipv4_max_payload_len first;
@@ -91,6 +92,7 @@ pub fn write_ipv6_packet(
         ↔ (length before.now + length last.now + length payload.now ≤ 65535) }
     ensures packet { IfOk result (λ len. IsIpv6Packet first before.now last.now next_header
         payload.now (take len out.new)) }
+    ensures within { IfOk result (λ len. len ≤ length out.new) }
     ensures refused { IfErr result (λ e. e ≡ record {
       actual = length before.now + length last.now + length payload.now;
       max_allowed = 65535;
