@@ -154,7 +154,7 @@ impl Request {
 
     // Counts a packet, and writes its line or the bytes of its block if it is listed. The
     // expression is asked first, since most of what a line says takes longer.
-    #[inline(always)]
+    #[inline(never)] // One copy of all that a frame takes is faster than three.
     fn list_frame<W: Sink>(
         &self,
         totals: &mut Totals,
