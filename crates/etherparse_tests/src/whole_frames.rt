@@ -31,7 +31,10 @@ fn frames(rt: HostRuntime) -> Result<(), Fail> {
         headers: IpDefragHeaders::new(&mut headers),
         buf: IpDefragBuf::new(&mut bytes, &mut units),
     }];
-    let mut frames = FrameReassembly::new(&mut slots);
+    two_fragments(&rt, &mut FrameReassembly::new(&mut slots))
+}
+
+fn two_fragments(rt: &impl Abort, frames: &mut FrameReassembly) -> Result<(), Fail> {
     let mut out = [0; 65_700];
 
     // Ethernet, a tag of VLAN 5, and two fragments of an IPv4 packet, of 8 bytes and of 5.
@@ -50,6 +53,5 @@ fn frames(rt: HostRuntime) -> Result<(), Fail> {
     let taken = frames.take(LinkType::Ethernet2, &first, 1, &mut datagrams, &mut out);
     assert!(rt; taken == Some(51) && datagrams.put_together == 1);
     assert!(rt; out[..18] == first[..18] && &out[38..51] == b"thirteenbytes".as_slice());
-
     Ok(())
 }
