@@ -135,7 +135,7 @@ impl<'a> LaxSlicedPacket<'a> {
     /// assert!(rt; lax.packet.link == Some(LinkSlice::Loopback { family: 2 }));
     /// assert!(rt; matches!(lax.stop, Some(SliceError::Ip(_))));
     /// ```
-    #[inline(always)] // The caller has its parts in registers.
+    #[inline(never)] // Its parts then come together in registers, and stay in memory once.
     pub fn from_link_type(
         link_type: LinkType,
         frame: &'a [u8],
@@ -159,7 +159,7 @@ impl<'a> LaxSlicedPacket<'a> {
     /// assert!(rt; matches!(lax.stop, Some(SliceError::Vlan(_))));
     /// assert!(rt; lax.packet.vlan.is_none() && lax.packet.payload == [1, 2, 3].as_slice());
     /// ```
-    #[inline(always)] // Likewise.
+    #[inline(never)] // Likewise.
     pub fn from_ether_type(ether_type: EtherType, bytes: &'a [u8]) -> LaxSlicedPacket<'a>
         ensures reads { IsLaxReadingAfter (Some ether_type) bytes.now result }
     {

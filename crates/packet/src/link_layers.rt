@@ -45,6 +45,7 @@ impl<'a> LinkLayers<'a> {
     /// assert!(rt; layers.ether_type == Some(EtherType::ARP) && !layers.carries_ip());
     /// assert!(rt; layers.payload == [0, 1].as_slice() && layers.stop.is_none());
     /// ```
+    #[inline(always)] // The caller has its parts in registers.
     pub fn from_link_type(link_type: LinkType, frame: &'a [u8]) -> Result<LinkLayers<'a>, LinkError>
         ensures found { IfOk result (HasLinkLayers link_type frame.now) }
         ensures refused { IfErr result (LacksLink link_type frame.now) }

@@ -366,6 +366,7 @@ fn ipv4_slice(packet: &[u8]) -> Result<LaxIpSlice, IpSliceError>
 }
 
 // The parts of a packet of version 4 with this header and this payload.
+#[inline(always)]
 fn ipv4_parts<'a>(header: Ipv4HeaderSlice<'a>, payload: &'a [u8]) -> IpSlice<'a>
     ensures parts { (packet : List ℕ) → (read : Header4) →
         (begins : BeginsWith IsIpv4Layout (ipv4_bytes read packet) read payload.now) →
@@ -405,6 +406,7 @@ fn ipv6_slice(packet: &[u8]) -> Result<LaxIpSlice, IpSliceError>
 }
 
 // The parts of a packet of version 6 with this header and this body.
+#[inline(always)]
 fn ipv6_parts<'a>(header: Ipv6HeaderSlice<'a>, body: &'a [u8]) -> LaxIpSlice<'a>
     ensures parts { (packet : List ℕ) → (read : Header6) →
         (begins : BeginsWith IsIpv6Layout (ipv6_bytes read packet) read body.now) →
