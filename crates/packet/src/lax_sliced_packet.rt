@@ -2,7 +2,8 @@
 
 ghost use Rattle.std.specs.Prelude.{◌≡◌, ◌≤◌, ◌<◌, ◌^◌, length, option_map};
 ghost use Rattle.packet.specs.Link.{link_parts};
-ghost use Rattle.packet.specs.SlicedPacket.{HasLayers, carries_ip};
+ghost use Rattle.packet.specs.SlicedPacket.{HasLayers, IsLaxReadingAfter, IsLaxReadingOf};
+ghost use Rattle.packet.specs.SlicedPacket.{carries_ip};
 
 use crate::error::SliceError;
 use crate::ether_type::EtherType;
@@ -142,10 +143,7 @@ impl<'a> LaxSlicedPacket<'a> {
     ) -> Result<LaxSlicedPacket<'a>, LinkError>
         ensures reads { IsLaxReadingOf link_type frame.now result }
     {
-        match link_header(link_type, frame) {
-            Ok((link, ether_type, bytes)) => Ok(layers(frame.len(), link, ether_type, bytes)),
-            Err(e) => Err(e),
-        }
+        frame_layers(link_type, frame)
     }
 
     /// The layers of bytes that an EtherType names: a VLAN tag and what it tags, an IP packet, or
@@ -163,14 +161,14 @@ impl<'a> LaxSlicedPacket<'a> {
     pub fn from_ether_type(ether_type: EtherType, bytes: &'a [u8]) -> LaxSlicedPacket<'a>
         ensures reads { IsLaxReadingAfter (Some ether_type) bytes.now result }
     {
-        layers(bytes.len(), None, Some(ether_type), bytes)
+        layers_after(Some(ether_type), bytes)
     }
 
     /// The layers of an IP packet of either version.
     pub fn from_ip(packet: &'a [u8]) -> LaxSlicedPacket<'a>
         ensures reads { IsLaxReadingAfter None packet.now result }
     {
-        layers(packet.len(), None, None, packet)
+        layers_after(None, packet)
     }
 
     /// The verdict on the checksum of the IP packet's payload; `Incomplete` if the packet is not
@@ -200,6 +198,25 @@ impl<'a> LaxSlicedPacket<'a> {
             },
         }
     }
+}
+
+// The layers of a frame, in registers where the caller reads them there.
+#[inline(always)]
+pub(crate) fn frame_layers(link_type: LinkType, frame: &[u8]) -> Result<LaxSlicedPacket, LinkError>
+    ensures reads { IsLaxReadingOf link_type frame.now result }
+{
+    match link_header(link_type, frame) {
+        Ok((link, ether_type, bytes)) => Ok(layers(frame.len(), link, ether_type, bytes)),
+        Err(e) => Err(e),
+    }
+}
+
+// The same of bytes that an EtherType names, or of an IP packet.
+#[inline(always)]
+pub(crate) fn layers_after(ether_type: Option<EtherType>, bytes: &[u8]) -> LaxSlicedPacket
+    ensures reads { IsLaxReadingAfter ether_type bytes.now result }
+{
+    layers(bytes.len(), None, ether_type, bytes)
 }
 
 // The layers after the link header of a frame of this length, as far as they can be read.

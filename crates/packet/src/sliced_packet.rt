@@ -5,7 +5,7 @@ ghost use Rattle.packet.specs.SlicedPacket.{whole_of};
 
 use crate::error::SliceError;
 use crate::ether_type::EtherType;
-use crate::lax_sliced_packet::LaxSlicedPacket;
+use crate::lax_sliced_packet::{LaxSlicedPacket, frame_layers, layers_after};
 use crate::link::{LinkSlice, LinkType};
 use crate::transport::{TransportSlice, ports_in};
 use crate::vlan::VlanSlice;
@@ -156,7 +156,7 @@ impl<'a> SlicedPacket<'a> {
     ) -> Result<SlicedPacket<'a>, SliceError>
         ensures reads { IsReadingOf link_type frame.now result }
     {
-        match LaxSlicedPacket::from_link_type(link_type, frame) {
+        match frame_layers(link_type, frame) {
             Ok(lax) => whole(lax),
             Err(e) => Err(SliceError::Link(e)),
         }
@@ -183,7 +183,7 @@ impl<'a> SlicedPacket<'a> {
     ) -> Result<SlicedPacket<'a>, SliceError>
         ensures reads { IsReadingAfter (Some ether_type) bytes.now result }
     {
-        whole(LaxSlicedPacket::from_ether_type(ether_type, bytes))
+        whole(layers_after(Some(ether_type), bytes))
     }
 
     /// The layers of an IP packet of either version.
@@ -212,7 +212,7 @@ impl<'a> SlicedPacket<'a> {
     pub fn from_ip(packet: &'a [u8]) -> Result<SlicedPacket<'a>, SliceError>
         ensures reads { IsReadingAfter None packet.now result }
     {
-        whole(LaxSlicedPacket::from_ip(packet))
+        whole(layers_after(None, packet))
     }
 
     /// The source port and the destination port, if the IP packet carries UDP or TCP, is no later
