@@ -71,8 +71,8 @@ pub(crate) fn of_ends(direction: Option<Direction>, source: bool, destination: b
     match direction {
         Some(Direction::Source) => source,
         Some(Direction::Destination) => destination,
-        Some(Direction::Both) => source && destination,
-        Some(Direction::Either) | None => source || destination,
+        Some(Direction::Both) => source & destination,
+        Some(Direction::Either) | None => source | destination,
     }
 }
 
@@ -153,7 +153,9 @@ fn carries(transport: Option<Transport>, ip: &IpSlice) -> bool
 {
     match transport {
         Some(transport) => ip.upper == transport_number(transport),
-        None => matches!(ip.upper, IpNumber::TCP | IpNumber::UDP | IpNumber::SCTP),
+        None => {
+            (ip.upper == IpNumber::TCP) | (ip.upper == IpNumber::UDP) | (ip.upper == IpNumber::SCTP)
+        }
     }
 }
 
@@ -170,16 +172,18 @@ pub(crate) fn has_ports(
         (λ port. (low ≤ port) × (port ≤ high)) ip.now }
 {
     let payload = ip.payload;
-    if !carries(transport, ip) || ip.is_later_fragment || payload.len() < 4 {
+    if payload.len() < 4 {
         return false;
     }
     let source = u16::from_be_bytes([payload[0], payload[1]]);
     let destination = u16::from_be_bytes([payload[2], payload[3]]);
-    of_ends(
+    let are_within = of_ends(
         direction,
-        low <= source && source <= high,
-        low <= destination && destination <= high,
-    )
+        (low <= source) & (source <= high),
+        (low <= destination) & (destination <= high),
+    );
+    // What packets differ in is computed whole: a processor predicts few of these branches.
+    carries(transport, ip) & !ip.is_later_fragment & are_within
 }
 
 // Whether the Ethernet addresses of a frame at these ends are this.

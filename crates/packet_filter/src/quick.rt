@@ -3,7 +3,8 @@
 ghost use Rattle.std.specs.Prelude.{◌≡◌, ◌/◌, ◌%◌, ◌^◌, ◌≤◌, ◌↔◌, ◌⊎◌, IfSome, IsSomeAnd, IsTrue};
 ghost use Rattle.std.specs.Int.{from_be_bytes, w32};
 ghost use Rattle.packet_filter.specs.Meaning.{arp_address, destination_address, source_address};
-ghost use Rattle.packet_filter.specs.Private.Quick.{Asks, HasFront, IsNumber, byte_test, quick_of};
+ghost use Rattle.packet_filter.specs.Private.Quick.{Asks, HasFront, HasFrontInIpv4, IsNumber};
+ghost use Rattle.packet_filter.specs.Private.Quick.{byte_test, quick_of};
 ghost use Rattle.packet_filter.specs.Private.Quick.{quick_of_step};
 ghost use Rattle.packet_filter.specs.declared.expression.Quantity.TheVariants.{Load};
 ghost use Rattle.packet_filter.specs.declared.expression.Size.TheVariants.{One};
@@ -14,7 +15,7 @@ use crate::expression::{
     Direction, Layer, Primitive, Quantity, Relation, Size, Transport, Version,
 };
 use crate::filter::Step;
-use crate::holds::{has_ports, has_proto, is_ip};
+use crate::holds::{has_ports, has_proto, has_version, is_ip};
 use crate::number::{compares, tells};
 use etherparse::IpNumber;
 use packet::lax_sliced_packet::LaxSlicedPacket;
@@ -236,10 +237,7 @@ fn has_source(others: u8, front: u32, packet: &SlicedPacket) -> bool
         IsSomeAnd (source_address packet.now) (HasFront others front) }
 {
     match &packet.net {
-        Some(ip) => match &ip.header {
-            IpHeaderSlice::Ipv4(view) => is_front(others, front, view.source()),
-            IpHeaderSlice::Ipv6(_) => false,
-        },
+        Some(ip) => has_front_in_ipv4(others, front, 12, &ip.header),
         None => has_front_in_arp(others, front, 14, packet),
     }
 }
@@ -251,12 +249,21 @@ fn has_destination(others: u8, front: u32, packet: &SlicedPacket) -> bool
         IsSomeAnd (destination_address packet.now) (HasFront others front) }
 {
     match &packet.net {
-        Some(ip) => match &ip.header {
-            IpHeaderSlice::Ipv4(view) => is_front(others, front, view.destination()),
-            IpHeaderSlice::Ipv6(_) => false,
-        },
+        Some(ip) => has_front_in_ipv4(others, front, 16, &ip.header),
         None => has_front_in_arp(others, front, 24, packet),
     }
+}
+
+// Whether a header is of IPv4, and the address at a place in it is this number, likewise. A header of
+// IPv6 has bytes there too, so that no branch depends on the version.
+#[inline(always)]
+fn has_front_in_ipv4(others: u8, front: u32, place: usize, header: &IpHeaderSlice) -> bool
+    requires place { (place ≡ 12) ⊎ (place ≡ 16) }
+    ensures value { IsTrue result ↔ HasFrontInIpv4 others front place header.now }
+{
+    let bytes = header.slice();
+    let found = *bytes[place..place + 4].first_chunk::<4>().unwrap();
+    has_version(Version::Ipv4, header) & is_front(others, front, found)
 }
 
 // The same of one of them.

@@ -1,8 +1,11 @@
 -- Tests in which all that the packet does not say is computed before.
 use Rattle.std.specs.Prelude.{ℕ, ◌≡◌, ◌-◌, ◌/◌, ◌%◌, ◌^◌, ◌≤◌, ◌⊎◌, IsSomeAnd, None, Option, Some}
-use Rattle.std.specs.Prelude.{◌&&◌, Bool, if◌then◌else◌, nat_lt, true}
+use Rattle.std.specs.Prelude.{◌+◌, ◌&&◌, Bool, if◌then◌else◌, nat_lt, slice_range, true}
+use Rattle.std.specs.Int.{from_be_bytes, w32}
 use Rattle.packet.specs.declared.lax_sliced_packet.LaxSlicedPacket.{LaxSlicedPacket}
 use Rattle.packet.specs.declared.sliced_packet.SlicedPacket.{SlicedPacket}
+use Rattle.packet_parts.specs.declared.ip_slice.IpHeaderSlice.{IpHeaderSlice}
+use Rattle.packet_parts.specs.declared.ip_slice.IpHeaderSlice.TheVariants as header
 use Rattle.packet_filter.specs.Meaning.{Compares, HasPorts, HasProto, Holds, IsIp, IsWithinMask}
 use Rattle.packet_filter.specs.Meaning.{OfEnds, Tells, destination_address, masked, source_address}
 use Rattle.packet_filter.specs.declared.address.Address.{Address}
@@ -69,6 +72,12 @@ quick_of_step s = quick.Other
 abbrev pub HasFront : ℕ → ℕ → Address → Type 0
 HasFront others front (V4 a) = a / 2 ^ (others % 64) ≡ front
 HasFront others front (V6 a) = ⊥
+
+-- the same of the address at a place in a header of IPv4
+abbrev pub HasFrontInIpv4 : ℕ → ℕ → ℕ → IpHeaderSlice → Type 0
+HasFrontInIpv4 others front place (header.Ipv4 view) =
+    HasFront others front (V4 (from_be_bytes w32 (slice_range view.slice.now place (place + 4))))
+HasFrontInIpv4 others front place (header.Ipv6 view) = ⊥
 
 -- what a test asks of a packet; any other is that of the step
 abbrev pub Asks : Quick → Step → LaxSlicedPacket → ℕ → Type 0
