@@ -200,9 +200,14 @@ impl<'a> LaxSlicedPacket<'a> {
     }
 }
 
-// The layers of a frame, in registers where the caller reads them there.
+/// The layers of a frame of a link type, as [`LaxSlicedPacket::from_link_type`] gives them, compiled
+/// into the caller: for one that reads them at once, in registers, and keeps none.
+///
+/// # Errors
+///
+/// A `LinkError` if the frame ends within its link header.
 #[inline(always)]
-pub(crate) fn frame_layers(link_type: LinkType, frame: &[u8]) -> Result<LaxSlicedPacket, LinkError>
+pub fn frame_layers(link_type: LinkType, frame: &[u8]) -> Result<LaxSlicedPacket, LinkError>
     ensures reads { IsLaxReadingOf link_type frame.now result }
 {
     match link_header(link_type, frame) {
@@ -211,9 +216,9 @@ pub(crate) fn frame_layers(link_type: LinkType, frame: &[u8]) -> Result<LaxSlice
     }
 }
 
-// The same of bytes that an EtherType names, or of an IP packet.
+/// The same of bytes that an EtherType names, or of an IP packet if there is none.
 #[inline(always)]
-pub(crate) fn layers_after(ether_type: Option<EtherType>, bytes: &[u8]) -> LaxSlicedPacket
+pub fn layers_after(ether_type: Option<EtherType>, bytes: &[u8]) -> LaxSlicedPacket
     ensures reads { IsLaxReadingAfter ether_type bytes.now result }
 {
     layers(bytes.len(), None, ether_type, bytes)
