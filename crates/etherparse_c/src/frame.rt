@@ -11,7 +11,7 @@ ghost use Rattle.etherparse_c.specs.Layers.{OfLinkType, refused_packet};
 use crate::answer::Error;
 use crate::packet_layers::{Packet, packet_of};
 use packet::ether_type::EtherType;
-use packet::lax_sliced_packet::LaxSlicedPacket;
+use packet::lax_sliced_packet::{LaxSlicedPacket, frame_layers, layers_after};
 use packet::link::LinkType;
 
 /// The layers of a frame, as far as they can be read. The link type is a number of the registry of
@@ -68,10 +68,7 @@ pub extern "C" fn etherparse_packet_lax_from_ether_type(
     ensures reads { GetsAnswer (IsLaxReadingAfter (Some ether_type) bytes.now)
         (λ lax. IsPacketInC (length bytes.now) checksums lax.packet lax.stop answer.new) }
 {
-    let LaxSlicedPacket { packet, stop } = LaxSlicedPacket::from_ether_type(
-        EtherType(ether_type),
-        bytes,
-    );
+    let LaxSlicedPacket { packet, stop } = layers_after(Some(EtherType(ether_type)), bytes);
     *answer = packet_of(bytes.len(), &packet, &stop, checksums);
 }
 
@@ -131,7 +128,7 @@ fn put_lax(link_type: LinkType, frame: &[u8], checksums: bool, answer: &mut Pack
     ensures reads { GetsAnswer (IsLaxReadingOf link_type frame.now)
         (IsLaxInC (length frame.now) checksums answer.new) }
 {
-    *answer = match LaxSlicedPacket::from_link_type(link_type, frame) {
+    *answer = match frame_layers(link_type, frame) {
         Ok(lax) => {
             let LaxSlicedPacket { packet, stop } = lax;
             packet_of(frame.len(), &packet, &stop, checksums)
