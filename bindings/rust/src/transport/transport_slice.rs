@@ -1,0 +1,45 @@
+use super::{Icmpv4Slice, Icmpv6Slice, TcpHeaderSlice, TcpSlice, UdpHeaderSlice, UdpSlice};
+use crate::{ffi, part, IpNumber};
+
+/// The transport header of an IP packet and what follows it.
+#[derive(Clone, Copy, Debug, PartialEq, Eq)]
+pub enum TransportSlice<'a> {
+    /// A message of ICMP.
+    Icmpv4(Icmpv4Slice<'a>),
+    /// A message of ICMPv6.
+    Icmpv6(Icmpv6Slice<'a>),
+    /// A UDP datagram.
+    Udp(UdpSlice<'a>),
+    /// A TCP segment.
+    Tcp(TcpSlice<'a>),
+}
+
+impl<'a> TransportSlice<'a> {
+    pub(crate) fn of(
+        frame: &'a [u8],
+        transport: &ffi::PacketTransport,
+    ) -> Option<TransportSlice<'a>> {
+        let (slice, payload) = (
+            part(frame, transport.header),
+            part(frame, transport.payload),
+        );
+        // The payload stands after the header.
+        let message = || {
+            let ffi::Part { offset, len } = transport.header;
+            &frame[offset..offset + len + payload.len()]
+        };
+        Some(match IpNumber(transport.kind) {
+            IpNumber::UDP => {
+                let header = UdpHeaderSlice { slice };
+                TransportSlice::Udp(UdpSlice { header, payload })
+            }
+            IpNumber::TCP => {
+                let header = TcpHeaderSlice { slice };
+                TransportSlice::Tcp(TcpSlice { header, payload })
+            }
+            IpNumber::ICMP => TransportSlice::Icmpv4(Icmpv4Slice { slice: message() }),
+            IpNumber::IPV6_ICMP => TransportSlice::Icmpv6(Icmpv6Slice { slice: message() }),
+            _ => return None,
+        })
+    }
+}
