@@ -59,12 +59,17 @@ build_after_ci() {
 
 build_alone() { (cd "$crates/$1" && rt lib); }
 
-# Whether a library needs nothing of the C library, nor of any other, and exports its calls alone.
+# What a library needs of the C library: of memcpy, memmove, memset and memcmp, which compilers call by
+# themselves. One that is not named here needs nothing.
+declare -A needs=()
+
+# Whether a library needs that and nothing else, and exports its calls alone.
 stands_alone() {
-  nm --undefined-only "$1" > "$room/undefined.txt"
-  nm --defined-only --extern-only "$1" > "$room/defined.txt"
-  grep -q ' T etherparse_' "$room/defined.txt" && ! grep -w U "$room/undefined.txt" &&
-    ! grep -E ' [A-Z] ' "$room/defined.txt" | grep -v ' T etherparse_'
+  local archive=$crates/$1/out/lib$1.a
+  nm --undefined-only "$archive" | awk '$1 == "U" { print $2 }' | sort -u > "$room/needed.txt"
+  nm --defined-only --extern-only "$archive" | grep -E ' [A-Z] ' > "$room/exported.txt"
+  echo "${needs[$1]:-}" | tr ' ' '\n' | sed '/^$/d' | diff - "$room/needed.txt" &&
+    ! grep -v ' T etherparse_' "$room/exported.txt"
 }
 
 # Builds a program by a command, and runs it.
@@ -151,7 +156,7 @@ fi
 # if it is right.
 for library in "${libraries[@]}"; do
   if has nm; then
-    try "$library stands alone" stands_alone "$crates/$library/out/lib$library.a"
+    try "$library stands alone" stands_alone "$library"
   else
     leave_out "what $library needs and exports: nm is not there"
   fi

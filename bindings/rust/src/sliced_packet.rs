@@ -40,9 +40,33 @@ pub struct SlicedPacket<'a> {
     /// later fragment, or is a first fragment without the whole header.
     pub transport: Option<TransportSlice<'a>>,
     ports: Option<(u16, u16)>,
-    // What the library found of both checksums; `NOT_JUDGED` where it was not asked.
-    header_checksum: u8,
-    payload_checksum: u8,
+    checksums: Checksums,
+}
+
+// What the library found of the checksums of an IPv4 header and of a payload; `NOT_JUDGED` where it
+// was not asked.
+#[derive(Clone, Copy, Debug)]
+struct Checksums {
+    header: u8,
+    payload: u8,
+}
+
+// Whoever asks later finds the same, so two packets do not differ by who has asked.
+impl PartialEq for Checksums {
+    fn eq(&self, _: &Checksums) -> bool {
+        true
+    }
+}
+
+impl Eq for Checksums {}
+
+impl Checksums {
+    fn of(answer: &ffi::Packet) -> Checksums {
+        Checksums {
+            header: answer.header_checksum,
+            payload: answer.payload_checksum,
+        }
+    }
 }
 
 impl<'a> SlicedPacket<'a> {
@@ -188,23 +212,23 @@ impl<'a> SlicedPacket<'a> {
     /// there is no IP packet. It reads all bytes of the payload, unless they were read with the
     /// layers. The crate `etherparse` has no such call.
     pub fn verdict(&self) -> Option<Verdict> {
-        Verdict::of(self.checksums()?.1)
+        Verdict::of(self.checksums()?.payload)
     }
 
     /// Whether the checksum of an IPv4 header is right; `None` if there is no such header. The
     /// crate `etherparse` has no such call.
     pub fn is_header_checksum_right(&self) -> Option<bool> {
-        match self.checksums()?.0 {
+        match self.checksums()?.header {
             ffi::NOT_JUDGED => None,
             found => Some(found == ffi::RIGHT),
         }
     }
 
     // What the library finds of the checksums of the IP packet and of its payload.
-    fn checksums(&self) -> Option<(u8, u8)> {
+    fn checksums(&self) -> Option<Checksums> {
         self.net?;
-        if self.payload_checksum != ffi::NOT_JUDGED {
-            return Some((self.header_checksum, self.payload_checksum));
+        if self.checksums.payload != ffi::NOT_JUDGED {
+            return Some(self.checksums);
         }
         let mut answer = ffi::Packet::default();
         let (at, len) = parts(self.payload);
@@ -212,7 +236,7 @@ impl<'a> SlicedPacket<'a> {
         unsafe {
             ffi::etherparse_packet_lax_from_link_type(ffi::LINKTYPE_RAW, at, len, true, &mut answer)
         }
-        Some((answer.header_checksum, answer.payload_checksum))
+        Some(Checksums::of(&answer))
     }
 
     // What the library answers of a frame if nothing stopped it.
@@ -237,8 +261,7 @@ impl<'a> SlicedPacket<'a> {
             net: NetSlice::of(frame, &answer.ip),
             transport: TransportSlice::of(frame, transport),
             ports: transport.has_ports.then_some(ports),
-            header_checksum: answer.header_checksum,
-            payload_checksum: answer.payload_checksum,
+            checksums: Checksums::of(answer),
         }
     }
 }

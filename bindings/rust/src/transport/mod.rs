@@ -22,14 +22,12 @@ macro_rules! ports {
 
 mod icmp;
 mod tcp_header_slice;
-mod tcp_slice;
 mod transport_slice;
 mod udp_header_slice;
-mod udp_slice;
+mod udp_tcp_slices;
 
 pub use icmp::{Icmpv4Slice, Icmpv6Slice};
 pub use tcp_header_slice::TcpHeaderSlice;
-pub use tcp_slice::TcpSlice;
 pub use transport_slice::TransportSlice;
 pub use udp_header_slice::UdpHeaderSlice;
-pub use udp_slice::UdpSlice;
+pub use udp_tcp_slices::{TcpSlice, UdpSlice};

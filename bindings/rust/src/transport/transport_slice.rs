@@ -19,26 +19,21 @@ impl<'a> TransportSlice<'a> {
         frame: &'a [u8],
         transport: &ffi::PacketTransport,
     ) -> Option<TransportSlice<'a>> {
-        let (slice, payload) = (
-            part(frame, transport.header),
-            part(frame, transport.payload),
-        );
+        let header = part(frame, transport.header);
         // The payload stands after the header.
-        let message = || {
-            let ffi::Part { offset, len } = transport.header;
-            &frame[offset..offset + len + payload.len()]
-        };
+        let ffi::Part { offset, len } = transport.header;
+        let slice = &frame[offset..][..len + transport.payload.len];
         Some(match IpNumber(transport.kind) {
             IpNumber::UDP => {
-                let header = UdpHeaderSlice { slice };
-                TransportSlice::Udp(UdpSlice { header, payload })
+                let header = UdpHeaderSlice { slice: header };
+                TransportSlice::Udp(UdpSlice { header, slice })
             }
             IpNumber::TCP => {
-                let header = TcpHeaderSlice { slice };
-                TransportSlice::Tcp(TcpSlice { header, payload })
+                let header = TcpHeaderSlice { slice: header };
+                TransportSlice::Tcp(TcpSlice { header, slice })
             }
-            IpNumber::ICMP => TransportSlice::Icmpv4(Icmpv4Slice { slice: message() }),
-            IpNumber::IPV6_ICMP => TransportSlice::Icmpv6(Icmpv6Slice { slice: message() }),
+            IpNumber::ICMP => TransportSlice::Icmpv4(Icmpv4Slice { slice }),
+            IpNumber::IPV6_ICMP => TransportSlice::Icmpv6(Icmpv6Slice { slice }),
             _ => return None,
         })
     }
