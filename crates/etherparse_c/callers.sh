@@ -82,20 +82,22 @@ prints() {
   runs "$@" > "$room/printed.txt" && diff "$expected" "$room/printed.txt"
 }
 
-# One program that runs the worked values of all libraries, by a command that links.
-all_in_one() {
-  local library objects=()
-  for library in "${libraries[@]}"; do
-    "$1" "${strict[@]}" -std=c11 -Dmain="cases_of_$library" -c "$crates/$library/tests/cases.c" -o "$room/$library.o"
-    objects+=("$room/$library.o")
-  done
+# Compiles the worked values of all libraries to one program, which is to be linked: in a folder, by a
+# command.
+compile_all() {
+  local library folder=$1
+  shift
+  mkdir "$folder"
   {
     printf 'int cases_of_%s(void);\n' "${libraries[@]}"
     echo 'int main(void) { return 0'
     printf ' | cases_of_%s()\n' "${libraries[@]}"
     echo '; }'
-  } > "$room/main.c"
-  runs "$1" "$room/main.c" "${objects[@]}" "${@:2}"
+  } > "$folder/main.c"
+  "$@" -c "$folder/main.c" -o "$folder/main.o" || return 1
+  for library in "${libraries[@]}"; do
+    "$@" "${strict[@]}" -std=c11 -Dmain="cases_of_$library" -c "$crates/$library/tests/cases.c" -o "$folder/$library.o" || return 1
+  done
 }
 
 links_static() { echo 'int main(void) { return 0; }' | "$1" -xc -static -o "$out/static" - 2> /dev/null; }
@@ -111,24 +113,30 @@ strict=(-O2 -Wall -Wextra -Wpedantic -Wconversion -Wshadow -Werror -I "$here/out
 
 # Each way to link, by a compiler.
 linked() {
-  local compiler=$1 library alone=()
+  local compiler=$1 library all=$out/$1 alone=()
   for library in "${libraries[@]}"; do alone+=("$crates/$library/out/lib$library.a"); done
-  try "$compiler, all in one program" all_in_one "$compiler" "$archive"
-  try "$compiler, all in one program, of one archive each" all_in_one "$compiler" "${alone[@]}"
-  try "$compiler, named twice" all_in_one "$compiler" "$archive" "$archive"
-  try "$compiler, shared" all_in_one "$compiler" "$out/libetherparse_c.so" "-Wl,-rpath,$out"
+  try "$compiler, all in one program" runs "$compiler" "$all"/*.o "$archive"
+  try "$compiler, all in one program, of one archive each" runs "$compiler" "$all"/*.o "${alone[@]}"
+  try "$compiler, named twice" runs "$compiler" "$all"/*.o "$archive" "$archive"
+  try "$compiler, shared" runs "$compiler" "$all"/*.o "$out/libetherparse_c.so" "-Wl,-rpath,$out"
   if [[ $compiler == gcc ]] || has ld.lld; then
-    try "$compiler, -flto" all_in_one "$compiler" -flto "$archive"
+    try "$compiler, -flto" runs "$compiler" -flto "$all-flto"/*.o "$archive"
   else
     leave_out "$compiler, -flto: ld.lld is not there"
   fi
   if links_static "$compiler"; then
-    try "$compiler, -static" all_in_one "$compiler" -static "$archive"
+    try "$compiler, -static" runs "$compiler" -static "$all"/*.o "$archive"
   else
     leave_out "$compiler, -static: the C library is not there as an archive"
   fi
 }
 
+for compiler in gcc clang; do
+  has "$compiler" || continue
+  try "$compiler, worked values of all libraries" compile_all "$out/$compiler" "$compiler"
+  try "$compiler -flto, worked values of all libraries" compile_all "$out/$compiler-flto" "$compiler" -flto
+done
+wait
 for compiler in gcc clang; do
   has "$compiler" || { leave_out "C: $compiler is not there"; continue; }
   [[ -e $out/libetherparse_c.so ]] || "$compiler" -shared -o "$out/libetherparse_c.so" \
