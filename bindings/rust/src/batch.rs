@@ -42,7 +42,19 @@ fn listed(frame: &[u8]) -> ffi::Frame {
     }
 }
 
-/// The frames of a batch with their layers: what [`LaxSlicedPacket::batch`] returns.
+/// The frames of a batch with their layers: what [`LaxSlicedPacket::batch`] returns. A packet lives as
+/// long as its frame, and no longer:
+///
+/// ```compile_fail,E0597
+/// use etherparse_proved::{LaxSlicedPacket, LinkType, PacketBuffer};
+///
+/// let mut buffer = PacketBuffer::<2>::new();
+/// let first = {
+///     let frame = [0x45, 0];
+///     LaxSlicedPacket::batch(LinkType::RAW, [&frame[..]], false, &mut buffer).next()
+/// };
+/// assert!(first.is_some());
+/// ```
 pub struct LaxBatch<'a, 'b, I, const N: usize> {
     link_type: LinkType,
     frames: I,

@@ -485,3 +485,18 @@ fn a_batch_gives_what_each_frame_gives() {
         (None, None, (2, Some(2)))
     );
 }
+
+#[test]
+fn a_buffer_outlives_its_frames() {
+    fn is_shared_by_threads<T: Send + Sync>(_: &T) {}
+    let mut buffer = PacketBuffer::<2>::new();
+    for len in [32, 31] {
+        let frame = bytes_of(TAGGED)[22..22 + len].to_vec();
+        let frames = [frame.as_slice(); 3];
+        let batch = LaxSlicedPacket::batch(LinkType::RAW, frames, true, &mut buffer);
+        assert!(batch
+            .map(|(_, packet)| packet.ports())
+            .eq([Some((0x1234, 0x5678)); 3]));
+    }
+    is_shared_by_threads(&buffer);
+}
