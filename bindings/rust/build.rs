@@ -1,8 +1,4 @@
-//! Finds the static library, or builds it, and has it linked.
-//!
-//! It is, in this order: in the folder that `ETHERPARSE_LIB_DIR` names; beside this crate, in
-//! `crates/etherparse_c/out`, as `rt lib` leaves it; what `rt lib` builds there now; what
-//! `pkg-config` knows as `etherparse`.
+//! Finds the static library, or builds it, and has it linked: README.md says in which order.
 
 use std::env;
 use std::path::{Path, PathBuf};
@@ -11,12 +7,19 @@ use std::process::Command;
 const LIBRARY: &str = "libetherparse_c.a";
 
 fn main() {
-    println!("cargo:rerun-if-env-changed=ETHERPARSE_LIB_DIR");
+    for variable in [
+        "ETHERPARSE_LIB_DIR",
+        "PKG_CONFIG",
+        "PKG_CONFIG_PATH",
+        "PKG_CONFIG_LIBDIR",
+    ] {
+        println!("cargo:rerun-if-env-changed={variable}");
+    }
     let folder = named()
+        .or_else(installed)
         .or_else(|| beside().filter(|folder| has_library(folder)))
         .or_else(built)
-        .or_else(installed)
-        .expect("no libetherparse_c.a: build it by `rt lib`, install it, or set ETHERPARSE_LIB_DIR");
+        .expect("no libetherparse_c.a of this version: install it, or set ETHERPARSE_LIB_DIR to its folder");
     println!("cargo:rerun-if-changed={}", folder.join(LIBRARY).display());
     println!("cargo:rustc-link-search=native={}", folder.display());
     println!("cargo:rustc-link-lib=static=etherparse_c");
@@ -33,7 +36,23 @@ fn named() -> Option<PathBuf> {
     Some(folder)
 }
 
-// The folder of the crate in Rattle.
+// The folder of an installed library of this crate's version.
+fn installed() -> Option<PathBuf> {
+    let ask = |question: &str| {
+        let tool = env::var_os("PKG_CONFIG").unwrap_or_else(|| "pkg-config".into());
+        let answer = Command::new(tool)
+            .args([question, "etherparse"])
+            .output()
+            .ok()?;
+        Some(String::from_utf8(answer.stdout).ok()?.trim_end().to_owned())
+    };
+    if ask("--modversion")? != env!("CARGO_PKG_VERSION") {
+        return None;
+    }
+    Some(PathBuf::from(ask("--variable=libdir")?)).filter(|folder| has_library(folder))
+}
+
+// The folder of the crate in Rattle, if this crate is in its repository.
 fn source() -> Option<PathBuf> {
     let here = PathBuf::from(env::var_os("CARGO_MANIFEST_DIR")?);
     let folder = here.parent()?.parent()?.join("crates/etherparse_c");
@@ -44,18 +63,13 @@ fn beside() -> Option<PathBuf> {
     Some(source()?.join("out"))
 }
 
-// Proves and builds the library, which takes minutes the first time.
+// Proves and builds the library.
 fn built() -> Option<PathBuf> {
-    let status = Command::new("rt").arg("lib").current_dir(source()?).status().ok()?;
+    let status = Command::new("rt")
+        .arg("lib")
+        .current_dir(source()?)
+        .status()
+        .ok()?;
     assert!(status.success(), "`rt lib` failed");
     beside()
-}
-
-fn installed() -> Option<PathBuf> {
-    let answer = Command::new("pkg-config")
-        .args(["--variable=libdir", "etherparse"])
-        .output()
-        .ok()?;
-    let folder = PathBuf::from(String::from_utf8(answer.stdout).ok()?.trim_end());
-    has_library(&folder).then_some(folder)
 }

@@ -1,31 +1,37 @@
 #!/usr/bin/env bash
-# callers.sh [--after-ci]: builds the library and its callers in C, C++ and Rust, and runs them:
-# the commands of the page in a fresh folder, worked values through the header file, the header file
-# in each dialect of each compiler, the examples, whose output has to be examples/inspect.txt, what a
-# call stores at which offset, each way to link, and the tests of the safe Rust crate over it. With
-# --after-ci it takes the libraries below as `rt ci` has just proved them, and proves this crate
-# alone. It names each compiler that is missing and leaves it out. The last line is 'N passed, M
-# failed, K left out'.
+# callers.sh [--after-ci]: builds the static libraries for C, this one and those of the crates beside
+# it, and callers of them in C, C++ and Rust, and runs these, as many at a time as there are
+# processors. For each library: what it needs and what it exports; worked values through its header
+# file; its examples in each dialect of each compiler, whose output has to be that of the file beside
+# the example. For all together: the commands of the page in a fresh folder, each way to link, and the
+# safe Rust crate. With --after-ci it takes the crates below as `rt ci` has just proved them, and
+# proves the libraries alone. It names each compiler that is missing and leaves it out. The last line
+# is 'N passed, M failed, K left out'.
 set -euo pipefail
 here=$(cd "$(dirname "$0")" && pwd)
+crates=$(dirname "$here")
 out=$here/out/callers
+rm -rf "$out"
 mkdir -p "$out"
-passed=0
-failed=0
+processors=$(nproc)
+tries=0
 left_out=0
+mapfile -t libraries < <("$here/libraries.sh")
 
-# Runs a command under a name, and prints its output if it fails.
+# Runs a command under a name in a folder of its own, `$room`, beside others. What it says comes when
+# all have ended, if it fails.
 try() {
-  local name=$1
+  local name=$1 room=$out/$((tries += 1))
   shift
-  if "$@" > "$out/said.txt" 2>&1; then
-    passed=$((passed + 1))
-    echo "ok: $name"
-  else
-    failed=$((failed + 1))
-    echo "FAILED: $name"
-    sed 's/^/    /' "$out/said.txt" | head -40
-  fi
+  while (($(jobs -rp | wc -l) >= processors)); do wait -n || :; done
+  mkdir "$room"
+  {
+    if "$@" > "$room/said.txt" 2>&1; then
+      echo "ok: $name" > "$room/line.txt"
+    else
+      { echo "FAILED: $name"; sed 's/^/    /' "$room/said.txt" | head -40; } > "$room/line.txt"
+    fi
+  } &
 }
 
 leave_out() {
@@ -35,124 +41,167 @@ leave_out() {
 
 has() { command -v "$1" > /dev/null; }
 
-# Whether the library needs nothing of the C library, nor of any other.
-wants_nothing() {
-  nm --undefined-only "$library" > "$out/undefined.txt"
-  ! grep -w U "$out/undefined.txt"
-}
-
-# Builds an example by a command, and compares what it prints.
-prints_as() {
-  local example=$1
-  shift
-  "$@" -o "$out/$example" && "$out/$example" > "$out/$example.txt" && diff "$here/examples/$example.txt" "$out/$example.txt"
-}
-
-prints() { prints_as inspect "$@"; }
-
-# The same over a shared object made of the library.
-prints_shared() {
-  "$1" -shared -o "$out/libetherparse_c.so" -Wl,--whole-archive "$library" -Wl,--no-whole-archive
-  prints "$@" "$out/libetherparse_c.so" "-Wl,-rpath,$out"
-}
-
-stands_there() { "$@" -o "$out/offsets" && "$out/offsets"; }
-
-answers_right() { "$@" -o "$out/cases" && "$out/cases"; }
-
-links_static() { echo 'int main(void) { return 0; }' | "$1" -xc -static -o "$out/static" - 2> "$out/said.txt"; }
-
-# Builds the library on top of the proved crates that `rt ci` left. They have no stamp, so `rt lib`
-# would prove them once more.
+# Builds a library on top of the proved crates that `rt ci` left. They have no stamp, so `rt lib` would
+# prove them once more. A library that crates.txt does not list is the kit's.
 build_after_ci() {
-  local kit crates below words=()
+  local kit below library=$1 words=()
   kit=$(dirname "$(dirname "$(readlink -f "$(command -v rt)")")")
-  crates=$(dirname "$here")
-  for below in std itoa; do words+=(--extern "$below=$kit/rlibs/$below.rlib"); done
+  for below in std $(sed -n "s/^$library .*: *//p" "$crates/../crates.txt"); do
+    words+=(--extern "$below=$(find "$kit/rlibs" "$crates/$below/out/rlib" -maxdepth 1 -name "$below.rlib" 2> /dev/null)")
+  done
   words+=(-L "dependency=$kit/rlibs")
-  for below in etherparse packet packet_parts; do
-    words+=(--extern "$below=$crates/$below/out/rlib/$below.rlib")
-  done
-  for below in etherparse_base etherparse_fields etherparse packet_links packet_parts packet; do
-    words+=(-L "dependency=$crates/$below/out/rlib")
-  done
+  for below in $("$here/libraries.sh" "$library"); do words+=(-L "dependency=$crates/$below/out/rlib"); done
   words+=(--antt-project "$kit/rattle/logic/antt-project.json" --logic-built "$kit/logic_built" --jobs 1)
-  words+=(--links etherparse_c= --crate-type staticlib --toolchain "$kit/toolchain" --backend llvm)
-  "$kit/bin/rattle" build --crate-name etherparse_c src/lib.rt "${words[@]}" -o out/libetherparse_c.a
+  words+=(--links "$library=" --crate-type staticlib --toolchain "$kit/toolchain" --backend llvm)
+  (cd "$crates/$library" && mkdir -p out &&
+    "$kit/bin/rattle" build --crate-name "$library" src/lib.rt "${words[@]}" -o "out/lib$library.a")
 }
 
-build=(rt lib)
-[[ ${1:-} == --after-ci ]] && build=(build_after_ci)
-(cd "$here" && "${build[@]}") > "$out/lib.txt" 2>&1 || { cat "$out/lib.txt"; exit 1; }
-library=$here/out/libetherparse_c.a
+build_alone() { (cd "$crates/$1" && rt lib); }
 
-if has nm; then
-  try "the library wants nothing of the C library" wants_nothing
-else
-  leave_out "what the library wants: nm is not there"
-fi
+# What a library needs of the C library: of memcpy, memmove, memset and memcmp, which compilers call by
+# themselves. One that is not named here needs nothing.
+declare -A needs=()
 
+# Whether a library needs that and nothing else, and exports its calls alone.
+stands_alone() {
+  local archive=$crates/$1/out/lib$1.a
+  nm --undefined-only "$archive" | awk '$1 == "U" { print $2 }' | sort -u > "$room/needed.txt"
+  nm --defined-only --extern-only "$archive" | grep -E ' [A-Z] ' > "$room/exported.txt"
+  echo "${needs[$1]:-}" | tr ' ' '\n' | sed '/^$/d' | diff - "$room/needed.txt" &&
+    ! grep -v ' T etherparse_' "$room/exported.txt"
+}
+
+# Builds a program by a command, and runs it.
+runs() { "$@" -o "$room/program" && "$room/program"; }
+
+# The same, and compares what it prints with a file.
+prints() {
+  local expected=$1
+  shift
+  runs "$@" > "$room/printed.txt" && diff "$expected" "$room/printed.txt"
+}
+
+# Compiles the worked values of all libraries to one program, which is to be linked: in a folder, by a
+# command.
+compile_all() {
+  local library folder=$1
+  shift
+  mkdir "$folder"
+  {
+    printf 'int cases_of_%s(void);\n' "${libraries[@]}"
+    echo 'int main(void) { return 0'
+    printf ' | cases_of_%s()\n' "${libraries[@]}"
+    echo '; }'
+  } > "$folder/main.c"
+  "$@" -c "$folder/main.c" -o "$folder/main.o" || return 1
+  for library in "${libraries[@]}"; do
+    "$@" "${strict[@]}" -std=c11 -Dmain="cases_of_$library" -c "$crates/$library/tests/cases.c" -o "$folder/$library.o" || return 1
+  done
+}
+
+links_static() { echo 'int main(void) { return 0; }' | "$1" -xc -static -o "$out/static" - 2> /dev/null; }
+
+# The libraries, and one archive of them with all header files.
+builder=build_alone
+[[ ${1:-} == --after-ci ]] && builder=build_after_ci
+for library in "${libraries[@]}"; do try "$library is built" "$builder" "$library"; done
+wait
+make -C "$here" archive > "$out/archive.txt" 2>&1 || { cat "$out"/*/line.txt "$out/archive.txt"; exit 1; }
+archive=$here/out/lib/libetherparse_c.a
+strict=(-O2 -Wall -Wextra -Wpedantic -Wconversion -Wshadow -Werror -I "$here/out/include")
+
+# Each way to link, by a compiler.
+linked() {
+  local compiler=$1 library all=$out/$1 alone=()
+  for library in "${libraries[@]}"; do alone+=("$crates/$library/out/lib$library.a"); done
+  try "$compiler, all in one program" runs "$compiler" "$all"/*.o "$archive"
+  try "$compiler, all in one program, of one archive each" runs "$compiler" "$all"/*.o "${alone[@]}"
+  try "$compiler, named twice" runs "$compiler" "$all"/*.o "$archive" "$archive"
+  try "$compiler, shared" runs "$compiler" "$all"/*.o "$out/libetherparse_c.so" "-Wl,-rpath,$out"
+  if [[ $compiler == gcc ]] || has ld.lld; then
+    try "$compiler, -flto" runs "$compiler" -flto "$all-flto"/*.o "$archive"
+  else
+    leave_out "$compiler, -flto: ld.lld is not there"
+  fi
+  if links_static "$compiler"; then
+    try "$compiler, -static" runs "$compiler" -static "$all"/*.o "$archive"
+  else
+    leave_out "$compiler, -static: the C library is not there as an archive"
+  fi
+}
+
+for compiler in gcc clang; do
+  has "$compiler" || continue
+  try "$compiler, worked values of all libraries" compile_all "$out/$compiler" "$compiler"
+  try "$compiler -flto, worked values of all libraries" compile_all "$out/$compiler-flto" "$compiler" -flto
+done
+wait
+for compiler in gcc clang; do
+  has "$compiler" || { leave_out "C: $compiler is not there"; continue; }
+  [[ -e $out/libetherparse_c.so ]] || "$compiler" -shared -o "$out/libetherparse_c.so" \
+    "-Wl,--version-script=$here/exports.map" -Wl,--whole-archive "$archive" -Wl,--no-whole-archive
+  linked "$compiler"
+done
 if has make && has pkg-config && has gcc; then
   try "the commands of the page" "$here/install.sh"
 else
   leave_out "the commands of the page: make, pkg-config or gcc is not there"
 fi
-
-strict=(-O2 -Wall -Wextra -Wpedantic -Wconversion -Wshadow -Werror -I "$here/include")
-for compiler in gcc clang; do
-  if ! has "$compiler"; then
-    leave_out "C: $compiler is not there"
-    continue
-  fi
-  for dialect in c99 c11 c17; do
-    try "$compiler, $dialect" prints "$compiler" "-std=$dialect" "${strict[@]}" "$here/examples/inspect.c" "$library"
-    try "$compiler, $dialect, packets" prints_as packets "$compiler" "-std=$dialect" "${strict[@]}" \
-      "$here/examples/packets.c" "$library"
-  done
-  try "$compiler, worked values" answers_right "$compiler" -std=c11 "${strict[@]}" "$here/tests/cases.c" "$library"
-  try "$compiler, what a call stores where" stands_there "$compiler" -std=c11 "${strict[@]}" "$here/examples/offsets.c" "$library"
-  example=("$compiler" -std=c11 "${strict[@]}" "$here/examples/inspect.c")
-  try "$compiler, shared" prints_shared "${example[@]}"
-  try "$compiler, named twice" prints "${example[@]}" "$library" "$library"
-  if [[ $compiler == gcc ]] || has ld.lld; then
-    try "$compiler, -flto" prints "${example[@]}" -flto "$library"
-  else
-    leave_out "$compiler, -flto: ld.lld is not there"
-  fi
-  if links_static "$compiler"; then
-    try "$compiler, -static" prints "${example[@]}" -static "$library"
-  else
-    leave_out "$compiler, -static: the C library is not there as an archive"
-  fi
-done
-for compiler in g++ clang++; do
-  if ! has "$compiler"; then
-    leave_out "C++: $compiler is not there"
-    continue
-  fi
-  for dialect in c++11 c++14 c++17 c++20; do
-    try "$compiler, $dialect" prints "$compiler" "-std=$dialect" "${strict[@]}" -xc++ "$here/examples/inspect.c" -xnone "$library"
-    try "$compiler, $dialect, packets" prints_as packets "$compiler" "-std=$dialect" "${strict[@]}" \
-      -xc++ "$here/examples/packets.c" -xnone "$library"
-  done
-done
-
-if has rustc; then
-  for edition in 2021 2024; do
-    try "rustc, edition $edition" prints rustc --edition "$edition" -O -D warnings "$here/examples/inspect.rs" \
-      -L "$here/out" -l static=etherparse_c
-    try "rustc, edition $edition, packets" prints_as packets rustc --edition "$edition" -O -D warnings \
-      "$here/examples/packets.rs" -L "$here/out" -l static=etherparse_c
-  done
-else
-  leave_out "Rust: rustc is not there"
-fi
 if has cargo; then
-  try "the tests of bindings/rust" env ETHERPARSE_LIB_DIR="$here/out" CARGO_TARGET_DIR="$out/cargo" \
-    cargo test --offline --manifest-path "$here/../../bindings/rust/Cargo.toml"
+  try "the tests of bindings/rust" env ETHERPARSE_LIB_DIR="$here/out/lib" CARGO_TARGET_DIR="$out/cargo" \
+    cargo test --offline --manifest-path "$crates/../bindings/rust/Cargo.toml"
 else
   leave_out "bindings/rust: cargo is not there"
 fi
+if has cargo && has pkg-config; then
+  try "a copy of bindings/rust" "$crates/../bindings/rust/copied.sh"
+else
+  leave_out "a copy of bindings/rust: cargo or pkg-config is not there"
+fi
 
-echo "$passed passed, $failed failed, $left_out left out"
+# The examples and the worked values of each library. An example without expected output ends with 0
+# if it is right.
+for library in "${libraries[@]}"; do
+  if has nm; then
+    try "$library stands alone" stands_alone "$library"
+  else
+    leave_out "what $library needs and exports: nm is not there"
+  fi
+  for compiler in gcc clang; do
+    has "$compiler" || continue
+    try "$compiler, worked values of $library" runs "$compiler" -std=c11 "${strict[@]}" \
+      "$crates/$library/tests/cases.c" "$archive"
+  done
+  for source in "$crates/$library"/examples/*.c; do
+    example=${source%.c}
+    name=$library/$(basename "$example")
+    for compiler in gcc clang; do
+      has "$compiler" || continue
+      [[ -e $example.txt ]] || { try "$compiler, $name" runs "$compiler" -std=c11 "${strict[@]}" "$source" "$archive"; continue; }
+      for dialect in c99 c11 c17; do
+        try "$compiler, $dialect, $name" prints "$example.txt" "$compiler" "-std=$dialect" "${strict[@]}" "$source" "$archive"
+      done
+    done
+    [[ -e $example.txt ]] || continue
+    for compiler in g++ clang++; do
+      has "$compiler" || continue
+      for dialect in c++11 c++14 c++17 c++20; do
+        try "$compiler, $dialect, $name" prints "$example.txt" "$compiler" "-std=$dialect" "${strict[@]}" \
+          -xc++ "$source" -xnone "$archive"
+      done
+    done
+    has rustc || continue
+    for edition in 2021 2024; do
+      try "rustc, edition $edition, $name" prints "$example.txt" rustc --edition "$edition" -O -D warnings "$example.rs" \
+        -L "$here/out/lib" -l static=etherparse_c
+    done
+  done
+done
+for compiler in g++ clang++ rustc; do has "$compiler" || leave_out "$compiler is not there"; done
+
+wait
+for ((at = 1; at <= tries; at++)); do cat "$out/$at/line.txt"; done
+failed=$(cat "$out"/*/line.txt | grep -c '^FAILED') || :
+echo "$((tries - failed)) passed, $failed failed, $left_out left out"
 [[ $failed == 0 ]]

@@ -1,15 +1,22 @@
 #!/usr/bin/env bash
 # install.sh: runs the commands of README.md, "Install, and a program of ten lines", one after the
-# other in a fresh folder that has the library of out/, and installs below a folder of its own. Then
-# it checks when `make` runs `rt`, and for which level. It prints what fails, and ends with 1.
+# other in a fresh folder that has the libraries as `rt lib` built them, and installs below a folder of
+# its own. Then it checks when `make` runs `rt`, and for which level. It prints what fails, and ends
+# with 1.
 set -euo pipefail
 here=$(cd "$(dirname "$0")" && pwd)
 fresh=$here/out/install
 rm -rf "$fresh"
 trap 'rm -rf "$fresh"' EXIT # `rt` takes no links in out/.
-mkdir -p "$fresh/bin" "$fresh/crates/etherparse_c/out"
+mapfile -t libraries < <("$here/libraries.sh")
+mkdir -p "$fresh/bin" "$fresh/crates"
 cp "$here"/../../crates.txt "$fresh"
-cp -r "$here"/{Makefile,README.md,exports.map,include} "$here"/*.pc.in "$fresh/crates/etherparse_c"
+for below in $("$here/libraries.sh" "${libraries[@]}"); do mkdir -p "$fresh/crates/$below"; done
+for library in "${libraries[@]}"; do
+  mkdir "$fresh/crates/$library/out"
+  cp -r "$here/../$library/include" "$fresh/crates/$library"
+done
+cp "$here"/{Makefile,README.md,exports.map,libraries.sh,*.pc.in} "$fresh/crates/etherparse_c"
 cd "$fresh/crates/etherparse_c"
 
 fails() { echo "install.sh: $1"; exit 1; }
@@ -17,8 +24,9 @@ fails() { echo "install.sh: $1"; exit 1; }
 # An `rt` that builds nothing: it puts the proved library where `rt lib` would, and notes its words.
 cat > "$fresh/bin/rt" <<END
 #!/bin/sh
+library=\$(basename "\$PWD")
 echo "\$*" >> "$fresh/asked.txt"
-cp "$here/out/libetherparse_c.a" out/
+cp "$here/../\$library/out/lib\$library.a" out/
 END
 printf '#!/bin/sh\nexec "$@"\n' > "$fresh/bin/sudo"
 chmod +x "$fresh/bin/rt" "$fresh/bin/sudo"
@@ -35,7 +43,12 @@ done
 export PATH=$fresh/bin:$others
 export MAKEFLAGS="PREFIX=$fresh/usr"
 export PKG_CONFIG_PATH=$fresh/usr/lib/pkgconfig
-asked() { [[ $(cat "$fresh/asked.txt" 2> /dev/null) == "$1" ]] || fails "$2: rt was asked: $(cat "$fresh/asked.txt")"; }
+# Whether `rt` was asked these words for each library, one word list after the other.
+asked() {
+  local what=$1 words library
+  for words in "${@:2}"; do for library in "${libraries[@]}"; do echo "$words"; done; done > "$fresh/wanted.txt"
+  cmp -s "$fresh/wanted.txt" "$fresh/asked.txt" || fails "$what: rt was asked: $(cat "$fresh/asked.txt")"
+}
 level() { [[ $(pkg-config --variable=cpu etherparse) == "$1" ]] || fails "$2: installed for $(pkg-config --variable=cpu etherparse)"; }
 
 # The page: the program, and each command.
@@ -45,25 +58,32 @@ section | sed '/^```c$/,/^```$/d' | sed -n 's/^    \(.*\)/\1/p' > commands.txt
 bash -euxo pipefail commands.txt > said.txt 2> run.txt || { cat run.txt; fails "a command of the page"; }
 printed='protocol 17, 0 bytes follow. '
 [[ $(grep -c "^$printed$" said.txt) == 3 ]] || { cat said.txt; fails "the program printed something else"; }
-asked 'lib --cpu=x86-64-v2' 'the commands of the page'
+asked 'the commands of the page' 'lib --cpu=x86-64-v2'
 level x86-64-v2 'the commands of the page'
 # A program of the static library needs no folder of ours when it starts.
 gcc program.c $(pkg-config --cflags --libs etherparse)
 ! ldd a.out | grep -q etherparse || fails "the program wants the shared object"
+# What is installed links the worked values of each library, both ways.
+for library in "${libraries[@]}"; do
+  for module in etherparse etherparse-shared; do
+    gcc "$here/../$library/tests/cases.c" $(pkg-config --cflags --libs "$module") -o cases &&
+      LD_LIBRARY_PATH=$fresh/usr/lib ./cases > said.txt || { cat said.txt; fails "$module, $library"; }
+  done
+done
 
 # Each runs `rt` only if the library is not there, is for another level, or is older than a source.
-make > said.txt 2>&1 && asked 'lib --cpu=x86-64-v2' 'a second make'
+make > said.txt 2>&1 && asked 'a second make' 'lib --cpu=x86-64-v2'
 rm "$fresh/asked.txt"
 { make CPU=x86-64 && make install; } > said.txt 2>&1
-asked 'lib --cpu=x86-64' 'another level, then an installation'
+asked 'another level, then an installation' 'lib --cpu=x86-64'
 level x86-64 'another level, then an installation'
 mkdir src && touch src/lib.rt
 make install > said.txt 2>&1
-asked $'lib --cpu=x86-64\nlib --cpu=x86-64' 'a new source'
+asked 'a new source' 'lib --cpu=x86-64' 'lib --cpu=x86-64'
 rm "$fresh/asked.txt"
-rm out/libetherparse_c.a
+rm out/lib/libetherparse_c.a
 make install > said.txt 2>&1
-asked 'lib --cpu=x86-64-v2' 'an installation alone'
+asked 'an installation alone' 'lib --cpu=x86-64-v2'
 level x86-64-v2 'an installation alone'
 
 # Without `rt`: what is there is installed, for its level, and no other.

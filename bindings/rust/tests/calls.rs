@@ -1,6 +1,9 @@
 //! Calls the library from safe Rust, each call once with what it finds and once with what it
 //! refuses, on packets whose fields all differ.
 
+mod common;
+
+use common::len_error;
 use etherparse_proved::err::ipv4::{self, BadOptionsLen};
 use etherparse_proved::err::ipv6::{self, ChainError};
 use etherparse_proved::err::{Layer, LenError, ValueTooBigError, ValueType};
@@ -46,16 +49,6 @@ fn ipv6_header() -> Ipv6Header {
         hop_limit: 0xef,
         source: std::array::from_fn(|i| 0x20 + i as u8),
         destination: std::array::from_fn(|i| 0x30 + i as u8),
-    }
-}
-
-fn len_error(layer: Layer, required_len: usize, len: usize, layer_start_offset: usize) -> LenError {
-    LenError {
-        required_len,
-        len,
-        len_source: LenSource::Slice,
-        layer,
-        layer_start_offset,
     }
 }
 

@@ -1,12 +1,12 @@
 /* fuzz COUNT SECONDS EVERY CASES ANSWERS [SEED]: calls every function of the library on COUNT inputs, for SECONDS at most, and
  * compares each answer with that of the reference.
  *
- * An input is a random or mutated packet, at one end of a page between two pages that cannot be read, and fields, words and an
- * error of random numbers, which end at such a page. For each EVERYth packet the calls are written to the file CASES and the
- * answers to ANSWERS, in the protocol of conformance/PROTOCOL.md. */
+ * An input is a random or mutated packet, at one end of a page between two pages that cannot be read, a frame that stands there
+ * too, and fields, words and an error of random numbers, which end at such a page. For each EVERYth packet the calls are written to
+ * the file CASES and the answers to ANSWERS, in the protocol of conformance/PROTOCOL.md. */
 
 #define _DEFAULT_SOURCE
-#include "reference.h"
+#include "fuzz.h"
 
 #include <inttypes.h>
 #include <stdarg.h>
@@ -17,14 +17,12 @@
 #include <time.h>
 #include <unistd.h>
 
-enum { MAX_LEN = 600 };
-
 static const uint8_t SKIPPABLE[8] = {0, 43, 44, 51, 60, 135, 139, 140};
 
 /* Numbers that look random, and are the same in each run. */
 static uint64_t state = 0x9e3779b97f4a7c15;
 
-static uint64_t next_random(void)
+uint64_t next_random(void)
 {
     state ^= state >> 12;
     state ^= state << 25;
@@ -32,12 +30,12 @@ static uint64_t next_random(void)
     return state * 0x2545f4914f6cdd1d;
 }
 
-static size_t below(size_t bound)
+size_t below(size_t bound)
 {
     return (size_t)(next_random() >> 16) % bound;
 }
 
-static void fill(uint8_t *at, size_t len)
+void fill(uint8_t *at, size_t len)
 {
     for (size_t i = 0; i < len; i++)
         at[i] = (uint8_t)(next_random() >> 56);
@@ -47,7 +45,7 @@ static void fill(uint8_t *at, size_t len)
 static const uint8_t *packet;
 static size_t packet_len;
 
-static void expect(bool holds, const char *what)
+void expect(bool holds, const char *what)
 {
     if (holds)
         return;
@@ -66,7 +64,7 @@ static const uint8_t *from(size_t offset)
 
 /* Packets. */
 
-static size_t make_ipv4(uint8_t *at)
+size_t make_ipv4(uint8_t *at)
 {
     size_t len = 20 + 4 * below(11);
     fill(at, len);
@@ -74,7 +72,7 @@ static size_t make_ipv4(uint8_t *at)
     return len;
 }
 
-static size_t make_ipv6(uint8_t *at, uint8_t next_header)
+size_t make_ipv6(uint8_t *at, uint8_t next_header)
 {
     fill(at, 40);
     at[0] = 0x60 | (at[0] & 15);
@@ -82,8 +80,8 @@ static size_t make_ipv6(uint8_t *at, uint8_t next_header)
     return 40;
 }
 
-/* Extension headers; the first has this number. */
-static size_t make_chain(uint8_t *at, uint8_t number)
+/* Extension headers; the first has this number, and what follows them the other. */
+size_t make_chain(uint8_t *at, uint8_t number, uint8_t upper)
 {
     size_t len = 0;
     for (size_t count = below(6); count > 0; count--) {
@@ -91,7 +89,7 @@ static size_t make_chain(uint8_t *at, uint8_t number)
         size_t header = number == 44 ? 8 : number == 51 ? 4 * ((size_t)words + 2) : 8 * ((size_t)words + 1);
         fill(at + len, header);
         number = SKIPPABLE[below(8)];
-        at[len] = count == 1 ? 17 : number;
+        at[len] = count == 1 ? upper : number;
         at[len + 1] = words;
         len += header;
     }
@@ -108,10 +106,10 @@ static size_t make_packet(uint8_t *at, uint8_t *number)
         break;
     case 1:
         len = make_ipv6(at, *number);
-        len += make_chain(at + len, *number);
+        len += make_chain(at + len, *number, 17);
         break;
     case 2:
-        len = make_chain(at, *number);
+        len = make_chain(at, *number, 17);
         break;
     case 3:
         *number = (uint8_t)next_random();
@@ -132,7 +130,7 @@ static size_t make_packet(uint8_t *at, uint8_t *number)
 /* Compares the results of the calls on one packet with the reference. Structs are compared by field, since the padding between
  * fields is not set. */
 
-static bool same_error(const struct etherparse_error *a, const struct etherparse_error *b)
+bool same_error(const struct etherparse_error *a, const struct etherparse_error *b)
 {
     return a->kind == b->kind && a->number == b->number && a->layer == b->layer && a->required_len == b->required_len
         && a->len == b->len && a->layer_start_offset == b->layer_start_offset && a->limit == b->limit;
@@ -705,6 +703,12 @@ int main(int argc, char **argv)
         if (done % every == 0)
             tell_all(number);
         expect(len == 0 || memcmp(at, made, len) == 0, "bytes that stay");
+        packet_len = make_frame(made);
+        at = below(2) == 0 ? page : page + page_len - packet_len;
+        memcpy(at, made, packet_len);
+        packet = packet_len == 0 ? NULL : at;
+        check_packets(packet, packet_len, page_end);
+        expect(memcmp(at, made, packet_len) == 0, "bytes of a frame that stay");
         done++;
     }
     if (fclose(cases) != 0 || fclose(answers) != 0)

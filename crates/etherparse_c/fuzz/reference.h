@@ -38,4 +38,12 @@ uint16_t reference_update(uint16_t checksum, const uint8_t *old_bytes, const uin
 /* The text of an error, with a 0 after it, and its length. */
 size_t reference_text(const struct etherparse_error *error, char text[ETHERPARSE_ERROR_TEXT_SIZE]);
 
+/* The layers of a frame as far as they can be read, of a link type whose header has one length, or after an EtherType; the header
+ * file says what each part is. And what a strict call says for the answer of a lax one. */
+void reference_lax_from_link_type(uint32_t link_type, const uint8_t *at, size_t len, bool checksums,
+    struct etherparse_packet *packet);
+void reference_lax_from_ether_type(uint16_t ether_type, const uint8_t *at, size_t len, bool checksums,
+    struct etherparse_packet *packet);
+void reference_strict(struct etherparse_packet *packet);
+
 #endif

@@ -42,7 +42,7 @@ impl LenError {
     fn numbers(&self) -> ffi::Error {
         ffi::Error {
             kind: ffi::LEN,
-            layer: self.layer.number(),
+            layer: self.layer.number(self.len_source),
             required_len: self.required_len,
             len: self.len,
             layer_start_offset: self.layer_start_offset,
@@ -52,7 +52,8 @@ impl LenError {
 }
 
 /// Says what was needed, what was there and, unless the layer starts at byte 0, where it starts. An
-/// error whose `len` is not below `required_len`, which no call gives, has the empty text.
+/// error that no call gives has the empty text: one whose `len` is not below `required_len`, or
+/// whose layer has another source of its length.
 impl fmt::Display for LenError {
     fn fmt(&self, f: &mut fmt::Formatter<'_>) -> fmt::Result {
         show(&self.numbers(), f)

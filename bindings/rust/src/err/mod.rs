@@ -1,10 +1,13 @@
 //! The errors, by the names of the crate `etherparse`. Each shows the text that the library has for
 //! its numbers.
 
+pub mod ip;
 pub mod ipv4;
 pub mod ipv6;
 mod layer;
 mod len_error;
+pub mod packet;
+pub mod tcp;
 mod value_too_big_error;
 
 pub use layer::Layer;

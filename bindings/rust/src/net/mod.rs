@@ -1,15 +1,23 @@
 mod fields;
+mod fragment;
 mod ip_number;
+mod ip_payload_slice;
+mod ip_slices;
 mod ipv4_header;
 mod ipv4_header_slice;
 mod ipv4_options;
 mod ipv6_header;
 mod ipv6_header_slice;
+mod net_slice;
 
 pub use fields::{IpDscp, IpEcn, IpFragOffset, Ipv6FlowLabel};
+pub use fragment::Fragment;
 pub use ip_number::IpNumber;
+pub use ip_payload_slice::IpPayloadSlice;
+pub use ip_slices::{Ipv4Slice, Ipv6Slice};
 pub use ipv4_header::{Ipv4Header, Ipv4HeaderBytes};
 pub use ipv4_header_slice::Ipv4HeaderSlice;
 pub use ipv4_options::Ipv4Options;
 pub use ipv6_header::Ipv6Header;
 pub use ipv6_header_slice::Ipv6HeaderSlice;
+pub use net_slice::NetSlice;

@@ -1,0 +1,251 @@
+//! Compares `src/ffi.rs` with the header file of the library, if that is there: each constant; each
+//! struct, with the type and the place of each field; the types of each function. Types are written
+//! as Rust has them, but pointers as `const T*` and `mut T*`.
+
+use std::collections::BTreeMap;
+
+const HERE: &str = include_str!("../src/ffi.rs");
+
+// What is declared, by its name.
+type Declared = BTreeMap<String, String>;
+
+// The header file without comments.
+fn header() -> Option<String> {
+    let root = concat!(env!("CARGO_MANIFEST_DIR"), "/../../crates/etherparse_c");
+    if !std::path::Path::new(root).is_dir() {
+        println!("left out: the header file is not there");
+        return None;
+    }
+    let text = std::fs::read_to_string(format!("{root}/include/etherparse.h")).unwrap();
+    let mut pieces = text.split("/*");
+    let first = pieces.next().unwrap().to_string();
+    Some(pieces.fold(first, |bare, piece| {
+        bare + piece.split_once("*/").unwrap().1
+    }))
+}
+
+// What stands between two texts, the first time, and in each place.
+fn between<'a>(text: &'a str, open: &'a str, close: &'a str) -> &'a str {
+    all_between(text, open, close).next().expect(open)
+}
+
+fn all_between<'a>(text: &'a str, open: &'a str, close: &'a str) -> impl Iterator<Item = &'a str> {
+    text.split(open)
+        .skip(1)
+        .map(move |rest| rest.split(close).next().unwrap())
+}
+
+// Parts of a list that are not empty, on one line each.
+fn listed(text: &str, separator: impl Fn(char) -> bool) -> Vec<String> {
+    let parts = text
+        .split(separator)
+        .map(|part| part.split_whitespace().collect::<Vec<_>>().join(" "));
+    parts.filter(|part| !part.is_empty()).collect()
+}
+
+// `etherparse_ipv4_view_answer` as `Ipv4ViewAnswer`.
+fn camel(name: &str) -> String {
+    let words = name.strip_prefix("etherparse_").expect(name).split('_');
+    words
+        .map(|word| word[..1].to_uppercase() + &word[1..])
+        .collect()
+}
+
+fn type_of_c(text: &str) -> String {
+    let (text, is_pointer) = match text.trim().strip_suffix('*') {
+        Some(target) => (target.trim(), true),
+        None => (text.trim(), false),
+    };
+    let (target, access) = match text.strip_prefix("const ") {
+        Some(target) => (target, "const"),
+        None => (text, "mut"),
+    };
+    let name = match target {
+        "size_t" => "usize".to_string(),
+        "bool" => "bool".to_string(),
+        "char" => "u8".to_string(),
+        "void" => "()".to_string(),
+        _ => match target.strip_prefix("struct ") {
+            Some(name) => camel(name),
+            None => format!("u{}", between(target, "uint", "_t")),
+        },
+    };
+    if is_pointer {
+        format!("{access} {name}*")
+    } else {
+        name
+    }
+}
+
+// The name and the type of a field, a parameter or a function, and the length if it is an array.
+fn item_of_c(text: &str) -> (String, String, Option<String>) {
+    let (text, len) = match text.strip_suffix(']').and_then(|text| text.split_once('[')) {
+        Some((text, len)) => (text, Some(len.to_string())),
+        None => (text, None),
+    };
+    let at = text.rfind([' ', '*']).unwrap() + 1;
+    (text[at..].to_string(), type_of_c(&text[..at]), len)
+}
+
+fn type_of_rust(text: &str) -> String {
+    for (prefix, access) in [
+        ("*const ", "const"),
+        ("*mut ", "mut"),
+        ("&mut ", "mut"),
+        ("&", "const"),
+    ] {
+        if let Some(target) = text.strip_prefix(prefix) {
+            return format!("{access} {target}*");
+        }
+    }
+    text.to_string()
+}
+
+fn constants_of_c(text: &str) -> Declared {
+    let groups = all_between(text, "\nenum {", "}").flat_map(|group| listed(group, |c| c == ','));
+    let pair = |one: String| {
+        let (name, number) = one.split_once(" = ").unwrap();
+        (
+            name.strip_prefix("ETHERPARSE_").unwrap().to_string(),
+            number.to_string(),
+        )
+    };
+    let room = between(text, "#define ETHERPARSE_ERROR_TEXT_SIZE ", "\n").to_string();
+    groups
+        .map(pair)
+        .chain([("ERROR_TEXT_SIZE".to_string(), room)])
+        .collect()
+}
+
+fn constants_of_rust() -> Declared {
+    let text = between(HERE, "\nconstants! {", "\n}");
+    let parts = listed(text, |c| matches!(c, ',' | ':' | ';'));
+    let pairs = parts.iter().filter_map(|part| part.split_once(" = "));
+    pairs
+        .map(|(name, number)| (name.to_string(), number.to_string()))
+        .collect()
+}
+
+fn structs_of_c(text: &str) -> Declared {
+    let mut found = Declared::new();
+    for one in all_between(text, "\nstruct ", "\n}") {
+        let Some((name, fields)) = one.split_once(" {").filter(|one| !one.0.contains(' ')) else {
+            continue; // a function
+        };
+        for field in listed(fields, |c| c == ';') {
+            let (field, of, len) = item_of_c(&field);
+            let of = len.map_or(of.clone(), |len| format!("[{of}; {len}]"));
+            found.insert(format!("{}.{field}", camel(name)), of);
+        }
+    }
+    for line in all_between(text, "\nETHERPARSE_SIZE(", ")") {
+        let (name, size) = line.split_once(", ").unwrap();
+        found.insert(camel(name), size.to_string());
+    }
+    for line in all_between(text, "\nETHERPARSE_FIELD(", ")") {
+        let parts = listed(line, |c| c == ',');
+        let field = found
+            .get_mut(&format!("{}.{}", camel(&parts[0]), parts[1]))
+            .unwrap();
+        *field += &format!(" = {}", parts[2]);
+    }
+    found
+}
+
+fn structs_of_rust() -> Declared {
+    let mut found = Declared::new();
+    let mut name = "";
+    for line in between(HERE, "\nstructs! {", "\n}").lines().map(str::trim) {
+        if let Some((of, size)) = line
+            .strip_suffix(" {")
+            .and_then(|line| line.split_once(", "))
+        {
+            name = of;
+            found.insert(name.to_string(), size.to_string());
+        } else if let Some((field, of)) = line
+            .strip_suffix(',')
+            .and_then(|line| line.split_once(": "))
+        {
+            let (of, place) = of.split_once(" = ").unwrap();
+            found.insert(
+                format!("{name}.{field}"),
+                format!("{} = {place}", type_of_rust(of)),
+            );
+        }
+    }
+    found
+}
+
+fn functions_of_c(text: &str) -> Declared {
+    let text = between(text, "extern \"C\" {", "\nETHERPARSE_SIZE(");
+    let bare: String = text
+        .lines()
+        .filter(|line| !line.starts_with('#'))
+        .map(|line| format!("{line}\n"))
+        .collect();
+    let mut found = Declared::new();
+    for one in listed(&bare, |c| matches!(c, ';' | '}'))
+        .iter()
+        .filter(|one| one.contains('('))
+    {
+        let (head, parameters) = one.strip_suffix(')').unwrap().split_once('(').unwrap();
+        let (name, answer, _) = item_of_c(head);
+        let types: Vec<_> = listed(parameters, |c| c == ',')
+            .iter()
+            .filter(|one| *one != "void")
+            .map(|one| item_of_c(one))
+            .map(|(_, of, len)| len.map_or(of.clone(), |len| format!("const [{of}; {len}]*")))
+            .collect();
+        found.insert(name, format!("({}) {answer}", types.join(", ")));
+    }
+    found
+}
+
+fn functions_of_rust() -> Declared {
+    let mut found = Declared::new();
+    for one in between(HERE, "\nfunctions! {", "\n}")
+        .split(";\n")
+        .filter(|one| one.contains('('))
+    {
+        let (name, rest) = one.split_once('(').unwrap();
+        let (parameters, answer) = rest.rsplit_once(')').unwrap();
+        let types: Vec<_> = listed(parameters, |c| c == ',')
+            .iter()
+            .map(|one| type_of_rust(one.split_once(": ").unwrap().1))
+            .collect();
+        let answer = answer
+            .trim_end_matches(';')
+            .strip_prefix(" -> ")
+            .unwrap_or("()");
+        found.insert(
+            name.trim().to_string(),
+            format!("({}) {answer}", types.join(", ")),
+        );
+    }
+    found
+}
+
+#[test]
+fn constants_are_those_of_the_header() {
+    let Some(text) = header() else { return };
+    assert_eq!(constants_of_rust(), constants_of_c(&text));
+}
+
+#[test]
+fn structs_are_those_of_the_header() {
+    let Some(text) = header() else { return };
+    assert_eq!(structs_of_rust(), structs_of_c(&text));
+}
+
+#[test]
+fn functions_are_those_of_the_header() {
+    let Some(text) = header() else { return };
+    assert_eq!(functions_of_rust(), functions_of_c(&text));
+}
+
+#[test]
+fn the_version_is_that_of_the_header() {
+    let Some(text) = header() else { return };
+    let version = between(&text, "#define ETHERPARSE_VERSION \"", "\"");
+    assert_eq!(version, env!("CARGO_PKG_VERSION"));
+}
