@@ -11,9 +11,9 @@ unreachable-requires c =
 pub write_ipv6_packet-requires-clause-headers : goal.write_ipv6_packet-requires-clause-headers
 write_ipv6_packet-requires-clause-headers c =
     let p = c.requires.headers in
-    let at = parts_at c.args.headers.now c.args.place p in
+    let (is_before, is_last, is_number) = parts_at c.args.headers.now c.args.place p in
     let same : c.in-Ok.first ≡ p.first = same_first p.first c.in-Ok.first (p.before ++ (p.last ++ p.are_headers.at)) c.in-Ok.field-0-1.now _ _ refl refl (c.in-Ok.ensures.reads.only (Ok (p.first, p.before ++ (p.last ++ p.are_headers.at))) (ipv6_first c.args.headers.now c.args.place p)) in
-    rw (same, at.before_is, at.last_is) p.are_headers.unfragmentable
+    rw (same, is_before, is_last) p.are_headers.unfragmentable
 
 pub returns-clause-packet : goal.returns-clause-packet
 returns-clause-packet c =
