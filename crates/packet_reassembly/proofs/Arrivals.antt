@@ -1,22 +1,50 @@
--- one fragment after another
-use Rattle.std.proofs.Common.{ℕ, ◌≡◌, ◌⊎◌, ◌↔◌, ◌++◌, [], ◌∷◌, List, arith, inl, inr, sym, subst, refl, ◌∙◌, Option, Some, None}
+-- what holds of all fragments of a datagram, and one fragment after another
+use Rattle.std.proofs.Common.{ℕ, ◌≡◌, ◌+◌, ◌-◌, ◌⊎◌, ◌↔◌, ◌++◌, [], ◌∷◌, List, length, arith, inl, inr, sym, subst, refl, ◌∙◌, slice_index_or, Option, Some, None}
+use Rattle.std.proofs.lemmas.List.{ext_get_or}
+use Rattle.std.proofs.lemmas.List.Edits.{get_or-between}
 use Rattle.std.proofs.lemmas.List.Elements.{Contains-append_left, Contains-push, Contains-push_cases}
 use Rattle.std.specs.List.{Contains}
 use Rattle.packet_reassembly.specs.Arrivals.{AreRightOf, HaveConflict, HaveSameRight, HoldDatagram, StandsFor}
-use Rattle.packet_reassembly.specs.Fragment.{Conflict, Fragment, HaveSame, IsRight, IsWhole, Takes}
+use Rattle.packet_reassembly.specs.Fragment.{AreCutFrom, Conflict, Covers, Fragment, HaveSame, IsPieceOf, IsRight, IsWhole, Takes, end_of}
 use Rattle.packet_reassembly.specs.Refusal.{Refuses}
 use Rattle.packet_reassembly.specs.declared.ip_defrag_error.IpDefragError.{IpDefragError}
 use Rattle.packet_reassembly.specs.declared.ip_defrag_error.IpDefragError.TheVariants as why
-use Rattle.packet_reassembly.proofs.Cuts.{conflict_cut, cut_same, one_cut}
+
+pub cut_same : (xs ys : List Fragment) → HaveSame xs ys → (datagram : List ℕ) → AreCutFrom datagram xs → AreCutFrom datagram ys
+cut_same xs ys same datagram cut = record {
+  some = cut.some;
+  pieces = λ f has. cut.pieces f ((same f).1 has);
+  covered = λ i below. let (f, has, cover) = cut.covered i below in (f, (same f).0 has, cover);
+  apart = λ f g hf hg. cut.apart f g ((same f).1 hf) ((same g).1 hg);
+}
+
+pub conflict_cut : (xs : List Fragment) (datagram : List ℕ) (f g : Fragment) → AreCutFrom datagram xs → Contains xs f → Contains xs g → ¬ Conflict f g
+conflict_cut xs datagram f g cut hf hg (inl o) = o.0 (cut.apart f g hf hg o.1)
+conflict_cut xs datagram f g cut hf hg (inr (inl p)) = omega (arith, (cut.pieces f hf).last.0 p.0, (cut.pieces g hg).within, p.1)
+conflict_cut xs datagram f g cut hf hg (inr (inr p)) = omega (arith, (cut.pieces g hg).last.0 p.0, (cut.pieces f hf).within, p.1)
+
+length_of_cut : (xs : List Fragment) (one other : List ℕ) → AreCutFrom one xs → AreCutFrom other xs → length one ≡ length other
+length_of_cut xs one other a b =
+    let (f, has, cover) = a.covered (length one - 1) (omega arith) in
+    let p = a.pieces f has in
+    let e : end_of f ≡ length one = omega arith in
+    sym e ∙ (b.pieces f has).last.0 (p.last.1 e)
+
+byte_of_piece : (datagram : List ℕ) (f : Fragment) (i : ℕ) → IsPieceOf datagram f → Covers f i → slice_index_or datagram i 0 ≡ slice_index_or f.bytes (i - f.start) 0
+byte_of_piece datagram f i p c =
+    let e : f.start + (i - f.start) ≡ i = omega arith in
+    rw (p.bytes, get_or-between datagram f.start (end_of f) (i - f.start) 0 (omega arith), e)
+
+pub one_cut : (xs : List Fragment) (one other : List ℕ) → AreCutFrom one xs → AreCutFrom other xs → one ≡ other
+one_cut xs one other a b = ext_get_or 0 one other (length_of_cut xs one other a b) (λ i below.
+    let (f, has, cover) = a.covered i below in
+    byte_of_piece one f i (a.pieces f has) cover ∙ sym (byte_of_piece other f i (b.pieces f has) cover))
 
 conflict_sym : (f g : Fragment) → Conflict f g → Conflict g f
-conflict_sym f g (inl o) = inl (λ e. o.0 (sym e), (o.1.1, o.1.0))
-conflict_sym f g (inr (inl p)) = inr (inr p)
-conflict_sym f g (inr (inr p)) = inr (inl p)
+conflict_sym f g c = grind arith
 
 conflict_self : (f : Fragment) → ¬ Conflict f f
-conflict_self f (inl o) = o.0 refl
-conflict_self f (inr p) = omega (arith, p)
+conflict_self f c = grind arith
 
 -- a fragment that a datagram can have has come
 abbrev Came : List Fragment → Fragment → Type 0

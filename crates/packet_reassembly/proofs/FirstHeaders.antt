@@ -17,13 +17,16 @@ whole_has slot datagram has (Some kept) is cut =
     let (f, contains, covers) = cut.covered 0 cut.some in has.known kept f is contains (omega (arith, covers.0))
 
 -- one slot has changed, which has them if a datagram has it
-pub others_have : (k : ℕ) (old new : List IpDefragSlot) → AreSameBut k old new → ((id : IpFragId) → Has new k id → HasFirstHeaders (slot_at new k)) → HaveFirstHeaders old → HaveFirstHeaders new
+others_have : (k : ℕ) (old new : List IpDefragSlot) → AreSameBut k old new → ((id : IpFragId) → Has new k id → HasFirstHeaders (slot_at new k)) → HaveFirstHeaders old → HaveFirstHeaders new
 others_have k old new same this have = record {
   each = λ j id has. elim (cases_eq j k) [
     | inl e ↦ rw e (this id (rw e at has))
     | inr other ↦ let is = same.1 j other in rw is (have.each j id (omega (arith, has.0, same.0), rw is at has.1))
   ];
 }
+
+pub released_have : (k : ℕ) (old new : List IpDefragSlot) → AreSameBut k old new → (slot_at new k).id ≡ None → HaveFirstHeaders old → HaveFirstHeaders new
+released_have k old new same free = others_have k old new same (λ id has. absurd (cc))
 
 neither : (a b : Option (List ℕ)) → option_or a b ≡ None → (a ≡ None) × (b ≡ None)
 neither None b none = (refl, none)

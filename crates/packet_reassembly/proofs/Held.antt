@@ -1,18 +1,70 @@
 -- what the table holds
-use Rattle.std.proofs.Common.{ℕ, ◌≡◌, ◌≢◌, ◌+◌, ◌-◌, ◌*◌, ◌/◌, ◌<◌, ◌≤◌, ◌⊎◌, ◌==◌, ◌↔◌, [], ◌∷◌, List, length, arith, inl, inr, Bool, true, false, map, ap, subst, sym, ◌∙◌, refl, take, drop, slice_index, slice_index_or, slice_range, IsTrue, IsFalse}
+use Rattle.std.proofs.Common.{ℕ, ◌≡◌, ◌≢◌, ◌+◌, ◌-◌, ◌*◌, ◌/◌, ◌<◌, ◌≤◌, ◌⊎◌, ◌==◌, ◌↔◌, [], ◌∷◌, List, length, arith, inl, inr, Bool, true, false, map, ap, subst, sym, ◌∙◌, refl, take, drop, slice_index, slice_index_or, slice_range, cond, not, suc, zero}
 use Rattle.std.proofs.lemmas.Bool.{cases_Bool, cases_lt, eqb-true, eq-eqb}
 use Rattle.std.proofs.lemmas.Bool.Decides.{Decides-eqb, nat_tests}
 use Rattle.std.proofs.lemmas.List.{get_or-drop, get_or_default, get_or-map, get_or_past, get_or-take, length-drop, length-map, length-take-le, take-append-drop}
 use Rattle.std.proofs.lemmas.List.Edits.{get_or-between, length-between}
 use Rattle.std.proofs.lemmas.List.Elements.{All-contains, All-map, Contains-append_left, Contains-push, contains_decides, filter-append, filter_more, filter_passes}
 use Rattle.std.proofs.lemmas.List.FromFn.{get_or-range_with_len, length-range_with_len}
-use Rattle.std.proofs.lemmas.List.Sums.{prefix_len_passes, prefix_len_stops}
+use Rattle.std.proofs.lemmas.List.Sums.{prefix_len_passes, prefix_len_stops, sum_by-cons}
 use Rattle.std.specs.Bool.{Decides}
 use Rattle.std.specs.List.{Contains, IsAnyAnswer, filter, prefix_len, range_with_len}
+use Rattle.packet_reassembly.specs.declared.table.Arrival.TheVariants.{Conflict as Contradicts}
 use Rattle.packet_reassembly.specs.declared.table.Extent.{Extent}
 use Rattle.packet_reassembly.specs.declared.ip_frag_range.IpFragRange.{IpFragRange}
 use Rattle.packet_reassembly.specs.Fragment.{Conflict, Fragment, end_of}
-use Rattle.packet_reassembly.specs.Table.{AreKept, Begins, Fits, HasCome, IsInside, IsRange, IsTable, fragment_in, fragment_of, has_more, held, past, range_at, units_to}
+use Rattle.packet_reassembly.specs.Table.{AreKept, Arrives, Begins, Fits, HasCome, IsInside, IsNew, IsRange, IsTable, fragment_in, fragment_of, has_more, held, past, range_at, units_in, units_to}
+
+-- 1 for a unit that has come
+abbrev one_if : ℕ → ℕ
+one_if u = cond (not (u == 0)) 1 0
+
+one_if_is : (u : ℕ) → ((0 < u) × (one_if u ≡ 1)) ⊎ ((u ≡ 0) × (one_if u ≡ 0))
+one_if_is u = grind (arith, nat_tests)
+
+-- no unit has come from this one on
+abbrev pub EndsAt : List ℕ → ℕ → Type 0
+EndsAt units n = (k : ℕ) → n ≤ k → slice_index units k ≡ 0
+
+-- so many at most, and exactly so many if each has come
+at_most : (units : List ℕ) (n : ℕ) → EndsAt units n → units_in units ≤ n
+at_most [] n ends = omega arith
+at_most (u ∷ us) n ends =
+    grind (arith, sum_by-cons one_if u us, one_if_is u, ends 0, at_most us (n - 1) (λ k from. ends (suc k) (omega arith)))
+
+-- each has come if so many have
+pub each_come : (units : List ℕ) (n k : ℕ) → EndsAt units n → n ≤ units_in units → k < n → HasCome units k
+each_come [] n k ends enough below = absurd (omega arith)
+each_come (u ∷ us) n zero ends enough below =
+    grind (arith, sum_by-cons one_if u us, one_if_is u, at_most us (n - 1) (λ k from. ends (suc k) (omega arith)))
+each_come (u ∷ us) n (suc k) ends enough below =
+    each_come us (n - 1) k (λ j from. ends (suc j) (omega arith)) (omega (arith, sum_by-cons one_if u us, one_if_is u)) (omega arith)
+
+-- so many have come if each has
+pub many_come : (units : List ℕ) (n : ℕ) → ((k : ℕ) → k < n → HasCome units k) → n ≤ units_in units
+many_come [] n each = grind (arith, each 0)
+many_come (u ∷ us) n each =
+    grind (arith, sum_by-cons one_if u us, one_if_is u, each 0, many_come us (n - 1) (λ k below. each (suc k) (omega arith)))
+
+-- n units more from the unit a on
+pub more_come : (old new : List ℕ) (a n : ℕ) → length new ≡ length old → a + n ≤ length old
+    → ((k : ℕ) → a ≤ k → k < a + n → (slice_index old k ≡ 0) × (0 < slice_index new k))
+    → ((k : ℕ) → (k < a → slice_index new k ≡ slice_index old k) × (a + n ≤ k → slice_index new k ≡ slice_index old k)) → units_in new ≡ units_in old + n
+more_come [] [] a n len room come others = omega arith
+more_come [] (y ∷ ys) a n len room come others = absurd (omega arith)
+more_come (x ∷ xs) [] a n len room come others = absurd (omega arith)
+more_come (x ∷ xs) (y ∷ ys) a n len room come others =
+    let rest = more_come xs ys (a - 1) (n - (1 - a)) (omega arith) (omega arith) (λ k from to. come (suc k) (omega arith) (omega arith))
+    (λ k. (λ below. (others (suc k)).0 (omega arith), λ past. (others (suc k)).1 (omega arith))) in
+    grind (arith, sum_by-cons one_if x xs, sum_by-cons one_if y ys, one_if_is x, one_if_is y, come 0, (others 0).0, (others 0).1, rest)
+
+-- none has come past the reach
+pub ends_at : (units : List ℕ) (extent : Extent) → IsTable units extent → EndsAt units ((extent.reach + 7) / 8)
+ends_at units extent table k past = grind (arith, table.within k)
+
+-- an empty table is that of a datagram of which nothing has come
+pub table_none : (units : List ℕ) → 8192 ≤ length units → ((k : ℕ) → slice_index units k ≡ 0) → IsTable units (record { reach = 0; ended = false; units = 0 })
+table_none units len empty = search (arith, empty, at_most units 0 (λ k _. empty k))
 
 -- whether a fragment that is kept is the last of the datagram
 pub last_is : (extent : Extent) (end : ℕ) → (has_more extent end ≡ false) ↔ ((extent.ended ≡ true) × (end ≡ extent.reach))
@@ -118,15 +170,17 @@ module _ {units : List ℕ} {extent : Extent} {range : IpFragRange} (table : IsT
       (ap (λ r. r.more_fragments) (sym same) ∙ ap (has_more extent) end, come units first (units_to range - 1) begins (omega arith) (omega arith), rw to at (not_past units first))
 
 -- the unit is free: so are all that follow, if no fragment begins with one
-pub all_clear : (units : List ℕ) (extent : Extent) (range : IpFragRange) → IsTable units extent → slice_index units (range.start / 8) ≡ 0 → ((k : ℕ) → IsInside range k → ¬ Begins units k)
-    → (k : ℕ) → range.start / 8 ≤ k → k < units_to range → slice_index units k ≡ 0
-all_clear units extent range table clear alone k from to = elim (cases_lt 0 (slice_index units k)) [
-  | inr l ↦ omega arith
-  | inl l ↦ let (j, le, begins, below) = table.begun k l in absurd (elim (cases_lt (range.start / 8) j) [
-    | inl m ↦ alone j (m, omega arith) begins
-    | inr m ↦ omega (arith, come units j (range.start / 8) begins m (omega arith))
-  ])
-]
+pub all_new : {units : List ℕ} {extent : Extent} {range : IpFragRange} → IsTable units extent → IsRange range → slice_index units (range.start / 8) ≡ 0 → ((k : ℕ) → IsInside range k → ¬ Begins units k)
+    → (extent.ended ≡ true → range.end ≤ extent.reach) → (range.more_fragments ≡ false → extent.reach ≤ range.end) → IsNew units extent range
+all_new {units = units} {range = range} table is free alone before_end at_end = record {
+  clear = λ k from to. elim (cases_lt 0 (slice_index units k)) [
+    | inr l ↦ omega arith
+    | inl l ↦ let (j, le, begins, below) = table.begun k l in
+        absurd (grind (arith, cases_lt (range.start / 8) j, alone j, come units j (range.start / 8) begins))
+  ];
+  before_end = before_end;
+  at_end = at_end;
+}
 
 module _ {bytes units : List ℕ} {extent : Extent} (are : AreKept bytes units extent) where
   -- where a fragment that is kept ends, in its units and in bytes
@@ -149,13 +203,9 @@ module _ {bytes units : List ℕ} {extent : Extent} (are : AreKept bytes units e
     conflict_at k begins l r other =
         (held_at bytes units extent k, Contains_from_held bytes units extent k begins, inl (other, (omega (arith, fits.len), omega (arith, end_at k begins))))
 
-    pub conflict_other : (k : ℕ) → Begins units k → k ≢ range.start / 8 → 8 * k < range.end → range.start < (range_at units extent k).end
-        → (f : Fragment) × Contains (held bytes units extent) f × Conflict f (fragment_of range payload)
-    conflict_other k begins other l r = conflict_at k begins l r (λ is. let e = ap (λ (f : Fragment). f.start) is in other (omega arith))
-
     -- one that goes past the end, and one that ends before what has come
     pub conflict_past : (extent.ended ≡ true) × (extent.reach < range.end) ⊎ (range.more_fragments ≡ false) × (range.end < extent.reach)
-        → (f : Fragment) × Contains (held bytes units extent) f × Conflict f (fragment_of range payload)
+        → Arrives bytes units extent range payload Contradicts
     conflict_past past =
         let (k, begins, is) = furthest (elim past [ inl p ↦ are.table.ended p.0 | inr p ↦ omega (arith, p.1) ]) in
         let e = end_at k begins in (

@@ -55,7 +55,3 @@ ipv6_long headers datagram place p long =
 pub too_long : {E : Type 0} (r : Result ℕ E) (n greatest : ℕ) → (IsOk r ↔ (n ≤ greatest)) → IfErr r (λ e. greatest < n)
 too_long (Ok x) n greatest accepted = tt
 too_long (Err e) n greatest accepted = elim (cases_lt greatest n) [ inl l ↦ l | inr l ↦ let f = accepted.1 l in absurd (cc) ]
-
--- readings that are equal have the same header
-pub same_first : {H E : Type 0} (a b : H) (x y : List ℕ) (one other : Result (H × List ℕ) E) → one ≡ Ok (a, x) → other ≡ Ok (b, y) → one ≡ other → b ≡ a
-same_first a b x y one other p q e = IfOk-at_ok (λ z. z.0 ≡ a) (sym p ∙ (e ∙ q)) refl

@@ -10,8 +10,7 @@ use Rattle.packet_reassembly.specs.declared.ip_frag_range.IpFragRange.{IpFragRan
 use Rattle.packet_reassembly.specs.declared.table.Extent.{Extent}
 use Rattle.packet_reassembly.specs.Fragment.{Conflict, Fragment, Takes}
 use Rattle.packet_reassembly.specs.Table.{AreKept, Begins, Fits, HasCome, IsMarked, IsNew, fragment_in, fragment_of, has_more, held, past, range_at, units_at, units_to}
-use Rattle.packet_reassembly.proofs.Held.{Contains_from_held, come, end_at, furthest, held_at, held_from_Contains, inside, last_is, not_past, past_is, reaches, same_range}
-use Rattle.packet_reassembly.proofs.Units.{more_come}
+use Rattle.packet_reassembly.proofs.Held.{Contains_from_held, come, end_at, furthest, held_at, held_from_Contains, inside, last_is, more_come, not_past, past_is, reaches, same_range}
 
 -- how far the datagram goes then
 abbrev pub after : Extent → IpFragRange → ℕ → Extent

@@ -1,21 +1,36 @@
 -- extension headers, one after the other, up to the fragment header that decides
-use Rattle.std.proofs.Common.{ℕ, ◌≡◌, ◌+◌, ◌-◌, ◌<◌, ◌≤◌, ◌++◌, [], ◌∷◌, List, None, length, arith, ap, drop, false, get_or, length-append, length-drop, refl, slice_index, slice_range, subst, sym, take, ◌∙◌}
+use Rattle.std.proofs.Common.{ℕ, ◌≡◌, ◌+◌, ◌-◌, ◌<◌, ◌≤◌, ◌++◌, [], ◌∷◌, List, None, length, arith, ap, append_assoc, drop, false, get_or, length-append, length-drop, refl, slice_index, slice_range, subst, sym, take, ◌∙◌}
 use Rattle.std.proofs.Math.ListN.{get_or-append}
 use Rattle.std.proofs.Math.Seq.{drop-append_seam, take-add}
 use Rattle.std.proofs.lemmas.Bool.Decides.{nat_tests}
 use Rattle.std.proofs.lemmas.Grind.{common_steps}
+use Rattle.std.proofs.lemmas.List.Folds.{concat-append}
+use Rattle.std.specs.List.{concat}
 use Rattle.std.proofs.lemmas.List.{append-nil, drop-drop, drop-take, get_or-take, length-take-le, take-append-drop, take-take}
-use Rattle.etherparse.specs.ExtensionHeaderChain.{IsExtensionHeader, incomplete_header_error, extension_header_len, required_len_of}
+use Rattle.etherparse.specs.ExtensionHeaderChain.{FollowsChain, IsExtensionHeader, IsExtensionHeaderChain, incomplete_header_error, extension_header_len, required_len_of}
 use Rattle.etherparse.specs.ExtensionHeaders.{IsSkippable}
 use Rattle.etherparse.specs.Reading.{BeginsWith}
 use Rattle.etherparse.specs.LenError.{len_error_moved}
 use Rattle.etherparse.specs.declared.err.LenError.{LenError}
-use Rattle.packet_parts.specs.Extensions.{Passes, after_fragment, deciding}
+use Rattle.packet_parts.specs.Extensions.{Passes, after_fragment, at_front, deciding}
 use Rattle.packet_parts.specs.Fragment.{IsFragmentLayout, is_part}
 use Rattle.packet_parts.specs.declared.fragment.FragmentHeader.{FragmentHeader}
 use Rattle.packet_reassembly.specs.Ipv6Fragment.{EndsBefore}
 use Rattle.packet_reassembly.specs.Packet.{AreUnfragmentable, IsChain}
-use Rattle.packet_reassembly.proofs.Packets.{chain_more}
+
+-- one header more of a chain
+chain_one : (first : ℕ) (headers : List (List ℕ)) (header : List ℕ) (number : ℕ) → IsExtensionHeaderChain first headers number → IsExtensionHeader number header → IsExtensionHeaderChain first (headers ++ header ∷ []) (slice_index header 0)
+chain_one first [] header number e h = (rw e at h, refl)
+chain_one first (one ∷ headers) header number c h = (c.0, chain_one (slice_index one 0) headers header number c.1 h)
+
+pub chain_more : (first : ℕ) (before header rest : List ℕ) (number : ℕ) → IsChain first before number → IsExtensionHeader number header → FollowsChain (before ++ (header ++ rest)) first (slice_index header 0) rest
+chain_more first before header rest number c h = record {
+  headers = c.headers ++ header ∷ [];
+  begins = record {
+    chain = chain_one first c.headers header number c.begins.chain h;
+    whole = let e : before ≡ concat c.headers = c.begins.whole ∙ append-nil (concat c.headers) in rw (e, concat-append) (simp (append_assoc, append-nil));
+  };
+}
 
 -- headers have been passed up to a place, the last of them from another place on
 pub record IsWalked (body : List ℕ) (first last at number : ℕ) (rest : List ℕ) : Type 0 where
@@ -33,15 +48,9 @@ unfragmentable : (first number : ℕ) (before header : List ℕ) → IsChain fir
 unfragmentable first number before [] chain is some = absurd (omega arith)
 unfragmentable first number before (byte ∷ rest) chain is some = (number, chain, is)
 
-pub walked_none : (body : List ℕ) (first : ℕ) → Passes body first None first body → IsWalked body first 0 0 first body
-walked_none body first passes = record {
-  order = omega arith;
-  within = omega arith;
-  is = refl;
-  passes = passes;
-  chain = record { headers = []; begins = record { chain = refl; whole = refl } };
-  headers = refl;
-}
+pub walked_none : (body : List ℕ) (first : ℕ) → IsWalked body first 0 0 first body
+walked_none body first =
+    let chain : IsChain first [] first = record { headers = []; begins = record { chain = refl; whole = refl } } in search (arith, at_front)
 
 module _ {body rest : List ℕ} {first last at number : ℕ} (w : IsWalked body first last at number rest) (skippable : IsSkippable number) where
   -- one more
@@ -73,11 +82,11 @@ module _ {body rest : List ℕ} {first last at number : ℕ} (w : IsWalked body 
 
 -- an atomic fragment header is passed
 pub atomic_passed : (body slice rest : List ℕ) (header : FragmentHeader) (first number : ℕ) → number ≡ 44 → BeginsWith IsFragmentLayout slice header rest → is_part header ≡ false → header.fragment_offset ≡ 0 → Passes body first None number slice → Passes body first None (slice_index slice 0) (drop (required_len_of number slice) slice)
-atomic_passed body slice rest header first number is begins whole at_front passes =
+atomic_passed body slice rest header first number is begins whole front passes =
     let len = begins.layout.len in
     let enough : 8 ≤ length slice = omega (arith, ap length begins.whole, length-append {A = ℕ}) in
     let named : slice_index slice 0 ≡ header.next_header = rw begins.whole (get_or-append begins.front rest 0 0 (omega arith)) ∙ begins.layout.next_header in
     let required : required_len_of number slice ≡ 8 = rw is (grind (arith, common_steps)) in
     let after : drop (required_len_of number slice) slice ≡ rest = rw (required, begins.whole, sym len) (drop-append_seam begins.front rest) in
     let none : deciding header ≡ None = rw whole refl in
-    rw (named, after) (rw none at (after_fragment (rw is at passes) begins at_front))
+    rw (named, after) (rw none at (after_fragment (rw is at passes) begins front))

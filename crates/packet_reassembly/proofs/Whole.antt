@@ -7,9 +7,8 @@ use Rattle.std.specs.List.{Contains}
 use Rattle.packet_reassembly.specs.declared.table.Extent.{Extent}
 use Rattle.packet_reassembly.specs.Fragment.{AreCutFrom, Covers, Fragment, IsPieceOf, IsWhole, Overlap, Takes, end_of}
 use Rattle.packet_reassembly.specs.Table.{AreKept, Begins, HasCome, held, kept, range_at}
-use Rattle.packet_reassembly.proofs.Held.{Contains_from_held, come, end_at, furthest, held_at, held_from_Contains, in_order, last_is}
-use Rattle.packet_reassembly.proofs.Cuts.{one_cut}
-use Rattle.packet_reassembly.proofs.Units.{each_come, ends_at, many_come}
+use Rattle.packet_reassembly.proofs.Held.{Contains_from_held, come, each_come, end_at, ends_at, furthest, held_at, held_from_Contains, in_order, last_is, many_come}
+use Rattle.packet_reassembly.proofs.Arrivals.{one_cut}
 
 module _ {bytes units : List ℕ} {extent : Extent} (are : AreKept bytes units extent) where
   abbrev Holds : Fragment → Type 0

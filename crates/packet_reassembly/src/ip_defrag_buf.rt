@@ -60,7 +60,7 @@ impl<'a> IpDefragBuf<'a> {
     pub const UNITS: usize = 8192;
 
     /// A datagram of which nothing has come. What the memory has before makes no difference.
-    #[tactic(auto, using(crate::proofs::Held::held_none, crate::proofs::Units::table_none))]
+    #[tactic(auto, using(crate::proofs::Held::held_none, crate::proofs::Held::table_none))]
     pub fn new(bytes: &'a mut [u8], units: &'a mut [u8]) -> IpDefragBuf<'a>
         requires bytes { 65535 ≤ length bytes.old }
         requires units { 8192 ≤ length units.old }
@@ -190,7 +190,7 @@ impl<'a> IpDefragBuf<'a> {
     }
 
     /// Forgets all that has come.
-    #[tactic(auto, using(crate::proofs::Held::held_none, crate::proofs::Units::table_none))]
+    #[tactic(auto, using(crate::proofs::Held::held_none, crate::proofs::Held::table_none))]
     pub fn clear(&mut self)
         ensures empty { self.new ≡ Some [] }
     {

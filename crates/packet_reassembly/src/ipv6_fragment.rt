@@ -33,6 +33,7 @@ pub struct Ipv6FragmentParts<'a> {
 /// # Errors
 ///
 /// A `LenError` if an extension header before that one is incomplete, with its place in `body`.
+#[tactic(auto, using(crate::proofs::Walked::walked_none))]
 pub fn ipv6_fragment_parts(
     body: &[u8],
     first: IpNumber,

@@ -120,7 +120,6 @@ fn is_range(units: &[u8], extent: Extent, range: IpFragRange) -> bool
     requires begins { Begins units.now (range.start / 8) }
     requires alone { (k : ℕ) → IsInside range k → ¬ Begins units.now k }
     requires before_end { extent.ended ≡ true → range.end ≤ extent.reach }
-    requires at_end { range.more_fragments ≡ false → extent.reach ≤ range.end }
     ensures same { IsTrue result ↔ (range_at units.now extent (range.start / 8) ≡ range) }
 {
     range.more_fragments == has_more(extent, range.end) && ends_before(units, range.end.div_ceil(8))
@@ -137,6 +136,7 @@ fn goes_past(extent: Extent, range: IpFragRange) -> bool
 }
 
 /// How a fragment stands to those that have come, and how many entries of the table were read.
+#[tactic(auto, using(crate::proofs::Held::conflict_past))]
 pub fn arrival_of(
     bytes: &[u8],
     units: &[u8],

@@ -2,12 +2,8 @@ use Rattle.std.proofs.Common.{ℕ, ◌≡◌, ◌-◌, ◌<◌, ap, arith, drop,
 use Rattle.std.proofs.lemmas.List.Edits.{split_between}
 use Rattle.std.proofs.lemmas.Result.{IfOk-at_ok}
 use Rattle.etherparse.specs.ExtensionHeaderChain.{required_len_of}
-use Rattle.packet_parts.specs.Extensions.{at_front}
-use Rattle.packet_reassembly.proofs.Walked.{ends_before, walked_more, walked_none}
+use Rattle.packet_reassembly.proofs.Walked.{ends_before, walked_more}
 use Rattle.packet_reassembly.proofs.ipv6_fragment.ipv6_fragment_parts.Goals as goal
-
-pub headers-init : goal.headers-init
-headers-init c = walked_none c.args.body.now c.args.first at_front
 
 pub returns-in-Err-clause-refused : goal.returns-in-Err-clause-refused
 returns-in-Err-clause-refused c =
