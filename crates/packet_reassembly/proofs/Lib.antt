@@ -1,7 +1,5 @@
 pub mod Arrivals
 pub mod FirstHeaders
-pub mod Held
 pub mod Kept
-pub mod New
+pub mod TableLaws
 pub mod Walked
-pub mod Whole

@@ -41,9 +41,6 @@ pub record IsWalked (body : List ℕ) (first last at number : ℕ) (rest : List 
   pub chain : IsChain first (take at body) number
   pub headers : AreUnfragmentable first (take last body) (slice_range body last at)
 
-second_byte_tells : (n k : ℕ) (s : List ℕ) → k ≡ required_len_of n s → k ≤ length s → (k ≡ extension_header_len n (get_or s 1 0)) × (8 ≤ k)
-second_byte_tells n k s is fits = (grind (arith, nat_tests), grind (arith, nat_tests))
-
 unfragmentable : (first number : ℕ) (before header : List ℕ) → IsChain first before number → IsExtensionHeader number header → 0 < length header → AreUnfragmentable first before header
 unfragmentable first number before [] chain is some = absurd (omega arith)
 unfragmentable first number before (byte ∷ rest) chain is some = (number, chain, is)
@@ -58,7 +55,8 @@ module _ {body rest : List ℕ} {first last at number : ℕ} (w : IsWalked body 
       → IsWalked body first at to (slice_index rest 0) (drop (required_len_of number rest) rest)
   walked_more fits passes to here =
       let k : ℕ = required_len_of number rest in
-      let (len, long) = second_byte_tells number k rest refl fits in
+      let long : 8 ≤ k = grind (arith, nat_tests) in
+      let len : k ≡ extension_header_len number (get_or rest 1 0) = grind (arith, nat_tests) in
       let is_header : IsExtensionHeader number (take k rest) = record { skippable = skippable; len = rw (length-take-le k rest fits, get_or-take k rest 1 0 (omega arith)) len } in
       let all : take to body ≡ take at body ++ (take k rest ++ []) = rw (append-nil, here) (rw (← w.is) at (take-add at k body)) in
       let n : to - at ≡ k = omega arith in

@@ -1,6 +1,6 @@
 use Rattle.std.proofs.Common.{ℕ, ◌≡◌, ◌/◌, ap, arith}
 use Rattle.packet_reassembly.specs.Table.{Begins}
-use Rattle.packet_reassembly.proofs.Held.{Contains_from_held, all_new, conflict_at, reaches, same_fragment, same_parts}
+use Rattle.packet_reassembly.proofs.TableLaws.{Contains_from_held, all_new, conflict_at, reaches, same_fragment, same_parts}
 use Rattle.packet_reassembly.proofs.table.arrival_of.Goals.{else-is_range-via-then-is_range+else-holds, else-is_range-via-else-is_range}
 use Rattle.packet_reassembly.proofs.table.arrival_of.Goals as goal
 

@@ -1,5 +1,5 @@
 use Rattle.std.proofs.Common.{◌+◌, ◌/◌, arith}
-use Rattle.packet_reassembly.proofs.Held.{any_begins}
+use Rattle.packet_reassembly.proofs.TableLaws.{any_begins}
 use Rattle.packet_reassembly.proofs.table.begins_inside.Goals as goal
 
 pub returns : goal.returns

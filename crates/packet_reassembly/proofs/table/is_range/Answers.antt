@@ -1,7 +1,7 @@
 use Rattle.std.proofs.Common.{◌≡◌, ◌∙◌, arith}
 use Rattle.std.proofs.lemmas.Grind.{common_steps}
 use Rattle.packet_reassembly.specs.Table.{has_more, units_to}
-use Rattle.packet_reassembly.proofs.Held.{same_if, same_only}
+use Rattle.packet_reassembly.proofs.TableLaws.{same_if, same_only}
 use Rattle.packet_reassembly.proofs.table.is_range.Goals as goal
 
 pub returns-then-range-has_more : goal.returns-then-range-has_more

@@ -1,5 +1,5 @@
 use Rattle.std.proofs.Common.{◌+◌, ◌-◌, arith}
-use Rattle.packet_reassembly.proofs.New.{kept-new, takes-new}
+use Rattle.packet_reassembly.proofs.TableLaws.{kept-new, takes-new}
 use Rattle.packet_reassembly.proofs.table.keep.Goals as goal
 
 pub returns-clause-kept : goal.returns-clause-kept

@@ -1,6 +1,6 @@
 use Rattle.std.proofs.Common.{ap}
 use Rattle.packet_reassembly.specs.Table.{fragment_of}
-use Rattle.packet_reassembly.proofs.Whole.{takes_same}
+use Rattle.packet_reassembly.proofs.TableLaws.{takes_same}
 use Rattle.packet_reassembly.proofs.ip_defrag_buf.IpDefragBuf.add_counted.Goals as goal
 
 pub returns-in-New-clause-taken : goal.returns-in-New-clause-taken
