@@ -1,5 +1,5 @@
 -- that the headers of the first fragment are there
-use Rattle.std.proofs.Common.{ℕ, ◌≡◌, ◌≢◌, [], ◌∷◌, List, None, Option, Some, arith, ap, inl, inr, refl}
+use Rattle.std.proofs.Common.{ℕ, ◌≡◌, ◌≢◌, [], List, None, Option, Some, arith, inl, inr, refl}
 use Rattle.std.specs.List.{Contains}
 use Rattle.std.specs.Option.{option_or}
 use Rattle.std.proofs.lemmas.Bool.{cases_eq}

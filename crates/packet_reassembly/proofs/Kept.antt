@@ -1,9 +1,8 @@
 -- the headers of a fragment, and what is kept of them
-use Rattle.std.proofs.Common.{ℕ, ◌≡◌, ◌+◌, ◌-◌, ◌<◌, ◌≤◌, ◌++◌, ◌↔◌, ◌∙◌, IfErr, IsOk, List, Result, Ok, Err, add-zero, length, arith, ap, append_assoc, drop, inl, inr, length-append, refl, slice_index, slice_range, subst, sym, take}
+use Rattle.std.proofs.Common.{ℕ, ◌≡◌, ◌+◌, ◌-◌, ◌<◌, ◌≤◌, ◌++◌, ◌↔◌, ◌∙◌, IfErr, IsOk, List, Result, Ok, Err, add-zero, length, arith, ap, append_assoc, drop, inl, inr, length-append, slice_index, slice_range, sym, take}
 use Rattle.std.proofs.lemmas.Bool.{cases_lt}
 use Rattle.std.proofs.lemmas.List.{drop_at, get_or-drop, take_at}
 use Rattle.std.proofs.lemmas.List.Prefix.{end_rest}
-use Rattle.std.proofs.lemmas.Result.{IfOk-at_ok}
 use Rattle.etherparse.specs.Ipv6Header.{IsIpv6Layout}
 use Rattle.etherparse.specs.Reading.{BeginsWith}
 use Rattle.etherparse.specs.declared.net.ipv6_header.Ipv6Header.{Ipv6Header}

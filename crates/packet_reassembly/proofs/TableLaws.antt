@@ -1,8 +1,8 @@
 -- the table of the fragments that have come: what it holds, what a new fragment changes, and when the datagram is whole
-use Rattle.std.proofs.Common.{ℕ, ◌≡◌, ◌≢◌, ◌+◌, ◌-◌, ◌*◌, ◌/◌, ◌<◌, ◌≤◌, ◌⊎◌, ◌==◌, ◌↔◌, [], ◌∷◌, List, length, arith, inl, inr, Bool, true, false, map, ap, subst, sym, ◌∙◌, refl, take, drop, slice_index, slice_index_or, slice_range, cond, not, suc, zero, ◌%◌, ◌++◌, ◌||◌, max, Some, length-append, length-take, length-drop, Option}
+use Rattle.std.proofs.Common.{ℕ, ◌≡◌, ◌≢◌, ◌+◌, ◌-◌, ◌*◌, ◌/◌, ◌<◌, ◌≤◌, ◌⊎◌, ◌==◌, ◌↔◌, [], ◌∷◌, List, length, arith, inl, inr, Bool, true, false, ap, subst, sym, ◌∙◌, refl, take, drop, slice_index, slice_index_or, slice_range, cond, not, suc, zero, ◌++◌, ◌||◌, max, Some, length-append, length-take, length-drop, Option}
 use Rattle.std.proofs.lemmas.Bool.{cases_Bool, cases_lt, eqb-true, eq-eqb, cases_eq, not-false, or_parts}
 use Rattle.std.proofs.lemmas.Bool.Decides.{Decides-eqb, nat_tests}
-use Rattle.std.proofs.lemmas.List.{get_or-drop, get_or_default, get_or-map, get_or_past, get_or-take, length-drop, length-map, length-take-le, take-append-drop, take-take}
+use Rattle.std.proofs.lemmas.List.{get_or-drop, get_or_default, get_or-map, get_or_past, length-drop, length-map, length-take-le, take-append-drop, take-take}
 use Rattle.std.proofs.lemmas.List.Edits.{get_or-between, length-between}
 use Rattle.std.proofs.lemmas.List.Elements.{All-contains, All-map, Contains-append_left, Contains-push, contains_decides, filter-append, filter_more, filter_passes, Contains-push_cases}
 use Rattle.std.proofs.lemmas.List.FromFn.{get_or-range_with_len, length-range_with_len}

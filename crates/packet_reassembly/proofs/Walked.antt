@@ -1,12 +1,12 @@
 -- extension headers, one after the other, up to the fragment header that decides
-use Rattle.std.proofs.Common.{ℕ, ◌≡◌, ◌+◌, ◌-◌, ◌<◌, ◌≤◌, ◌++◌, [], ◌∷◌, List, None, length, arith, ap, append_assoc, drop, false, get_or, length-append, length-drop, refl, slice_index, slice_range, subst, sym, take, ◌∙◌}
+use Rattle.std.proofs.Common.{ℕ, ◌≡◌, ◌+◌, ◌-◌, ◌<◌, ◌≤◌, ◌++◌, [], ◌∷◌, List, None, length, arith, ap, append_assoc, drop, false, get_or, length-append, length-drop, refl, slice_index, slice_range, sym, take, ◌∙◌}
 use Rattle.std.proofs.Math.ListN.{get_or-append}
 use Rattle.std.proofs.Math.Seq.{drop-append_seam, take-add}
 use Rattle.std.proofs.lemmas.Bool.Decides.{nat_tests}
 use Rattle.std.proofs.lemmas.Grind.{common_steps}
 use Rattle.std.proofs.lemmas.List.Folds.{concat-append}
 use Rattle.std.specs.List.{concat}
-use Rattle.std.proofs.lemmas.List.{append-nil, drop-drop, drop-take, get_or-take, length-take-le, take-append-drop, take-take}
+use Rattle.std.proofs.lemmas.List.{append-nil, drop-drop, get_or-take, length-take-le}
 use Rattle.etherparse.specs.ExtensionHeaderChain.{FollowsChain, IsExtensionHeader, IsExtensionHeaderChain, incomplete_header_error, extension_header_len, required_len_of}
 use Rattle.etherparse.specs.ExtensionHeaders.{IsSkippable}
 use Rattle.etherparse.specs.Reading.{BeginsWith}

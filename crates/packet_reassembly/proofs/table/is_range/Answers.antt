@@ -1,4 +1,4 @@
-use Rattle.std.proofs.Common.{◌≡◌, ◌∙◌, arith}
+use Rattle.std.proofs.Common.{◌≡◌, arith}
 use Rattle.std.proofs.lemmas.Grind.{common_steps}
 use Rattle.packet_reassembly.specs.Table.{has_more, units_to}
 use Rattle.packet_reassembly.proofs.TableLaws.{same_if, same_only}
