@@ -67,12 +67,9 @@ module _ (xs : List Fragment) (f : Fragment) where
     ]
   ]
 
-  more : HaveConflict xs → HaveConflict (xs ++ f ∷ [])
-  more = more_conflict xs (xs ++ f ∷ []) (λ g _. Contains-append_left xs (f ∷ []) g)
-
   -- one fragment more that a datagram can have
   pub stands_more : (old new : Option (List Fragment)) → StandsFor old xs → Takes old f new → IsRight f → StandsFor new (xs ++ f ∷ [])
-  stands_more None new stands takes right = rw takes (more stands)
+  stands_more None new stands takes right = rw takes (more_conflict xs (xs ++ f ∷ []) (λ g _. Contains-append_left xs (f ∷ []) g) stands)
   stands_more (Some old) None stands (g, has, conflict) right =
       let (came, is_right) = (stands.0 g).0 has in
       record { one = g; other = f; has_one = (Contains-append_left xs (f ∷ []) g came, is_right); has_other = (Contains-push xs f, right); conflict = conflict }
@@ -94,7 +91,7 @@ module _ (xs : List Fragment) (f : Fragment) where
 
   -- one that is refused
   pub stands_refused : (value : Option (List Fragment)) (e : IpDefragError) → StandsFor value xs → Refuses f e → StandsFor value (xs ++ f ∷ [])
-  stands_refused None e stands refused = more stands
+  stands_refused None e stands refused = more_conflict xs (xs ++ f ∷ []) (λ g _. Contains-append_left xs (f ∷ []) g) stands
   stands_refused (Some kept) e stands refused = (
     λ g. (
       λ h. let (came, right) = (stands.0 g).0 h in (Contains-append_left xs (f ∷ []) g came, right),

@@ -9,15 +9,16 @@ returns-then-not-is_fragmenting_payload-clause-none c = λ packet header begins 
 pub returns-clause-found : goal.returns-clause-found
 returns-clause-found c = λ packet header begins front.
     let is_layout = rw front at begins.layout in
-    let a = c.source.ensures.value header is_layout in
-    let b = c.destination.ensures.value header is_layout in
-    let d = c.result.view_is ∙ c.protocol.ensures.value header is_layout in
-    let e = c.identification.ensures.value header is_layout in
     inl (record {
       header = header;
       begins = begins;
       is_fragment = (c.is_fragmenting_payload.ensures.value header is_layout).0 c.if-not-is_fragmenting_payload.false;
-      id = cc;
+      id = cc (
+        c.source.ensures.value header is_layout,
+        c.destination.ensures.value header is_layout,
+        c.result.view_is ∙ c.protocol.ensures.value header is_layout,
+        c.identification.ensures.value header is_layout,
+      );
       offset = c.fragments_offset.ensures.value header is_layout;
       more = c.more_fragments.ensures.value header is_layout;
       next = c.protocol-2.ensures.value header is_layout;

@@ -11,8 +11,6 @@ slice_bounds-result-count c =
 pub returns-clause-found : goal.returns-clause-found
 returns-clause-found c = λ packet header begins front is_whole.
     let is_layout = rw front at begins.layout in
-    let a = c.source.ensures.value header is_layout in
-    let b = c.destination.ensures.value header is_layout in
     let parts = c.in-Ok-Some.parts in
     let named : AreFragmentParts c.args.body.now c.next_header.result parts = rw c.in-Ok-Some.field-0-is at c.in-Ok-Some.ensures.found in
     let p = subst (λ (n : ℕ). AreFragmentParts c.args.body.now n parts) (c.next_header.ensures.value header is_layout) named in
@@ -22,7 +20,7 @@ returns-clause-found c = λ packet header begins front is_whole.
       begins = begins;
       parts = parts;
       are_parts = p;
-      id = cc;
+      id = cc (c.source.ensures.value header is_layout, c.destination.ensures.value header is_layout);
       offset = refl;
       more = refl;
       next = refl;

@@ -1,5 +1,4 @@
-use Rattle.std.proofs.Common.{ℕ, ◌≡◌, ◌/◌, ap, arith}
-use Rattle.packet_reassembly.specs.Table.{Begins}
+use Rattle.std.proofs.Common.{ℕ, ◌≡◌, ◌/◌, ap, arith, slice_index}
 use Rattle.packet_reassembly.proofs.TableLaws.{Contains_from_held, all_new, conflict_at, reaches, same_fragment, same_parts}
 use Rattle.packet_reassembly.proofs.table.arrival_of.Goals.{else-is_range-via-then-is_range+else-holds, else-is_range-via-else-is_range}
 use Rattle.packet_reassembly.proofs.table.arrival_of.Goals as goal
@@ -25,7 +24,7 @@ returns-then-found-eq-GOES_ON-clause-arrives c =
 
 pub returns-then-holds-clause-arrives : goal.returns-then-holds-clause-arrives
 returns-then-holds-clause-arrives c =
-    let begins : Begins c.args.units.now (c.args.range.start / 8) = omega (arith, c.requires.kept.table.marks (c.args.range.start / 8)) in
+    let begins : slice_index c.args.units.now (c.args.range.start / 8) ≡ 1 = omega (arith, c.requires.kept.table.marks (c.args.range.start / 8)) in
     rw (← same_fragment c.requires.kept c.requires.fits (c.args.range.start / 8) (c.is_range.ensures.same.0 c.if-is_range.true) (c.holds.ensures.same.0 c.if-holds.true))
     (Contains_from_held c.args.bytes.now c.args.units.now c.args.extent (c.args.range.start / 8) begins)
 
@@ -33,7 +32,7 @@ pub returns-else-is_range-clause-arrives : goal.returns-else-is_range-clause-arr
 returns-else-is_range-clause-arrives c =
     let right = c.requires.fits.right in
     let first : ℕ = c.args.range.start / 8 in
-    let begins : Begins c.args.units.now first = omega (arith, c.requires.kept.table.marks first) in
+    let begins : slice_index c.args.units.now first ≡ 1 = omega (arith, c.requires.kept.table.marks first) in
     conflict_at c.requires.kept c.requires.fits first begins (omega arith) (omega (arith, right.unit, reaches c.requires.kept first first begins (omega arith) (omega arith))) (λ is.
     let (e, same) = same_parts c.requires.kept c.requires.fits first begins is in
     elim c.else-is_range.branch [
