@@ -1,88 +1,110 @@
--- one fragment after another
-use Rattle.std.proofs.Common.{ℕ, ◌≡◌, ◌↔◌, ◌++◌, [], ◌∷◌, List, arith, inl, inr, sym, subst, refl, Option, Some, None}
+-- what holds of all fragments of a datagram, and one fragment after another
+use Rattle.std.proofs.Common.{ℕ, ◌≡◌, ◌+◌, ◌-◌, ◌⊎◌, ◌↔◌, ◌++◌, [], ◌∷◌, List, length, arith, inl, inr, sym, subst, ◌∙◌, slice_index_or, Option, Some, None}
+use Rattle.std.proofs.lemmas.List.{ext_get_or}
+use Rattle.std.proofs.lemmas.List.Edits.{get_or-between}
 use Rattle.std.proofs.lemmas.List.Elements.{Contains-append_left, Contains-push, Contains-push_cases}
 use Rattle.std.specs.List.{Contains}
 use Rattle.packet_reassembly.specs.Arrivals.{AreRightOf, HaveConflict, HaveSameRight, HoldDatagram, StandsFor}
-use Rattle.packet_reassembly.specs.Fragment.{Conflict, Fragment, IsRight, IsWhole, Takes}
+use Rattle.packet_reassembly.specs.Fragment.{AreCutFrom, Conflict, Covers, Fragment, HaveSame, IsPieceOf, IsRight, IsWhole, Takes, end_of}
 use Rattle.packet_reassembly.specs.Refusal.{Refuses}
 use Rattle.packet_reassembly.specs.declared.ip_defrag_error.IpDefragError.{IpDefragError}
 use Rattle.packet_reassembly.specs.declared.ip_defrag_error.IpDefragError.TheVariants as why
-use Rattle.packet_reassembly.proofs.Cuts.{conflict_cut, cut_same, one_cut}
+
+pub cut_same : (xs ys : List Fragment) → HaveSame xs ys → (datagram : List ℕ) → AreCutFrom datagram xs → AreCutFrom datagram ys
+cut_same xs ys same datagram cut = record {
+  some = cut.some;
+  pieces = λ f has. cut.pieces f ((same f).1 has);
+  covered = λ i below. let (f, has, cover) = cut.covered i below in (f, (same f).0 has, cover);
+  apart = λ f g hf hg. cut.apart f g ((same f).1 hf) ((same g).1 hg);
+}
+
+pub conflict_cut : (xs : List Fragment) (datagram : List ℕ) (f g : Fragment) → AreCutFrom datagram xs → Contains xs f → Contains xs g → ¬ Conflict f g
+conflict_cut xs datagram f g cut hf hg (inl o) = o.0 (cut.apart f g hf hg o.1)
+conflict_cut xs datagram f g cut hf hg (inr (inl p)) = omega (arith, (cut.pieces f hf).last.0 p.0, (cut.pieces g hg).within, p.1)
+conflict_cut xs datagram f g cut hf hg (inr (inr p)) = omega (arith, (cut.pieces g hg).last.0 p.0, (cut.pieces f hf).within, p.1)
+
+byte_of_piece : (datagram : List ℕ) (f : Fragment) (i : ℕ) → IsPieceOf datagram f → Covers f i → slice_index_or datagram i 0 ≡ slice_index_or f.bytes (i - f.start) 0
+byte_of_piece datagram f i p c =
+    let e : f.start + (i - f.start) ≡ i = omega arith in
+    rw (p.bytes, get_or-between datagram f.start (end_of f) (i - f.start) 0 (omega arith), e)
+
+pub one_cut : (xs : List Fragment) (one other : List ℕ) → AreCutFrom one xs → AreCutFrom other xs → one ≡ other
+one_cut xs one other a b =
+    let (f, has, cover) = a.covered (length one - 1) (omega arith) in
+    let p = a.pieces f has in
+    let e : end_of f ≡ length one = omega arith in ext_get_or 0 one other (sym e ∙ (b.pieces f has).last.0 (p.last.1 e)) (λ i below.
+    let (g, has_g, covers) = a.covered i below in
+    byte_of_piece one g i (a.pieces g has_g) covers ∙ sym (byte_of_piece other g i (b.pieces g has_g) covers))
 
 conflict_sym : (f g : Fragment) → Conflict f g → Conflict g f
-conflict_sym f g (inl o) = inl (λ e. o.0 (sym e), (o.1.1, o.1.0))
-conflict_sym f g (inr (inl p)) = inr (inr p)
-conflict_sym f g (inr (inr p)) = inr (inl p)
+conflict_sym f g c = grind arith
 
 conflict_self : (f : Fragment) → ¬ Conflict f f
-conflict_self f (inl o) = o.0 refl
-conflict_self f (inr (inl p)) = omega (arith, p.1)
-conflict_self f (inr (inr p)) = omega (arith, p.1)
+conflict_self f c = grind arith
 
-push_left : (xs : List Fragment) (f g : Fragment) → Contains xs g × IsRight g → Contains (xs ++ f ∷ []) g × IsRight g
-push_left xs f g (has, right) = (Contains-append_left xs (f ∷ []) g has, right)
+-- a fragment that a datagram can have has come
+abbrev Came : List Fragment → Fragment → Type 0
+Came xs f = Contains xs f × IsRight f
 
--- a conflict stays
-more_conflict : (xs : List Fragment) (f : Fragment) → HaveConflict xs → HaveConflict (xs ++ f ∷ [])
-more_conflict xs f c = record { one = c.one; other = c.other; has_one = push_left xs f c.one c.has_one; has_other = push_left xs f c.other c.has_other; conflict = c.conflict }
+-- a conflict stays where more have come
+more_conflict : (xs ys : List Fragment) → ((f : Fragment) → IsRight f → Contains xs f → Contains ys f) → HaveConflict xs → HaveConflict ys
+more_conflict xs ys more c = search more
 
--- there is none if the last fragment has none with those before it
-still_none : (xs : List Fragment) (f : Fragment) → ¬ HaveConflict xs → ((g : Fragment) → Contains xs g × IsRight g → IsRight f → ¬ Conflict g f) → ¬ HaveConflict (xs ++ f ∷ [])
-still_none xs f none free c =
-    elim (Contains-push_cases xs f c.one c.has_one.0) [
-      | inl a ↦ elim (Contains-push_cases xs f c.other c.has_other.0) [
-        | inl b ↦ none (record { one = c.one; other = c.other; has_one = (a, c.has_one.1); has_other = (b, c.has_other.1); conflict = c.conflict })
-        | inr e ↦ free c.one (a, c.has_one.1) (subst IsRight (sym e) c.has_other.1) (subst (Conflict c.one) (sym e) c.conflict)
-      ]
-      | inr d ↦ elim (Contains-push_cases xs f c.other c.has_other.0) [
-        | inl b ↦ free c.other (b, c.has_other.1) (subst IsRight (sym d) c.has_one.1) (conflict_sym f c.other (subst (λ (x : Fragment). Conflict x c.other) (sym d) c.conflict))
-        | inr e ↦ conflict_self f (subst (λ (x : Fragment). Conflict x f) (sym d) (subst (Conflict c.one) (sym e) c.conflict))
-      ]
+module _ (xs : List Fragment) (f : Fragment) where
+  pushed : (g : Fragment) → Came (xs ++ f ∷ []) g → Came xs g ⊎ ((f ≡ g) × IsRight f)
+  pushed g h = elim (Contains-push_cases xs f g h.0) [ inl a ↦ inl (a, h.1) | inr e ↦ inr (e, rw (← e) at h.1) ]
+
+  -- there is none if the last fragment has none with those before it
+  still_none : ¬ HaveConflict xs → ((g : Fragment) → Came xs g → IsRight f → ¬ Conflict g f) → ¬ HaveConflict (xs ++ f ∷ [])
+  still_none none free c = elim (pushed c.one c.has_one) [
+    | inl a ↦ elim (pushed c.other c.has_other) [
+      | inl b ↦ none (record { one = c.one; other = c.other; has_one = a; has_other = b; conflict = c.conflict })
+      | inr b ↦ free c.one a b.1 (subst (Conflict c.one) (sym b.0) c.conflict)
     ]
+    | inr a ↦ elim (pushed c.other c.has_other) [
+      | inl b ↦ free c.other b a.1 (conflict_sym f c.other (subst (λ x. Conflict x c.other) (sym a.0) c.conflict))
+      | inr b ↦ conflict_self c.other (subst (λ x. Conflict x c.other) (sym a.0 ∙ b.0) c.conflict)
+    ]
+  ]
 
--- one fragment more that a datagram can have
-pub stands_more : (old new : Option (List Fragment)) (xs : List Fragment) (f : Fragment) → StandsFor old xs → Takes old f new → IsRight f → StandsFor new (xs ++ f ∷ [])
-stands_more None new xs f stands takes right = subst (λ (v : Option (List Fragment)). StandsFor v (xs ++ f ∷ [])) (sym takes) (more_conflict xs f stands)
-stands_more (Some old) None xs f stands (g, has, conflict) right =
-    record { one = g; other = f; has_one = push_left xs f g ((stands.0 g).0 has); has_other = (Contains-push xs f, right); conflict = conflict }
-stands_more (Some old) (Some new) xs f stands takes right = (
-  λ g. (
-    λ h. elim (Contains-push_cases old f g ((takes.1 g).0 h)) [
-      | inl a ↦ push_left xs f g ((stands.0 g).0 a)
-      | inr e ↦ subst (λ (x : Fragment). Contains (xs ++ f ∷ []) x × IsRight x) e (Contains-push xs f, right)
-    ],
-    λ h. (takes.1 g).1 (elim (Contains-push_cases xs f g h.0) [
-      | inl a ↦ Contains-append_left old (f ∷ []) g ((stands.0 g).1 (a, h.1))
-      | inr e ↦ subst (Contains (old ++ f ∷ [])) e (Contains-push old f)
-    ]),
-  ),
-  still_none xs f stands.1 (λ g has _. takes.0 g ((stands.0 g).1 has)),
-)
+  -- one fragment more that a datagram can have
+  pub stands_more : (old new : Option (List Fragment)) → StandsFor old xs → Takes old f new → IsRight f → StandsFor new (xs ++ f ∷ [])
+  stands_more None new stands takes right = rw takes (more_conflict xs (xs ++ f ∷ []) (λ g _. Contains-append_left xs (f ∷ []) g) stands)
+  stands_more (Some old) None stands (g, has, conflict) right =
+      let (came, is_right) = (stands.0 g).0 has in
+      record { one = g; other = f; has_one = (Contains-append_left xs (f ∷ []) g came, is_right); has_other = (Contains-push xs f, right); conflict = conflict }
+  stands_more (Some old) (Some new) stands takes right = (
+    λ g. (
+      λ h. elim (Contains-push_cases old f g ((takes.1 g).0 h)) [
+        | inl a ↦ let (came, is_right) = (stands.0 g).0 a in (Contains-append_left xs (f ∷ []) g came, is_right)
+        | inr e ↦ rw (← e) (Contains-push xs f, right)
+      ],
+      λ h. (takes.1 g).1 (elim (pushed g h) [ inl a ↦ Contains-append_left old (f ∷ []) g ((stands.0 g).1 a) | inr e ↦ rw (← e.0) (Contains-push old f) ]),
+    ),
+    still_none stands.1 (λ g came _. takes.0 g ((stands.0 g).1 came)),
+  )
 
-not_right : (f : Fragment) (e : IpDefragError) → Refuses f e → ¬ IsRight f
-not_right f (why.Empty offset) (s) right = omega (arith, s.1, right.some)
-not_right f (why.UnalignedFragmentPayloadLen offset len) (s, more, units) right = omega (arith, s.1, units, right.units more)
-not_right f (why.SegmentTooBig offset len max) (s, units, past, m) right = omega (arith, past, right.within)
+  not_right : (e : IpDefragError) → Refuses f e → ¬ IsRight f
+  not_right (why.Empty offset) s right = omega (arith, s)
+  not_right (why.UnalignedFragmentPayloadLen offset len) (s, more, units) right = omega (arith, s, right.units more)
+  not_right (why.SegmentTooBig offset len max) refused right = omega (arith, refused)
 
--- one that is refused
-pub stands_refused : (value : Option (List Fragment)) (xs : List Fragment) (f : Fragment) (e : IpDefragError) → StandsFor value xs → Refuses f e → StandsFor value (xs ++ f ∷ [])
-stands_refused None xs f e stands refused = more_conflict xs f stands
-stands_refused (Some kept) xs f e stands refused = (
-  λ g. (
-    λ h. push_left xs f g ((stands.0 g).0 h),
-    λ h. elim (Contains-push_cases xs f g h.0) [ inl a ↦ (stands.0 g).1 (a, h.1) | inr same ↦ absurd (not_right f e refused (subst IsRight (sym same) h.1)) ],
-  ),
-  still_none xs f stands.1 (λ g has right _. not_right f e refused right),
-)
-
-pub stands_none : StandsFor (Some []) []
-stands_none = (λ f. (λ h. absurd (omega (arith, h.1)), λ h. h.0), λ c. let h = c.has_one.0 in omega (arith, h.1))
+  -- one that is refused
+  pub stands_refused : (value : Option (List Fragment)) (e : IpDefragError) → StandsFor value xs → Refuses f e → StandsFor value (xs ++ f ∷ [])
+  stands_refused None e stands refused = more_conflict xs (xs ++ f ∷ []) (λ g _. Contains-append_left xs (f ∷ []) g) stands
+  stands_refused (Some kept) e stands refused = (
+    λ g. (
+      λ h. let (came, right) = (stands.0 g).0 h in (Contains-append_left xs (f ∷ []) g came, right),
+      λ h. elim (pushed g h) [ inl a ↦ (stands.0 g).1 a | inr same ↦ absurd (not_right e refused same.1) ],
+    ),
+    still_none stands.1 (λ g came right _. not_right e refused right),
+  )
 
 pub not_held : (xs : List Fragment) → HaveConflict xs → (datagram : List ℕ) → ¬ HoldDatagram xs datagram
 not_held xs c datagram h = conflict_cut h.right datagram c.one c.other h.cut ((h.are_right c.one).1 c.has_one) ((h.are_right c.other).1 c.has_other) c.conflict
 
 -- the ones that a datagram can have are the same in any list of them
-same_right : (xs one other : List Fragment) → AreRightOf xs one → AreRightOf xs other → (f : Fragment) → (Contains one f ↔ Contains other f)
+same_right : (xs one other : List Fragment) → AreRightOf xs one → AreRightOf xs other → HaveSame one other
 same_right xs one other a b f = (λ h. (b f).1 ((a f).0 h), λ h. (a f).1 ((b f).0 h))
 
 pub held_same : (xs ys : List Fragment) → HaveSameRight xs ys → (datagram : List ℕ) → HoldDatagram xs datagram → HoldDatagram ys datagram
@@ -93,25 +115,15 @@ held_same xs ys same datagram h = record {
 }
 
 pub conflict_same : (xs ys : List Fragment) → HaveSameRight xs ys → HaveConflict xs → HaveConflict ys
-conflict_same xs ys same c = record {
-  one = c.one;
-  other = c.other;
-  has_one = ((same c.one c.has_one.1).0 c.has_one.0, c.has_one.1);
-  has_other = ((same c.other c.has_other.1).0 c.has_other.0, c.has_other.1);
-  conflict = c.conflict;
-}
+conflict_same xs ys same = more_conflict xs ys (λ f right. (same f right).0)
 
 pub one_held : (xs : List Fragment) → (datagram other : List ℕ) → HoldDatagram xs datagram → HoldDatagram xs other → datagram ≡ other
 one_held xs datagram other a b = one_cut b.right datagram other (cut_same a.right b.right (same_right xs a.right b.right a.are_right b.are_right) datagram a.cut) b.cut
 
 -- what is kept is a whole datagram exactly if what came is
 pub whole_stands : (value : Option (List Fragment)) (xs : List Fragment) → StandsFor value xs → (datagram : List ℕ) → (IsWhole value datagram ↔ HoldDatagram xs datagram)
-whole_stands None xs stands datagram = (λ h. absurd h, λ h. not_held xs stands datagram h)
+whole_stands None xs stands datagram = (λ h. absurd h, not_held xs stands datagram)
 whole_stands (Some kept) xs stands datagram = (
   λ cut. record { right = kept; are_right = stands.0; cut = cut },
   λ h. cut_same h.right kept (same_right xs h.right kept h.are_right stands.0) datagram h.cut,
 )
-
-pub discarded_stands : (value : Option (List Fragment)) (xs : List Fragment) → StandsFor value xs → (value ≡ None) ↔ HaveConflict xs
-discarded_stands None xs stands = (λ _. stands, λ _. refl)
-discarded_stands (Some kept) xs stands = (λ e. absurd (cc), λ c. absurd (stands.1 c))

@@ -1,10 +1,5 @@
 pub mod Arrivals
-pub mod Cuts
 pub mod FirstHeaders
-pub mod Held
 pub mod Kept
-pub mod New
-pub mod Packets
-pub mod Units
+pub mod TableLaws
 pub mod Walked
-pub mod Whole

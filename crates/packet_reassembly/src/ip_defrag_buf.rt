@@ -60,7 +60,7 @@ impl<'a> IpDefragBuf<'a> {
     pub const UNITS: usize = 8192;
 
     /// A datagram of which nothing has come. What the memory has before makes no difference.
-    #[tactic(auto, using(crate::proofs::Held::held_none, crate::proofs::Units::table_none))]
+    #[tactic(auto, using(crate::proofs::TableLaws::held_none, crate::proofs::TableLaws::table_none))]
     pub fn new(bytes: &'a mut [u8], units: &'a mut [u8]) -> IpDefragBuf<'a>
         requires bytes { 65535 ≤ length bytes.old }
         requires units { 8192 ≤ length units.old }
@@ -173,7 +173,7 @@ impl<'a> IpDefragBuf<'a> {
     }
 
     /// The datagram, once each of its bytes has come.
-    #[tactic(auto, using(crate::proofs::Whole::whole_view, crate::proofs::Whole::not_whole_view))]
+    #[tactic(auto, using(crate::proofs::TableLaws::whole_view, crate::proofs::TableLaws::only_view, crate::proofs::TableLaws::not_whole_view))]
     pub fn datagram(&self) -> Option<&[u8]>
         ensures whole { IfSome result (λ datagram. IsWhole self.now datagram.now) }
         ensures not_yet { IfNone result ((datagram : List ℕ) → ¬ IsWhole self.now datagram) }
@@ -190,7 +190,7 @@ impl<'a> IpDefragBuf<'a> {
     }
 
     /// Forgets all that has come.
-    #[tactic(auto, using(crate::proofs::Held::held_none, crate::proofs::Units::table_none))]
+    #[tactic(auto, using(crate::proofs::TableLaws::held_none, crate::proofs::TableLaws::table_none))]
     pub fn clear(&mut self)
         ensures empty { self.new ≡ Some [] }
     {
@@ -222,8 +222,8 @@ pub(crate) fn range_of(
             payload_len,
         });
     }
-    let start = offset.byte_offset();
-    if payload_len > usize::from(u16::MAX - start) {
+    let start = usize::from(offset.byte_offset());
+    if payload_len > IpDefragBuf::MAX_LEN - start {
         return Err(IpDefragError::SegmentTooBig {
             offset,
             payload_len,
@@ -232,7 +232,7 @@ pub(crate) fn range_of(
     }
     Ok(IpFragRange {
         start,
-        end: start + payload_len as u16,
+        end: start + payload_len,
         more_fragments,
     })
 }

@@ -141,6 +141,7 @@ impl<'a, 'b> IpDefragPool<'a, 'b> {
 
     /// Takes the slot at an index from its datagram. What has come of that stays until another one
     /// takes the slot.
+    #[tactic(auto, using(crate::proofs::FirstHeaders::released_have))]
     pub fn release(&mut self, slot: usize)
         requires within { slot < length self.old.slots.now }
         ensures others { AreSameBut slot self.old.slots.now self.new.slots.now }
@@ -176,14 +177,7 @@ fn find(slots: &[IpDefragSlot], id: IpFragId) -> Option<usize>
     ensures found { IfSome result (λ k. Has slots.now k id) }
     ensures none { IfNone result ((k : ℕ) → ¬ Has slots.now k id) }
 {
-    let mut k = 0;
-    while k < slots.len() {
-        if has(&slots[k], id) {
-            return Some(k);
-        }
-        k += 1;
-    }
-    None
+    slots.iter().position(|slot| has(slot, id))
 }
 
 // The slot for a new datagram.

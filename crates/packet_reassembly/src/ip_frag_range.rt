@@ -4,9 +4,9 @@
 #[derive(Clone, Copy, Debug)]
 pub struct IpFragRange {
     /// The place of its first byte.
-    pub start: u16,
+    pub start: usize,
     /// The place after its last byte.
-    pub end: u16,
+    pub end: usize,
     /// Whether more fragments follow it.
     pub more_fragments: bool,
 }

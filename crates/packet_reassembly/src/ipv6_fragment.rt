@@ -33,6 +33,7 @@ pub struct Ipv6FragmentParts<'a> {
 /// # Errors
 ///
 /// A `LenError` if an extension header before that one is incomplete, with its place in `body`.
+#[tactic(auto, using(crate::proofs::Walked::walked_none))]
 pub fn ipv6_fragment_parts(
     body: &[u8],
     first: IpNumber,
@@ -43,13 +44,13 @@ pub fn ipv6_fragment_parts(
     ensures within { IfErr result (λ e. e.layer_start_offset ≤ length body.now) }
 {
     let mut number = first;
+    let mut rest = body;
     let mut last = 0;
     let mut at = 0;
     'headers: loop {
         if !Ipv6Header::is_skippable_header_extension(number) {
             return Ok(None);
         }
-        let rest = &body[at..];
         let (next, after) = match Ipv6Header::skip_header_extension_in_slice(rest, number) {
             Ok(skipped) => skipped,
             Err(e) => return Err(e.add_offset(at)),
@@ -67,6 +68,7 @@ pub fn ipv6_fragment_parts(
                 number = next;
                 last = at;
                 at = body.len() - after.len();
+                rest = after;
             }
         }
     }

@@ -45,6 +45,7 @@ pub fn reassemble<'a>(
 }
 
 // One fragment more.
+#[tactic(auto, using(crate::proofs::Arrivals::stands_more, crate::proofs::Arrivals::stands_refused))]
 fn add_or_pass(buf: &mut IpDefragBuf, offset: IpFragOffset, more_fragments: bool, payload: &[u8])
     ensures stands { (fragments : List F) → StandsFor buf.old fragments →
         StandsFor buf.new (fragments ++ fragment offset more_fragments payload.now ∷ []) }
@@ -57,6 +58,7 @@ fn add_or_pass(buf: &mut IpDefragBuf, offset: IpFragOffset, more_fragments: bool
 
 /// What datagram the fragments are depends on which of them came alone, and not on their order, nor
 /// on how often each came, nor on those that are refused.
+#[tactic(auto, using(crate::proofs::Arrivals::held_same, crate::proofs::Arrivals::conflict_same))]
 pub fn order_law()
     ensures whole { (xs ys : List F) → HaveSameRight xs ys → (datagram : List ℕ) →
         HoldDatagram xs datagram → HoldDatagram ys datagram }
@@ -70,6 +72,7 @@ pub fn one_law()
 {}
 
 /// They are none if two of them contradict each other.
+#[tactic(auto, using(crate::proofs::Arrivals::not_held))]
 pub fn conflict_law()
     ensures none { (xs : List F) → HaveConflict xs → (datagram : List ℕ) →
         ¬ HoldDatagram xs datagram }

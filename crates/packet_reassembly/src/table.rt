@@ -1,7 +1,7 @@
 //! The table of the fragments that have come: a byte for each 8 bytes of the datagram, a unit.
 
 ghost use Rattle.std.specs.Prelude.{ℕ, ◌≡◌, ◌*◌, ◌+◌, ◌-◌, ◌<◌, ◌≤◌, ◌%◌, ◌/◌, ◌≢◌, Some, length};
-ghost use Rattle.std.specs.Prelude.{◌↔◌, IsTrue, IsFalse, slice_index, slice_range, true, false};
+ghost use Rattle.std.specs.Prelude.{◌↔◌, ◌⊎◌, IsTrue, IsFalse, slice_index, slice_range, true, false};
 ghost use Rattle.packet_reassembly.specs.Fragment.{Takes};
 ghost use Rattle.packet_reassembly.specs.declared.table.Arrival.TheVariants.{New};
 ghost use Rattle.packet_reassembly.specs.Table.{AreKept, Arrives, Begins, Fits, HasCome, IsMarked};
@@ -68,8 +68,8 @@ pub fn mark(units: &mut [u8], range: IpFragRange) -> usize
     ensures marked { IsMarked units.old range units.new }
     ensures count { result ≡ units_at range }
 {
-    let first = usize::from(range.start) / 8;
-    let after = usize::from(range.end).div_ceil(8);
+    let first = range.start / 8;
+    let after = range.end.div_ceil(8);
     units[first..after].fill(GOES_ON);
     units[first] = BEGINS;
     after - first
@@ -82,8 +82,8 @@ fn begins_inside(units: &[u8], range: IpFragRange) -> bool
     ensures some { IsTrue result → (k : ℕ) × IsInside range k × Begins units.now k }
     ensures none { IsFalse result → (k : ℕ) → IsInside range k → ¬ Begins units.now k }
 {
-    let first = usize::from(range.start) / 8;
-    let after = usize::from(range.end).div_ceil(8);
+    let first = range.start / 8;
+    let after = range.end.div_ceil(8);
     units[first + 1..after].contains(&BEGINS)
 }
 
@@ -110,7 +110,7 @@ fn holds(bytes: &[u8], range: IpFragRange, payload: &[u8]) -> bool
     requires within { range.end ≤ length bytes.now }
     ensures same { IsTrue result ↔ (slice_range bytes.now range.start range.end ≡ payload.now) }
 {
-    &bytes[usize::from(range.start)..usize::from(range.end)] == payload
+    &bytes[range.start..range.end] == payload
 }
 
 // Whether a fragment has the range of the one that begins with the same unit.
@@ -120,14 +120,23 @@ fn is_range(units: &[u8], extent: Extent, range: IpFragRange) -> bool
     requires begins { Begins units.now (range.start / 8) }
     requires alone { (k : ℕ) → IsInside range k → ¬ Begins units.now k }
     requires before_end { extent.ended ≡ true → range.end ≤ extent.reach }
-    requires at_end { range.more_fragments ≡ false → extent.reach ≤ range.end }
     ensures same { IsTrue result ↔ (range_at units.now extent (range.start / 8) ≡ range) }
 {
-    let end = usize::from(range.end);
-    range.more_fragments == has_more(extent, end) && ends_before(units, end.div_ceil(8))
+    range.more_fragments == has_more(extent, range.end) && ends_before(units, range.end.div_ceil(8))
+}
+
+// Whether a fragment goes past the end of the datagram, or ends it before what has come.
+fn goes_past(extent: Extent, range: IpFragRange) -> bool
+    ensures past { IsTrue result → ((extent.ended ≡ true) × (extent.reach < range.end))
+        ⊎ ((range.more_fragments ≡ false) × (range.end < extent.reach)) }
+    ensures before_end { IsFalse result → extent.ended ≡ true → range.end ≤ extent.reach }
+    ensures at_end { IsFalse result → range.more_fragments ≡ false → extent.reach ≤ range.end }
+{
+    extent.ended && range.end > extent.reach || !range.more_fragments && range.end < extent.reach
 }
 
 /// How a fragment stands to those that have come, and how many entries of the table were read.
+#[tactic(auto, using(crate::proofs::TableLaws::conflict_past))]
 pub fn arrival_of(
     bytes: &[u8],
     units: &[u8],
@@ -141,15 +150,11 @@ pub fn arrival_of(
     ensures all { result.0 ≡ New → result.1 ≡ units_at range }
     ensures few { result.1 ≤ units_at range + 2 }
 {
-    let end = usize::from(range.end);
-    if extent.ended && end > extent.reach {
+    if goes_past(extent, range) {
         return (Arrival::Conflict, 0);
     }
-    if !range.more_fragments && end < extent.reach {
-        return (Arrival::Conflict, 0);
-    }
-    let first = usize::from(range.start) / 8;
-    let entries = end.div_ceil(8) - first;
+    let first = range.start / 8;
+    let entries = range.end.div_ceil(8) - first;
     if begins_inside(units, range) {
         return (Arrival::Conflict, entries - 1);
     }
@@ -184,11 +189,10 @@ pub fn keep(
         (Some (held bytes.new units.new result.0)) }
     ensures all { result.1 ≡ units_at range + 1 }
 {
-    let end = usize::from(range.end);
-    bytes[usize::from(range.start)..end].copy_from_slice(payload);
+    bytes[range.start..range.end].copy_from_slice(payload);
     let count = mark(units, range);
     let extent = Extent {
-        reach: extent.reach.max(end),
+        reach: extent.reach.max(range.end),
         ended: extent.ended | !range.more_fragments,
         units: extent.units + count,
     };

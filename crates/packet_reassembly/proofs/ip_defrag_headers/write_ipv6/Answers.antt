@@ -1,6 +1,6 @@
 use Rattle.std.proofs.Common.{◌≡◌, ◌++◌, Ok, refl, take}
-use Rattle.std.proofs.lemmas.Result.{IfErr-weaker, IfOk-weaker}
-use Rattle.packet_reassembly.proofs.Kept.{ipv6_first, ipv6_long, ipv6_with, parts_at, same_first, too_long}
+use Rattle.std.proofs.lemmas.Result.{IfErr-weaker, IfOk-at_ok, IfOk-weaker}
+use Rattle.packet_reassembly.proofs.Kept.{ipv6_first, ipv6_long, ipv6_with, parts_at, too_long}
 use Rattle.packet_reassembly.proofs.ip_defrag_headers.write_ipv6.Goals as goal
 
 pub unreachable-requires : goal.unreachable-requires
@@ -11,14 +11,14 @@ unreachable-requires c =
 pub write_ipv6_packet-requires-clause-headers : goal.write_ipv6_packet-requires-clause-headers
 write_ipv6_packet-requires-clause-headers c =
     let p = c.requires.headers in
-    let at = parts_at c.args.headers.now c.args.place p in
-    let same : c.in-Ok.first ≡ p.first = same_first p.first c.in-Ok.first (p.before ++ (p.last ++ p.are_headers.at)) c.in-Ok.field-0-1.now _ _ refl refl (c.in-Ok.ensures.reads.only (Ok (p.first, p.before ++ (p.last ++ p.are_headers.at))) (ipv6_first c.args.headers.now c.args.place p)) in
-    rw (same, at.before_is, at.last_is) p.are_headers.unfragmentable
+    let (is_before, is_last, is_number) = parts_at c.args.headers.now c.args.place p in
+    let same : c.in-Ok.first ≡ p.first = IfOk-at_ok (λ x. x.0 ≡ p.first) (c.in-Ok.ensures.reads.only (Ok (p.first, p.before ++ (p.last ++ p.are_headers.at))) (ipv6_first c.args.headers.now c.args.place p)) refl in
+    rw (same, is_before, is_last) p.are_headers.unfragmentable
 
 pub returns-clause-packet : goal.returns-clause-packet
 returns-clause-packet c =
     let p = c.requires.headers in
-    let same : c.in-Ok.first ≡ p.first = same_first p.first c.in-Ok.first (p.before ++ (p.last ++ p.are_headers.at)) c.in-Ok.field-0-1.now _ _ refl refl (c.in-Ok.ensures.reads.only (Ok (p.first, p.before ++ (p.last ++ p.are_headers.at))) (ipv6_first c.args.headers.now c.args.place p)) in
+    let same : c.in-Ok.first ≡ p.first = IfOk-at_ok (λ x. x.0 ≡ p.first) (c.in-Ok.ensures.reads.only (Ok (p.first, p.before ++ (p.last ++ p.are_headers.at))) (ipv6_first c.args.headers.now c.args.place p)) refl in
     IfOk-weaker c.write_ipv6_packet.result _ _ (λ len. ipv6_with c.args.headers.now c.args.datagram.now (take len c.write_ipv6_packet.new.out) c.args.place p c.in-Ok.first same) c.write_ipv6_packet.ensures.packet
 
 pub returns-clause-refused : goal.returns-clause-refused

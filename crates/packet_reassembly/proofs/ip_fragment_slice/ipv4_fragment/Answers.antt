@@ -1,24 +1,24 @@
-use Rattle.std.proofs.Common.{◌∙◌, inl, refl, subst, sym}
-use Rattle.etherparse.specs.Ipv4Header.{IsIpv4Layout}
+use Rattle.std.proofs.Common.{◌∙◌, inl, refl, sym}
 use Rattle.packet_reassembly.proofs.ip_fragment_slice.ipv4_fragment.Goals as goal
 
 pub returns-then-not-is_fragmenting_payload-clause-none : goal.returns-then-not-is_fragmenting_payload-clause-none
 returns-then-not-is_fragmenting_payload-clause-none c = λ packet header begins front.
-    let is_layout = subst (IsIpv4Layout header) front begins.layout in
+    let is_layout = rw front at begins.layout in
     inl (record { header = header; payload = c.args.payload.now; begins = begins; is_whole = λ f. let t = (c.is_fragmenting_payload.ensures.value header is_layout).1 f in let e = c.if-not-is_fragmenting_payload.true in cc })
 
 pub returns-clause-found : goal.returns-clause-found
 returns-clause-found c = λ packet header begins front.
-    let is_layout = subst (IsIpv4Layout header) front begins.layout in
-    let a = c.source.ensures.value header is_layout in
-    let b = c.destination.ensures.value header is_layout in
-    let d = c.result.view_is ∙ c.protocol.ensures.value header is_layout in
-    let e = c.identification.ensures.value header is_layout in
+    let is_layout = rw front at begins.layout in
     inl (record {
       header = header;
       begins = begins;
       is_fragment = (c.is_fragmenting_payload.ensures.value header is_layout).0 c.if-not-is_fragmenting_payload.false;
-      id = cc;
+      id = cc (
+        c.source.ensures.value header is_layout,
+        c.destination.ensures.value header is_layout,
+        c.result.view_is ∙ c.protocol.ensures.value header is_layout,
+        c.identification.ensures.value header is_layout,
+      );
       offset = c.fragments_offset.ensures.value header is_layout;
       more = c.more_fragments.ensures.value header is_layout;
       next = c.protocol-2.ensures.value header is_layout;

@@ -1,35 +1,31 @@
-use Rattle.std.proofs.Common.{ℕ, ◌++◌, ◌∙◌, IfSome, List, Option, ap, arith, inr, length, length-append, refl, subst, sym}
-use Rattle.etherparse.specs.Ipv6Header.{IsIpv6Layout}
+use Rattle.std.proofs.Common.{ℕ, ◌++◌, ◌∙◌, ap, arith, inr, length, length-append, refl, subst, sym}
 use Rattle.packet_reassembly.specs.Ipv6Fragment.{AreFragmentParts}
-use Rattle.packet_reassembly.specs.declared.ipv6_fragment.Ipv6FragmentParts.{Ipv6FragmentParts}
 use Rattle.packet_reassembly.proofs.Kept.{before_payload}
 use Rattle.packet_reassembly.proofs.ip_fragment_slice.ipv6_fragment.Goals as goal
 
 pub slice_bounds-result-count : goal.slice_bounds-result-count
 slice_bounds-result-count c =
-    let p : AreFragmentParts c.args.body.now c.next_header.result c.in-Ok-Some.parts = subst (λ (o : Option Ipv6FragmentParts). IfSome o (AreFragmentParts c.args.body.now c.next_header.result)) c.in-Ok-Some.field-0-is c.in-Ok-Some.ensures.found in
+    let p : AreFragmentParts c.args.body.now c.next_header.result c.in-Ok-Some.parts = rw c.in-Ok-Some.field-0-is at c.in-Ok-Some.ensures.found in
     omega (arith, c.requires.whole, ap length p.whole, ap length p.begins.whole, length-append {A = ℕ})
 
 pub returns-clause-found : goal.returns-clause-found
 returns-clause-found c = λ packet header begins front is_whole.
-    let is_layout = subst (IsIpv6Layout header) front begins.layout in
-    let a = c.source.ensures.value header is_layout in
-    let b = c.destination.ensures.value header is_layout in
+    let is_layout = rw front at begins.layout in
     let parts = c.in-Ok-Some.parts in
-    let p : AreFragmentParts c.args.body.now c.next_header.result parts = subst (λ (o : Option Ipv6FragmentParts). IfSome o (AreFragmentParts c.args.body.now c.next_header.result)) c.in-Ok-Some.field-0-is c.in-Ok-Some.ensures.found in
-    let q : AreFragmentParts c.args.body.now header.next_header parts = subst (λ (n : ℕ). AreFragmentParts c.args.body.now n parts) (c.next_header.ensures.value header is_layout) p in
+    let named : AreFragmentParts c.args.body.now c.next_header.result parts = rw c.in-Ok-Some.field-0-is at c.in-Ok-Some.ensures.found in
+    let p = subst (λ (n : ℕ). AreFragmentParts c.args.body.now n parts) (c.next_header.ensures.value header is_layout) named in
     inr (record {
       header = header;
       body = c.args.body.now;
       begins = begins;
       parts = parts;
-      are_parts = q;
-      id = cc;
+      are_parts = p;
+      id = cc (c.source.ensures.value header is_layout, c.destination.ensures.value header is_layout);
       offset = refl;
       more = refl;
       next = refl;
       payload = refl;
-      headers = before_payload begins.front parts.before.now parts.last.now q.begins.front parts.payload.now c.args.whole.now
-          (sym is_whole ∙ (begins.whole ∙ ap (λ (x : List ℕ). begins.front ++ x) (q.whole ∙ ap (λ (x : List ℕ). parts.before.now ++ (parts.last.now ++ x)) q.begins.whole)));
+      headers = before_payload begins.front parts.before.now parts.last.now p.begins.front parts.payload.now c.args.whole.now
+          (sym is_whole ∙ (begins.whole ∙ ap (λ x. begins.front ++ x) (p.whole ∙ ap (λ x. parts.before.now ++ (parts.last.now ++ x)) p.begins.whole)));
       last_extension = refl;
     })

@@ -1,10 +1,10 @@
-use Rattle.std.proofs.Common.{sym, subst}
-use Rattle.packet_reassembly.specs.Pool.{HaveFirstHeaders}
-use Rattle.packet_reassembly.proofs.FirstHeaders.{added_have, first_brings}
+use Rattle.std.proofs.Common.{arith}
+use Rattle.std.proofs.lemmas.Bool.Decides.{nat_tests}
+use Rattle.packet_reassembly.proofs.FirstHeaders.{added_have}
 use Rattle.packet_reassembly.proofs.ip_defrag_pool.IpDefragPool.add_packet.Goals as goal
 
 pub returns-in-Ok-clause-headers : goal.returns-in-Ok-clause-headers
-returns-in-Ok-clause-headers c = added_have _ _ _ _ _ _ _ _ c.in-Ok.ensures.added (first_brings c.in-Ok-Some.fragment _ c.first_of.ensures.headers)
+returns-in-Ok-clause-headers c = added_have c.in-Ok.ensures.added (λ front none. let is = c.first_of.ensures.headers in grind (arith, nat_tests))
 
 pub returns-in-Err-add_to-clause-headers : goal.returns-in-Err-add_to-clause-headers
-returns-in-Err-add_to-clause-headers c = λ have. subst HaveFirstHeaders (sym c.in-Err-add_to.ensures.unchanged) have
+returns-in-Err-add_to-clause-headers c = λ have. rw c.in-Err-add_to.ensures.unchanged have
