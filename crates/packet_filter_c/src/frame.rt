@@ -1,5 +1,8 @@
 //! Frames chosen by a filter.
 
+ghost use Rattle.std.specs.Prelude.{◌≡◌, false};
+ghost use Rattle.c_answers.specs.Batch.{AreAnswers};
+ghost use Rattle.packet_filter.specs.Frame.{Answers};
 ghost use Rattle.packet_filter.specs.Program.{expression_of};
 ghost use Rattle.packet_filter_c.specs.Matching.{AnswersEach, AnswersNumber};
 
@@ -40,10 +43,39 @@ pub(crate) fn choose_each(
     ensures answers { AnswersEach (expression_of filter.now) link_type frames.now
         answers.old answers.new result }
 {
+    match LinkType::from_number(link_type) {
+        Some(link_type) => choose_each_of(filter, link_type, frames, answers),
+        None => choose_none(frames, answers),
+    }
+}
+
+// The same of frames of a link type that is read.
+#[inline(always)]
+fn choose_each_of(
+    filter: &Filter,
+    link_type: LinkType,
+    frames: &[Frame],
+    answers: &mut [bool],
+) -> usize
+    ensures answers { AreAnswers (λ frame answer. Answers (expression_of filter.now) link_type
+        frame.bytes.now frame.original_len answer) frames.now answers.old answers.new result }
+{
     let count = frames.len().min(answers.len());
     for i in 0..count {
         let frame = frames[i];
-        answers[i] = chooses(filter, link_type, frame.bytes, frame.original_len);
+        answers[i] = filter.matches_frame(link_type, frame.bytes, frame.original_len);
+    }
+    count
+}
+
+// None of the frames of another.
+fn choose_none(frames: &[Frame], answers: &mut [bool]) -> usize
+    ensures answers { AreAnswers (λ frame answer. answer ≡ false)
+        frames.now answers.old answers.new result }
+{
+    let count = frames.len().min(answers.len());
+    for i in 0..count {
+        answers[i] = false;
     }
     count
 }

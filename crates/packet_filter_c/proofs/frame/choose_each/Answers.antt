@@ -1,15 +1,7 @@
-use Rattle.std.proofs.Common.{◌≡◌, arith}
-use Rattle.c_answers.proofs.Batch.{none, one_more}
 use Rattle.packet_filter_c.proofs.frame.choose_each.Goals as goal
 
-pub loop-i-init : goal.loop-i-init
-loop-i-init c = none c.args.frames.now c.args.answers.now
+pub returns-in-Some : goal.returns-in-Some
+returns-in-Some c = record { answers = rw (← c.in-Some.ensures.value) c.choose_each_of.ensures.answers }
 
-pub loop-i-preserved : goal.loop-i-preserved
-loop-i-preserved c = one_more c.args.frames.now c.args.answers.now c.loop-i.answers c.loop-i.i _ c.chooses.result c.loop-i.invariant
-    (omega (arith, c.loop-i-test.true, c.min-count.ensures)) (omega (arith, c.loop-i-test.true, c.min-count.ensures, c.loop-i.auto.answers)) c.chooses.ensures.answers
-
-pub returns : goal.returns
-returns c =
-    let all : c.loop-i.i ≡ c.min-count.result = omega (arith, c.loop-i-test.false, c.loop-i.auto.i-end) in
-    record { answers = record { as_many = c.min-count.ensures; answers = rw all at c.loop-i.invariant } }
+pub returns-in-None : goal.returns-in-None
+returns-in-None c = record { answers = rw (← c.in-None.ensures.value) c.choose_none.ensures.answers }
