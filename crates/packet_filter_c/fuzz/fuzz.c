@@ -289,14 +289,16 @@ int main(int count, char **numbers)
         at = 0;
         expression(3);
         struct bpf_program program;
-        if (pcap_compile(dead, &program, text, (int)below(2), PCAP_NETMASK_UNKNOWN)) expect(false, pcap_geterr(dead));
+        /* The optimiser of libpcap refuses an expression that it finds true of no packet. */
+        bool none = pcap_compile(dead, &program, text, (int)below(2), PCAP_NETMASK_UNKNOWN) != 0;
+        if (none) expect(strstr(pcap_geterr(dead), "rejects all packets") != NULL, pcap_geterr(dead));
         if (compiled(text_end, &filter, &refusal)) {
             answers[FRAMES] = turn % 2;
             size_t done = etherparse_filter_matches_batch(&filter, 1, frames, FRAMES, answers, FRAMES + turn % 2);
             expect(done == FRAMES && answers[FRAMES] == (turn % 2 == 1), "how many answers");
             expect(refusal.kind == 0 && refusal.place == 0 && refusal.expected == 0 && refusal.found == 0, "a refusal");
             for (size_t i = 0; i < FRAMES; i++) {
-                bool peer = bpf_filter(program.bf_insns, frames[i].at, (u_int)frames[i].original_len, (u_int)frames[i].len) != 0;
+                bool peer = !none && bpf_filter(program.bf_insns, frames[i].at, (u_int)frames[i].original_len, (u_int)frames[i].len) != 0;
                 expect(answers[i] == peer, "a frame is chosen by one alone");
                 expect(answers[i] == etherparse_filter_matches(&filter, 1, frames[i].at, frames[i].len, frames[i].original_len), "one frame");
                 chosen += peer;
@@ -305,7 +307,7 @@ int main(int count, char **numbers)
         } else {
             expect(refusal.kind == ETHERPARSE_FILTER_TOO_LONG, "a refusal");
         }
-        pcap_freecode(&program);
+        if (!none) pcap_freecode(&program);
 
         at = 0;
         text[0] = 0;
@@ -322,6 +324,7 @@ int main(int count, char **numbers)
             for (size_t i = 0; i < FRAMES; i++) expect(!etherparse_filter_matches(&filter, 1, frames[i].at, frames[i].len, frames[i].len), "a choice");
         }
     }
+    pcap_close(dead);
     printf("%zu expressions, each for %d frames: all answers are libpcap's, of which %zu are yes. Of %zu other texts %zu were read.\n", asked, FRAMES,
         chosen, turns, read);
     return 0;

@@ -1,5 +1,5 @@
 -- A filter that chooses nothing, and then the filter of a text in its place.
-use Rattle.std.proofs.Common.{◌≡◌, ℕ, Bool, List, subst, sym}
+use Rattle.std.proofs.Common.{ℕ, Bool, List, subst, sym}
 use Rattle.packet_filter.specs.declared.filter.Step.{Step}
 use Rattle.packet_filter_c.specs.Reading.{ChoosesNothing, GivesFilter, PutsFilter}
 use Rattle.packet_filter_c.specs.declared.refusal.FilterRefusal.{FilterRefusal}

@@ -1,5 +1,5 @@
 -- A filter is lent for the call of `choose_each`, and comes back.
-use Rattle.packet_filter_c.proofs.Steps.{◌≡◌, ℕ, ◌≤◌, ◌<◌, ◌++◌, List, [], ◌∷◌, length, refl, ap, w32, w64, Bor, proved, full_share, id⊢, Lft, Incl-refl, ftrue, flft, flent, named, Val, vint, vptr, Bool, IsTrue, fact, tables, WpFn, ‵, raw, ◌⊛◌, some, later, prop, ◌$◌, ◌∵◌, !, qed, done, move, keep, drop, use1, use2, split, join, fjoin, fsplit, feq_i, feq_l, pick, await, regoal, suffices, frame, group, enter, of_opd, addr, stop, no_more, and_then, returns, alloc_all, pass_all, free_all, look_at, get, through, sets, lands_as, lft_new, lft_end, lent_back, u8, u32, usize, bool, SliceRefOf, yes, shows, lends_shr, part_at, uint_vals, uint_Tells, Ptr, RawPtr, block_ptr, ptr_val, lies_at, in_a_block, rawptr_vals, rawptr_Tells, ShrRef, plain, ShrSlice, slice_val, shr_slice_vals, shr_slice_Tells, nothing, heard, only, peeks, calls_at, lasts, on_entry, triple_of, framed, Stays, walk_of, says, stay_dropped, Goes-dropped, ends_at}
+use Rattle.packet_filter_c.proofs.Steps.{ℕ, List, [], ◌∷◌, length, refl, w32, w64, proved, full_share, id⊢, Lft, Incl-refl, ftrue, flft, flent, named, Val, vint, vptr, Bool, fact, tables, WpFn, ‵, raw, ◌⊛◌, some, later, prop, ◌$◌, ◌∵◌, !, qed, done, move, drop, use1, use2, split, join, fsplit, feq_l, pick, await, regoal, suffices, frame, group, enter, of_opd, addr, stop, no_more, and_then, returns, alloc_all, pass_all, free_all, look_at, get, through, sets, lands_as, lft_new, lft_end, lent_back, u32, usize, bool, SliceRefOf, yes, shows, lends_shr, part_at, uint_vals, uint_Tells, Ptr, RawPtr, block_ptr, ptr_val, lies_at, in_a_block, rawptr_vals, rawptr_Tells, ShrRef, plain, ShrSlice, slice_val, shr_slice_vals, shr_slice_Tells, nothing, heard, peeks, calls_at, lasts, triple_of, framed, Stays, walk_of, says, stay_dropped, Goes-dropped, ends_at}
 use contract.BorrowLft.{⊑_static}
 use denote.Laws.{Is}
 use denote.Plain.{uint_Lawful}
