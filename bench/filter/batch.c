@@ -1,6 +1,6 @@
 /* batch time|bpf|batch|each EXPRESSION.. < FRAMES: asks filters about Ethernet frames, each after its length in four bytes, by libpcap's
    bpf_filter, and by the library for C in one call for all frames and frame by frame. `time` prints for each expression the least of all
-   rounds for one frame, in nanoseconds, and the ratios; the other words are for a program that counts instructions. */
+   rounds for one frame, in nanoseconds, and the median of the rounds' ratios; the other words are for a program that counts instructions. */
 #define _DEFAULT_SOURCE
 #include "etherparse_filter.h"
 
@@ -61,23 +61,32 @@ static size_t chosen(void) {
   return count;
 }
 
+static int ascending(const void *a, const void *b) {
+  double x = *(const double *)a, y = *(const double *)b;
+  return (x > y) - (x < y);
+}
+
 static void time_all(struct bpf_program *program, struct etherparse_filter *filter) {
+  static double ratios[3][ROUNDS];
   double least[3] = { 1e18, 1e18, 1e18 };
   for (int round = 0; round < ROUNDS; round++) {
+    double took[3];
     size_t counts[3];
     for (int way = 0; way < 3; way++) {
       double from = now();
       if (way == 0) by_peer(program);
       if (way == 1) in_batches(filter);
       if (way == 2) one_by_one(filter);
-      double took = (now() - from) / (FRAMES * TURNS);
-      if (took < least[way]) least[way] = took;
+      took[way] = (now() - from) / (FRAMES * TURNS);
+      if (took[way] < least[way]) least[way] = took[way];
+      ratios[way][round] = took[way] / took[0];
       counts[way] = chosen();
     }
     if (counts[0] != counts[1] || counts[0] != counts[2]) abort();
   }
-  printf("bpf_filter %.1f ns, in one call %.1f ns (%.2f), frame by frame %.1f ns (%.2f)\n", least[0], least[1], least[1] / least[0], least[2],
-         least[2] / least[0]);
+  for (int way = 1; way < 3; way++) qsort(ratios[way], ROUNDS, sizeof(double), ascending);
+  printf("bpf_filter %.1f ns, in one call %.1f ns (%.2f), frame by frame %.1f ns (%.2f)\n", least[0], least[1], ratios[1][ROUNDS / 2], least[2],
+         ratios[2][ROUNDS / 2]);
 }
 
 int main(int count, char **words) {

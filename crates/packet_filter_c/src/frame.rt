@@ -19,21 +19,25 @@ pub struct Frame<'a> {
     pub original_len: usize,
 }
 
-/// Whether a filter chooses a frame of the link type with this number.
+/// Whether a filter chooses a frame of the link type with this number: it is a list of one. So the
+/// code that takes a frame apart stands in the loop over a list, and nowhere else.
 #[inline(always)]
 pub(crate) fn chooses(filter: &Filter, link_type: u32, frame: &[u8], original_len: usize) -> bool
     ensures answers { AnswersNumber (expression_of filter.now) link_type frame.now original_len
         result }
 {
-    match LinkType::from_number(link_type) {
-        Some(link_type) => filter.matches_frame(link_type, frame, original_len),
-        None => false,
-    }
+    let frames = [Frame {
+        bytes: frame,
+        original_len,
+    }];
+    let mut answers = [false];
+    choose_each(filter, link_type, &frames, &mut answers);
+    answers[0]
 }
 
 /// The same of each frame of a list, at its place in a list of answers. It returns how many there
 /// are, which is the length of the shorter list; answers after them stay as they are.
-#[inline(always)]
+#[inline(never)]
 pub(crate) fn choose_each(
     filter: &Filter,
     link_type: u32,
