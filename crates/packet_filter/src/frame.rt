@@ -34,7 +34,6 @@ impl Filter {
     /// // A frame that ends within its link header.
     /// assert!(rt; filter.matches_frame(LinkType::Ethernet2, &frame[..13], 13));
     /// ```
-    #[inline(always)] // A loop over frames then keeps in registers what they have in common.
     pub fn matches_frame(&self, link_type: LinkType, frame: &[u8], len: usize) -> bool
         ensures value { Answers (expression_of self.now) link_type frame.now len result }
     {
