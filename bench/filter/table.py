@@ -87,4 +87,5 @@ def instructions(command, function, frames):
     sys.exit("valgrind counted nothing")
 
 
-main()
+if __name__ == "__main__":
+    main()

@@ -73,11 +73,12 @@ pub enum Expected {
     Bits,
 }
 
-impl fmt::Display for Expected {
-    ghost output = { λ expected. Some (expected_text expected) };
-
-    fn fmt<W: fmt::Write>(&self, f: &mut fmt::Formatter<W>) -> fmt::Result {
-        f.write_str(match self {
+impl Expected {
+    /// Its text: words that can stand at the place.
+    pub fn as_str(&self) -> &'static str
+        ensures text { result.now ≡ expected_text self.now }
+    {
+        match self {
             Expected::Operand => "`not`, `(` or a primitive, such as `tcp` or `host`",
             Expected::Operator {
                 before: None,
@@ -135,7 +136,15 @@ impl fmt::Display for Expected {
             Expected::Relation => "a relation, such as `=`, `!=` or `<`",
             Expected::Number => "a number, such as `64`",
             Expected::Bits => "`|` or `)`",
-        })
+        }
+    }
+}
+
+impl fmt::Display for Expected {
+    ghost output = { λ expected. Some (expected_text expected) };
+
+    fn fmt<W: fmt::Write>(&self, f: &mut fmt::Formatter<W>) -> fmt::Result {
+        f.write_str(self.as_str())
     }
 }
 

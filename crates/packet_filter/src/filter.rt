@@ -1,11 +1,12 @@
 //! Filters: expressions in postfix form, and their evaluation.
 
-ghost use Rattle.std.specs.Prelude.{◌≡◌, ◌↔◌, IfSome, IsTrue};
+ghost use Rattle.std.specs.Prelude.{ℕ, ◌≡◌, ◌↔◌, IfSome, IsTrue};
+ghost use Rattle.packet.specs.declared.lax_sliced_packet.LaxSlicedPacket.{LaxSlicedPacket as Lax};
 ghost use Rattle.packet_filter.specs.Private.Jumps.{decisions_of};
 ghost use Rattle.packet_filter.specs.Meaning.{Matches};
 ghost use Rattle.packet_filter.specs.Program.{Computes, expression_of};
 
-use crate::expression::{Operator, Primitive};
+use crate::expression::{Operator, Primitive, Quantity, Relation};
 use crate::jumps::{Decision, decisions_of};
 use arrayvec::ArrayVec;
 use packet::lax_sliced_packet::LaxSlicedPacket;
@@ -53,6 +54,15 @@ impl Filter {
     {
         let decisions = decisions_of(steps.as_slice());
         Filter { steps, decisions }
+    }
+
+    /// The filter that chooses no packet: `len < 0`.
+    pub fn nothing() -> Filter
+        ensures none { (lax : Lax) (len : ℕ) → ¬ Matches (expression_of result) lax len }
+    {
+        let mut steps = ArrayVec::new();
+        steps.push(Step::Test(Primitive::Compare(Quantity::Length, None, Relation::Less, 0)));
+        Filter::of_steps(steps)
     }
 
     /// Whether the expression says something true of a packet. `len` is the length of its frame on

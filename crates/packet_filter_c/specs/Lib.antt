@@ -1,0 +1,3 @@
+pub mod Matching
+pub mod Reading
+pub mod Refusal
