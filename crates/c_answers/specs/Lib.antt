@@ -1,0 +1,2 @@
+pub mod Batch
+pub mod Text
