@@ -86,7 +86,7 @@ class Contract(NamedTuple):
 ITEM = re.compile(
     r'^impl(?:<.*?>)? (?:(?:\w+::)*(?P<trait>\w+)(?:<.*?>)? for )?(?:\w+::)*(?P<impl>\w+)'
     r'|^(?:pub )?(?:struct|trait) (?P<struct>\w+)|^(?P<end>\})'
-    r'|^ *(?P<pub>pub |)(?:pub\(\w+\) )?(?:const |extern "C" )?fn (?P<function>\w+)'
+    r'|^ *(?P<pub>pub |)(?:pub\(\w+\) )?(?:const |(?:unsafe )?extern "C" )?fn (?P<function>\w+)'
     r'|^ *(?:ensures|requires)\*? (?P<clause>\w+) \{'
     r'|^ *(?:pub )?ghost (?P<ghost>\w+)(?: =|:) \{', re.M)
 

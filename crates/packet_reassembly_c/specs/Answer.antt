@@ -1,5 +1,5 @@
 -- What C gets for an answer of the library.
-use Rattle.std.specs.Prelude.{ℕ, ◌≡◌, ◌≤◌, ◌<◌, ◌⊎◌, ◌++◌, List, Option, drop, length, nat_le}
+use Rattle.std.specs.Prelude.{ℕ, ◌≡◌, ◌⊎◌, ◌++◌, List, Option, drop, length, nat_le}
 use Rattle.std.specs.Prelude.{if◌then◌else◌}
 use Rattle.packet_reassembly.specs.Fragment.{Fragment, IsRight, Takes}
 use Rattle.packet_reassembly.specs.Pool.{IsState}

@@ -1,43 +1,7 @@
 -- `etherparse_defrag_slot_new` meets its contract: a walk of its MIR, by hand.
-use Rattle.std.proofs.Common.{◌≡◌, ℕ, ◌*◌, ◌^◌, ◌<◌, ◌≤◌, ◌++◌, List, [], ◌∷◌, length, refl, sym, ap, subst, arith, w64, MutBor}
-use Rattle.std.proofs.raw_atomic.Walks.{proved}
-use base.Fraction.{full_share}
-use base.Logic.{emp, ent, sep, id⊢}
-use base.Fml.{Fml, GName, ftrue, feq, fsep, fat, froom, flent, fauth}
-use mir.Syntax.{static}
-use mir.Raw.{raw as bare}
-use denote.RattleType.{RattleType}
+use Rattle.packet_reassembly_c.proofs.Steps.{◌≡◌, ℕ, ◌*◌, ◌^◌, ◌<◌, ◌≤◌, ◌++◌, List, [], ◌∷◌, length, refl, sym, subst, arith, w64, MutBor, proved, full_share, emp, id⊢, GName, ftrue, feq, fsep, fat, flent, static, bare, RattleType, vunit, vint, fact, fact_i, tables, WpFn, Goal, ‵, raw, prop, ◌⊛◌, some, later, ◌$◌, ◌∵◌, !, qed, done, move, drop, use0, use1, use2, split, join, pick, await, fsplit, feq_i, feq_l, rewrite, regoal, suffices, group, agg, enter, of_opd, unit_lit, stop, and_then, no_more, assigns, init, returns, cells, alloc_all, pass_all, free_all, look_at, get, through, sets, lands_as, Array, Array-apart, u8, usize, yes, row, whole_in, Held, lends_slice, mem, lone, uint_vals, uint_Tells, Ptr, RawPtr, block_ptr, lies_at, in_a_block, rawptr_vals, rawptr_Tells, plain, MutSlice, slice_val, nothing, heard, peeks, shows, part_in, calls_at, lasts, on_entry, triple_of, framed, Stays, stay_dropped, Goes-dropped, walk_of, ends_at}
 use Rattle.packet_reassembly.specs.contracts.ip_defrag_pool.IpDefragSlot.{the_row}
-use mir.Val.{Val, vunit, vint}
-use contract.Monad.{fact, fact_i}
-use contract.Running.{tables}
-use prog.Wp.{WpFn}
-use types.Kit.{Goal, ‵, raw, prop, ◌⊛◌, some, later, ◌$◌, ◌∵◌, !, qed, done, move, keep, drop, use0, use1, use2, split, join, pick, await, fsplit, fjoin, feq_i, feq_l, rewrite, regoal, suffices, frame, group}
-use types.Part.{agg}
-use types.Run.{enter, of_opd, unit_lit, stop, and_then, no_more, assigns, init, returns}
-use types.SemTy.{cells}
-use types.ByLocal.{alloc_all, pass_all, free_all, look_at, get, through, sets, lands_as}
-use denote.Array.{Array}
-use denote.ArrayMemory.{Array-apart}
-use denote.Builtin.{u8, usize}
-use denote.Exit.{yes}
-use denote.Index.{row, whole_in}
-use denote.Lend.{Held, lends_slice}
-use denote.Memory.{part_at, mem, lone}
-use denote.Plain.{uint_vals, uint_Tells}
-use denote.RawPtr.{Ptr, RawPtr, block_ptr, lies_at, in_a_block, rawptr_vals, rawptr_Tells}
-use denote.Signature.{plain}
-use denote.Slice.{MutSlice, slice_val}
-use denote.Steps.{nothing, heard, peeks}
-use denote.Laws.{shows}
-use borrow.Table.OneValue.{part_in}
 use Rattle.packet_reassembly.proofs.ip_defrag_pool.IpDefragSlot.TheLaws.{the_row_laws}
-use denote.Triple.Call.{calls_at}
-use denote.Triple.Clauses.{lasts}
-use denote.Triple.Entry.{on_entry}
-use denote.Triple.Spec.{triple_of}
-use denote.Triple.Table.{framed}
-use denote.Triple.Walked.{Stays, stay_dropped, Goes-dropped, walk_of, ends_at}
 use Rattle.packet_reassembly_c.specs.Memory.{HasRoomForSlot, any_lifetime, for_good, slot_row as T}
 use Rattle.packet_reassembly_c.specs.contracts.memory.etherparse_defrag_slot_new as f
 use Rattle.packet_reassembly_c.proofs.memory.etherparse_defrag_slot_new.Statement.{statement}

@@ -1,31 +1,6 @@
 -- `get` meets its contract: a walk of its MIR, by hand.
-use Rattle.std.proofs.Common.{◌≡◌, ℕ, List, [], ◌∷◌, refl, sym, ap, ◌∙◌}
-use Rattle.std.proofs.raw_atomic.Walks.{proved}
-use Rattle.std.proofs.VecSteps.Shapes.{after}
-use base.Fraction.{full_share}
-use base.Logic.{ent, sep, id⊢}
-use base.Fml.{Fml, GName, ftrue, fsep, flft}
-use mir.Syntax.{named}
-use mir.Val.{Val, vptr}
-use contract.Running.{tables}
-use seplogic.Ra.Ura.{Ura}
-use types.Logic.{Logic, sem}
-use types.Kit.{‵, raw, ◌⊛◌, some, later, at_ret, ◌$◌, ◌∵◌, !, qed, done, move, keep, use1, split, split3, join, pick, await, fsplit, fsplit3, fjoin, fpack, rewrite, suffices, frame, group}
-use types.Part.{whole, sub, look_in}
-use types.Run.{enter, of_opd, addr, load, stop, fld, first, blocks, exec, returns}
-use types.ByLocal.{alloc_all, pass_all, free_all, look_at, get, through, sets, sets_last, env}
-use denote.Exit.{no}
-use denote.Laws.{shows}
-use denote.Memory.{cell_at, mem, part_at, part_of}
-use denote.RattleType.{RattleType}
-use denote.RawPtr.{Ptr, block_ptr, lies_at, in_a_block}
-use denote.Ref.{MutRef, MutBor, mut_vals, mut_Tells}
-use denote.Signature.{plain, mut_ref_to}
-use denote.Steps.{nothing, opens, peeks}
-use denote.Struct.Owning.{shape, to}
-use denote.Struct.Struct.{Struct}
-use denote.Follow.{follows, Part, lends_Part}
-use denote.Triple.Walked.{says, Stays, stay_dropped, Goes-spent_ref, walk_of, ends_at}
+use denote.Memory.{part_of}
+use Rattle.packet_reassembly_c.proofs.Steps.{◌≡◌, ℕ, List, [], ◌∷◌, refl, sym, ap, ◌∙◌, proved, after, full_share, ent, sep, id⊢, Fml, GName, ftrue, fsep, flft, named, Val, vptr, tables, Ura, Logic, sem, ‵, raw, ◌⊛◌, some, later, at_ret, ◌$◌, ◌∵◌, !, qed, done, move, keep, use1, split, split3, join, pick, await, fsplit, fsplit3, fjoin, fpack, rewrite, suffices, frame, group, whole, sub, look_in, enter, of_opd, addr, load, stop, fld, first, blocks, exec, returns, alloc_all, pass_all, free_all, look_at, get, through, sets, sets_last, env, no, shows, cell_at, mem, part_at, Ptr, block_ptr, lies_at, in_a_block, MutRef, MutBor, mut_vals, mut_Tells, plain, mut_ref_to, nothing, opens, peeks, shape, to, Struct, follows, Part, lends_Part, says, Stays, stay_dropped, Goes-spent_ref, walk_of, ends_at}
 use Rattle.packet_reassembly_c.specs.Memory.{buf_row as T}
 use Rattle.packet_reassembly_c.specs.LendsBuf.{with_fragments as with_value}
 use Rattle.packet_reassembly_c.specs.contracts.defrag_buf.DefragBuf.get as f
@@ -39,10 +14,12 @@ abbrev stayed : Stays f.ended.signature.params f.ended.kept
 stayed = (stay_dropped (mut_ref_to (0 ∷ []) tt (plain (λ _. R))) no, tt)
 
 -- what the fields own
+
 abbrev OfFields : Held → List Val → Fml
 OfFields h us = (Struct (shape the_type)).own_val (to the_type h) us
 
 -- all but the value
+
 abbrev Rest : Held → List Val → ℕ → ℕ → Fml
 Rest h us b o = fsep (OfFields h us) (cell_at full_share R.mir us b o)
 
