@@ -1,5 +1,4 @@
--- The values of the library in memory of the caller. That memory is lent for good: the caller has it
--- back once it calls no more with what is made of it.
+-- The values of the library in memory of the caller, which is lent for good.
 use Rattle.std.specs.Prelude.{List, [], Option, Some}
 use base.Fml.{Fml}
 use denote.RattleType.{RattleType}
@@ -15,7 +14,7 @@ use Rattle.packet_reassembly_c.specs.contracts.slots.Slots as slots
 abbrev pub for_good : NamedLft
 for_good = record { mir = static; lft = [] }
 
--- one that the room for a value does not depend on
+-- any lifetime: the room for a value does not depend on it
 abbrev pub any_lifetime : NamedLft
 any_lifetime = record { mir = erased; lft = [] }
 

@@ -1,7 +1,6 @@
 //! One datagram.
 
-ghost use Rattle.std.specs.Prelude.{ℕ, ◌≡◌, ◌≤◌, ◌<◌, List, [], Some, drop, length, take};
-ghost use Rattle.std.specs.Prelude.{Option};
+ghost use Rattle.std.specs.Prelude.{ℕ, ◌≡◌, ◌≤◌, ◌<◌, List, [], Option, Some};
 ghost use Rattle.packet_reassembly.specs.Fragment.{Fragment, IsWhole, fragment};
 ghost use Rattle.packet_reassembly_c.specs.Answer.{AddsInC, IsStateInC, IsWrittenOut};
 ghost use Rattle.packet_reassembly_c.specs.Error.{offset_error};

@@ -1,6 +1,6 @@
 //! Many datagrams at once.
 
-ghost use Rattle.std.specs.Prelude.{ℕ, ◌≡◌, ◌≤◌, ◌<◌, ◌++◌, None, length, replicate};
+ghost use Rattle.std.specs.Prelude.{◌≡◌, ◌≤◌, ◌<◌, ◌++◌, None, length, replicate};
 ghost use Rattle.packet_reassembly.specs.Pool.{AreSameBut, HaveFirstHeaders, slot_at};
 ghost use Rattle.packet_reassembly_c.specs.Slots.{Slots};
 ghost use Rattle.packet_reassembly_c.specs.Added.{AddsPacketInC, WritesPacketInC, added_in_c};

@@ -10,7 +10,7 @@ use Rattle.packet_reassembly_c.specs.contracts.memory.buf_over as g
 use Rattle.packet_reassembly_c.proofs.memory.buf_over.Met.{met}
 
 abbrev room_row : RattleType
-room_row = the_row (any_lifetime)
+room_row = the_row any_lifetime
 
 abbrev stayed : Stays f.ended.signature.params f.ended.kept
 stayed = (stay_dropped _ yes, (stay_dropped _ yes, (stay_dropped _ yes, tt)))
