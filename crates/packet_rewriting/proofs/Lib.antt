@@ -1,0 +1,4 @@
+mod ChecksumWords
+mod KeptRight
+mod Readdressed
+mod RightChecksums
