@@ -14,8 +14,8 @@ pub overwritten : (place : ℕ) (part bytes : List ℕ) → place + length part 
 overwritten place [] bytes within = sym (take-append-drop place bytes)
 overwritten place (b ∷ part) bytes within =
     let rest : drop (length part) (drop (place + 1) (slice_set bytes place b)) ≡ drop (suc (length part)) (drop place bytes) =
-        ap (drop (length part)) (drop-set-lt (place + 1) bytes place b (omega arith)) ∙ drop-drop (length part) (place + 1) bytes
-        ∙ ap (λ n. drop n bytes) (omega arith) ∙ sym (drop-drop (suc (length part)) place bytes) in
+    ap (drop (length part)) (drop-set-lt (place + 1) bytes place b (omega arith)) ∙ drop-drop (length part) (place + 1) bytes
+    ∙ ap (λ n. drop n bytes) (omega arith) ∙ sym (drop-drop (suc (length part)) place bytes) in
     overwritten (place + 1) part (slice_set bytes place b) (omega (arith, within, length-set bytes place b))
     ∙ rw (take_more_set bytes place b (omega arith), rest) (append_assoc (take place bytes) (b ∷ []) (part ++ drop (suc (length part)) (drop place bytes)))
 
@@ -101,8 +101,12 @@ completed number front covered checksum even within value =
     let known = complements (number == 17) (network_order_word_sum zeros) in
     let fits : checksum < 65536 = rw value known.0 in
     let words : network_order_word_sum (front ++ with_checksum number checksum covered) ≡ network_order_word_sum zeros + checksum =
-        omega (arith, network_order_word_sum-append front (with_checksum number checksum covered) even, with_checksum-words number checksum covered fits within,
-        network_order_word_sum-append front (with_checksum number 0 covered) even) in
+    omega (
+      arith,
+      network_order_word_sum-append front (with_checksum number checksum covered) even,
+      with_checksum-words number checksum covered fits within,
+      network_order_word_sum-append front (with_checksum number 0 covered) even,
+    ) in
     (fits, rw (words, value) known.1, λ is. rw value (known.2 (grind (arith, nat_tests, is))))
 
 -- whole pieces, with or without a pseudo-header

@@ -1,9 +1,9 @@
 -- A checksum of an upper layer that was right is right after an update.
 use Rattle.std.proofs.Common.{ℕ, Bool, true, false, ◌≡◌, ◌≢◌, ◌<◌, ◌≤◌, ◌+◌, ◌-◌, ◌*◌, ◌%◌, ◌∙◌, ◌==◌, ◌⊎◌, List, [], ◌∷◌, ◌++◌, ap, append-nil, arith, if◌then◌else◌, inl, inr, length, refl, sym, subst, take, suc, zero, sum_by, w16}
-use Rattle.std.specs.Int.{to_be_bytes}
+use Rattle.std.specs.Int.{from_be_bytes, to_be_bytes}
 use Rattle.std.proofs.lemmas.Bool.Decides.{nat_tests}
 use Rattle.etherparse.proofs.WordSumLaws.{adds_slices, network_order_word_sum-append}
-use Rattle.etherparse.specs.WordSums.{SumsToAllOnes, UpdatesChecksum, UpdatesChecksumWithNoZero, checksum_of, folded_sum, little_endian_word_sum, network_order_word_sum, ones_complement_sum, updated_checksum_of_words, with_no_zero}
+use Rattle.etherparse.specs.WordSums.{SumsToAllOnes, UpdatesChecksum, UpdatesChecksumWithNoZero, checksum_of, folded_sum, little_endian_word_sum, network_order_word_sum, ones_complement_sum, updated_checksum, updated_checksum_of_words, with_no_zero}
 use Rattle.packet_parts.specs.Checksum.{Covers, IsRightIpv4, IsVerdictIpv4, IsWithoutChecksum, ipv4_pseudo_header, udp_checksum, udp_length}
 use Rattle.packet_parts.specs.declared.checksum.Verdict.TheVariants.{Right}
 use Rattle.std.proofs.lemmas.List.{get_or-take}
@@ -41,9 +41,9 @@ kept_in number answer front next covered old new rest even even_next words next_
     let zeros = network_order_word_sum (with_checksum number 0 covered) in
     let checksum = checksum_field number covered in
     let whole : network_order_word_sum (front ++ covered) ≡ old + (rest + zeros) + checksum =
-        omega (arith, words, network_order_word_sum-append front covered even, stored-words number covered enough) in
+    omega (arith, words, network_order_word_sum-append front covered even, stored-words number covered enough) in
     let after : network_order_word_sum (next ++ with_checksum number answer covered) ≡ new + (rest + zeros) + answer =
-        omega (arith, next_words, network_order_word_sum-append next (with_checksum number answer covered) even_next, with_checksum-words number answer covered fits enough) in
+    omega (arith, next_words, network_order_word_sum-append next (with_checksum number answer covered) even_next, with_checksum-words number answer covered fits enough) in
     ap folded_sum after ∙ kept number checksum answer old new (rest + zeros) updates there (omega (arith, some)) (sym (ap folded_sum whole) ∙ ones)
 
 -- whole pieces are summed as one
@@ -82,9 +82,9 @@ right_ipv4 number answer source destination next_source next_destination covered
     let even_next = even_header next_source next_destination (0 ∷ number ∷ to_be_bytes w16 len) (omega (arith, c)) (omega (arith, d)) refl in
     let sums = subst (λ pieces. ones_complement_sum pieces ≡ 65535) (other_pieces number (header source destination) covered other) right.sum in
     let ones = kept_in number answer (header source destination) (header next_source next_destination) covered old new (rest + some) even even_next
-        (omega (arith, words, header_words source destination number (to_be_bytes w16 len) (omega (arith, a)) (omega (arith, b))))
-        (omega (arith, next_words, header_words next_source next_destination number (to_be_bytes w16 len) (omega (arith, c)) (omega (arith, d))))
-        (omega (arith, positive)) enough fits updates there (of_pieces (header source destination) covered even sums) in
+    (omega (arith, words, header_words source destination number (to_be_bytes w16 len) (omega (arith, a)) (omega (arith, b))))
+    (omega (arith, next_words, header_words next_source next_destination number (to_be_bytes w16 len) (omega (arith, c)) (omega (arith, d))))
+    (omega (arith, positive)) enough fits updates there (of_pieces (header source destination) covered even sums) in
     record {
       fits = λ long. rw same (right.fits long);
       sum = subst (λ n. ones_complement_sum (pieces number (ipv4_pseudo_header next_source next_destination number n) written) ≡ 65535) (sym same)
@@ -150,3 +150,20 @@ verdict_of_other number source destination next_source next_destination payload 
     let old : IsRightIpv4 source destination 1 covered = rw icmp at right in
     let new : IsRightIpv4 next_source next_destination 1 covered = record { fits = old.fits; sum = old.sum } in
     (covered, judges, subst (λ n. IsRightIpv4 next_source next_destination n covered) (sym icmp) new)
+
+-- two bytes are one word
+pair_word : (bytes : List ℕ) → length bytes ≡ 2 → network_order_word_sum bytes ≡ from_be_bytes w16 bytes
+pair_word (a ∷ b ∷ []) two = omega arith
+pair_word bytes two = absurd (omega (arith, two))
+
+-- the update for one word, but of UDP
+updated_other : (number checksum : ℕ) (old new : List ℕ) → number ≢ 17 → updated_upper 1 number checksum old new ≡ updated_checksum_of_words 1 checksum old new
+updated_other number checksum old new other = grind (arith, nat_tests, other)
+
+pub word_updated : (number checksum : ℕ) (old new : List ℕ) → length old ≡ 2 → length new ≡ 2 → number ≢ 17
+    → updated_checksum checksum (from_be_bytes w16 old) (from_be_bytes w16 new) ≡ updated_upper 1 number checksum old new
+word_updated number checksum old new a b other = sym (updated_other number checksum old new other ∙ rw (pair_word old a, pair_word new b) refl)
+
+pub word_updates : (number checksum answer : ℕ) (old new : List ℕ) → length old ≡ 2 → length new ≡ 2 → number ≢ 17
+    → UpdatesChecksum checksum (from_be_bytes w16 old) (from_be_bytes w16 new) answer → UpdatesUpper number checksum (network_order_word_sum old) (network_order_word_sum new) answer
+word_updates number checksum answer old new a b other updates = record { udp = λ is. absurd (other is); other = λ _. rw (pair_word old a, pair_word new b) updates }

@@ -1,5 +1,6 @@
 -- An IPv4 packet with another address, from its parts.
-use Rattle.std.proofs.Common.{ℕ, true, false, ◌≡◌, ◌≢◌, ◌≤◌, ◌+◌, ◌∙◌, ◌⊎◌, List, [], ◌++◌, ap, append-nil, arith, drop, inl, inr, length, length-append, length-drop, length-take, refl, slice_range, subst, sym, take, take_at}
+use Rattle.std.proofs.Common.{ℕ, true, false, ◌≡◌, ◌≢◌, ◌≤◌, ◌+◌, ◌∙◌, ◌⊎◌, List, [], ◌++◌, ap, append-nil, arith, drop, inl, inr, length, length-append, length-drop, length-take, refl, slice_range, subst, sym, take, take_at, append_assoc, w16}
+use Rattle.std.specs.Int.{to_be_bytes}
 use Rattle.std.proofs.lemmas.Bool.Decides.{nat_tests}
 use Rattle.std.proofs.lemmas.List.{drop_at}
 use Rattle.etherparse.specs.HeaderChecksum.{BecomesPacketOf, ChangesInPlace, with_field_and_checksum}
@@ -8,14 +9,15 @@ use Rattle.etherparse.specs.Reading.{BeginsWith}
 use Rattle.etherparse.specs.WordSums.{network_order_word_sum, updated_checksum_of_words}
 use Rattle.etherparse.specs.declared.net.ipv4_header.Ipv4Header.{Ipv4Header}
 use Rattle.packet_parts.specs.Checksum.{IsVerdictIpv4}
-use Rattle.packet_parts.specs.IpSlice.{header_bytes}
+use Rattle.packet_parts.proofs.IpParts.{ipv4_front, ipv6_front}
+use Rattle.packet_parts.specs.IpSlice.{HasIpParts, HasPartsWith, header_bytes}
 use Rattle.packet_parts.specs.declared.checksum.Verdict.TheVariants.{Right}
 use Rattle.packet_parts.specs.declared.ip_slice.IpHeaderSlice.{IpHeaderSlice}
 use Rattle.packet_parts.specs.declared.ip_slice.IpHeaderSlice.TheVariants as header_slice
 use Rattle.packet_parts.specs.declared.ip_slice.IpSlice.{IpSlice}
 use Rattle.packet_rewriting.proofs.KeptRight.{verdict_kept, verdict_of_other}
-use Rattle.packet_rewriting.specs.Fields.{CutsIpv4, ReaddressesIpv4, Reaches, UpdatesPayload, covers_addresses, least_len, reached, version_in, with_updated}
-use Rattle.packet_rewriting.specs.UpperChecksum.{checksum_place}
+use Rattle.packet_rewriting.specs.Fields.{ChangesPort, CutsAtPorts, CutsIpv4, ReaddressesIpv4, Reaches, UpdatesPayload, UpdatesUpper, covers_addresses, least_len, updated_upper, version_in, with_port, word_at}
+use Rattle.packet_rewriting.specs.UpperChecksum.{checksum_field, checksum_place}
 use Rattle.packet_rewriting.specs.declared.fields.Cut.{Cut}
 use Rattle.packet_rewriting.specs.declared.fields.Reach.{Reach}
 use Rattle.packet_rewriting.specs.declared.fields.Reach.TheVariants as reaching
@@ -56,6 +58,51 @@ pub enough_for : {before : List ℕ} {header : Ipv4Header} {cut : Cut} (cuts : C
 enough_for {cut = cut} cuts rest is upper =
     let reaches : Reaches cuts.slice reaching.Upper = subst (Reaches cuts.slice) upper cuts.reaches in
     rw (payload_is cuts rest is, cuts.upper) (omega (arith, reaches.2, least_enough cuts.slice.upper))
+
+-- a packet of either version is its headers, its payload and what comes after it
+whole_with : (h : IpHeaderSlice) (packet : List ℕ) (slice : IpSlice) → HasPartsWith h packet slice
+    → (trailer : List ℕ) × (packet ≡ header_bytes h ++ slice.extensions.now ++ (slice.payload.now ++ trailer))
+whole_with (header_slice.Ipv4 view) packet slice p =
+    let more = ipv4_front p.header packet in
+    let payload = slice.payload.now in
+    let front : view.slice.now ≡ view.slice.now ++ slice.extensions.now = sym (ap (λ x. view.slice.now ++ x) p.no_extensions ∙ append-nil view.slice.now) in
+    (more.0, more.1 ∙ ap (λ b. b ++ more.0) (p.begins.whole ∙ ap (λ f. f ++ payload) (p.view ∙ front)) ∙ append_assoc (view.slice.now ++ slice.extensions.now) payload more.0)
+whole_with (header_slice.Ipv6 view) packet slice p =
+    let more = ipv6_front p.header packet in
+    let payload = slice.payload.now in (
+      more.0,
+      more.1 ∙ ap (λ b. b ++ more.0) (p.begins.whole ∙ ap (λ f. f ++ p.body) p.view ∙ ap (λ b. view.slice.now ++ b) p.parts
+          ∙ sym (append_assoc view.slice.now slice.extensions.now payload)) ∙ append_assoc (view.slice.now ++ slice.extensions.now) payload more.0,
+    )
+
+pub whole : (packet : List ℕ) (slice : IpSlice) → HasIpParts packet slice
+    → (trailer : List ℕ) × (packet ≡ header_bytes slice.header ++ slice.extensions.now ++ (slice.payload.now ++ trailer))
+whole packet slice p = whole_with slice.header packet slice p
+
+-- the packet with another port, from what was written to its payload
+pub with_other_port : {before : List ℕ} {cut : Cut} (cuts : CutsAtPorts before cut) (offset port : ℕ) (front rest payload after : List ℕ) → front ≡ take cut.header_len before
+    → rest ≡ drop cut.header_len before → payload ≡ with_port cut.upper offset (to_be_bytes w16 port) (take cut.payload_len rest)
+    → UpdatesUpper cut.upper (checksum_field cut.upper (take cut.payload_len rest)) (network_order_word_sum (word_at offset (take cut.payload_len rest)))
+    (network_order_word_sum (to_be_bytes w16 port)) (updated_upper 1 cut.upper (checksum_field cut.upper (take cut.payload_len rest)) (word_at offset (take cut.payload_len rest)) (to_be_bytes w16 port))
+    → after ≡ front ++ (payload ++ drop cut.payload_len rest) → ChangesPort offset port before after
+with_other_port {before = before} {cut = cut} cuts offset port front rest payload after front_at rest_at written updates is =
+    let slice = cuts.slice in
+    let headers = header_bytes slice.header ++ slice.extensions.now in
+    let len : length headers ≡ cut.header_len = length-append (header_bytes slice.header) slice.extensions.now ∙ sym cuts.header_len in
+    let first : front ≡ headers = front_at ∙ ap (take cut.header_len) cuts.whole ∙ take_at headers _ cut.header_len len in
+    let others : rest ≡ slice.payload.now ++ cuts.trailer = rest_at ∙ ap (drop cut.header_len) cuts.whole ∙ drop_at headers _ cut.header_len len in
+    let taken : take cut.payload_len rest ≡ slice.payload.now = ap (take cut.payload_len) others ∙ take_at slice.payload.now cuts.trailer cut.payload_len (sym cuts.payload_len) in
+    let left : drop cut.payload_len rest ≡ cuts.trailer = ap (drop cut.payload_len) others ∙ drop_at slice.payload.now cuts.trailer cut.payload_len (sym cuts.payload_len) in
+    let put : payload ≡ with_port slice.upper offset (to_be_bytes w16 port) slice.payload.now = rw (taken, cuts.upper) at written in
+    record {
+      slice = slice;
+      parts = cuts.parts;
+      ports = cuts.ports;
+      trailer = cuts.trailer;
+      whole = cuts.whole;
+      changed = is ∙ rw (first, left, put) refl;
+      updates = rw (taken, cuts.upper) at updates;
+    }
 
 -- the addresses of a header have four bytes each
 four_bytes : {h : Ipv4Header} {bytes : List ℕ} → IsIpv4Layout h bytes → (length h.source ≡ 4) × (length h.destination ≡ 4)

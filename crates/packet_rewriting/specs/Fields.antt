@@ -1,15 +1,23 @@
 -- Fields of an IP packet that are changed where they stand, with the checksums that cover them
 -- (RFC 1624, RFC 3022).
-use Rattle.std.specs.Prelude.{ℕ, ◌≡◌, ◌≢◌, ◌==◌, ◌||◌, ◌+◌, ◌<◌, ◌≤◌, ◌↔◌, List, [], ◌++◌, Bool}
-use Rattle.std.specs.Prelude.{None, codes, false, if◌then◌else◌, length, slice_range, true}
-use Rattle.etherparse.specs.HeaderChecksum.{BecomesPacketOf, with_field_and_checksum}
-use Rattle.etherparse.specs.Ipv4Header.{IsIpv4Layout}
+use Rattle.std.specs.Prelude.{ℕ, ◌≡◌, ◌≢◌, ◌==◌, ◌||◌, ◌+◌, ◌*◌, ◌/◌, ◌%◌, ◌^◌, ◌<◌, ◌≤◌, ◌⊎◌}
+use Rattle.std.specs.Prelude.{Bool, List, [], ◌∷◌, ◌++◌}
+use Rattle.std.specs.Prelude.{codes, false, if◌then◌else◌, length, slice_index, slice_range, true}
+use Rattle.std.specs.Int.{to_be_bytes, w16}
+use Rattle.etherparse.specs.HeaderChecksum.{BecomesPacketOf, with_field_and_checksum, with_part}
+use Rattle.etherparse.specs.IpEcn.{ecn_value}
+use Rattle.etherparse.specs.Ipv4Header.{IsIpv4Layout, ipv4_first_word}
+use Rattle.etherparse.specs.Ipv6Header.{IsIpv6Layout}
+use Rattle.etherparse.specs.Reading.{BeginsWith}
 use Rattle.etherparse.specs.WordSums.{UpdatesChecksum, UpdatesChecksumWithNoZero}
-use Rattle.etherparse.specs.WordSums.{network_order_word_sum, updated_checksum_of_words}
+use Rattle.etherparse.specs.WordSums.{network_order_word_sum, updated_checksum, updated_checksum_of_words}
 use Rattle.etherparse.specs.WordSums.{with_no_zero}
+use Rattle.etherparse.specs.declared.IpEcn.{IpEcn}
 use Rattle.etherparse.specs.declared.net.ipv4_header.Ipv4Header.{Ipv4Header}
+use Rattle.etherparse.specs.declared.net.ipv6_header.Ipv6Header.{Ipv6Header}
 use Rattle.packet_parts.specs.Checksum.{IsVerdictIpv4}
-use Rattle.packet_parts.specs.IpSlice.{IsIpPacket, RefusesIp, header_bytes, ip_slice_error_text}
+use Rattle.packet_parts.specs.IpSlice.{IsIpPacket, RefusesIp, header_bytes, header_len_of}
+use Rattle.packet_parts.specs.IpSlice.{ip_slice_error_text}
 use Rattle.packet_parts.specs.declared.checksum.Verdict.TheVariants.{Right}
 use Rattle.packet_parts.specs.declared.ip_slice.IpHeaderSlice.{IpHeaderSlice}
 use Rattle.packet_parts.specs.declared.ip_slice.IpHeaderSlice.TheVariants as header
@@ -37,11 +45,15 @@ with_updated words number old new payload = with_checksum number
 abbrev pub least_len : ℕ → ℕ
 least_len number = if number == 17 then 8 else if number == 6 then 20 else 4
 
+-- UDP (17) and TCP (6) have ports
+abbrev pub has_ports : ℕ → Bool
+has_ports number = (number == 17) || (number == 6)
+
 -- The checksum of an upper layer covers the addresses of the packet, by its pseudo-header: of UDP
 -- and TCP; and over IPv6 of ICMPv6 (58, RFC 4443 section 2.3).
 abbrev pub covers_addresses : IpHeaderSlice → ℕ → Bool
-covers_addresses (header.Ipv4 view) number = (number == 17) || (number == 6)
-covers_addresses (header.Ipv6 view) number = (number == 17) || (number == 6) || (number == 58)
+covers_addresses (header.Ipv4 view) number = has_ports number
+covers_addresses (header.Ipv6 view) number = has_ports number || (number == 58)
 
 -- How far the change of an address reaches in a packet: into the header of the upper layer, which
 -- is there; or it ends with that of IP, since the payload is a later fragment, or of a protocol
@@ -139,6 +151,101 @@ pub record ReaddressesIpv4 (offset : ℕ) (address before after : List ℕ) (rea
       → IsVerdictIpv4 (slice_range (header_bytes slice.header) 12 16)
       (slice_range (header_bytes slice.header) 16 20) slice.upper slice.payload.now Right
       → IsVerdictIpv4 (slice_range front 12 16) (slice_range front 16 20) slice.upper payload Right
+
+-- a word of two bytes, from an offset on
+abbrev pub word_at : ℕ → List ℕ → List ℕ
+word_at offset bytes = slice_index bytes offset ∷ slice_index bytes (offset + 1) ∷ []
+
+-- a payload with another port, from an offset on, and its checksum updated for that
+abbrev pub with_port : ℕ → ℕ → List ℕ → List ℕ → List ℕ
+with_port number offset port payload =
+    with_part offset port (with_updated 1 number (word_at offset payload) port payload)
+
+-- the payload begins with a header of UDP or of TCP, which has ports
+pub record HasPorts (slice : IpSlice) : Type 0 where
+  pub first : slice.is_later_fragment ≡ false
+  pub protocol : has_ports slice.upper ≡ true
+  pub enough : least_len slice.upper ≤ length slice.payload.now
+
+-- a packet with ports, cut at its length field and after its headers
+pub record CutsAtPorts (packet : List ℕ) (cut : Cut) : Type 0 where
+  pub slice : IpSlice
+  pub parts : IsIpPacket packet slice
+  pub ports : HasPorts slice
+  pub header_len : cut.header_len ≡ header_len_of slice
+  pub payload_len : cut.payload_len ≡ length slice.payload.now
+  pub upper : cut.upper ≡ slice.upper
+  pub trailer : List ℕ
+  pub whole : packet
+      ≡ header_bytes slice.header ++ slice.extensions.now ++ (slice.payload.now ++ trailer)
+
+-- why a port is not changed
+abbrev pub RefusesPort : List ℕ → RewriteError → Type 0
+RefusesPort packet (error.Ip e) = RefusesIp packet e
+RefusesPort packet error.OtherVersion = ⊥
+RefusesPort packet error.Incomplete = (slice : IpSlice) × IsIpPacket packet slice
+    × (slice.is_later_fragment ≡ false) × (has_ports slice.upper ≡ true)
+    × (length slice.payload.now < least_len slice.upper)
+RefusesPort packet error.LaterFragment = (slice : IpSlice) × IsIpPacket packet slice
+    × (slice.is_later_fragment ≡ true)
+RefusesPort packet error.OtherProtocol = (slice : IpSlice) × IsIpPacket packet slice
+    × (slice.is_later_fragment ≡ false) × (has_ports slice.upper ≡ false)
+
+-- A packet has another port, at an offset in its payload, whose checksum is updated for it. Its
+-- headers and what the link added after it stay.
+pub record ChangesPort (offset port : ℕ) (before after : List ℕ) : Type 0 where
+  pub slice : IpSlice
+  pub parts : IsIpPacket before slice
+  pub ports : HasPorts slice
+  pub trailer : List ℕ
+  pub whole : before
+      ≡ header_bytes slice.header ++ slice.extensions.now ++ (slice.payload.now ++ trailer)
+  pub changed : after ≡ header_bytes slice.header ++ slice.extensions.now
+      ++ (with_port slice.upper offset (to_be_bytes w16 port) slice.payload.now ++ trailer)
+  pub updates : UpdatesUpper slice.upper (checksum_field slice.upper slice.payload.now)
+      (network_order_word_sum (word_at offset slice.payload.now))
+      (network_order_word_sum (to_be_bytes w16 port))
+      (updated_upper 1 slice.upper (checksum_field slice.upper slice.payload.now)
+      (word_at offset slice.payload.now) (to_be_bytes w16 port))
+
+-- An IPv4 header has another DSCP or ECN, in byte 1, and its checksum is updated for the first word:
+-- it is right exactly when it was before. All else stays.
+pub record MarksIpv4 (marked : Ipv4Header → Ipv4Header) (before after : List ℕ) : Type 0 where
+  pub header : Ipv4Header
+  pub rest : List ℕ
+  pub begins : BeginsWith IsIpv4Layout before header rest
+  pub next : Ipv4Header
+  pub set : next ≡ record (marked header) {
+    header_checksum = updated_checksum header.header_checksum (ipv4_first_word header)
+        (ipv4_first_word (marked header));
+  }
+  pub changed : after ≡ with_field_and_checksum 1 ((next.dscp * 2 ^ 2 + ecn_value next.ecn) ∷ [])
+      next.header_checksum before
+  pub becomes : BecomesPacketOf before after next rest
+
+-- an IPv6 header has another traffic class; all else stays
+pub record MarksIpv6 (marked : ℕ → ℕ) (before after : List ℕ) : Type 0 where
+  pub header : Ipv6Header
+  pub rest : List ℕ
+  pub begins : BeginsWith IsIpv6Layout before header rest
+  pub becomes : BeginsWith IsIpv6Layout after
+      (record header { traffic_class = marked header.traffic_class }) rest
+
+-- a packet of either version has another DSCP: the upper 6 bits of the byte or of the traffic class
+-- (RFC 2474 section 3)
+abbrev pub HasOtherDscp : ℕ → List ℕ → List ℕ → Type 0
+HasOtherDscp dscp before after = MarksIpv4 (λ h. record h { dscp = dscp }) before after
+    ⊎ MarksIpv6 (λ class. dscp * 2 ^ 2 + class % 2 ^ 2) before after
+
+-- and another ECN: the lower 2 bits (RFC 3168 section 5)
+abbrev pub HasOtherEcn : IpEcn → List ℕ → List ℕ → Type 0
+HasOtherEcn ecn before after = MarksIpv4 (λ h. record h { ecn = ecn }) before after
+    ⊎ MarksIpv6 (λ class. class / 2 ^ 2 * 2 ^ 2 + ecn_value ecn) before after
+
+-- why a header is not marked
+abbrev pub RefusesMark : List ℕ → RewriteError → Type 0
+RefusesMark packet (error.Ip e) = RefusesIp packet e
+RefusesMark packet other = ⊥
 
 -- the text of a refusal
 abbrev pub rewrite_error_text : RewriteError → List ℕ

@@ -151,9 +151,9 @@ pub fn calc_checksum_ipv6(
 ///
 /// # Example
 ///
+/// With the datagram of [`calc_checksum_ipv4`]:
+///
 /// ```
-/// let (source, destination) = ([192, 168, 0, 1], [192, 168, 0, 199]);
-/// let mut datagram = [4, 0, 0, 53, 0, 12, 0, 0, b't', b'e', b's', b't'];
 /// set_checksum_ipv4(source, destination, IpNumber::UDP, &mut datagram)?;
 /// assert!(rt; datagram == [4, 0, 0, 53, 0, 12, 0x91, 0xae, b't', b'e', b's', b't']);
 /// ```
@@ -284,7 +284,9 @@ fn complement(before: Sum16BitWords, number: IpNumber, covered: &[u8]) -> u16
         result ≡ complement_of number (front ++ with_checksum number 0 covered.now) }
 {
     let place = place_of_checksum(number);
-    let sum = before.add_slice(&covered[..place]).add_slice(&covered[place + 2..]);
+    let sum = before
+        .add_slice(&covered[..place])
+        .add_slice(&covered[place + 2..]);
     if number == IpNumber::UDP {
         sum.to_ones_complement_with_no_zero().swap_bytes()
     } else {

@@ -2,19 +2,31 @@
 //! checksums that cover a field are updated for it (RFC 1624 section 3), so that a right one stays
 //! right, and a wrong one is not repaired.
 
-ghost use Rattle.std.specs.Prelude.{◌≡◌, ◌+◌, ◌≤◌, IfErr, IfNone, IfOk, IfSome, OnErr, Some};
+ghost use Rattle.std.specs.Prelude.{◌≡◌, ◌+◌, ◌*◌, ◌/◌, ◌%◌, ◌^◌, ◌<◌, ◌≤◌, [], ◌∷◌, drop};
 ghost use Rattle.std.specs.Prelude.{length};
+ghost use Rattle.std.specs.Prelude.{IfErr, IfNone, IfOk, IfSome, OnErr, OnOk, Some};
+ghost use Rattle.std.specs.Int.{to_be_bytes, w16};
+ghost use Rattle.etherparse.specs.FirstByte.{version_of};
+ghost use Rattle.etherparse.specs.IpEcn.{ecn_value};
+ghost use Rattle.etherparse.specs.Ipv6Header.{IsIpv6Layout};
+ghost use Rattle.etherparse.specs.Reading.{BeginsWith};
+ghost use Rattle.etherparse.specs.WordSums.{network_order_word_sum};
 ghost use Rattle.etherparse.specs.HeaderChecksum.{with_field_and_checksum};
 ghost use Rattle.packet_rewriting.specs.Fields.{CutsIpv4, EndsInUpper, ReaddressesIpv4, Reaches};
-ghost use Rattle.packet_rewriting.specs.Fields.{RefusesAddress};
-ghost use Rattle.packet_rewriting.specs.Fields.{UpdatesPayload, covers_addresses, least_len};
-ghost use Rattle.packet_rewriting.specs.Fields.{rewrite_error_text};
+ghost use Rattle.packet_rewriting.specs.Fields.{ChangesPort, CutsAtPorts, HasOtherDscp};
+ghost use Rattle.packet_rewriting.specs.Fields.{HasOtherEcn, MarksIpv4, MarksIpv6};
+ghost use Rattle.packet_rewriting.specs.Fields.{RefusesAddress, RefusesMark, RefusesPort};
+ghost use Rattle.packet_rewriting.specs.Fields.{UpdatesPayload, UpdatesUpper, covers_addresses};
+ghost use Rattle.packet_rewriting.specs.Fields.{has_ports, least_len, rewrite_error_text, updated_upper};
+ghost use Rattle.packet_rewriting.specs.Fields.{with_port, word_at};
 ghost use Rattle.packet_rewriting.specs.UpperChecksum.{checksum_field, checksum_place};
 ghost use Rattle.packet_rewriting.specs.declared.fields.Reach.TheVariants as reaching;
 
 use crate::checksum::{ICMP_LEN, place_of_checksum, put, put_checksum};
-use etherparse::checksum::{update_4bytes, update_4bytes_with_no_zero};
-use etherparse::{IpNumber, Ipv4Header};
+use etherparse::checksum::{
+    update_2bytes, update_2bytes_with_no_zero, update_4bytes, update_4bytes_with_no_zero,
+};
+use etherparse::{IpDscp, IpEcn, IpNumber, Ipv4Header, Ipv6Header};
 use packet_parts::ip_slice::{IpHeaderSlice, IpSlice, IpSliceError};
 use packet_parts::tcp::TcpHeaderSlice;
 use packet_parts::udp::UdpHeader;
@@ -78,6 +90,23 @@ pub enum Reach {
 ///
 /// In this order: `Ip`; `OtherVersion` if the packet is one of IPv6; `Incomplete`. The packet is
 /// then unchanged.
+///
+/// # Example
+///
+/// ```
+/// let mut packet = [
+///     0x45, 0, 0, 32, 0, 0, 0, 0, 64, 17, 0xf8, 0xb4, 192, 168, 0, 1, 192, 168, 0, 199, 4, 0, 0,
+///     53, 0, 12, 0x91, 0xae, b't', b'e', b's', b't',
+/// ];
+/// let reach = set_source_ipv4(&mut packet, [198, 51, 100, 7])?;
+/// assert!(rt; reach == Reach::Upper);
+/// assert!(rt; packet[10..16] == [0x8f, 0x23, 198, 51, 100, 7]);
+/// assert!(rt; packet[26..28] == [0x28, 0x1d]);
+/// let reach = set_destination_ipv4(&mut packet, [10, 0, 0, 2])?;
+/// assert!(rt; reach == Reach::Upper);
+/// assert!(rt; packet[10..12] == [0x46, 0x91] && packet[16..20] == [10, 0, 0, 2]);
+/// assert!(rt; packet[26..28] == [0xdf, 0x8a]);
+/// ```
 pub fn set_source_ipv4(packet: &mut [u8], source: [u8; 4]) -> Result<Reach, RewriteError>
     ensures changed { IfOk result (ReaddressesIpv4 12 source packet.old packet.new) }
     ensures refused { IfErr result (RefusesAddress 4 packet.old) }
@@ -101,10 +130,7 @@ pub fn set_source_ipv4(packet: &mut [u8], source: [u8; 4]) -> Result<Reach, Rewr
 /// # Errors
 ///
 /// Those of [`set_source_ipv4`]. The packet is then unchanged.
-pub fn set_destination_ipv4(
-    packet: &mut [u8],
-    destination: [u8; 4],
-) -> Result<Reach, RewriteError>
+pub fn set_destination_ipv4(packet: &mut [u8], destination: [u8; 4]) -> Result<Reach, RewriteError>
     ensures changed { IfOk result (ReaddressesIpv4 16 destination packet.old packet.new) }
     ensures refused { IfErr result (RefusesAddress 4 packet.old) }
     ensures unchanged { OnErr result (packet.new ≡ packet.old) }
@@ -119,6 +145,107 @@ pub fn set_destination_ipv4(
     put_address_ipv4(front, 16, destination, header.header_checksum);
     update_for_ipv4(&mut rest[..parts.payload_len], &parts, old, destination);
     Ok(parts.reach)
+}
+
+/// Gives a packet of either version that carries UDP or TCP another source port in place: bytes 0
+/// and 1 of the payload, and its checksum. A UDP checksum of 0, which says that there is none, stays
+/// 0. All else stays the same.
+///
+/// # Errors
+///
+/// In this order: `Ip`; `LaterFragment`; `OtherProtocol`; `Incomplete`. The packet is then
+/// unchanged.
+///
+/// # Example
+///
+/// ```
+/// let mut packet = [
+///     0x45, 0, 0, 32, 0, 0, 0, 0, 64, 17, 0x46, 0x91, 198, 51, 100, 7, 10, 0, 0, 2, 4, 0, 0, 53,
+///     0, 12, 0xdf, 0x8a, b't', b'e', b's', b't',
+/// ];
+/// set_source_port(&mut packet, 40000)?;
+/// assert!(rt; packet[20..28] == [0x9c, 0x40, 0, 53, 0, 12, 0x47, 0x4a]);
+/// set_destination_port(&mut packet, 5353)?;
+/// assert!(rt; packet[20..28] == [0x9c, 0x40, 0x14, 0xe9, 0, 12, 0x32, 0x96]);
+/// ```
+pub fn set_source_port(packet: &mut [u8], port: u16) -> Result<(), RewriteError>
+    ensures changed { OnOk result (ChangesPort 0 port packet.old packet.new) }
+    ensures refused { IfErr result (RefusesPort packet.old) }
+    ensures unchanged { OnErr result (packet.new ≡ packet.old) }
+{
+    set_port(packet, 0, port)
+}
+
+/// Gives a packet another destination port in place, bytes 2 and 3 of the payload, as
+/// [`set_source_port`] gives it another source port.
+///
+/// # Errors
+///
+/// Those of [`set_source_port`]. The packet is then unchanged.
+pub fn set_destination_port(packet: &mut [u8], port: u16) -> Result<(), RewriteError>
+    ensures changed { OnOk result (ChangesPort 2 port packet.old packet.new) }
+    ensures refused { IfErr result (RefusesPort packet.old) }
+    ensures unchanged { OnErr result (packet.new ≡ packet.old) }
+{
+    set_port(packet, 2, port)
+}
+
+/// Gives a packet of either version another differentiated services code point in place (RFC 2474
+/// section 3): the upper 6 bits of byte 1 in IPv4, with the header checksum, and of the traffic
+/// class in IPv6, which has no checksum. All else stays the same. Only the header is read: what
+/// follows it may be cut.
+///
+/// # Errors
+///
+/// `Ip`, with `Empty`, `UnexpectedVersion`, `Ipv4Header` or `Ipv6Header`. The packet is then
+/// unchanged.
+///
+/// # Example
+///
+/// ```
+/// let mut packet = [
+///     0x45, 0, 0, 32, 0, 0, 0, 0, 64, 17, 0x46, 0x91, 198, 51, 100, 7, 10, 0, 0, 2, 4, 0, 0, 53,
+/// ];
+/// set_dscp(&mut packet, IpDscp::EF)?;
+/// assert!(rt; packet[1] == 0xb8 && packet[10..12] == [0x45, 0xd9]);
+/// set_ecn(&mut packet, IpEcn::CongestionExperienced)?;
+/// assert!(rt; packet[1] == 0xbb && packet[10..12] == [0x45, 0xd6]);
+/// ```
+pub fn set_dscp(packet: &mut [u8], dscp: IpDscp) -> Result<(), RewriteError>
+    ensures changed { OnOk result (HasOtherDscp dscp packet.old packet.new) }
+    ensures refused { IfErr result (RefusesMark packet.old) }
+    ensures unchanged { OnErr result (packet.new ≡ packet.old) }
+{
+    if packet.is_empty() {
+        return Err(RewriteError::Ip(IpSliceError::Empty));
+    }
+    match packet[0] >> 4 {
+        4 => set_dscp_ipv4(packet, dscp),
+        6 => set_dscp_ipv6(packet, dscp),
+        version_number => Err(RewriteError::Ip(IpSliceError::UnexpectedVersion { version_number })),
+    }
+}
+
+/// Gives a packet of either version another explicit congestion notification in place (RFC 3168
+/// section 5): the lower 2 bits of byte 1 in IPv4, with the header checksum, and of the traffic
+/// class in IPv6. All else stays the same, as with [`set_dscp`].
+///
+/// # Errors
+///
+/// Those of [`set_dscp`]. The packet is then unchanged.
+pub fn set_ecn(packet: &mut [u8], ecn: IpEcn) -> Result<(), RewriteError>
+    ensures changed { OnOk result (HasOtherEcn ecn packet.old packet.new) }
+    ensures refused { IfErr result (RefusesMark packet.old) }
+    ensures unchanged { OnErr result (packet.new ≡ packet.old) }
+{
+    if packet.is_empty() {
+        return Err(RewriteError::Ip(IpSliceError::Empty));
+    }
+    match packet[0] >> 4 {
+        4 => set_ecn_ipv4(packet, ecn),
+        6 => set_ecn_ipv6(packet, ecn),
+        version_number => Err(RewriteError::Ip(IpSliceError::UnexpectedVersion { version_number })),
+    }
 }
 
 // How a packet is cut, and how far the change of an address reaches.
@@ -181,11 +308,16 @@ fn covers_addresses(header: &IpHeaderSlice, number: IpNumber) -> bool
     ensures value { result ≡ covers_addresses header.now number }
 {
     match header {
-        IpHeaderSlice::Ipv4(_) => number == IpNumber::UDP || number == IpNumber::TCP,
-        IpHeaderSlice::Ipv6(_) => {
-            number == IpNumber::UDP || number == IpNumber::TCP || number == IpNumber::IPV6_ICMP
-        }
+        IpHeaderSlice::Ipv4(_) => has_ports(number),
+        IpHeaderSlice::Ipv6(_) => has_ports(number) || number == IpNumber::IPV6_ICMP,
     }
+}
+
+// Whether the number is that of UDP or TCP, which have ports.
+fn has_ports(number: IpNumber) -> bool
+    ensures value { result ≡ has_ports number }
+{
+    number == IpNumber::UDP || number == IpNumber::TCP
 }
 
 // How long the header of an upper layer is at least.
@@ -239,4 +371,171 @@ fn checksum_in(payload: &[u8], number: IpNumber) -> u16
 {
     let place = place_of_checksum(number);
     u16::from_be_bytes([payload[place], payload[place + 1]])
+}
+
+// Gives a packet another port, which is at an offset in its payload.
+fn set_port(packet: &mut [u8], offset: usize, port: u16) -> Result<(), RewriteError>
+    requires within { offset ≤ 2 }
+    requires even { offset % 2 ≡ 0 }
+    ensures changed { OnOk result (ChangesPort offset port packet.old packet.new) }
+    ensures refused { IfErr result (RefusesPort packet.old) }
+    ensures unchanged { OnErr result (packet.new ≡ packet.old) }
+{
+    let cut = match port_cut(packet) {
+        Ok(cut) => cut,
+        Err(e) => return Err(e),
+    };
+    let (_, rest) = packet.split_at_mut(cut.header_len);
+    put_port(&mut rest[..cut.payload_len], cut.upper, offset, port);
+    Ok(())
+}
+
+// Where the ports of a packet are.
+fn port_cut(packet: &[u8]) -> Result<Cut, RewriteError>
+    ensures found { IfOk result (CutsAtPorts packet.now) }
+    ensures refused { IfErr result (RefusesPort packet.now) }
+{
+    let slice = match IpSlice::from_slice(packet) {
+        Ok(slice) => slice,
+        Err(e) => return Err(RewriteError::Ip(e)),
+    };
+    if slice.is_later_fragment {
+        return Err(RewriteError::LaterFragment);
+    }
+    if !has_ports(slice.upper) {
+        return Err(RewriteError::OtherProtocol);
+    }
+    if slice.payload.len() < least_len(slice.upper) {
+        return Err(RewriteError::Incomplete);
+    }
+    Ok(Cut {
+        header_len: slice.header_len(),
+        payload_len: slice.payload.len(),
+        upper: slice.upper,
+        reach: Reach::Upper,
+    })
+}
+
+// Writes a port of a payload, and updates its checksum.
+fn put_port(payload: &mut [u8], number: IpNumber, offset: usize, port: u16)
+    requires within { offset ≤ 2 }
+    requires enough { checksum_place number + 2 ≤ length payload.now }
+    requires long { 4 ≤ length payload.now }
+    ensures written { payload.new ≡ with_port number offset (to_be_bytes w16 port) payload.old }
+    ensures updates { UpdatesUpper number (checksum_field number payload.old)
+        (network_order_word_sum (word_at offset payload.old))
+        (network_order_word_sum (to_be_bytes w16 port))
+        (updated_upper 1 number (checksum_field number payload.old)
+        (word_at offset payload.old) (to_be_bytes w16 port)) }
+{
+    let old = [payload[offset], payload[offset + 1]];
+    let new = port.to_be_bytes();
+    let updated = updated_for_word(checksum_in(payload, number), number, old, new);
+    put_checksum(payload, number, updated);
+    put(payload, offset, &new);
+}
+
+// The checksum of an upper layer after a change of one word.
+fn updated_for_word(checksum: u16, number: IpNumber, old: [u8; 2], new: [u8; 2]) -> u16
+    ensures value { result ≡ updated_upper 1 number checksum old new }
+    ensures updates { UpdatesUpper number checksum (network_order_word_sum old)
+        (network_order_word_sum new) result }
+{
+    let ([a, b], [c, d]) = (old, new);
+    if number == IpNumber::UDP {
+        update_2bytes_with_no_zero(checksum, [a, b], [c, d])
+    } else {
+        update_2bytes(checksum, [a, b], [c, d])
+    }
+}
+
+// Gives an IPv4 packet another code point.
+fn set_dscp_ipv4(packet: &mut [u8], dscp: IpDscp) -> Result<(), RewriteError>
+    requires some { 0 < length packet.now }
+    requires version { version_of packet.now ≡ 4 }
+    ensures changed { OnOk result
+        (MarksIpv4 (λ h. record h { dscp = dscp }) packet.old packet.new) }
+    ensures refused { IfErr result (RefusesMark packet.old) }
+    ensures unchanged { OnErr result (packet.new ≡ packet.old) }
+{
+    let mut header = match Ipv4Header::from_slice(packet) {
+        Ok((header, _)) => header,
+        Err(e) => return Err(RewriteError::Ip(IpSliceError::Ipv4Header(e))),
+    };
+    header.set_dscp(dscp);
+    put_mark(packet, &header);
+    Ok(())
+}
+
+// Gives an IPv4 packet another notification.
+fn set_ecn_ipv4(packet: &mut [u8], ecn: IpEcn) -> Result<(), RewriteError>
+    requires some { 0 < length packet.now }
+    requires version { version_of packet.now ≡ 4 }
+    ensures changed { OnOk result
+        (MarksIpv4 (λ h. record h { ecn = ecn }) packet.old packet.new) }
+    ensures refused { IfErr result (RefusesMark packet.old) }
+    ensures unchanged { OnErr result (packet.new ≡ packet.old) }
+{
+    let mut header = match Ipv4Header::from_slice(packet) {
+        Ok((header, _)) => header,
+        Err(e) => return Err(RewriteError::Ip(IpSliceError::Ipv4Header(e))),
+    };
+    header.set_ecn(ecn);
+    put_mark(packet, &header);
+    Ok(())
+}
+
+// Writes the code point, the notification and the checksum of an IPv4 header.
+fn put_mark(packet: &mut [u8], header: &Ipv4Header)
+    requires enough { 20 ≤ length packet.now }
+    ensures written { packet.new ≡ with_field_and_checksum 1
+        ((header.now.dscp * 2 ^ 2 + ecn_value header.now.ecn) ∷ [])
+        header.now.header_checksum packet.old }
+{
+    packet[1] = (header.dscp.value() << 2) + header.ecn.value();
+    put(packet, 10, &header.header_checksum.to_be_bytes());
+}
+
+// Gives an IPv6 packet another code point.
+fn set_dscp_ipv6(packet: &mut [u8], dscp: IpDscp) -> Result<(), RewriteError>
+    requires some { 0 < length packet.now }
+    requires version { version_of packet.now ≡ 6 }
+    ensures changed { OnOk result
+        (MarksIpv6 (λ class. dscp * 2 ^ 2 + class % 2 ^ 2) packet.old packet.new) }
+    ensures refused { IfErr result (RefusesMark packet.old) }
+    ensures unchanged { OnErr result (packet.new ≡ packet.old) }
+{
+    let mut header = match Ipv6Header::from_slice(packet) {
+        Ok((header, _)) => header,
+        Err(e) => return Err(RewriteError::Ip(IpSliceError::Ipv6Header(e))),
+    };
+    header.set_dscp(dscp);
+    put_ipv6(packet, &header);
+    Ok(())
+}
+
+// Gives an IPv6 packet another notification.
+fn set_ecn_ipv6(packet: &mut [u8], ecn: IpEcn) -> Result<(), RewriteError>
+    requires some { 0 < length packet.now }
+    requires version { version_of packet.now ≡ 6 }
+    ensures changed { OnOk result
+        (MarksIpv6 (λ class. class / 2 ^ 2 * 2 ^ 2 + ecn_value ecn) packet.old packet.new) }
+    ensures refused { IfErr result (RefusesMark packet.old) }
+    ensures unchanged { OnErr result (packet.new ≡ packet.old) }
+{
+    let mut header = match Ipv6Header::from_slice(packet) {
+        Ok((header, _)) => header,
+        Err(e) => return Err(RewriteError::Ip(IpSliceError::Ipv6Header(e))),
+    };
+    header.set_ecn(ecn);
+    put_ipv6(packet, &header);
+    Ok(())
+}
+
+// Writes an IPv6 header over that of a packet.
+fn put_ipv6(packet: &mut [u8], header: &Ipv6Header)
+    requires enough { 40 ≤ length packet.now }
+    ensures written { BeginsWith IsIpv6Layout packet.new header.now (drop 40 packet.old) }
+{
+    packet[..Ipv6Header::LEN].copy_from_slice(&header.to_bytes());
 }
