@@ -49,7 +49,17 @@ fn put(message: &[u8], text: &mut [u8]) -> usize
         return message.len();
     }
     let len = message.len().min(text.len() - 1);
-    text[..len].copy_from_slice(&message[..len]);
+    copy(&message[..len], &mut text[..len]);
     text[len] = 0;
     message.len()
+}
+
+// Copies bytes over as many others. `copy_from_slice` would call `memmove` of the C library.
+fn copy(from: &[u8], to: &mut [u8])
+    requires as_many { length to.old ≡ length from.now }
+    ensures copied { to.new ≡ from.now }
+{
+    for i in 0..from.len() {
+        to[i] = from[i];
+    }
 }
