@@ -41,7 +41,7 @@ replaced-suc (x ∷ y ∷ bytes) zero high low even within = omega arith
 replaced-suc (x ∷ y ∷ bytes) (suc (suc place)) high low even within = omega (arith, replaced-suc bytes place high low (omega arith) (omega arith))
 replaced-suc bytes place high low even within = absurd (omega (arith, even, within))
 
-replaced : (bytes : List ℕ) (place high low : ℕ) → place % 2 ≡ 0 → place + 2 ≤ length bytes
+pub replaced : (bytes : List ℕ) (place high low : ℕ) → place % 2 ≡ 0 → place + 2 ≤ length bytes
     → network_order_word_sum (slice_set (slice_set bytes place high) (place + 1) low) + (256 * slice_index bytes place + slice_index bytes (place + 1))
     ≡ network_order_word_sum bytes + (256 * high + low)
 replaced bytes place high low even within =

@@ -47,21 +47,21 @@ kept_in number answer front next covered old new rest even even_next words next_
     ap folded_sum after ∙ kept number checksum answer old new (rest + zeros) updates there (omega (arith, some)) (sym (ap folded_sum whole) ∙ ones)
 
 -- whole pieces are summed as one
-of_pieces : (front covered : List ℕ) → length front % 2 ≡ 0 → ones_complement_sum (front ∷ covered ∷ []) ≡ 65535 → SumsToAllOnes (front ++ covered)
+pub of_pieces : (front covered : List ℕ) → length front % 2 ≡ 0 → ones_complement_sum (front ∷ covered ∷ []) ≡ 65535 → SumsToAllOnes (front ++ covered)
 of_pieces front covered even ones =
     rw (sym (append-nil covered)) (((adds_slices (front ∷ covered ∷ []) (sum_by little_endian_word_sum (front ∷ covered ∷ [])) refl).all_ones (even, tt)).1 ones)
 
 -- the words of a pseudo-header of IPv4
-header_words : (source destination : List ℕ) (number : ℕ) (len : List ℕ) → length source % 2 ≡ 0 → length destination % 2 ≡ 0
+pub header_words : (source destination : List ℕ) (number : ℕ) (len : List ℕ) → length source % 2 ≡ 0 → length destination % 2 ≡ 0
     → network_order_word_sum (source ++ (destination ++ (0 ∷ number ∷ len))) ≡ network_order_word_sum source + network_order_word_sum destination + (number + network_order_word_sum len)
 header_words source destination number len even other =
     omega (arith, network_order_word_sum-append source (destination ++ (0 ∷ number ∷ len)) even, network_order_word_sum-append destination (0 ∷ number ∷ len) other)
 
 -- what is summed over IPv4, with this pseudo-header
-abbrev pieces : ℕ → List ℕ → List ℕ → List (List ℕ)
+abbrev pub pieces : ℕ → List ℕ → List ℕ → List (List ℕ)
 pieces number header covered = if number == 1 then covered ∷ [] else header ∷ covered ∷ []
 
-other_pieces : (number : ℕ) (header covered : List ℕ) → number ≢ 1 → pieces number header covered ≡ header ∷ covered ∷ []
+pub other_pieces : (number : ℕ) (header covered : List ℕ) → number ≢ 1 → pieces number header covered ≡ header ∷ covered ∷ []
 other_pieces number header covered other = grind (arith, nat_tests, other)
 
 -- with pseudo-headers, in which one address is another one
@@ -93,10 +93,10 @@ right_ipv4 number answer source destination next_source next_destination covered
     }
 
 -- the updated checksum fits sixteen bits, and that of UDP is not 0 if there was one
-updated_fits : (words number checksum : ℕ) (old new : List ℕ) → updated_upper words number checksum old new < 65536
+pub updated_fits : (words number checksum : ℕ) (old new : List ℕ) → updated_upper words number checksum old new < 65536
 updated_fits words number checksum old new = grind (arith, nat_tests, with_no_zero-value)
 
-updated_there : (words number checksum : ℕ) (old new : List ℕ) → number ≡ 17 → checksum ≢ 0 → 0 < updated_upper words number checksum old new
+pub updated_there : (words number checksum : ℕ) (old new : List ℕ) → number ≡ 17 → checksum ≢ 0 → 0 < updated_upper words number checksum old new
 updated_there words number checksum old new is there = grind (arith, nat_tests, is, there, with_no_zero-value)
 
 -- the checksum of a datagram that has one
@@ -104,11 +104,11 @@ udp_field : (covered : List ℕ) → 8 ≤ length covered → udp_checksum cover
 udp_field (a ∷ b ∷ c ∷ d ∷ e ∷ f ∷ g ∷ h ∷ rest) enough = refl
 udp_field covered enough = absurd (omega (arith, enough))
 
-field_there : (number : ℕ) (covered : List ℕ) → checksum_place number + 2 ≤ length covered → ¬ IsWithoutChecksum number covered → number ≡ 17 → checksum_field number covered ≢ 0
+pub field_there : (number : ℕ) (covered : List ℕ) → checksum_place number + 2 ≤ length covered → ¬ IsWithoutChecksum number covered → number ≡ 17 → checksum_field number covered ≢ 0
 field_there number covered enough there is zero_field = there (is, udp_field covered (rw is at enough) ∙ rw is at zero_field)
 
 -- what is covered has the checksum of the payload
-same_field : (icmp number : ℕ) (payload covered : List ℕ) → Covers icmp number payload covered → checksum_field number covered ≡ checksum_field number payload
+pub same_field : (icmp number : ℕ) (payload covered : List ℕ) → Covers icmp number payload covered → checksum_field number covered ≡ checksum_field number payload
 same_field icmp number payload covered (inl (is, begins)) =
     rw (is, begins.2) (rw (get_or-take (udp_length payload) payload 6 0 (omega (arith, begins.0)), get_or-take (udp_length payload) payload 7 0 (omega (arith, begins.0))) refl)
 same_field icmp number payload covered (inr (inl (is, least, all))) = ap (checksum_field number) all

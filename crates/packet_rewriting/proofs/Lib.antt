@@ -1,4 +1,5 @@
 mod ChecksumWords
+mod KeptPorts
 mod KeptRight
 mod Readdressed
 mod RightChecksums

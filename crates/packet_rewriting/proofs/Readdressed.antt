@@ -1,5 +1,5 @@
 -- An IPv4 packet with another address, from its parts.
-use Rattle.std.proofs.Common.{ℕ, true, false, ◌≡◌, ◌≢◌, ◌≤◌, ◌+◌, ◌∙◌, ◌⊎◌, List, [], ◌++◌, ap, append-nil, arith, drop, inl, inr, length, length-append, length-drop, length-take, refl, slice_range, subst, sym, take, take_at, append_assoc, w16}
+use Rattle.std.proofs.Common.{ℕ, true, false, ◌≡◌, ◌≢◌, ◌≤◌, ◌+◌, ◌%◌, ◌∙◌, ◌⊎◌, List, [], ◌++◌, ap, append-nil, arith, drop, inl, inr, length, length-append, length-drop, length-take, refl, slice_range, subst, sym, take, take_at, append_assoc, w16}
 use Rattle.std.specs.Int.{to_be_bytes}
 use Rattle.std.proofs.lemmas.Bool.Decides.{nat_tests}
 use Rattle.std.proofs.lemmas.List.{drop_at}
@@ -15,6 +15,7 @@ use Rattle.packet_parts.specs.declared.checksum.Verdict.TheVariants.{Right}
 use Rattle.packet_parts.specs.declared.ip_slice.IpHeaderSlice.{IpHeaderSlice}
 use Rattle.packet_parts.specs.declared.ip_slice.IpHeaderSlice.TheVariants as header_slice
 use Rattle.packet_parts.specs.declared.ip_slice.IpSlice.{IpSlice}
+use Rattle.packet_rewriting.proofs.KeptPorts.{port_kept}
 use Rattle.packet_rewriting.proofs.KeptRight.{verdict_kept, verdict_of_other}
 use Rattle.packet_rewriting.specs.Fields.{ChangesPort, CutsAtPorts, CutsIpv4, ReaddressesIpv4, Reaches, UpdatesPayload, UpdatesUpper, covers_addresses, least_len, updated_upper, version_in, with_port, word_at}
 use Rattle.packet_rewriting.specs.UpperChecksum.{checksum_field, checksum_place}
@@ -84,8 +85,8 @@ pub with_other_port : {before : List ℕ} {cut : Cut} (cuts : CutsAtPorts before
     → rest ≡ drop cut.header_len before → payload ≡ with_port cut.upper offset (to_be_bytes w16 port) (take cut.payload_len rest)
     → UpdatesUpper cut.upper (checksum_field cut.upper (take cut.payload_len rest)) (network_order_word_sum (word_at offset (take cut.payload_len rest)))
     (network_order_word_sum (to_be_bytes w16 port)) (updated_upper 1 cut.upper (checksum_field cut.upper (take cut.payload_len rest)) (word_at offset (take cut.payload_len rest)) (to_be_bytes w16 port))
-    → after ≡ front ++ (payload ++ drop cut.payload_len rest) → ChangesPort offset port before after
-with_other_port {before = before} {cut = cut} cuts offset port front rest payload after front_at rest_at written updates is =
+    → after ≡ front ++ (payload ++ drop cut.payload_len rest) → offset % 2 ≡ 0 → offset ≤ 2 → ChangesPort offset port before after
+with_other_port {before = before} {cut = cut} cuts offset port front rest payload after front_at rest_at written updates is even within =
     let slice = cuts.slice in
     let headers = header_bytes slice.header ++ slice.extensions.now in
     let len : length headers ≡ cut.header_len = length-append (header_bytes slice.header) slice.extensions.now ∙ sym cuts.header_len in
@@ -94,6 +95,7 @@ with_other_port {before = before} {cut = cut} cuts offset port front rest payloa
     let taken : take cut.payload_len rest ≡ slice.payload.now = ap (take cut.payload_len) others ∙ take_at slice.payload.now cuts.trailer cut.payload_len (sym cuts.payload_len) in
     let left : drop cut.payload_len rest ≡ cuts.trailer = ap (drop cut.payload_len) others ∙ drop_at slice.payload.now cuts.trailer cut.payload_len (sym cuts.payload_len) in
     let put : payload ≡ with_port slice.upper offset (to_be_bytes w16 port) slice.payload.now = rw (taken, cuts.upper) at written in
+    let updated = rw (taken, cuts.upper) at updates in
     record {
       slice = slice;
       parts = cuts.parts;
@@ -101,7 +103,8 @@ with_other_port {before = before} {cut = cut} cuts offset port front rest payloa
       trailer = cuts.trailer;
       whole = cuts.whole;
       changed = is ∙ rw (first, left, put) refl;
-      updates = rw (taken, cuts.upper) at updates;
+      updates = updated;
+      keeps_right = port_kept slice.header slice.upper offset port slice.payload.now cuts.ports.protocol even within updated;
     }
 
 -- the addresses of a header have four bytes each

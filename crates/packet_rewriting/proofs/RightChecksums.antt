@@ -9,7 +9,7 @@ use Rattle.packet_rewriting.proofs.ChecksumWords.{completed, even_before, even_h
 use Rattle.packet_rewriting.specs.UpperChecksum.{IsIpv4Checksum, IsIpv6Checksum, checksum_place, complement_of, ipv4_before, with_checksum}
 
 -- bytes are cut before or after one of them is set
-take_of_set : (n : ℕ) (bytes : List ℕ) (place byte : ℕ) → slice_set (take n bytes) place byte ≡ take n (slice_set bytes place byte)
+pub take_of_set : (n : ℕ) (bytes : List ℕ) (place byte : ℕ) → slice_set (take n bytes) place byte ≡ take n (slice_set bytes place byte)
 take_of_set zero bytes place byte = refl
 take_of_set (suc n) [] place byte = refl
 take_of_set (suc n) (x ∷ bytes) zero byte = refl

@@ -15,7 +15,7 @@ use Rattle.etherparse.specs.WordSums.{with_no_zero}
 use Rattle.etherparse.specs.declared.IpEcn.{IpEcn}
 use Rattle.etherparse.specs.declared.net.ipv4_header.Ipv4Header.{Ipv4Header}
 use Rattle.etherparse.specs.declared.net.ipv6_header.Ipv6Header.{Ipv6Header}
-use Rattle.packet_parts.specs.Checksum.{IsVerdictIpv4}
+use Rattle.packet_parts.specs.Checksum.{IsVerdictIpv4, IsVerdictOver}
 use Rattle.packet_parts.specs.IpSlice.{IsIpPacket, RefusesIp, header_bytes, header_len_of}
 use Rattle.packet_parts.specs.IpSlice.{ip_slice_error_text}
 use Rattle.packet_parts.specs.declared.checksum.Verdict.TheVariants.{Right}
@@ -207,6 +207,10 @@ pub record ChangesPort (offset port : ℕ) (before after : List ℕ) : Type 0 wh
       (network_order_word_sum (to_be_bytes w16 port))
       (updated_upper 1 slice.upper (checksum_field slice.upper slice.payload.now)
       (word_at offset slice.payload.now) (to_be_bytes w16 port))
+  -- a checksum that was right is right
+  pub keeps_right : IsVerdictOver slice.header slice.upper slice.payload.now Right
+      → IsVerdictOver slice.header slice.upper
+      (with_port slice.upper offset (to_be_bytes w16 port) slice.payload.now) Right
 
 -- An IPv4 header has another DSCP or ECN, in byte 1, and its checksum is updated for the first word:
 -- it is right exactly when it was before. All else stays.
