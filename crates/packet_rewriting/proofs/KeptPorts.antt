@@ -35,8 +35,13 @@ kept_with_word number answer offset high low front covered first even words some
     let zeros = with_checksum number 0 covered in
     let written = with_checksum number answer covered in
     let len_zeros : offset + 2 ≤ length zeros = omega (arith, before, enough, length-set (slice_set covered (checksum_place number) 0) (checksum_place number + 1) 0, length-set covered (checksum_place number) 0) in
-    let len_written : offset + 2 ≤ length written = omega (arith, before, enough, length-set (slice_set covered (checksum_place number) (answer / 256 % 256)) (checksum_place number + 1) (answer % 256),
-        length-set covered (checksum_place number) (answer / 256 % 256)) in
+    let len_written : offset + 2 ≤ length written = omega (
+      arith,
+      before,
+      enough,
+      length-set (slice_set covered (checksum_place number) (answer / 256 % 256)) (checksum_place number + 1) (answer % 256),
+      length-set covered (checksum_place number) (answer / 256 % 256),
+    ) in
     let without = network_order_word_sum (slice_set (slice_set zeros offset 0) (offset + 1) 0) in
     let old = network_order_word_sum (word_at offset covered) in
     let old_zeros : network_order_word_sum (word_at offset zeros) ≡ old = ap network_order_word_sum (word_before number 0 offset covered before) in
@@ -44,10 +49,17 @@ kept_with_word number answer offset high low front covered first even words some
     let rest : ℕ = first + without in
     let others : without + old ≡ network_order_word_sum zeros = omega (arith, replaced zeros offset 0 0 even_offset len_zeros, old_zeros) in
     let whole : network_order_word_sum (front ++ covered) ≡ old + rest + checksum_field number covered =
-        omega (arith, words, others, network_order_word_sum-append front covered even, stored-words number covered enough) in
+    omega (arith, words, others, network_order_word_sum-append front covered even, stored-words number covered enough) in
     let after : network_order_word_sum (front ++ slice_set (slice_set written offset high) (offset + 1) low) ≡ 256 * high + (1 * low + 0) + rest + answer =
-        omega (arith, words, others, old_written, network_order_word_sum-append front (slice_set (slice_set written offset high) (offset + 1) low) even,
-        replaced written offset high low even_offset len_written, with_checksum-words number answer covered fits enough) in
+    omega (
+      arith,
+      words,
+      others,
+      old_written,
+      network_order_word_sum-append front (slice_set (slice_set written offset high) (offset + 1) low) even,
+      replaced written offset high low even_offset len_written,
+      with_checksum-words number answer covered fits enough,
+    ) in
     ap folded_sum after ∙ kept number (checksum_field number covered) answer old _ rest updates there (omega (arith, some)) (sym (ap folded_sum whole) ∙ ones)
 
 -- what is covered is covered with another port
@@ -115,7 +127,7 @@ right_with_port : (number icmp offset high low : ℕ) (header payload covered : 
 right_with_port number icmp offset high low header payload covered ports even some even_offset within enough covers updates there sum =
     let answer = updated_upper 1 number (checksum_field number payload) (word_at offset payload) (high ∷ low ∷ []) in
     let here = subst (λ n. UpdatesUpper number n (network_order_word_sum (word_at offset covered)) (256 * high + (1 * low + 0)) answer) (sym (same_field icmp number payload covered covers))
-        (subst (λ w. UpdatesUpper number (checksum_field number payload) (network_order_word_sum w) (256 * high + (1 * low + 0)) answer) (sym (same_word icmp number offset payload covered within covers)) updates) in
+    (subst (λ w. UpdatesUpper number (checksum_field number payload) (network_order_word_sum w) (256 * high + (1 * low + 0)) answer) (sym (same_word icmp number offset payload covered within covers)) updates) in
     in_pieces false header _ even (kept_with_word number answer offset high low header covered (network_order_word_sum header) even refl some even_offset (after_ports number offset ports within)
     enough (updated_fits 1 number (checksum_field number payload) (word_at offset payload) (high ∷ low ∷ [])) here there (of_pieces header covered even sum))
 
@@ -171,7 +183,7 @@ port_kept_ipv6 number offset high low source destination payload ports a b even_
     let even = even_header source destination last (omega (arith, a)) (omega (arith, b)) refl in
     let len = len_with_port number answer offset high low covered in
     let some : 0 < network_order_word_sum (header (length covered)) =
-        omega (arith, a, b, network_order_word_sum-append source (destination ++ last) (omega (arith, a)), network_order_word_sum-append destination last (omega (arith, b)), ports_positive number ports) in (
+    omega (arith, a, b, network_order_word_sum-append source (destination ++ last) (omega (arith, a)), network_order_word_sum-append destination last (omega (arith, b)), ports_positive number ports) in (
       new,
       covers_ported 58 number offset high low _ written even_offset within (covers_written 58 number payload covered answer covers),
       record {

@@ -1,9 +1,9 @@
 -- A checksum of an upper layer that was right is right after an update.
-use Rattle.std.proofs.Common.{ℕ, Bool, true, false, ◌≡◌, ◌≢◌, ◌<◌, ◌≤◌, ◌+◌, ◌-◌, ◌*◌, ◌%◌, ◌∙◌, ◌==◌, ◌⊎◌, List, [], ◌∷◌, ◌++◌, ap, append-nil, arith, if◌then◌else◌, inl, inr, length, refl, sym, subst, take, suc, zero, sum_by, w16}
+use Rattle.std.proofs.Common.{ℕ, Bool, true, false, ◌≡◌, ◌≢◌, ◌<◌, ◌≤◌, ◌+◌, ◌-◌, ◌%◌, ◌∙◌, ◌==◌, ◌⊎◌, List, [], ◌∷◌, ◌++◌, ap, append-nil, arith, if◌then◌else◌, inl, inr, length, refl, sym, subst, sum_by, w16}
 use Rattle.std.specs.Int.{from_be_bytes, to_be_bytes}
 use Rattle.std.proofs.lemmas.Bool.Decides.{nat_tests}
 use Rattle.etherparse.proofs.WordSumLaws.{adds_slices, network_order_word_sum-append}
-use Rattle.etherparse.specs.WordSums.{SumsToAllOnes, UpdatesChecksum, UpdatesChecksumWithNoZero, checksum_of, folded_sum, little_endian_word_sum, network_order_word_sum, ones_complement_sum, updated_checksum, updated_checksum_of_words, with_no_zero}
+use Rattle.etherparse.specs.WordSums.{SumsToAllOnes, UpdatesChecksum, folded_sum, little_endian_word_sum, network_order_word_sum, ones_complement_sum, updated_checksum, updated_checksum_of_words}
 use Rattle.packet_parts.specs.Checksum.{Covers, IsRightIpv4, IsVerdictIpv4, IsWithoutChecksum, ipv4_pseudo_header, udp_checksum, udp_length}
 use Rattle.packet_parts.specs.declared.checksum.Verdict.TheVariants.{Right}
 use Rattle.std.proofs.lemmas.List.{get_or-take}

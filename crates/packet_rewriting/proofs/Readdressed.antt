@@ -1,5 +1,5 @@
 -- An IPv4 packet with another address, from its parts.
-use Rattle.std.proofs.Common.{ℕ, true, false, ◌≡◌, ◌≢◌, ◌≤◌, ◌+◌, ◌%◌, ◌∙◌, ◌⊎◌, List, [], ◌++◌, ap, append-nil, arith, drop, inl, inr, length, length-append, length-drop, length-take, refl, slice_range, subst, sym, take, take_at, append_assoc, w16}
+use Rattle.std.proofs.Common.{ℕ, true, false, ◌≡◌, ◌≢◌, ◌≤◌, ◌+◌, ◌%◌, ◌∙◌, ◌⊎◌, List, [], ◌++◌, ap, append-nil, arith, drop, length, length-append, length-drop, length-take, refl, slice_range, subst, sym, take, take_at, append_assoc, w16}
 use Rattle.std.specs.Int.{to_be_bytes}
 use Rattle.std.proofs.lemmas.Bool.Decides.{nat_tests}
 use Rattle.std.proofs.lemmas.List.{drop_at}

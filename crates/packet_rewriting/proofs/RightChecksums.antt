@@ -1,12 +1,10 @@
 -- A segment with the checksum that it should have is right.
-use Rattle.std.proofs.Common.{ℕ, Bool, true, false, ◌≡◌, ◌≢◌, ◌<◌, ◌≤◌, ◌+◌, ◌^◌, ◌%◌, ◌∙◌, ◌==◌, List, [], ◌∷◌, ◌++◌, ap, arith, if◌then◌else◌, inl, inr, length, length-append, length-set, length-take, refl, sym, subst, take, suc, zero, slice_set, w16, w32}
-use Rattle.std.specs.Int.{to_be_bytes}
-use Rattle.std.proofs.lemmas.Bool.Decides.{nat_tests}
-use Rattle.packet_parts.specs.Checksum.{BeginsWithDatagram, Covers, IsRightIpv4, IsRightIpv6, IsVerdictIpv4, IsVerdictIpv6, IsWithoutChecksum, ipv4_pseudo_header, ipv6_pseudo_header, udp_length}
+use Rattle.std.proofs.Common.{ℕ, false, ◌≡◌, ◌<◌, ◌≤◌, ◌+◌, ◌%◌, ◌∙◌, ◌==◌, List, [], ◌∷◌, ap, arith, if◌then◌else◌, inl, inr, length, length-set, length-take, refl, sym, subst, take, suc, zero, slice_set}
+use Rattle.packet_parts.specs.Checksum.{BeginsWithDatagram, Covers, IsVerdictIpv4, IsVerdictIpv6, IsWithoutChecksum, ipv4_pseudo_header, ipv6_pseudo_header, udp_length}
 use Rattle.packet_parts.specs.declared.checksum.Verdict.TheVariants.{Right}
 use Rattle.etherparse.specs.WordSums.{ones_complement_sum}
 use Rattle.packet_rewriting.proofs.ChecksumWords.{completed, even_before, even_header, in_pieces}
-use Rattle.packet_rewriting.specs.UpperChecksum.{IsIpv4Checksum, IsIpv6Checksum, checksum_place, complement_of, ipv4_before, with_checksum}
+use Rattle.packet_rewriting.specs.UpperChecksum.{IsIpv4Checksum, IsIpv6Checksum, checksum_place, ipv4_before, with_checksum}
 
 -- bytes are cut before or after one of them is set
 pub take_of_set : (n : ℕ) (bytes : List ℕ) (place byte : ℕ) → slice_set (take n bytes) place byte ≡ take n (slice_set bytes place byte)

@@ -1,4 +1,4 @@
-use Rattle.std.proofs.Common.{◌≡◌, ◌+◌, ◌-◌, length, arith, sym, ◌∙◌}
+use Rattle.std.proofs.Common.{◌≡◌, ◌+◌, ◌-◌, length, arith, sym}
 use Rattle.packet_rewriting.proofs.ChecksumWords.{overwritten}
 use Rattle.packet_rewriting.proofs.checksum.put.Goals as goal
 

@@ -1,4 +1,4 @@
-use Rattle.std.proofs.Common.{◌+◌, ap, arith, refl, sym}
+use Rattle.std.proofs.Common.{ap, arith, refl, sym}
 use Rattle.etherparse.specs.WordSums.{network_order_word_sum}
 use Rattle.packet_rewriting.proofs.Readdressed.{enough_for, readdressed}
 use Rattle.packet_rewriting.proofs.fields.set_destination_ipv4.Goals as goal
