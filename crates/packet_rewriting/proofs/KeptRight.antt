@@ -33,7 +33,7 @@ kept number checksum answer old new rest updates there some ones =
     ap folded_sum after ∙ received (number == 17) number checksum answer old new (old + rest) refl updates there (omega arith) (omega (arith, some)) (omega (arith, some)) ∙ ones
 
 -- the same with what comes before the payload, where the words change, and the payload
-kept_in : (number answer : ℕ) (front next covered : List ℕ) (old new rest : ℕ) → length front % 2 ≡ 0 → length next % 2 ≡ 0
+pub kept_in : (number answer : ℕ) (front next covered : List ℕ) (old new rest : ℕ) → length front % 2 ≡ 0 → length next % 2 ≡ 0
     → network_order_word_sum front ≡ old + rest → network_order_word_sum next ≡ new + rest → 0 < rest → checksum_place number + 2 ≤ length covered → answer < 65536
     → UpdatesUpper number (checksum_field number covered) old new answer → (number ≡ 17 → checksum_field number covered ≢ 0)
     → SumsToAllOnes (front ++ covered) → SumsToAllOnes (next ++ with_checksum number answer covered)

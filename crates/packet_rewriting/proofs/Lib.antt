@@ -1,4 +1,5 @@
 mod ChecksumWords
+mod KeptIpv6
 mod KeptPorts
 mod KeptRight
 mod Readdressed

@@ -37,7 +37,7 @@ covers_no_tcp (header_slice.Ipv4 view) number other is = grind (arith, nat_tests
 covers_no_tcp (header_slice.Ipv6 view) number other is = grind (arith, nat_tests, other, is)
 
 -- the least header has room for its checksum
-least_enough : (number : ℕ) → checksum_place number + 2 ≤ least_len number
+pub least_enough : (number : ℕ) → checksum_place number + 2 ≤ least_len number
 least_enough number = grind (arith, nat_tests)
 
 -- how a packet is split

@@ -15,7 +15,7 @@ use Rattle.etherparse.specs.WordSums.{with_no_zero}
 use Rattle.etherparse.specs.declared.IpEcn.{IpEcn}
 use Rattle.etherparse.specs.declared.net.ipv4_header.Ipv4Header.{Ipv4Header}
 use Rattle.etherparse.specs.declared.net.ipv6_header.Ipv6Header.{Ipv6Header}
-use Rattle.packet_parts.specs.Checksum.{IsVerdictIpv4, IsVerdictOver}
+use Rattle.packet_parts.specs.Checksum.{IsVerdictIpv4, IsVerdictIpv6, IsVerdictOver}
 use Rattle.packet_parts.specs.IpSlice.{IsIpPacket, RefusesIp, header_bytes, header_len_of}
 use Rattle.packet_parts.specs.IpSlice.{ip_slice_error_text}
 use Rattle.packet_parts.specs.declared.checksum.Verdict.TheVariants.{Right}
@@ -151,6 +151,54 @@ pub record ReaddressesIpv4 (offset : ℕ) (address before after : List ℕ) (rea
       → IsVerdictIpv4 (slice_range (header_bytes slice.header) 12 16)
       (slice_range (header_bytes slice.header) 16 20) slice.upper slice.payload.now Right
       → IsVerdictIpv4 (slice_range front 12 16) (slice_range front 16 20) slice.upper payload Right
+
+-- an IPv6 packet with this header, cut at its length field and after its headers
+pub record CutsIpv6 (packet : List ℕ) (header : Ipv6Header) (cut : Cut) : Type 0 where
+  pub slice : IpSlice
+  pub parts : IsIpPacket packet slice
+  pub version : version_in slice.header ≡ 6
+  pub layout : IsIpv6Layout header (header_bytes slice.header)
+  pub header_len : cut.header_len ≡ header_len_of slice
+  pub payload_len : cut.payload_len ≡ length slice.payload.now
+  pub upper : cut.upper ≡ slice.upper
+  pub reaches : Reaches slice cut.reach
+  pub trailer : List ℕ
+  pub whole : packet
+      ≡ header_bytes slice.header ++ slice.extensions.now ++ (slice.payload.now ++ trailer)
+
+-- An IPv6 packet has another address in place of the old one, and the checksum of its upper layer
+-- is updated for it. Its extension headers and what the link added after it stay.
+pub record ReaddressesIpv6 (old : Ipv6Header → List ℕ) (address : List ℕ)
+    (readdressed : Ipv6Header → Ipv6Header) (before after : List ℕ) (reach : Reach) : Type 0 where
+  pub slice : IpSlice
+  pub parts : IsIpPacket before slice
+  pub version : version_in slice.header ≡ 6
+  pub reaches : Reaches slice reach
+  pub trailer : List ℕ
+  pub whole : before
+      ≡ header_bytes slice.header ++ slice.extensions.now ++ (slice.payload.now ++ trailer)
+  pub header : Ipv6Header
+  pub layout : IsIpv6Layout header (header_bytes slice.header)
+  pub front : List ℕ
+  pub becomes : BeginsWith IsIpv6Layout front (readdressed header) slice.extensions.now
+  -- the payload is another one, or the same
+  pub payload : List ℕ
+  pub updated : UpdatesPayload reach 8 slice.upper (old header) address slice.payload.now payload
+  pub changed : after ≡ front ++ (payload ++ trailer)
+  -- the checksum of a payload that is no later fragment is right if it was before
+  pub keeps_right : slice.is_later_fragment ≡ false
+      → IsVerdictIpv6 header.source header.destination slice.upper slice.payload.now Right
+      → IsVerdictIpv6 (readdressed header).source (readdressed header).destination slice.upper
+      payload Right
+
+-- a packet of IPv6 has another source, and another destination
+abbrev pub HasOtherSource : List ℕ → List ℕ → List ℕ → Reach → Type 0
+HasOtherSource source =
+    ReaddressesIpv6 (λ h. h.source) source (λ h. record h { source = source })
+
+abbrev pub HasOtherDestination : List ℕ → List ℕ → List ℕ → Reach → Type 0
+HasOtherDestination destination = ReaddressesIpv6 (λ h. h.destination) destination
+    (λ h. record h { destination = destination })
 
 -- a word of two bytes, from an offset on
 abbrev pub word_at : ℕ → List ℕ → List ℕ

@@ -12,7 +12,8 @@ ghost use Rattle.etherparse.specs.Ipv6Header.{IsIpv6Layout};
 ghost use Rattle.etherparse.specs.Reading.{BeginsWith};
 ghost use Rattle.etherparse.specs.WordSums.{network_order_word_sum};
 ghost use Rattle.etherparse.specs.HeaderChecksum.{with_field_and_checksum};
-ghost use Rattle.packet_rewriting.specs.Fields.{CutsIpv4, EndsInUpper, ReaddressesIpv4, Reaches};
+ghost use Rattle.packet_rewriting.specs.Fields.{CutsIpv4, CutsIpv6, EndsInUpper, ReaddressesIpv4};
+ghost use Rattle.packet_rewriting.specs.Fields.{HasOtherDestination, HasOtherSource, Reaches};
 ghost use Rattle.packet_rewriting.specs.Fields.{ChangesPort, CutsAtPorts, HasOtherDscp};
 ghost use Rattle.packet_rewriting.specs.Fields.{HasOtherEcn, MarksIpv4, MarksIpv6};
 ghost use Rattle.packet_rewriting.specs.Fields.{RefusesAddress, RefusesMark, RefusesPort};
@@ -25,6 +26,7 @@ ghost use Rattle.packet_rewriting.specs.declared.fields.Reach.TheVariants as rea
 use crate::checksum::{ICMP_LEN, place_of_checksum, put, put_checksum};
 use etherparse::checksum::{
     update_2bytes, update_2bytes_with_no_zero, update_4bytes, update_4bytes_with_no_zero,
+    update_16bytes, update_16bytes_with_no_zero,
 };
 use etherparse::{IpDscp, IpEcn, IpNumber, Ipv4Header, Ipv6Header};
 use packet_parts::ip_slice::{IpHeaderSlice, IpSlice, IpSliceError};
@@ -145,6 +147,55 @@ pub fn set_destination_ipv4(packet: &mut [u8], destination: [u8; 4]) -> Result<R
     put_address_ipv4(front, 16, destination, header.header_checksum);
     update_for_ipv4(&mut rest[..parts.payload_len], &parts, old, destination);
     Ok(parts.reach)
+}
+
+/// Gives an IPv6 packet another source address in place: bytes 8 to 23, and the checksum of UDP, TCP
+/// or ICMPv6, if [`Reach`] says so. All else stays the same, also what comes after the packet. In a
+/// packet with a routing header, the checksum is updated as if the header's destination were the
+/// last one (RFC 8200 section 8.1).
+///
+/// # Errors
+///
+/// In this order: `Ip`; `OtherVersion` if the packet is one of IPv4; `Incomplete`. The packet is
+/// then unchanged.
+pub fn set_source_ipv6(packet: &mut [u8], source: [u8; 16]) -> Result<Reach, RewriteError>
+    ensures changed { IfOk result (HasOtherSource source packet.old packet.new) }
+    ensures refused { IfErr result (RefusesAddress 6 packet.old) }
+    ensures unchanged { OnErr result (packet.new ≡ packet.old) }
+{
+    let (header, cut) = match ipv6_parts(packet) {
+        Ok(found) => found,
+        Err(e) => return Err(e),
+    };
+    let old = source_in(&header);
+    let next = with_source(header, source);
+    let (front, rest) = packet.split_at_mut(cut.header_len);
+    put_ipv6(front, &next);
+    update_for_ipv6(&mut rest[..cut.payload_len], &cut, old, source);
+    Ok(cut.reach)
+}
+
+/// Gives an IPv6 packet another destination address in place, bytes 24 to 39, as
+/// [`set_source_ipv6`] gives it another source address.
+///
+/// # Errors
+///
+/// Those of [`set_source_ipv6`]. The packet is then unchanged.
+pub fn set_destination_ipv6(packet: &mut [u8], destination: [u8; 16]) -> Result<Reach, RewriteError>
+    ensures changed { IfOk result (HasOtherDestination destination packet.old packet.new) }
+    ensures refused { IfErr result (RefusesAddress 6 packet.old) }
+    ensures unchanged { OnErr result (packet.new ≡ packet.old) }
+{
+    let (header, cut) = match ipv6_parts(packet) {
+        Ok(found) => found,
+        Err(e) => return Err(e),
+    };
+    let old = destination_in(&header);
+    let next = with_destination(header, destination);
+    let (front, rest) = packet.split_at_mut(cut.header_len);
+    put_ipv6(front, &next);
+    update_for_ipv6(&mut rest[..cut.payload_len], &cut, old, destination);
+    Ok(cut.reach)
 }
 
 /// Gives a packet of either version that carries UDP or TCP another source port in place: bytes 0
@@ -283,6 +334,54 @@ fn ipv4_parts(packet: &[u8]) -> Result<(Ipv4Header, Cut), RewriteError>
             Ok((view.to_header(), cut))
         }
         IpHeaderSlice::Ipv6(_) => Err(RewriteError::OtherVersion),
+    }
+}
+
+// The header of a packet of IPv6, and how the packet is cut.
+fn ipv6_parts(packet: &[u8]) -> Result<(Ipv6Header, Cut), RewriteError>
+    ensures found { IfOk result (λ x. CutsIpv6 packet.now x.0 x.1) }
+    ensures refused { IfErr result (RefusesAddress 6 packet.now) }
+{
+    let slice = match IpSlice::from_slice(packet) {
+        Ok(slice) => slice,
+        Err(e) => return Err(RewriteError::Ip(e)),
+    };
+    match slice.header {
+        IpHeaderSlice::Ipv6(view) => {
+            let reach = match reach_of(&slice) {
+                Some(reach) => reach,
+                None => return Err(RewriteError::Incomplete),
+            };
+            let cut = Cut {
+                header_len: slice.header_len(),
+                payload_len: slice.payload.len(),
+                upper: slice.upper,
+                reach,
+            };
+            Ok((view.to_header(), cut))
+        }
+        IpHeaderSlice::Ipv4(_) => Err(RewriteError::OtherVersion),
+    }
+}
+
+// Updates the checksum of a payload for another IPv6 address, if the change reaches it.
+fn update_for_ipv6(payload: &mut [u8], cut: &Cut, old: [u8; 16], new: [u8; 16])
+    requires enough { cut.now.reach ≡ reaching.Upper →
+        checksum_place cut.now.upper + 2 ≤ length payload.now }
+    ensures updated { UpdatesPayload cut.now.reach 8 cut.now.upper old new payload.old
+        payload.new }
+{
+    match cut.reach {
+        Reach::Upper => {
+            let checksum = checksum_in(payload, cut.upper);
+            let updated = if cut.upper == IpNumber::UDP {
+                update_16bytes_with_no_zero(checksum, old, new)
+            } else {
+                update_16bytes(checksum, old, new)
+            };
+            put_checksum(payload, cut.upper, updated);
+        }
+        Reach::LaterFragment | Reach::OtherProtocol => {}
     }
 }
 
@@ -538,4 +637,35 @@ fn put_ipv6(packet: &mut [u8], header: &Ipv6Header)
     ensures written { BeginsWith IsIpv6Layout packet.new header.now (drop 40 packet.old) }
 {
     packet[..Ipv6Header::LEN].copy_from_slice(&header.to_bytes());
+}
+
+// An IPv6 header with another source address.
+fn with_source(header: Ipv6Header, source: [u8; 16]) -> Ipv6Header
+    ensures value { result ≡ record header { source = source } }
+{
+    Ipv6Header { source, ..header }
+}
+
+// An IPv6 header with another destination address.
+fn with_destination(header: Ipv6Header, destination: [u8; 16]) -> Ipv6Header
+    ensures value { result ≡ record header { destination = destination } }
+{
+    Ipv6Header {
+        destination,
+        ..header
+    }
+}
+
+// The source address of an IPv6 header.
+fn source_in(header: &Ipv6Header) -> [u8; 16]
+    ensures value { result ≡ header.now.source }
+{
+    header.source
+}
+
+// The destination address of an IPv6 header.
+fn destination_in(header: &Ipv6Header) -> [u8; 16]
+    ensures value { result ≡ header.now.destination }
+{
+    header.destination
 }
