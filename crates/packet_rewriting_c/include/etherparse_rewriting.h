@@ -92,7 +92,7 @@ uint32_t etherparse_set_checksum_ipv6(const uint8_t source[16], const uint8_t de
 
 /* How far the change of an address reaches. */
 enum {
-    ETHERPARSE_REACH_UPPER = 1, /* the checksum of UDP or TCP is updated too */
+    ETHERPARSE_REACH_UPPER = 1, /* the checksum of UDP, TCP or, over IPv6, ICMPv6 is updated too */
     /* the payload is a later fragment: the checksum that covers the address is in the first one */
     ETHERPARSE_REACH_LATER_FRAGMENT = 2,
     ETHERPARSE_REACH_OTHER_PROTOCOL = 3 /* the checksum of the protocol covers no addresses */
@@ -109,6 +109,12 @@ struct etherparse_reach_answer etherparse_set_source_ipv4(uint8_t *packet, size_
     const uint8_t source[4]);
 struct etherparse_reach_answer etherparse_set_destination_ipv4(uint8_t *packet, size_t len,
     const uint8_t destination[4]);
+
+/* The same of an IPv6 packet, with the checksum of UDP, TCP or ICMPv6. */
+struct etherparse_reach_answer etherparse_set_source_ipv6(uint8_t *packet, size_t len,
+    const uint8_t source[16]);
+struct etherparse_reach_answer etherparse_set_destination_ipv6(uint8_t *packet, size_t len,
+    const uint8_t destination[16]);
 
 /* Gives a packet of either version with UDP or TCP another port, with the checksum. Errors, in this
  * order: EMPTY to EXTENSIONS, LATER_FRAGMENT, OTHER_PROTOCOL, INCOMPLETE. */

@@ -81,6 +81,16 @@ unsafe extern "C" {
         len: usize,
         destination: &[u8; 4],
     ) -> ReachAnswer;
+    pub fn etherparse_set_source_ipv6(
+        packet: *mut u8,
+        len: usize,
+        source: &[u8; 16],
+    ) -> ReachAnswer;
+    pub fn etherparse_set_destination_ipv6(
+        packet: *mut u8,
+        len: usize,
+        destination: &[u8; 16],
+    ) -> ReachAnswer;
     pub fn etherparse_set_source_port(packet: *mut u8, len: usize, port: u16) -> u32;
     pub fn etherparse_set_destination_port(packet: *mut u8, len: usize, port: u16) -> u32;
     pub fn etherparse_set_dscp(packet: *mut u8, len: usize, dscp: u8) -> u32;

@@ -3,13 +3,14 @@
 ghost use Rattle.std.specs.Prelude.{◌≡◌, ◌≢◌, ◌<◌, ◌⊎◌};
 ghost use Rattle.packet_rewriting.specs.Fields.{ChangesPort, HasOtherDscp, HasOtherEcn};
 ghost use Rattle.packet_rewriting.specs.Fields.{ReaddressesIpv4, RefusesAddress, RefusesMark};
-ghost use Rattle.packet_rewriting.specs.Fields.{RefusesPort};
+ghost use Rattle.packet_rewriting.specs.Fields.{HasOtherDestination, HasOtherSource, RefusesPort};
 ghost use Rattle.packet_rewriting_c.specs.Answer.{IsOtherEcn, IsReach, IsRefused, rewrite_kind};
 
 use crate::answer::{OK, ReachAnswer, VALUE_TOO_BIG, kind_of_rewrite, number_of_reach};
 use etherparse::{IpDscp, IpEcn};
 use packet_rewriting::fields::{
-    set_destination_ipv4, set_destination_port, set_dscp, set_ecn, set_source_ipv4, set_source_port,
+    set_destination_ipv4, set_destination_ipv6, set_destination_port, set_dscp, set_ecn,
+    set_source_ipv4, set_source_ipv6, set_source_port,
 };
 
 /// Gives an IPv4 packet another source address. If there is an error, the packet is unchanged.
@@ -46,6 +47,51 @@ pub extern "C" fn etherparse_set_destination_ipv4(
     ensures unchanged { result.error ≢ 0 → packet.new ≡ packet.old }
 {
     match set_destination_ipv4(packet, *destination) {
+        Ok(reach) => ReachAnswer {
+            error: OK,
+            reach: number_of_reach(reach),
+        },
+        Err(e) => ReachAnswer {
+            error: kind_of_rewrite(&e),
+            reach: 0,
+        },
+    }
+}
+
+/// Gives an IPv6 packet another source address. If there is an error, the packet is unchanged.
+#[unsafe(no_mangle)]
+pub extern "C" fn etherparse_set_source_ipv6(packet: &mut [u8], source: &[u8; 16]) -> ReachAnswer
+    ensures changed { result.error ≡ 0 →
+        IsReach (HasOtherSource source.now packet.old packet.new) result.reach }
+    ensures refused { result.error ≢ 0 →
+        IsRefused (RefusesAddress 6 packet.old) rewrite_kind result.error }
+    ensures unchanged { result.error ≢ 0 → packet.new ≡ packet.old }
+{
+    match set_source_ipv6(packet, *source) {
+        Ok(reach) => ReachAnswer {
+            error: OK,
+            reach: number_of_reach(reach),
+        },
+        Err(e) => ReachAnswer {
+            error: kind_of_rewrite(&e),
+            reach: 0,
+        },
+    }
+}
+
+/// Gives an IPv6 packet another destination address. If there is an error, the packet is unchanged.
+#[unsafe(no_mangle)]
+pub extern "C" fn etherparse_set_destination_ipv6(
+    packet: &mut [u8],
+    destination: &[u8; 16],
+) -> ReachAnswer
+    ensures changed { result.error ≡ 0 →
+        IsReach (HasOtherDestination destination.now packet.old packet.new) result.reach }
+    ensures refused { result.error ≢ 0 →
+        IsRefused (RefusesAddress 6 packet.old) rewrite_kind result.error }
+    ensures unchanged { result.error ≢ 0 → packet.new ≡ packet.old }
+{
+    match set_destination_ipv6(packet, *destination) {
         Ok(reach) => ReachAnswer {
             error: OK,
             reach: number_of_reach(reach),

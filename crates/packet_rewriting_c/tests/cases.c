@@ -150,6 +150,28 @@ static void segments(void)
     EXPECT(etherparse_set_source_ipv4(longer, sizeof longer, PUBLIC).error, ETHERPARSE_REWRITING_OTHER_VERSION);
 }
 
+/* Other addresses of IPv6: of a message of ICMPv6, whose checksum covers them, and of TCP. */
+static void longer_addresses(void)
+{
+    static const uint8_t source[16] = {0x20, 0x01, 0x0d, 0xb8, 0x12, 0x34, 0, 0, 0, 0, 0, 0, 0, 0, 0, 0x77};
+    static const uint8_t destination[16] = {0x20, 0x01, 0x0d, 0xb8, 0, 5, 0, 0, 0, 0, 0, 0, 0, 0, 0, 0x99};
+    uint8_t message[50];
+    uint8_t segment[63];
+    uint8_t older[32];
+    bytes_of("60000000000a3a4020010db800000000000000000000000120010db80000000000000000000000028000b0ae123400016162", message);
+    EXPECT(etherparse_set_source_ipv6(message, sizeof message, source).reach, ETHERPARSE_REACH_UPPER);
+    EXPECT(etherparse_set_destination_ipv6(message, sizeof message, destination).error, 0);
+    EXPECT_BYTES(message, "60000000000a3a4020010db812340000000000000000007720010db800050000000000000000009980009d68123400016162");
+    bytes_of("62b123450017064020010db800000000000000000000000120010db80000000000000000000000029c401f90010203040506070850182000a40d"
+             "0000616263", segment);
+    EXPECT(etherparse_set_source_ipv6(segment, sizeof segment, source).reach, ETHERPARSE_REACH_UPPER);
+    EXPECT(etherparse_set_destination_ipv6(segment, sizeof segment, destination).reach, ETHERPARSE_REACH_UPPER);
+    EXPECT_BYTES(segment, "62b123450017064020010db812340000000000000000007720010db80005000000000000000000999c401f90010203040506070850182000"
+                          "90c70000616263");
+    bytes_of("45000020000000004011f8b4c0a80001c0a800c704000035000c000074657374", older);
+    EXPECT(etherparse_set_source_ipv6(older, sizeof older, source).error, ETHERPARSE_REWRITING_OTHER_VERSION);
+}
+
 /* A later fragment, a message of ICMP, and a datagram without a checksum. */
 static void headers_alone(void)
 {
@@ -213,6 +235,7 @@ int main(void)
     checksums();
     fields();
     segments();
+    longer_addresses();
     headers_alone();
     refusals();
     texts();
