@@ -61,7 +61,10 @@ build_alone() { (cd "$crates/$1" && rt lib); }
 
 # What a library needs of the C library: of memcpy, memmove, memset and memcmp, which compilers call by
 # themselves. One that is not named here needs nothing.
-declare -A needs=()
+declare -A needs=(
+  [packet_filter_c]='memcpy memset'
+  [packet_reassembly_c]='memcpy memmove memset'
+)
 
 # Whether a library needs that and nothing else, and exports its calls alone.
 stands_alone() {

@@ -42,6 +42,8 @@ mod packet_examples;
 mod reassembly;
 mod reassembly_examples;
 #[cfg(test)]
+mod rewriting_examples;
+#[cfg(test)]
 mod shared;
 #[cfg(test)]
 mod skipping;

@@ -1,2 +1,4 @@
 pub mod Echo
+pub mod Fields
 pub mod Translation
+pub mod UpperChecksum

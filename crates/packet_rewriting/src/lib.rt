@@ -1,6 +1,8 @@
-//! Packets that are rewritten: the replies to echo requests, and other addresses, each with the
-//! checksums for it.
+//! Packets that are rewritten: the replies to echo requests, checksums, and other addresses, each
+//! with the checksums for it.
 #![tactic(auto)]
 
+pub mod checksum;
 pub mod echo;
+pub mod fields;
 pub mod translation;

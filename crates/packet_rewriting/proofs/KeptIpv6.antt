@@ -1,0 +1,151 @@
+-- An IPv6 packet with another address, from its parts, and that a checksum that was right is right.
+use Rattle.std.proofs.Common.{ℕ, false, true, ◌≡◌, ◌<◌, ◌≤◌, ◌+◌, ◌∙◌, List, [], ◌∷◌, ◌++◌, ap, arith, drop, inl, inr, length, length-append, length-drop, length-take, refl, subst, sym, take, take_at, w32}
+use Rattle.std.specs.Int.{to_be_bytes}
+use Rattle.std.proofs.lemmas.Bool.Decides.{nat_tests}
+use Rattle.std.proofs.lemmas.List.{drop_at}
+use Rattle.etherparse.proofs.WordSumLaws.{network_order_word_sum-append}
+use Rattle.etherparse.specs.Ipv6Header.{IsIpv6Layout}
+use Rattle.etherparse.specs.Reading.{BeginsWith}
+use Rattle.etherparse.specs.WordSums.{network_order_word_sum, ones_complement_sum}
+use Rattle.etherparse.specs.declared.net.ipv6_header.Ipv6Header.{Ipv6Header}
+use Rattle.packet_parts.specs.Checksum.{Covers, IsVerdictIpv6, ipv6_pseudo_header}
+use Rattle.packet_parts.specs.IpSlice.{header_bytes}
+use Rattle.packet_parts.specs.declared.checksum.Verdict.TheVariants.{Right}
+use Rattle.packet_parts.specs.declared.ip_slice.IpHeaderSlice.{IpHeaderSlice}
+use Rattle.packet_parts.specs.declared.ip_slice.IpHeaderSlice.TheVariants as header_slice
+use Rattle.packet_parts.specs.declared.ip_slice.IpSlice.{IpSlice}
+use Rattle.packet_rewriting.proofs.ChecksumWords.{even_header, in_pieces}
+use Rattle.packet_rewriting.proofs.KeptRight.{field_there, kept_in, of_pieces, same_field, updated_fits, updated_there}
+use Rattle.packet_rewriting.proofs.Readdressed.{least_enough}
+use Rattle.packet_rewriting.proofs.RightChecksums.{covers_enough, covers_written, has_checksum, same_length}
+use Rattle.packet_rewriting.specs.Fields.{CutsIpv6, ReaddressesIpv6, Reaches, UpdatesPayload, UpdatesUpper, covers_addresses, updated_upper, version_in, with_updated}
+use Rattle.packet_rewriting.specs.UpperChecksum.{checksum_field, checksum_place, with_checksum}
+use Rattle.packet_rewriting.specs.declared.fields.Cut.{Cut}
+use Rattle.packet_rewriting.specs.declared.fields.Reach.{Reach}
+use Rattle.packet_rewriting.specs.declared.fields.Reach.TheVariants as reaching
+
+-- over IPv6 the checksums of UDP, TCP and ICMPv6 cover the addresses, and no other is known
+covers_positive : (h : IpHeaderSlice) (number : ℕ) → version_in h ≡ 6 → covers_addresses h number ≡ true → 0 < number
+covers_positive (header_slice.Ipv4 view) number six covers = absurd (omega (arith, six))
+covers_positive (header_slice.Ipv6 view) number six covers = grind (arith, nat_tests, covers)
+
+covers_no_other : (h : IpHeaderSlice) (number : ℕ) (payload covered : List ℕ) → version_in h ≡ 6 → covers_addresses h number ≡ false → ¬ Covers 58 number payload covered
+covers_no_other (header_slice.Ipv4 view) number payload covered six other covers = absurd (omega (arith, six))
+covers_no_other (header_slice.Ipv6 view) number payload covered six other (inl (is, begins)) = grind (arith, nat_tests, other, is)
+covers_no_other (header_slice.Ipv6 view) number payload covered six other (inr (inl (is, least, all))) = grind (arith, nat_tests, other, is)
+covers_no_other (header_slice.Ipv6 view) number payload covered six other (inr (inr (is, least, all))) = grind (arith, nat_tests, other, is)
+
+-- the words of a pseudo-header
+words_ipv6 : (source destination : List ℕ) (number len : ℕ) → length source ≡ 16 → length destination ≡ 16
+    → network_order_word_sum (ipv6_pseudo_header source destination number len)
+    ≡ network_order_word_sum source + network_order_word_sum destination + network_order_word_sum (to_be_bytes w32 len ++ (0 ∷ 0 ∷ 0 ∷ number ∷ []))
+words_ipv6 source destination number len a b =
+    let last = to_be_bytes w32 len ++ (0 ∷ 0 ∷ 0 ∷ number ∷ []) in
+    omega (arith, network_order_word_sum-append source (destination ++ last) (omega (arith, a)), network_order_word_sum-append destination last (omega (arith, b)))
+
+-- a payload that is right with its pseudo-header is so with one address changed in that, and its checksum updated
+verdict_kept_ipv6 : (words number : ℕ) (source destination next_source next_destination old new payload : List ℕ) (rest : ℕ) → 0 < number
+    → length source ≡ 16 → length destination ≡ 16 → length next_source ≡ 16 → length next_destination ≡ 16
+    → network_order_word_sum source + network_order_word_sum destination ≡ network_order_word_sum old + rest
+    → network_order_word_sum next_source + network_order_word_sum next_destination ≡ network_order_word_sum new + rest
+    → UpdatesUpper number (checksum_field number payload) (network_order_word_sum old) (network_order_word_sum new) (updated_upper words number (checksum_field number payload) old new)
+    → IsVerdictIpv6 source destination number payload Right → IsVerdictIpv6 next_source next_destination number (with_updated words number old new payload) Right
+verdict_kept_ipv6 words number source destination next_source next_destination old new payload rest some a b c d words_are next_words updates (covered, covers, right) =
+    let answer = updated_upper words number (checksum_field number payload) old new in
+    let enough = covers_enough 58 number payload covered refl covers in
+    let same = same_field 58 number payload covered covers in
+    let there = field_there number covered enough right.there in
+    let fits = updated_fits words number (checksum_field number payload) old new in
+    let written = with_checksum number answer covered in
+    let len = same_length number answer covered in
+    let last = to_be_bytes w32 (length covered) ++ (0 ∷ 0 ∷ 0 ∷ number ∷ []) in
+    let even = even_header source destination last (omega (arith, a)) (omega (arith, b)) refl in
+    let even_next = even_header next_source next_destination last (omega (arith, c)) (omega (arith, d)) refl in
+    let others : ℕ = rest + network_order_word_sum last in
+    let ones = kept_in number answer (ipv6_pseudo_header source destination number (length covered)) (ipv6_pseudo_header next_source next_destination number (length covered)) covered
+    (network_order_word_sum old) (network_order_word_sum new) others even even_next
+    (omega (arith, words_are, words_ipv6 source destination number (length covered) a b)) (omega (arith, next_words, words_ipv6 next_source next_destination number (length covered) c d))
+    (omega (arith, some)) enough fits (subst (λ n. UpdatesUpper number n (network_order_word_sum old) (network_order_word_sum new) answer) (sym same) updates) there
+    (of_pieces (ipv6_pseudo_header source destination number (length covered)) covered even right.sum) in (
+      written,
+      covers_written 58 number payload covered answer covers,
+      record {
+        there = has_checksum number answer covered enough fits (λ is. updated_there words number _ old new is (λ zero_field. there is (same ∙ zero_field)));
+        fits = rw len right.fits;
+        sum = subst (λ n. ones_complement_sum (ipv6_pseudo_header next_source next_destination number n ∷ written ∷ []) ≡ 65535) (sym len)
+            (in_pieces false (ipv6_pseudo_header next_source next_destination number (length covered)) written even_next ones);
+      },
+    )
+
+-- how far the change reaches
+reach_kept_ipv6 : (reach : Reach) (slice : IpSlice) (source destination next_source next_destination old new payload : List ℕ) (rest : ℕ) → version_in slice.header ≡ 6 → Reaches slice reach
+    → slice.is_later_fragment ≡ false → length source ≡ 16 → length destination ≡ 16 → length next_source ≡ 16 → length next_destination ≡ 16
+    → network_order_word_sum source + network_order_word_sum destination ≡ network_order_word_sum old + rest
+    → network_order_word_sum next_source + network_order_word_sum next_destination ≡ network_order_word_sum new + rest
+    → UpdatesPayload reach 8 slice.upper old new slice.payload.now payload
+    → IsVerdictIpv6 source destination slice.upper slice.payload.now Right → IsVerdictIpv6 next_source next_destination slice.upper payload Right
+reach_kept_ipv6 reaching.Upper slice source destination next_source next_destination old new payload rest six reaches now a b c d words next_words updates right =
+    rw updates.is (verdict_kept_ipv6 8 slice.upper source destination next_source next_destination old new slice.payload.now rest (covers_positive slice.header slice.upper six reaches.1)
+    a b c d words next_words (updates.updates refl) right)
+reach_kept_ipv6 reaching.LaterFragment slice source destination next_source next_destination old new payload rest six reaches now a b c d words next_words updates right =
+    absurd (grind (arith, reaches, now))
+reach_kept_ipv6 reaching.OtherProtocol slice source destination next_source next_destination old new payload rest six reaches now a b c d words next_words updates right =
+    absurd (covers_no_other slice.header slice.upper slice.payload.now right.0 six reaches.1 right.1)
+
+-- how a packet is split
+headers_are : {before : List ℕ} {header : Ipv6Header} {cut : Cut} (cuts : CutsIpv6 before header cut) (front : List ℕ) → front ≡ take cut.header_len before
+    → front ≡ header_bytes cuts.slice.header ++ cuts.slice.extensions.now
+headers_are {cut = cut} cuts front is = is ∙ ap (take cut.header_len) cuts.whole
+    ∙ take_at (header_bytes cuts.slice.header ++ cuts.slice.extensions.now) _ cut.header_len (length-append (header_bytes cuts.slice.header) cuts.slice.extensions.now ∙ sym cuts.header_len)
+
+others_are : {before : List ℕ} {header : Ipv6Header} {cut : Cut} (cuts : CutsIpv6 before header cut) (rest : List ℕ) → rest ≡ drop cut.header_len before
+    → rest ≡ cuts.slice.payload.now ++ cuts.trailer
+others_are {cut = cut} cuts rest is = is ∙ ap (drop cut.header_len) cuts.whole
+    ∙ drop_at (header_bytes cuts.slice.header ++ cuts.slice.extensions.now) _ cut.header_len (length-append (header_bytes cuts.slice.header) cuts.slice.extensions.now ∙ sym cuts.header_len)
+
+pub long_ipv6 : {before : List ℕ} {header : Ipv6Header} {cut : Cut} (cuts : CutsIpv6 before header cut) (front : List ℕ) → front ≡ take cut.header_len before → 40 ≤ length front
+long_ipv6 cuts front is = omega (arith, ap length (headers_are cuts front is), length-append (header_bytes cuts.slice.header) cuts.slice.extensions.now, cuts.layout.len)
+
+taken : {before : List ℕ} {header : Ipv6Header} {cut : Cut} (cuts : CutsIpv6 before header cut) (rest : List ℕ) → rest ≡ drop cut.header_len before → take cut.payload_len rest ≡ cuts.slice.payload.now
+taken {cut = cut} cuts rest is = ap (take cut.payload_len) (others_are cuts rest is) ∙ take_at cuts.slice.payload.now cuts.trailer cut.payload_len (sym cuts.payload_len)
+
+pub enough_ipv6 : {before : List ℕ} {header : Ipv6Header} {cut : Cut} (cuts : CutsIpv6 before header cut) (rest : List ℕ) → rest ≡ drop cut.header_len before
+    → cut.reach ≡ reaching.Upper → checksum_place cut.upper + 2 ≤ length (take cut.payload_len rest)
+enough_ipv6 {cut = cut} cuts rest is upper =
+    let reaches : Reaches cuts.slice reaching.Upper = subst (Reaches cuts.slice) upper cuts.reaches in
+    rw (taken cuts rest is, cuts.upper) (omega (arith, reaches.2, least_enough cuts.slice.upper))
+
+-- the packet with another address, from what was written to its parts
+pub readdressed_ipv6 : {before : List ℕ} {header : Ipv6Header} {cut : Cut} (cuts : CutsIpv6 before header cut) (old : Ipv6Header → List ℕ) (change : Ipv6Header → Ipv6Header)
+    (address after first front rest payload : List ℕ) (others : ℕ) → first ≡ take cut.header_len before → rest ≡ drop cut.header_len before
+    → BeginsWith IsIpv6Layout front (change header) (drop 40 first) → UpdatesPayload cut.reach 8 cut.upper (old header) address (take cut.payload_len rest) payload
+    → after ≡ front ++ (payload ++ drop cut.payload_len rest)
+    → network_order_word_sum header.source + network_order_word_sum header.destination ≡ network_order_word_sum (old header) + others
+    → network_order_word_sum (change header).source + network_order_word_sum (change header).destination ≡ network_order_word_sum address + others
+    → length (change header).source ≡ 16 → length (change header).destination ≡ 16
+    → ReaddressesIpv6 old address change before after cut.reach
+readdressed_ipv6 {header = header} {cut = cut} cuts old change address after first front rest payload others first_is rest_is begins updates is words next_words c d =
+    let slice = cuts.slice in
+    let extensions : drop 40 first ≡ slice.extensions.now = ap (drop 40) (headers_are cuts first first_is) ∙ drop_at (header_bytes slice.header) slice.extensions.now 40 cuts.layout.len in
+    let left : drop cut.payload_len rest ≡ cuts.trailer = ap (drop cut.payload_len) (others_are cuts rest rest_is) ∙ drop_at slice.payload.now cuts.trailer cut.payload_len (sym cuts.payload_len) in
+    let updated : UpdatesPayload cut.reach 8 slice.upper (old header) address slice.payload.now payload = rw (taken cuts rest rest_is, cuts.upper) at updates in
+    let bytes = header_bytes slice.header in
+    let a : length header.source ≡ 16 = omega (arith, cuts.layout.len, ap length cuts.layout.source, length-take 16 (drop 8 bytes), length-drop 8 bytes) in
+    let b : length header.destination ≡ 16 = omega (arith, cuts.layout.len, ap length cuts.layout.destination, length-take 16 (drop 24 bytes), length-drop 24 bytes) in
+    record {
+      slice = slice;
+      parts = cuts.parts;
+      version = cuts.version;
+      reaches = cuts.reaches;
+      trailer = cuts.trailer;
+      whole = cuts.whole;
+      header = header;
+      layout = cuts.layout;
+      front = front;
+      becomes = subst (BeginsWith IsIpv6Layout front (change header)) extensions begins;
+      payload = payload;
+      updated = updated;
+      changed = is ∙ ap (λ t. front ++ (payload ++ t)) left;
+      keeps_right = λ now right. reach_kept_ipv6 cut.reach slice header.source header.destination (change header).source (change header).destination (old header) address payload others
+          cuts.version cuts.reaches now a b c d words next_words updated right;
+    }

@@ -1,0 +1,171 @@
+-- An IPv4 packet with another address, from its parts.
+use Rattle.std.proofs.Common.{ℕ, true, false, ◌≡◌, ◌≢◌, ◌≤◌, ◌+◌, ◌%◌, ◌∙◌, ◌⊎◌, List, [], ◌++◌, ap, append-nil, arith, drop, length, length-append, length-drop, length-take, refl, slice_range, subst, sym, take, take_at, append_assoc, w16}
+use Rattle.std.specs.Int.{to_be_bytes}
+use Rattle.std.proofs.lemmas.Bool.Decides.{nat_tests}
+use Rattle.std.proofs.lemmas.List.{drop_at}
+use Rattle.etherparse.specs.HeaderChecksum.{BecomesPacketOf, ChangesInPlace, with_field_and_checksum}
+use Rattle.etherparse.specs.Ipv4Header.{IsIpv4Layout}
+use Rattle.etherparse.specs.Reading.{BeginsWith}
+use Rattle.etherparse.specs.WordSums.{network_order_word_sum, updated_checksum_of_words}
+use Rattle.etherparse.specs.declared.net.ipv4_header.Ipv4Header.{Ipv4Header}
+use Rattle.packet_parts.specs.Checksum.{IsVerdictIpv4}
+use Rattle.packet_parts.proofs.IpParts.{ipv4_front, ipv6_front}
+use Rattle.packet_parts.specs.IpSlice.{HasIpParts, HasPartsWith, header_bytes}
+use Rattle.packet_parts.specs.declared.checksum.Verdict.TheVariants.{Right}
+use Rattle.packet_parts.specs.declared.ip_slice.IpHeaderSlice.{IpHeaderSlice}
+use Rattle.packet_parts.specs.declared.ip_slice.IpHeaderSlice.TheVariants as header_slice
+use Rattle.packet_parts.specs.declared.ip_slice.IpSlice.{IpSlice}
+use Rattle.packet_rewriting.proofs.KeptPorts.{port_kept}
+use Rattle.packet_rewriting.proofs.KeptRight.{verdict_kept, verdict_of_other}
+use Rattle.packet_rewriting.specs.Fields.{ChangesPort, CutsAtPorts, CutsIpv4, ReaddressesIpv4, Reaches, UpdatesPayload, UpdatesUpper, covers_addresses, least_len, updated_upper, version_in, with_port, word_at}
+use Rattle.packet_rewriting.specs.UpperChecksum.{checksum_field, checksum_place}
+use Rattle.packet_rewriting.specs.declared.fields.Cut.{Cut}
+use Rattle.packet_rewriting.specs.declared.fields.Reach.{Reach}
+use Rattle.packet_rewriting.specs.declared.fields.Reach.TheVariants as reaching
+
+-- over IPv4 the checksums of UDP and of TCP cover the addresses
+covers_ipv4 : (h : IpHeaderSlice) (number : ℕ) → version_in h ≡ 4 → covers_addresses h number ≡ true → (number ≡ 17) ⊎ (number ≡ 6)
+covers_ipv4 (header_slice.Ipv4 view) number version covers = grind (arith, nat_tests, covers)
+covers_ipv4 (header_slice.Ipv6 view) number version covers = absurd (omega (arith, version))
+
+covers_no_udp : (h : IpHeaderSlice) (number : ℕ) → covers_addresses h number ≡ false → number ≢ 17
+covers_no_udp (header_slice.Ipv4 view) number other is = grind (arith, nat_tests, other, is)
+covers_no_udp (header_slice.Ipv6 view) number other is = grind (arith, nat_tests, other, is)
+
+covers_no_tcp : (h : IpHeaderSlice) (number : ℕ) → covers_addresses h number ≡ false → number ≢ 6
+covers_no_tcp (header_slice.Ipv4 view) number other is = grind (arith, nat_tests, other, is)
+covers_no_tcp (header_slice.Ipv6 view) number other is = grind (arith, nat_tests, other, is)
+
+-- the least header has room for its checksum
+pub least_enough : (number : ℕ) → checksum_place number + 2 ≤ least_len number
+least_enough number = grind (arith, nat_tests)
+
+-- how a packet is split
+pub front_is : {before : List ℕ} {header : Ipv4Header} {cut : Cut} (cuts : CutsIpv4 before header cut) (front : List ℕ) → front ≡ take cut.header_len before → front ≡ header_bytes cuts.slice.header
+front_is cuts front is = is ∙ ap (take _) cuts.whole ∙ take_at (header_bytes cuts.slice.header) _ _ (sym cuts.header_len)
+
+rest_is : {before : List ℕ} {header : Ipv4Header} {cut : Cut} (cuts : CutsIpv4 before header cut) (rest : List ℕ) → rest ≡ drop cut.header_len before → rest ≡ cuts.slice.payload.now ++ cuts.trailer
+rest_is cuts rest is = is ∙ ap (drop _) cuts.whole ∙ drop_at (header_bytes cuts.slice.header) _ _ (sym cuts.header_len)
+
+pub payload_is : {before : List ℕ} {header : Ipv4Header} {cut : Cut} (cuts : CutsIpv4 before header cut) (rest : List ℕ) → rest ≡ drop cut.header_len before → take cut.payload_len rest ≡ cuts.slice.payload.now
+payload_is cuts rest is = ap (take _) (rest_is cuts rest is) ∙ take_at cuts.slice.payload.now _ _ (sym cuts.payload_len)
+
+trailer_is : {before : List ℕ} {header : Ipv4Header} {cut : Cut} (cuts : CutsIpv4 before header cut) (rest : List ℕ) → rest ≡ drop cut.header_len before → drop cut.payload_len rest ≡ cuts.trailer
+trailer_is cuts rest is = ap (drop _) (rest_is cuts rest is) ∙ drop_at cuts.slice.payload.now _ _ (sym cuts.payload_len)
+
+-- a payload that the change reaches has room for its checksum
+pub enough_for : {before : List ℕ} {header : Ipv4Header} {cut : Cut} (cuts : CutsIpv4 before header cut) (rest : List ℕ) → rest ≡ drop cut.header_len before
+    → cut.reach ≡ reaching.Upper → checksum_place cut.upper + 2 ≤ length (take cut.payload_len rest)
+enough_for {cut = cut} cuts rest is upper =
+    let reaches : Reaches cuts.slice reaching.Upper = subst (Reaches cuts.slice) upper cuts.reaches in
+    rw (payload_is cuts rest is, cuts.upper) (omega (arith, reaches.2, least_enough cuts.slice.upper))
+
+-- a packet of either version is its headers, its payload and what comes after it
+whole_with : (h : IpHeaderSlice) (packet : List ℕ) (slice : IpSlice) → HasPartsWith h packet slice
+    → (trailer : List ℕ) × (packet ≡ header_bytes h ++ slice.extensions.now ++ (slice.payload.now ++ trailer))
+whole_with (header_slice.Ipv4 view) packet slice p =
+    let more = ipv4_front p.header packet in
+    let payload = slice.payload.now in
+    let front : view.slice.now ≡ view.slice.now ++ slice.extensions.now = sym (ap (λ x. view.slice.now ++ x) p.no_extensions ∙ append-nil view.slice.now) in
+    (more.0, more.1 ∙ ap (λ b. b ++ more.0) (p.begins.whole ∙ ap (λ f. f ++ payload) (p.view ∙ front)) ∙ append_assoc (view.slice.now ++ slice.extensions.now) payload more.0)
+whole_with (header_slice.Ipv6 view) packet slice p =
+    let more = ipv6_front p.header packet in
+    let payload = slice.payload.now in (
+      more.0,
+      more.1 ∙ ap (λ b. b ++ more.0) (p.begins.whole ∙ ap (λ f. f ++ p.body) p.view ∙ ap (λ b. view.slice.now ++ b) p.parts
+          ∙ sym (append_assoc view.slice.now slice.extensions.now payload)) ∙ append_assoc (view.slice.now ++ slice.extensions.now) payload more.0,
+    )
+
+pub whole : (packet : List ℕ) (slice : IpSlice) → HasIpParts packet slice
+    → (trailer : List ℕ) × (packet ≡ header_bytes slice.header ++ slice.extensions.now ++ (slice.payload.now ++ trailer))
+whole packet slice p = whole_with slice.header packet slice p
+
+-- the packet with another port, from what was written to its payload
+pub with_other_port : {before : List ℕ} {cut : Cut} (cuts : CutsAtPorts before cut) (offset port : ℕ) (front rest payload after : List ℕ) → front ≡ take cut.header_len before
+    → rest ≡ drop cut.header_len before → payload ≡ with_port cut.upper offset (to_be_bytes w16 port) (take cut.payload_len rest)
+    → UpdatesUpper cut.upper (checksum_field cut.upper (take cut.payload_len rest)) (network_order_word_sum (word_at offset (take cut.payload_len rest)))
+    (network_order_word_sum (to_be_bytes w16 port)) (updated_upper 1 cut.upper (checksum_field cut.upper (take cut.payload_len rest)) (word_at offset (take cut.payload_len rest)) (to_be_bytes w16 port))
+    → after ≡ front ++ (payload ++ drop cut.payload_len rest) → offset % 2 ≡ 0 → offset ≤ 2 → ChangesPort offset port before after
+with_other_port {before = before} {cut = cut} cuts offset port front rest payload after front_at rest_at written updates is even within =
+    let slice = cuts.slice in
+    let headers = header_bytes slice.header ++ slice.extensions.now in
+    let len : length headers ≡ cut.header_len = length-append (header_bytes slice.header) slice.extensions.now ∙ sym cuts.header_len in
+    let first : front ≡ headers = front_at ∙ ap (take cut.header_len) cuts.whole ∙ take_at headers _ cut.header_len len in
+    let others : rest ≡ slice.payload.now ++ cuts.trailer = rest_at ∙ ap (drop cut.header_len) cuts.whole ∙ drop_at headers _ cut.header_len len in
+    let taken : take cut.payload_len rest ≡ slice.payload.now = ap (take cut.payload_len) others ∙ take_at slice.payload.now cuts.trailer cut.payload_len (sym cuts.payload_len) in
+    let left : drop cut.payload_len rest ≡ cuts.trailer = ap (drop cut.payload_len) others ∙ drop_at slice.payload.now cuts.trailer cut.payload_len (sym cuts.payload_len) in
+    let put : payload ≡ with_port slice.upper offset (to_be_bytes w16 port) slice.payload.now = rw (taken, cuts.upper) at written in
+    let updated = rw (taken, cuts.upper) at updates in
+    record {
+      slice = slice;
+      parts = cuts.parts;
+      ports = cuts.ports;
+      trailer = cuts.trailer;
+      whole = cuts.whole;
+      changed = is ∙ rw (first, left, put) refl;
+      updates = updated;
+      keeps_right = port_kept slice.header slice.upper offset port slice.payload.now cuts.ports.protocol even within updated;
+    }
+
+-- the addresses of a header have four bytes each
+four_bytes : {h : Ipv4Header} {bytes : List ℕ} → IsIpv4Layout h bytes → (length h.source ≡ 4) × (length h.destination ≡ 4)
+four_bytes {bytes = bytes} l = (
+  omega (arith, l.layout.len, ap length l.layout.source, length-take 4 (drop 12 bytes), length-drop 12 bytes),
+  omega (arith, l.layout.len, ap length l.layout.destination, length-take 4 (drop 16 bytes), length-drop 16 bytes),
+)
+
+-- a payload that is right with the old addresses is right with the new ones
+reach_kept : (reach : Reach) (slice : IpSlice) (g h : Ipv4Header) (bytes next_bytes old new payload : List ℕ) (rest : ℕ) → version_in slice.header ≡ 4 → Reaches slice reach
+    → slice.is_later_fragment ≡ false → IsIpv4Layout g bytes → IsIpv4Layout h next_bytes
+    → network_order_word_sum g.source + network_order_word_sum g.destination ≡ network_order_word_sum old + rest
+    → network_order_word_sum h.source + network_order_word_sum h.destination ≡ network_order_word_sum new + rest
+    → UpdatesPayload reach 2 slice.upper old new slice.payload.now payload
+    → IsVerdictIpv4 g.source g.destination slice.upper slice.payload.now Right → IsVerdictIpv4 h.source h.destination slice.upper payload Right
+reach_kept reaching.Upper slice g h bytes next_bytes old new payload rest version reaches now layout next words next_words updates right =
+    let (a, b) = four_bytes layout in
+    let (c, d) = four_bytes next in
+    rw updates.is (verdict_kept 2 slice.upper g.source g.destination h.source h.destination old new slice.payload.now rest (covers_ipv4 slice.header slice.upper version reaches.1)
+    a b c d words next_words (updates.updates refl) right)
+reach_kept reaching.LaterFragment slice g h bytes next_bytes old new payload rest version reaches now layout next words next_words updates right = absurd (grind (arith, reaches, now))
+reach_kept reaching.OtherProtocol slice g h bytes next_bytes old new payload rest version reaches now layout next words next_words updates right =
+    rw updates.is (verdict_of_other slice.upper g.source g.destination h.source h.destination slice.payload.now (covers_no_udp slice.header slice.upper reaches.1)
+    (covers_no_tcp slice.header slice.upper reaches.1) right)
+
+-- the packet with another address, from what was written to its parts
+pub readdressed : {before : List ℕ} {header : Ipv4Header} {cut : Cut} (cuts : CutsIpv4 before header cut) (offset : ℕ) (old address after first front rest payload : List ℕ)
+    (next : Ipv4Header) (others : ℕ) → first ≡ take cut.header_len before → rest ≡ drop cut.header_len before
+    → old ≡ slice_range (header_bytes cuts.slice.header) offset (offset + 4) → next.header_checksum ≡ updated_checksum_of_words 2 header.header_checksum old address
+    → ChangesInPlace header next offset address → front ≡ with_field_and_checksum offset address next.header_checksum first
+    → UpdatesPayload cut.reach 2 cut.upper old address (take cut.payload_len rest) payload → after ≡ front ++ (payload ++ drop cut.payload_len rest)
+    → network_order_word_sum header.source + network_order_word_sum header.destination ≡ network_order_word_sum old + others
+    → network_order_word_sum next.source + network_order_word_sum next.destination ≡ network_order_word_sum address + others
+    → ReaddressesIpv4 offset address before after cut.reach
+readdressed {header = header} {cut = cut} cuts offset old address after first front rest payload next others first_is rest_at old_is checksum in_place written updates whole words next_words =
+    let slice = cuts.slice in
+    let bytes = header_bytes slice.header in
+    let begins : BeginsWith IsIpv4Layout bytes header [] = record { front = bytes; whole = sym (append-nil bytes); layout = cuts.layout } in
+    let front_at : front ≡ with_field_and_checksum offset address next.header_checksum bytes = written ∙ ap (with_field_and_checksum offset address next.header_checksum) (front_is cuts first first_is) in
+    let becomes : BecomesPacketOf bytes front next [] = subst (λ f. BecomesPacketOf bytes f next []) (sym front_at) (in_place bytes [] begins) in
+    let next_layout : IsIpv4Layout next front = subst (IsIpv4Layout next) (sym (becomes.begins.whole ∙ append-nil becomes.begins.front)) becomes.begins.layout in
+    let updated : UpdatesPayload cut.reach 2 slice.upper old address slice.payload.now payload = rw (payload_is cuts rest rest_at, cuts.upper) at updates in
+    record {
+      slice = slice;
+      parts = cuts.parts;
+      version = cuts.version;
+      reaches = cuts.reaches;
+      trailer = cuts.trailer;
+      whole = cuts.whole;
+      header = header;
+      layout = cuts.layout;
+      next = next;
+      checksum = checksum ∙ ap (λ o. updated_checksum_of_words 2 header.header_checksum o address) old_is;
+      front = front;
+      written = front_at;
+      becomes = becomes;
+      payload = payload;
+      updated = subst (λ o. UpdatesPayload cut.reach 2 slice.upper o address slice.payload.now payload) old_is updated;
+      changed = whole ∙ ap (λ t. front ++ (payload ++ t)) (trailer_is cuts rest rest_at);
+      keeps_right = λ now right. rw (next_layout.layout.source, next_layout.layout.destination)
+          (reach_kept cut.reach slice header next bytes front old address payload others cuts.version cuts.reaches now cuts.layout next_layout words next_words updated
+          (rw (cuts.layout.layout.source, cuts.layout.layout.destination) at right));
+    }

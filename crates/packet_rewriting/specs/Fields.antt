@@ -1,0 +1,312 @@
+-- Fields of an IP packet that are changed where they stand, with the checksums that cover them
+-- (RFC 1624, RFC 3022).
+use Rattle.std.specs.Prelude.{ℕ, ◌≡◌, ◌≢◌, ◌==◌, ◌||◌, ◌+◌, ◌*◌, ◌/◌, ◌%◌, ◌^◌, ◌<◌, ◌≤◌, ◌⊎◌}
+use Rattle.std.specs.Prelude.{Bool, List, [], ◌∷◌, ◌++◌}
+use Rattle.std.specs.Prelude.{codes, false, if◌then◌else◌, length, slice_index, slice_range, true}
+use Rattle.std.specs.Int.{to_be_bytes, w16}
+use Rattle.etherparse.specs.HeaderChecksum.{BecomesPacketOf, with_field_and_checksum, with_part}
+use Rattle.etherparse.specs.IpEcn.{ecn_value}
+use Rattle.etherparse.specs.Ipv4Header.{IsIpv4Layout, ipv4_first_word}
+use Rattle.etherparse.specs.Ipv6Header.{IsIpv6Layout}
+use Rattle.etherparse.specs.Reading.{BeginsWith}
+use Rattle.etherparse.specs.WordSums.{UpdatesChecksum, UpdatesChecksumWithNoZero}
+use Rattle.etherparse.specs.WordSums.{network_order_word_sum, updated_checksum, updated_checksum_of_words}
+use Rattle.etherparse.specs.WordSums.{with_no_zero}
+use Rattle.etherparse.specs.declared.IpEcn.{IpEcn}
+use Rattle.etherparse.specs.declared.net.ipv4_header.Ipv4Header.{Ipv4Header}
+use Rattle.etherparse.specs.declared.net.ipv6_header.Ipv6Header.{Ipv6Header}
+use Rattle.packet_parts.specs.Checksum.{IsVerdictIpv4, IsVerdictIpv6, IsVerdictOver}
+use Rattle.packet_parts.specs.IpSlice.{IsIpPacket, RefusesIp, header_bytes, header_len_of}
+use Rattle.packet_parts.specs.IpSlice.{ip_slice_error_text}
+use Rattle.packet_parts.specs.declared.checksum.Verdict.TheVariants.{Right}
+use Rattle.packet_parts.specs.declared.ip_slice.IpHeaderSlice.{IpHeaderSlice}
+use Rattle.packet_parts.specs.declared.ip_slice.IpHeaderSlice.TheVariants as header
+use Rattle.packet_parts.specs.declared.ip_slice.IpSlice.{IpSlice}
+use Rattle.packet_rewriting.specs.UpperChecksum.{checksum_field, with_checksum}
+use Rattle.packet_rewriting.specs.declared.fields.Cut.{Cut}
+use Rattle.packet_rewriting.specs.declared.fields.Reach.{Reach}
+use Rattle.packet_rewriting.specs.declared.fields.Reach.TheVariants as reaching
+use Rattle.packet_rewriting.specs.declared.fields.RewriteError.{RewriteError}
+use Rattle.packet_rewriting.specs.declared.fields.RewriteError.TheVariants as error
+
+-- The checksum of an upper layer after a change of so many words that it covers (RFC 1624 section
+-- 3). In UDP (17) 0 says that there is none, and stays; 65535 stands for another 0 (RFC 768).
+abbrev pub updated_upper : ℕ → ℕ → ℕ → List ℕ → List ℕ → ℕ
+updated_upper words number checksum old new = if number == 17
+    then (if checksum == 0 then 0 else with_no_zero (updated_checksum_of_words words checksum old new))
+    else updated_checksum_of_words words checksum old new
+
+-- a payload with its checksum updated for that
+abbrev pub with_updated : ℕ → ℕ → List ℕ → List ℕ → List ℕ → List ℕ
+with_updated words number old new payload = with_checksum number
+    (updated_upper words number (checksum_field number payload) old new) payload
+
+-- how long the header of an upper layer is at least: 8 of UDP (17), 20 of TCP (6), 4 of ICMPv6
+abbrev pub least_len : ℕ → ℕ
+least_len number = if number == 17 then 8 else if number == 6 then 20 else 4
+
+-- UDP (17) and TCP (6) have ports
+abbrev pub has_ports : ℕ → Bool
+has_ports number = (number == 17) || (number == 6)
+
+-- The checksum of an upper layer covers the addresses of the packet, by its pseudo-header: of UDP
+-- and TCP; and over IPv6 of ICMPv6 (58, RFC 4443 section 2.3).
+abbrev pub covers_addresses : IpHeaderSlice → ℕ → Bool
+covers_addresses (header.Ipv4 view) number = has_ports number
+covers_addresses (header.Ipv6 view) number = has_ports number || (number == 58)
+
+-- How far the change of an address reaches in a packet: into the header of the upper layer, which
+-- is there; or it ends with that of IP, since the payload is a later fragment, or of a protocol
+-- whose checksum does not cover the addresses.
+abbrev pub Reaches : IpSlice → Reach → Type 0
+Reaches slice reaching.Upper = (slice.is_later_fragment ≡ false)
+    × (covers_addresses slice.header slice.upper ≡ true)
+    × (least_len slice.upper ≤ length slice.payload.now)
+Reaches slice reaching.LaterFragment = slice.is_later_fragment ≡ true
+Reaches slice reaching.OtherProtocol = (slice.is_later_fragment ≡ false)
+    × (covers_addresses slice.header slice.upper ≡ false)
+
+-- the payload after the change of an address
+abbrev pub reached : Reach → ℕ → ℕ → List ℕ → List ℕ → List ℕ → List ℕ
+reached reaching.Upper words number old new payload = with_updated words number old new payload
+reached reaching.LaterFragment words number old new payload = payload
+reached reaching.OtherProtocol words number old new payload = payload
+
+-- the packet ends within the header of an upper layer whose checksum covers the addresses
+abbrev pub EndsInUpper : IpSlice → Type 0
+EndsInUpper slice = (slice.is_later_fragment ≡ false)
+    × (covers_addresses slice.header slice.upper ≡ true)
+    × (length slice.payload.now < least_len slice.upper)
+
+-- the version of a header
+abbrev pub version_in : IpHeaderSlice → ℕ
+version_in (header.Ipv4 view) = 4
+version_in (header.Ipv6 view) = 6
+
+-- why an address of a packet is not changed, where the version has to be this one
+abbrev pub RefusesAddress : ℕ → List ℕ → RewriteError → Type 0
+RefusesAddress version packet (error.Ip e) = RefusesIp packet e
+RefusesAddress version packet error.OtherVersion =
+    (slice : IpSlice) × IsIpPacket packet slice × (version_in slice.header ≢ version)
+RefusesAddress version packet error.Incomplete =
+    (slice : IpSlice) × IsIpPacket packet slice × (version_in slice.header ≡ version)
+    × EndsInUpper slice
+RefusesAddress version packet error.LaterFragment = ⊥
+RefusesAddress version packet error.OtherProtocol = ⊥
+
+-- an IPv4 packet with this header, cut at its length field and after its headers
+pub record CutsIpv4 (packet : List ℕ) (header : Ipv4Header) (cut : Cut) : Type 0 where
+  pub slice : IpSlice
+  pub parts : IsIpPacket packet slice
+  pub version : version_in slice.header ≡ 4
+  pub layout : IsIpv4Layout header (header_bytes slice.header)
+  pub header_len : cut.header_len ≡ length (header_bytes slice.header)
+  pub payload_len : cut.payload_len ≡ length slice.payload.now
+  pub upper : cut.upper ≡ slice.upper
+  pub reaches : Reaches slice cut.reach
+  pub trailer : List ℕ
+  pub whole : packet ≡ header_bytes slice.header ++ (slice.payload.now ++ trailer)
+
+-- what is known of the updated checksum of an upper layer, by the sums of the old and the new words
+pub record UpdatesUpper (number checksum old new answer : ℕ) : Type 0 where
+  pub udp : number ≡ 17 → UpdatesChecksumWithNoZero checksum old new answer
+  pub other : number ≢ 17 → UpdatesChecksum checksum old new answer
+
+-- A payload became another one, since so many words became others that its checksum covers: the
+-- checksum is updated, or nothing is changed.
+pub record UpdatesPayload (reach : Reach) (words number : ℕ) (old new before after : List ℕ)
+    : Type 0 where
+  pub is : after ≡ reached reach words number old new before
+  pub updates : reach ≡ reaching.Upper → UpdatesUpper number (checksum_field number before)
+      (network_order_word_sum old) (network_order_word_sum new)
+      (updated_upper words number (checksum_field number before) old new)
+
+-- An IPv4 packet has another address, at an offset in its header, and its two checksums are updated
+-- for it. What the link added after the packet stays.
+pub record ReaddressesIpv4 (offset : ℕ) (address before after : List ℕ) (reach : Reach)
+    : Type 0 where
+  pub slice : IpSlice
+  pub parts : IsIpPacket before slice
+  pub version : version_in slice.header ≡ 4
+  pub reaches : Reaches slice reach
+  pub trailer : List ℕ
+  pub whole : before ≡ header_bytes slice.header ++ (slice.payload.now ++ trailer)
+  -- the header is another one, and its checksum is right exactly when it was before
+  pub header : Ipv4Header
+  pub layout : IsIpv4Layout header (header_bytes slice.header)
+  pub next : Ipv4Header
+  pub checksum : next.header_checksum ≡ updated_checksum_of_words 2 header.header_checksum
+      (slice_range (header_bytes slice.header) offset (offset + 4)) address
+  pub front : List ℕ
+  pub written : front
+      ≡ with_field_and_checksum offset address next.header_checksum (header_bytes slice.header)
+  pub becomes : BecomesPacketOf (header_bytes slice.header) front next []
+  -- the payload is another one, or the same
+  pub payload : List ℕ
+  pub updated : UpdatesPayload reach 2 slice.upper
+      (slice_range (header_bytes slice.header) offset (offset + 4)) address slice.payload.now payload
+  pub changed : after ≡ front ++ (payload ++ trailer)
+  -- the checksum of a payload that is no later fragment is right if it was before
+  pub keeps_right : slice.is_later_fragment ≡ false
+      → IsVerdictIpv4 (slice_range (header_bytes slice.header) 12 16)
+      (slice_range (header_bytes slice.header) 16 20) slice.upper slice.payload.now Right
+      → IsVerdictIpv4 (slice_range front 12 16) (slice_range front 16 20) slice.upper payload Right
+
+-- an IPv6 packet with this header, cut at its length field and after its headers
+pub record CutsIpv6 (packet : List ℕ) (header : Ipv6Header) (cut : Cut) : Type 0 where
+  pub slice : IpSlice
+  pub parts : IsIpPacket packet slice
+  pub version : version_in slice.header ≡ 6
+  pub layout : IsIpv6Layout header (header_bytes slice.header)
+  pub header_len : cut.header_len ≡ header_len_of slice
+  pub payload_len : cut.payload_len ≡ length slice.payload.now
+  pub upper : cut.upper ≡ slice.upper
+  pub reaches : Reaches slice cut.reach
+  pub trailer : List ℕ
+  pub whole : packet
+      ≡ header_bytes slice.header ++ slice.extensions.now ++ (slice.payload.now ++ trailer)
+
+-- An IPv6 packet has another address in place of the old one, and the checksum of its upper layer
+-- is updated for it. Its extension headers and what the link added after it stay.
+pub record ReaddressesIpv6 (old : Ipv6Header → List ℕ) (address : List ℕ)
+    (readdressed : Ipv6Header → Ipv6Header) (before after : List ℕ) (reach : Reach) : Type 0 where
+  pub slice : IpSlice
+  pub parts : IsIpPacket before slice
+  pub version : version_in slice.header ≡ 6
+  pub reaches : Reaches slice reach
+  pub trailer : List ℕ
+  pub whole : before
+      ≡ header_bytes slice.header ++ slice.extensions.now ++ (slice.payload.now ++ trailer)
+  pub header : Ipv6Header
+  pub layout : IsIpv6Layout header (header_bytes slice.header)
+  pub front : List ℕ
+  pub becomes : BeginsWith IsIpv6Layout front (readdressed header) slice.extensions.now
+  -- the payload is another one, or the same
+  pub payload : List ℕ
+  pub updated : UpdatesPayload reach 8 slice.upper (old header) address slice.payload.now payload
+  pub changed : after ≡ front ++ (payload ++ trailer)
+  -- the checksum of a payload that is no later fragment is right if it was before
+  pub keeps_right : slice.is_later_fragment ≡ false
+      → IsVerdictIpv6 header.source header.destination slice.upper slice.payload.now Right
+      → IsVerdictIpv6 (readdressed header).source (readdressed header).destination slice.upper
+      payload Right
+
+-- a packet of IPv6 has another source, and another destination
+abbrev pub HasOtherSource : List ℕ → List ℕ → List ℕ → Reach → Type 0
+HasOtherSource source =
+    ReaddressesIpv6 (λ h. h.source) source (λ h. record h { source = source })
+
+abbrev pub HasOtherDestination : List ℕ → List ℕ → List ℕ → Reach → Type 0
+HasOtherDestination destination = ReaddressesIpv6 (λ h. h.destination) destination
+    (λ h. record h { destination = destination })
+
+-- a word of two bytes, from an offset on
+abbrev pub word_at : ℕ → List ℕ → List ℕ
+word_at offset bytes = slice_index bytes offset ∷ slice_index bytes (offset + 1) ∷ []
+
+-- a payload with another port, from an offset on, and its checksum updated for that
+abbrev pub with_port : ℕ → ℕ → List ℕ → List ℕ → List ℕ
+with_port number offset port payload =
+    with_part offset port (with_updated 1 number (word_at offset payload) port payload)
+
+-- the payload begins with a header of UDP or of TCP, which has ports
+pub record HasPorts (slice : IpSlice) : Type 0 where
+  pub first : slice.is_later_fragment ≡ false
+  pub protocol : has_ports slice.upper ≡ true
+  pub enough : least_len slice.upper ≤ length slice.payload.now
+
+-- a packet with ports, cut at its length field and after its headers
+pub record CutsAtPorts (packet : List ℕ) (cut : Cut) : Type 0 where
+  pub slice : IpSlice
+  pub parts : IsIpPacket packet slice
+  pub ports : HasPorts slice
+  pub header_len : cut.header_len ≡ header_len_of slice
+  pub payload_len : cut.payload_len ≡ length slice.payload.now
+  pub upper : cut.upper ≡ slice.upper
+  pub trailer : List ℕ
+  pub whole : packet
+      ≡ header_bytes slice.header ++ slice.extensions.now ++ (slice.payload.now ++ trailer)
+
+-- why a port is not changed
+abbrev pub RefusesPort : List ℕ → RewriteError → Type 0
+RefusesPort packet (error.Ip e) = RefusesIp packet e
+RefusesPort packet error.OtherVersion = ⊥
+RefusesPort packet error.Incomplete = (slice : IpSlice) × IsIpPacket packet slice
+    × (slice.is_later_fragment ≡ false) × (has_ports slice.upper ≡ true)
+    × (length slice.payload.now < least_len slice.upper)
+RefusesPort packet error.LaterFragment = (slice : IpSlice) × IsIpPacket packet slice
+    × (slice.is_later_fragment ≡ true)
+RefusesPort packet error.OtherProtocol = (slice : IpSlice) × IsIpPacket packet slice
+    × (slice.is_later_fragment ≡ false) × (has_ports slice.upper ≡ false)
+
+-- A packet has another port, at an offset in its payload, whose checksum is updated for it. Its
+-- headers and what the link added after it stay.
+pub record ChangesPort (offset port : ℕ) (before after : List ℕ) : Type 0 where
+  pub slice : IpSlice
+  pub parts : IsIpPacket before slice
+  pub ports : HasPorts slice
+  pub trailer : List ℕ
+  pub whole : before
+      ≡ header_bytes slice.header ++ slice.extensions.now ++ (slice.payload.now ++ trailer)
+  pub changed : after ≡ header_bytes slice.header ++ slice.extensions.now
+      ++ (with_port slice.upper offset (to_be_bytes w16 port) slice.payload.now ++ trailer)
+  pub updates : UpdatesUpper slice.upper (checksum_field slice.upper slice.payload.now)
+      (network_order_word_sum (word_at offset slice.payload.now))
+      (network_order_word_sum (to_be_bytes w16 port))
+      (updated_upper 1 slice.upper (checksum_field slice.upper slice.payload.now)
+      (word_at offset slice.payload.now) (to_be_bytes w16 port))
+  -- a checksum that was right is right
+  pub keeps_right : IsVerdictOver slice.header slice.upper slice.payload.now Right
+      → IsVerdictOver slice.header slice.upper
+      (with_port slice.upper offset (to_be_bytes w16 port) slice.payload.now) Right
+
+-- An IPv4 header has another DSCP or ECN, in byte 1, and its checksum is updated for the first word:
+-- it is right exactly when it was before. All else stays.
+pub record MarksIpv4 (marked : Ipv4Header → Ipv4Header) (before after : List ℕ) : Type 0 where
+  pub header : Ipv4Header
+  pub rest : List ℕ
+  pub begins : BeginsWith IsIpv4Layout before header rest
+  pub next : Ipv4Header
+  pub set : next ≡ record (marked header) {
+    header_checksum = updated_checksum header.header_checksum (ipv4_first_word header)
+        (ipv4_first_word (marked header));
+  }
+  pub changed : after ≡ with_field_and_checksum 1 ((next.dscp * 2 ^ 2 + ecn_value next.ecn) ∷ [])
+      next.header_checksum before
+  pub becomes : BecomesPacketOf before after next rest
+
+-- an IPv6 header has another traffic class; all else stays
+pub record MarksIpv6 (marked : ℕ → ℕ) (before after : List ℕ) : Type 0 where
+  pub header : Ipv6Header
+  pub rest : List ℕ
+  pub begins : BeginsWith IsIpv6Layout before header rest
+  pub becomes : BeginsWith IsIpv6Layout after
+      (record header { traffic_class = marked header.traffic_class }) rest
+
+-- a packet of either version has another DSCP: the upper 6 bits of the byte or of the traffic class
+-- (RFC 2474 section 3)
+abbrev pub HasOtherDscp : ℕ → List ℕ → List ℕ → Type 0
+HasOtherDscp dscp before after = MarksIpv4 (λ h. record h { dscp = dscp }) before after
+    ⊎ MarksIpv6 (λ class. dscp * 2 ^ 2 + class % 2 ^ 2) before after
+
+-- and another ECN: the lower 2 bits (RFC 3168 section 5)
+abbrev pub HasOtherEcn : IpEcn → List ℕ → List ℕ → Type 0
+HasOtherEcn ecn before after = MarksIpv4 (λ h. record h { ecn = ecn }) before after
+    ⊎ MarksIpv6 (λ class. class / 2 ^ 2 * 2 ^ 2 + ecn_value ecn) before after
+
+-- why a header is not marked
+abbrev pub RefusesMark : List ℕ → RewriteError → Type 0
+RefusesMark packet (error.Ip e) = RefusesIp packet e
+RefusesMark packet other = ⊥
+
+-- the text of a refusal
+abbrev pub rewrite_error_text : RewriteError → List ℕ
+rewrite_error_text (error.Ip e) = ip_slice_error_text e
+rewrite_error_text error.OtherVersion =
+    codes "Rewrite Error: The packet has the other IP version."
+rewrite_error_text error.Incomplete =
+    codes "Rewrite Error: The packet ends within the header of its upper layer."
+rewrite_error_text error.LaterFragment =
+    codes "Rewrite Error: The packet is a later fragment, which has no ports."
+rewrite_error_text error.OtherProtocol =
+    codes "Rewrite Error: The protocol of the packet has no ports."
