@@ -1,6 +1,5 @@
 mod Places
 mod Whole
-mod Batch
 mod Within
 mod Answered
 mod Fields

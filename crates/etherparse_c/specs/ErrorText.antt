@@ -1,5 +1,5 @@
 -- The text of an error, as C gets it.
-use Rattle.std.specs.Prelude.{ℕ, ◌≡◌, ◌<◌, ◌++◌, List, [], ◌∷◌, codes, decimal, drop, length, take}
+use Rattle.std.specs.Prelude.{ℕ, ◌≡◌, ◌<◌, ◌++◌, List, codes, decimal}
 use Rattle.etherparse.specs.declared.LenSource.TheVariants as source
 use Rattle.etherparse.specs.declared.err.Layer.TheVariants as layer
 use Rattle.etherparse.specs.declared.err.LenError.{LenError}
@@ -21,13 +21,3 @@ pub record IsShortIpv4Packet (e : LenError) : Type 0 where
 abbrev pub link_type_error_text : ℕ → List ℕ
 link_type_error_text number =
     codes "Link Type Error: Frames of link type " ++ (decimal number ++ codes " are not read.")
-
--- a buffer with a text: as much of it as there is room for, a byte 0, and then what was there
-abbrev pub with_text : List ℕ → List ℕ → List ℕ
-with_text text [] = []
-with_text text (first ∷ others) = take (length others) text ++ 0 ∷ drop (length text) others
-
--- the text is in the buffer, and the answer is the length of the whole text
-pub record GivesText (text before after : List ℕ) (answer : ℕ) : Type 0 where
-  pub len : answer ≡ length text
-  pub written : after ≡ with_text text before

@@ -1,5 +1,4 @@
 pub mod Answer
-pub mod Batch
 pub mod Error
 pub mod ErrorText
 pub mod Ipv4

@@ -4,7 +4,7 @@ ghost use Rattle.std.specs.Prelude.{◌≡◌, ◌≢◌, Some, length};
 ghost use Rattle.packet.specs.Link.{link_type_of};
 ghost use Rattle.packet.specs.SlicedPacket.{IsLaxReadingAfter, IsLaxReadingOf};
 ghost use Rattle.packet.specs.SlicedPacket.{IsReadingAfter, IsReadingOf};
-ghost use Rattle.etherparse_c.specs.Batch.{AreAnswers};
+ghost use Rattle.c_answers.specs.Batch.{AreAnswers};
 ghost use Rattle.etherparse_c.specs.Layers.{GetsAnswer, GivesLax, IsLaxInC, IsPacketInC, IsWholeInC};
 ghost use Rattle.etherparse_c.specs.Layers.{OfLinkType, refused_packet};
 

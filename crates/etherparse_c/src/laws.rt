@@ -15,7 +15,7 @@ ghost use Rattle.etherparse.specs.declared.err.ipv6.HeaderSliceError as ipv6;
 ghost use Rattle.etherparse.specs.declared.net.ipv4_header.Ipv4Header.{Ipv4Header};
 ghost use Rattle.etherparse_c.specs.Error.{chain_error_in_c, ipv4_error_in_c, ipv6_error_in_c};
 ghost use Rattle.etherparse_c.specs.Error.{len_error_in_c};
-ghost use Rattle.etherparse_c.specs.ErrorText.{GivesText};
+ghost use Rattle.c_answers.specs.Text.{GivesText};
 ghost use Rattle.etherparse_c.specs.Layers.{IsPacketInC, LieThere};
 ghost use Rattle.etherparse_c.specs.declared.packet_layers.Packet.{Packet};
 ghost use Rattle.packet.specs.SlicedPacket.{IsFrame};

@@ -3,6 +3,7 @@
 ghost use Rattle.std.specs.Prelude.{ℕ, ◌≡◌, ◌≢◌, ◌<◌, ◌≤◌, ◌+◌, ◌++◌, ◌⊎◌, [], length};
 ghost use Rattle.std.specs.Fmt.{decimal};
 ghost use Rattle.std.specs.List.{flat_map};
+ghost use Rattle.c_answers.specs.Text.{GivesText};
 ghost use Rattle.etherparse.specs.Ipv4Errors.{bad_options_len_text, ipv4_header_error_text};
 ghost use Rattle.etherparse.specs.Ipv6Errors.{chain_error_text, ipv6_header_error_text};
 ghost use Rattle.etherparse.specs.Layer.{layer_text, layer_title};
@@ -20,7 +21,7 @@ ghost use Rattle.packet_parts.specs.Tcp.{tcp_error_text};
 ghost use Rattle.packet_parts.specs.declared.ip_slice.IpSliceError.TheVariants as ip;
 ghost use Rattle.packet_parts.specs.declared.tcp.TcpError.TheVariants as tcp;
 ghost use Rattle.etherparse_c.specs.Error.{layer_in_c, len_error_in_c, value_in_c};
-ghost use Rattle.etherparse_c.specs.ErrorText.{GivesText, HasNumbers, IsShortIpv4Packet};
+ghost use Rattle.etherparse_c.specs.ErrorText.{HasNumbers, IsShortIpv4Packet};
 ghost use Rattle.etherparse_c.specs.ErrorText.{link_type_error_text};
 
 use crate::answer::{
@@ -30,6 +31,7 @@ use crate::answer::{
     IPV6_PAYLOAD_LENGTH, LEN, LINK_HEADER, LINK_TYPE, TCP_HEADER, TOO_MANY, UDP_HEADER,
     UNEXPECTED_VERSION, VALUE_TOO_BIG, VLAN_HEADER,
 };
+use c_answers::text::{digits, put};
 use itoa::Buffer;
 
 /// Writes the text of the error with these numbers to the front of a buffer, as much of it as there
@@ -347,44 +349,4 @@ fn put_number(before: &'static str, number: usize, after: &'static str, text: &m
         text.old text.new result }
 {
     put(&[before, digits(number, &mut Buffer::new()), after], text)
-}
-
-// A number's decimal digits. The function is called and never inlined, so that the code that makes
-// digits stands once in the library.
-#[inline(never)]
-fn digits(number: usize, buffer: &mut Buffer) -> &str
-    ensures text { result.now ≡ decimal number }
-    ensures short { length result.now ≤ 40 }
-{
-    buffer.format(number)
-}
-
-// Writes these pieces one after the other, as far as there is room, and a byte 0 after them.
-#[inline(never)]
-fn put(pieces: &[&str], text: &mut [u8]) -> usize
-    requires short { length (flat_map (λ piece. piece.now) pieces.now) ≤ 1024 }
-    ensures gives { GivesText (flat_map (λ piece. piece.now) pieces.now) text.old text.new result }
-{
-    let room = text.len().saturating_sub(1);
-    let mut len: usize = 0;
-    for piece in pieces {
-        let start = len.min(room);
-        len += piece.len();
-        let end = len.min(room);
-        copy(&piece.as_bytes()[..end - start], &mut text[start..end]);
-    }
-    if !text.is_empty() {
-        text[len.min(room)] = 0;
-    }
-    len
-}
-
-// Copies bytes over as many others. `copy_from_slice` would call `memmove` of the C library.
-fn copy(from: &[u8], to: &mut [u8])
-    requires as_many { length to.old ≡ length from.now }
-    ensures copied { to.new ≡ from.now }
-{
-    for i in 0..from.len() {
-        to[i] = from[i];
-    }
 }

@@ -4,8 +4,8 @@
 use etherparse::{IpDscp, IpEcn, IpNumber};
 use packet_rewriting::checksum::{calc_checksum_ipv4, calc_checksum_ipv6, set_checksum_ipv4};
 use packet_rewriting::fields::{
-    Reach, set_destination_ipv4, set_destination_port, set_dscp, set_ecn, set_source_ipv4,
-    set_source_port,
+    Reach, set_destination_ipv4, set_destination_ipv6, set_destination_port, set_dscp, set_ecn,
+    set_source_ipv4, set_source_ipv6, set_source_port,
 };
 use std::process::Abort;
 use std::test::Fail;
@@ -64,5 +64,24 @@ fn marks(rt: HostRuntime) -> Result<(), Fail> {
     assert!(rt; packet[1] == 0xb8 && packet[10..12] == [0x45, 0xd9]);
     set_ecn(&mut packet, IpEcn::CongestionExperienced)?;
     assert!(rt; packet[1] == 0xbb && packet[10..12] == [0x45, 0xd6]);
+    Ok(())
+}
+
+#[test]
+fn ipv6_addresses(rt: HostRuntime) -> Result<(), Fail> {
+    let source = [0x20, 0x01, 0x0d, 0xb8, 0, 0, 0, 0, 0, 0, 0, 0, 0, 0, 0, 7];
+    let mut destination = source;
+    destination[15] = 9;
+    let mut packet = [
+        0x60, 0, 0, 0, 0, 12, 17, 64, 0x20, 0x01, 0x0d, 0xb8, 0, 0, 0, 0, 0, 0, 0, 0, 0, 0, 0, 1,
+        0x20, 0x01, 0x0d, 0xb8, 0, 0, 0, 0, 0, 0, 0, 0, 0, 0, 0, 2, 4, 0, 0, 53, 0, 12, 0xb8, 0x52,
+        b't', b'e', b's', b't',
+    ];
+    let reach = set_source_ipv6(&mut packet, source)?;
+    assert!(rt; reach == Reach::Upper && packet[8..24] == source);
+    assert!(rt; packet[46..48] == [0xb8, 0x4c]);
+    let reach = set_destination_ipv6(&mut packet, destination)?;
+    assert!(rt; reach == Reach::Upper && packet[24..40] == destination);
+    assert!(rt; packet[46..48] == [0xb8, 0x45]);
     Ok(())
 }

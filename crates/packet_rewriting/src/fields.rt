@@ -158,6 +158,25 @@ pub fn set_destination_ipv4(packet: &mut [u8], destination: [u8; 4]) -> Result<R
 ///
 /// In this order: `Ip`; `OtherVersion` if the packet is one of IPv4; `Incomplete`. The packet is
 /// then unchanged.
+///
+/// # Example
+///
+/// ```
+/// let source = [0x20, 0x01, 0x0d, 0xb8, 0, 0, 0, 0, 0, 0, 0, 0, 0, 0, 0, 7];
+/// let mut destination = source;
+/// destination[15] = 9;
+/// let mut packet = [
+///     0x60, 0, 0, 0, 0, 12, 17, 64, 0x20, 0x01, 0x0d, 0xb8, 0, 0, 0, 0, 0, 0, 0, 0, 0, 0, 0, 1,
+///     0x20, 0x01, 0x0d, 0xb8, 0, 0, 0, 0, 0, 0, 0, 0, 0, 0, 0, 2, 4, 0, 0, 53, 0, 12, 0xb8, 0x52,
+///     b't', b'e', b's', b't',
+/// ];
+/// let reach = set_source_ipv6(&mut packet, source)?;
+/// assert!(rt; reach == Reach::Upper && packet[8..24] == source);
+/// assert!(rt; packet[46..48] == [0xb8, 0x4c]);
+/// let reach = set_destination_ipv6(&mut packet, destination)?;
+/// assert!(rt; reach == Reach::Upper && packet[24..40] == destination);
+/// assert!(rt; packet[46..48] == [0xb8, 0x45]);
+/// ```
 pub fn set_source_ipv6(packet: &mut [u8], source: [u8; 16]) -> Result<Reach, RewriteError>
     ensures changed { IfOk result (HasOtherSource source packet.old packet.new) }
     ensures refused { IfErr result (RefusesAddress 6 packet.old) }

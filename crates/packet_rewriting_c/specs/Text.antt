@@ -1,11 +1,5 @@
 -- The text of an error, as C gets it.
-use Rattle.std.specs.Prelude.{ℕ, ◌==◌, ◌++◌, List, [], ◌∷◌, codes, drop, if◌then◌else◌, length}
-use Rattle.std.specs.Prelude.{take}
-
--- a buffer with a text: as much of it as there is room for, a byte 0, and then what was there
-abbrev pub with_text : List ℕ → List ℕ → List ℕ
-with_text text [] = []
-with_text text (first ∷ others) = take (length others) text ++ 0 ∷ drop (length text) others
+use Rattle.std.specs.Prelude.{ℕ, ◌==◌, List, [], codes, if◌then◌else◌}
 
 -- the text of the error of a number; the empty text of a number that no error has
 abbrev pub kind_text : ℕ → List ℕ

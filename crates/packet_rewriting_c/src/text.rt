@@ -1,27 +1,29 @@
 //! The text of an error.
 
-ghost use Rattle.std.specs.Prelude.{◌≡◌, length};
-ghost use Rattle.packet_rewriting_c.specs.Text.{kind_text, with_text};
+ghost use Rattle.std.specs.Prelude.{◌≡◌, ◌≤◌, length};
+ghost use Rattle.c_answers.specs.Text.{GivesText};
+ghost use Rattle.packet_rewriting_c.specs.Text.{kind_text};
 
 use crate::answer::{
     EMPTY, EXTENSIONS, INCOMPLETE, IPV4_HEADER, IPV6_HEADER, LATER_FRAGMENT, OTHER_PROTOCOL,
     OTHER_VERSION, PACKET, TOO_LONG, UNEXPECTED_VERSION, VALUE_TOO_BIG,
 };
+use c_answers::text::put;
 
 /// Writes the text of the error of this number to the front of a buffer, as much of it as there is
 /// room for, and a byte 0 after it; returns how many bytes the whole text has, without that 0. A
 /// number that no error has has the empty text.
 #[unsafe(no_mangle)]
 pub extern "C" fn etherparse_rewriting_error_text(error: u32, text: &mut [u8]) -> usize
-    ensures len { result ≡ length (kind_text error) }
-    ensures written { text.new ≡ with_text (kind_text error) text.old }
+    ensures gives { GivesText (kind_text error) text.old text.new result }
 {
-    put(message(error).as_bytes(), text)
+    put(&[message(error)], text)
 }
 
 // The text of the error of a number.
 fn message(error: u32) -> &'static str
     ensures value { result.now ≡ kind_text error }
+    ensures short { length result.now ≤ 100 }
 {
     match error {
         EMPTY => "The packet has no bytes.",
@@ -37,29 +39,5 @@ fn message(error: u32) -> &'static str
         TOO_LONG => "The pseudo-header has no room for the length.",
         VALUE_TOO_BIG => "The value does not fit its field.",
         _ => "",
-    }
-}
-
-// Writes a text and a byte 0 to the front of a buffer.
-fn put(message: &[u8], text: &mut [u8]) -> usize
-    ensures len { result ≡ length message.now }
-    ensures written { text.new ≡ with_text message.now text.old }
-{
-    if text.is_empty() {
-        return message.len();
-    }
-    let len = message.len().min(text.len() - 1);
-    copy(&message[..len], &mut text[..len]);
-    text[len] = 0;
-    message.len()
-}
-
-// Copies bytes over as many others. `copy_from_slice` would call `memmove` of the C library.
-fn copy(from: &[u8], to: &mut [u8])
-    requires as_many { length to.old ≡ length from.now }
-    ensures copied { to.new ≡ from.now }
-{
-    for i in 0..from.len() {
-        to[i] = from[i];
     }
 }

@@ -1,5 +1,5 @@
 use Rattle.std.proofs.Common.{◌≡◌, arith}
-use Rattle.etherparse_c.proofs.Batch.{none, one_more}
+use Rattle.c_answers.proofs.Batch.{none, one_more}
 use Rattle.etherparse_c.proofs.frame.etherparse_packet_lax_batch.Goals as goal
 
 pub loop-i-init : goal.loop-i-init

@@ -1,4 +1,4 @@
-use Rattle.etherparse_c.specs.Batch.{HasAnswers}
+use Rattle.c_answers.specs.Batch.{HasAnswers}
 use Rattle.etherparse_c.specs.Layers.{GivesLax}
 use Rattle.etherparse_c.proofs.frame.etherparse_packet_lax_batch.Given as goal
 

@@ -1,5 +1,5 @@
 use Rattle.std.proofs.Common.{ℕ, ◌≡◌, ◌<◌, ◌++◌, List, [], ap, append_assoc, arith, codes, decimal, lt-ltb, refl, subst}
-use Rattle.etherparse_c.specs.ErrorText.{GivesText}
+use Rattle.c_answers.specs.Text.{GivesText}
 use Rattle.etherparse_c.specs.declared.answer.Error.{Error}
 use Rattle.etherparse_c.proofs.text.put_len_in.Goals as goal
 
