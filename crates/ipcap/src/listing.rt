@@ -120,14 +120,13 @@ impl Request {
         ensures failed { IfErr result (λ e. Because ⊥ (W.has_failed output.new.sink)
             (¬ HasRoom totals.old) e ⊥ [] []) }
     {
-        let Some(after) = totals.count(len, head, &reading) else {
+        if !totals.count(len, head, &reading) {
             return Err(Failure::Count);
-        };
-        *totals = after;
+        }
         match self.mode {
             Mode::Lines => output.print(RecordLine {
                 is_utc: self.is_utc,
-                number: after.records,
+                number: totals.records,
                 head: *head,
                 reading,
                 is_reassembled,
@@ -176,11 +175,11 @@ impl Request {
             let len = bytes.len();
             return self.list_packet(totals, len, is_reassembled, head, bytes, reading, output);
         }
-        let Some(after) = totals.pass(bytes.len(), false, head) else {
-            return Err(Failure::Count);
-        };
-        *totals = after;
-        Ok(())
+        if totals.pass(bytes.len(), false, head) {
+            Ok(())
+        } else {
+            Err(Failure::Count)
+        }
     }
 
     // Counts a block without a packet, and writes its bytes if packets are written.
@@ -198,7 +197,7 @@ impl Request {
         ensures failed { IfErr result (λ e. Because ⊥ (W.has_failed output.new.sink)
             (¬ HasRoom totals.old) e ⊥ [] []) }
     {
-        *totals = totals.pass_block(len);
+        totals.pass_block(len);
         output.copy_if(self.copies(), bytes)
     }
 
@@ -223,11 +222,11 @@ impl Request {
         match &self.filter {
             None => self.list_packet(totals, len, false, head, bytes, Reading::Skipped, output),
             Some(_) => {
-                let Some(after) = totals.pass(len, true, head) else {
-                    return Err(Failure::Count);
-                };
-                *totals = after;
-                Ok(())
+                if totals.pass(len, true, head) {
+                    Ok(())
+                } else {
+                    Err(Failure::Count)
+                }
             }
         }
     }
@@ -407,7 +406,7 @@ impl Request {
         }
         match front.check_end(last) {
             Ok(()) => {
-                place.totals = place.totals.pass_block(front.len);
+                place.totals.pass_block(front.len);
                 Ok(Turn::GoesOn)
             }
             Err(e) => Ok(Turn::Ends(Some(End::Refused(e)))),

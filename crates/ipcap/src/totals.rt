@@ -1,5 +1,7 @@
 //! What is counted.
 
+ghost use Rattle.std.specs.Prelude.{◌≡◌, ◌+◌, ◌-◌, ◌^◌, IsFalse, IsTrue};
+
 use crate::reading::{Reading, is_cut};
 use frame_reassembly::datagrams::Datagrams;
 use packet_capture::any::PacketHead;
@@ -33,7 +35,7 @@ pub struct Totals {
 }
 
 impl Totals {
-    ghost use Rattle.std.specs.Prelude.{◌≡◌, Bool, IfNone, IfSome, None, Some};
+    ghost use Rattle.std.specs.Prelude.{◌≡◌, Bool, IsFalse, IsTrue, None, Some};
     ghost use Rattle.ipcap.specs.Totals.{HasRoom, counted, counted_as, first_totals, no_packet};
     ghost use Rattle.ipcap.specs.Totals.{packet};
 
@@ -56,67 +58,91 @@ impl Totals {
         }
     }
 
-    /// With one more packet that is listed, in a block of `len` bytes; `None` if a count of packets
-    /// would exceed 2^64 - 1.
-    pub fn count(self, len: usize, head: &PacketHead, reading: &Reading) -> Option<Totals>
-        ensures some { IfSome result (λ after. (is_long is_reassembled : Bool)
-            → after ≡ counted len is_long (packet is_reassembled head.now (Some reading.now)) self) }
-        ensures none { IfNone result (¬ HasRoom self) }
+    /// Counts one more packet that is listed, in a block of `len` bytes. If a count of packets would
+    /// exceed 2^64 - 1, nothing is counted, and the answer is `false`.
+    pub fn count(&mut self, len: usize, head: &PacketHead, reading: &Reading) -> bool
+        ensures counted { IsTrue result → (is_long is_reassembled : Bool) → self.new
+            ≡ counted len is_long (packet is_reassembled head.now (Some reading.now)) self.old }
+        ensures full { IsFalse result → ¬ HasRoom self.old }
+        ensures kept { IsFalse result → self.new ≡ self.old }
     {
-        let after = self.count_as(reading)?;
-        Some(Totals {
-            records: self.records.checked_add(1)?,
-            listed: self.listed.checked_add(1)?,
-            cut: self.cut.checked_add(u64::from(is_cut(head)))?,
-            wrong: self
-                .wrong
-                .checked_add(u64::from(reading.has_wrong_checksum()))?,
-            bytes: self.bytes.saturating_add(len as u64),
-            ..after
-        })
-    }
-
-    /// With one more packet that is not listed, in a block of `len` bytes, which is too long or
-    /// not; `None` if a count of packets would exceed 2^64 - 1.
-    pub fn pass(self, len: usize, is_long: bool, head: &PacketHead) -> Option<Totals>
-        ensures some { IfSome result (λ after.
-            (is_reassembled : Bool)
-            → after ≡ counted len is_long (packet is_reassembled head.now None) self) }
-        ensures none { IfNone result (¬ HasRoom self) }
-    {
-        Some(Totals {
-            records: self.records.checked_add(1)?,
-            skipped: self.skipped.checked_add(u64::from(is_long))?,
-            bytes: self.bytes.saturating_add(len as u64),
-            ..self
-        })
-    }
-
-    /// With one more block of `len` bytes, which has no packet.
-    pub fn pass_block(self, len: usize) -> Totals
-        ensures value { (is_long : Bool) → result ≡ counted len is_long no_packet self }
-    {
-        Totals {
-            bytes: self.bytes.saturating_add(len as u64),
-            ..self
+        let (cut, wrong) = (is_cut(head), reading.has_wrong_checksum());
+        let (Some(records), Some(listed), Some(cut), Some(wrong)) = (
+            self.records.checked_add(1),
+            self.listed.checked_add(1),
+            self.cut.checked_add(u64::from(cut)),
+            self.wrong.checked_add(u64::from(wrong)),
+        ) else {
+            return false;
+        };
+        if !self.count_as(reading) {
+            return false;
         }
+        self.records = records;
+        self.listed = listed;
+        self.cut = cut;
+        self.wrong = wrong;
+        self.bytes = self.bytes.saturating_add(len as u64);
+        true
     }
 
-    // With one more record of its kind.
-    fn count_as(self, reading: &Reading) -> Option<Totals>
-        ensures some { IfSome result (λ after. after ≡ counted_as reading.now self) }
-        ensures none { IfNone result (¬ HasRoom self) }
+    /// Counts one more packet that is not listed, in a block of `len` bytes, which is too long or
+    /// not. If a count of packets would exceed 2^64 - 1, nothing is counted, and the answer is
+    /// `false`.
+    pub fn pass(&mut self, len: usize, is_long: bool, head: &PacketHead) -> bool
+        ensures counted { IsTrue result → (is_reassembled : Bool) → self.new
+            ≡ counted len is_long (packet is_reassembled head.now None) self.old }
+        ensures full { IsFalse result → ¬ HasRoom self.old }
+        ensures kept { IsFalse result → self.new ≡ self.old }
     {
-        let mut after = self;
+        let (Some(records), Some(skipped)) = (
+            self.records.checked_add(1),
+            self.skipped.checked_add(u64::from(is_long)),
+        ) else {
+            return false;
+        };
+        self.records = records;
+        self.skipped = skipped;
+        self.bytes = self.bytes.saturating_add(len as u64);
+        true
+    }
+
+    /// Counts one more block of `len` bytes, which has no packet.
+    pub fn pass_block(&mut self, len: usize)
+        ensures counted { (is_long : Bool) → self.new ≡ counted len is_long no_packet self.old }
+    {
+        self.bytes = self.bytes.saturating_add(len as u64);
+    }
+
+    // Counts one more record of its kind, if that count has room.
+    fn count_as(&mut self, reading: &Reading) -> bool
+        ensures counted { IsTrue result → self.new ≡ counted_as reading.now self.old }
+        ensures full { IsFalse result → ¬ HasRoom self.old }
+        ensures kept { IsFalse result → self.new ≡ self.old }
+    {
         match reading {
             Reading::Packet(shown) => match shown.lax.slice.header {
-                IpHeaderSlice::Ipv4(_) => after.ipv4 = self.ipv4.checked_add(1)?,
-                IpHeaderSlice::Ipv6(_) => after.ipv6 = self.ipv6.checked_add(1)?,
+                IpHeaderSlice::Ipv4(_) => add_one(&mut self.ipv4),
+                IpHeaderSlice::Ipv6(_) => add_one(&mut self.ipv6),
             },
-            Reading::Other(_) => after.other = self.other.checked_add(1)?,
-            Reading::Refused(_) => after.refused = self.refused.checked_add(1)?,
-            Reading::Skipped => after.skipped = self.skipped.checked_add(1)?,
+            Reading::Other(_) => add_one(&mut self.other),
+            Reading::Refused(_) => add_one(&mut self.refused),
+            Reading::Skipped => add_one(&mut self.skipped),
         }
-        Some(after)
+    }
+}
+
+// Adds one to a count, if it has room.
+fn add_one(count: &mut u64) -> bool
+    ensures added { IsTrue result → count.new ≡ count.old + 1 }
+    ensures full { IsFalse result → count.old ≡ 2 ^ 64 - 1 }
+    ensures kept { IsFalse result → count.new ≡ count.old }
+{
+    match count.checked_add(1) {
+        Some(after) => {
+            *count = after;
+            true
+        }
+        None => false,
     }
 }

@@ -46,7 +46,7 @@ pub returns-in-Ok-check_end-clause-turns : goal.returns-in-Ok-check_end-clause-t
 returns-in-Ok-check_end-clause-turns g c =
     let has = long_front _ (unread c.args.input.now) _ c.in-Ok.front c.requires.enough c.requires.refused c.requires.long (rw c.unread.ensures.value at c.in-Ok.ensures.reads) in
     let k = rw c.keeps.ensures.value at c.in_ok-len.ensures.skips in
-    past_skipped _ _ _ c.args.place.now c.list_front_of.new.totals c.in-Ok.front _ _ _ _ _ c.requires.going has.0 has.1 c.in_ok-list_front_of.ensures.told _ _ k _ (c.pass_block-place.ensures.value true) (omega (arith, k.within, c.if-len-front.false)) c.in-Ok-check_end.ensures.same
+    past_skipped _ _ _ c.args.place.now c.list_front_of.new.totals c.in-Ok.front _ _ _ _ _ c.requires.going has.0 has.1 c.in_ok-list_front_of.ensures.told _ _ k _ (c.pass_block.ensures.counted true) (omega (arith, k.within, c.if-len-front.false)) c.in-Ok-check_end.ensures.same
 
 pub returns-in-Err-check_end-clause-turns : goal.returns-in-Err-check_end-clause-turns
 returns-in-Err-check_end-clause-turns g c =
