@@ -78,10 +78,10 @@ fn ipv6_addresses(rt: HostRuntime) -> Result<(), Fail> {
         b't', b'e', b's', b't',
     ];
     let reach = set_source_ipv6(&mut packet, source)?;
-    assert!(rt; reach == Reach::Upper && packet[8..24] == source);
+    assert!(rt; reach == Reach::Upper && packet[8..24] == source[..]);
     assert!(rt; packet[46..48] == [0xb8, 0x4c]);
     let reach = set_destination_ipv6(&mut packet, destination)?;
-    assert!(rt; reach == Reach::Upper && packet[24..40] == destination);
+    assert!(rt; reach == Reach::Upper && packet[24..40] == destination[..]);
     assert!(rt; packet[46..48] == [0xb8, 0x45]);
     Ok(())
 }
