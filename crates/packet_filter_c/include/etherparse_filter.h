@@ -39,7 +39,7 @@ struct etherparse_filter_refusal {
     size_t place;
     uint32_t kind; /* one of the kinds below; 0 if the text is a filter */
     uint16_t expected; /* of UNEXPECTED and INCOMPLETE: what could stand at the place */
-    uint16_t found; /* of MIXED: the operator at the place, AND or OR below */
+    uint16_t found; /* of MIXED: the operator at the place, FOUND_AND or FOUND_OR below */
 };
 
 enum etherparse_filter_kind {
@@ -50,6 +50,12 @@ enum etherparse_filter_kind {
     ETHERPARSE_FILTER_UNSUPPORTED = 3, /* a word of pcap-filter(7) that the language lacks */
     ETHERPARSE_FILTER_INCOMPLETE = 4, /* the text ends where more words have to follow */
     ETHERPARSE_FILTER_TOO_LONG = 5 /* the word after the first ETHERPARSE_FILTER_MAX_WORDS */
+};
+
+/* The operator at the place. */
+enum etherparse_filter_found {
+    ETHERPARSE_FILTER_FOUND_AND = 1,
+    ETHERPARSE_FILTER_FOUND_OR = 2
 };
 
 /* What could stand at the place. */

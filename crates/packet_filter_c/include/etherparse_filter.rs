@@ -15,6 +15,10 @@ pub const FILTER_UNSUPPORTED: u32 = 3;
 pub const FILTER_INCOMPLETE: u32 = 4;
 pub const FILTER_TOO_LONG: u32 = 5;
 
+// The operator at the place of a refusal.
+pub const FILTER_FOUND_AND: u16 = 1;
+pub const FILTER_FOUND_OR: u16 = 2;
+
 // What could stand at the place of a refusal.
 pub const FILTER_OPERAND: u16 = 1;
 pub const FILTER_AND_OR: u16 = 2;

@@ -156,10 +156,10 @@ static void refusals(void)
         "Expression Error: The word at byte 4 cannot stand there: expected `src`, `dst`, `port`, `portrange`, `[` or an operator.");
     EXPECT_REFUSAL("host 10.0.0.1 and port 65536", ETHERPARSE_FILTER_UNEXPECTED, 23, ETHERPARSE_FILTER_PORT, 0,
         "Expression Error: The word at byte 23 cannot stand there: expected a port, such as `80` or `http`.");
-    EXPECT_REFUSAL("udp or tcp and port 22", ETHERPARSE_FILTER_MIXED, 11, 0, 1,
+    EXPECT_REFUSAL("udp or tcp and port 22", ETHERPARSE_FILTER_MIXED, 11, 0, ETHERPARSE_FILTER_FOUND_AND,
         "Expression Error: `and` and `or` stand together at byte 11: parentheses have to say which comes first, as in "
         "`(a or b) and c` or `a or (b and c)`.");
-    EXPECT_REFUSAL("udp and tcp || arp", ETHERPARSE_FILTER_MIXED, 12, 0, 2,
+    EXPECT_REFUSAL("udp and tcp || arp", ETHERPARSE_FILTER_MIXED, 12, 0, ETHERPARSE_FILTER_FOUND_OR,
         "Expression Error: `and` and `or` stand together at byte 12: parentheses have to say which comes first, as in "
         "`(a and b) or c` or `a and (b or c)`.");
     EXPECT_REFUSAL("ip or mpls", ETHERPARSE_FILTER_UNSUPPORTED, 6, 0, 0,
