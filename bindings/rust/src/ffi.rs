@@ -1,5 +1,5 @@
-//! The declarations of `etherparse.h`, without its prefixes: what it says of each holds here.
-//! `tests/declarations.rs` compares them with that file.
+//! The declarations of `etherparse.h`, without its prefixes: what it says of each holds here. Each
+//! other header file has a module. `tests/declarations.rs` compares them with these files.
 
 #![allow(dead_code)]
 
@@ -33,6 +33,9 @@ macro_rules! functions {
         }
     };
 }
+
+pub mod filter;
+pub mod rewriting;
 
 constants! {
     u32:

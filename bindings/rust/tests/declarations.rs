@@ -1,22 +1,39 @@
-//! Compares `src/ffi.rs` with the header file of the library, if that is there: each constant; each
-//! struct, with the type and the place of each field; the types of each function. Types are written
-//! as Rust has them, but pointers as `const T*` and `mut T*`.
+//! Compares `src/ffi.rs` and what is in `src/ffi` with the header files of the library, if they are
+//! there: each constant; each struct, with the type and the place of each field; the types of each
+//! function. Types are written as Rust has them, but pointers as `const T*` and `mut T*`.
 
 use std::collections::BTreeMap;
-
-const HERE: &str = include_str!("../src/ffi.rs");
 
 // What is declared, by its name.
 type Declared = BTreeMap<String, String>;
 
-// The header file without comments.
-fn header() -> Option<String> {
-    let root = concat!(env!("CARGO_MANIFEST_DIR"), "/../../crates/etherparse_c");
-    if !std::path::Path::new(root).is_dir() {
-        println!("left out: the header file is not there");
+// A header file, the prefix that its constants have, and the declarations here.
+const FILES: [(&str, &str, &str); 3] = [
+    (
+        "etherparse_c/include/etherparse.h",
+        "ETHERPARSE_",
+        include_str!("../src/ffi.rs"),
+    ),
+    (
+        "packet_filter_c/include/etherparse_filter.h",
+        "ETHERPARSE_FILTER_",
+        include_str!("../src/ffi/filter.rs"),
+    ),
+    (
+        "packet_rewriting_c/include/etherparse_rewriting.h",
+        "ETHERPARSE_REWRITING_",
+        include_str!("../src/ffi/rewriting.rs"),
+    ),
+];
+
+// The header file of a path below `crates`, without comments.
+fn header(path: &str) -> Option<String> {
+    let root = concat!(env!("CARGO_MANIFEST_DIR"), "/../../crates");
+    if !std::path::Path::new(root).join("etherparse_c").is_dir() {
+        println!("left out: the header files are not there");
         return None;
     }
-    let text = std::fs::read_to_string(format!("{root}/include/etherparse.h")).unwrap();
+    let text = std::fs::read_to_string(format!("{root}/{path}")).expect(path);
     let mut pieces = text.split("/*");
     let first = pieces.next().unwrap().to_string();
     Some(pieces.fold(first, |bare, piece| {
@@ -101,24 +118,24 @@ fn type_of_rust(text: &str) -> String {
     text.to_string()
 }
 
-fn constants_of_c(text: &str) -> Declared {
-    let groups = all_between(text, "\nenum {", "}").flat_map(|group| listed(group, |c| c == ','));
+// Those of enums, and the numbers that are defined, but for those of the version.
+fn constants_of_c(text: &str, prefix: &str) -> Declared {
+    let groups = all_between(text, "\nenum ", "}")
+        .flat_map(|group| listed(group.split_once('{').unwrap().1, |c| c == ','));
+    let defined = all_between(text, "\n#define ", "\n").map(|line| line.replacen(' ', " = ", 1));
     let pair = |one: String| {
-        let (name, number) = one.split_once(" = ").unwrap();
-        (
-            name.strip_prefix("ETHERPARSE_").unwrap().to_string(),
-            number.to_string(),
-        )
+        let (name, number) = one.split_once(" = ")?;
+        let bare = name
+            .strip_prefix(prefix)
+            .or(name.strip_prefix("ETHERPARSE_"))?;
+        let is_constant = number.parse::<u64>().is_ok() && !bare.starts_with("VERSION");
+        is_constant.then(|| (bare.to_string(), number.to_string()))
     };
-    let room = between(text, "#define ETHERPARSE_ERROR_TEXT_SIZE ", "\n").to_string();
-    groups
-        .map(pair)
-        .chain([("ERROR_TEXT_SIZE".to_string(), room)])
-        .collect()
+    groups.chain(defined).filter_map(pair).collect()
 }
 
-fn constants_of_rust() -> Declared {
-    let text = between(HERE, "\nconstants! {", "\n}");
+fn constants_of_rust(here: &str) -> Declared {
+    let text = between(here, "\nconstants! {", "\n}");
     let parts = listed(text, |c| matches!(c, ',' | ':' | ';'));
     let pairs = parts.iter().filter_map(|part| part.split_once(" = "));
     pairs
@@ -126,36 +143,44 @@ fn constants_of_rust() -> Declared {
         .collect()
 }
 
+// All but the memory of a filter, whose size and alignment are constants.
 fn structs_of_c(text: &str) -> Declared {
     let mut found = Declared::new();
     for one in all_between(text, "\nstruct ", "\n}") {
         let Some((name, fields)) = one.split_once(" {").filter(|one| !one.0.contains(' ')) else {
             continue; // a function
         };
+        if fields.contains("union {") {
+            continue;
+        }
         for field in listed(fields, |c| c == ';') {
             let (field, of, len) = item_of_c(&field);
             let of = len.map_or(of.clone(), |len| format!("[{of}; {len}]"));
             found.insert(format!("{}.{field}", camel(name)), of);
         }
     }
-    for line in all_between(text, "\nETHERPARSE_SIZE(", ")") {
-        let (name, size) = line.split_once(", ").unwrap();
-        found.insert(camel(name), size.to_string());
-    }
-    for line in all_between(text, "\nETHERPARSE_FIELD(", ")") {
-        let parts = listed(line, |c| c == ',');
-        let field = found
-            .get_mut(&format!("{}.{}", camel(&parts[0]), parts[1]))
-            .unwrap();
-        *field += &format!(" = {}", parts[2]);
+    for line in text.lines().filter(|line| line.starts_with("ETHERPARSE_")) {
+        let words = listed(line, |c: char| !c.is_alphanumeric() && c != '_');
+        let words: Vec<&str> = words.iter().map(String::as_str).collect();
+        match words[..] {
+            [_, "sizeof", "struct", "etherparse_filter", _] => (),
+            [_, "sizeof", "struct", name, size] | [_, name, size] => {
+                found.insert(camel(name), size.to_string());
+            }
+            [_, "offsetof", "struct", name, field, place] | [_, name, field, place, _] => {
+                let field = found.get_mut(&format!("{}.{field}", camel(name))).unwrap();
+                *field += &format!(" = {place}");
+            }
+            _ => (),
+        }
     }
     found
 }
 
-fn structs_of_rust() -> Declared {
+fn structs_of_rust(here: &str) -> Declared {
     let mut found = Declared::new();
     let mut name = "";
-    for line in between(HERE, "\nstructs! {", "\n}").lines().map(str::trim) {
+    for line in between(here, "\nstructs! {", "\n}").lines().map(str::trim) {
         if let Some((of, size)) = line
             .strip_suffix(" {")
             .and_then(|line| line.split_once(", "))
@@ -177,10 +202,12 @@ fn structs_of_rust() -> Declared {
 }
 
 fn functions_of_c(text: &str) -> Declared {
-    let text = between(text, "extern \"C\" {", "\nETHERPARSE_SIZE(");
     let bare: String = text
+        .split_once("extern \"C\" {")
+        .unwrap()
+        .1
         .lines()
-        .filter(|line| !line.starts_with('#'))
+        .filter(|line| !line.starts_with('#') && !line.starts_with("ETHERPARSE_"))
         .map(|line| format!("{line}\n"))
         .collect();
     let mut found = Declared::new();
@@ -201,9 +228,9 @@ fn functions_of_c(text: &str) -> Declared {
     found
 }
 
-fn functions_of_rust() -> Declared {
+fn functions_of_rust(here: &str) -> Declared {
     let mut found = Declared::new();
-    for one in between(HERE, "\nfunctions! {", "\n}")
+    for one in between(here, "\nfunctions! {", "\n}")
         .split(";\n")
         .filter(|one| one.contains('('))
     {
@@ -226,26 +253,34 @@ fn functions_of_rust() -> Declared {
 }
 
 #[test]
-fn constants_are_those_of_the_header() {
-    let Some(text) = header() else { return };
-    assert_eq!(constants_of_rust(), constants_of_c(&text));
+fn constants_are_those_of_the_headers() {
+    for (path, prefix, here) in FILES {
+        let Some(text) = header(path) else { return };
+        assert_eq!(constants_of_rust(here), constants_of_c(&text, prefix));
+    }
 }
 
 #[test]
-fn structs_are_those_of_the_header() {
-    let Some(text) = header() else { return };
-    assert_eq!(structs_of_rust(), structs_of_c(&text));
+fn structs_are_those_of_the_headers() {
+    for (path, _, here) in FILES {
+        let Some(text) = header(path) else { return };
+        assert_eq!(structs_of_rust(here), structs_of_c(&text));
+    }
 }
 
 #[test]
-fn functions_are_those_of_the_header() {
-    let Some(text) = header() else { return };
-    assert_eq!(functions_of_rust(), functions_of_c(&text));
+fn functions_are_those_of_the_headers() {
+    for (path, _, here) in FILES {
+        let Some(text) = header(path) else { return };
+        assert_eq!(functions_of_rust(here), functions_of_c(&text));
+    }
 }
 
 #[test]
 fn the_version_is_that_of_the_header() {
-    let Some(text) = header() else { return };
+    let Some(text) = header(FILES[0].0) else {
+        return;
+    };
     let version = between(&text, "#define ETHERPARSE_VERSION \"", "\"");
     assert_eq!(version, env!("CARGO_PKG_VERSION"));
 }

@@ -3,7 +3,7 @@
 
 mod common;
 
-use common::len_error;
+use common::{bytes_of, len_error};
 use etherparse_proved::err::packet::SliceError;
 use etherparse_proved::err::{ip, ipv4, tcp, Layer, LenError};
 use etherparse_proved::{Absence, EtherType, Fragment, IpNumber, LaxSlicedPacket, LenSource};
@@ -35,12 +35,6 @@ const ICMPV6: &str =
 const TCP: &str =
     "02000000000402000000000308004500002e00000000400666c80a0000010a0000020101020203040506\
     0708090a602a0b0c0d0e0f10020405061112";
-
-fn bytes_of(digits: &str) -> Vec<u8> {
-    let digits: Vec<u8> = digits.bytes().filter(|digit| *digit != b' ').collect();
-    let pair = |pair: &[u8]| u8::from_str_radix(std::str::from_utf8(pair).unwrap(), 16).unwrap();
-    digits.chunks(2).map(pair).collect()
-}
 
 fn ethernet(payload: &str) -> Vec<u8> {
     bytes_of(&format!("020000000004020000000003{payload}"))

@@ -19,9 +19,20 @@ use core::fmt;
 
 // Shows the text of the error with these numbers.
 fn show(error: &ffi::Error, f: &mut fmt::Formatter<'_>) -> fmt::Result {
-    let mut text = [0; ffi::ERROR_TEXT_SIZE];
-    // SAFETY: the reference is to an error, the pointer to as many bytes as are told.
-    let len = unsafe { ffi::etherparse_error_text(error, text.as_mut_ptr(), text.len()) };
+    show_text::<{ ffi::ERROR_TEXT_SIZE }>(f, |text| {
+        // SAFETY: the reference is to an error, the pointer and the length are those of one slice.
+        unsafe { ffi::etherparse_error_text(error, text.as_mut_ptr(), text.len()) }
+    })
+}
+
+// Shows a text that a call of the library puts into a buffer with this room. The call returns how
+// many bytes the text has.
+pub(crate) fn show_text<const ROOM: usize>(
+    f: &mut fmt::Formatter<'_>,
+    put: impl FnOnce(&mut [u8]) -> usize,
+) -> fmt::Result {
+    let mut text = [0; ROOM];
+    let len = put(&mut text);
     let text = text.get(..len).unwrap_or(&text);
     f.write_str(core::str::from_utf8(text).map_err(|_| fmt::Error)?)
 }

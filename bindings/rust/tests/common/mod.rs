@@ -1,4 +1,5 @@
 //! What several tests use.
+#![allow(dead_code)]
 
 use etherparse_proved::err::{Layer, LenError};
 use etherparse_proved::LenSource;
@@ -17,4 +18,11 @@ pub fn len_error(
         layer,
         layer_start_offset,
     }
+}
+
+/// The bytes that hexadecimal digits spell, with spaces between them.
+pub fn bytes_of(digits: &str) -> Vec<u8> {
+    let digits: Vec<u8> = digits.bytes().filter(|digit| *digit != b' ').collect();
+    let pair = |pair: &[u8]| u8::from_str_radix(std::str::from_utf8(pair).unwrap(), 16).unwrap();
+    digits.chunks(2).map(pair).collect()
 }
