@@ -60,16 +60,12 @@ fn source() -> Option<PathBuf> {
 }
 
 fn beside() -> Option<PathBuf> {
-    Some(source()?.join("out"))
+    Some(source()?.join("out/lib"))
 }
 
-// Proves and builds the library.
+// Proves and builds the library, with all that are in its archive.
 fn built() -> Option<PathBuf> {
-    let status = Command::new("rt")
-        .arg("lib")
-        .current_dir(source()?)
-        .status()
-        .ok()?;
-    assert!(status.success(), "`rt lib` failed");
+    let status = Command::new("make").current_dir(source()?).status().ok()?;
+    assert!(status.success(), "`make` failed");
     beside()
 }

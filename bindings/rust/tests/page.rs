@@ -27,6 +27,68 @@ mod many_frames {
     }
 }
 
+mod filters {
+    use etherparse_proved::filter::{Filter, FilterError};
+    use etherparse_proved::LinkType;
+
+    /// Leaves the frames in a list that an expression chooses.
+    fn retain_chosen(expression: &str, frames: &mut Vec<&[u8]>) -> Result<(), FilterError> {
+        let mut filter = Filter::from_text(expression)?;
+        frames.retain(|frame| filter.matches_frame(LinkType::ETHERNET, frame, frame.len()));
+        Ok(())
+    }
+
+    #[test]
+    fn frames_are_chosen() {
+        // Ethernet and IPv4 with the protocol UDP and TCP, and ARP.
+        let mut frames = [[0; 42]; 3];
+        for (frame, protocol) in frames.iter_mut().zip([17, 6]) {
+            frame[12..14].copy_from_slice(&[8, 0]);
+            (frame[14], frame[17], frame[23]) = (0x45, 28, protocol);
+        }
+        frames[2][12..14].copy_from_slice(&[8, 6]);
+        let listed: Vec<&[u8]> = frames.iter().map(|frame| &frame[..]).collect();
+        let mut chosen = listed.clone();
+        assert_eq!(retain_chosen("udp or arp", &mut chosen), Ok(()));
+        assert_eq!(chosen, [listed[0], listed[2]]);
+        let error = retain_chosen("udp prot 80", &mut chosen).unwrap_err();
+        assert_eq!((error.place(), chosen.len()), (4, 2));
+    }
+}
+
+mod changes {
+    use etherparse_proved::rewriting::{set_source_ipv4, set_source_port, RewriteError};
+
+    /// Gives a packet that leaves a network the public address, and a port of it.
+    fn translate(packet: &mut [u8], address: [u8; 4], port: u16) -> Result<(), RewriteError> {
+        set_source_port(packet, port)?;
+        set_source_ipv4(packet, address)?;
+        Ok(())
+    }
+
+    // A datagram from 10.0.0.1 port 1024, and the same from 198.51.100.7 port 40000, with the sums of
+    // RFC 1071.
+    const PACKET: [u8; 32] = [
+        0x45, 0, 0, 32, 0, 0, 0, 0, 64, 17, 0x66, 0xcb, 10, 0, 0, 1, 10, 0, 0, 2, 4, 0, 0, 53, 0,
+        12, 0xff, 0xc4, b't', b'e', b's', b't',
+    ];
+    const TRANSLATED: [u8; 32] = [
+        0x45, 0, 0, 32, 0, 0, 0, 0, 64, 17, 0x46, 0x91, 198, 51, 100, 7, 10, 0, 0, 2, 0x9c, 0x40,
+        0, 53, 0, 12, 0x47, 0x4a, b't', b'e', b's', b't',
+    ];
+
+    #[test]
+    fn a_packet_gets_another_source() {
+        let mut packet = PACKET;
+        let address = [198, 51, 100, 7];
+        assert_eq!(translate(&mut packet, address, 40000), Ok(()));
+        assert_eq!(packet, TRANSLATED);
+        let error = translate(&mut packet[..31], address, 1);
+        assert_eq!(error, Err(RewriteError::Packet));
+        assert_eq!(packet, TRANSLATED);
+    }
+}
+
 mod one_header {
     use etherparse_proved::err::ipv4::HeaderSliceError;
     use etherparse_proved::Ipv4Header;

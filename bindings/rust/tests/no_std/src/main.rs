@@ -4,6 +4,8 @@
 #![no_main]
 
 use core::panic::PanicInfo;
+use etherparse_proved::filter::Filter;
+use etherparse_proved::rewriting::set_source_port;
 use etherparse_proved::{LaxSlicedPacket, LinkType, PacketBuffer, SlicedPacket, Verdict};
 
 #[link(name = "c")]
@@ -43,7 +45,17 @@ fn is_read_in_a_batch() -> bool {
         .eq([Some((1024, 53)), Some((1024, 53)), None])
 }
 
+fn is_chosen_until_changed() -> bool {
+    let Ok(mut filter) = Filter::from_text("src port 1024") else {
+        return false;
+    };
+    let mut packet = PACKET;
+    let was = filter.matches_frame(LinkType::RAW, &packet, packet.len());
+    let is_changed = set_source_port(&mut packet, 1025).is_ok();
+    was && is_changed && !filter.matches_frame(LinkType::RAW, &packet, packet.len())
+}
+
 #[no_mangle]
 pub extern "C" fn main() -> i32 {
-    i32::from(!is_read() || !is_read_in_a_batch())
+    i32::from(!is_read() || !is_read_in_a_batch() || !is_chosen_until_changed())
 }
