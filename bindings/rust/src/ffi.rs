@@ -35,6 +35,7 @@ macro_rules! functions {
 }
 
 pub mod filter;
+pub mod reassembly;
 pub mod rewriting;
 
 constants! {

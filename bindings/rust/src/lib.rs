@@ -12,6 +12,7 @@ mod len_source;
 mod link;
 mod link_type;
 mod net;
+pub mod reassembly;
 pub mod rewriting;
 mod sliced_packet;
 mod transport;

@@ -8,7 +8,7 @@ use std::collections::BTreeMap;
 type Declared = BTreeMap<String, String>;
 
 // A header file, the prefix that its constants have, and the declarations here.
-const FILES: [(&str, &str, &str); 3] = [
+const FILES: [(&str, &str, &str); 4] = [
     (
         "etherparse_c/include/etherparse.h",
         "ETHERPARSE_",
@@ -18,6 +18,11 @@ const FILES: [(&str, &str, &str); 3] = [
         "packet_filter_c/include/etherparse_filter.h",
         "ETHERPARSE_FILTER_",
         include_str!("../src/ffi/filter.rs"),
+    ),
+    (
+        "packet_reassembly_c/include/etherparse_reassembly.h",
+        "ETHERPARSE_DEFRAG_",
+        include_str!("../src/ffi/reassembly.rs"),
     ),
     (
         "packet_rewriting_c/include/etherparse_rewriting.h",
@@ -173,6 +178,13 @@ fn structs_of_c(text: &str) -> Declared {
             }
             _ => (),
         }
+    }
+    // The only field of a struct has no line for its place.
+    for (_, of) in found
+        .iter_mut()
+        .filter(|(name, of)| name.ends_with(".words") && !of.contains(" = "))
+    {
+        *of += " = 0";
     }
     found
 }

@@ -82,6 +82,9 @@ fn the_length_is_that_on_the_wire() {
         2
     );
     assert_eq!(answers, [true, false, true]);
+    let one_by_one = frames
+        .map(|frame| filter.matches_frame(LinkType::ETHERNET, frame.bytes(), frame.original_len()));
+    assert_eq!(one_by_one, [true, false]);
     assert_eq!(
         filter.matches_frames(LinkType::ETHERNET, &frames[1..], &mut answers[..0]),
         0

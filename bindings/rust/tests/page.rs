@@ -56,6 +56,61 @@ mod filters {
     }
 }
 
+mod fragments {
+    use etherparse_proved::reassembly::{IpDefragPacketError, IpDefragPool, PACKET_SIZE};
+
+    /// The packet that is complete with this fragment of it.
+    fn completed<'a>(
+        pool: &mut IpDefragPool,
+        fragment: &[u8],
+        now: u64,
+        out: &'a mut [u8; PACKET_SIZE],
+    ) -> Result<Option<&'a [u8]>, IpDefragPacketError> {
+        let Some(added) = pool.add_packet(fragment, None, None, now)? else {
+            return Ok(None);
+        };
+        let packet = pool.write_packet(added.slot, out)?;
+        if packet.is_some() {
+            pool.release(added.slot);
+        }
+        Ok(packet)
+    }
+
+    // The 9 bytes of a datagram in two packets, without checksums, and its packet, whose checksum is
+    // that of RFC 1071.
+    const FIRST: [u8; 28] = [
+        0x45, 0, 0, 28, 0, 5, 0x20, 0, 64, 253, 0, 0, 10, 0, 0, 1, 10, 0, 0, 2, 1, 2, 3, 4, 5, 6,
+        7, 8,
+    ];
+    const LAST: [u8; 21] = [
+        0x45, 0, 0, 21, 0, 5, 0, 1, 64, 253, 0, 0, 10, 0, 0, 1, 10, 0, 0, 2, 9,
+    ];
+    const PACKET: [u8; 29] = [
+        0x45, 0, 0, 29, 0, 5, 0, 0, 64, 253, 0x65, 0xdd, 10, 0, 0, 1, 10, 0, 0, 2, 1, 2, 3, 4, 5,
+        6, 7, 8, 9,
+    ];
+
+    #[test]
+    fn a_packet_is_complete_with_its_last_fragment() {
+        use etherparse_proved::reassembly::{IpDefragPoolState, IpDefragSlot, SLOT_MEMORY};
+
+        let (mut state, mut slots) = (IpDefragPoolState::new(), [IpDefragSlot::new()]);
+        let mut memory = vec![[0; SLOT_MEMORY]; slots.len()];
+        let mut pool = IpDefragPool::new(&mut state, &mut slots, &mut memory, 60);
+        let mut out: Box<[u8; PACKET_SIZE]> = vec![0; PACKET_SIZE].try_into().unwrap();
+        for _ in 0..2 {
+            assert_eq!(completed(&mut pool, &LAST, 1, &mut out), Ok(None));
+            assert_eq!(
+                completed(&mut pool, &FIRST, 2, &mut out),
+                Ok(Some(&PACKET[..]))
+            );
+        }
+        assert_eq!(completed(&mut pool, &PACKET, 3, &mut out), Ok(None));
+        let error = completed(&mut pool, &FIRST[..27], 3, &mut out);
+        assert_eq!(error, Err(IpDefragPacketError::Packet));
+    }
+}
+
 mod changes {
     use etherparse_proved::rewriting::{set_source_ipv4, set_source_port, RewriteError};
 
