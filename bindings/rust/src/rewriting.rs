@@ -3,8 +3,8 @@
 //!
 //! A packet is a whole one of IP, and may have other bytes after it, which stay. The checksums that
 //! cover a field are updated with it (RFC 1624): a right one stays right, and a wrong one is not
-//! repaired. A UDP checksum of 0, which says that there is none, stays 0. After an error nothing is
-//! changed.
+//! repaired. A UDP checksum of 0, which says that there is none, stays 0. A call that fails changes
+//! nothing.
 //!
 //! A checksum and a port are numbers whose high byte comes first in the packet.
 

@@ -114,7 +114,8 @@ mod fragments {
 mod changes {
     use etherparse_proved::rewriting::{set_source_ipv4, set_source_port, RewriteError};
 
-    /// Gives a packet that leaves a network the public address, and a port of it.
+    /// Gives a packet that leaves a network the public address, and a port of it. After an error it is
+    /// to be dropped: the port can be another already.
     fn translate(packet: &mut [u8], address: [u8; 4], port: u16) -> Result<(), RewriteError> {
         set_source_port(packet, port)?;
         set_source_ipv4(packet, address)?;

@@ -26,6 +26,11 @@ fn add(buf: &mut IpDefragBuf, k: usize) {
     assert_eq!(buf.add(offset(k as u16), k < 2, piece(k)), Ok(()));
 }
 
+// What is known of a datagram, and its length.
+fn seen(buf: &mut IpDefragBuf) -> (DatagramState, Option<usize>) {
+    (buf.state(), buf.datagram_len())
+}
+
 #[test]
 fn the_order_makes_no_difference() {
     let mut memory = Box::new(IpDefragMemory::new());
@@ -47,20 +52,14 @@ fn the_order_makes_no_difference() {
             add(&mut buf, k);
             add(&mut buf, order[0]);
         }
-        assert_eq!(
-            (buf.state(), buf.datagram_len()),
-            (DatagramState::Complete, Some(21))
-        );
+        assert_eq!(seen(&mut buf), (DatagramState::Complete, Some(21)));
         let mut out = [0x77; 22];
         assert_eq!(buf.datagram(&mut out[..20]), None);
         assert_eq!(out, [0x77; 22]);
         assert_eq!(buf.datagram(&mut out), Some(&DATAGRAM[..]));
         assert_eq!((&out[..21], out[21]), (&DATAGRAM[..], 0x77));
         buf.clear();
-        assert_eq!(
-            (buf.state(), buf.datagram_len()),
-            (DatagramState::Incomplete, None)
-        );
+        assert_eq!(seen(&mut buf), (DatagramState::Incomplete, None));
     }
 }
 
@@ -81,10 +80,7 @@ fn contradictions_discard_the_datagram() {
         assert_eq!(buf.add(offset(units), more_fragments, payload), Ok(()));
         assert_eq!(buf.state(), DatagramState::Discarded);
         (0..3).for_each(|k| add(&mut buf, k));
-        assert_eq!(
-            (buf.state(), buf.datagram_len()),
-            (DatagramState::Discarded, None)
-        );
+        assert_eq!(seen(&mut buf), (DatagramState::Discarded, None));
     }
 }
 
