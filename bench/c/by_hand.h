@@ -17,20 +17,14 @@ static inline __attribute__((always_inline)) void BY_HAND(const uint8_t *frame, 
   if (is_tag(ether_type)) {
     if (len - at < sizeof(struct tag)) goto cut_tag;
     const struct tag *tag = (const struct tag *)(frame + at);
-    uint16_t control = ntohs(tag->control);
-    packet->link.outer_vlan.identifier = control & 0xfff;
-    packet->link.outer_vlan.priority = control >> 13;
-    packet->link.outer_vlan.drop_eligible = control >> 12 & 1;
+    packet->link.outer_vlan = vlan_of(tag);
     packet->link.vlan_count = 1;
     ether_type = ntohs(tag->ether_type);
     at += sizeof(struct tag);
     if (is_tag(ether_type)) {
       if (len - at < sizeof(struct tag)) goto cut_tag;
       tag = (const struct tag *)(frame + at);
-      control = ntohs(tag->control);
-      packet->link.inner_vlan.identifier = control & 0xfff;
-      packet->link.inner_vlan.priority = control >> 13;
-      packet->link.inner_vlan.drop_eligible = control >> 12 & 1;
+      packet->link.inner_vlan = vlan_of(tag);
       packet->link.vlan_count = 2;
       ether_type = ntohs(tag->ether_type);
       at += sizeof(struct tag);

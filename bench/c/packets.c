@@ -137,6 +137,11 @@ static inline bool is_tag(uint16_t ether_type) {
   return ether_type == 0x8100 || ether_type == 0x88a8 || ether_type == 0x9100;
 }
 
+static inline struct etherparse_vlan_tag vlan_of(const struct tag *tag) {
+  uint16_t control = ntohs(tag->control);
+  return (struct etherparse_vlan_tag){ control & 0xfff, (uint8_t)(control >> 13), control >> 12 & 1 };
+}
+
 static inline bool is_extension(uint8_t number) {
   switch (number) {
   case IPPROTO_HOPOPTS:
