@@ -19,7 +19,7 @@
 #include <rte_net.h>
 #endif
 
-enum { FRAMES = 4096, BATCH = 64, ROUNDS = 301, SEEDS = 64, ROOM = 1600 };
+enum { FRAMES = 4096, BATCH = 64, ROUNDS = 301, SEEDS = 256, ROOM = 1600 };
 
 /* What frames have. */
 
@@ -61,7 +61,8 @@ static size_t make_ipv4(uint8_t *at) {
   return len;
 }
 
-/* One in seven has extension headers: hop by hop and destination options, a fragment header, or a routing header. */
+/* One in seven has extension headers: hop by hop and destination options, a fragment header or rarely two, or a
+   routing header. */
 static size_t make_ipv6(uint8_t *at) {
   uint8_t protocol, *body = at + 40;
   uint64_t kind = below(20);
@@ -73,8 +74,8 @@ static size_t make_ipv6(uint8_t *at) {
   at[6] = kind == 0 ? 0 : kind == 1 ? 44 : kind == 2 ? 43 : protocol;
   if (kind == 0) number(body, 60 * 256);
   if (kind == 0) number(body + 8, protocol * 256 + 1);
-  if (kind == 1) number(body + 2, 8 * below(100) + 1);
-  if (kind == 1 || kind == 2) number(body, protocol * 256);
+  if (kind == 1) number(body + 2, 8 * below(2) * below(100) + 1);
+  if (kind == 1 || kind == 2) number(body, (kind == 1 && below(16) == 0 ? 44 : protocol) * 256);
   return 40 + len;
 }
 
@@ -109,16 +110,25 @@ static struct etherparse_frame frames[FRAMES];
 static struct rte_mbuf buffers[FRAMES];
 #endif
 
-/* One frame in so many is damaged, or none if that is 0: cut anywhere, or one bit of its first 80 bytes is another. */
+/* Cuts a frame, anywhere or among its headers, and makes up to four bytes of its headers another number, often one of a header. */
+static size_t damage(uint8_t *at, size_t len) {
+  static const uint8_t numbers[] = { 0, 1, 4, 6, 17, 43, 44, 50, 51, 58, 59, 60, 135, 139, 140, 0x45, 0x60, 0x81, 0x91 };
+  uint64_t cut = below(4);
+  if (cut == 0) len = below(len);
+  if (cut == 1) len = below(len < 110 ? len : 110);
+  for (uint64_t bytes = below(5); len > 0 && bytes > 0; bytes--) {
+    at[below(len < 90 ? len : 90)] = below(4) == 0 ? (uint8_t)below(256) : numbers[below(sizeof numbers)];
+  }
+  return len;
+}
+
+/* One frame in so many is damaged, or none if that is 0. */
 static void make_frames(uint64_t seed, uint64_t damaged) {
   static uint8_t room[FRAMES][ROOM];
   state = seed;
   for (size_t i = 0; i < FRAMES; i++) {
     size_t len = make_frame(room[i]);
-    if (damaged > 0 && below(damaged) == 0) {
-      if (below(2) == 0) len = below(len);
-      else room[i][below(len < 80 ? len : 80)] ^= (uint8_t)(1u << below(8));
-    }
+    if (damaged > 0 && below(damaged) == 0) len = damage(room[i], len);
     frames[i] = (struct etherparse_frame){ room[i], len, len };
 #ifdef WITH_DPDK
     buffers[i] = (struct rte_mbuf){ .buf_addr = room[i], .buf_len = ROOM, .data_len = (uint16_t)len, .pkt_len = (uint32_t)len, .nb_segs = 1 };
