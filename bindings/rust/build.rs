@@ -19,7 +19,7 @@ fn main() {
         .or_else(installed)
         .or_else(|| beside().filter(|folder| has_library(folder)))
         .or_else(built)
-        .expect("no libetherparse_c.a of this version: install it, or set ETHERPARSE_LIB_DIR to its folder");
+        .expect("no libetherparse_c.a of this version: install it, with PKG_CONFIG_PATH if need be, or set ETHERPARSE_LIB_DIR");
     println!("cargo:rerun-if-changed={}", folder.join(LIBRARY).display());
     println!("cargo:rustc-link-search=native={}", folder.display());
     println!("cargo:rustc-link-lib=static=etherparse_c");
