@@ -5,11 +5,11 @@ use crate::shown::{Bytes, Named, Show, Shown, Written, write_shown};
 use etherparse::err::ipv6::HeaderSliceError;
 use etherparse::{IpNumber, Ipv4Header, Ipv6Header};
 use packet_parts::checksum::{Absence, Verdict};
-use packet_parts::fragment::FragmentHeader;
+use etherparse_net::Ipv6FragmentHeader;
 use packet_parts::fragment_key::{Ipv4Key, Ipv6Key, ipv4_key, ipv6_key};
 use packet_parts::ip_slice::{IpHeaderSlice, IpSlice, IpSliceError};
-use packet_parts::tcp::{TcpError, TcpHeaderSlice};
-use packet_parts::udp::UdpHeader;
+use etherparse_transport::{TcpError, TcpHeaderSlice};
+use etherparse_transport::UdpHeader;
 use packet_rewriting::echo::{icmpv4_reply, icmpv6_reply};
 use packet_rewriting::translation::{
     translate_tcp_destination, translate_tcp_source, translate_udp_destination,
@@ -284,14 +284,14 @@ impl Shown for Ipv6Key {
 // after it: the packet is not cut at its payload length.
 fn first_fragment_header(
     packet: &[u8],
-) -> Result<Option<(FragmentHeader, &[u8])>, HeaderSliceError> {
+) -> Result<Option<(Ipv6FragmentHeader, &[u8])>, HeaderSliceError> {
     let (header, body) = Ipv6Header::from_slice(packet)?;
     let mut number = header.next_header;
     let mut rest = body;
     'headers: loop {
         let place = packet.len() - rest.len();
         if number == IpNumber::IPV6_FRAGMENTATION_HEADER {
-            return match FragmentHeader::from_slice(rest) {
+            return match Ipv6FragmentHeader::from_slice(rest) {
                 Ok(found) => Ok(Some(found)),
                 Err(e) => Err(HeaderSliceError::Len(e.add_offset(place))),
             };
@@ -306,7 +306,7 @@ fn first_fragment_header(
     }
 }
 
-impl Shown for (FragmentHeader, &[u8]) {
+impl Shown for (Ipv6FragmentHeader, &[u8]) {
     fn show<W: fmt::Write>(&self, f: &mut fmt::Formatter<W>) -> fmt::Result {
         let (header, rest) = (self.0, Bytes(self.1));
         let numbers = [

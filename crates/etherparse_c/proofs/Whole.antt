@@ -13,7 +13,7 @@ use Rattle.packet.specs.declared.link.LinkError.{LinkError}
 use Rattle.packet.specs.declared.link.LinkType.{LinkType}
 use Rattle.packet.specs.declared.sliced_packet.SlicedPacket.{SlicedPacket}
 use Rattle.packet_parts.specs.declared.ip_slice.IpSliceError.TheVariants as ip
-use Rattle.packet_parts.specs.declared.tcp.TcpError.TheVariants as tcp
+use Rattle.etherparse_transport.specs.declared.tcp.TcpError.TheVariants as tcp
 use Rattle.etherparse_c.specs.Error.{link_error_in_c, slice_error_in_c}
 use Rattle.etherparse_c.specs.Layers.{GetsAnswer, IsLaxInC, IsPacketInC, IsWholeInC, refused_packet}
 use Rattle.etherparse_c.specs.declared.answer.Error.{Error}

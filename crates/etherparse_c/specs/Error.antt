@@ -20,8 +20,8 @@ use Rattle.packet.specs.declared.error.SliceError.TheVariants as slice
 use Rattle.packet.specs.declared.link.LinkError.{LinkError}
 use Rattle.packet_parts.specs.declared.ip_slice.IpSliceError.{IpSliceError}
 use Rattle.packet_parts.specs.declared.ip_slice.IpSliceError.TheVariants as ip
-use Rattle.packet_parts.specs.declared.tcp.TcpError.{TcpError}
-use Rattle.packet_parts.specs.declared.tcp.TcpError.TheVariants as tcp
+use Rattle.etherparse_transport.specs.declared.tcp.TcpError.{TcpError}
+use Rattle.etherparse_transport.specs.declared.tcp.TcpError.TheVariants as tcp
 use Rattle.etherparse_c.specs.declared.answer.Error.{Error}
 
 -- no error

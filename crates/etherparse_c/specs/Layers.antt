@@ -3,7 +3,7 @@ use Rattle.std.specs.Prelude.{ℕ, ◌≡◌, ◌+◌, ◌-◌, ◌/◌, ◌%◌
 use Rattle.std.specs.Prelude.{IsSomeAnd, List, MatchOption, drop, length, nat_lt, slice_index, take}
 use Rattle.std.specs.Prelude.{Option, Some, None, Result, Ok, Err}
 use Rattle.etherparse.specs.WordSums.{SumsToAllOnes}
-use Rattle.packet.specs.Bytes.{number_at}
+use Rattle.etherparse_link.specs.Bytes.{number_at}
 use Rattle.packet.specs.Link.{link_type_of}
 use Rattle.packet.specs.SlicedPacket.{IsLaxReadingOf, IsVerdictOn}
 use Rattle.packet.specs.Transport.{HasPorts}

@@ -12,7 +12,7 @@ use etherparse::err::{Layer, LenError, ipv4, ipv6};
 use packet::error::SliceError;
 use packet::link::LinkError;
 use packet_parts::ip_slice::IpSliceError;
-use packet_parts::tcp::TcpError;
+use etherparse_transport::TcpError;
 
 // The kinds of errors; 0 is none.
 pub(crate) const LEN: u32 = 1;

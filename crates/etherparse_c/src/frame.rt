@@ -10,7 +10,7 @@ ghost use Rattle.etherparse_c.specs.Layers.{OfLinkType, refused_packet};
 
 use crate::answer::Error;
 use crate::packet_layers::{Packet, packet_of};
-use packet::ether_type::EtherType;
+use etherparse_link::EtherType;
 use packet::lax_sliced_packet::{LaxSlicedPacket, frame_layers, layers_after};
 use packet::link::LinkType;
 

@@ -14,7 +14,7 @@ use crate::answer::Error;
 use etherparse::checksum::u64_16bit_word;
 use packet::error::SliceError;
 use packet::link::LinkSlice;
-use packet::single_vlan_header_slice::SingleVlanHeaderSlice;
+use etherparse_link::SingleVlanHeaderSlice;
 use packet::sliced_packet::SlicedPacket;
 use packet::transport::TransportSlice;
 use packet::vlan::VlanSlice;

@@ -17,9 +17,9 @@ ghost use Rattle.etherparse.specs.declared.err.ipv6.ChainError.TheVariants as ch
 ghost use Rattle.etherparse.specs.declared.err.ipv6.HeaderError.TheVariants as ipv6;
 ghost use Rattle.packet.specs.Link.{link_error_text};
 ghost use Rattle.packet_parts.specs.IpSlice.{ip_slice_error_text};
-ghost use Rattle.packet_parts.specs.Tcp.{tcp_error_text};
+ghost use Rattle.etherparse_transport.specs.Tcp.{tcp_error_text};
 ghost use Rattle.packet_parts.specs.declared.ip_slice.IpSliceError.TheVariants as ip;
-ghost use Rattle.packet_parts.specs.declared.tcp.TcpError.TheVariants as tcp;
+ghost use Rattle.etherparse_transport.specs.declared.tcp.TcpError.TheVariants as tcp;
 ghost use Rattle.etherparse_c.specs.Error.{layer_in_c, len_error_in_c, value_in_c};
 ghost use Rattle.etherparse_c.specs.ErrorText.{HasNumbers, IsShortIpv4Packet};
 ghost use Rattle.etherparse_c.specs.ErrorText.{link_type_error_text};

@@ -2,7 +2,7 @@
 //! line as they stand there.
 
 use packet::error::SliceError;
-use packet::ether_type::EtherType;
+use etherparse_link::EtherType;
 use packet::lax_sliced_packet::LaxSlicedPacket;
 use packet::link::{LinkSlice, LinkType};
 use packet::link_layers::LinkLayers;

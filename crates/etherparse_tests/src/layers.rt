@@ -5,10 +5,11 @@ use etherparse::err::{Layer, LenError};
 use etherparse::{IpFragOffset, IpNumber, Ipv4HeaderSlice, Ipv6HeaderSlice, LenSource};
 use packet_capture::capture::{ByteOrder, FileHeader, Format, Record, Resolution, next_record};
 use packet_parts::checksum::{Verdict, ipv4_verdict, ipv6_verdict};
-use packet_parts::fragment::{Fragment, FragmentHeader};
+use etherparse_net::Ipv6FragmentHeader;
+use packet_parts::fragment::Fragment;
 use packet_parts::fragment_key::{Ipv4Key, Ipv6Key, ipv4_key, ipv6_key};
 use packet_parts::ip_slice::{IpHeaderSlice, IpSlice, IpSliceError, LaxIpSlice};
-use packet_parts::tcp::TcpHeaderSlice;
+use etherparse_transport::TcpHeaderSlice;
 use packet_rewriting::echo::{icmpv4_reply, icmpv6_reply};
 use std::process::Abort;
 use std::test::Fail;
@@ -88,8 +89,8 @@ const IPV6_FRAGMENT: Fragment = Fragment {
 };
 
 // The fragment header of `IPV6_PACKET`.
-fn fragment_header() -> FragmentHeader {
-    FragmentHeader {
+fn fragment_header() -> Ipv6FragmentHeader {
+    Ipv6FragmentHeader {
         next_header: IpNumber::UDP,
         fragment_offset: IpFragOffset::try_new(1).unwrap(),
         more_fragments: true,
@@ -101,7 +102,7 @@ fn fragment_header() -> FragmentHeader {
 fn a_fragment_has_its_header_and_the_key_of_its_packet(rt: HostRuntime) {
     let rest = [5, 6, 7, 8, 9].as_slice();
     assert_eq!(rt;
-        FragmentHeader::from_slice(&IPV6_PACKET[40..]),
+        Ipv6FragmentHeader::from_slice(&IPV6_PACKET[40..]),
         Ok((fragment_header(), rest))
     );
     let ipv6 = Ipv6Key {

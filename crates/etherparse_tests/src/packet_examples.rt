@@ -10,11 +10,12 @@ use packet_parts::checksum::{
     Absence, Verdict, ipv4_pseudo_header, ipv4_verdict, ipv6_pseudo_header, ipv6_verdict,
 };
 use packet_parts::extensions::after_extensions;
-use packet_parts::fragment::{Fragment, FragmentHeader};
+use etherparse_net::Ipv6FragmentHeader;
+use packet_parts::fragment::Fragment;
 use packet_parts::fragment_key::{ipv4_key, ipv6_key};
 use packet_parts::ip_slice::{IpSlice, IpSliceError, LaxIpSlice};
-use packet_parts::tcp::{TcpError, TcpHeaderSlice};
-use packet_parts::udp::UdpHeader;
+use etherparse_transport::{TcpError, TcpHeaderSlice};
+use etherparse_transport::UdpHeader;
 use packet_rewriting::echo::{icmpv4_reply, icmpv6_reply};
 use packet_rewriting::translation::{
     translate_tcp_destination, translate_tcp_source, translate_udp_destination,
@@ -104,7 +105,7 @@ fn headers_and_addresses(rt: HostRuntime) -> Result<(), Fail> {
 
     // A fragment that is not the first, and not the last.
     let slice = [17, 0, 0, 9, 1, 2, 3, 4, 5, 6, 7, 8];
-    let (header, rest) = FragmentHeader::from_slice(&slice)?;
+    let (header, rest) = Ipv6FragmentHeader::from_slice(&slice)?;
     assert!(rt; header.is_fragmenting_payload() && header.more_fragments);
     assert!(rt; header.fragment_offset.byte_offset() == 8);
     assert!(rt; rest == [5, 6, 7, 8].as_slice());

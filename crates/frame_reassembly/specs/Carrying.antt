@@ -1,7 +1,7 @@
 -- The IP packet that a frame carries, and the VLANs that it came in.
 use Rattle.std.specs.Prelude.{ℕ, ◌≡◌, ◌%◌, ◌^◌, ◌⊎◌, List, [], ◌∷◌, ◌++◌, IsFalse, IsSome, IsTrue}
 use Rattle.std.specs.Prelude.{None, Option, Some, option_map}
-use Rattle.packet.specs.Bytes.{number_at}
+use Rattle.etherparse_link.specs.Bytes.{number_at}
 use Rattle.packet.specs.Link.{LacksLink, link_parts}
 use Rattle.packet.specs.SlicedPacket.{HasLinkLayers, carries_ip}
 use Rattle.packet.specs.Vlan.{tags_of}

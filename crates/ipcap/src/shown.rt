@@ -8,8 +8,8 @@ use etherparse::IpNumber;
 use etherparse::checksum::u64_16bit_word;
 use packet_parts::checksum::Verdict;
 use packet_parts::ip_slice::{IpHeaderSlice, IpSlice, LaxIpSlice};
-use packet_parts::tcp::TcpHeaderSlice;
-use packet_parts::udp::UdpHeader;
+use etherparse_transport::TcpHeaderSlice;
+use etherparse_transport::UdpHeader;
 
 /// What is shown of the header that a payload begins with.
 #[derive(Clone, Copy)]

@@ -8,7 +8,7 @@ use Rattle.packet_parts.proofs.IpRefusals.{lax_once, no_parts_refused, parts_not
 use Rattle.packet_parts.specs.IpSlice.{ip_parts}
 use Rattle.packet_parts.specs.declared.ip_slice.IpSlice.{IpSlice}
 use Rattle.packet.proofs.Transports.{transport_once}
-use Rattle.packet.specs.Bytes.{number_at}
+use Rattle.etherparse_link.specs.Bytes.{number_at}
 use Rattle.packet.specs.Error.{ip_error_moved}
 use Rattle.packet.specs.Link.{BeginsWithLink, LacksLink, ether_type_in, link_in, link_parts}
 use Rattle.packet.specs.Network.{HasNetwork, first_error}

@@ -5,13 +5,13 @@ use Rattle.etherparse.proofs.Fronts.{TellsHeaders, fixed_tells, read_once}
 use Rattle.etherparse.specs.Reading.{IsTooShort}
 use Rattle.etherparse.specs.declared.err.Layer.{Layer}
 use Rattle.etherparse.specs.declared.err.Layer.TheVariants as layer
-use Rattle.packet_parts.specs.Tcp.{ViewsTcp}
-use Rattle.packet_parts.specs.Udp.{IsUdpLayout}
+use Rattle.etherparse_transport.specs.Tcp.{ViewsTcp}
+use Rattle.etherparse_transport.specs.Udp.{IsUdpLayout}
 use Rattle.packet_parts.specs.IpSlice.{header_bytes, header_len_of, header_parts, ip_parts}
 use Rattle.packet_parts.specs.declared.ip_slice.IpHeaderSlice.{IpHeaderSlice}
 use Rattle.packet_parts.specs.declared.ip_slice.IpHeaderSlice.TheVariants as header
 use Rattle.packet_parts.specs.declared.ip_slice.IpSlice.{IpSlice}
-use Rattle.packet_parts.specs.declared.tcp.TcpError.{TcpError}
+use Rattle.etherparse_transport.specs.declared.tcp.TcpError.{TcpError}
 use Rattle.packet.specs.Transport.{Icmpv4Parts, Icmpv6Parts, IsIcmpLayout, ReadsHeader, ReadsPayload, ReadsTransport, TransportReading, icmp_reading, missing_in, protocol_over, protocol_of, tcp_reading, transport_parts, udp_reading}
 use Rattle.packet.specs.declared.error.SliceError.{SliceError}
 use Rattle.packet.specs.declared.transport.Protocol.{Protocol}

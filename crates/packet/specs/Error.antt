@@ -7,11 +7,11 @@ use Rattle.packet.specs.Link.{link_error_text}
 use Rattle.packet.specs.declared.error.SliceError.{SliceError}
 use Rattle.packet.specs.declared.error.SliceError.TheVariants as error
 use Rattle.packet_parts.specs.IpSlice.{ip_slice_error_text}
-use Rattle.packet_parts.specs.Tcp.{tcp_error_text}
+use Rattle.etherparse_transport.specs.Tcp.{tcp_error_text}
 use Rattle.packet_parts.specs.declared.ip_slice.IpSliceError.{IpSliceError}
 use Rattle.packet_parts.specs.declared.ip_slice.IpSliceError.TheVariants as ip
-use Rattle.packet_parts.specs.declared.tcp.TcpError.{TcpError}
-use Rattle.packet_parts.specs.declared.tcp.TcpError.TheVariants as tcp
+use Rattle.etherparse_transport.specs.declared.tcp.TcpError.{TcpError}
+use Rattle.etherparse_transport.specs.declared.tcp.TcpError.TheVariants as tcp
 
 -- where an error says that its layer starts, if it has a place
 abbrev pub ip_error_place : IpSliceError → ℕ

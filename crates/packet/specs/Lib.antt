@@ -1,4 +1,3 @@
-pub mod Bytes
 pub mod Error
 pub mod Link
 pub mod Network

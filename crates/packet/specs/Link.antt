@@ -2,7 +2,7 @@
 use Rattle.std.specs.Prelude.{ℕ, ◌≡◌, ◌==◌, ◌||◌, ◌<◌, List, ◌++◌, length, min}
 use Rattle.std.specs.Prelude.{Option, Some, None, codes, decimal, if◌then◌else◌, option_map}
 use Rattle.std.specs.Int.{from_be_bytes, from_le_bytes, w32}
-use Rattle.packet.specs.Bytes.{number_at}
+use Rattle.etherparse_link.specs.Bytes.{number_at}
 use Rattle.packet.specs.declared.link.LinkError.{LinkError}
 use Rattle.packet.specs.declared.link.LinkSlice.{LinkSlice}
 use Rattle.packet.specs.declared.link.LinkSlice.TheVariants as header

@@ -8,15 +8,15 @@ use Rattle.etherparse.specs.LenError.{len_error_moved}
 use Rattle.etherparse.specs.Reading.{IsTooShort, Reads}
 use Rattle.etherparse.specs.declared.err.LenError.{LenError}
 use Rattle.etherparse.specs.declared.err.Layer.TheVariants as layer
-use Rattle.packet_parts.specs.Tcp.{ViewsTcp}
-use Rattle.packet_parts.specs.Udp.{ReadsUdp, UdpReading}
+use Rattle.etherparse_transport.specs.Tcp.{ViewsTcp}
+use Rattle.etherparse_transport.specs.Udp.{ReadsUdp, UdpReading}
 use Rattle.packet_parts.specs.declared.fragment.Fragment.{Fragment}
 use Rattle.packet_parts.specs.declared.ip_slice.IpHeaderSlice.{IpHeaderSlice}
 use Rattle.packet_parts.specs.declared.ip_slice.IpHeaderSlice.TheVariants as header
 use Rattle.packet_parts.specs.declared.ip_slice.IpSlice.{IpSlice}
-use Rattle.packet_parts.specs.declared.tcp.TcpError.{TcpError}
-use Rattle.packet_parts.specs.declared.udp.UdpHeader.{UdpHeader}
-use Rattle.packet.specs.Bytes.{number_at}
+use Rattle.etherparse_transport.specs.declared.tcp.TcpError.{TcpError}
+use Rattle.etherparse_transport.specs.declared.udp.UdpHeader.{UdpHeader}
+use Rattle.etherparse_link.specs.Bytes.{number_at}
 use Rattle.packet.specs.Error.{tcp_error_moved}
 use Rattle.packet.specs.declared.error.SliceError.{SliceError}
 use Rattle.packet.specs.declared.error.SliceError.TheVariants as error

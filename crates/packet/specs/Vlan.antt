@@ -5,7 +5,7 @@ use Rattle.std.specs.List.{concat}
 use Rattle.etherparse.specs.Reading.{too_short_error}
 use Rattle.etherparse.specs.declared.err.LenError.{LenError}
 use Rattle.etherparse.specs.declared.err.Layer.TheVariants as layer
-use Rattle.packet.specs.Bytes.{number_at}
+use Rattle.etherparse_link.specs.Bytes.{number_at}
 use Rattle.packet.specs.declared.vlan.VlanSlice.{VlanSlice}
 use Rattle.packet.specs.declared.vlan.VlanSlice.TheVariants.{DoubleVlan, SingleVlan}
 

@@ -6,8 +6,8 @@ ghost use Rattle.packet.specs.Error.{tcp_error_moved, tcp_error_place};
 
 use crate::link::LinkError;
 use etherparse::err::LenError;
+use etherparse_transport::TcpError;
 use packet_parts::ip_slice::IpSliceError;
-use packet_parts::tcp::TcpError;
 use std::fmt;
 
 /// Why a frame is not read to the transport header. Each `layer_start_offset` counts from the start

@@ -6,11 +6,11 @@ ghost use Rattle.packet.specs.SlicedPacket.{HasLayers, IsLaxReadingAfter, IsLaxR
 ghost use Rattle.packet.specs.SlicedPacket.{carries_ip};
 
 use crate::error::SliceError;
-use crate::ether_type::EtherType;
 use crate::link::{LinkError, LinkSlice, LinkType, link_header};
 use crate::network::network_at;
 use crate::sliced_packet::SlicedPacket;
 use crate::vlan::{Tagged, VlanSlice, after_tags};
+use etherparse_link::EtherType;
 use packet_parts::checksum::{Absence, Verdict};
 
 /// The layers of a frame, as far as they can be read: of one that a capture cut, of one that is

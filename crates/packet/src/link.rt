@@ -7,10 +7,7 @@ ghost use Rattle.packet.specs.declared.link.LinkType.TheVariants.{Framed};
 ghost use Rattle.packet_links.specs.Framing.{BeginsWith};
 ghost use Rattle.packet_links.specs.Header.{ether_type_of};
 
-use crate::ether_type::EtherType;
-use crate::ethernet2_header_slice::Ethernet2HeaderSlice;
-use crate::linux_sll_header_slice::LinuxSllHeaderSlice;
-use crate::linux_sll2_header_slice::LinuxSll2HeaderSlice;
+use etherparse_link::{EtherType, Ethernet2HeaderSlice, LinuxSll2HeaderSlice, LinuxSllHeaderSlice};
 use packet_links::framing::Framing;
 use packet_links::header::{Carried, Header};
 use std::fmt;

@@ -2,11 +2,11 @@
 
 ghost use Rattle.std.specs.Prelude.{◌≡◌};
 
-use crate::ether_type::EtherType;
 use crate::lax_sliced_packet::carries_ip;
 use crate::link::{LinkError, LinkSlice, LinkType, link_header};
 use crate::vlan::{Tagged, VlanSlice, after_tags};
 use etherparse::err::LenError;
+use etherparse_link::EtherType;
 
 /// A frame up to the packet that it carries: the link header and the VLAN tags.
 #[derive(Clone, Debug, PartialEq, Eq, Drop)]

@@ -4,11 +4,11 @@ ghost use Rattle.std.specs.Prelude.{◌≡◌};
 ghost use Rattle.packet.specs.SlicedPacket.{whole_of};
 
 use crate::error::SliceError;
-use crate::ether_type::EtherType;
 use crate::lax_sliced_packet::{LaxSlicedPacket, frame_layers, layers_after};
 use crate::link::{LinkSlice, LinkType};
 use crate::transport::{TransportSlice, ports_in};
 use crate::vlan::VlanSlice;
+use etherparse_link::EtherType;
 use packet_parts::ip_slice::IpSlice;
 
 /// The layers of a frame.

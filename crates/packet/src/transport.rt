@@ -7,12 +7,10 @@ ghost use Rattle.packet.specs.Transport.{HasPorts, IsIcmpLayout, ReadsHeader, Re
 ghost use Rattle.packet.specs.Transport.{protocol_of, transport_parts};
 
 use crate::error::{SliceError, tcp_error_moved};
-use crate::ether_type::u16_at;
 use etherparse::err::{Layer, LenError};
 use etherparse::{IpNumber, LenSource};
+use etherparse_transport::{TcpHeaderSlice, UdpHeader};
 use packet_parts::ip_slice::{IpHeaderSlice, IpSlice};
-use packet_parts::tcp::TcpHeaderSlice;
-use packet_parts::udp::UdpHeader;
 
 /// The transport header of an IP packet, and what there is of what follows it.
 #[derive(Clone, Debug, PartialEq, Eq, Drop)]
@@ -93,8 +91,8 @@ pub(crate) fn ports_in(ip: &IpSlice) -> Option<(u16, u16)>
     let payload = ip.payload;
     match protocol_of(ip) {
         Some(Protocol::Udp | Protocol::Tcp) if payload.len() >= 4 => Some((
-            u16_at(payload, 0),
-            u16_at(payload, 2),
+            u16::from_be_bytes([payload[0], payload[1]]),
+            u16::from_be_bytes([payload[2], payload[3]]),
         )),
         _ => None,
     }
@@ -174,6 +172,6 @@ fn icmp_header_of(bytes: &[u8]) -> IcmpHeader
     IcmpHeader {
         type_u8: bytes[0],
         code_u8: bytes[1],
-        checksum: u16_at(bytes, 2),
+        checksum: u16::from_be_bytes([bytes[2], bytes[3]]),
     }
 }

@@ -3,10 +3,9 @@
 ghost use Rattle.std.specs.Prelude.{◌≡◌, ◌+◌, ◌-◌, ◌≤◌, ◌<◌, ◌^◌, ◌++◌, IfNone, IfSome, length};
 ghost use Rattle.packet.specs.Vlan.{EndsTags, HasTags, is_tag, tag_error};
 
-use crate::ether_type::EtherType;
-use crate::single_vlan_header_slice::SingleVlanHeaderSlice;
 use etherparse::LenSource;
 use etherparse::err::{Layer, LenError};
+use etherparse_link::{EtherType, SingleVlanHeaderSlice};
 
 /// The VLAN tags of a frame.
 #[derive(Clone, Copy, Debug, PartialEq, Eq)]

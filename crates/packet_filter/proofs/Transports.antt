@@ -12,23 +12,23 @@ use Rattle.etherparse.specs.Reading.{IsTooShort, Reads, too_short_error}
 use Rattle.etherparse.specs.declared.err.LenError.{LenError}
 use Rattle.etherparse.specs.declared.err.Layer.{Layer}
 use Rattle.etherparse.specs.declared.err.Layer.TheVariants as layer
-use Rattle.packet.specs.Bytes.{number_at}
+use Rattle.etherparse_link.specs.Bytes.{number_at}
 use Rattle.packet.specs.Transport.{Icmpv4Parts, Icmpv6Parts, IsIcmpLayout, ReadsPayload, ReadsTransport, TransportReading, icmp_reading, missing_in, protocol_of, protocol_over, tcp_reading, transport_parts, udp_reading}
 use Rattle.packet.specs.declared.error.SliceError.{SliceError}
 use Rattle.packet.specs.declared.transport.IcmpHeader.{IcmpHeader}
 use Rattle.packet.specs.declared.transport.TransportSlice.{TransportSlice}
 use Rattle.packet.specs.declared.transport.TransportSlice.TheVariants as transport
 use Rattle.packet_filter.specs.Private.Front.{is_in_ip}
-use Rattle.packet_parts.specs.Tcp.{ViewsTcp, data_offset_of}
-use Rattle.packet_parts.specs.declared.tcp.TcpHeaderSlice.{TcpHeaderSlice}
-use Rattle.packet_parts.specs.Udp.{ReadsUdp, UdpReading, udp_words}
+use Rattle.etherparse_transport.specs.Tcp.{ViewsTcp, data_offset_of}
+use Rattle.etherparse_transport.specs.declared.tcp.TcpHeaderSlice.{TcpHeaderSlice}
+use Rattle.etherparse_transport.specs.Udp.{ReadsUdp, UdpReading, udp_words}
 use Rattle.packet_parts.specs.declared.fragment.Fragment.{Fragment}
 use Rattle.packet_parts.specs.declared.ip_slice.IpHeaderSlice.{IpHeaderSlice}
 use Rattle.packet_parts.specs.declared.ip_slice.IpHeaderSlice.TheVariants as header
 use Rattle.packet_parts.specs.declared.ip_slice.IpSlice.{IpSlice}
-use Rattle.packet_parts.specs.declared.tcp.TcpError.{TcpError}
-use Rattle.packet_parts.specs.declared.tcp.TcpError.TheVariants.{DataOffset, Len}
-use Rattle.packet_parts.specs.declared.udp.UdpHeader.{UdpHeader}
+use Rattle.etherparse_transport.specs.declared.tcp.TcpError.{TcpError}
+use Rattle.etherparse_transport.specs.declared.tcp.TcpError.TheVariants.{DataOffset, Len}
+use Rattle.etherparse_transport.specs.declared.udp.UdpHeader.{UdpHeader}
 
 abbrev slice_of : List ℕ → Bor (List ℕ)
 slice_of s = record { ref_ptr = (0, 0); now = s }

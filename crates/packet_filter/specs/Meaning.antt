@@ -8,7 +8,7 @@ use Rattle.std.specs.List.{concat}
 use Rattle.std.specs.Int.{from_be_bytes, w8, w16, w32, w128}
 use Rattle.std.specs.Str.{bytes_eq}
 use Rattle.etherparse.specs.WordSums.{SumsToAllOnes}
-use Rattle.packet.specs.Bytes.{number_at}
+use Rattle.etherparse_link.specs.Bytes.{number_at}
 use Rattle.packet.specs.SlicedPacket.{IsVerdictOn}
 use Rattle.packet.specs.Vlan.{tags_of}
 use Rattle.packet.specs.declared.lax_sliced_packet.LaxSlicedPacket.{LaxSlicedPacket}

@@ -11,7 +11,7 @@ ghost use Rattle.packet_filter.specs.declared.address.Address.TheVariants.{V4, V
 
 use crate::expression::Direction;
 use crate::holds::of_ends;
-use packet::ether_type::EtherType;
+use etherparse_link::EtherType;
 use packet::sliced_packet::SlicedPacket;
 use packet_parts::ip_slice::IpHeaderSlice;
 

@@ -7,7 +7,7 @@ ghost use Rattle.packet.specs.SlicedPacket.{HasLinkLayers, carries_ip};
 ghost use Rattle.packet.specs.declared.link.LinkType.TheVariants.{Ethernet2};
 ghost use Rattle.packet_filter.specs.Private.Front.{IsFront};
 
-use packet::ethernet2_header_slice::Ethernet2HeaderSlice;
+use etherparse_link::Ethernet2HeaderSlice;
 use packet::lax_sliced_packet::LaxSlicedPacket;
 use packet::link::{LinkSlice, LinkType};
 use packet::link_layers::LinkLayers;

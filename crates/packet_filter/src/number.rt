@@ -8,7 +8,7 @@ ghost use Rattle.packet_filter.specs.Meaning.{Compares, IsNumberAt, Loads, Tells
 use crate::expression::{Layer, Quantity, Relation, Size};
 use crate::holds::{has_proto, has_version};
 use etherparse::IpNumber;
-use packet::ether_type::EtherType;
+use etherparse_link::EtherType;
 use packet::link::LinkSlice;
 use packet::sliced_packet::SlicedPacket;
 use packet::vlan::VlanSlice;

@@ -11,8 +11,8 @@ use Rattle.etherparse.specs.Reading.{BeginsWith}
 use Rattle.etherparse.specs.declared.err.LenError.{LenError}
 use Rattle.etherparse.specs.declared.err.Layer.TheVariants as layer
 use Rattle.packet_parts.specs.Extensions.{EndsAs, Passes, at_front, after_other, after_fragment, deciding}
-use Rattle.packet_parts.specs.Fragment.{IsFragmentLayout, RefusesFragment}
-use Rattle.packet_parts.specs.declared.fragment.FragmentHeader.{FragmentHeader}
+use Rattle.etherparse_net.specs.Ipv6FragmentHeader.{IsFragmentLayout, RefusesFragment}
+use Rattle.etherparse_net.specs.declared.ipv6_fragment_header.Ipv6FragmentHeader.{Ipv6FragmentHeader}
 
 -- a slice begins with one header, and one rest after it
 pub same_beginning : {H E : Type 0} (Layout : H → List ℕ → Type 0) (Refuses : List ℕ → E → Type 0) → TellsHeaders Layout Refuses
@@ -24,30 +24,30 @@ tells_fragment : TellsHeaders IsFragmentLayout RefusesFragment
 tells_fragment = fixed_tells IsFragmentLayout layer.Ipv6FragHeader 8 (λ g h p k l. search rules) (λ h p l. l.len)
 
 -- a slice begins with one fragment header
-one_fragment : (s : List ℕ) (g h : FragmentHeader) (x y : List ℕ) → BeginsWith IsFragmentLayout s g x → BeginsWith IsFragmentLayout s h y → (g ≡ h) × (x ≡ y)
+one_fragment : (s : List ℕ) (g h : Ipv6FragmentHeader) (x y : List ℕ) → BeginsWith IsFragmentLayout s g x → BeginsWith IsFragmentLayout s h y → (g ≡ h) × (x ≡ y)
 one_fragment = same_beginning IsFragmentLayout RefusesFragment tells_fragment
 
 -- one more header can be passed
 record CanPass (number : ℕ) (rest : List ℕ) : Type 0 where
   skippable : IsSkippable number
   enough : required_len_of number rest ≤ length rest
-  not_later : (h : FragmentHeader) (x : List ℕ) → number ≡ 44 → BeginsWith IsFragmentLayout rest h x → h.fragment_offset ≡ 0
+  not_later : (h : Ipv6FragmentHeader) (x : List ℕ) → number ≡ 44 → BeginsWith IsFragmentLayout rest h x → h.fragment_offset ≡ 0
 
 at_one : (n m : ℕ) (r t : List ℕ) → n ≡ m → r ≡ t → CanPass m t → CanPass n r
 at_one n m r t e f pass = rw (e, f) pass
 
-fragment_enough : (at : List ℕ) (h : FragmentHeader) (x : List ℕ) → BeginsWith IsFragmentLayout at h x → required_len_of 44 at ≤ length at
+fragment_enough : (at : List ℕ) (h : Ipv6FragmentHeader) (x : List ℕ) → BeginsWith IsFragmentLayout at h x → required_len_of 44 at ≤ length at
 fragment_enough at h x b = let len : 8 ≤ length at = omega (arith, ap length b.whole, length-append {A = ℕ}, b.layout.len) in grind (arith, common_steps)
 
 module _ (s : List ℕ) (first : ℕ) where
   -- how many headers were passed
-  abbrev count : (d : Option FragmentHeader) (n : ℕ) (r : List ℕ) → Passes s first d n r → ℕ
+  abbrev count : (d : Option Ipv6FragmentHeader) (n : ℕ) (r : List ℕ) → Passes s first d n r → ℕ
   count d n r at_front = 0
   count d n r (after_other {decided = e} {number = m} {rest = t} p _ _ _) = suc (count e m t p)
   count d n r (after_fragment {decided = e} {at = t} p _ _) = suc (count e 44 t p)
 
   -- as many headers lead to one place
-  same_place : (d e : Option FragmentHeader) (n m : ℕ) (r t : List ℕ) (p : Passes s first d n r) (q : Passes s first e m t) → count d n r p ≡ count e m t q
+  same_place : (d e : Option Ipv6FragmentHeader) (n m : ℕ) (r t : List ℕ) (p : Passes s first d n r) (q : Passes s first e m t) → count d n r p ≡ count e m t q
       → (d ≡ e) × (n ≡ m) × (r ≡ t)
   same_place d e n m r t at_front at_front c = (refl, refl, refl)
   same_place d e n m r t at_front (after_other _ _ _ _) c = absurd (omega (arith, c))
@@ -63,8 +63,8 @@ module _ (s : List ℕ) (first : ℕ) where
       (ap (λ o. option_or o (deciding g)) same.0 ∙ ap (λ x. option_or c₂ (deciding x)) next.0, ap (λ x. x.next_header) next.0, next.1)
 
   -- before it, each place that was reached has a header that can be passed
-  passed_before : (d : Option FragmentHeader) (n : ℕ) (r : List ℕ) (p : Passes s first d n r) (k : ℕ) → k < count d n r p
-      → (e : Option FragmentHeader) × (m : ℕ) × (t : List ℕ) × (q : Passes s first e m t) × (count e m t q ≡ k) × CanPass m t
+  passed_before : (d : Option Ipv6FragmentHeader) (n : ℕ) (r : List ℕ) (p : Passes s first d n r) (k : ℕ) → k < count d n r p
+      → (e : Option Ipv6FragmentHeader) × (m : ℕ) × (t : List ℕ) × (q : Passes s first e m t) × (count e m t q ≡ k) × CanPass m t
   passed_before d n r at_front k c = absurd (omega (arith, c))
   passed_before d n r (after_other {decided = e} {number = m} {rest = t} p skippable other enough) k c =
       elim (cases_order k (count e m t p)) [
@@ -91,7 +91,7 @@ module _ (s : List ℕ) (first : ℕ) where
       ]
 
   -- two places without a further header are one
-  one_place : (d e : Option FragmentHeader) (n m : ℕ) (r t : List ℕ) → Passes s first d n r → Passes s first e m t → (CanPass n r → ⊥) → (CanPass m t → ⊥)
+  one_place : (d e : Option Ipv6FragmentHeader) (n m : ℕ) (r t : List ℕ) → Passes s first d n r → Passes s first e m t → (CanPass n r → ⊥) → (CanPass m t → ⊥)
       → (d ≡ e) × (n ≡ m) × (r ≡ t)
   one_place d e n m r t p q stuck stuck' =
       elim (cases_order (count d n r p) (count e m t q)) [
@@ -106,26 +106,26 @@ module _ (s : List ℕ) (first : ℕ) where
 ends_stuck : (n : ℕ) (r : List ℕ) → (IsSkippable n → ⊥) → CanPass n r → ⊥
 ends_stuck n r other pass = other pass.skippable
 
-later_stuck : (at : List ℕ) (h : FragmentHeader) (x : List ℕ) → BeginsWith IsFragmentLayout at h x → h.fragment_offset ≢ 0 → CanPass 44 at → ⊥
+later_stuck : (at : List ℕ) (h : Ipv6FragmentHeader) (x : List ℕ) → BeginsWith IsFragmentLayout at h x → h.fragment_offset ≢ 0 → CanPass 44 at → ⊥
 later_stuck at h x b later pass = later (pass.not_later h x refl b)
 
 short_stuck : (n : ℕ) (r : List ℕ) → length r < required_len_of n r → CanPass n r → ⊥
 short_stuck n r short pass = omega (arith, pass.enough)
 
-whole_not_short : (at t : List ℕ) (m : ℕ) → at ≡ t → 44 ≡ m → (h : FragmentHeader) (x : List ℕ) → BeginsWith IsFragmentLayout at h x → length t < required_len_of m t → ⊥
+whole_not_short : (at t : List ℕ) (m : ℕ) → at ≡ t → 44 ≡ m → (h : Ipv6FragmentHeader) (x : List ℕ) → BeginsWith IsFragmentLayout at h x → length t < required_len_of m t → ⊥
 whole_not_short at t m e f h x b short =
     let needed : required_len_of m t ≡ required_len_of 44 at = ap (λ k. required_len_of k t) (sym f) ∙ ap (λ y. required_len_of 44 y) (sym e) in
     omega (arith, needed, ap length e, fragment_enough at h x b)
 
 -- extension headers end in one way
-pub record SameEnd (l k : Bool) (a b : Option LenError) (d e : Option FragmentHeader) (n m : ℕ) (r t : List ℕ) : Type 0 where
+pub record SameEnd (l k : Bool) (a b : Option LenError) (d e : Option Ipv6FragmentHeader) (n m : ℕ) (r t : List ℕ) : Type 0 where
   pub later : l ≡ k
   pub incomplete : a ≡ b
   pub decided : d ≡ e
   pub number : n ≡ m
   pub rest : r ≡ t
 
-pub one_end : (s : List ℕ) (first : ℕ) (l k : Bool) (a b : Option LenError) (d e : Option FragmentHeader) (n m : ℕ) (r t : List ℕ)
+pub one_end : (s : List ℕ) (first : ℕ) (l k : Bool) (a b : Option LenError) (d e : Option Ipv6FragmentHeader) (n m : ℕ) (r t : List ℕ)
     → EndsAs l a s first d n r → EndsAs k b s first e m t → SameEnd l k a b d e n m r t
 one_end s first false false None None d e n m r t (p, other) (q, other') =
     let same = one_place s first d e n m r t p q (ends_stuck n r other) (ends_stuck m t other') in

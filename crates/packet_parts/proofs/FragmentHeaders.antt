@@ -6,15 +6,15 @@ use Rattle.std.proofs.lemmas.Grind.{common_steps}
 use Rattle.std.proofs.lemmas.Result.{IfOk-at_ok}
 use Rattle.etherparse.specs.ExtensionHeaderChain.{required_len_of}
 use Rattle.etherparse.specs.Reading.{BeginsWith}
-use Rattle.packet_parts.specs.Fragment.{IsFragmentLayout}
-use Rattle.packet_parts.specs.declared.fragment.FragmentHeader.{FragmentHeader}
+use Rattle.etherparse_net.specs.Ipv6FragmentHeader.{IsFragmentLayout}
+use Rattle.etherparse_net.specs.declared.ipv6_fragment_header.Ipv6FragmentHeader.{Ipv6FragmentHeader}
 
 -- it has 8 bytes
 required_len_of-44 : (s : List ℕ) → 8 ≤ length s → required_len_of 44 s ≡ 8
 required_len_of-44 s enough = grind (arith, common_steps)
 
 -- what a skip finds is the number that the header names, and what follows it
-pub as_skipped : {E : Type 0} (s rest after : List ℕ) (header : FragmentHeader) (number next : ℕ) → number ≡ 44 → BeginsWith IsFragmentLayout s header rest
+pub as_skipped : {E : Type 0} (s rest after : List ℕ) (header : Ipv6FragmentHeader) (number next : ℕ) → number ≡ 44 → BeginsWith IsFragmentLayout s header rest
     → ◌≡◌ {A = Result (ℕ × List ℕ) E} (Ok (next, after)) (Ok (slice_index s 0, drop (required_len_of number s) s))
     → (next ≡ header.next_header) × (after ≡ rest)
 as_skipped s rest after header number next is_fragment b skipped =

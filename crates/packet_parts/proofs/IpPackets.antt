@@ -17,7 +17,7 @@ use Rattle.etherparse.specs.declared.net.ipv6_header_slice.Ipv6HeaderSlice.{Ipv6
 use Rattle.packet_parts.specs.Extensions.{EndsAs}
 use Rattle.packet_parts.proofs.IpParts.{cut_front, packet_len_4, packet_len_6}
 use Rattle.packet_parts.specs.IpSlice.{HasIpParts, HasLaxIpParts, IsWhole, RefusesIp, ipv4_bytes, ipv6_bytes}
-use Rattle.packet_parts.specs.declared.fragment.FragmentHeader.{FragmentHeader}
+use Rattle.etherparse_net.specs.declared.ipv6_fragment_header.Ipv6FragmentHeader.{Ipv6FragmentHeader}
 use Rattle.packet_parts.specs.declared.ip_slice.IpHeaderSlice.TheVariants as version
 use Rattle.packet_parts.specs.declared.ip_slice.IpSlice.{IpSlice}
 use Rattle.packet_parts.specs.declared.ip_slice.IpSliceError.{IpSliceError}
@@ -78,7 +78,7 @@ pub ipv6_bytes-short : (header : Ipv6Header) (s : List ℕ) → length s ≤ 40 
 ipv6_bytes-short header s short = take_all _ s short
 
 -- a packet with all its bytes is whole, or it is refused since an extension header is incomplete
-module _ (packet rest : List ℕ) (view : Ipv6HeaderSlice) (header : Ipv6Header) (slice : IpSlice) (decided : Option FragmentHeader)
+module _ (packet rest : List ℕ) (view : Ipv6HeaderSlice) (header : Ipv6Header) (slice : IpSlice) (decided : Option Ipv6FragmentHeader)
     (begins : BeginsWith IsIpv6Layout (ipv6_bytes header packet) header rest) (viewed : begins.front ≡ view.slice.now) (of_view : slice.header ≡ version.Ipv6 view)
     (enough : 40 + header.payload_length ≤ length packet) where
   whole : IsTrue slice.is_later_fragment ⊎ ¬ IsSkippable slice.upper → IsWhole packet slice

@@ -4,4 +4,3 @@ pub mod IpPackets
 pub mod IpParts
 pub mod IpRefusals
 mod PseudoHeader
-mod UdpLayout

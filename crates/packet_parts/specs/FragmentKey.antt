@@ -12,7 +12,7 @@ use Rattle.etherparse.specs.declared.err.ipv6.HeaderSliceError.TheVariants.{Len,
 use Rattle.etherparse.specs.declared.net.ipv4_header.Ipv4Header.{Ipv4Header}
 use Rattle.etherparse.specs.declared.net.ipv6_header.Ipv6Header.{Ipv6Header}
 use Rattle.packet_parts.specs.Extensions.{EndsAs}
-use Rattle.packet_parts.specs.declared.fragment.FragmentHeader.{FragmentHeader}
+use Rattle.etherparse_net.specs.declared.ipv6_fragment_header.Ipv6FragmentHeader.{Ipv6FragmentHeader}
 use Rattle.packet_parts.specs.declared.fragment_key.Ipv4Key.{Ipv4Key}
 use Rattle.packet_parts.specs.declared.fragment_key.Ipv6Key.{Ipv6Key}
 
@@ -39,7 +39,7 @@ pub record IsWholeIpv4 (packet : List ℕ) : Type 0 where
 -- the packet is an IPv6 header and extension headers, the last of which can be incomplete, and of
 -- which this fragment header decides
 pub record HasExtensions (packet : List ℕ) (header : Ipv6Header) (incomplete : Option LenError)
-    (decided : Option FragmentHeader) : Type 0 where
+    (decided : Option Ipv6FragmentHeader) : Type 0 where
   pub body : List ℕ
   pub begins : BeginsWith IsIpv6Layout packet header body
   pub is_later : Bool
@@ -52,7 +52,7 @@ pub record HasExtensions (packet : List ℕ) (header : Ipv6Header) (incomplete :
 pub record HasIpv6Key (packet : List ℕ) (key : Ipv6Key) : Type 0 where
   pub header : Ipv6Header
   pub incomplete : Option LenError
-  pub fragment : FragmentHeader
+  pub fragment : Ipv6FragmentHeader
   pub has : HasExtensions packet header incomplete (Some fragment)
   pub key_of : key ≡ record {
     source = header.source;

@@ -23,7 +23,7 @@ use Rattle.etherparse.specs.declared.net.ipv4_header.Ipv4Header.{Ipv4Header}
 use Rattle.etherparse.specs.declared.net.ipv6_header.Ipv6Header.{Ipv6Header}
 use Rattle.packet_parts.specs.Extensions.{EndsAs}
 use Rattle.packet_parts.specs.declared.fragment.Fragment.{Fragment}
-use Rattle.packet_parts.specs.declared.fragment.FragmentHeader.{FragmentHeader}
+use Rattle.etherparse_net.specs.declared.ipv6_fragment_header.Ipv6FragmentHeader.{Ipv6FragmentHeader}
 use Rattle.packet_parts.specs.declared.ip_slice.IpHeaderSlice.{IpHeaderSlice}
 use Rattle.packet_parts.specs.declared.ip_slice.IpHeaderSlice.TheVariants as header
 use Rattle.packet_parts.specs.declared.ip_slice.IpSlice.{IpSlice}
@@ -64,7 +64,7 @@ ipv4_fragment_of header =
     else None
 
 -- the same by a fragment header of IPv6 (RFC 8200 section 4.5)
-abbrev pub placed : FragmentHeader → Fragment
+abbrev pub placed : Ipv6FragmentHeader → Fragment
 placed header = record {
   identification = header.identification;
   offset = 8 * header.fragment_offset;
@@ -92,7 +92,7 @@ pub record HasIpv6Parts (packet front : List ℕ) (slice : IpSlice) : Type 0 whe
   pub begins : BeginsWith IsIpv6Layout (ipv6_bytes header packet) header body
   pub view : begins.front ≡ front
   pub parts : body ≡ slice.extensions.now ++ slice.payload.now
-  pub decided : Option FragmentHeader
+  pub decided : Option Ipv6FragmentHeader
   pub incomplete : Option LenError
   pub ends : EndsAs slice.is_later_fragment incomplete body header.next_header decided slice.upper
       slice.payload.now
@@ -156,7 +156,7 @@ pub record EndsInExtensions (packet : List ℕ) (e : LenError) : Type 0 where
   pub body : List ℕ
   pub enough : 40 + header.payload_length ≤ length packet
   pub begins : BeginsWith IsIpv6Layout (ipv6_bytes header packet) header body
-  pub fragment : Option FragmentHeader
+  pub fragment : Option Ipv6FragmentHeader
   pub number : ℕ
   pub rest : List ℕ
   pub inside : LenError

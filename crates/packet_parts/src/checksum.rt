@@ -8,8 +8,6 @@ ghost use Rattle.packet_parts.specs.Checksum.{IsVerdictIpv4, IsVerdictIpv6, IsWi
 ghost use Rattle.packet_parts.specs.Checksum.{ipv4_pseudo_header, ipv6_pseudo_header};
 ghost use Rattle.packet_parts.specs.Checksum.{udp_length, verdict_text};
 
-use crate::tcp::TcpHeaderSlice;
-use crate::udp::UdpHeader;
 use etherparse::IpNumber;
 use etherparse::checksum::Sum16BitWords;
 use std::fmt;
@@ -199,9 +197,9 @@ fn covered(icmp: IpNumber, number: IpNumber, payload: &[u8]) -> Result<&[u8], Ab
     ensures absent { IfErr result (IsAbsent icmp number payload.now) }
 {
     let (least, len) = if number == IpNumber::UDP {
-        (UdpHeader::LEN, datagram_len(payload))
+        (UDP_HEADER_LEN, datagram_len(payload))
     } else if number == IpNumber::TCP {
-        (TcpHeaderSlice::MIN_LEN, payload.len())
+        (TCP_HEADER_LEN, payload.len())
     } else if number == icmp {
         (ICMP_LEN, payload.len())
     } else {
@@ -213,8 +211,17 @@ fn covered(icmp: IpNumber, number: IpNumber, payload: &[u8]) -> Result<&[u8], Ab
     Ok(&payload[..len])
 }
 
-// The length of type, code and checksum of ICMP and ICMPv6, in bytes.
+// The lengths in bytes of a UDP header, of a TCP header without options, and of type, code and
+// checksum of ICMP and ICMPv6.
+const UDP_HEADER_LEN: usize = 8;
+
+const TCP_HEADER_LEN: usize = 20;
+
 const ICMP_LEN: usize = 4;
+
+const _: () = prove!(UDP_HEADER_LEN == 8);
+
+const _: () = prove!(TCP_HEADER_LEN == 20);
 
 const _: () = prove!(ICMP_LEN == 4);
 
@@ -223,7 +230,7 @@ fn datagram_len(bytes: &[u8]) -> usize
     ensures value { 8 ≤ length bytes.now → result ≡ udp_length bytes.now }
     ensures none { length bytes.now < 8 → result ≡ 0 }
 {
-    if bytes.len() < UdpHeader::LEN {
+    if bytes.len() < UDP_HEADER_LEN {
         return 0;
     }
     usize::from(u16::from_be_bytes([bytes[4], bytes[5]]))

@@ -7,12 +7,12 @@ ghost use Rattle.etherparse.specs.ExtensionHeaderChain.{required_len_of};
 ghost use Rattle.etherparse.specs.ExtensionHeaders.{IsSkippable};
 ghost use Rattle.packet_parts.specs.Extensions.{EndsAs, EndsAtLaterFragment, Passes};
 ghost use Rattle.packet_parts.specs.Extensions.{deciding};
-ghost use Rattle.packet_parts.specs.declared.fragment.FragmentHeader.{FragmentHeader as Header};
+ghost use Rattle.etherparse_net.specs.declared.ipv6_fragment_header.Ipv6FragmentHeader.{Ipv6FragmentHeader as Header};
 ghost use Rattle.std.specs.Option.{option_or};
 
-use crate::fragment::FragmentHeader;
 use etherparse::err::LenError;
 use etherparse::{IpNumber, Ipv6Header};
+use etherparse_net::Ipv6FragmentHeader;
 
 /// What comes after whole extension headers.
 #[derive(Debug, Drop)]
@@ -23,7 +23,7 @@ pub struct AfterExtensions<'a> {
     pub rest: &'a [u8],
     /// The fragment header that decides whether the payload is a fragment: the first that is not
     /// atomic (RFC 8200 section 4.5, RFC 6946).
-    pub fragment: Option<FragmentHeader>,
+    pub fragment: Option<Ipv6FragmentHeader>,
     /// That the payload is of a fragment that is not the first: the middle of a payload, which
     /// begins with no header.
     pub is_later: bool,
@@ -100,7 +100,7 @@ struct Step<'a> {
     number: IpNumber,
     rest: &'a [u8],
     // The header, if it is a fragment header that is not atomic.
-    fragment: Option<FragmentHeader>,
+    fragment: Option<Ipv6FragmentHeader>,
     // That the header is the fragment header of a fragment that is not the first.
     is_later: bool,
 }
@@ -133,7 +133,7 @@ fn passed(slice: &[u8], number: IpNumber) -> Result<Step, LenError>
             is_later: false,
         });
     }
-    let header = match FragmentHeader::from_slice(slice) {
+    let header = match Ipv6FragmentHeader::from_slice(slice) {
         Ok((header, _)) => header,
         Err(_) => unreachable!(), // The header is whole.
     };
@@ -147,7 +147,7 @@ fn passed(slice: &[u8], number: IpNumber) -> Result<Step, LenError>
 }
 
 // A fragment header, if it decides.
-fn deciding(header: FragmentHeader) -> Option<FragmentHeader>
+fn deciding(header: Ipv6FragmentHeader) -> Option<Ipv6FragmentHeader>
     ensures value { result ≡ deciding header }
 {
     if header.is_fragmenting_payload() {

@@ -7,9 +7,9 @@ ghost use Rattle.packet_parts.specs.FragmentKey.{IsWholeIpv6, RefusesIpv6Key};
 ghost use Rattle.packet_parts.specs.FragmentKey.{undecided_error};
 
 use crate::extensions::{AfterExtensions, after_extensions};
-use crate::fragment::FragmentHeader;
 use etherparse::err::{Layer, LenError, ipv4, ipv6};
 use etherparse::{IpNumber, Ipv4Header, Ipv6Header};
+use etherparse_net::Ipv6FragmentHeader;
 
 /// The key of the fragments of one IPv4 packet (RFC 791 section 3.2).
 #[derive(Clone, Debug, PartialEq, Eq, Hash, Drop)]
@@ -135,7 +135,7 @@ fn undecided_error(number: IpNumber, e: LenError) -> LenError
         return e;
     }
     LenError {
-        required_len: FragmentHeader::LEN,
+        required_len: Ipv6FragmentHeader::LEN,
         layer: Layer::Ipv6FragHeader,
         ..e
     }

@@ -17,9 +17,10 @@ ghost use Rattle.packet_parts.specs.declared.ip_slice.IpSliceError.TheVariants a
 
 use crate::checksum::{Absence, Verdict, ipv4_verdict, ipv6_verdict};
 use crate::extensions::after_extensions;
-use crate::fragment::{Fragment, FragmentHeader};
+use crate::fragment::Fragment;
 use etherparse::err::{Layer, LenError, ipv4, ipv6};
 use etherparse::{IpNumber, Ipv4HeaderSlice, Ipv6Header, Ipv6HeaderSlice, LenSource};
+use etherparse_net::Ipv6FragmentHeader;
 use std::fmt;
 use std::net::{IpAddr, Ipv4Addr, Ipv6Addr};
 
@@ -446,7 +447,7 @@ fn ipv4_fragment(header: &Ipv4HeaderSlice) -> Option<Fragment>
 }
 
 // The place of an IPv6 fragment, by the fragment header that decides.
-fn placed(decided: Option<FragmentHeader>) -> Option<Fragment>
+fn placed(decided: Option<Ipv6FragmentHeader>) -> Option<Fragment>
     ensures value { result ≡ option_map placed decided }
 {
     match decided {

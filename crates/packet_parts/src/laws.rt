@@ -3,9 +3,7 @@
 
 ghost use Rattle.std.specs.Prelude.{◌≡◌, ◌↔◌, IsTrue};
 
-use crate::fragment::FragmentHeader;
 use crate::fragment_key::{Ipv4Key, Ipv6Key};
-use crate::udp::UdpHeader;
 
 fn ipv4_key_equality(a: &Ipv4Key, b: &Ipv4Key) -> bool
     ensures same_value { IsTrue result ↔ (a.now ≡ b.now) }
@@ -14,18 +12,6 @@ fn ipv4_key_equality(a: &Ipv4Key, b: &Ipv4Key) -> bool
 }
 
 fn ipv6_key_equality(a: &Ipv6Key, b: &Ipv6Key) -> bool
-    ensures same_value { IsTrue result ↔ (a.now ≡ b.now) }
-{
-    a == b
-}
-
-fn fragment_header_equality(a: &FragmentHeader, b: &FragmentHeader) -> bool
-    ensures same_value { IsTrue result ↔ (a.now ≡ b.now) }
-{
-    a == b
-}
-
-fn udp_header_equality(a: &UdpHeader, b: &UdpHeader) -> bool
     ensures same_value { IsTrue result ↔ (a.now ≡ b.now) }
 {
     a == b

@@ -1,6 +1,5 @@
-//! An IP packet in its parts: header, extension headers and fragment header, payload, the UDP and
-//! TCP headers, and what a receiver finds of the checksums. Each call views the packet and takes no
-//! memory.
+//! An IP packet in its parts: header, extension headers and fragment header, and payload; and what a
+//! receiver finds of the checksums. Each call views the packet and takes no memory.
 #![tactic(auto)]
 
 pub mod address;
@@ -10,5 +9,3 @@ pub mod fragment;
 pub mod fragment_key;
 pub mod ip_slice;
 mod laws;
-pub mod tcp;
-pub mod udp;

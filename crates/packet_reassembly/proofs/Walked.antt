@@ -13,8 +13,8 @@ use Rattle.etherparse.specs.Reading.{BeginsWith}
 use Rattle.etherparse.specs.LenError.{len_error_moved}
 use Rattle.etherparse.specs.declared.err.LenError.{LenError}
 use Rattle.packet_parts.specs.Extensions.{Passes, after_fragment, at_front, deciding}
-use Rattle.packet_parts.specs.Fragment.{IsFragmentLayout, is_part}
-use Rattle.packet_parts.specs.declared.fragment.FragmentHeader.{FragmentHeader}
+use Rattle.etherparse_net.specs.Ipv6FragmentHeader.{IsFragmentLayout, is_part}
+use Rattle.etherparse_net.specs.declared.ipv6_fragment_header.Ipv6FragmentHeader.{Ipv6FragmentHeader}
 use Rattle.packet_reassembly.specs.Ipv6Fragment.{EndsBefore}
 use Rattle.packet_reassembly.specs.Packet.{AreUnfragmentable, IsChain}
 
@@ -79,7 +79,7 @@ module _ {body rest : List ℕ} {first last at number : ℕ} (w : IsWalked body 
       }
 
 -- an atomic fragment header is passed
-pub atomic_passed : (body slice rest : List ℕ) (header : FragmentHeader) (first number : ℕ) → number ≡ 44 → BeginsWith IsFragmentLayout slice header rest → is_part header ≡ false → header.fragment_offset ≡ 0 → Passes body first None number slice → Passes body first None (slice_index slice 0) (drop (required_len_of number slice) slice)
+pub atomic_passed : (body slice rest : List ℕ) (header : Ipv6FragmentHeader) (first number : ℕ) → number ≡ 44 → BeginsWith IsFragmentLayout slice header rest → is_part header ≡ false → header.fragment_offset ≡ 0 → Passes body first None number slice → Passes body first None (slice_index slice 0) (drop (required_len_of number slice) slice)
 atomic_passed body slice rest header first number is begins whole front passes =
     let len = begins.layout.len in
     let enough : 8 ≤ length slice = omega (arith, ap length begins.whole, length-append {A = ℕ}) in

@@ -3,7 +3,7 @@ use Rattle.std.specs.Prelude.{ℕ, ◌*◌, ◌/◌, ◌^◌, ◌<◌, ◌≤◌
 use Rattle.std.specs.Prelude.{if◌then◌else◌, false, length, nat_lt, slice_index, true}
 use Rattle.etherparse.specs.declared.err.LenError.{LenError}
 use Rattle.packet_parts.specs.Extensions.{EndsAs}
-use Rattle.packet_parts.specs.declared.fragment.FragmentHeader.{FragmentHeader}
+use Rattle.etherparse_net.specs.declared.ipv6_fragment_header.Ipv6FragmentHeader.{Ipv6FragmentHeader}
 
 -- How many bytes the upper-layer header of a number has at least: 20 of TCP, or as many words of
 -- four bytes as its data offset says (RFC 9293 section 3.1); 8 of UDP (RFC 768); 4 of ICMPv6 (RFC
@@ -17,7 +17,7 @@ upper_header_len number bytes =
 -- the payload of a first fragment, which has this number, has the rest of the header chain: whole
 -- extension headers and the upper-layer header
 pub record HasWholeChain (number : ℕ) (payload : List ℕ) : Type 0 where
-  pub decided : Option FragmentHeader
+  pub decided : Option Ipv6FragmentHeader
   pub upper : ℕ
   pub rest : List ℕ
   pub ends : EndsAs false None payload number decided upper rest
@@ -25,7 +25,7 @@ pub record HasWholeChain (number : ℕ) (payload : List ℕ) : Type 0 where
 
 -- it ends within an extension header
 pub record EndsInExtension (number : ℕ) (payload : List ℕ) : Type 0 where
-  pub decided : Option FragmentHeader
+  pub decided : Option Ipv6FragmentHeader
   pub upper : ℕ
   pub rest : List ℕ
   pub e : LenError
@@ -33,7 +33,7 @@ pub record EndsInExtension (number : ℕ) (payload : List ℕ) : Type 0 where
 
 -- it ends within the upper-layer header
 pub record EndsInUpperHeader (number : ℕ) (payload : List ℕ) : Type 0 where
-  pub decided : Option FragmentHeader
+  pub decided : Option Ipv6FragmentHeader
   pub upper : ℕ
   pub rest : List ℕ
   pub ends : EndsAs false None payload number decided upper rest
@@ -41,7 +41,7 @@ pub record EndsInUpperHeader (number : ℕ) (payload : List ℕ) : Type 0 where
 
 -- it holds another fragment header, of a fragment that is not the first: a chain goes no further
 pub record EndsInOtherFragment (number : ℕ) (payload : List ℕ) : Type 0 where
-  pub decided : Option FragmentHeader
+  pub decided : Option Ipv6FragmentHeader
   pub upper : ℕ
   pub rest : List ℕ
   pub ends : EndsAs true None payload number decided upper rest

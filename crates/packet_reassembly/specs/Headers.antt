@@ -7,8 +7,8 @@ use Rattle.etherparse.specs.Ipv4Header.{IsIpv4Layout}
 use Rattle.etherparse.specs.Ipv6Header.{IsIpv6Layout}
 use Rattle.etherparse.specs.declared.net.ipv4_header.Ipv4Header.{Ipv4Header}
 use Rattle.etherparse.specs.declared.net.ipv6_header.Ipv6Header.{Ipv6Header}
-use Rattle.packet_parts.specs.Fragment.{IsFragmentLayout}
-use Rattle.packet_parts.specs.declared.fragment.FragmentHeader.{FragmentHeader}
+use Rattle.etherparse_net.specs.Ipv6FragmentHeader.{IsFragmentLayout}
+use Rattle.etherparse_net.specs.declared.ipv6_fragment_header.Ipv6FragmentHeader.{Ipv6FragmentHeader}
 use Rattle.packet_reassembly.specs.Packet.{AreUnfragmentable, IsIpv4Packet, IsIpv6Packet}
 use Rattle.packet_reassembly.specs.declared.ip_defrag_headers.Kept.{Kept}
 use Rattle.packet_reassembly.specs.declared.ip_defrag_headers.Kept.TheVariants as kept
@@ -18,7 +18,7 @@ use Rattle.packet_reassembly.specs.declared.ip_fragment_slice.IpFragmentSlice.{I
 
 -- they are an IPv6 header, the extension headers before a fragment header, and that one
 pub record AreIpv6Headers (headers : List ℕ) (first : Ipv6Header) (before last : List ℕ)
-    (fragment : FragmentHeader) : Type 0 where
+    (fragment : Ipv6FragmentHeader) : Type 0 where
   pub front : List ℕ
   pub at : List ℕ
   pub whole : headers ≡ front ++ (before ++ (last ++ at))
@@ -38,7 +38,7 @@ pub record IsIpv6PacketWith (headers datagram packet : List ℕ) : Type 0 where
   pub first : Ipv6Header
   pub before : List ℕ
   pub last : List ℕ
-  pub fragment : FragmentHeader
+  pub fragment : Ipv6FragmentHeader
   pub are_headers : AreIpv6Headers headers first before last fragment
   pub has : IsIpv6Packet first before last fragment.next_header datagram packet
 
@@ -60,7 +60,7 @@ pub record IsTooLongForIpv6 (headers datagram : List ℕ) : Type 0 where
   pub first : Ipv6Header
   pub before : List ℕ
   pub last : List ℕ
-  pub fragment : FragmentHeader
+  pub fragment : Ipv6FragmentHeader
   pub are_headers : AreIpv6Headers headers first before last fragment
   pub long : 65535 < length before + length last + length datagram
 
@@ -76,7 +76,7 @@ pub record AreIpv6HeadersAt (headers : List ℕ) (place : ℕ) : Type 0 where
   pub first : Ipv6Header
   pub before : List ℕ
   pub last : List ℕ
-  pub fragment : FragmentHeader
+  pub fragment : Ipv6FragmentHeader
   pub are_headers : AreIpv6Headers headers first before last fragment
   pub is_place : place ≡ 40 + length before
 

@@ -4,7 +4,7 @@ use Rattle.etherparse.specs.ExtensionHeaders.{IsSkippable}
 use Rattle.etherparse.specs.Reading.{BeginsWith}
 use Rattle.etherparse.specs.declared.err.LenError.{LenError}
 use Rattle.packet_parts.specs.Extensions.{EndsAs, Passes}
-use Rattle.packet_parts.specs.Fragment.{IsFragmentLayout, is_part}
+use Rattle.etherparse_net.specs.Ipv6FragmentHeader.{IsFragmentLayout, is_part}
 use Rattle.packet_reassembly.specs.Packet.{AreUnfragmentable}
 use Rattle.packet_reassembly.specs.declared.ipv6_fragment.Ipv6FragmentParts.{Ipv6FragmentParts}
 

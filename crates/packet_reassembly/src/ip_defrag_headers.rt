@@ -15,7 +15,7 @@ use crate::ip_fragment_slice::IpFragmentSlice;
 use crate::packet::{put, write_ipv4_packet, write_ipv6_packet};
 use etherparse::err::ValueTooBigError;
 use etherparse::{IpNumber, Ipv4Header, Ipv6Header};
-use packet_parts::fragment::FragmentHeader;
+use etherparse_net::Ipv6FragmentHeader;
 use std::marker::Model;
 
 // Which headers the memory holds.
@@ -193,7 +193,7 @@ fn write_ipv6(
         Ok((first, _)) => first,
         Err(_) => unreachable!(), // They begin with a header.
     };
-    let end = headers.len() - FragmentHeader::LEN;
+    let end = headers.len() - Ipv6FragmentHeader::LEN;
     let next_header = IpNumber(headers[end]);
     let before = &headers[Ipv6Header::LEN..place];
     let last = &headers[place..end];

@@ -6,12 +6,12 @@ ghost use Rattle.etherparse.specs.ExtensionHeaderChain.{required_len_of};
 ghost use Rattle.etherparse.specs.ExtensionHeaders.{IsSkippable};
 ghost use Rattle.etherparse.specs.Reading.{BeginsWith};
 ghost use Rattle.packet_parts.specs.Extensions.{Passes};
-ghost use Rattle.packet_parts.specs.Fragment.{IsFragmentLayout, is_part};
+ghost use Rattle.etherparse_net.specs.Ipv6FragmentHeader.{IsFragmentLayout, is_part};
 ghost use Rattle.packet_reassembly.specs.Ipv6Fragment.{AreFragmentParts, EndsBefore, HasNoFragment};
 
 use etherparse::err::LenError;
 use etherparse::{IpNumber, Ipv6Header};
-use packet_parts::fragment::FragmentHeader;
+use etherparse_net::Ipv6FragmentHeader;
 
 /// What follows the IPv6 header of a fragment.
 #[derive(Debug, Drop)]
@@ -21,7 +21,7 @@ pub struct Ipv6FragmentParts<'a> {
     /// That last one, which names the fragment header; empty if the IPv6 header names it.
     pub last: &'a [u8],
     /// The fragment header.
-    pub fragment: FragmentHeader,
+    pub fragment: Ipv6FragmentHeader,
     /// The bytes of the fragment.
     pub payload: &'a [u8],
 }
@@ -76,7 +76,7 @@ pub fn ipv6_fragment_parts(
 
 // The fragment header at the front of a slice and the bytes after it, if it is one that is not
 // atomic.
-fn deciding(slice: &[u8], number: IpNumber) -> Option<(FragmentHeader, &[u8])>
+fn deciding(slice: &[u8], number: IpNumber) -> Option<(Ipv6FragmentHeader, &[u8])>
     requires skippable { IsSkippable number }
     requires enough { required_len_of number slice.now ≤ length slice.now }
     ensures found { IfSome result (λ x. (number ≡ 44)
@@ -88,7 +88,7 @@ fn deciding(slice: &[u8], number: IpNumber) -> Option<(FragmentHeader, &[u8])>
     if number != IpNumber::IPV6_FRAGMENTATION_HEADER {
         return None;
     }
-    match FragmentHeader::from_slice(slice) {
+    match Ipv6FragmentHeader::from_slice(slice) {
         Ok((header, rest)) if header.is_fragmenting_payload() => Some((header, rest)),
         Ok(_) => None,
         Err(_) => unreachable!(), // The header is whole.

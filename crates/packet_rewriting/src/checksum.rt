@@ -18,8 +18,8 @@ ghost use Rattle.packet_rewriting.specs.UpperChecksum.{complement_of, with_check
 use etherparse::IpNumber;
 use etherparse::checksum::Sum16BitWords;
 use packet_parts::checksum::{ipv4_pseudo_header, ipv6_pseudo_header};
-use packet_parts::tcp::TcpHeaderSlice;
-use packet_parts::udp::UdpHeader;
+use etherparse_transport::TcpHeaderSlice;
+use etherparse_transport::UdpHeader;
 use std::fmt;
 
 /// Why a segment gets no checksum.

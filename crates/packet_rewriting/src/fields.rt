@@ -30,8 +30,8 @@ use etherparse::checksum::{
 };
 use etherparse::{IpDscp, IpEcn, IpNumber, Ipv4Header, Ipv6Header};
 use packet_parts::ip_slice::{IpHeaderSlice, IpSlice, IpSliceError};
-use packet_parts::tcp::TcpHeaderSlice;
-use packet_parts::udp::UdpHeader;
+use etherparse_transport::TcpHeaderSlice;
+use etherparse_transport::UdpHeader;
 use std::fmt;
 
 /// Why a packet is not rewritten.

@@ -6,7 +6,7 @@ ghost use Rattle.packet_rewriting.specs.Translation.{Readdresses};
 
 use etherparse::Ipv4Header;
 use etherparse::checksum::{update_2bytes, update_4bytes};
-use packet_parts::udp::UdpHeader;
+use etherparse_transport::UdpHeader;
 use packet_rewriting::translation::translate_udp_source;
 
 /// Gives a datagram that leaves a network the public address of that network, with the checksums of

@@ -3,9 +3,9 @@ use Rattle.std.proofs.lemmas.List.{take_rest}
 use Rattle.etherparse.specs.Reading.{IsTooShort, Reads}
 use Rattle.etherparse.specs.declared.err.LenError.{LenError}
 use Rattle.etherparse.specs.declared.err.Layer.TheVariants as layer
-use Rattle.packet_parts.specs.Tcp.{ViewsTcp}
-use Rattle.packet_parts.specs.Udp.{ReadsUdp, UdpReading}
-use Rattle.packet_parts.specs.declared.tcp.TcpError.{TcpError}
+use Rattle.etherparse_transport.specs.Tcp.{ViewsTcp}
+use Rattle.etherparse_transport.specs.Udp.{ReadsUdp, UdpReading}
+use Rattle.etherparse_transport.specs.declared.tcp.TcpError.{TcpError}
 use Rattle.packet.specs.Transport.{Icmpv4Parts, Icmpv6Parts, IsIcmpLayout, ReadsHeader, icmp_reading, tcp_reading, udp_reading}
 use Rattle.packet.specs.declared.transport.IcmpHeader.{IcmpHeader}
 use Rattle.packet.specs.declared.transport.Protocol.{Protocol}

@@ -1,0 +1,69 @@
+//! EtherTypes (IEEE 802.3 section 3.2.6).
+
+ghost use Rattle.std.specs.Prelude.{ℕ, ◌≡◌, ◌+◌, ◌≤◌, length};
+ghost use Rattle.etherparse_link.specs.Bytes.{number_at};
+
+use std::marker::Model;
+
+/// What the bytes after a header are. Up to 1500 it is none: in Ethernet a length (IEEE 802.3
+/// section 3.2.6), in a Linux cooked capture a number of Linux's own.
+#[derive(Clone, Copy, Debug, PartialEq, Eq, PartialOrd, Ord, Hash)]
+pub struct EtherType(pub u16);
+
+/// A contract sees the number itself.
+impl Model for EtherType {
+    ghost Value = { ℕ };
+
+    ghost view = { λ ether_type. ether_type.0 };
+
+    ghost inverse = { λ number. record { 0 = number } };
+}
+
+impl EtherType {
+    /// Internet Protocol version 4 (RFC 894).
+    pub const IPV4: EtherType = EtherType(0x0800);
+
+    /// Address Resolution Protocol (RFC 826).
+    pub const ARP: EtherType = EtherType(0x0806);
+
+    /// The tag of a customer's VLAN (IEEE 802.1Q section 9.5, C-TAG).
+    pub const VLAN_TAGGED_FRAME: EtherType = EtherType(0x8100);
+
+    /// Internet Protocol version 6 (RFC 2464 section 3).
+    pub const IPV6: EtherType = EtherType(0x86dd);
+
+    /// Multiprotocol Label Switching (RFC 3032).
+    pub const MPLS: EtherType = EtherType(0x8847);
+
+    /// Multiprotocol Label Switching with an upstream-assigned label (RFC 5332).
+    pub const MPLS_UPSTREAM_ASSIGNED: EtherType = EtherType(0x8848);
+
+    /// The discovery stage of PPP over Ethernet (RFC 2516).
+    pub const PPPOE_DISCOVERY: EtherType = EtherType(0x8863);
+
+    /// The session stage of PPP over Ethernet (RFC 2516).
+    pub const PPPOE_SESSION: EtherType = EtherType(0x8864);
+
+    /// Port-based network access control (IEEE 802.1X).
+    pub const EAPOL: EtherType = EtherType(0x888e);
+
+    /// The tag of a service's VLAN (IEEE 802.1Q section 9.5, S-TAG).
+    pub const PROVIDER_BRIDGING: EtherType = EtherType(0x88a8);
+
+    /// Link Layer Discovery Protocol (IEEE 802.1AB).
+    pub const LLDP: EtherType = EtherType(0x88cc);
+
+    /// Media access control security (IEEE 802.1AE).
+    pub const MACSEC: EtherType = EtherType(0x88e5);
+
+    /// The outer of two tags before the one of a service existed.
+    pub const VLAN_DOUBLE_TAGGED_FRAME: EtherType = EtherType(0x9100);
+}
+
+// Two bytes at a place as a number, the high byte first.
+pub(crate) fn u16_at(bytes: &[u8], place: usize) -> u16
+    requires within { place + 2 ≤ length bytes.now }
+    ensures value { result ≡ number_at place bytes.now }
+{
+    u16::from_be_bytes([bytes[place], bytes[place + 1]])
+}

@@ -1,0 +1,2 @@
+pub mod Tcp
+pub mod Udp

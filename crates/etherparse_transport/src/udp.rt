@@ -1,0 +1,182 @@
+//! The UDP header (RFC 768).
+
+ghost use Rattle.std.specs.Prelude.{◌≡◌, length};
+ghost use Rattle.etherparse_transport.specs.Udp.{IsUdpLayout};
+
+use etherparse::checksum::Sum16BitWords;
+use etherparse::err::{Layer, LenError};
+use etherparse::{IpNumber, Ipv4Header, Ipv6Header, LenSource};
+use packet_parts::checksum::{ipv4_pseudo_header, ipv6_pseudo_header};
+
+/// A UDP header.
+#[derive(Clone, Debug, PartialEq, Eq, Drop)]
+pub struct UdpHeader {
+    pub source_port: u16,
+    pub destination_port: u16,
+    /// The length of the header and the payload, in bytes.
+    pub length: u16,
+    /// The checksum, or 0 if there is none.
+    pub checksum: u16,
+}
+
+impl UdpHeader {
+    ghost use Rattle.std.specs.Prelude.{ℕ, ◌≡◌, ◌≢◌, ◌<◌, ◌^◌, List, [], ◌∷◌, ◌++◌, Ok, map};
+    ghost use Rattle.std.specs.Prelude.{slice_index};
+    ghost use Rattle.std.specs.Int.{to_be_bytes, w16};
+    ghost use Rattle.std.specs.List.{concat};
+    ghost use Rattle.etherparse.specs.Reading.{found_and_rest};
+    ghost use Rattle.etherparse.specs.WordSums.{StandsForWords, ones_complement_sum};
+    ghost use Rattle.packet_parts.specs.Checksum.{ipv4_pseudo_header, ipv6_pseudo_header};
+    ghost use Rattle.etherparse_transport.specs.Udp.{IsUdpLayout, ReadsUdp, UdpReading, udp_words};
+
+    /// The length of the header, in bytes: 8.
+    pub const LEN: usize = 8;
+
+    /// The header at the front of a slice, and all the bytes after it.
+    ///
+    /// # Errors
+    ///
+    /// A `LenError` if the slice has fewer than 8 bytes.
+    ///
+    /// # Example
+    ///
+    /// ```
+    /// let slice = [4, 0, 0, 53, 0, 12, 0x91, 0xae, b't', b'e', b's', b't'];
+    /// let (header, rest) = UdpHeader::from_slice(&slice)?;
+    /// assert!(rt; (header.source_port, header.destination_port) == (1024, 53));
+    /// assert!(rt; rest == b"test".as_slice());
+    /// ```
+    pub fn from_slice(slice: &[u8]) -> Result<(UdpHeader, &[u8]), LenError>
+        ensures reads { ReadsUdp slice.now (found_and_rest result) }
+        ensures only { (other : UdpReading) → ReadsUdp slice.now other →
+            other ≡ found_and_rest result }
+    {
+        if slice.len() < UdpHeader::LEN {
+            return Err(LenError {
+                required_len: UdpHeader::LEN,
+                len: slice.len(),
+                len_source: LenSource::Slice,
+                layer: Layer::UdpHeader,
+                layer_start_offset: 0,
+            });
+        }
+        let (front, rest) = (&slice[..UdpHeader::LEN], &slice[UdpHeader::LEN..]);
+        Ok((header_of(front), rest))
+    }
+
+    /// The 8 bytes of the header.
+    pub fn to_bytes(&self) -> [u8; 8]
+        ensures layout { IsUdpLayout self.now result }
+        ensures only { (bytes : List ℕ) → IsUdpLayout self.now bytes → bytes ≡ result }
+        ensures read_again { (rest : List ℕ) → ReadsUdp (result ++ rest) (Ok (self.now, rest)) }
+    {
+        self.words()
+    }
+
+    /// Sets the checksum of a datagram over IPv4. With it the datagram sums to all ones with its
+    /// pseudo-header, and it is not 0, which says that there is none.
+    ///
+    /// The sum counts the field `length` as it stands: set it first, to 8 and the payload's length.
+    ///
+    /// # Example
+    ///
+    /// ```
+    /// let (source, destination) = ([192, 168, 0, 1], [192, 168, 0, 199]);
+    /// let ip = Ipv4Header::new(12, 64, IpNumber::UDP, source, destination)?;
+    /// let mut udp = UdpHeader {
+    ///     source_port: 1024,
+    ///     destination_port: 53,
+    ///     length: 12,
+    ///     checksum: 0,
+    /// };
+    /// udp.set_checksum_ipv4(&ip, b"test");
+    /// assert!(rt; udp.to_bytes() == [4, 0, 0, 53, 0, 12, 0x91, 0xae]);
+    /// ```
+    pub fn set_checksum_ipv4(&mut self, ip: &Ipv4Header, payload: &[u8])
+        ensures others { self.new ≡ record self.old { checksum = self.new.checksum } }
+        ensures there { self.new.checksum ≢ 0 }
+        ensures right { (header : List ℕ) → IsUdpLayout self.new header → ones_complement_sum
+            (ipv4_pseudo_header ip.now.source ip.now.destination 17 self.old.length
+            ∷ (header ++ payload.now) ∷ []) ≡ 65535 }
+    {
+        let pseudo_header = ipv4_pseudo_header(
+            ip.source,
+            ip.destination,
+            IpNumber::UDP,
+            self.length,
+        );
+        self.complete(pseudo_header, payload);
+    }
+
+    /// Sets the checksum of a datagram over IPv6, as [`UdpHeader::set_checksum_ipv4`] does. In a
+    /// packet with a routing header, the destination has to be the last one (RFC 8200 section 8.1).
+    ///
+    /// # Example
+    ///
+    /// ```
+    /// let mut ip = Ipv6Header::default();
+    /// ip.source = [0x20, 0x01, 0x0d, 0xb8, 0, 0, 0, 0, 0, 0, 0, 0, 0, 0, 0, 1];
+    /// ip.destination = [0x20, 0x01, 0x0d, 0xb8, 0, 0, 0, 0, 0, 0, 0, 0, 0, 0, 0, 2];
+    /// let mut udp = UdpHeader {
+    ///     source_port: 1024,
+    ///     destination_port: 53,
+    ///     length: 12,
+    ///     checksum: 0,
+    /// };
+    /// udp.set_checksum_ipv6(&ip, b"test");
+    /// assert!(rt; udp.checksum == 0xb852);
+    /// ```
+    pub fn set_checksum_ipv6(&mut self, ip: &Ipv6Header, payload: &[u8])
+        ensures others { self.new ≡ record self.old { checksum = self.new.checksum } }
+        ensures there { self.new.checksum ≢ 0 }
+        ensures right { (header : List ℕ) → IsUdpLayout self.new header → ones_complement_sum
+            (ipv6_pseudo_header ip.now.source ip.now.destination 17 self.old.length
+            ∷ (header ++ payload.now) ∷ []) ≡ 65535 }
+    {
+        let len = u32::from(self.length);
+        let pseudo_header = ipv6_pseudo_header(ip.source, ip.destination, IpNumber::UDP, len);
+        self.complete(pseudo_header, payload);
+    }
+
+    // Sets the checksum, from the sum of the pseudo-header.
+    fn complete(&mut self, mut pseudo_header: Sum16BitWords, payload: &[u8])
+        ensures others { self.new ≡ record self.old { checksum = self.new.checksum } }
+        ensures there { self.new.checksum ≢ 0 }
+        ensures right { (before header : List ℕ) → StandsForWords 0 before pseudo_header →
+            IsUdpLayout self.new header →
+            ones_complement_sum (before ∷ (header ++ payload.now) ∷ []) ≡ 65535 }
+    {
+        self.checksum = 0;
+        let sum = pseudo_header.add_8bytes(self.to_bytes()).add_slice(payload);
+        self.checksum = sum.to_ones_complement_with_no_zero().swap_bytes();
+    }
+
+    // The four words, each with the high byte first.
+    fn words(&self) -> [u8; 8]
+        ensures value { result ≡ concat (map (λ n. to_be_bytes w16 n) (udp_words self.now)) }
+        ensures fit { (i : ℕ) → slice_index (udp_words self.now) i < 2 ^ 16 }
+    {
+        let (source_port, destination_port) = (self.source_port, self.destination_port);
+        let (length, checksum) = (self.length, self.checksum);
+        let [a, b] = source_port.to_be_bytes();
+        let [c, d] = destination_port.to_be_bytes();
+        let [e, f] = length.to_be_bytes();
+        let [g, h] = checksum.to_be_bytes();
+        [a, b, c, d, e, f, g, h]
+    }
+}
+
+const _: () = prove!(UdpHeader::LEN == 8);
+
+// The header of 8 bytes.
+fn header_of(bytes: &[u8]) -> UdpHeader
+    requires { length bytes.now ≡ 8 }
+    ensures layout { IsUdpLayout result bytes.now }
+{
+    UdpHeader {
+        source_port: u16::from_be_bytes([bytes[0], bytes[1]]),
+        destination_port: u16::from_be_bytes([bytes[2], bytes[3]]),
+        length: u16::from_be_bytes([bytes[4], bytes[5]]),
+        checksum: u16::from_be_bytes([bytes[6], bytes[7]]),
+    }
+}
