@@ -4,12 +4,11 @@ use crate::arguments::Arguments;
 use crate::shown::{Bytes, Named, Show, Shown, Written, write_shown};
 use etherparse::err::ipv6::HeaderSliceError;
 use etherparse::{IpNumber, Ipv4Header, Ipv6Header};
-use packet_parts::checksum::{Absence, Verdict};
 use etherparse_net::Ipv6FragmentHeader;
+use etherparse_transport::{TcpError, TcpHeaderSlice, UdpHeader};
+use packet_parts::checksum::{Absence, Verdict};
 use packet_parts::fragment_key::{Ipv4Key, Ipv6Key, ipv4_key, ipv6_key};
 use packet_parts::ip_slice::{IpHeaderSlice, IpSlice, IpSliceError};
-use etherparse_transport::{TcpError, TcpHeaderSlice};
-use etherparse_transport::UdpHeader;
 use packet_rewriting::echo::{icmpv4_reply, icmpv6_reply};
 use packet_rewriting::translation::{
     translate_tcp_destination, translate_tcp_source, translate_udp_destination,

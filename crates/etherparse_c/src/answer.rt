@@ -9,10 +9,10 @@ ghost use Rattle.etherparse_c.specs.Error.{slice_error_in_c, stop_in_c, tcp_erro
 
 use etherparse::LenSource;
 use etherparse::err::{Layer, LenError, ipv4, ipv6};
+use etherparse_transport::TcpError;
 use packet::error::SliceError;
 use packet::link::LinkError;
 use packet_parts::ip_slice::IpSliceError;
-use etherparse_transport::TcpError;
 
 // The kinds of errors; 0 is none.
 pub(crate) const LEN: u32 = 1;

@@ -12,9 +12,9 @@ ghost use Rattle.etherparse_c.specs.Private.Within.{ArePartsWithin};
 
 use crate::answer::Error;
 use etherparse::checksum::u64_16bit_word;
+use etherparse_link::SingleVlanHeaderSlice;
 use packet::error::SliceError;
 use packet::link::LinkSlice;
-use etherparse_link::SingleVlanHeaderSlice;
 use packet::sliced_packet::SlicedPacket;
 use packet::transport::TransportSlice;
 use packet::vlan::VlanSlice;

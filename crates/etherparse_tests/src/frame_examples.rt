@@ -1,8 +1,8 @@
 //! The examples in the doc comments of `packet` on link headers and on frames that end early, line by
 //! line as they stand there.
 
-use packet::error::SliceError;
 use etherparse_link::EtherType;
+use packet::error::SliceError;
 use packet::lax_sliced_packet::LaxSlicedPacket;
 use packet::link::{LinkSlice, LinkType};
 use packet::link_layers::LinkLayers;

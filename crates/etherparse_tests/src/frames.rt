@@ -4,15 +4,15 @@
 use etherparse::LenSource;
 use etherparse::err::ipv4::HeaderSliceError;
 use etherparse::err::{Layer, LenError};
-use packet::error::SliceError;
 use etherparse_link::EtherType;
+use etherparse_transport::TcpError;
+use packet::error::SliceError;
 use packet::lax_sliced_packet::LaxSlicedPacket;
 use packet::link::{LinkError, LinkSlice, LinkType};
 use packet::sliced_packet::SlicedPacket;
 use packet::transport::TransportSlice;
 use packet::vlan::VlanSlice;
 use packet_parts::ip_slice::IpSliceError;
-use etherparse_transport::TcpError;
 use std::test::Fail;
 
 #[test]

@@ -3,13 +3,13 @@
 
 use etherparse::err::{Layer, LenError};
 use etherparse::{IpFragOffset, IpNumber, Ipv4HeaderSlice, Ipv6HeaderSlice, LenSource};
+use etherparse_net::Ipv6FragmentHeader;
+use etherparse_transport::TcpHeaderSlice;
 use packet_capture::capture::{ByteOrder, FileHeader, Format, Record, Resolution, next_record};
 use packet_parts::checksum::{Verdict, ipv4_verdict, ipv6_verdict};
-use etherparse_net::Ipv6FragmentHeader;
 use packet_parts::fragment::Fragment;
 use packet_parts::fragment_key::{Ipv4Key, Ipv6Key, ipv4_key, ipv6_key};
 use packet_parts::ip_slice::{IpHeaderSlice, IpSlice, IpSliceError, LaxIpSlice};
-use etherparse_transport::TcpHeaderSlice;
 use packet_rewriting::echo::{icmpv4_reply, icmpv6_reply};
 use std::process::Abort;
 use std::test::Fail;

@@ -2,6 +2,8 @@
 //! by line as they stand there.
 
 use etherparse::{IpNumber, Ipv4Header, Ipv6Header};
+use etherparse_net::Ipv6FragmentHeader;
+use etherparse_transport::{TcpError, TcpHeaderSlice, UdpHeader};
 use packet_capture::capture::{
     ByteOrder, CaptureError, FileHeader, Format, Record, Resolution, next_record,
 };
@@ -10,12 +12,9 @@ use packet_parts::checksum::{
     Absence, Verdict, ipv4_pseudo_header, ipv4_verdict, ipv6_pseudo_header, ipv6_verdict,
 };
 use packet_parts::extensions::after_extensions;
-use etherparse_net::Ipv6FragmentHeader;
 use packet_parts::fragment::Fragment;
 use packet_parts::fragment_key::{ipv4_key, ipv6_key};
 use packet_parts::ip_slice::{IpSlice, IpSliceError, LaxIpSlice};
-use etherparse_transport::{TcpError, TcpHeaderSlice};
-use etherparse_transport::UdpHeader;
 use packet_rewriting::echo::{icmpv4_reply, icmpv6_reply};
 use packet_rewriting::translation::{
     translate_tcp_destination, translate_tcp_source, translate_udp_destination,

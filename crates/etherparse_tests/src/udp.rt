@@ -4,9 +4,9 @@
 use etherparse::err::ipv4::HeaderSliceError;
 use etherparse::err::{Layer, LenError, ValueTooBigError};
 use etherparse::{IpNumber, Ipv4Header, Ipv6Header, LenSource};
+use etherparse_transport::UdpHeader;
 use packet_parts::checksum::{Absence, Verdict, ipv4_verdict, ipv6_verdict};
 use packet_parts::ip_slice::{IpSlice, IpSliceError};
-use etherparse_transport::UdpHeader;
 use packet_rewriting::translation::{
     translate_tcp_destination, translate_tcp_source, translate_udp_destination,
     translate_udp_source,

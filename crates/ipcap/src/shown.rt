@@ -6,10 +6,9 @@ ghost use Rattle.ipcap.specs.Shown.{has_no_length, has_whole_payload, hops_of, l
 
 use etherparse::IpNumber;
 use etherparse::checksum::u64_16bit_word;
+use etherparse_transport::{TcpHeaderSlice, UdpHeader};
 use packet_parts::checksum::Verdict;
 use packet_parts::ip_slice::{IpHeaderSlice, IpSlice, LaxIpSlice};
-use etherparse_transport::TcpHeaderSlice;
-use etherparse_transport::UdpHeader;
 
 /// What is shown of the header that a payload begins with.
 #[derive(Clone, Copy)]

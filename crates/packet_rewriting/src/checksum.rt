@@ -17,9 +17,8 @@ ghost use Rattle.packet_rewriting.specs.UpperChecksum.{complement_of, with_check
 
 use etherparse::IpNumber;
 use etherparse::checksum::Sum16BitWords;
+use etherparse_transport::{TcpHeaderSlice, UdpHeader};
 use packet_parts::checksum::{ipv4_pseudo_header, ipv6_pseudo_header};
-use etherparse_transport::TcpHeaderSlice;
-use etherparse_transport::UdpHeader;
 use std::fmt;
 
 /// Why a segment gets no checksum.

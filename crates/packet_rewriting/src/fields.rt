@@ -29,9 +29,8 @@ use etherparse::checksum::{
     update_16bytes, update_16bytes_with_no_zero,
 };
 use etherparse::{IpDscp, IpEcn, IpNumber, Ipv4Header, Ipv6Header};
+use etherparse_transport::{TcpHeaderSlice, UdpHeader};
 use packet_parts::ip_slice::{IpHeaderSlice, IpSlice, IpSliceError};
-use etherparse_transport::TcpHeaderSlice;
-use etherparse_transport::UdpHeader;
 use std::fmt;
 
 /// Why a packet is not rewritten.
