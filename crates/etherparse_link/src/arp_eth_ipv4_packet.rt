@@ -26,13 +26,13 @@ use crate::{ArpHardwareId, ArpOperation, ArpPacket, ArpPacketSlice, EtherType, a
 ///     target_mac: [0; 6],
 ///     target_ipv4: [192, 168, 0, 2],
 /// };
-/// let bytes = request.to_bytes();
-/// assert!(rt; bytes[..14] == [0, 1, 8, 0, 6, 4, 0, 1, 2, 0, 0, 0, 0, 1]);
-/// assert!(rt; bytes[14..] == [192, 168, 0, 1, 0, 0, 0, 0, 0, 0, 192, 168, 0, 2]);
+/// let bytes = [
+///     0, 1, 8, 0, 6, 4, 0, 1, 2, 0, 0, 0, 0, 1, 192, 168, 0, 1, 0, 0, 0, 0, 0, 0, 192, 168, 0, 2,
+/// ];
+/// assert!(rt; request.to_bytes() == bytes);
 /// let view = ArpPacketSlice::from_slice(&bytes)?;
 /// assert!(rt; ArpEthIpv4Packet::try_from(view) == Ok(request));
 /// let packet = ArpPacket::from(request);
-/// assert!(rt; packet.to_bytes().as_slice() == bytes.as_slice());
 /// assert!(rt; ArpEthIpv4Packet::try_from(packet) == Ok(request));
 /// ```
 #[derive(Clone, Copy, Debug, PartialEq, Eq)]

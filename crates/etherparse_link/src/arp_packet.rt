@@ -27,9 +27,10 @@ use etherparse::err::LenError;
 ///     &[0; 6],
 ///     &[192, 168, 0, 2],
 /// )?;
-/// let bytes = request.to_bytes();
-/// assert!(rt; bytes[..14] == [0, 1, 8, 0, 6, 4, 0, 1, 2, 0, 0, 0, 0, 1]);
-/// assert!(rt; bytes[14..] == [192, 168, 0, 1, 0, 0, 0, 0, 0, 0, 192, 168, 0, 2]);
+/// let expected = [
+///     0, 1, 8, 0, 6, 4, 0, 1, 2, 0, 0, 0, 0, 1, 192, 168, 0, 1, 0, 0, 0, 0, 0, 0, 192, 168, 0, 2,
+/// ];
+/// assert!(rt; request.to_bytes().as_slice() == expected.as_slice());
 /// ```
 #[derive(Clone, Debug, PartialEq, Eq, Drop)]
 pub struct ArpPacket {

@@ -70,8 +70,11 @@ impl DoubleVlanHeader {
     /// ```
     /// let bytes = [0, 100, 0x81, 0, 0x30, 7, 0x86, 0xdd, 0x60];
     /// let (tags, rest) = DoubleVlanHeader::from_slice(&bytes)?;
-    /// assert!(rt; tags.outer.vlan_id.value() == 100 && tags.inner.vlan_id.value() == 7);
-    /// assert!(rt; tags.inner.ether_type == EtherType::IPV6 && rest == [0x60].as_slice());
+    /// let (outer, inner) = (tags.outer, tags.inner);
+    /// assert!(rt; outer.vlan_id.value() == 100);
+    /// assert!(rt; inner.vlan_id.value() == 7);
+    /// assert!(rt; inner.ether_type == EtherType::IPV6);
+    /// assert!(rt; rest == [0x60].as_slice());
     /// // A single tag before an IPv4 packet.
     /// let single = [0, 100, 8, 0, 0x45, 0, 0, 20];
     /// let refused = HeaderSliceError::Content(HeaderError::NonVlanEtherType {

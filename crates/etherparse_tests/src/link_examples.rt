@@ -22,13 +22,13 @@ fn arp_eth_ipv4_packet(rt: HostRuntime) -> Result<(), Fail> {
         target_mac: [0; 6],
         target_ipv4: [192, 168, 0, 2],
     };
-    let bytes = request.to_bytes();
-    assert!(rt; bytes[..14] == [0, 1, 8, 0, 6, 4, 0, 1, 2, 0, 0, 0, 0, 1]);
-    assert!(rt; bytes[14..] == [192, 168, 0, 1, 0, 0, 0, 0, 0, 0, 192, 168, 0, 2]);
+    let bytes = [
+        0, 1, 8, 0, 6, 4, 0, 1, 2, 0, 0, 0, 0, 1, 192, 168, 0, 1, 0, 0, 0, 0, 0, 0, 192, 168, 0, 2,
+    ];
+    assert!(rt; request.to_bytes() == bytes);
     let view = ArpPacketSlice::from_slice(&bytes)?;
     assert!(rt; ArpEthIpv4Packet::try_from(view) == Ok(request));
     let packet = ArpPacket::from(request);
-    assert!(rt; packet.to_bytes().as_slice() == bytes.as_slice());
     assert!(rt; ArpEthIpv4Packet::try_from(packet) == Ok(request));
     Ok(())
 }
@@ -59,9 +59,10 @@ fn arp_packet(rt: HostRuntime) -> Result<(), Fail> {
         &[0; 6],
         &[192, 168, 0, 2],
     )?;
-    let bytes = request.to_bytes();
-    assert!(rt; bytes[..14] == [0, 1, 8, 0, 6, 4, 0, 1, 2, 0, 0, 0, 0, 1]);
-    assert!(rt; bytes[14..] == [192, 168, 0, 1, 0, 0, 0, 0, 0, 0, 192, 168, 0, 2]);
+    let expected = [
+        0, 1, 8, 0, 6, 4, 0, 1, 2, 0, 0, 0, 0, 1, 192, 168, 0, 1, 0, 0, 0, 0, 0, 0, 192, 168, 0, 2,
+    ];
+    assert!(rt; request.to_bytes().as_slice() == expected.as_slice());
     Ok(())
 }
 
@@ -144,8 +145,11 @@ fn double_vlan_header(rt: HostRuntime) -> Result<(), Fail> {
 fn double_vlan_header_from_slice(rt: HostRuntime) -> Result<(), Fail> {
     let bytes = [0, 100, 0x81, 0, 0x30, 7, 0x86, 0xdd, 0x60];
     let (tags, rest) = DoubleVlanHeader::from_slice(&bytes)?;
-    assert!(rt; tags.outer.vlan_id.value() == 100 && tags.inner.vlan_id.value() == 7);
-    assert!(rt; tags.inner.ether_type == EtherType::IPV6 && rest == [0x60].as_slice());
+    let (outer, inner) = (tags.outer, tags.inner);
+    assert!(rt; outer.vlan_id.value() == 100);
+    assert!(rt; inner.vlan_id.value() == 7);
+    assert!(rt; inner.ether_type == EtherType::IPV6);
+    assert!(rt; rest == [0x60].as_slice());
     // A single tag before an IPv4 packet.
     let single = [0, 100, 8, 0, 0x45, 0, 0, 20];
     let refused = HeaderSliceError::Content(HeaderError::NonVlanEtherType {
