@@ -1,6 +1,7 @@
 //! EtherTypes (IEEE 802.3 section 3.2.6).
 
-ghost use Rattle.std.specs.Prelude.{ℕ, ◌≡◌, ◌+◌, ◌≤◌, length};
+ghost use Rattle.std.specs.Prelude.{ℕ, ◌≡◌, ◌+◌, ◌^◌, ◌<◌, ◌≤◌, length};
+ghost use Rattle.std.specs.Int.{to_be_bytes, w16};
 ghost use Rattle.etherparse_link.specs.Bytes.{number_at};
 
 use std::marker::Model;
@@ -25,6 +26,18 @@ impl EtherType {
 
     /// Address Resolution Protocol (RFC 826).
     pub const ARP: EtherType = EtherType(0x0806);
+
+    /// A magic packet that wakes a host (Wake on LAN).
+    pub const WAKE_ON_LAN: EtherType = EtherType(0x0842);
+
+    /// Transparent Interconnection of Lots of Links (RFC 6325).
+    pub const TRILL: EtherType = EtherType(0x22f3);
+
+    /// An Ethernet frame in another protocol, as in GRE (RFC 1701).
+    pub const TRANSPARENT_ETHERNET_BRIDGING: EtherType = EtherType(0x6558);
+
+    /// Reverse Address Resolution Protocol (RFC 903).
+    pub const RARP: EtherType = EtherType(0x8035);
 
     /// The tag of a customer's VLAN (IEEE 802.1Q section 9.5, C-TAG).
     pub const VLAN_TAGGED_FRAME: EtherType = EtherType(0x8100);
@@ -56,6 +69,15 @@ impl EtherType {
     /// Media access control security (IEEE 802.1AE).
     pub const MACSEC: EtherType = EtherType(0x88e5);
 
+    /// Precision Time Protocol (IEEE 1588).
+    pub const PRECISION_TIME_PROTOCOL: EtherType = EtherType(0x88f7);
+
+    /// Connectivity Fault Management (IEEE 802.1Q section 18).
+    pub const CONNECTIVITY_FAULT_MANAGEMENT: EtherType = EtherType(0x8902);
+
+    /// The Network Service Header (RFC 8300).
+    pub const NETWORK_SERVICE_HEADER: EtherType = EtherType(0x894f);
+
     /// The outer of two tags before the one of a service existed.
     pub const VLAN_DOUBLE_TAGGED_FRAME: EtherType = EtherType(0x9100);
 }
@@ -66,4 +88,13 @@ pub(crate) fn u16_at(bytes: &[u8], place: usize) -> u16
     ensures value { result ≡ number_at place bytes.now }
 {
     u16::from_be_bytes([bytes[place], bytes[place + 1]])
+}
+
+// The two bytes of an EtherType, the high one first.
+pub(crate) fn ether_type_bytes(ether_type: EtherType) -> [u8; 2]
+    ensures value { result ≡ to_be_bytes w16 ether_type }
+    ensures fits { ether_type < 2 ^ 16 }
+{
+    let number = ether_type.0;
+    number.to_be_bytes()
 }

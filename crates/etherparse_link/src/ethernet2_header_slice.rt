@@ -3,6 +3,9 @@
 ghost use Rattle.std.specs.Prelude.{◌≡◌, length};
 
 use crate::ether_type::{EtherType, u16_at};
+use crate::ethernet2_header::{Ethernet2Header, header_of};
+use etherparse::LenSource;
+use etherparse::err::{Layer, LenError};
 
 /// A view of the header of an Ethernet frame (IEEE 802.3 section 3.1.1).
 ///
@@ -28,8 +31,52 @@ pub struct Ethernet2HeaderSlice<'a> {
 }
 
 impl<'a> Ethernet2HeaderSlice<'a> {
-    ghost use Rattle.std.specs.Prelude.{◌≡◌, slice_range};
-    ghost use Rattle.etherparse_link.specs.Bytes.{number_at};
+    ghost use Rattle.std.specs.Prelude.{ℕ, ◌≡◌, List, Result, slice_range};
+    ghost use Rattle.std.specs.Result.{result_map_both};
+    ghost use Rattle.etherparse.specs.Reading.{Views};
+    ghost use Rattle.etherparse_link.specs.Bytes.{IsOnlyHeader, number_at};
+    ghost use Rattle.etherparse_link.specs.Ethernet2Header.{IsEthernet2Layout, RefusesEthernet2};
+
+    /// A view of the header at the front of a slice.
+    ///
+    /// # Errors
+    ///
+    /// A `LenError` if the slice has fewer than 14 bytes.
+    pub fn from_slice(slice: &'a [u8]) -> Result<Ethernet2HeaderSlice<'a>, LenError>
+        ensures views { Views IsEthernet2Layout RefusesEthernet2 slice.now
+            (result_map_both (λ view. view.slice.now) (λ e. e) result) }
+        ensures only { (other : Result (List ℕ) LenError) →
+            Views IsEthernet2Layout RefusesEthernet2 slice.now other →
+            other ≡ result_map_both (λ view. view.slice.now) (λ e. e) result }
+    {
+        if slice.len() < Ethernet2Header::LEN {
+            return Err(LenError {
+                required_len: Ethernet2Header::LEN,
+                len: slice.len(),
+                len_source: LenSource::Slice,
+                layer: Layer::Ethernet2Header,
+                layer_start_offset: 0,
+            });
+        }
+        Ok(Ethernet2HeaderSlice {
+            slice: &slice[..Ethernet2Header::LEN],
+        })
+    }
+
+    /// The bytes of the header, which live as long as the slice that was read.
+    pub fn slice(&self) -> &'a [u8]
+        ensures value { result.now ≡ self.now.slice.now }
+    {
+        self.slice
+    }
+
+    /// The header of these bytes.
+    pub fn to_header(&self) -> Ethernet2Header
+        ensures layout { IsEthernet2Layout result self.now.slice.now }
+        ensures only { IsOnlyHeader IsEthernet2Layout result self.now.slice.now }
+    {
+        header_of(self.slice)
+    }
 
     /// Who receives the frame: bytes 0 to 5.
     pub fn destination(&self) -> [u8; 6]

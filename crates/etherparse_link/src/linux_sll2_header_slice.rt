@@ -4,6 +4,9 @@ ghost use Rattle.std.specs.Prelude.{◌≡◌, length};
 
 use crate::ether_type::{EtherType, u16_at};
 use crate::linux_sll_header_slice::address_in;
+use crate::linux_sll2_header::{LinuxSll2Header, header_of};
+use etherparse::LenSource;
+use etherparse::err::{Layer, LenError};
 
 /// A view of the header of a Linux cooked capture of version 2 (LINKTYPE_LINUX_SLL2).
 ///
@@ -33,9 +36,55 @@ pub struct LinuxSll2HeaderSlice<'a> {
 }
 
 impl<'a> LinuxSll2HeaderSlice<'a> {
-    ghost use Rattle.std.specs.Prelude.{◌≡◌, slice_index, slice_range};
+    ghost use Rattle.std.specs.Prelude.{ℕ, ◌≡◌, List, Result, slice_index, slice_range};
     ghost use Rattle.std.specs.Int.{from_be_bytes, w32};
-    ghost use Rattle.etherparse_link.specs.Bytes.{address_in, number_at};
+    ghost use Rattle.std.specs.Result.{result_map_both};
+    ghost use Rattle.etherparse.specs.Reading.{Views};
+    ghost use Rattle.etherparse_link.specs.Bytes.{IsOnlyHeader, address_in, number_at};
+    ghost use Rattle.etherparse_link.specs.LinuxSll2Header.{IsLinuxSll2Layout, RefusesLinuxSll2};
+
+    /// A view of the header at the front of a slice. Any packet type and any kind of device is
+    /// seen.
+    ///
+    /// # Errors
+    ///
+    /// A `LenError` if the slice has fewer than 20 bytes. Its layer is
+    /// [`Layer::LinuxSllHeader`], that of version 1: no layer has a name for version 2.
+    pub fn from_slice(slice: &'a [u8]) -> Result<LinuxSll2HeaderSlice<'a>, LenError>
+        ensures views { Views IsLinuxSll2Layout RefusesLinuxSll2 slice.now
+            (result_map_both (λ view. view.slice.now) (λ e. e) result) }
+        ensures only { (other : Result (List ℕ) LenError) →
+            Views IsLinuxSll2Layout RefusesLinuxSll2 slice.now other →
+            other ≡ result_map_both (λ view. view.slice.now) (λ e. e) result }
+    {
+        if slice.len() < LinuxSll2Header::LEN {
+            return Err(LenError {
+                required_len: LinuxSll2Header::LEN,
+                len: slice.len(),
+                len_source: LenSource::Slice,
+                layer: Layer::LinuxSllHeader,
+                layer_start_offset: 0,
+            });
+        }
+        Ok(LinuxSll2HeaderSlice {
+            slice: &slice[..LinuxSll2Header::LEN],
+        })
+    }
+
+    /// The bytes of the header, which live as long as the slice that was read.
+    pub fn slice(&self) -> &'a [u8]
+        ensures value { result.now ≡ self.now.slice.now }
+    {
+        self.slice
+    }
+
+    /// The header of these bytes.
+    pub fn to_header(&self) -> LinuxSll2Header
+        ensures layout { IsLinuxSll2Layout result self.now.slice.now }
+        ensures only { IsOnlyHeader IsLinuxSll2Layout result self.now.slice.now }
+    {
+        header_of(self.slice)
+    }
 
     /// What follows the header: bytes 0 and 1.
     pub fn protocol_type(&self) -> EtherType

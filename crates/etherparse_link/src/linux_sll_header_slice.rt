@@ -4,6 +4,9 @@ ghost use Rattle.std.specs.Prelude.{◌≡◌, length};
 ghost use Rattle.etherparse_link.specs.Bytes.{address_in};
 
 use crate::ether_type::{EtherType, u16_at};
+use crate::linux_sll_header::{LinuxSllHeader, header_of};
+use etherparse::LenSource;
+use etherparse::err::{Layer, LenError};
 
 /// A view of the header of a Linux cooked capture (LINKTYPE_LINUX_SLL).
 ///
@@ -30,8 +33,53 @@ pub struct LinuxSllHeaderSlice<'a> {
 }
 
 impl<'a> LinuxSllHeaderSlice<'a> {
-    ghost use Rattle.std.specs.Prelude.{◌≡◌, slice_range};
-    ghost use Rattle.etherparse_link.specs.Bytes.{address_in, number_at};
+    ghost use Rattle.std.specs.Prelude.{ℕ, ◌≡◌, List, Result, slice_range};
+    ghost use Rattle.std.specs.Result.{result_map_both};
+    ghost use Rattle.etherparse.specs.Reading.{Views};
+    ghost use Rattle.etherparse_link.specs.Bytes.{IsOnlyHeader, address_in, number_at};
+    ghost use Rattle.etherparse_link.specs.LinuxSllHeader.{IsLinuxSllLayout, RefusesLinuxSll};
+
+    /// A view of the header at the front of a slice. Any packet type and any kind of device is
+    /// seen.
+    ///
+    /// # Errors
+    ///
+    /// A `LenError` if the slice has fewer than 16 bytes.
+    pub fn from_slice(slice: &'a [u8]) -> Result<LinuxSllHeaderSlice<'a>, LenError>
+        ensures views { Views IsLinuxSllLayout RefusesLinuxSll slice.now
+            (result_map_both (λ view. view.slice.now) (λ e. e) result) }
+        ensures only { (other : Result (List ℕ) LenError) →
+            Views IsLinuxSllLayout RefusesLinuxSll slice.now other →
+            other ≡ result_map_both (λ view. view.slice.now) (λ e. e) result }
+    {
+        if slice.len() < LinuxSllHeader::LEN {
+            return Err(LenError {
+                required_len: LinuxSllHeader::LEN,
+                len: slice.len(),
+                len_source: LenSource::Slice,
+                layer: Layer::LinuxSllHeader,
+                layer_start_offset: 0,
+            });
+        }
+        Ok(LinuxSllHeaderSlice {
+            slice: &slice[..LinuxSllHeader::LEN],
+        })
+    }
+
+    /// The bytes of the header, which live as long as the slice that was read.
+    pub fn slice(&self) -> &'a [u8]
+        ensures value { result.now ≡ self.now.slice.now }
+    {
+        self.slice
+    }
+
+    /// The header of these bytes.
+    pub fn to_header(&self) -> LinuxSllHeader
+        ensures layout { IsLinuxSllLayout result self.now.slice.now }
+        ensures only { IsOnlyHeader IsLinuxSllLayout result self.now.slice.now }
+    {
+        header_of(self.slice)
+    }
 
     /// Whether the packet came in, as 0 to this host, 1 to all, 2 to a group or 3 to another host,
     /// or went out, as 4: bytes 0 and 1.

@@ -3,6 +3,9 @@
 ghost use Rattle.std.specs.Prelude.{◌≡◌, length};
 
 use crate::ether_type::{EtherType, u16_at};
+use crate::single_vlan_header::{SingleVlanHeader, header_of};
+use etherparse::LenSource;
+use etherparse::err::{Layer, LenError};
 
 /// A view of what follows the EtherType of a VLAN tag: the tag control information, and the
 /// EtherType of what is tagged (IEEE 802.1Q sections 9.3 and 9.6).
@@ -28,8 +31,54 @@ pub struct SingleVlanHeaderSlice<'a> {
 }
 
 impl<'a> SingleVlanHeaderSlice<'a> {
-    ghost use Rattle.std.specs.Prelude.{◌≡◌, ◌↔◌, ◌/◌, ◌%◌, ◌^◌, IsTrue, slice_index};
-    ghost use Rattle.etherparse_link.specs.Bytes.{number_at};
+    ghost use Rattle.std.specs.Prelude.{ℕ, ◌≡◌, ◌↔◌, ◌/◌, ◌%◌, ◌^◌, IsTrue, List, Result};
+    ghost use Rattle.std.specs.Prelude.{slice_index};
+    ghost use Rattle.std.specs.Result.{result_map_both};
+    ghost use Rattle.etherparse.specs.Reading.{Views};
+    ghost use Rattle.etherparse_link.specs.Bytes.{IsOnlyHeader, number_at};
+    ghost use Rattle.etherparse_link.specs.SingleVlanHeader.{IsSingleVlanLayout};
+    ghost use Rattle.etherparse_link.specs.SingleVlanHeader.{RefusesSingleVlan};
+
+    /// A view of the header at the front of a slice, which begins after the EtherType of the tag.
+    ///
+    /// # Errors
+    ///
+    /// A `LenError` if the slice has fewer than 4 bytes.
+    pub fn from_slice(slice: &'a [u8]) -> Result<SingleVlanHeaderSlice<'a>, LenError>
+        ensures views { Views IsSingleVlanLayout RefusesSingleVlan slice.now
+            (result_map_both (λ view. view.slice.now) (λ e. e) result) }
+        ensures only { (other : Result (List ℕ) LenError) →
+            Views IsSingleVlanLayout RefusesSingleVlan slice.now other →
+            other ≡ result_map_both (λ view. view.slice.now) (λ e. e) result }
+    {
+        if slice.len() < SingleVlanHeader::LEN {
+            return Err(LenError {
+                required_len: SingleVlanHeader::LEN,
+                len: slice.len(),
+                len_source: LenSource::Slice,
+                layer: Layer::VlanHeader,
+                layer_start_offset: 0,
+            });
+        }
+        Ok(SingleVlanHeaderSlice {
+            slice: &slice[..SingleVlanHeader::LEN],
+        })
+    }
+
+    /// The 4 bytes, which live as long as the slice that was read.
+    pub fn slice(&self) -> &'a [u8]
+        ensures value { result.now ≡ self.now.slice.now }
+    {
+        self.slice
+    }
+
+    /// The header of these bytes.
+    pub fn to_header(&self) -> SingleVlanHeader
+        ensures layout { IsSingleVlanLayout result self.now.slice.now }
+        ensures only { IsOnlyHeader IsSingleVlanLayout result self.now.slice.now }
+    {
+        header_of(self.slice)
+    }
 
     /// The priority, 0 to 7: the upper 3 bits of byte 0.
     pub fn priority_code_point(&self) -> u8

@@ -1,0 +1,8 @@
+use Rattle.etherparse_link.proofs.Ethernet2Layout.{tells_headers}
+use Rattle.etherparse_link.proofs.Headers.{front_read_once}
+use Rattle.etherparse_link.specs.Ethernet2Header.{IsEthernet2Layout, RefusesEthernet2}
+use Rattle.etherparse_link.proofs.ethernet2_header.Ethernet2Header.from_slice.Goals as goal
+
+pub returns-clause-only : goal.returns-clause-only
+returns-clause-only c = let layout = c.to_header-header.ensures.layout in
+    front_read_once IsEthernet2Layout RefusesEthernet2 tells_headers 14 _ _ _ c.in_ok-from_slice.ensures.views layout layout.len

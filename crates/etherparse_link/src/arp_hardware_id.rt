@@ -1,0 +1,125 @@
+//! The numbers of kinds of hardware.
+
+ghost use Rattle.std.specs.Prelude.{ℕ};
+
+use std::marker::Model;
+
+/// A kind of hardware: in ARP the hardware type (RFC 826, `ar$hrd`), in a Linux cooked capture the
+/// kind of the device. Any number can be made, as in `ArpHardwareId(7)`.
+///
+/// The constants have the names and numbers of ARPHRD in Linux's `if_arp.h`. Those up to 255 are
+/// IANA's hardware types too; those above are Linux's own, and stand in no ARP packet.
+///
+/// Equality, order and hash are those of the number.
+#[derive(Clone, Copy, Debug, PartialEq, Eq, PartialOrd, Ord, Hash)]
+pub struct ArpHardwareId(pub u16);
+
+/// A contract sees the number itself.
+impl Model for ArpHardwareId {
+    ghost Value = { ℕ };
+
+    ghost view = { λ id. id.0 };
+
+    ghost inverse = { λ number. record { 0 = number } };
+}
+
+impl ArpHardwareId {
+    /// `NETROM`: NET/ROM over AX.25 (0).
+    pub const NETROM: ArpHardwareId = ArpHardwareId(0);
+
+    /// `ETHER`: Ethernet (1).
+    pub const ETHERNET: ArpHardwareId = ArpHardwareId(1);
+
+    /// `EETHER`: experimental Ethernet (2).
+    pub const EETHER: ArpHardwareId = ArpHardwareId(2);
+
+    /// `AX25`: AX.25 level 2 (3).
+    pub const AX25: ArpHardwareId = ArpHardwareId(3);
+
+    /// `IEEE802`: networks of IEEE 802.2 (6).
+    pub const IEEE802: ArpHardwareId = ArpHardwareId(6);
+
+    /// `ARCNET`: ARCnet (7).
+    pub const ARCNET: ArpHardwareId = ArpHardwareId(7);
+
+    /// `DLCI`: a connection of frame relay (15).
+    pub const DLCI: ArpHardwareId = ArpHardwareId(15);
+
+    /// `ATM`: Asynchronous Transfer Mode (19).
+    pub const ATM: ArpHardwareId = ArpHardwareId(19);
+
+    /// `IEEE1394`: IEEE 1394 (24).
+    pub const IEEE1394: ArpHardwareId = ArpHardwareId(24);
+
+    /// `EUI64`: addresses of 64 bits (27).
+    pub const EUI64: ArpHardwareId = ArpHardwareId(27);
+
+    /// `INFINIBAND`: InfiniBand (32).
+    pub const INFINIBAND: ArpHardwareId = ArpHardwareId(32);
+
+    /// `SLIP`: IP over a serial line (256).
+    pub const SLIP: ArpHardwareId = ArpHardwareId(256);
+
+    /// `CAN`: Controller Area Network (280).
+    pub const CAN: ArpHardwareId = ArpHardwareId(280);
+
+    /// `PPP`: the Point-to-Point Protocol (512).
+    pub const PPP: ArpHardwareId = ArpHardwareId(512);
+
+    /// `HDLC`, also `CISCO`: Cisco's HDLC (513).
+    pub const HDLC: ArpHardwareId = ArpHardwareId(513);
+
+    /// `RAWIP`: IP packets without a link header (519).
+    pub const RAWIP: ArpHardwareId = ArpHardwareId(519);
+
+    /// `TUNNEL`: IPv4 in an IP tunnel (768).
+    pub const TUNNEL: ArpHardwareId = ArpHardwareId(768);
+
+    /// `TUNNEL6`: an IPv6 tunnel (769).
+    pub const TUNNEL6: ArpHardwareId = ArpHardwareId(769);
+
+    /// `FRAD`: a frame relay access device (770).
+    pub const FRAD: ArpHardwareId = ArpHardwareId(770);
+
+    /// `LOOPBACK`: the loopback device (772).
+    pub const LOOPBACK: ArpHardwareId = ArpHardwareId(772);
+
+    /// `FDDI`: the Fiber Distributed Data Interface (774).
+    pub const FDDI: ArpHardwareId = ArpHardwareId(774);
+
+    /// `SIT`: IPv6 in IPv4 (776).
+    pub const SIT: ArpHardwareId = ArpHardwareId(776);
+
+    /// `IPGRE`: GRE over IPv4 (778).
+    pub const IPGRE: ArpHardwareId = ArpHardwareId(778);
+
+    /// `IEEE80211`: IEEE 802.11 (801).
+    pub const IEEE80211: ArpHardwareId = ArpHardwareId(801);
+
+    /// `IEEE80211_PRISM`: IEEE 802.11 with a Prism header (802).
+    pub const IEEE80211_PRISM: ArpHardwareId = ArpHardwareId(802);
+
+    /// `IEEE80211_RADIOTAP`: IEEE 802.11 with a radiotap header (803).
+    pub const IEEE80211_RADIOTAP: ArpHardwareId = ArpHardwareId(803);
+
+    /// `IEEE802154`: IEEE 802.15.4 (804).
+    pub const IEEE802154: ArpHardwareId = ArpHardwareId(804);
+
+    /// `IP6GRE`: GRE over IPv6 (823).
+    pub const IP6GRE: ArpHardwareId = ArpHardwareId(823);
+
+    /// `NETLINK`: messages of Linux's netlink (824).
+    pub const NETLINK: ArpHardwareId = ArpHardwareId(824);
+
+    /// `6LOWPAN`: IPv6 over low-power wireless networks (825).
+    pub const IPV6_LOWPAN: ArpHardwareId = ArpHardwareId(825);
+
+    /// `VSOCKMON`: messages of virtual sockets (826).
+    pub const VSOCKMON: ArpHardwareId = ArpHardwareId(826);
+
+    /// `NONE`: a device without link headers (65534).
+    pub const NONE: ArpHardwareId = ArpHardwareId(0xfffe);
+
+    /// `VOID`: not known (65535).
+    pub const VOID: ArpHardwareId = ArpHardwareId(0xffff);
+}

@@ -1,0 +1,37 @@
+ghost use Rattle.std.specs.Prelude.{Some};
+ghost use Rattle.etherparse_link.specs.DoubleVlanErrors.{header_error_text};
+
+use crate::EtherType;
+use std::error::Error;
+use std::fmt;
+
+/// Why a slice of sufficient length does not begin with two VLAN tags.
+#[derive(Clone, Copy, Debug, PartialEq, Eq, Hash)]
+pub enum HeaderError {
+    /// What follows the outer tag is no tag.
+    NonVlanEtherType {
+        /// The EtherType of the outer tag, which is not that of a tag.
+        unexpected_ether_type: EtherType,
+    },
+}
+
+/// Says which EtherType was found, in decimal digits.
+impl fmt::Display for HeaderError {
+    ghost output = { λ e. Some (header_error_text e) };
+
+    fn fmt<W: fmt::Write>(&self, f: &mut fmt::Formatter<W>) -> fmt::Result {
+        match self {
+            HeaderError::NonVlanEtherType {
+                unexpected_ether_type,
+            } => {
+                let number = unexpected_ether_type.0;
+                write!(
+                    f,
+                    "Double VLAN Error: The outer tag has the ether type '{number}', which is that of no VLAN tag."
+                )
+            }
+        }
+    }
+}
+
+impl Error for HeaderError {}

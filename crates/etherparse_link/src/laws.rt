@@ -1,0 +1,129 @@
+//! What the derived `==` and `cmp` say, each as the clause of one small function. Nothing calls them:
+//! they are there to be proved.
+
+ghost use Rattle.std.specs.Prelude.{◌≡◌, ◌↔◌, IsTrue};
+ghost use Rattle.std.specs.Ordering.{nat_cmp};
+
+use crate::err::arp::{ArpEthIpv4FromError, ArpHwAddrError, ArpNewError, ArpProtoAddrError};
+use crate::err::double_vlan::{HeaderError, HeaderSliceError};
+use crate::{
+    ArpEthIpv4Packet, ArpHardwareId, ArpOperation, ArpPacket, DoubleVlanHeader, EtherType,
+    Ethernet2Header, LinuxSll2Header, LinuxSllHeader, LinuxSllPacketType, SingleVlanHeader, VlanId,
+    VlanPcp,
+};
+use std::cmp::Ordering;
+
+fn arp_eth_ipv4_packet_equality(a: &ArpEthIpv4Packet, b: &ArpEthIpv4Packet) -> bool
+    ensures same_value { IsTrue result ↔ (a.now ≡ b.now) }
+{
+    a == b
+}
+
+fn arp_packet_equality(a: &ArpPacket, b: &ArpPacket) -> bool
+    ensures same_value { IsTrue result ↔ (a.now ≡ b.now) }
+{
+    a == b
+}
+
+fn double_vlan_header_equality(a: &DoubleVlanHeader, b: &DoubleVlanHeader) -> bool
+    ensures same_value { IsTrue result ↔ (a.now ≡ b.now) }
+{
+    a == b
+}
+
+fn ethernet2_header_equality(a: &Ethernet2Header, b: &Ethernet2Header) -> bool
+    ensures same_value { IsTrue result ↔ (a.now ≡ b.now) }
+{
+    a == b
+}
+
+fn linux_sll_header_equality(a: &LinuxSllHeader, b: &LinuxSllHeader) -> bool
+    ensures same_value { IsTrue result ↔ (a.now ≡ b.now) }
+{
+    a == b
+}
+
+fn linux_sll2_header_equality(a: &LinuxSll2Header, b: &LinuxSll2Header) -> bool
+    ensures same_value { IsTrue result ↔ (a.now ≡ b.now) }
+{
+    a == b
+}
+
+fn single_vlan_header_equality(a: &SingleVlanHeader, b: &SingleVlanHeader) -> bool
+    ensures same_value { IsTrue result ↔ (a.now ≡ b.now) }
+{
+    a == b
+}
+
+// Numbers have the order of the numbers.
+fn arp_hardware_id_order(a: &ArpHardwareId, b: &ArpHardwareId) -> Ordering
+    ensures by_number { result ≡ nat_cmp a.now b.now }
+{
+    a.cmp(b)
+}
+
+fn arp_operation_order(a: &ArpOperation, b: &ArpOperation) -> Ordering
+    ensures by_number { result ≡ nat_cmp a.now b.now }
+{
+    a.cmp(b)
+}
+
+fn ether_type_order(a: &EtherType, b: &EtherType) -> Ordering
+    ensures by_number { result ≡ nat_cmp a.now b.now }
+{
+    a.cmp(b)
+}
+
+fn linux_sll_packet_type_order(a: &LinuxSllPacketType, b: &LinuxSllPacketType) -> Ordering
+    ensures by_number { result ≡ nat_cmp a.now b.now }
+{
+    a.cmp(b)
+}
+
+fn vlan_id_order(a: &VlanId, b: &VlanId) -> Ordering
+    ensures by_number { result ≡ nat_cmp a.now b.now }
+{
+    a.cmp(b)
+}
+
+fn vlan_pcp_order(a: &VlanPcp, b: &VlanPcp) -> Ordering
+    ensures by_number { result ≡ nat_cmp a.now b.now }
+{
+    a.cmp(b)
+}
+
+fn double_vlan_header_error_equality(a: &HeaderError, b: &HeaderError) -> bool
+    ensures same_value { IsTrue result ↔ (a.now ≡ b.now) }
+{
+    a == b
+}
+
+fn double_vlan_header_slice_error_equality(a: &HeaderSliceError, b: &HeaderSliceError) -> bool
+    ensures same_value { IsTrue result ↔ (a.now ≡ b.now) }
+{
+    a == b
+}
+
+fn arp_eth_ipv4_from_error_equality(a: &ArpEthIpv4FromError, b: &ArpEthIpv4FromError) -> bool
+    ensures same_value { IsTrue result ↔ (a.now ≡ b.now) }
+{
+    a == b
+}
+
+fn arp_hw_addr_error_equality(a: &ArpHwAddrError, b: &ArpHwAddrError) -> bool
+    ensures same_value { IsTrue result ↔ (a.now ≡ b.now) }
+{
+    a == b
+}
+
+fn arp_proto_addr_error_equality(a: &ArpProtoAddrError, b: &ArpProtoAddrError) -> bool
+    ensures same_value { IsTrue result ↔ (a.now ≡ b.now) }
+{
+    a == b
+}
+
+fn arp_new_error_equality(a: &ArpNewError, b: &ArpNewError) -> bool
+    ensures same_value { IsTrue result ↔ (a.now ≡ b.now) }
+{
+    a == b
+}

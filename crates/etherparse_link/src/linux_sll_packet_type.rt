@@ -1,0 +1,58 @@
+//! Where a packet of a Linux cooked capture went.
+
+ghost use Rattle.std.specs.Prelude.{ℕ, ◌≡◌};
+
+use std::marker::Model;
+
+/// Where a packet of a Linux cooked capture went, by the numbers PACKET of Linux's `if_packet.h`.
+///
+/// Any number can be made and is read, as in `LinuxSllPacketType(9)`: the format leaves it to the
+/// kernel that captures, which may have more than are named here.
+///
+/// Equality, order and hash are those of the number.
+#[derive(Clone, Copy, Debug, PartialEq, Eq, PartialOrd, Ord, Hash)]
+pub struct LinuxSllPacketType(pub u16);
+
+/// A contract sees the number itself.
+impl Model for LinuxSllPacketType {
+    ghost Value = { ℕ };
+
+    ghost view = { λ packet_type. packet_type.0 };
+
+    ghost inverse = { λ number. record { 0 = number } };
+}
+
+impl LinuxSllPacketType {
+    /// To this host (0).
+    pub const HOST: LinuxSllPacketType = LinuxSllPacketType(0);
+
+    /// To all hosts (1).
+    pub const BROADCAST: LinuxSllPacketType = LinuxSllPacketType(1);
+
+    /// To a group (2).
+    pub const MULTICAST: LinuxSllPacketType = LinuxSllPacketType(2);
+
+    /// To another host (3).
+    pub const OTHERHOST: LinuxSllPacketType = LinuxSllPacketType(3);
+
+    /// Sent by this host (4).
+    pub const OUTGOING: LinuxSllPacketType = LinuxSllPacketType(4);
+
+    /// Looped back in the kernel, a broadcast or to a group (5).
+    pub const LOOPBACK: LinuxSllPacketType = LinuxSllPacketType(5);
+
+    /// To a process (6).
+    pub const USER: LinuxSllPacketType = LinuxSllPacketType(6);
+
+    /// To the kernel (7).
+    pub const KERNEL: LinuxSllPacketType = LinuxSllPacketType(7);
+}
+
+/// The packet type of version 2, which has one byte for it.
+impl From<u8> for LinuxSllPacketType {
+    ghost from_gives = { λ number packet_type. packet_type ≡ number };
+
+    fn from(value: u8) -> LinuxSllPacketType {
+        LinuxSllPacketType(u16::from(value))
+    }
+}
