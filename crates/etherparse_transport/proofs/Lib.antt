@@ -1,1 +1,2 @@
+mod Checksums
 mod UdpLayout

@@ -1,2 +1,5 @@
 pub mod Tcp
+pub mod TransportChecksum
 pub mod Udp
+pub mod UdpChecksum
+pub mod UdpView
