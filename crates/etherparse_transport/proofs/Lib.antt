@@ -1,1 +1,4 @@
+mod Checksums
+mod TcpLayout
+mod TcpReading
 mod UdpLayout
