@@ -39,7 +39,7 @@ for crate in etherparse_base etherparse_fields etherparse etherparse_net packet_
   fi
   grep "^$crate[: ]" "$here/../../crates.txt"
 done > "$room/crates.txt"
-echo 'frames staticlib: etherparse packet_links packet_parts packet' >> "$room/crates.txt"
+echo 'frames staticlib: etherparse etherparse_link packet_links packet_parts packet' >> "$room/crates.txt"
 mkdir -p "$room/crates/frames/src"
 cp "$here/frames.rt.txt" "$room/crates/frames/src/lib.rt" # the gate wants no other Rattle file beside the crates
 (cd "$room/crates/frames" && rt lib "--cpu=$level") > "$out/frames.txt" 2>&1 || {
