@@ -1,18 +1,14 @@
 -- The errors of ARP packets: their texts.
 use Rattle.std.specs.Prelude.{ℕ, List, ◌++◌, codes}
 use Rattle.std.specs.Fmt.{decimal}
-use Rattle.etherparse_link.specs.declared.err.arp.arp_eth_ipv4_from_error.ArpEthIpv4FromError.{ArpEthIpv4FromError}
-use Rattle.etherparse_link.specs.declared.err.arp.arp_eth_ipv4_from_error.ArpEthIpv4FromError.TheVariants
-    as error
-use Rattle.etherparse_link.specs.declared.err.arp.arp_hw_addr_error.ArpHwAddrError.{ArpHwAddrError}
-use Rattle.etherparse_link.specs.declared.err.arp.arp_hw_addr_error.ArpHwAddrError.TheVariants
-    as hardware
-use Rattle.etherparse_link.specs.declared.err.arp.arp_new_error.ArpNewError.{ArpNewError}
-use Rattle.etherparse_link.specs.declared.err.arp.arp_new_error.ArpNewError.TheVariants as new
-use
-    Rattle.etherparse_link.specs.declared.err.arp.arp_proto_addr_error.ArpProtoAddrError.{ArpProtoAddrError}
-use Rattle.etherparse_link.specs.declared.err.arp.arp_proto_addr_error.ArpProtoAddrError.TheVariants
-    as protocol
+use Rattle.etherparse_link.specs.declared.err.arp.ArpEthIpv4FromError.{ArpEthIpv4FromError}
+use Rattle.etherparse_link.specs.declared.err.arp.ArpEthIpv4FromError.TheVariants as error
+use Rattle.etherparse_link.specs.declared.err.arp.ArpHwAddrError.{ArpHwAddrError}
+use Rattle.etherparse_link.specs.declared.err.arp.ArpHwAddrError.TheVariants as hardware
+use Rattle.etherparse_link.specs.declared.err.arp.ArpNewError.{ArpNewError}
+use Rattle.etherparse_link.specs.declared.err.arp.ArpNewError.TheVariants as new
+use Rattle.etherparse_link.specs.declared.err.arp.ArpProtoAddrError.{ArpProtoAddrError}
+use Rattle.etherparse_link.specs.declared.err.arp.ArpProtoAddrError.TheVariants as protocol
 
 -- the text of an ARP packet that is not of Ethernet and IPv4
 abbrev pub arp_eth_ipv4_from_error_text : ArpEthIpv4FromError → List ℕ

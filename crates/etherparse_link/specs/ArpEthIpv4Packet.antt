@@ -3,9 +3,8 @@ use Rattle.std.specs.Prelude.{ℕ, ◌≡◌, List, length, Result, Ok, Err, sli
 use Rattle.etherparse.specs.Bytes.{IsBytes}
 use Rattle.etherparse_link.specs.Bytes.{number_at}
 use Rattle.etherparse_link.specs.declared.arp_eth_ipv4_packet.ArpEthIpv4Packet.{ArpEthIpv4Packet}
-use Rattle.etherparse_link.specs.declared.err.arp.arp_eth_ipv4_from_error.ArpEthIpv4FromError.{ArpEthIpv4FromError}
-use Rattle.etherparse_link.specs.declared.err.arp.arp_eth_ipv4_from_error.ArpEthIpv4FromError.TheVariants
-    as error
+use Rattle.etherparse_link.specs.declared.err.arp.ArpEthIpv4FromError.{ArpEthIpv4FromError}
+use Rattle.etherparse_link.specs.declared.err.arp.ArpEthIpv4FromError.TheVariants as error
 
 -- what an ARP packet of Ethernet and IPv4 has: the hardware type of Ethernet, the EtherType of
 -- IPv4, and the lengths of their addresses

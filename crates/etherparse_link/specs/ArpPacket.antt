@@ -10,12 +10,12 @@ use Rattle.etherparse_link.specs.ArpPacketSlice.{sender_hw_addr_in, sender_proto
 use Rattle.etherparse_link.specs.ArpPacketSlice.{target_hw_addr_in, target_protocol_addr_in}
 use Rattle.etherparse_link.specs.Bytes.{number_at}
 use Rattle.etherparse_link.specs.declared.arp_packet.ArpPacket.{ArpPacket}
-use Rattle.etherparse_link.specs.declared.err.arp.arp_hw_addr_error.ArpHwAddrError.{ArpHwAddrError}
-use Rattle.etherparse_link.specs.declared.err.arp.arp_hw_addr_error.ArpHwAddrError.TheVariants as hardware
-use Rattle.etherparse_link.specs.declared.err.arp.arp_new_error.ArpNewError.{ArpNewError}
-use Rattle.etherparse_link.specs.declared.err.arp.arp_new_error.ArpNewError.TheVariants as new
-use Rattle.etherparse_link.specs.declared.err.arp.arp_proto_addr_error.ArpProtoAddrError.{ArpProtoAddrError}
-use Rattle.etherparse_link.specs.declared.err.arp.arp_proto_addr_error.ArpProtoAddrError.TheVariants as protocol
+use Rattle.etherparse_link.specs.declared.err.arp.ArpHwAddrError.{ArpHwAddrError}
+use Rattle.etherparse_link.specs.declared.err.arp.ArpHwAddrError.TheVariants as hardware
+use Rattle.etherparse_link.specs.declared.err.arp.ArpNewError.{ArpNewError}
+use Rattle.etherparse_link.specs.declared.err.arp.ArpNewError.TheVariants as new
+use Rattle.etherparse_link.specs.declared.err.arp.ArpProtoAddrError.{ArpProtoAddrError}
+use Rattle.etherparse_link.specs.declared.err.arp.ArpProtoAddrError.TheVariants as protocol
 
 -- the addresses of a packet
 abbrev pub sender_hw_addr_of : ArpPacket → List ℕ

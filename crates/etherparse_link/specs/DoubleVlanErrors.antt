@@ -2,14 +2,10 @@
 use Rattle.std.specs.Prelude.{ℕ, List, ◌++◌, codes}
 use Rattle.std.specs.Fmt.{decimal}
 use Rattle.etherparse.specs.LenError.{len_error_text}
-use Rattle.etherparse_link.specs.declared.err.double_vlan.header_error.HeaderError.{HeaderError}
-use Rattle.etherparse_link.specs.declared.err.double_vlan.header_error.HeaderError.TheVariants
-    as content
-use Rattle.etherparse_link.specs.declared.err.double_vlan.header_slice_error.HeaderSliceError
-    as error
-use
-    Rattle.etherparse_link.specs.declared.err.double_vlan.header_slice_error.HeaderSliceError.TheVariants
-    as slice
+use Rattle.etherparse_link.specs.declared.err.double_vlan.HeaderError.{HeaderError}
+use Rattle.etherparse_link.specs.declared.err.double_vlan.HeaderError.TheVariants as content
+use Rattle.etherparse_link.specs.declared.err.double_vlan.HeaderSliceError as error
+use Rattle.etherparse_link.specs.declared.err.double_vlan.HeaderSliceError.TheVariants as slice
 
 -- the text of an error of content
 abbrev pub header_error_text : HeaderError → List ℕ

@@ -5,13 +5,9 @@ use Rattle.etherparse.specs.declared.err.Layer.TheVariants as layer
 use Rattle.etherparse_link.specs.Bytes.{number_at}
 use Rattle.etherparse_link.specs.SingleVlanHeader.{IsSingleVlanLayout}
 use Rattle.etherparse_link.specs.declared.double_vlan_header.DoubleVlanHeader.{DoubleVlanHeader}
-use Rattle.etherparse_link.specs.declared.err.double_vlan.header_error.HeaderError.TheVariants
-    as content
-use Rattle.etherparse_link.specs.declared.err.double_vlan.header_slice_error.HeaderSliceError
-    as error
-use
-    Rattle.etherparse_link.specs.declared.err.double_vlan.header_slice_error.HeaderSliceError.TheVariants
-    as slice
+use Rattle.etherparse_link.specs.declared.err.double_vlan.HeaderError.TheVariants as content
+use Rattle.etherparse_link.specs.declared.err.double_vlan.HeaderSliceError as error
+use Rattle.etherparse_link.specs.declared.err.double_vlan.HeaderSliceError.TheVariants as slice
 
 -- the EtherTypes of tags (IEEE 802.1Q section 9.5): of a customer's VLAN, of a service's, and the
 -- one that the outer of two tags had before that of a service existed

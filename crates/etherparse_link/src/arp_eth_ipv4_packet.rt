@@ -1,15 +1,16 @@
 //! An ARP packet of Ethernet and IPv4 (RFC 826).
 
-ghost use Rattle.std.specs.Prelude.{◌≡◌, ◌<◌, ◌^◌, ◌∷◌, ◌++◌, length};
+ghost use Rattle.std.specs.Prelude.{ℕ, ◌≡◌, ◌<◌, ◌^◌, List, ◌∷◌, ◌++◌, length};
 ghost use Rattle.std.specs.Int.{to_be_bytes, w16};
 ghost use Rattle.etherparse.specs.Bytes.{IsBytes};
 ghost use Rattle.etherparse_link.specs.ArpEthIpv4Packet.{HasIpv4Length, HasMacLength};
 ghost use Rattle.etherparse_link.specs.ArpEthIpv4Packet.{IsArpEthIpv4Layout, IsEthernet};
 ghost use Rattle.etherparse_link.specs.ArpEthIpv4Packet.{IsOfIpv4, TakesEthIpv4};
+ghost use Rattle.etherparse_link.specs.ArpPacket.{IsArpLayout};
 
 use crate::err::arp::ArpEthIpv4FromError;
 use crate::ether_type::u16_at;
-use crate::{ArpHardwareId, ArpOperation, ArpPacketSlice, EtherType};
+use crate::{ArpHardwareId, ArpOperation, ArpPacket, ArpPacketSlice, EtherType, arp_packet};
 
 /// An ARP packet of Ethernet and IPv4 (RFC 826), as [`ArpPacketSlice`] draws it: the hardware type
 /// is 1, the protocol type 0x0800, and the addresses have 6 and 4 bytes.
@@ -30,6 +31,9 @@ use crate::{ArpHardwareId, ArpOperation, ArpPacketSlice, EtherType};
 /// assert!(rt; bytes[14..] == [192, 168, 0, 1, 0, 0, 0, 0, 0, 0, 192, 168, 0, 2]);
 /// let view = ArpPacketSlice::from_slice(&bytes)?;
 /// assert!(rt; ArpEthIpv4Packet::try_from(view) == Ok(request));
+/// let packet = ArpPacket::from(request);
+/// assert!(rt; packet.to_bytes().as_slice() == bytes.as_slice());
+/// assert!(rt; ArpEthIpv4Packet::try_from(packet) == Ok(request));
 /// ```
 #[derive(Clone, Copy, Debug, PartialEq, Eq)]
 pub struct ArpEthIpv4Packet {
@@ -99,6 +103,36 @@ impl<'a> TryFrom<ArpPacketSlice<'a>> for ArpEthIpv4Packet {
             return Err(ArpEthIpv4FromError::NonMatchingProtoAddrSize(view.proto_addr_size()));
         }
         Ok(packet_of(view.slice()))
+    }
+}
+
+/// The packet, if it is of Ethernet and IPv4.
+///
+/// # Errors
+///
+/// Those of the conversion of an [`ArpPacketSlice`].
+impl TryFrom<ArpPacket> for ArpEthIpv4Packet {
+    type Error = ArpEthIpv4FromError;
+
+    ghost try_from_gives = { λ packet result. (bytes : List ℕ) → IsArpLayout packet bytes →
+        TakesEthIpv4 bytes result };
+
+    fn try_from(packet: ArpPacket) -> Result<ArpEthIpv4Packet, ArpEthIpv4FromError> {
+        let bytes = packet.to_bytes();
+        let view = ArpPacketSlice {
+            slice: bytes.as_slice(),
+        };
+        ArpEthIpv4Packet::try_from(view)
+    }
+}
+
+/// The packet that has the same bytes.
+impl From<ArpEthIpv4Packet> for ArpPacket {
+    ghost from_gives = { λ packet result. (bytes : List ℕ) → IsArpEthIpv4Layout packet bytes →
+        IsArpLayout result bytes };
+
+    fn from(value: ArpEthIpv4Packet) -> ArpPacket {
+        arp_packet::packet_of(&value.to_bytes())
     }
 }
 

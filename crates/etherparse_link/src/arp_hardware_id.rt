@@ -1,6 +1,6 @@
 //! The numbers of kinds of hardware.
 
-ghost use Rattle.std.specs.Prelude.{ℕ};
+ghost use Rattle.std.specs.Prelude.{ℕ, ◌≡◌};
 
 use std::marker::Model;
 
@@ -11,6 +11,13 @@ use std::marker::Model;
 /// IANA's hardware types too; those above are Linux's own, and stand in no ARP packet.
 ///
 /// Equality, order and hash are those of the number.
+///
+/// # Example
+///
+/// ```
+/// assert!(rt; ArpHardwareId(1) == ArpHardwareId::ETHERNET);
+/// assert!(rt; ArpHardwareId::LOOPBACK.0 == 772);
+/// ```
 #[derive(Clone, Copy, Debug, PartialEq, Eq, PartialOrd, Ord, Hash)]
 pub struct ArpHardwareId(pub u16);
 
@@ -122,4 +129,20 @@ impl ArpHardwareId {
 
     /// `VOID`: not known (65535).
     pub const VOID: ArpHardwareId = ArpHardwareId(0xffff);
+}
+
+impl From<u16> for ArpHardwareId {
+    ghost from_gives = { λ number id. id ≡ number };
+
+    fn from(value: u16) -> ArpHardwareId {
+        ArpHardwareId(value)
+    }
+}
+
+impl From<ArpHardwareId> for u16 {
+    ghost from_gives = { λ id number. number ≡ id };
+
+    fn from(value: ArpHardwareId) -> u16 {
+        value.0
+    }
 }

@@ -1,6 +1,6 @@
 //! What an ARP packet asks or tells.
 
-ghost use Rattle.std.specs.Prelude.{ℕ};
+ghost use Rattle.std.specs.Prelude.{ℕ, ◌≡◌};
 
 use std::marker::Model;
 
@@ -8,6 +8,13 @@ use std::marker::Model;
 /// `ArpOperation(8)`; IANA's registry of ARP parameters has the others.
 ///
 /// Equality, order and hash are those of the number.
+///
+/// # Example
+///
+/// ```
+/// assert!(rt; ArpOperation(1) == ArpOperation::REQUEST);
+/// assert!(rt; ArpOperation::REPLY.0 == 2);
+/// ```
 #[derive(Clone, Copy, Debug, PartialEq, Eq, PartialOrd, Ord, Hash)]
 pub struct ArpOperation(pub u16);
 
@@ -26,4 +33,20 @@ impl ArpOperation {
 
     /// Tells it (RFC 826, `ares_op$REPLY`).
     pub const REPLY: ArpOperation = ArpOperation(2);
+}
+
+impl From<u16> for ArpOperation {
+    ghost from_gives = { λ number operation. operation ≡ number };
+
+    fn from(value: u16) -> ArpOperation {
+        ArpOperation(value)
+    }
+}
+
+impl From<ArpOperation> for u16 {
+    ghost from_gives = { λ operation number. number ≡ operation };
+
+    fn from(value: ArpOperation) -> u16 {
+        value.0
+    }
 }

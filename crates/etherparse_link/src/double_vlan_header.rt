@@ -74,10 +74,10 @@ impl DoubleVlanHeader {
     /// assert!(rt; tags.inner.ether_type == EtherType::IPV6 && rest == [0x60].as_slice());
     /// // A single tag before an IPv4 packet.
     /// let single = [0, 100, 8, 0, 0x45, 0, 0, 20];
-    /// let refused = HeaderError::NonVlanEtherType {
+    /// let refused = HeaderSliceError::Content(HeaderError::NonVlanEtherType {
     ///     unexpected_ether_type: EtherType::IPV4,
-    /// };
-    /// assert!(rt; DoubleVlanHeader::from_slice(&single) == Err(HeaderSliceError::Content(refused)));
+    /// });
+    /// assert!(rt; DoubleVlanHeader::from_slice(&single) == Err(refused));
     /// ```
     pub fn from_slice(slice: &[u8]) -> Result<(DoubleVlanHeader, &[u8]), HeaderSliceError>
         ensures reads { Reads IsDoubleVlanLayout RefusesDoubleVlan slice.now

@@ -8,6 +8,12 @@ use std::marker::Model;
 
 /// What the bytes after a header are. Up to 1500 it is none: in Ethernet a length (IEEE 802.3
 /// section 3.2.6), in a Linux cooked capture a number of Linux's own.
+///
+/// # Example
+///
+/// ```
+/// assert!(rt; EtherType(0x86dd) == EtherType::IPV6);
+/// ```
 #[derive(Clone, Copy, Debug, PartialEq, Eq, PartialOrd, Ord, Hash)]
 pub struct EtherType(pub u16);
 
@@ -80,6 +86,22 @@ impl EtherType {
 
     /// The outer of two tags before the one of a service existed.
     pub const VLAN_DOUBLE_TAGGED_FRAME: EtherType = EtherType(0x9100);
+}
+
+impl From<u16> for EtherType {
+    ghost from_gives = { λ number ether_type. ether_type ≡ number };
+
+    fn from(value: u16) -> EtherType {
+        EtherType(value)
+    }
+}
+
+impl From<EtherType> for u16 {
+    ghost from_gives = { λ ether_type number. number ≡ ether_type };
+
+    fn from(value: EtherType) -> u16 {
+        value.0
+    }
 }
 
 // Two bytes at a place as a number, the high byte first.

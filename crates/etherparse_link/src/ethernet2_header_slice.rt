@@ -14,10 +14,7 @@ use etherparse::err::{Layer, LenError};
 /// ```
 /// // A frame from 2:0:0:0:0:1 to 2:0:0:0:0:2 with the first bytes of an ARP packet.
 /// let frame = [2, 0, 0, 0, 0, 2, 2, 0, 0, 0, 0, 1, 8, 6, 0, 1];
-/// let layers = LinkLayers::from_link_type(LinkType::Ethernet2, &frame)?;
-/// let Some(LinkSlice::Ethernet2(header)) = layers.link else {
-///     return Err(Fail::from("no header"));
-/// };
+/// let header = Ethernet2HeaderSlice::from_slice(&frame)?;
 /// assert!(rt; header.destination() == [2, 0, 0, 0, 0, 2]);
 /// assert!(rt; header.source() == [2, 0, 0, 0, 0, 1]);
 /// assert!(rt; header.ether_type() == EtherType::ARP);

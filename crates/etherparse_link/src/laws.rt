@@ -1,16 +1,18 @@
-//! What the derived `==` and `cmp` say, each as the clause of one small function. Nothing calls them:
-//! they are there to be proved.
+//! What the derived `==`, `cmp` and `clone` say, each as the clause of one small function. Nothing
+//! calls them: they are there to be proved.
 
-ghost use Rattle.std.specs.Prelude.{◌≡◌, ◌↔◌, IsTrue};
+ghost use Rattle.std.specs.Prelude.{◌≡◌, ◌↔◌, IsTrue, Ok};
 ghost use Rattle.std.specs.Ordering.{nat_cmp};
 
 use crate::err::arp::{ArpEthIpv4FromError, ArpHwAddrError, ArpNewError, ArpProtoAddrError};
 use crate::err::double_vlan::{HeaderError, HeaderSliceError};
 use crate::{
-    ArpEthIpv4Packet, ArpHardwareId, ArpOperation, ArpPacket, DoubleVlanHeader, EtherType,
-    Ethernet2Header, LinuxSll2Header, LinuxSllHeader, LinuxSllPacketType, SingleVlanHeader, VlanId,
-    VlanPcp,
+    ArpEthIpv4Packet, ArpHardwareId, ArpOperation, ArpPacket, ArpPacketSlice, DoubleVlanHeader,
+    EtherType, Ethernet2Header, Ethernet2HeaderSlice, LinuxSll2Header, LinuxSll2HeaderSlice,
+    LinuxSllHeader, LinuxSllHeaderSlice, LinuxSllPacketType, SingleVlanHeader,
+    SingleVlanHeaderSlice, VlanId, VlanPcp,
 };
+use std::alloc::AllocError;
 use std::cmp::Ordering;
 
 fn arp_eth_ipv4_packet_equality(a: &ArpEthIpv4Packet, b: &ArpEthIpv4Packet) -> bool
@@ -53,6 +55,44 @@ fn single_vlan_header_equality(a: &SingleVlanHeader, b: &SingleVlanHeader) -> bo
     ensures same_value { IsTrue result ↔ (a.now ≡ b.now) }
 {
     a == b
+}
+
+// Views are equal if they show the same bytes.
+fn arp_packet_view_equality(a: &ArpPacketSlice, b: &ArpPacketSlice) -> bool
+    ensures same_bytes { IsTrue result ↔ (a.now.slice.now ≡ b.now.slice.now) }
+{
+    a == b
+}
+
+fn ethernet2_view_equality(a: &Ethernet2HeaderSlice, b: &Ethernet2HeaderSlice) -> bool
+    ensures same_bytes { IsTrue result ↔ (a.now.slice.now ≡ b.now.slice.now) }
+{
+    a == b
+}
+
+fn linux_sll_view_equality(a: &LinuxSllHeaderSlice, b: &LinuxSllHeaderSlice) -> bool
+    ensures same_bytes { IsTrue result ↔ (a.now.slice.now ≡ b.now.slice.now) }
+{
+    a == b
+}
+
+fn linux_sll2_view_equality(a: &LinuxSll2HeaderSlice, b: &LinuxSll2HeaderSlice) -> bool
+    ensures same_bytes { IsTrue result ↔ (a.now.slice.now ≡ b.now.slice.now) }
+{
+    a == b
+}
+
+fn single_vlan_view_equality(a: &SingleVlanHeaderSlice, b: &SingleVlanHeaderSlice) -> bool
+    ensures same_bytes { IsTrue result ↔ (a.now.slice.now ≡ b.now.slice.now) }
+{
+    a == b
+}
+
+// A clone is equal, and cloning never fails.
+fn arp_packet_clone(packet: &ArpPacket) -> Result<ArpPacket, AllocError>
+    ensures same_value { result ≡ Ok packet.now }
+{
+    packet.clone()
 }
 
 // Numbers have the order of the numbers.

@@ -13,15 +13,12 @@ use etherparse::err::{Layer, LenError};
 /// # Example
 ///
 /// ```
-/// // A broadcast from 2:0:0:0:0:1 on interface 3, an Ethernet device, and the first bytes of an ARP
-/// // packet.
+/// // A broadcast from 2:0:0:0:0:1 on interface 3, an Ethernet device, and the first bytes of an
+/// // ARP packet.
 /// let frame = [
 ///     8, 6, 0, 0, 0, 0, 0, 3, 0, 1, 1, 6, 2, 0, 0, 0, 0, 1, 0, 0, 0, 1,
 /// ];
-/// let layers = LinkLayers::from_link_type(LinkType::LinuxSll2, &frame)?;
-/// let Some(LinkSlice::LinuxSll2(header)) = layers.link else {
-///     return Err(Fail::from("no header"));
-/// };
+/// let header = LinuxSll2HeaderSlice::from_slice(&frame)?;
 /// assert!(rt; header.protocol_type() == EtherType::ARP);
 /// assert!(rt; (header.interface_index(), header.arp_hardware_type()) == (3, 1));
 /// assert!(rt; (header.packet_type(), header.sender_address_valid_length()) == (1, 6));
@@ -107,7 +104,7 @@ impl<'a> LinuxSll2HeaderSlice<'a> {
         u16_at(self.slice, 8)
     }
 
-    /// Where the packet went, as in [`LinuxSllHeaderSlice::packet_type`](crate::linux_sll_header_slice::LinuxSllHeaderSlice::packet_type): byte 10.
+    /// Where the packet went, as in [`crate::LinuxSllHeaderSlice::packet_type`]: byte 10.
     pub fn packet_type(&self) -> u8
         ensures byte_10 { result ≡ slice_index self.now.slice.now 10 }
     {

@@ -15,10 +15,7 @@ use etherparse::err::{Layer, LenError};
 /// ```
 /// // A broadcast from 2:0:0:0:0:1 on an Ethernet device, and the first bytes of an ARP packet.
 /// let frame = [0, 1, 0, 1, 0, 6, 2, 0, 0, 0, 0, 1, 0, 0, 8, 6, 0, 1];
-/// let layers = LinkLayers::from_link_type(LinkType::LinuxSll, &frame)?;
-/// let Some(LinkSlice::LinuxSll(header)) = layers.link else {
-///     return Err(Fail::from("no header"));
-/// };
+/// let header = LinuxSllHeaderSlice::from_slice(&frame)?;
 /// assert!(rt; (header.packet_type(), header.arp_hardware_type()) == (1, 1));
 /// assert!(rt; header.sender_address_valid_length() == 6);
 /// assert!(rt; header.sender_address() == [2, 0, 0, 0, 0, 1].as_slice());

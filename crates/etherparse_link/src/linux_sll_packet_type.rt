@@ -10,6 +10,15 @@ use std::marker::Model;
 /// kernel that captures, which may have more than are named here.
 ///
 /// Equality, order and hash are those of the number.
+///
+/// # Example
+///
+/// ```
+/// assert!(rt; LinuxSllPacketType(4) == LinuxSllPacketType::OUTGOING);
+/// // The byte of a capture of version 2.
+/// let byte: u8 = 1;
+/// assert!(rt; LinuxSllPacketType::from(byte) == LinuxSllPacketType::BROADCAST);
+/// ```
 #[derive(Clone, Copy, Debug, PartialEq, Eq, PartialOrd, Ord, Hash)]
 pub struct LinuxSllPacketType(pub u16);
 
@@ -46,6 +55,22 @@ impl LinuxSllPacketType {
 
     /// To the kernel (7).
     pub const KERNEL: LinuxSllPacketType = LinuxSllPacketType(7);
+}
+
+impl From<u16> for LinuxSllPacketType {
+    ghost from_gives = { λ number packet_type. packet_type ≡ number };
+
+    fn from(value: u16) -> LinuxSllPacketType {
+        LinuxSllPacketType(value)
+    }
+}
+
+impl From<LinuxSllPacketType> for u16 {
+    ghost from_gives = { λ packet_type number. number ≡ packet_type };
+
+    fn from(value: LinuxSllPacketType) -> u16 {
+        value.0
+    }
 }
 
 /// The packet type of version 2, which has one byte for it.

@@ -15,10 +15,7 @@ use etherparse::err::{Layer, LenError};
 /// ```
 /// // A tag of VLAN 5 with priority 3, and the first bytes of an ARP packet.
 /// let bytes = [0x60, 5, 8, 6, 0, 1];
-/// let packet = SlicedPacket::from_ether_type(EtherType::VLAN_TAGGED_FRAME, &bytes)?;
-/// let Some(VlanSlice::SingleVlan(tag)) = packet.vlan else {
-///     return Err(Fail::from("no tag"));
-/// };
+/// let tag = SingleVlanHeaderSlice::from_slice(&bytes)?;
 /// assert!(rt; tag.priority_code_point() == 3 && !tag.drop_eligible_indicator());
 /// assert!(rt; tag.vlan_identifier() == 5 && tag.ether_type() == EtherType::ARP);
 /// ```

@@ -9,6 +9,9 @@ pub returns-clause-only : goal.returns-clause-only
 returns-clause-only c = λ other o.
     let s = c.args.slice.now in
     let v = c.in_ok-view.ensures.views in
-    let len : length c.slice.result.now ≡ arp_len_of s = ap length (c.slice.ensures.value ∙ v.cut) ∙ length-take-le (arp_len_of s) s v.enough in
-    let layout = subst (IsArpLayout c.to_packet.result) (v.cut ∙ ap (λ k. take k s) (sym len)) c.to_packet.ensures.layout in
-    read_once IsArpLayout RefusesArp tells_headers s other _ o (begins_with_front IsArpLayout _ _ s layout)
+    let len : length c.slice.result.now ≡ arp_len_of s =
+    ap length (c.slice.ensures.value ∙ v.cut) ∙ length-take-le (arp_len_of s) s v.enough in
+    let same = v.cut ∙ ap (λ k. take k s) (sym len) in
+    let layout = subst (IsArpLayout c.to_packet.result) same c.to_packet.ensures.layout in
+    read_once IsArpLayout RefusesArp tells_headers s other _ o
+    (begins_with_front IsArpLayout _ _ s layout)

@@ -5,4 +5,5 @@ use Rattle.etherparse_link.proofs.ethernet2_header.Ethernet2Header.from_slice.Go
 
 pub returns-clause-only : goal.returns-clause-only
 returns-clause-only c = let layout = c.to_header-header.ensures.layout in
-    front_read_once IsEthernet2Layout RefusesEthernet2 tells_headers 14 _ _ _ c.in_ok-from_slice.ensures.views layout layout.len
+    front_read_once IsEthernet2Layout RefusesEthernet2 tells_headers 14 _ _ _
+    c.in_ok-from_slice.ensures.views layout layout.len

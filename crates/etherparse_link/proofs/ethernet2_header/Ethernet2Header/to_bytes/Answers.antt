@@ -9,8 +9,10 @@ returns c =
     let h = c.args.self.now in
     let p = c.joined.result in
     let bytes = c.joined.ensures in
-    let e : p ≡ written (ethernet2_fields h) [] = bytes.parts ∙ rw c.ether_type_bytes.ensures.value refl in
-    let layout = spells h p (search (rules, c.ether_type_bytes.ensures.fits)) (subst IsBytes (sym bytes.parts) bytes.are_bytes) e in
+    let e : p ≡ written (ethernet2_fields h) [] =
+    bytes.parts ∙ rw c.ether_type_bytes.ensures.value refl in
+    let are_bytes = subst IsBytes (sym bytes.parts) bytes.are_bytes in
+    let layout = spells h p (search (rules, c.ether_type_bytes.ensures.fits)) are_bytes e in
     record {
       layout = layout;
       only = λ bytes l. spelled h bytes l ∙ sym e;

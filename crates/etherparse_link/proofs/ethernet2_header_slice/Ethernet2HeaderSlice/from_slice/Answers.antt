@@ -7,5 +7,10 @@ use Rattle.etherparse_link.proofs.ethernet2_header_slice.Ethernet2HeaderSlice.fr
 
 pub returns : goal.returns
 returns c =
-    let views = front_viewed IsEthernet2Layout RefusesEthernet2 tells_headers 14 _ header_at c.if-slice-lt-LEN.false (λ i. omega (arith, c.type_inv.slice i)) in
-    record { views = views; only = λ other o. viewed_once IsEthernet2Layout RefusesEthernet2 tells_headers _ other _ o views }
+    let views = front_viewed IsEthernet2Layout RefusesEthernet2 tells_headers 14 _ header_at
+    c.if-slice-lt-LEN.false (λ i. omega (arith, c.type_inv.slice i)) in
+    record {
+      views = views;
+      only = λ other o. viewed_once IsEthernet2Layout RefusesEthernet2
+          tells_headers _ other _ o views;
+    }

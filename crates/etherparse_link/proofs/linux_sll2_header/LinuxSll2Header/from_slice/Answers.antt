@@ -5,8 +5,10 @@ use Rattle.etherparse_link.proofs.linux_sll2_header.LinuxSll2Header.from_slice.G
 
 pub returns-clause-only : goal.returns-clause-only
 returns-clause-only c = let layout = c.to_header-header.ensures.layout in
-    front_read_once IsLinuxSll2Layout RefusesLinuxSll2 tells_headers 20 _ _ _ c.in_ok-from_slice.ensures.views layout layout.len
+    front_read_once IsLinuxSll2Layout RefusesLinuxSll2 tells_headers 20 _ _ _
+    c.in_ok-from_slice.ensures.views layout layout.len
 
 pub returns-clause-reads : goal.returns-clause-reads
 returns-clause-reads c = let layout = c.to_header-header.ensures.layout in
-    front_read IsLinuxSll2Layout RefusesLinuxSll2 tells_headers 20 _ _ _ c.in_ok-from_slice.ensures.views layout layout.len
+    front_read IsLinuxSll2Layout RefusesLinuxSll2 tells_headers 20 _ _ _
+    c.in_ok-from_slice.ensures.views layout layout.len

@@ -9,8 +9,10 @@ returns c =
     let h = c.args.self.now in
     let p = c.joined.result in
     let bytes = c.joined.ensures in
-    let e : p ≡ written (linux_sll2_fields h) [] = bytes.parts ∙ rw (c.front.ensures.parts, append-nil) refl in
-    let layout = spells h p (search (rules, c.front.ensures)) (subst IsBytes (sym bytes.parts) bytes.are_bytes) e in
+    let e : p ≡ written (linux_sll2_fields h) [] =
+    bytes.parts ∙ rw (c.front.ensures.parts, append-nil) refl in
+    let are_bytes = subst IsBytes (sym bytes.parts) bytes.are_bytes in
+    let layout = spells h p (search (rules, c.front.ensures)) are_bytes e in
     record {
       layout = layout.0;
       reserved = layout.1;

@@ -9,8 +9,11 @@ returns c =
     let h = c.args.self.now in
     let p = c.joined.result in
     let bytes = c.joined.ensures in
-    let e : p ≡ written (linux_sll_fields h) [] = bytes.parts ∙ rw (c.front.ensures.parts, c.ether_type_bytes.ensures.value) refl in
-    let layout = spells h p (search (rules, c.front.ensures, c.ether_type_bytes.ensures.fits)) (subst IsBytes (sym bytes.parts) bytes.are_bytes) e in
+    let e : p ≡ written (linux_sll_fields h) [] =
+    bytes.parts ∙ rw (c.front.ensures.parts, c.ether_type_bytes.ensures.value) refl in
+    let are_bytes = subst IsBytes (sym bytes.parts) bytes.are_bytes in
+    let protocol_fits = c.ether_type_bytes.ensures.fits in
+    let layout = spells h p (search (rules, c.front.ensures, protocol_fits)) are_bytes e in
     record {
       layout = layout;
       only = λ bytes l. spelled h bytes l ∙ sym e;

@@ -7,5 +7,10 @@ use Rattle.etherparse_link.proofs.linux_sll_header_slice.LinuxSllHeaderSlice.fro
 
 pub returns : goal.returns
 returns c =
-    let views = front_viewed IsLinuxSllLayout RefusesLinuxSll tells_headers 16 _ header_at c.if-slice-lt-LEN.false (λ i. omega (arith, c.type_inv.slice i)) in
-    record { views = views; only = λ other o. viewed_once IsLinuxSllLayout RefusesLinuxSll tells_headers _ other _ o views }
+    let views = front_viewed IsLinuxSllLayout RefusesLinuxSll tells_headers 16 _ header_at
+    c.if-slice-lt-LEN.false (λ i. omega (arith, c.type_inv.slice i)) in
+    record {
+      views = views;
+      only = λ other o. viewed_once IsLinuxSllLayout RefusesLinuxSll
+          tells_headers _ other _ o views;
+    }

@@ -5,4 +5,5 @@ use Rattle.etherparse_link.proofs.single_vlan_header.SingleVlanHeader.from_slice
 
 pub returns-clause-only : goal.returns-clause-only
 returns-clause-only c = let layout = c.to_header-header.ensures.layout in
-    front_read_once IsSingleVlanLayout RefusesSingleVlan tells_headers 4 _ _ _ c.in_ok-from_slice.ensures.views layout layout.len
+    front_read_once IsSingleVlanLayout RefusesSingleVlan tells_headers 4 _ _ _
+    c.in_ok-from_slice.ensures.views layout layout.len

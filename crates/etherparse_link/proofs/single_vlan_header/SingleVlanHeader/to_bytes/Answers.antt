@@ -8,4 +8,5 @@ returns-clause-only c = λ bytes l.
     let tci = c.tag_control_information in
     let h = c.args.self.now in
     let e : c.words.result ≡ written (single_vlan_fields tci.result h) [] = c.words.ensures.value in
-    spelled tci.result h tci.ensures.pcp tci.ensures.drop_eligible_indicator tci.ensures.vlan_id bytes l ∙ sym e
+    spelled tci.result h tci.ensures.pcp tci.ensures.drop_eligible_indicator tci.ensures.vlan_id
+    bytes l ∙ sym e

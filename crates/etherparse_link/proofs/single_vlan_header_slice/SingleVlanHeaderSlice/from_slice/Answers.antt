@@ -7,5 +7,10 @@ use Rattle.etherparse_link.proofs.single_vlan_header_slice.SingleVlanHeaderSlice
 
 pub returns : goal.returns
 returns c =
-    let views = front_viewed IsSingleVlanLayout RefusesSingleVlan tells_headers 4 _ header_at c.if-slice-lt-LEN.false (λ i. omega (arith, c.type_inv.slice i)) in
-    record { views = views; only = λ other o. viewed_once IsSingleVlanLayout RefusesSingleVlan tells_headers _ other _ o views }
+    let views = front_viewed IsSingleVlanLayout RefusesSingleVlan tells_headers 4 _ header_at
+    c.if-slice-lt-LEN.false (λ i. omega (arith, c.type_inv.slice i)) in
+    record {
+      views = views;
+      only = λ other o. viewed_once IsSingleVlanLayout RefusesSingleVlan
+          tells_headers _ other _ o views;
+    }

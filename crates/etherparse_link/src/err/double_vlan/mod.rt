@@ -1,7 +1,0 @@
-//! The errors of two VLAN tags.
-
-mod header_error;
-mod header_slice_error;
-
-pub use header_error::HeaderError;
-pub use header_slice_error::HeaderSliceError;
