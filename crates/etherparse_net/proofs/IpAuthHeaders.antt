@@ -1,6 +1,6 @@
 -- The bytes of an authentication header tell its fields, and its fields its bytes.
-use Rattle.std.proofs.Common.{ℕ, ◌≡◌, ◌≢◌, ◌+◌, ◌*◌, ◌/◌, ◌^◌, ◌<◌, ◌≤◌, List, [], ◌∷◌, ◌++◌, ◌∙◌, length, length-drop, take, drop, refl, sym, ap, arith, rules, Ok, slice_index, take-append-drop}
-use Rattle.std.specs.Int.{from_be_bytes, w16, w32}
+use Rattle.std.proofs.Common.{ℕ, ◌≡◌, ◌≢◌, ◌+◌, ◌/◌, ◌^◌, ◌<◌, ◌≤◌, List, [], ◌∷◌, ◌∙◌, length, length-drop, take, drop, refl, sym, ap, arith, rules, Ok, slice_index, take-append-drop}
+use Rattle.std.specs.Int.{from_be_bytes, w32}
 use Rattle.std.specs.List.{AllByRecursion, slice_range}
 use Rattle.std.proofs.lemmas.Grind.{common_steps}
 use Rattle.etherparse.specs.Bytes.{IsBytes}

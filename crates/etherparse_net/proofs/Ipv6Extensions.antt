@@ -1,11 +1,11 @@
 -- One whole extension header at the front of a slice.
-use Rattle.std.proofs.Common.{ℕ, ◌≡◌, ◌∙◌, ◌+◌, ◌-◌, ◌<◌, ◌≤◌, List, ◌++◌, length, take, drop, refl, sym, ap, arith, slice_index, zero-add, Bool, false, true, take-append-drop, length-drop, length-take, Result, Ok, Err}
+use Rattle.std.proofs.Common.{ℕ, ◌≡◌, ◌∙◌, ◌+◌, ◌-◌, ◌≤◌, List, length, take, drop, refl, sym, ap, arith, slice_index, take-append-drop, length-drop, length-take, Result, Ok, Err}
 use Rattle.std.proofs.lemmas.Result.{IfOk-at_ok}
 use Rattle.std.proofs.lemmas.Grind.{common_steps}
-use Rattle.etherparse.specs.ExtensionHeaderChain.{IsExtensionHeader, IsWalkOf, extension_header_len, incomplete_header_error, required_len_of}
+use Rattle.etherparse.specs.ExtensionHeaderChain.{IsExtensionHeader, IsWalkOf, extension_header_len, required_len_of}
 use Rattle.etherparse.specs.LenError.{len_error_moved}
 use Rattle.etherparse.specs.declared.err.LenError.{LenError}
-use Rattle.etherparse_net.specs.Ipv6Extensions.{BeginsWithExtension, EndsInExtension, IsOfKind, extension_bytes}
+use Rattle.etherparse_net.specs.Ipv6Extensions.{BeginsWithExtension, IsOfKind, extension_bytes}
 use Rattle.etherparse_net.specs.declared.ipv6_extension_slice.Ipv6ExtensionSlice.{Ipv6ExtensionSlice}
 use Rattle.etherparse.specs.ExtensionHeaders.{IsSkippable}
 

@@ -1,5 +1,5 @@
 -- A slice begins with one extension header of this layout.
-use Rattle.std.proofs.Common.{ℕ, ◌≡◌, ◌+◌, ◌*◌, ◌≤◌, List, ◌++◌, length, take, drop, sym, ap, arith, rules, Ok, slice_index, take-append-drop}
+use Rattle.std.proofs.Common.{ℕ, ◌≡◌, ◌+◌, ◌*◌, ◌≤◌, List, length, take, drop, sym, ap, arith, rules, Ok, slice_index, take-append-drop}
 use Rattle.std.proofs.lemmas.Grind.{common_steps}
 use Rattle.etherparse.specs.Bytes.{IsBytes}
 use Rattle.etherparse.proofs.Fronts.{TellsHeaders}

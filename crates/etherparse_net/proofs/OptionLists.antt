@@ -96,3 +96,10 @@ none_of_length (x ∷ s) e = absurd (omega (arith, e))
 
 pub none_left : (s : List ℕ) (at : ℕ) → nat_eq (length (take (length s - at) (drop at s))) 0 ≡ true → drop at s ≡ []
 none_left s at e = none_of_length (drop at s) (rw take_rest at ((Decides-eqb _ 0).0 e))
+
+-- so many options stand before a place
+pub record CountedTo (IsOption : List ℕ → Type 0) (s : List ℕ) (at count : ℕ) : Type 0 where
+  pub options : List (List ℕ)
+  pub begins : BeginsWithOptions IsOption s options (drop at s)
+  pub counted : count ≡ length options
+  pub few : count ≤ at

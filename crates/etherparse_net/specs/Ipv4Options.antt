@@ -1,7 +1,8 @@
 -- The options of an IPv4 header (RFC 791 section 3.1).
-use Rattle.std.specs.Prelude.{ℕ, ◌≡◌, ◌≢◌, ◌==◌, ◌+◌, ◌<◌, ◌≤◌, ◌⊎◌, List, [], length, slice_index}
-use Rattle.std.specs.Prelude.{nat_lt, if◌then◌else◌, Result}
-use Rattle.etherparse_net.specs.Options.{BeginsWithOptions, IsOnlyListing, ListsOptions}
+use Rattle.std.specs.Prelude.{ℕ, ◌≡◌, ◌≢◌, ◌<◌, ◌≤◌, ◌⊎◌, List, [], length, slice_index}
+use Rattle.std.specs.Prelude.{Result}
+use Rattle.etherparse_net.specs.Options.{BeginsWithOptions, CountsOptions}
+use Rattle.etherparse_net.specs.Options.{IsOnlyListing, ListsOptions}
 use Rattle.etherparse_net.specs.declared.err.incomplete_option.IncompleteOption.{IncompleteOption}
 use Rattle.etherparse_net.specs.declared.err.ipv4_option_error.Ipv4OptionError.{Ipv4OptionError}
 use Rattle.etherparse_net.specs.declared.err.ipv4_option_error.Ipv4OptionError.TheVariants as error
@@ -58,3 +59,8 @@ ListsIpv4Options bytes options end =
 abbrev pub IsOnlyIpv4Listing : List ℕ → List (List ℕ) → Result (List ℕ) Ipv4OptionError → Type 0
 IsOnlyIpv4Listing bytes options end =
     IsOnlyListing IsIpv4Option EndsIpv4Options RefusesIpv4Option bytes options end
+
+-- how many options the bytes have, as that says; or why their list does not end
+abbrev pub CountsIpv4Options : List ℕ → Result ℕ Ipv4OptionError → Type 0
+CountsIpv4Options bytes count =
+    CountsOptions IsIpv4Option EndsIpv4Options RefusesIpv4Option bytes count

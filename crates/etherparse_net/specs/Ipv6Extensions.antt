@@ -1,5 +1,5 @@
 -- The extension headers of IPv6 one by one, each as a view of its kind (RFC 8200 section 4).
-use Rattle.std.specs.Prelude.{ℕ, ◌≡◌, ◌+◌, ◌<◌, ◌⊎◌, ◌++◌, List, length, slice_index}
+use Rattle.std.specs.Prelude.{ℕ, ◌≡◌, ◌<◌, ◌⊎◌, ◌++◌, List, length, slice_index}
 use Rattle.etherparse.specs.ExtensionHeaderChain.{IsExtensionHeader, incomplete_header_error}
 use Rattle.etherparse.specs.ExtensionHeaderChain.{required_len_of}
 use Rattle.etherparse.specs.ExtensionHeaders.{IsSkippable}

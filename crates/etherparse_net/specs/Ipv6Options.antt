@@ -1,7 +1,8 @@
 -- The options of hop-by-hop and destination options headers of IPv6 (RFC 8200 section 4.2).
 use Rattle.std.specs.Prelude.{ℕ, ◌≡◌, ◌≢◌, ◌==◌, ◌+◌, ◌<◌, List, [], length, slice_index}
 use Rattle.std.specs.Prelude.{nat_lt, if◌then◌else◌, Result}
-use Rattle.etherparse_net.specs.Options.{BeginsWithOptions, IsOnlyListing, ListsOptions}
+use Rattle.etherparse_net.specs.Options.{BeginsWithOptions, CountsOptions}
+use Rattle.etherparse_net.specs.Options.{IsOnlyListing, ListsOptions}
 use Rattle.etherparse_net.specs.declared.err.incomplete_option.IncompleteOption.{IncompleteOption}
 
 -- The length in bytes of an option, by its type and its second byte. Pad1 (0) is its type alone.
@@ -48,3 +49,8 @@ ListsIpv6Options bytes options end =
 abbrev pub IsOnlyIpv6Listing : List ℕ → List (List ℕ) → Result (List ℕ) IncompleteOption → Type 0
 IsOnlyIpv6Listing bytes options end =
     IsOnlyListing IsIpv6Option EndsIpv6Options RefusesIpv6Option bytes options end
+
+-- how many options the bytes have, as that says; or why their list does not end
+abbrev pub CountsIpv6Options : List ℕ → Result ℕ IncompleteOption → Type 0
+CountsIpv6Options bytes count =
+    CountsOptions IsIpv6Option EndsIpv6Options RefusesIpv6Option bytes count

@@ -2,6 +2,7 @@
 -- length and a value.
 use Rattle.std.specs.Prelude.{ℕ, ◌≡◌, ◌++◌, List, length, Result, Ok, Err}
 use Rattle.std.specs.List.{AllByRecursion, concat}
+use Rattle.std.specs.Result.{result_map_both}
 
 -- the bytes are these options, one after another, and a rest after them
 pub record BeginsWithOptions (IsOption : List ℕ → Type 0) (bytes : List ℕ)
@@ -27,3 +28,11 @@ pub record IsOnlyListing {E : Type 0} (IsOption : List ℕ → Type 0) (IsEnd : 
   pub only : (others : List (List ℕ)) (other_end : Result (List ℕ) E)
       → ListsOptions IsOption IsEnd Refuses bytes others other_end
       → (others ≡ options) × (other_end ≡ end)
+
+-- how many options some bytes have, as the one way to list them says; or why they do not end
+pub record CountsOptions {E : Type 0} (IsOption : List ℕ → Type 0) (IsEnd : List ℕ → Type 0)
+    (Refuses : ℕ → List ℕ → E → Type 0) (bytes : List ℕ) (count : Result ℕ E) : Type 0 where
+  pub options : List (List ℕ)
+  pub end : Result (List ℕ) E
+  pub listing : IsOnlyListing IsOption IsEnd Refuses bytes options end
+  pub counted : count ≡ result_map_both (λ _. length options) (λ e. e) end

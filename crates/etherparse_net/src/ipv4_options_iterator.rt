@@ -39,7 +39,7 @@ impl<'a> Ipv4OptionsIterator<'a> {
     ghost use Rattle.std.specs.Prelude.{IfSome, Ok, Err, drop, length};
     ghost use Rattle.etherparse_net.specs.Ipv4Options.{BeginsWithIpv4Options, IsIpv4Option};
     ghost use Rattle.etherparse_net.specs.Ipv4Options.{EndsIpv4Options, IsOnlyIpv4Listing};
-    ghost use Rattle.etherparse_net.specs.Ipv4Options.{RefusesIpv4Option};
+    ghost use Rattle.etherparse_net.specs.Ipv4Options.{CountsIpv4Options, RefusesIpv4Option};
 
     /// The options in some bytes: what an IPv4 header has from byte 20 on, which
     /// `Ipv4HeaderSlice::options` gives, and `as_slice` of the field `options` of an `Ipv4Header`.
@@ -97,6 +97,25 @@ impl<'a> Ipv4OptionsIterator<'a> {
             Err(e) => {
                 self.offset = self.options.len();
                 Some(Err(e))
+            }
+        }
+    }
+
+    /// How many options some bytes have, if each is whole.
+    ///
+    /// # Errors
+    ///
+    /// Those of [`Ipv4OptionsIterator::next`], the first of them.
+    pub fn count_of(options: &[u8]) -> Result<usize, Ipv4OptionError>
+        ensures counts { CountsIpv4Options options.now result }
+    {
+        let mut left = Ipv4OptionsIterator::new(options);
+        let mut count = 0;
+        'options: loop {
+            match left.next() {
+                Some(Ok(_)) => count += 1,
+                Some(Err(e)) => return Err(e),
+                None => return Ok(count),
             }
         }
     }

@@ -39,7 +39,7 @@ impl<'a> Ipv6OptionsIterator<'a> {
     ghost use Rattle.std.specs.Prelude.{IfSome, Ok, Err, drop, length};
     ghost use Rattle.etherparse_net.specs.Ipv6Options.{BeginsWithIpv6Options, IsIpv6Option};
     ghost use Rattle.etherparse_net.specs.Ipv6Options.{EndsIpv6Options, IsOnlyIpv6Listing};
-    ghost use Rattle.etherparse_net.specs.Ipv6Options.{RefusesIpv6Option};
+    ghost use Rattle.etherparse_net.specs.Ipv6Options.{CountsIpv6Options, RefusesIpv6Option};
 
     /// The options in some bytes: what a header has from byte 2 on.
     pub fn new(options: &'a [u8]) -> Ipv6OptionsIterator<'a>
@@ -95,6 +95,25 @@ impl<'a> Ipv6OptionsIterator<'a> {
             Err(e) => {
                 self.offset = self.options.len();
                 Some(Err(e))
+            }
+        }
+    }
+
+    /// How many options some bytes have, if each is whole.
+    ///
+    /// # Errors
+    ///
+    /// An `IncompleteOption` if an option is cut off by the end of the bytes.
+    pub fn count_of(options: &[u8]) -> Result<usize, IncompleteOption>
+        ensures counts { CountsIpv6Options options.now result }
+    {
+        let mut left = Ipv6OptionsIterator::new(options);
+        let mut count = 0;
+        'options: loop {
+            match left.next() {
+                Some(Ok(_)) => count += 1,
+                Some(Err(e)) => return Err(e),
+                None => return Ok(count),
             }
         }
     }

@@ -1,4 +1,4 @@
-use Rattle.std.proofs.Common.{◌≡◌, ◌+◌, ◌++◌, ap, arith, drop, drop-drop, length, rules, sym, ◌∙◌}
+use Rattle.std.proofs.Common.{arith, drop, sym, ◌∙◌}
 use Rattle.etherparse_net.proofs.IpOptions.{tells_ipv6_options}
 use Rattle.etherparse_net.proofs.OptionLists.{next_option, none_left, one_more, only_listing, refused_at}
 use Rattle.etherparse_net.specs.Ipv6Options.{EndsIpv6Options, IsIpv6Option, RefusesIpv6Option}
