@@ -55,12 +55,12 @@ abbrev pub ListsIpv4Options : List ℕ → List (List ℕ) → Result (List ℕ)
 ListsIpv4Options bytes options end =
     ListsOptions IsIpv4Option EndsIpv4Options RefusesIpv4Option bytes options end
 
--- and in no other way
+-- the bytes are listed so, and in no other way
 abbrev pub IsOnlyIpv4Listing : List ℕ → List (List ℕ) → Result (List ℕ) Ipv4OptionError → Type 0
 IsOnlyIpv4Listing bytes options end =
     IsOnlyListing IsIpv4Option EndsIpv4Options RefusesIpv4Option bytes options end
 
--- how many options the bytes have, as that says; or why their list does not end
+-- how many options the bytes have, as the one way to list them says; or why it does not end
 abbrev pub CountsIpv4Options : List ℕ → Result ℕ Ipv4OptionError → Type 0
 CountsIpv4Options bytes count =
     CountsOptions IsIpv4Option EndsIpv4Options RefusesIpv4Option bytes count

@@ -1,7 +1,9 @@
 -- What an extension header of IPv6 has after its first two bytes (RFC 8200 sections 4.3, 4.4 and
 -- 4.6).
 use Rattle.std.specs.Prelude.{ℕ, ◌≡◌, ◌≢◌, ◌%◌, ◌<◌, ◌≤◌, List, length, Result, Ok, Err}
-use Rattle.etherparse_net.specs.declared.err.ext_payload_len_error.ExtPayloadLenError.{ExtPayloadLenError}
+use Rattle.etherparse_net.specs.declared.err.ext_payload_len_error.ExtPayloadLenError.{
+  ExtPayloadLenError,
+}
 use Rattle.etherparse_net.specs.declared.err.ext_payload_len_error.ExtPayloadLenError.TheVariants
     as refused
 

@@ -4,7 +4,9 @@ use Rattle.etherparse.specs.ExtensionHeaderChain.{IsExtensionHeader, incomplete_
 use Rattle.etherparse.specs.ExtensionHeaderChain.{required_len_of}
 use Rattle.etherparse.specs.ExtensionHeaders.{IsSkippable}
 use Rattle.etherparse.specs.declared.err.LenError.{LenError}
-use Rattle.etherparse_net.specs.declared.ipv6_extension_slice.Ipv6ExtensionSlice.{Ipv6ExtensionSlice}
+use Rattle.etherparse_net.specs.declared.ipv6_extension_slice.Ipv6ExtensionSlice.{
+  Ipv6ExtensionSlice,
+}
 use Rattle.etherparse_net.specs.declared.ipv6_extension_slice.Ipv6ExtensionSlice.TheVariants
     as extension
 

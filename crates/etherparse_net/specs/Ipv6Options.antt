@@ -45,12 +45,12 @@ abbrev pub ListsIpv6Options : List ℕ → List (List ℕ) → Result (List ℕ)
 ListsIpv6Options bytes options end =
     ListsOptions IsIpv6Option EndsIpv6Options RefusesIpv6Option bytes options end
 
--- and in no other way
+-- the bytes are listed so, and in no other way
 abbrev pub IsOnlyIpv6Listing : List ℕ → List (List ℕ) → Result (List ℕ) IncompleteOption → Type 0
 IsOnlyIpv6Listing bytes options end =
     IsOnlyListing IsIpv6Option EndsIpv6Options RefusesIpv6Option bytes options end
 
--- how many options the bytes have, as that says; or why their list does not end
+-- how many options the bytes have, as the one way to list them says; or why it does not end
 abbrev pub CountsIpv6Options : List ℕ → Result ℕ IncompleteOption → Type 0
 CountsIpv6Options bytes count =
     CountsOptions IsIpv6Option EndsIpv6Options RefusesIpv6Option bytes count

@@ -6,7 +6,9 @@ use Rattle.etherparse.specs.Reading.{IsTooShort, Reads, Views}
 use Rattle.etherparse.specs.declared.err.LenError.{LenError}
 use Rattle.etherparse.specs.declared.err.Layer.TheVariants as layer
 use Rattle.etherparse_net.specs.Ipv6ExtPayload.{IsExtPayloadLen, RefusesExtPayload}
-use Rattle.etherparse_net.specs.declared.err.ext_payload_len_error.ExtPayloadLenError.{ExtPayloadLenError}
+use Rattle.etherparse_net.specs.declared.err.ext_payload_len_error.ExtPayloadLenError.{
+  ExtPayloadLenError,
+}
 use Rattle.etherparse_net.specs.declared.ipv6_raw_ext_header.Ipv6RawExtHeader.{Ipv6RawExtHeader}
 
 -- The bytes of a header: the next header; the header extension length, which counts units of 8

@@ -41,7 +41,9 @@ impl<'a> IpAuthHeaderSlice<'a> {
     ghost use Rattle.etherparse_net.specs.IpAuthHeader.{ViewsAuth, auth_len_of};
     ghost use Rattle.etherparse_net.specs.IpAuthIcv.{IsIcvLen};
     ghost use Rattle.etherparse_net.specs.IpAuthHeader.{with_auth_reserved_cleared};
-    ghost use Rattle.etherparse_net.specs.declared.ip_auth_header.IpAuthHeader.{IpAuthHeader as Header};
+    ghost use Rattle.etherparse_net.specs.declared.ip_auth_header.IpAuthHeader.{
+      IpAuthHeader as Header,
+    };
 
     /// A view of the header at the front of a slice. What follows it begins at `slice[len..]`,
     /// where `len` is `view.slice().len()`. The integrity check value is not tested.

@@ -155,7 +155,8 @@ fn first_option(rest: &[u8], offset: usize) -> Result<Ipv4OptionSlice, Ipv4Optio
 // The error of the option at the front of some bytes, which begin at an offset.
 fn cut_off(rest: &[u8], offset: usize, required_len: usize) -> Ipv4OptionError
     requires { 1 ≤ length rest.now }
-    ensures value { result ≡ Ipv4OptionError.Incomplete (cut_off_error offset rest.now required_len) }
+    ensures value { result
+        ≡ Ipv4OptionError.Incomplete (cut_off_error offset rest.now required_len) }
 {
     Ipv4OptionError::Incomplete(IncompleteOption {
         option_type: rest[0],

@@ -2,6 +2,9 @@
 
 ghost use Rattle.std.specs.Prelude.{◌≡◌, length};
 ghost use Rattle.etherparse_net.specs.Ipv6FragmentHeader.{IsFragmentLayout};
+ghost use Rattle.etherparse_net.specs.declared.ipv6_fragment_header.Ipv6FragmentHeader.{
+  Ipv6FragmentHeader as Header,
+};
 
 use etherparse::err::{Layer, LenError};
 use etherparse::{IpFragOffset, IpNumber, LenSource};
@@ -24,10 +27,10 @@ impl Ipv6FragmentHeader {
     ghost use Rattle.std.specs.Prelude.{ℕ, ◌≡◌, ◌+◌, ◌*◌, ◌^◌, ◌<◌, ◌∷◌, ◌++◌, List, Ok, Result};
     ghost use Rattle.std.specs.Int.{from_bool, to_be_bytes, w16, w32};
     ghost use Rattle.etherparse.specs.Reading.{Reads, found_and_rest};
-    ghost use Rattle.etherparse_net.specs.Ipv6FragmentHeader.{IsFragmentLayout, RefusesFragment, is_part};
     ghost use Rattle.etherparse_net.specs.Ipv6FragmentHeader.{IsClearedFragmentLayout};
+    ghost use Rattle.etherparse_net.specs.Ipv6FragmentHeader.{IsFragmentLayout, RefusesFragment};
+    ghost use Rattle.etherparse_net.specs.Ipv6FragmentHeader.{is_part};
     ghost use Rattle.etherparse_net.specs.Ipv6FragmentHeader.{with_fragment_reserved_cleared};
-    ghost use Rattle.etherparse_net.specs.declared.ipv6_fragment_header.Ipv6FragmentHeader.{Ipv6FragmentHeader as Header};
 
     /// The length of the header, in bytes: 8.
     pub const LEN: usize = 8;

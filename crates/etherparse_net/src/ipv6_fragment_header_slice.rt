@@ -2,6 +2,9 @@
 
 ghost use Rattle.std.specs.Prelude.{◌≡◌, length};
 ghost use Rattle.etherparse.specs.Bytes.{IsBytes};
+ghost use Rattle.etherparse_net.specs.declared.ipv6_fragment_header.Ipv6FragmentHeader.{
+  Ipv6FragmentHeader as Header,
+};
 
 use crate::Ipv6FragmentHeader;
 use crate::errors::too_short;
@@ -39,7 +42,6 @@ impl<'a> Ipv6FragmentHeaderSlice<'a> {
     ghost use Rattle.etherparse_net.specs.Ipv6FragmentHeader.{IsFragmentLayout, ViewsFragment};
     ghost use Rattle.etherparse_net.specs.Ipv6FragmentHeader.{fragment_offset_of, is_part};
     ghost use Rattle.etherparse_net.specs.Ipv6FragmentHeader.{with_fragment_reserved_cleared};
-    ghost use Rattle.etherparse_net.specs.declared.ipv6_fragment_header.Ipv6FragmentHeader.{Ipv6FragmentHeader as Header};
 
     /// A view of the header at the front of a slice. What follows it begins at `slice[8..]`.
     ///

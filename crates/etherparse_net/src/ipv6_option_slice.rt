@@ -2,7 +2,7 @@
 
 ghost use Rattle.etherparse_net.specs.Ipv6Options.{IsIpv6Option};
 
-use crate::Ipv6UnknownOptionAction;
+use crate::Ipv6OptionAction;
 
 /// A view of an option of a hop-by-hop or destination options header (RFC 8200 section 4.2).
 ///
@@ -14,7 +14,7 @@ use crate::Ipv6UnknownOptionAction;
 ///     return Err(Fail::from("no option"));
 /// };
 /// assert!(rt; option.option_type() == 5 && !option.may_change());
-/// assert!(rt; option.unknown_action() == Ipv6UnknownOptionAction::Skip);
+/// assert!(rt; option.unknown_action() == Ipv6OptionAction::Skip);
 /// assert!(rt; option.data() == [0, 0].as_slice());
 /// ```
 #[derive(Clone, Copy, Debug, PartialEq, Eq)]
@@ -38,14 +38,14 @@ impl<'a> Ipv6OptionSlice<'a> {
     }
 
     /// What a node does that does not know the type: the upper 2 bits of byte 0.
-    pub fn unknown_action(&self) -> Ipv6UnknownOptionAction
+    pub fn unknown_action(&self) -> Ipv6OptionAction
         ensures upper_2_bits { result ≡ action_of (slice_index self.now.slice.now 0 / 2 ^ 6) }
     {
         match self.slice[0] >> 6 {
-            0 => Ipv6UnknownOptionAction::Skip,
-            1 => Ipv6UnknownOptionAction::Discard,
-            2 => Ipv6UnknownOptionAction::DiscardAndReport,
-            _ => Ipv6UnknownOptionAction::DiscardAndReportUnlessMulticast,
+            0 => Ipv6OptionAction::Skip,
+            1 => Ipv6OptionAction::Discard,
+            2 => Ipv6OptionAction::DiscardAndReport,
+            _ => Ipv6OptionAction::DiscardAndReportUnlessMulticast,
         }
     }
 

@@ -35,7 +35,9 @@ impl<'a> Ipv6RawExtHeaderSlice<'a> {
     ghost use Rattle.std.specs.Result.{result_map_both};
     ghost use Rattle.etherparse_net.specs.Ipv6ExtPayload.{IsExtPayloadLen};
     ghost use Rattle.etherparse_net.specs.Ipv6RawExtHeader.{IsRawExtLayout, ViewsRawExt};
-    ghost use Rattle.etherparse_net.specs.declared.ipv6_raw_ext_header.Ipv6RawExtHeader.{Ipv6RawExtHeader as Header};
+    ghost use Rattle.etherparse_net.specs.declared.ipv6_raw_ext_header.Ipv6RawExtHeader.{
+      Ipv6RawExtHeader as Header,
+    };
 
     /// A view of the header at the front of a slice. What follows it begins at `slice[len..]`,
     /// where `len` is `view.slice().len()`.

@@ -8,4 +8,5 @@ pub returns-clause-only : goal.returns-clause-only
 returns-clause-only c =
     let view = c.in_ok-view.view.slice.now in
     λ other o. read_once IsAuthLayout RefusesAuth tells_auth _ other _ o
-    (begins_at IsAuthLayout (length view) c.args.slice.now view _ c.to_header.result c.in_ok-view.ensures.views.whole c.to_header.ensures.layout refl)
+    (begins_at IsAuthLayout (length view) c.args.slice.now view _ c.to_header.result
+    c.in_ok-view.ensures.views.whole c.to_header.ensures.layout refl)

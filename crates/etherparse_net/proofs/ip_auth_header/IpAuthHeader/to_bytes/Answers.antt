@@ -9,8 +9,10 @@ returns c =
     let h = c.args.self.now in
     let p = c.front_and_rest.result.items in
     let bytes = c.front_and_rest.ensures in
-    let e : p ≡ written (auth_fields h) h.icv = bytes.parts ∙ rw (c.front.ensures.value, c.as_slice.ensures.value) refl in
-    let layout = spells h p c.front.ensures.spi c.front.ensures.sequence_number c.front.ensures.icv_len (subst IsBytes (sym bytes.parts) bytes.are_bytes) e in
+    let e : p ≡ written (auth_fields h) h.icv = bytes.parts
+    ∙ rw (c.front.ensures.value, c.as_slice.ensures.value) refl in
+    let layout = spells h p c.front.ensures.spi c.front.ensures.sequence_number
+    c.front.ensures.icv_len (subst IsBytes (sym bytes.parts) bytes.are_bytes) e in
     record {
       layout = layout;
       only = λ bytes other. spelled h bytes other ∙ sym e;

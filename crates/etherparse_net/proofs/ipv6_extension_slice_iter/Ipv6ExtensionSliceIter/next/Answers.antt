@@ -3,4 +3,5 @@ use Rattle.etherparse_net.proofs.ipv6_extension_slice_iter.Ipv6ExtensionSliceIte
 
 pub returns-in-Err-clause-ends_incomplete : goal.returns-in-Err-clause-ends_incomplete
 returns-in-Err-clause-ends_incomplete c = λ s first f at.
-    moved_walk s first c.args.self.now.offset _ c.in-Err.e c.add_offset.result at c.add_offset.ensures.moved (c.in-Err.ensures.ends s first f)
+    moved_walk s first c.args.self.now.offset _ c.in-Err.e c.add_offset.result at
+    c.add_offset.ensures.moved (c.in-Err.ensures.ends s first f)

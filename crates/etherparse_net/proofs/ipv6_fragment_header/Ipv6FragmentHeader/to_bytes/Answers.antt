@@ -7,7 +7,8 @@ returns c =
     let h = c.args.self.now in
     let p = c.fields.result in
     let e = c.fields.ensures.value in
-    let layout = spells h p c.fields.ensures.next_header c.fields.ensures.fragment_offset c.fields.ensures.identification e in
+    let layout = spells h p c.fields.ensures.next_header c.fields.ensures.fragment_offset
+    c.fields.ensures.identification e in
     record {
       layout = layout;
       only = λ bytes other. spelled h bytes other ∙ sym e;

@@ -1,7 +1,7 @@
 /// What a node does with a packet if it does not know the type of one of its options (RFC 8200
 /// section 4.2).
 #[derive(Clone, Copy, Debug, PartialEq, Eq)]
-pub enum Ipv6UnknownOptionAction {
+pub enum Ipv6OptionAction {
     /// It skips the option: 00.
     Skip,
     /// It discards the packet: 01.
