@@ -1,8 +1,8 @@
 -- The options of an IPv4 header (RFC 791 section 3.1).
 use Rattle.std.specs.Prelude.{ℕ, ◌≡◌, ◌≢◌, ◌<◌, ◌≤◌, ◌⊎◌, List, [], length, slice_index}
-use Rattle.std.specs.Prelude.{Result}
+use Rattle.std.specs.Prelude.{Option, Result}
 use Rattle.etherparse_net.specs.Options.{BeginsWithOptions, CountsOptions}
-use Rattle.etherparse_net.specs.Options.{IsOnlyListing, ListsOptions}
+use Rattle.etherparse_net.specs.Options.{GivesOption, IsOnlyListing, ListsOptions}
 use Rattle.etherparse_net.specs.declared.err.incomplete_option.IncompleteOption.{IncompleteOption}
 use Rattle.etherparse_net.specs.declared.err.ipv4_option_error.Ipv4OptionError.{Ipv4OptionError}
 use Rattle.etherparse_net.specs.declared.err.ipv4_option_error.Ipv4OptionError.TheVariants as error
@@ -64,3 +64,8 @@ IsOnlyIpv4Listing bytes options end =
 abbrev pub CountsIpv4Options : List ℕ → Result ℕ Ipv4OptionError → Type 0
 CountsIpv4Options bytes count =
     CountsOptions IsIpv4Option EndsIpv4Options RefusesIpv4Option bytes count
+
+-- what `next` gives at a place, and the place after it
+abbrev pub GivesIpv4Option : List ℕ → ℕ → Option (Result (List ℕ) Ipv4OptionError) → ℕ → Type 0
+GivesIpv4Option bytes place found after =
+    GivesOption IsIpv4Option EndsIpv4Options RefusesIpv4Option bytes place found after

@@ -1,5 +1,6 @@
 -- The extension headers of IPv6 one by one, each as a view of its kind (RFC 8200 section 4).
-use Rattle.std.specs.Prelude.{ℕ, ◌≡◌, ◌<◌, ◌⊎◌, ◌++◌, List, length, slice_index}
+use Rattle.std.specs.Prelude.{ℕ, ◌≡◌, ◌+◌, ◌<◌, ◌⊎◌, ◌++◌, List, [], length, slice_index}
+use Rattle.std.specs.Prelude.{Option, Some, None, Result, Ok, Err}
 use Rattle.etherparse.specs.ExtensionHeaderChain.{IsExtensionHeader, incomplete_header_error}
 use Rattle.etherparse.specs.ExtensionHeaderChain.{required_len_of}
 use Rattle.etherparse.specs.ExtensionHeaders.{IsSkippable}
@@ -43,3 +44,15 @@ pub record EndsInExtension (number : ℕ) (s : List ℕ) (offset : ℕ) (e : Len
   pub skippable : IsSkippable number
   pub short : length s < required_len_of number s
   pub error : e ≡ incomplete_header_error number s offset
+
+-- What `next` gives at an offset, and where the iterator is after it: the header of the number; or
+-- an error, after which no next header (59) follows; or nothing before a number that is of none.
+abbrev pub GivesExtension : ℕ → List ℕ → ℕ → Option (Result Ipv6ExtensionSlice LenError) → ℕ
+    → List ℕ → ℕ → Type 0
+GivesExtension number s offset (Some (Ok view)) next rest after =
+    BeginsWithExtension number s view rest × (next ≡ slice_index (extension_bytes view) 0)
+    × (after ≡ offset + length (extension_bytes view))
+GivesExtension number s offset (Some (Err e)) next rest after =
+    EndsInExtension number s offset e × (next ≡ 59) × (rest ≡ [])
+GivesExtension number s offset None next rest after =
+    (¬ IsSkippable number) × (next ≡ number) × (rest ≡ s) × (after ≡ offset)

@@ -1,8 +1,8 @@
 -- The options of hop-by-hop and destination options headers of IPv6 (RFC 8200 section 4.2).
 use Rattle.std.specs.Prelude.{ℕ, ◌≡◌, ◌≢◌, ◌==◌, ◌+◌, ◌<◌, List, [], length, slice_index}
-use Rattle.std.specs.Prelude.{nat_lt, if◌then◌else◌, Result}
+use Rattle.std.specs.Prelude.{nat_lt, if◌then◌else◌, Option, Result}
 use Rattle.etherparse_net.specs.Options.{BeginsWithOptions, CountsOptions}
-use Rattle.etherparse_net.specs.Options.{IsOnlyListing, ListsOptions}
+use Rattle.etherparse_net.specs.Options.{GivesOption, IsOnlyListing, ListsOptions}
 use Rattle.etherparse_net.specs.declared.err.incomplete_option.IncompleteOption.{IncompleteOption}
 
 -- The length in bytes of an option, by its type and its second byte. Pad1 (0) is its type alone.
@@ -54,3 +54,8 @@ IsOnlyIpv6Listing bytes options end =
 abbrev pub CountsIpv6Options : List ℕ → Result ℕ IncompleteOption → Type 0
 CountsIpv6Options bytes count =
     CountsOptions IsIpv6Option EndsIpv6Options RefusesIpv6Option bytes count
+
+-- what `next` gives at a place, and the place after it
+abbrev pub GivesIpv6Option : List ℕ → ℕ → Option (Result (List ℕ) IncompleteOption) → ℕ → Type 0
+GivesIpv6Option bytes place found after =
+    GivesOption IsIpv6Option EndsIpv6Options RefusesIpv6Option bytes place found after

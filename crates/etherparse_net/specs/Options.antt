@@ -1,6 +1,7 @@
 -- Options one after another, of either version of IP: an option is its type, and for most types a
 -- length and a value.
-use Rattle.std.specs.Prelude.{ℕ, ◌≡◌, ◌++◌, List, length, Result, Ok, Err}
+use Rattle.std.specs.Prelude.{ℕ, ◌≡◌, ◌++◌, List, drop, length, Result, Ok, Err}
+use Rattle.std.specs.Prelude.{Option, Some, None}
 use Rattle.std.specs.List.{AllByRecursion, concat}
 use Rattle.std.specs.Result.{result_map_both}
 
@@ -36,3 +37,14 @@ pub record CountsOptions {E : Type 0} (IsOption : List ℕ → Type 0) (IsEnd : 
   pub end : Result (List ℕ) E
   pub listing : IsOnlyListing IsOption IsEnd Refuses bytes options end
   pub counted : count ≡ result_map_both (λ _. length options) (λ e. e) end
+
+-- What `next` gives of options at a place in their bytes, and the place after it: the option that
+-- stands there; or why none does, after which nothing is left; or nothing where the list ends.
+abbrev pub GivesOption : {E : Type 0} → (List ℕ → Type 0) → (List ℕ → Type 0)
+    → (ℕ → List ℕ → E → Type 0) → List ℕ → ℕ → Option (Result (List ℕ) E) → ℕ → Type 0
+GivesOption IsOption IsEnd Refuses bytes place (Some (Ok option)) after =
+    IsOption option × (drop place bytes ≡ option ++ drop after bytes)
+GivesOption IsOption IsEnd Refuses bytes place (Some (Err e)) after =
+    Refuses place (drop place bytes) e × (after ≡ length bytes)
+GivesOption IsOption IsEnd Refuses bytes place None after =
+    IsEnd (drop place bytes) × (after ≡ place)

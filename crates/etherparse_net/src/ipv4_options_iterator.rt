@@ -106,6 +106,14 @@ impl<'a> Ipv4OptionsIterator<'a> {
     /// # Errors
     ///
     /// Those of [`Ipv4OptionsIterator::next`], the first of them.
+    ///
+    /// # Example
+    ///
+    /// ```
+    /// // No operation, a router alert (RFC 2113), and the end of the list.
+    /// let count = Ipv4OptionsIterator::count_of(&[1, 148, 4, 0, 0, 0, 0, 0]);
+    /// assert!(rt; count == Ok(2));
+    /// ```
     pub fn count_of(options: &[u8]) -> Result<usize, Ipv4OptionError>
         ensures counts { CountsIpv4Options options.now result }
     {
@@ -118,6 +126,28 @@ impl<'a> Ipv4OptionsIterator<'a> {
                 None => return Ok(count),
             }
         }
+    }
+}
+
+/// The options, as `next` of [`Ipv4OptionsIterator`] itself gives them.
+impl<'a> Iterator for Ipv4OptionsIterator<'a> {
+    type Item = Result<Ipv4OptionSlice<'a>, Ipv4OptionError>;
+
+    ghost use Rattle.std.specs.Prelude.{◌≡◌, ◌-◌, length};
+    ghost use Rattle.std.specs.Iterator.{at_most};
+    ghost use Rattle.std.specs.Option.{option_map};
+    ghost use Rattle.std.specs.Result.{result_map_both};
+    ghost use Rattle.etherparse_net.specs.Ipv4Options.{GivesIpv4Option};
+
+    ghost next_gives = { λ before found after. (after.options.now ≡ before.options.now)
+        × GivesIpv4Option before.options.now before.offset
+        (option_map (λ r. result_map_both (λ option. option.slice.now) (λ e. e) r) found)
+        after.offset };
+
+    ghost remaining = { λ left. at_most (length left.options.now - left.offset) };
+
+    fn next(&mut self) -> Option<Result<Ipv4OptionSlice<'a>, Ipv4OptionError>> {
+        Ipv4OptionsIterator::next(self)
     }
 }
 

@@ -52,7 +52,7 @@ pub struct Ipv6ExtensionSliceIter<'a> {
 
 impl<'a> Ipv6ExtensionSliceIter<'a> {
     ghost use Rattle.std.specs.Prelude.{ℕ, List, ◌≡◌, ◌+◌, ◌<◌, IfErr, IfNone, IfOk, IfSome};
-    ghost use Rattle.std.specs.Prelude.{Ok, Err, length, slice_index};
+    ghost use Rattle.std.specs.Prelude.{[], Ok, Err, length, slice_index};
     ghost use Rattle.etherparse.specs.ExtensionHeaderChain.{FollowsChain, IsWalkOf};
     ghost use Rattle.etherparse.specs.ExtensionHeaders.{IsSkippable};
     ghost use Rattle.etherparse_net.specs.Ipv6Extensions.{BeginsWithExtension, EndsInExtension};
@@ -85,7 +85,7 @@ impl<'a> Ipv6ExtensionSliceIter<'a> {
             × (self.new.offset ≡ self.old.offset + length (extension_bytes view)))) }
         ensures incomplete { IfSome result (λ found. IfErr found (λ e.
             EndsInExtension self.old.next_header self.old.rest.now self.old.offset e
-            × ¬ IsSkippable self.new.next_header)) }
+            × (self.new.next_header ≡ 59) × (self.new.rest.now ≡ []))) }
         ensures end { IfNone result (¬ IsSkippable self.old.next_header
             × (self.new.next_header ≡ self.old.next_header)
             × (self.new.rest.now ≡ self.old.rest.now)
@@ -122,6 +122,26 @@ impl<'a> Ipv6ExtensionSliceIter<'a> {
                 Some(Err(e.add_offset(self.offset)))
             }
         }
+    }
+}
+
+/// The headers, as `next` of [`Ipv6ExtensionSliceIter`] itself gives them.
+impl<'a> Iterator for Ipv6ExtensionSliceIter<'a> {
+    type Item = Result<Ipv6ExtensionSlice<'a>, LenError>;
+
+    ghost use Rattle.std.specs.Prelude.{◌==◌, ◌+◌, if◌then◌else◌, length};
+    ghost use Rattle.std.specs.Iterator.{at_most};
+    ghost use Rattle.etherparse_net.specs.Ipv6Extensions.{GivesExtension};
+
+    ghost next_gives = { λ before found after. GivesExtension
+        before.next_header before.rest.now before.offset found
+        after.next_header after.rest.now after.offset };
+
+    ghost remaining = { λ left. at_most
+        (length left.rest.now + (if left.next_header == 59 then 0 else 1)) };
+
+    fn next(&mut self) -> Option<Result<Ipv6ExtensionSlice<'a>, LenError>> {
+        Ipv6ExtensionSliceIter::next(self)
     }
 }
 

@@ -104,6 +104,14 @@ impl<'a> Ipv6OptionsIterator<'a> {
     /// # Errors
     ///
     /// An `IncompleteOption` if an option is cut off by the end of the bytes.
+    ///
+    /// # Example
+    ///
+    /// ```
+    /// // A Pad1, a PadN and an option for experiments (RFC 4727).
+    /// let count = Ipv6OptionsIterator::count_of(&[0, 1, 0, 0x1e, 1, 7]);
+    /// assert!(rt; count == Ok(3));
+    /// ```
     pub fn count_of(options: &[u8]) -> Result<usize, IncompleteOption>
         ensures counts { CountsIpv6Options options.now result }
     {
@@ -116,6 +124,28 @@ impl<'a> Ipv6OptionsIterator<'a> {
                 None => return Ok(count),
             }
         }
+    }
+}
+
+/// The options, as `next` of [`Ipv6OptionsIterator`] itself gives them.
+impl<'a> Iterator for Ipv6OptionsIterator<'a> {
+    type Item = Result<Ipv6OptionSlice<'a>, IncompleteOption>;
+
+    ghost use Rattle.std.specs.Prelude.{◌≡◌, ◌-◌, length};
+    ghost use Rattle.std.specs.Iterator.{at_most};
+    ghost use Rattle.std.specs.Option.{option_map};
+    ghost use Rattle.std.specs.Result.{result_map_both};
+    ghost use Rattle.etherparse_net.specs.Ipv6Options.{GivesIpv6Option};
+
+    ghost next_gives = { λ before found after. (after.options.now ≡ before.options.now)
+        × GivesIpv6Option before.options.now before.offset
+        (option_map (λ r. result_map_both (λ option. option.slice.now) (λ e. e) r) found)
+        after.offset };
+
+    ghost remaining = { λ left. at_most (length left.options.now - left.offset) };
+
+    fn next(&mut self) -> Option<Result<Ipv6OptionSlice<'a>, IncompleteOption>> {
+        Ipv6OptionsIterator::next(self)
     }
 }
 

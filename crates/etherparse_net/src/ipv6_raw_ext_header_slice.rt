@@ -88,6 +88,18 @@ impl<'a> Ipv6RawExtHeaderSlice<'a> {
 
     /// The options of the header, one after another, if it is one of hop-by-hop or destination
     /// options. In other headers these bytes are something else.
+    ///
+    /// # Example
+    ///
+    /// ```
+    /// // Destination options: a Pad1, a PadN and an option for experiments (RFC 4727).
+    /// let header = Ipv6RawExtHeaderSlice::from_slice(&[59, 0, 0, 1, 0, 0x1e, 1, 7])?;
+    /// let mut last = None;
+    /// for option in header.options() {
+    ///     last = Some(option?.option_type());
+    /// }
+    /// assert!(rt; last == Some(0x1e));
+    /// ```
     pub fn options(&self) -> Ipv6OptionsIterator<'a>
         ensures options { result.options.now ≡ drop 2 self.now.slice.now }
         ensures at_front { result.offset ≡ 0 }
