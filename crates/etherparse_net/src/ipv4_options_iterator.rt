@@ -57,7 +57,7 @@ impl<'a> Ipv4OptionsIterator<'a> {
     /// In this order: `Incomplete` if the length of an option is past the end of the bytes;
     /// `LengthBelowTwo` if it is below 2; `Incomplete` if the option is cut off by the end of the
     /// bytes. What comes after that is `None`.
-    pub fn next(&mut self) -> Option<Result<Ipv4OptionSlice<'a>, Ipv4OptionError>>
+    pub fn next_option(&mut self) -> Option<Result<Ipv4OptionSlice<'a>, Ipv4OptionError>>
         ensures same_options { self.new.options.now ≡ self.old.options.now }
         ensures option { IfSome result (λ found. IfOk found (λ option. IsIpv4Option option.slice.now
             × (drop self.old.offset self.old.options.now
@@ -105,7 +105,7 @@ impl<'a> Ipv4OptionsIterator<'a> {
     ///
     /// # Errors
     ///
-    /// Those of [`Ipv4OptionsIterator::next`], the first of them.
+    /// Those of [`Ipv4OptionsIterator::next_option`], the first of them.
     ///
     /// # Example
     ///
@@ -120,7 +120,7 @@ impl<'a> Ipv4OptionsIterator<'a> {
         let mut left = Ipv4OptionsIterator::new(options);
         let mut count = 0;
         'options: loop {
-            match left.next() {
+            match left.next_option() {
                 Some(Ok(_)) => count += 1,
                 Some(Err(e)) => return Err(e),
                 None => return Ok(count),
@@ -129,7 +129,7 @@ impl<'a> Ipv4OptionsIterator<'a> {
     }
 }
 
-/// The options, as `next` of [`Ipv4OptionsIterator`] itself gives them.
+/// The options, as [`Ipv4OptionsIterator::next_option`] gives them.
 impl<'a> Iterator for Ipv4OptionsIterator<'a> {
     type Item = Result<Ipv4OptionSlice<'a>, Ipv4OptionError>;
 
@@ -147,7 +147,7 @@ impl<'a> Iterator for Ipv4OptionsIterator<'a> {
     ghost remaining = { λ left. at_most (length left.options.now - left.offset) };
 
     fn next(&mut self) -> Option<Result<Ipv4OptionSlice<'a>, Ipv4OptionError>> {
-        Ipv4OptionsIterator::next(self)
+        self.next_option()
     }
 }
 

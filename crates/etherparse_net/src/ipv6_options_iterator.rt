@@ -55,7 +55,7 @@ impl<'a> Ipv6OptionsIterator<'a> {
     ///
     /// An `IncompleteOption` if an option is cut off by the end of the bytes. What comes after that
     /// is `None`.
-    pub fn next(&mut self) -> Option<Result<Ipv6OptionSlice<'a>, IncompleteOption>>
+    pub fn next_option(&mut self) -> Option<Result<Ipv6OptionSlice<'a>, IncompleteOption>>
         ensures same_options { self.new.options.now ≡ self.old.options.now }
         ensures option { IfSome result (λ found. IfOk found (λ option. IsIpv6Option option.slice.now
             × (drop self.old.offset self.old.options.now
@@ -118,7 +118,7 @@ impl<'a> Ipv6OptionsIterator<'a> {
         let mut left = Ipv6OptionsIterator::new(options);
         let mut count = 0;
         'options: loop {
-            match left.next() {
+            match left.next_option() {
                 Some(Ok(_)) => count += 1,
                 Some(Err(e)) => return Err(e),
                 None => return Ok(count),
@@ -127,7 +127,7 @@ impl<'a> Ipv6OptionsIterator<'a> {
     }
 }
 
-/// The options, as `next` of [`Ipv6OptionsIterator`] itself gives them.
+/// The options, as [`Ipv6OptionsIterator::next_option`] gives them.
 impl<'a> Iterator for Ipv6OptionsIterator<'a> {
     type Item = Result<Ipv6OptionSlice<'a>, IncompleteOption>;
 
@@ -145,7 +145,7 @@ impl<'a> Iterator for Ipv6OptionsIterator<'a> {
     ghost remaining = { λ left. at_most (length left.options.now - left.offset) };
 
     fn next(&mut self) -> Option<Result<Ipv6OptionSlice<'a>, IncompleteOption>> {
-        Ipv6OptionsIterator::next(self)
+        self.next_option()
     }
 }
 

@@ -3,7 +3,7 @@ use Rattle.etherparse_net.proofs.IpOptions.{tells_ipv6_options}
 use Rattle.etherparse_net.proofs.OptionLists.{next_option, none_left, one_more, only_listing}
 use Rattle.etherparse_net.proofs.OptionLists.{refused_at}
 use Rattle.etherparse_net.specs.Ipv6Options.{EndsIpv6Options, IsIpv6Option, RefusesIpv6Option}
-use Rattle.etherparse_net.proofs.ipv6_options_iterator.Ipv6OptionsIterator.next.Goals as goal
+use Rattle.etherparse_net.proofs.ipv6_options_iterator.Ipv6OptionsIterator.next_option.Goals as goal
 
 pub returns-then-is_empty-clause-ends : goal.returns-then-is_empty-clause-ends
 returns-then-is_empty-clause-ends c =

@@ -3,7 +3,7 @@ use Rattle.std.proofs.lemmas.Grind.{common_steps}
 use Rattle.etherparse_net.proofs.IpOptions.{tells_ipv4_options}
 use Rattle.etherparse_net.proofs.OptionLists.{next_option, one_more, only_listing, refused_at}
 use Rattle.etherparse_net.specs.Ipv4Options.{EndsIpv4Options, IsIpv4Option, RefusesIpv4Option}
-use Rattle.etherparse_net.proofs.ipv4_options_iterator.Ipv4OptionsIterator.next.Goals as goal
+use Rattle.etherparse_net.proofs.ipv4_options_iterator.Ipv4OptionsIterator.next_option.Goals as goal
 
 pub returns-then-is_empty-clause-ends : goal.returns-then-is_empty-clause-ends
 returns-then-is_empty-clause-ends c =
