@@ -2,6 +2,7 @@ pub mod Tcp
 pub mod TcpChecksum
 pub mod TcpHeader
 pub mod TcpOptionErrors
+pub mod TcpOptions
 pub mod TcpPadding
 pub mod TransportChecksum
 pub mod Udp

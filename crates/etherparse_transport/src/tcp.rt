@@ -6,7 +6,7 @@ ghost use Rattle.etherparse_transport.specs.Tcp.{data_offset_of, tcp_error_text,
 
 mod checksum;
 
-use crate::{TcpHeader, TcpOptions};
+use crate::{TcpHeader, TcpOptions, TcpOptionsIterator};
 use etherparse::LenSource;
 use etherparse::err::{Layer, LenError};
 use std::fmt;
@@ -247,6 +247,27 @@ impl<'a> TcpHeaderSlice<'a> {
         ensures value { result.now ≡ self.now.slice.now }
     {
         self.slice
+    }
+
+    /// The options one after the other.
+    ///
+    /// # Example
+    ///
+    /// ```
+    /// // A SYN with a maximum segment size of 1460 bytes.
+    /// let segment = [
+    ///     4, 0, 0, 80, 0, 0, 0, 1, 0, 0, 0, 0, 0x60, 0x02, 0x20, 0, 0xf1, 0xbc, 0, 0, 2, 4, 0x05,
+    ///     0xb4,
+    /// ];
+    /// let mut iterator = TcpHeaderSlice::from_slice(&segment)?.options_iterator();
+    /// assert!(rt; iterator.next() == Some(Ok(TcpOptionElement::MaximumSegmentSize(1460))));
+    /// assert!(rt; iterator.next() == None);
+    /// ```
+    #[inline]
+    pub fn options_iterator(&self) -> TcpOptionsIterator<'a>
+        ensures bytes_from_20 { result.options.now ≡ drop 20 self.now.slice.now }
+    {
+        TcpOptionsIterator::from_slice(self.options())
     }
 
     /// The header whose layout the bytes have, with any reserved bits.

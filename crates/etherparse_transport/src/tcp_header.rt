@@ -9,7 +9,7 @@ ghost use Rattle.etherparse_transport.specs.TcpHeader.{IsTcpLayout};
 mod checksum;
 
 use crate::tcp::{TcpError, TcpHeaderSlice};
-use crate::{TcpOptionWriteError, TcpOptions};
+use crate::{TcpOptionElement, TcpOptionWriteError, TcpOptions, TcpOptionsIterator};
 use arrayvec::ArrayVec;
 
 /// A TCP header with its options (RFC 9293 section 3.1).
@@ -83,7 +83,8 @@ pub struct TcpHeader {
 
 impl TcpHeader {
     ghost use Rattle.std.specs.Prelude.{ℕ, ◌≡◌, ◌+◌, ◌*◌, ◌^◌, ◌<◌, ◌≤◌, ◌↔◌, List, [], ◌∷◌, ◌++◌};
-    ghost use Rattle.std.specs.Prelude.{IfErr, IfOk, IsOk, Ok, OnErr, OnOk, length};
+    ghost use Rattle.std.specs.Prelude.{IfErr, IfOk, IsOk, Ok, OnErr, OnOk, length, map};
+    ghost use Rattle.std.specs.List.{flat_map};
     ghost use Rattle.std.specs.Int.{from_bool, to_be_bytes, w16, w32};
     ghost use Rattle.etherparse.specs.Reading.{found_and_rest};
     ghost use Rattle.etherparse_transport.specs.Tcp.{ViewsTcp};
@@ -91,6 +92,8 @@ impl TcpHeader {
     ghost use Rattle.etherparse_transport.specs.TcpHeader.{default_tcp_header, tcp_data_offset};
     ghost use Rattle.etherparse_transport.specs.TcpHeader.{tcp_flags, tcp_header_len};
     ghost use Rattle.etherparse_transport.specs.TcpHeader.{with_reserved_bits_cleared};
+    ghost use Rattle.etherparse_transport.specs.TcpOptions.{IsOptionList, option_bytes};
+    ghost use Rattle.etherparse_transport.specs.TcpOptions.{options_len, read_again};
     ghost use Rattle.etherparse_transport.specs.TcpPadding.{IsPadded};
 
     /// The length of a header without options, in bytes.
@@ -172,6 +175,50 @@ impl TcpHeader {
             }
             Err(e) => Err(e),
         }
+    }
+
+    /// Replaces the options with these, as [`TcpOptions::try_from_elements`] writes them.
+    ///
+    /// # Errors
+    ///
+    /// `NotEnoughSpace` with the number of bytes of the options if that is more than 40. The header
+    /// is then unchanged.
+    ///
+    /// # Example
+    ///
+    /// ```
+    /// let mut header = TcpHeader::new(1024, 80, 1, 8192);
+    /// header.set_options(&[TcpOptionElement::MaximumSegmentSize(1460)])?;
+    /// assert!(rt; header.options.as_slice() == [2, 4, 0x05, 0xb4].as_slice());
+    /// let mut iterator = header.options_iterator();
+    /// assert!(rt; iterator.next() == Some(Ok(TcpOptionElement::MaximumSegmentSize(1460))));
+    /// ```
+    pub fn set_options(&mut self, elements: &[TcpOptionElement]) -> Result<(), TcpOptionWriteError>
+        ensures accepted { IsOk result ↔ (options_len elements.now ≤ 40) }
+        ensures refused { IfErr result (λ e.
+            e ≡ TcpOptionWriteError.NotEnoughSpace (options_len elements.now)) }
+        ensures others { self.new ≡ record self.old { options = self.new.options } }
+        ensures written { OnOk result
+            (IsPadded (flat_map option_bytes elements.now) self.new.options) }
+        ensures read_again { OnOk result
+            (IsOptionList (map read_again elements.now) self.new.options) }
+        ensures unchanged { OnErr result (self.new ≡ self.old) }
+    {
+        match TcpOptions::try_from_elements(elements) {
+            Ok(options) => {
+                self.options = options;
+                Ok(())
+            }
+            Err(e) => Err(e),
+        }
+    }
+
+    /// The options one after the other.
+    #[inline]
+    pub fn options_iterator(&self) -> TcpOptionsIterator<'_>
+        ensures value { result.options.now ≡ self.now.options }
+    {
+        self.options.elements_iter()
     }
 
     /// The header at the front of a slice, and all the bytes after it. The checksum is not tested.

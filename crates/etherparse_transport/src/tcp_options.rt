@@ -6,6 +6,8 @@ ghost use Rattle.etherparse.specs.Bytes.{IsBytes};
 ghost use Rattle.etherparse.specs.Ipv4Options.{IsOptionsLen};
 ghost use Rattle.etherparse_transport.specs.TcpPadding.{IsPadded};
 
+mod elements;
+
 use crate::TcpOptionWriteError;
 use etherparse::Ipv4Options;
 use std::marker::Model;
