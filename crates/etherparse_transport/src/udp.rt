@@ -50,6 +50,7 @@ impl UdpHeader {
     /// assert!(rt; (header.source_port, header.destination_port) == (1024, 53));
     /// assert!(rt; rest == b"test".as_slice());
     /// ```
+    #[inline(always)]
     pub fn from_slice(slice: &[u8]) -> Result<(UdpHeader, &[u8]), LenError>
         ensures reads { ReadsUdp slice.now (found_and_rest result) }
         ensures only { (other : UdpReading) → ReadsUdp slice.now other →
@@ -167,6 +168,7 @@ impl UdpHeader {
 const _: () = prove!(UdpHeader::LEN == 8);
 
 // The header of 8 bytes.
+#[inline(always)]
 pub(crate) fn header_of(bytes: &[u8]) -> UdpHeader
     requires { length bytes.now ≡ 8 }
     ensures layout { IsUdpLayout result bytes.now }
