@@ -37,8 +37,6 @@ mod layers;
 #[cfg(test)]
 mod limited_walk;
 #[cfg(test)]
-mod net_examples;
-#[cfg(test)]
 mod packet_examples;
 #[cfg(test)]
 mod reassembly;
