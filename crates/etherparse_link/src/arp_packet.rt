@@ -130,21 +130,21 @@ impl ArpPacket {
     /// # Example
     ///
     /// ```
-    /// // A reply with addresses of IPv6, and two bytes of padding.
+    /// // A reply on ARCnet, whose addresses have one byte, and two bytes of padding.
     /// let bytes = [
-    ///     0, 1, 0x86, 0xdd, 6, 16, 0, 2, 2, 0, 0, 0, 0, 1, 0x20, 1, 0xd, 0xb8, 0, 0, 0, 0, 0, 0,
-    ///     0, 0, 0, 0, 0, 1, 2, 0, 0, 0, 0, 2, 0x20, 1, 0xd, 0xb8, 0, 0, 0, 0, 0, 0, 0, 0, 0, 0, 0,
-    ///     2, 0, 0,
+    ///     0, 7, 8, 0, 1, 4, 0, 2, 17, 192, 168, 0, 1, 34, 192, 168, 0, 2, 0, 0,
     /// ];
     /// let (packet, rest) = ArpPacket::from_slice(&bytes)?;
+    /// assert!(rt; packet.hw_addr_type == ArpHardwareId::ARCNET);
+    /// assert!(rt; packet.proto_addr_type == EtherType::IPV4);
     /// assert!(rt; packet.operation == ArpOperation::REPLY);
-    /// assert!(rt; packet.hw_addr_size() == 6 && packet.protocol_addr_size() == 16);
-    /// assert!(rt; packet.sender_hw_addr() == [2, 0, 0, 0, 0, 1].as_slice());
-    /// assert!(rt; packet.sender_protocol_addr() == &bytes[14..30]);
-    /// assert!(rt; packet.target_hw_addr() == [2, 0, 0, 0, 0, 2].as_slice());
-    /// assert!(rt; packet.target_protocol_addr() == &bytes[36..52]);
+    /// assert!(rt; packet.hw_addr_size() == 1 && packet.protocol_addr_size() == 4);
+    /// assert!(rt; packet.sender_hw_addr() == [17].as_slice());
+    /// assert!(rt; packet.sender_protocol_addr() == [192, 168, 0, 1].as_slice());
+    /// assert!(rt; packet.target_hw_addr() == [34].as_slice());
+    /// assert!(rt; packet.target_protocol_addr() == [192, 168, 0, 2].as_slice());
     /// assert!(rt; rest == [0, 0].as_slice());
-    /// let refused = ArpEthIpv4FromError::NonMatchingProtocolType(EtherType::IPV6);
+    /// let refused = ArpEthIpv4FromError::NonMatchingHwType(ArpHardwareId::ARCNET);
     /// assert!(rt; ArpEthIpv4Packet::try_from(packet) == Err(refused));
     /// ```
     pub fn from_slice(slice: &[u8]) -> Result<(ArpPacket, &[u8]), LenError>
