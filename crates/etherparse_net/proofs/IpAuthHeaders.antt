@@ -83,25 +83,7 @@ spelled h p l =
 -- with the reserved bytes 0 the bytes are in the cleared layout of the same header
 pub cleared_layout : (h : IpAuthHeader) (p : List ℕ) → IsAuthLayout h p
     → IsClearedAuthLayout h (with_auth_reserved_cleared p)
-cleared_layout h [] l = absurd (omega (arith, l.len))
-cleared_layout h (a ∷ []) l = absurd (omega (arith, l.len))
-cleared_layout h (a ∷ b ∷ []) l = absurd (omega (arith, l.len))
-cleared_layout h (a ∷ b ∷ c ∷ []) l = absurd (omega (arith, l.len))
-cleared_layout h (a ∷ b ∷ c ∷ d ∷ p) l =
-    let bytes = set_is_bytes (a ∷ b ∷ 0 ∷ d ∷ p) 3 0 (omega arith) (omega arith)
-    (set_is_bytes (a ∷ b ∷ c ∷ d ∷ p) 2 0 (omega arith) (omega arith) l.are_bytes) in
-    record {
-      layout = record {
-        len = l.len;
-        payload_len = l.payload_len;
-        are_bytes = bytes;
-        next_header = l.next_header;
-        spi = l.spi;
-        sequence_number = l.sequence_number;
-        icv = l.icv;
-      };
-      reserved = refl;
-    }
+cleared_layout h p l = first_of (search rules, grind (arith, common_steps))
 
 -- the bytes of the fields and the value after them are in the cleared layout
 pub spells : (h : IpAuthHeader) (p : List ℕ) → h.spi < 2 ^ 32 → h.sequence_number < 2 ^ 32

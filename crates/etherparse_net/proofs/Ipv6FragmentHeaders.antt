@@ -81,36 +81,9 @@ spelled h p l = told p 0 (fragment_fields h) [] l.layout.are_bytes (omega (arith
     ))
 
 -- with all that is reserved 0 the bytes are in the cleared layout of the same header
-cleared_at : (h : Ipv6FragmentHeader) (a b c d e f g i : ℕ)
-    → IsFragmentLayout h (a ∷ b ∷ c ∷ d ∷ e ∷ f ∷ g ∷ i ∷ [])
-    → IsClearedFragmentLayout h
-    (with_fragment_reserved_cleared (a ∷ b ∷ c ∷ d ∷ e ∷ f ∷ g ∷ i ∷ []))
-cleared_at h a b c d e f g i l =
-    let p : List ℕ = a ∷ b ∷ c ∷ d ∷ e ∷ f ∷ g ∷ i ∷ [] in
-    let byte : d / 2 ^ 3 * 2 ^ 3 + d % 2 < 256 = omega (arith, l.are_bytes 3) in
-    let offset : (c * 256 + (d / 2 ^ 3 * 2 ^ 3 + d % 2)) / 2 ^ 3 ≡ (c * 256 + d) / 2 ^ 3 =
-    omega arith in
-    let more : (c * 256 + (d / 2 ^ 3 * 2 ^ 3 + d % 2)) % 2 ≡ (c * 256 + d) % 2 = omega arith in
-    record {
-      layout = record {
-        len = refl;
-        are_bytes = set_is_bytes (slice_set p 1 0) 3 (d / 2 ^ 3 * 2 ^ 3 + d % 2) (omega arith) byte
-            (set_is_bytes p 1 0 (omega arith) (omega arith) l.are_bytes);
-        next_header = l.next_header;
-        fragment_offset = offset ∙ l.fragment_offset;
-        more_fragments = ap (λ n. nat_eq n 1) more ∙ l.more_fragments;
-        identification = l.identification;
-      };
-      reserved_byte = refl;
-      reserved_bits = omega arith;
-    }
-
 pub cleared_layout : (h : Ipv6FragmentHeader) (p : List ℕ) → IsFragmentLayout h p
     → IsClearedFragmentLayout h (with_fragment_reserved_cleared p)
-cleared_layout h p l =
-    let P : List ℕ → Type 0 = λ q. IsFragmentLayout h q
-    → IsClearedFragmentLayout h (with_fragment_reserved_cleared q) in
-    subst P (sym (spread p 8 l.len)) (λ k. cleared_at h _ _ _ _ _ _ _ _ k) l
+cleared_layout h p l = first_of (search rules, grind (arith, common_steps))
 
 -- a flag in the lowest bit
 lowest_bit : (n : ℕ) (b : Bool) → nat_eq ((n * 2 ^ 3 + from_bool b) % 2) 1 ≡ b
