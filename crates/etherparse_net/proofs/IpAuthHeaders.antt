@@ -55,14 +55,13 @@ auth_viewed s n is some fits bytes =
       header = header;
       rest = drop n s;
       whole = sym (take-append-drop n s);
-      layout =
-          search (rules, len, payload_len, front_is_bytes);
+      layout = search (rules, len, payload_len, front_is_bytes);
     }
 
 -- the fields of a header before its integrity check value, in their order
 abbrev pub auth_fields : IpAuthHeader → List Field
-auth_fields h = u8 h.next_header ∷ u8 (length h.icv / 4 + 1) ∷ u16 0 ∷ u32 h.spi ∷ u32
-    h.sequence_number ∷ []
+auth_fields h = u8 h.next_header ∷ u8 (length h.icv / 4 + 1) ∷ u16 0
+    ∷ u32 h.spi ∷ u32 h.sequence_number ∷ []
 
 -- bytes in the cleared layout are those of the fields, and the value after them
 pub spelled : (h : IpAuthHeader) (p : List ℕ) → IsClearedAuthLayout h p
@@ -83,7 +82,7 @@ spelled h p l =
 -- with the reserved bytes 0 the bytes are in the cleared layout of the same header
 pub cleared_layout : (h : IpAuthHeader) (p : List ℕ) → IsAuthLayout h p
     → IsClearedAuthLayout h (with_auth_reserved_cleared p)
-cleared_layout h p l = first_of (search rules, grind (arith, common_steps))
+cleared_layout h p l = search rules
 
 -- the bytes of the fields and the value after them are in the cleared layout
 pub spells : (h : IpAuthHeader) (p : List ℕ) → h.spi < 2 ^ 32 → h.sequence_number < 2 ^ 32

@@ -54,14 +54,13 @@ fragment_viewed s enough bytes =
       header = header.0;
       rest = drop 8 s;
       whole = sym (take-append-drop 8 s);
-      layout =
-          header.1;
+      layout = header.1;
     }
 
 -- the fields of a header, in their order
 abbrev pub fragment_fields : Ipv6FragmentHeader → List Field
-fragment_fields h = u8 h.next_header ∷ u8 0 ∷ u16
-    (h.fragment_offset * 2 ^ 3 + from_bool h.more_fragments) ∷ u32 h.identification ∷ []
+fragment_fields h = u8 h.next_header ∷ u8 0
+    ∷ u16 (h.fragment_offset * 2 ^ 3 + from_bool h.more_fragments) ∷ u32 h.identification ∷ []
 
 -- the second word of a header that has cleared what is reserved
 word_of : (h : Ipv6FragmentHeader) (p : List ℕ) → IsClearedFragmentLayout h p
@@ -71,19 +70,15 @@ word_of h p l = grind (arith, common_steps, l.layout.are_bytes 2, l.layout.are_b
 -- bytes in the cleared layout are those of the fields
 pub spelled : (h : Ipv6FragmentHeader) (p : List ℕ) → IsClearedFragmentLayout h p
     → p ≡ written (fragment_fields h) []
-spelled h p l = told p 0 (fragment_fields h) [] l.layout.are_bytes (omega (arith, l.layout.len))
-    (search (
-      rules,
-      word_of h p l,
-      l.layout,
-      drop_of_length-le p {i =
-          8} (omega (arith, l.layout.len)),
-    ))
+spelled h p l =
+    let rest = drop_of_length-le p {i = 8} (omega (arith, l.layout.len)) in
+    told p 0 (fragment_fields h) [] l.layout.are_bytes (omega (arith, l.layout.len))
+    (search (rules, word_of h p l, l.layout, rest))
 
 -- with all that is reserved 0 the bytes are in the cleared layout of the same header
 pub cleared_layout : (h : Ipv6FragmentHeader) (p : List ℕ) → IsFragmentLayout h p
     → IsClearedFragmentLayout h (with_fragment_reserved_cleared p)
-cleared_layout h p l = first_of (search rules, grind (arith, common_steps))
+cleared_layout h p l = search rules
 
 -- a flag in the lowest bit
 lowest_bit : (n : ℕ) (b : Bool) → nat_eq ((n * 2 ^ 3 + from_bool b) % 2) 1 ≡ b
@@ -103,25 +98,17 @@ written_is_bytes h next (suc (suc (suc (suc i)))) = grind arith
 pub spells : (h : Ipv6FragmentHeader) (p : List ℕ) → h.next_header < 2 ^ 8
     → h.fragment_offset < 2 ^ 13 → h.identification < 2 ^ 32
     → p ≡ written (fragment_fields h) [] → IsClearedFragmentLayout h p
-spells h p next offset identification e =
+spells h p next offset_fits identification e =
     let are_bytes : IsBytes p = subst IsBytes (sym e) (written_is_bytes h next) in
     let fit : AllByRecursion Fits (fragment_fields h) =
     omega (arith, from_bool-lt h.more_fragments) in
     let fields = read_back p 0 (fragment_fields h) [] fit e in
     let len = ap length e ∙ length-written (fragment_fields h) [] fit in
-    let word : from_be_bytes w16 (slice_range p 2 4) ≡ h.fragment_offset * 2 ^ 3 + from_bool
-    h.more_fragments = fields.1.1.0 in
+    let word = fields.1.1.0 in
     let more : nat_eq (from_be_bytes w16 (slice_range p 2 4) % 2) 1 ≡ h.more_fragments =
     rw word (lowest_bit h.fragment_offset h.more_fragments) in
-    record {
-      layout = record {
-        len = len;
-        are_bytes = are_bytes;
-        next_header = fields.0;
-        fragment_offset = rw word (omega (arith, from_bool-lt h.more_fragments));
-        more_fragments = more;
-        identification = fields.1.1.1.0;
-      };
-      reserved_byte = fields.1.0;
-      reserved_bits = grind (arith, common_steps, are_bytes 3, word, from_bool-lt h.more_fragments);
-    }
+    let offset : fragment_offset_of p ≡ h.fragment_offset =
+    rw word (omega (arith, from_bool-lt h.more_fragments)) in
+    let bits : slice_index p 3 / 2 % 2 ^ 2 ≡ 0 =
+    grind (arith, common_steps, are_bytes 3, word, from_bool-lt h.more_fragments) in
+    search (rules, fields, len, are_bytes, more, offset, bits)

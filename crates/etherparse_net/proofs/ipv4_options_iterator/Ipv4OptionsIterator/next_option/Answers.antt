@@ -9,7 +9,7 @@ pub returns-then-is_empty-clause-ends : goal.returns-then-is_empty-clause-ends
 returns-then-is_empty-clause-ends c =
     let s = c.args.self.now.options.now in
     let rest = drop c.args.self.now.offset s in
-    let end : EndsIpv4Options rest = first_of (search rules, grind (arith, common_steps)) in
+    let end : EndsIpv4Options rest = grind (arith, common_steps) in
     λ options b. only_listing IsIpv4Option EndsIpv4Options RefusesIpv4Option tells_ipv4_options s
     options _ (b, end)
 
