@@ -1,6 +1,6 @@
 -- The bytes of an authentication header tell its fields, and its fields its bytes.
 use Rattle.std.proofs.Common.{ℕ, ◌≡◌, ◌≢◌, ◌+◌, ◌/◌, ◌^◌, ◌<◌, ◌≤◌, List, [], ◌∷◌, ◌∙◌, length}
-use Rattle.std.proofs.Common.{length-drop, take, drop, refl, sym, ap, arith, rules, Ok, slice_index}
+use Rattle.std.proofs.Common.{length-drop, take, drop, sym, ap, arith, rules, Ok, slice_index}
 use Rattle.std.proofs.Common.{take-append-drop}
 use Rattle.std.specs.Int.{from_be_bytes, w32}
 use Rattle.std.specs.List.{AllByRecursion, slice_range}
@@ -9,7 +9,6 @@ use Rattle.etherparse.specs.Bytes.{IsBytes}
 use Rattle.etherparse.proofs.Fronts.{TellsHeaders}
 use Rattle.etherparse.proofs.Layouts.{Field, Fits, length-written, read_back, told, u16, u32, u8}
 use Rattle.etherparse.proofs.Layouts.{written}
-use Rattle.etherparse.proofs.Parts.{set_is_bytes}
 use Rattle.etherparse_net.specs.IpAuthIcv.{IsIcvLen}
 use Rattle.etherparse_net.specs.IpAuthHeader.{IsAuthLayout, IsClearedAuthLayout, RefusesAuth}
 use Rattle.etherparse_net.specs.IpAuthHeader.{ViewsAuth, auth_len_of, with_auth_reserved_cleared}

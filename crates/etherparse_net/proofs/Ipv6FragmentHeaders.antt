@@ -1,7 +1,7 @@
 -- The bytes of a fragment header tell its fields, and its fields its bytes.
 use Rattle.std.proofs.Common.{ℕ, zero, suc, ◌≡◌, ◌+◌, ◌*◌, ◌/◌, ◌%◌, ◌^◌, ◌<◌, ◌≤◌, List, [], ◌∷◌}
 use Rattle.std.proofs.Common.{◌∙◌, length, nat_eq, refl, sym, ap, subst, Bool, true, false, arith}
-use Rattle.std.proofs.Common.{rules, slice_index, slice_set, Ok, take, drop, take-append-drop}
+use Rattle.std.proofs.Common.{rules, slice_index, Ok, take, drop, take-append-drop}
 use Rattle.std.proofs.Common.{drop_of_length-le}
 use Rattle.std.specs.Int.{from_be_bytes, from_bool, w16, w32}
 use Rattle.std.specs.List.{AllByRecursion, slice_range}
@@ -11,7 +11,6 @@ use Rattle.etherparse.specs.declared.err.Layer.TheVariants as layer
 use Rattle.etherparse.proofs.Fronts.{TellsHeaders, fixed_tells}
 use Rattle.etherparse.proofs.Layouts.{Field, Fits, length-written, read_back, told, u16, u32, u8}
 use Rattle.etherparse.proofs.Layouts.{written}
-use Rattle.etherparse.proofs.Parts.{set_is_bytes, spread}
 use Rattle.etherparse_net.specs.Ipv6FragmentHeader.{IsClearedFragmentLayout, IsFragmentLayout}
 use Rattle.etherparse_net.specs.Ipv6FragmentHeader.{RefusesFragment, ViewsFragment}
 use Rattle.etherparse_net.specs.Ipv6FragmentHeader.{fragment_offset_of}

@@ -1,4 +1,4 @@
-use Rattle.std.proofs.Common.{arith, drop, rules}
+use Rattle.std.proofs.Common.{arith, drop}
 use Rattle.std.proofs.lemmas.Grind.{common_steps}
 use Rattle.etherparse_net.proofs.IpOptions.{tells_ipv4_options}
 use Rattle.etherparse_net.proofs.OptionLists.{next_option, one_more, only_listing, refused_at}
