@@ -1,6 +1,6 @@
 -- The bytes of an authentication header tell its fields, and its fields its bytes.
 use Rattle.std.proofs.Common.{ℕ, ◌≡◌, ◌≢◌, ◌+◌, ◌/◌, ◌^◌, ◌<◌, ◌≤◌, List, [], ◌∷◌, ◌∙◌, length}
-use Rattle.std.proofs.Common.{length-drop, take, drop, refl, sym, ap, arith, rules, Ok, slice_index}
+use Rattle.std.proofs.Common.{length-drop, take, drop, sym, ap, arith, rules, Ok, slice_index}
 use Rattle.std.proofs.Common.{take-append-drop}
 use Rattle.std.specs.Int.{from_be_bytes, w32}
 use Rattle.std.specs.List.{AllByRecursion, slice_range}
@@ -9,7 +9,6 @@ use Rattle.etherparse.specs.Bytes.{IsBytes}
 use Rattle.etherparse.proofs.Fronts.{TellsHeaders}
 use Rattle.etherparse.proofs.Layouts.{Field, Fits, length-written, read_back, told, u16, u32, u8}
 use Rattle.etherparse.proofs.Layouts.{written}
-use Rattle.etherparse.proofs.Parts.{set_is_bytes}
 use Rattle.etherparse_net.specs.IpAuthIcv.{IsIcvLen}
 use Rattle.etherparse_net.specs.IpAuthHeader.{IsAuthLayout, IsClearedAuthLayout, RefusesAuth}
 use Rattle.etherparse_net.specs.IpAuthHeader.{ViewsAuth, auth_len_of, with_auth_reserved_cleared}
@@ -55,14 +54,13 @@ auth_viewed s n is some fits bytes =
       header = header;
       rest = drop n s;
       whole = sym (take-append-drop n s);
-      layout =
-          search (rules, len, payload_len, front_is_bytes);
+      layout = search (rules, len, payload_len, front_is_bytes);
     }
 
 -- the fields of a header before its integrity check value, in their order
 abbrev pub auth_fields : IpAuthHeader → List Field
-auth_fields h = u8 h.next_header ∷ u8 (length h.icv / 4 + 1) ∷ u16 0 ∷ u32 h.spi ∷ u32
-    h.sequence_number ∷ []
+auth_fields h = u8 h.next_header ∷ u8 (length h.icv / 4 + 1) ∷ u16 0
+    ∷ u32 h.spi ∷ u32 h.sequence_number ∷ []
 
 -- bytes in the cleared layout are those of the fields, and the value after them
 pub spelled : (h : IpAuthHeader) (p : List ℕ) → IsClearedAuthLayout h p
@@ -83,25 +81,7 @@ spelled h p l =
 -- with the reserved bytes 0 the bytes are in the cleared layout of the same header
 pub cleared_layout : (h : IpAuthHeader) (p : List ℕ) → IsAuthLayout h p
     → IsClearedAuthLayout h (with_auth_reserved_cleared p)
-cleared_layout h [] l = absurd (omega (arith, l.len))
-cleared_layout h (a ∷ []) l = absurd (omega (arith, l.len))
-cleared_layout h (a ∷ b ∷ []) l = absurd (omega (arith, l.len))
-cleared_layout h (a ∷ b ∷ c ∷ []) l = absurd (omega (arith, l.len))
-cleared_layout h (a ∷ b ∷ c ∷ d ∷ p) l =
-    let bytes = set_is_bytes (a ∷ b ∷ 0 ∷ d ∷ p) 3 0 (omega arith) (omega arith)
-    (set_is_bytes (a ∷ b ∷ c ∷ d ∷ p) 2 0 (omega arith) (omega arith) l.are_bytes) in
-    record {
-      layout = record {
-        len = l.len;
-        payload_len = l.payload_len;
-        are_bytes = bytes;
-        next_header = l.next_header;
-        spi = l.spi;
-        sequence_number = l.sequence_number;
-        icv = l.icv;
-      };
-      reserved = refl;
-    }
+cleared_layout h p l = search rules
 
 -- the bytes of the fields and the value after them are in the cleared layout
 pub spells : (h : IpAuthHeader) (p : List ℕ) → h.spi < 2 ^ 32 → h.sequence_number < 2 ^ 32

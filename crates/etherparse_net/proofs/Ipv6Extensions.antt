@@ -43,8 +43,7 @@ extension_begins n next s after view skippable enough skipped bytes kind =
     let front : extension_bytes view ≡ take k s = bytes ∙ ap (λ i. take i s) passed in
     record {
       whole = rw (front, same) (sym (take-append-drop k s));
-      header =
-          rw front (whole_header n s skippable enough);
+      header = rw front (whole_header n s skippable enough);
       kind = kind;
     }
 

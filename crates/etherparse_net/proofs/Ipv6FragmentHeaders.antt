@@ -1,7 +1,7 @@
 -- The bytes of a fragment header tell its fields, and its fields its bytes.
 use Rattle.std.proofs.Common.{ℕ, zero, suc, ◌≡◌, ◌+◌, ◌*◌, ◌/◌, ◌%◌, ◌^◌, ◌<◌, ◌≤◌, List, [], ◌∷◌}
 use Rattle.std.proofs.Common.{◌∙◌, length, nat_eq, refl, sym, ap, subst, Bool, true, false, arith}
-use Rattle.std.proofs.Common.{rules, slice_index, slice_set, Ok, take, drop, take-append-drop}
+use Rattle.std.proofs.Common.{rules, slice_index, Ok, take, drop, take-append-drop}
 use Rattle.std.proofs.Common.{drop_of_length-le}
 use Rattle.std.specs.Int.{from_be_bytes, from_bool, w16, w32}
 use Rattle.std.specs.List.{AllByRecursion, slice_range}
@@ -11,7 +11,6 @@ use Rattle.etherparse.specs.declared.err.Layer.TheVariants as layer
 use Rattle.etherparse.proofs.Fronts.{TellsHeaders, fixed_tells}
 use Rattle.etherparse.proofs.Layouts.{Field, Fits, length-written, read_back, told, u16, u32, u8}
 use Rattle.etherparse.proofs.Layouts.{written}
-use Rattle.etherparse.proofs.Parts.{set_is_bytes, spread}
 use Rattle.etherparse_net.specs.Ipv6FragmentHeader.{IsClearedFragmentLayout, IsFragmentLayout}
 use Rattle.etherparse_net.specs.Ipv6FragmentHeader.{RefusesFragment, ViewsFragment}
 use Rattle.etherparse_net.specs.Ipv6FragmentHeader.{fragment_offset_of}
@@ -54,14 +53,13 @@ fragment_viewed s enough bytes =
       header = header.0;
       rest = drop 8 s;
       whole = sym (take-append-drop 8 s);
-      layout =
-          header.1;
+      layout = header.1;
     }
 
 -- the fields of a header, in their order
 abbrev pub fragment_fields : Ipv6FragmentHeader → List Field
-fragment_fields h = u8 h.next_header ∷ u8 0 ∷ u16
-    (h.fragment_offset * 2 ^ 3 + from_bool h.more_fragments) ∷ u32 h.identification ∷ []
+fragment_fields h = u8 h.next_header ∷ u8 0
+    ∷ u16 (h.fragment_offset * 2 ^ 3 + from_bool h.more_fragments) ∷ u32 h.identification ∷ []
 
 -- the second word of a header that has cleared what is reserved
 word_of : (h : Ipv6FragmentHeader) (p : List ℕ) → IsClearedFragmentLayout h p
@@ -71,46 +69,15 @@ word_of h p l = grind (arith, common_steps, l.layout.are_bytes 2, l.layout.are_b
 -- bytes in the cleared layout are those of the fields
 pub spelled : (h : Ipv6FragmentHeader) (p : List ℕ) → IsClearedFragmentLayout h p
     → p ≡ written (fragment_fields h) []
-spelled h p l = told p 0 (fragment_fields h) [] l.layout.are_bytes (omega (arith, l.layout.len))
-    (search (
-      rules,
-      word_of h p l,
-      l.layout,
-      drop_of_length-le p {i =
-          8} (omega (arith, l.layout.len)),
-    ))
+spelled h p l =
+    let rest = drop_of_length-le p {i = 8} (omega (arith, l.layout.len)) in
+    told p 0 (fragment_fields h) [] l.layout.are_bytes (omega (arith, l.layout.len))
+    (search (rules, word_of h p l, l.layout, rest))
 
 -- with all that is reserved 0 the bytes are in the cleared layout of the same header
-cleared_at : (h : Ipv6FragmentHeader) (a b c d e f g i : ℕ)
-    → IsFragmentLayout h (a ∷ b ∷ c ∷ d ∷ e ∷ f ∷ g ∷ i ∷ [])
-    → IsClearedFragmentLayout h
-    (with_fragment_reserved_cleared (a ∷ b ∷ c ∷ d ∷ e ∷ f ∷ g ∷ i ∷ []))
-cleared_at h a b c d e f g i l =
-    let p : List ℕ = a ∷ b ∷ c ∷ d ∷ e ∷ f ∷ g ∷ i ∷ [] in
-    let byte : d / 2 ^ 3 * 2 ^ 3 + d % 2 < 256 = omega (arith, l.are_bytes 3) in
-    let offset : (c * 256 + (d / 2 ^ 3 * 2 ^ 3 + d % 2)) / 2 ^ 3 ≡ (c * 256 + d) / 2 ^ 3 =
-    omega arith in
-    let more : (c * 256 + (d / 2 ^ 3 * 2 ^ 3 + d % 2)) % 2 ≡ (c * 256 + d) % 2 = omega arith in
-    record {
-      layout = record {
-        len = refl;
-        are_bytes = set_is_bytes (slice_set p 1 0) 3 (d / 2 ^ 3 * 2 ^ 3 + d % 2) (omega arith) byte
-            (set_is_bytes p 1 0 (omega arith) (omega arith) l.are_bytes);
-        next_header = l.next_header;
-        fragment_offset = offset ∙ l.fragment_offset;
-        more_fragments = ap (λ n. nat_eq n 1) more ∙ l.more_fragments;
-        identification = l.identification;
-      };
-      reserved_byte = refl;
-      reserved_bits = omega arith;
-    }
-
 pub cleared_layout : (h : Ipv6FragmentHeader) (p : List ℕ) → IsFragmentLayout h p
     → IsClearedFragmentLayout h (with_fragment_reserved_cleared p)
-cleared_layout h p l =
-    let P : List ℕ → Type 0 = λ q. IsFragmentLayout h q
-    → IsClearedFragmentLayout h (with_fragment_reserved_cleared q) in
-    subst P (sym (spread p 8 l.len)) (λ k. cleared_at h _ _ _ _ _ _ _ _ k) l
+cleared_layout h p l = search rules
 
 -- a flag in the lowest bit
 lowest_bit : (n : ℕ) (b : Bool) → nat_eq ((n * 2 ^ 3 + from_bool b) % 2) 1 ≡ b
@@ -130,25 +97,17 @@ written_is_bytes h next (suc (suc (suc (suc i)))) = grind arith
 pub spells : (h : Ipv6FragmentHeader) (p : List ℕ) → h.next_header < 2 ^ 8
     → h.fragment_offset < 2 ^ 13 → h.identification < 2 ^ 32
     → p ≡ written (fragment_fields h) [] → IsClearedFragmentLayout h p
-spells h p next offset identification e =
+spells h p next offset_fits identification e =
     let are_bytes : IsBytes p = subst IsBytes (sym e) (written_is_bytes h next) in
     let fit : AllByRecursion Fits (fragment_fields h) =
     omega (arith, from_bool-lt h.more_fragments) in
     let fields = read_back p 0 (fragment_fields h) [] fit e in
     let len = ap length e ∙ length-written (fragment_fields h) [] fit in
-    let word : from_be_bytes w16 (slice_range p 2 4) ≡ h.fragment_offset * 2 ^ 3 + from_bool
-    h.more_fragments = fields.1.1.0 in
+    let word = fields.1.1.0 in
     let more : nat_eq (from_be_bytes w16 (slice_range p 2 4) % 2) 1 ≡ h.more_fragments =
     rw word (lowest_bit h.fragment_offset h.more_fragments) in
-    record {
-      layout = record {
-        len = len;
-        are_bytes = are_bytes;
-        next_header = fields.0;
-        fragment_offset = rw word (omega (arith, from_bool-lt h.more_fragments));
-        more_fragments = more;
-        identification = fields.1.1.1.0;
-      };
-      reserved_byte = fields.1.0;
-      reserved_bits = grind (arith, common_steps, are_bytes 3, word, from_bool-lt h.more_fragments);
-    }
+    let offset : fragment_offset_of p ≡ h.fragment_offset =
+    rw word (omega (arith, from_bool-lt h.more_fragments)) in
+    let bits : slice_index p 3 / 2 % 2 ^ 2 ≡ 0 =
+    grind (arith, common_steps, are_bytes 3, word, from_bool-lt h.more_fragments) in
+    search (rules, fields, len, are_bytes, more, offset, bits)

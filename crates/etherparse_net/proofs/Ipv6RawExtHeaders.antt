@@ -42,6 +42,5 @@ raw_ext_viewed s n is fits bytes =
       header = header;
       rest = drop n s;
       whole = sym (take-append-drop n s);
-      layout =
-          search (rules, len, front_is_bytes);
+      layout = search (rules, len, front_is_bytes);
     }

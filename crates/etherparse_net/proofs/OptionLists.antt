@@ -11,10 +11,9 @@ use Rattle.etherparse.proofs.Parts.{same_front}
 use Rattle.etherparse_net.specs.Options.{BeginsWithOptions, IsOnlyListing, ListsOptions}
 
 -- What makes it one way: options at one front have one length; what begins with an option is not
--- the end, and not refused; the end is not refused; and what is refused has
--- one reason.
-pub record TellsOptions {E : Type 0} (IsOption : List ℕ → Type 0) (IsEnd : List ℕ
-    → Type 0) (Refuses : ℕ → List ℕ → E → Type 0) : Type 0 where
+-- the end, and not refused; the end is not refused; and what is refused has one reason.
+pub record TellsOptions {E : Type 0} (IsOption IsEnd : List ℕ → Type 0)
+    (Refuses : ℕ → List ℕ → E → Type 0) : Type 0 where
   pub one_length : (o p x y : List ℕ) → IsOption o → IsOption p → o ++ x ≡ p ++ y
       → length o ≡ length p
   pub not_end : (o x s : List ℕ) → IsOption o → s ≡ o ++ x → IsEnd s → ⊥
@@ -24,92 +23,66 @@ pub record TellsOptions {E : Type 0} (IsOption : List ℕ → Type 0) (IsEnd : L
   pub one_refusal : (s : List ℕ) (place : ℕ) (e f : E) → Refuses place s e → Refuses place s f
       → e ≡ f
 
-module _ {E : Type 0} (IsOption : List ℕ → Type 0) (IsEnd : List ℕ → Type 0) (Refuses : ℕ → List ℕ
-    → E → Type 0) (t : TellsOptions IsOption IsEnd Refuses) where
-  -- options from a place on, and how they end
-  abbrev Lists : ℕ → List ℕ → List (List ℕ) → Result (List ℕ) E → Type 0
-  Lists at s os (Ok r) = AllByRecursion IsOption os × (s ≡ concat os ++ r) × IsEnd r
-  Lists at s os (Err e) =
-      AllByRecursion IsOption os ×
-      ((r : List ℕ) × (s ≡ concat os ++ r) × Refuses (at + length (concat os)) r e)
+-- no option stands at the front
+abbrev IsStuck : (List ℕ → Type 0) → List ℕ → Type 0
+IsStuck IsOption r = (o x : List ℕ) → IsOption o → r ≡ o ++ x → ⊥
 
-  ends_first : (at : ℕ) (s o : List ℕ) (os : List (List ℕ)) (a b : Result (List ℕ) E)
-      → Lists at s [] a → Lists at s (o ∷ os) b → ⊥
-  ends_first at s o os (Ok r) (Ok q) k l =
-      t.not_end o (concat os ++ q) r l.0.0 (sym k.1 ∙ l.1 ∙ append_assoc o (concat os) q) k.2
-  ends_first at s o os (Ok r) (Err e) k l =
-      t.not_end o (concat os ++ l.1.0) r l.0.0 (sym k.1 ∙ l.1.1
-      ∙ append_assoc o (concat os) l.1.0) k.2
-  ends_first at s o os (Err e) (Ok q) k l =
-      t.not_refused o (concat os ++ q) k.1.0 (at + 0) e l.0.0 (sym k.1.1 ∙ l.1
-      ∙ append_assoc o (concat os) q) k.1.2
-  ends_first at s o os (Err e) (Err f) k l =
-      t.not_refused o (concat os ++ l.1.0) k.1.0 (at + 0) e l.0.0 (sym k.1.1 ∙ l.1.1
-      ∙ append_assoc o (concat os) l.1.0) k.1.2
+-- options up to where none stands are one list
+same_options : {E : Type 0} {IsOption IsEnd : List ℕ → Type 0} {Refuses : ℕ → List ℕ → E → Type 0}
+    → TellsOptions IsOption IsEnd Refuses → (os ps : List (List ℕ)) (r q : List ℕ)
+    → AllByRecursion IsOption os → AllByRecursion IsOption ps → concat os ++ r ≡ concat ps ++ q
+    → IsStuck IsOption r → IsStuck IsOption q → (os ≡ ps) × (r ≡ q)
+same_options t [] [] r q k l e stuck other = (refl, e)
+same_options t [] (p ∷ ps) r q k l e stuck other =
+    absurd (stuck p (concat ps ++ q) l.0 (e ∙ append_assoc p (concat ps) q))
+same_options t (o ∷ os) [] r q k l e stuck other =
+    absurd (other o (concat os ++ r) k.0 (sym e ∙ append_assoc o (concat os) r))
+same_options t (o ∷ os) (p ∷ ps) r q k l e stuck other =
+    let x = concat os ++ r in
+    let y = concat ps ++ q in
+    let split : o ++ x ≡ p ++ y =
+    sym (append_assoc o (concat os) r) ∙ e ∙ append_assoc p (concat ps) q in
+    let first = same_front o p x y (t.one_length o p x y k.0 l.0 split) split in
+    let rest : x ≡ y = append_cancel_left p x y (ap (λ z. z ++ x) (sym first) ∙ split) in
+    let same = same_options t os ps r q k.1 l.1 rest stuck other in
+    (ap (λ z. z ∷ os) first ∙ ap (λ z. p ∷ z) same.0, same.1)
 
-  one_end : (at : ℕ) (s : List ℕ) (a b : Result (List ℕ) E) → Lists at s [] a → Lists at s [] b
-      → a ≡ b
-  one_end at s (Ok r) (Ok q) k l = ap Ok (sym k.1 ∙ l.1)
-  one_end at s (Ok r) (Err e) k l =
-      absurd (t.end_not_refused r (at + 0) e k.2 (subst (λ x. Refuses (at + 0) x e) (sym l.1.1
-      ∙ k.1) l.1.2))
-  one_end at s (Err e) (Ok r) k l =
-      absurd (t.end_not_refused r (at + 0) e l.2 (subst (λ x. Refuses (at + 0) x e) (sym k.1.1
-      ∙ l.1) k.1.2))
-  one_end at s (Err e) (Err f) k l =
-      ap Err (t.one_refusal l.1.0 (at + 0) e f (subst (λ x. Refuses (at + 0) x e) (sym k.1.1
-      ∙ l.1.1) k.1.2) l.1.2)
+module _ {E : Type 0} (IsOption IsEnd : List ℕ → Type 0) (Refuses : ℕ → List ℕ → E → Type 0)
+    (t : TellsOptions IsOption IsEnd Refuses) (s : List ℕ) where
+  -- so are options that begin some bytes
+  one_beginning : (os ps : List (List ℕ)) (r q : List ℕ) → BeginsWithOptions IsOption s os r
+      → BeginsWithOptions IsOption s ps q → IsStuck IsOption r → IsStuck IsOption q
+      → (os ≡ ps) × (r ≡ q)
+  one_beginning os ps r q b d stuck other =
+      same_options t os ps r q b.are_options d.are_options (sym b.whole ∙ d.whole) stuck other
 
-  -- what is listed after the first option
-  rest_of : (a : Result (List ℕ) E) (at : ℕ) (s o : List ℕ) (os : List (List ℕ))
-      → Lists at s (o ∷ os) a
-      → (x : List ℕ) × (s ≡ o ++ x) × Lists (at + length o) x os a × IsOption o
-  rest_of (Ok r) at s o os l =
-      (concat os ++ r, l.1 ∙ append_assoc o (concat os) r, (l.0.1, refl, l.2), l.0.0)
-  rest_of (Err e) at s o os l =
-      let moved : at + length (o ++ concat os) ≡ at + length o + length (concat os) =
-      omega (arith, length-append o (concat os)) in (
-        concat os ++ l.1.0,
-        l.1.1
-            ∙ append_assoc o (concat os) l.1.0,
-        (l.0.1, (l.1.0, refl, subst (λ n. Refuses n l.1.0 e) moved l.1.2)),
-        l.0.0,
-      )
-
-  listed_once : (at : ℕ) (s : List ℕ) (os ps : List (List ℕ)) (a b : Result (List ℕ) E)
-      → Lists at s os a → Lists at s ps b → (os ≡ ps) × (a ≡ b)
-  listed_once at s [] [] a b k l = (refl, one_end at s a b k l)
-  listed_once at s [] (p ∷ ps) a b k l = absurd (ends_first at s p ps a b k l)
-  listed_once at s (o ∷ os) [] a b k l = absurd (ends_first at s o os b a l k)
-  listed_once at s (o ∷ os) (p ∷ ps) a b k l =
-      let x = rest_of a at s o os k in
-      let y = rest_of b at s p ps l in
-      let split : o ++ x.0 ≡ p ++ y.0 = sym x.1 ∙ y.1 in
-      let len = t.one_length o p x.0 y.0 x.3 y.3 split in
-      let first = same_front o p x.0 y.0 len split in
-      let rest : y.0 ≡ x.0 =
-      sym (append_cancel_left p x.0 y.0 (ap (λ z. z ++ x.0) (sym first) ∙ split)) in
-      let moved : Lists (at + length o) x.0 ps b =
-      subst (λ n. Lists (at + n) x.0 ps b) (sym len)
-      (subst (λ z. Lists (at + length p) z ps b) rest y.2) in
-      let same = listed_once (at + length o) x.0 os ps a b x.2 moved in
-      (ap (λ z. z ∷ os) first ∙ ap (λ z. p ∷ z) same.0, same.1)
-
-  lists_at : (s : List ℕ) (os : List (List ℕ)) (a : Result (List ℕ) E)
-      → ListsOptions IsOption IsEnd Refuses s os a → Lists 0 s os a
-  lists_at s os (Ok r) l = (l.0.are_options, l.0.whole, l.1)
-  lists_at s os (Err e) l =
-      (l.1.are_options, (l.0, l.1.whole, subst (λ n. Refuses n l.0 e) (omega arith) l.2))
+  listed_once : (os ps : List (List ℕ)) (a b : Result (List ℕ) E)
+      → ListsOptions IsOption IsEnd Refuses s os a → ListsOptions IsOption IsEnd Refuses s ps b
+      → (os ≡ ps) × (a ≡ b)
+  listed_once os ps (Ok r) (Ok q) k l =
+      let same = one_beginning os ps r q k.0 l.0 (λ o x p e. t.not_end o x r p e k.1)
+      (λ o x p e. t.not_end o x q p e l.1) in
+      (same.0, ap Ok same.1)
+  listed_once os ps (Ok r) (Err f) k l =
+      let same = one_beginning os ps r l.0 k.0 l.1 (λ o x p e. t.not_end o x r p e k.1)
+      (λ o x p e. t.not_refused o x l.0 _ f p e l.2) in
+      absurd (t.end_not_refused l.0 _ f (subst IsEnd same.1 k.1) l.2)
+  listed_once os ps (Err e) (Ok q) k l =
+      let same = one_beginning os ps k.0 q k.1 l.0 (λ o x p d. t.not_refused o x k.0 _ e p d k.2)
+      (λ o x p d. t.not_end o x q p d l.1) in
+      absurd (t.end_not_refused k.0 _ e (subst IsEnd (sym same.1) l.1) k.2)
+  listed_once os ps (Err e) (Err f) k l =
+      let same = one_beginning os ps k.0 l.0 k.1 l.1
+      (λ o x p d. t.not_refused o x k.0 _ e p d k.2)
+      (λ o x p d. t.not_refused o x l.0 _ f p d l.2) in
+      let refused = subst (λ z. Refuses (length (concat z)) l.0 e) same.0
+      (subst (λ z. Refuses (length (concat os)) z e) same.1 k.2) in
+      (same.0, ap Err (t.one_refusal l.0 _ e f refused l.2))
 
   -- what is listed is listed in no other way
-  pub only_listing : (s : List ℕ) (os : List (List ℕ)) (a : Result (List ℕ) E)
+  pub only_listing : (os : List (List ℕ)) (a : Result (List ℕ) E)
       → ListsOptions IsOption IsEnd Refuses s os a → IsOnlyListing IsOption IsEnd Refuses s os a
-  only_listing s os a l =
-      record {
-        lists = l;
-        only =
-            λ ps b k. listed_once 0 s ps os b a (lists_at s ps b k) (lists_at s os a l);
-      }
+  only_listing os a l = record { lists = l; only = λ ps b k. listed_once ps os b a k l }
 
 -- one more option
 all_append : (P : List ℕ → Type 0) (os : List (List ℕ)) (o : List ℕ) → AllByRecursion P os → P o
@@ -135,8 +108,8 @@ next_option s o at e =
     rw rest at e ∙ ap (λ x. o ++ x) (drop-drop (length o) at s)
 
 -- what is refused at a place, which is that after the options before it
-pub refused_at : {E : Type 0} (IsOption : List ℕ → Type 0) (IsEnd : List ℕ → Type 0) (Refuses : ℕ
-    → List ℕ → E → Type 0) (s : List ℕ) (os : List (List ℕ)) (at : ℕ) (e : E)
+pub refused_at : {E : Type 0} (IsOption IsEnd : List ℕ → Type 0)
+    (Refuses : ℕ → List ℕ → E → Type 0) (s : List ℕ) (os : List (List ℕ)) (at : ℕ) (e : E)
     → BeginsWithOptions IsOption s os (drop at s) → at ≤ length s
     → Refuses at (take (length s - at) (drop at s)) e
     → ListsOptions IsOption IsEnd Refuses s os (Err e)

@@ -78,7 +78,7 @@ impl<'a> Ipv6ExtensionSliceIter<'a> {
     ///
     /// A `LenError` if the next header is incomplete. Its offset counts from the first header on.
     /// What comes after that is `None`.
-    pub fn next_extension(&mut self) -> Option<Result<Ipv6ExtensionSlice<'a>, LenError>>
+    pub fn next_slice(&mut self) -> Option<Result<Ipv6ExtensionSlice<'a>, LenError>>
         ensures header { IfSome result (λ found. IfOk found (λ view.
             BeginsWithExtension self.old.next_header self.old.rest.now view self.new.rest.now
             × (self.new.next_header ≡ slice_index (extension_bytes view) 0)
@@ -125,7 +125,7 @@ impl<'a> Ipv6ExtensionSliceIter<'a> {
     }
 }
 
-/// The headers, as [`Ipv6ExtensionSliceIter::next_extension`] gives them.
+/// The headers, as [`Ipv6ExtensionSliceIter::next_slice`] gives them.
 impl<'a> Iterator for Ipv6ExtensionSliceIter<'a> {
     type Item = Result<Ipv6ExtensionSlice<'a>, LenError>;
 
@@ -141,7 +141,7 @@ impl<'a> Iterator for Ipv6ExtensionSliceIter<'a> {
         (length left.rest.now + (if left.next_header == 59 then 0 else 1)) };
 
     fn next(&mut self) -> Option<Result<Ipv6ExtensionSlice<'a>, LenError>> {
-        self.next_extension()
+        self.next_slice()
     }
 }
 

@@ -1,4 +1,4 @@
-use Rattle.std.proofs.Common.{arith, drop, rules}
+use Rattle.std.proofs.Common.{arith, drop}
 use Rattle.std.proofs.lemmas.Grind.{common_steps}
 use Rattle.etherparse_net.proofs.IpOptions.{tells_ipv4_options}
 use Rattle.etherparse_net.proofs.OptionLists.{next_option, one_more, only_listing, refused_at}
@@ -9,7 +9,7 @@ pub returns-then-is_empty-clause-ends : goal.returns-then-is_empty-clause-ends
 returns-then-is_empty-clause-ends c =
     let s = c.args.self.now.options.now in
     let rest = drop c.args.self.now.offset s in
-    let end : EndsIpv4Options rest = first_of (search rules, grind (arith, common_steps)) in
+    let end : EndsIpv4Options rest = grind (arith, common_steps) in
     λ options b. only_listing IsIpv4Option EndsIpv4Options RefusesIpv4Option tells_ipv4_options s
     options _ (b, end)
 

@@ -14,13 +14,6 @@ returns-then-is_empty-clause-ends c =
     λ options b. only_listing IsIpv6Option EndsIpv6Options RefusesIpv6Option tells_ipv6_options s
     options _ (b, end)
 
-pub returns-in-Ok-clause-option : goal.returns-in-Ok-clause-option
-returns-in-Ok-clause-option c = (
-  c.in-Ok.option.is_option,
-  next_option c.args.self.now.options.now c.in-Ok.option.slice.now c.args.self.now.offset
-      c.in-Ok.ensures.found,
-)
-
 pub returns-in-Ok-clause-goes_on : goal.returns-in-Ok-clause-goes_on
 returns-in-Ok-clause-goes_on c = λ options b.
     one_more IsIpv6Option c.args.self.now.options.now options c.in-Ok.option.slice.now _ _ b

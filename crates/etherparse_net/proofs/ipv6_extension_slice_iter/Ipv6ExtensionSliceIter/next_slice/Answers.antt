@@ -1,5 +1,5 @@
 use Rattle.etherparse_net.proofs.Ipv6Extensions.{moved_walk}
-use Rattle.etherparse_net.proofs.ipv6_extension_slice_iter.Ipv6ExtensionSliceIter.next_extension.Goals
+use Rattle.etherparse_net.proofs.ipv6_extension_slice_iter.Ipv6ExtensionSliceIter.next_slice.Goals
     as goal
 
 pub returns-in-Err-clause-ends_incomplete : goal.returns-in-Err-clause-ends_incomplete
