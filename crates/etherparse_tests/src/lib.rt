@@ -48,6 +48,8 @@ mod shared;
 #[cfg(test)]
 mod skipping;
 #[cfg(test)]
+mod transport_examples;
+#[cfg(test)]
 mod udp;
 #[cfg(test)]
 mod updates;
