@@ -1,4 +1,5 @@
-//! The examples in the doc comments of `etherparse_link`, line by line as they stand there.
+//! The examples in the doc comments of `etherparse_link`, line by line as they stand there. The
+//! bytes in them are those that scapy makes of the same fields.
 
 use etherparse_link::err::arp::{ArpEthIpv4FromError, ArpHwAddrError, ArpNewError};
 use etherparse_link::err::double_vlan::{HeaderError, HeaderSliceError};
@@ -8,6 +9,7 @@ use etherparse_link::{
     LinuxSllHeader, LinuxSllHeaderSlice, LinuxSllPacketType, SingleVlanHeader,
     SingleVlanHeaderSlice, VlanId, VlanPcp,
 };
+use std::process::Abort;
 use std::test::Fail;
 
 #[test]
@@ -32,15 +34,17 @@ fn arp_eth_ipv4_packet(rt: HostRuntime) -> Result<(), Fail> {
 }
 
 #[test]
-fn arp_hardware_id(rt: HostRuntime) {
+fn arp_hardware_id(rt: HostRuntime) -> Result<(), Fail> {
     assert!(rt; ArpHardwareId(1) == ArpHardwareId::ETHERNET);
     assert!(rt; ArpHardwareId::LOOPBACK.0 == 772);
+    Ok(())
 }
 
 #[test]
-fn arp_operation(rt: HostRuntime) {
+fn arp_operation(rt: HostRuntime) -> Result<(), Fail> {
     assert!(rt; ArpOperation(1) == ArpOperation::REQUEST);
     assert!(rt; ArpOperation::REPLY.0 == 2);
+    Ok(())
 }
 
 #[test]
@@ -62,7 +66,7 @@ fn arp_packet(rt: HostRuntime) -> Result<(), Fail> {
 }
 
 #[test]
-fn arp_packet_new(rt: HostRuntime) {
+fn arp_packet_new(rt: HostRuntime) -> Result<(), Fail> {
     let refused = ArpPacket::new(
         ArpHardwareId::ETHERNET,
         EtherType::IPV4,
@@ -74,25 +78,26 @@ fn arp_packet_new(rt: HostRuntime) {
     );
     let error = ArpNewError::HwAddr(ArpHwAddrError::LenNonMatching(6, 0));
     assert!(rt; refused == Err(error));
+    Ok(())
 }
 
 #[test]
 fn arp_packet_from_slice(rt: HostRuntime) -> Result<(), Fail> {
-    // A reply with addresses of IPv6, and two bytes of padding.
+    // A reply on ARCnet, whose addresses have one byte, and two bytes of padding.
     let bytes = [
-        0, 1, 0x86, 0xdd, 6, 16, 0, 2, 2, 0, 0, 0, 0, 1, 0x20, 1, 0xd, 0xb8, 0, 0, 0, 0, 0, 0, 0,
-        0, 0, 0, 0, 1, 2, 0, 0, 0, 0, 2, 0x20, 1, 0xd, 0xb8, 0, 0, 0, 0, 0, 0, 0, 0, 0, 0, 0, 2, 0,
-        0,
+        0, 7, 8, 0, 1, 4, 0, 2, 17, 192, 168, 0, 1, 34, 192, 168, 0, 2, 0, 0,
     ];
     let (packet, rest) = ArpPacket::from_slice(&bytes)?;
+    assert!(rt; packet.hw_addr_type == ArpHardwareId::ARCNET);
+    assert!(rt; packet.proto_addr_type == EtherType::IPV4);
     assert!(rt; packet.operation == ArpOperation::REPLY);
-    assert!(rt; packet.hw_addr_size() == 6 && packet.protocol_addr_size() == 16);
-    assert!(rt; packet.sender_hw_addr() == [2, 0, 0, 0, 0, 1].as_slice());
-    assert!(rt; packet.sender_protocol_addr() == &bytes[14..30]);
-    assert!(rt; packet.target_hw_addr() == [2, 0, 0, 0, 0, 2].as_slice());
-    assert!(rt; packet.target_protocol_addr() == &bytes[36..52]);
+    assert!(rt; packet.hw_addr_size() == 1 && packet.protocol_addr_size() == 4);
+    assert!(rt; packet.sender_hw_addr() == [17].as_slice());
+    assert!(rt; packet.sender_protocol_addr() == [192, 168, 0, 1].as_slice());
+    assert!(rt; packet.target_hw_addr() == [34].as_slice());
+    assert!(rt; packet.target_protocol_addr() == [192, 168, 0, 2].as_slice());
     assert!(rt; rest == [0, 0].as_slice());
-    let refused = ArpEthIpv4FromError::NonMatchingProtocolType(EtherType::IPV6);
+    let refused = ArpEthIpv4FromError::NonMatchingHwType(ArpHardwareId::ARCNET);
     assert!(rt; ArpEthIpv4Packet::try_from(packet) == Err(refused));
     Ok(())
 }
@@ -151,18 +156,20 @@ fn double_vlan_header_from_slice(rt: HostRuntime) -> Result<(), Fail> {
 }
 
 #[test]
-fn ether_type(rt: HostRuntime) {
+fn ether_type(rt: HostRuntime) -> Result<(), Fail> {
     assert!(rt; EtherType(0x86dd) == EtherType::IPV6);
+    Ok(())
 }
 
 #[test]
-fn ethernet2_header(rt: HostRuntime) {
+fn ethernet2_header(rt: HostRuntime) -> Result<(), Fail> {
     let header = Ethernet2Header {
         source: [2, 0, 0, 0, 0, 1],
         destination: [2, 0, 0, 0, 0, 2],
         ether_type: EtherType::IPV4,
     };
     assert!(rt; header.to_bytes() == [2, 0, 0, 0, 0, 2, 2, 0, 0, 0, 0, 1, 8, 0]);
+    Ok(())
 }
 
 #[test]
@@ -189,7 +196,7 @@ fn ethernet2_header_slice(rt: HostRuntime) -> Result<(), Fail> {
 }
 
 #[test]
-fn linux_sll2_header(rt: HostRuntime) {
+fn linux_sll2_header(rt: HostRuntime) -> Result<(), Fail> {
     let header = LinuxSll2Header {
         protocol_type: EtherType::ARP,
         interface_index: 3,
@@ -200,6 +207,7 @@ fn linux_sll2_header(rt: HostRuntime) {
     };
     let bytes = header.to_bytes();
     assert!(rt; bytes == [8, 6, 0, 0, 0, 0, 0, 3, 0, 1, 1, 6, 2, 0, 0, 0, 0, 1, 0, 0]);
+    Ok(())
 }
 
 #[test]
@@ -232,7 +240,7 @@ fn linux_sll2_header_slice(rt: HostRuntime) -> Result<(), Fail> {
 }
 
 #[test]
-fn linux_sll_header(rt: HostRuntime) {
+fn linux_sll_header(rt: HostRuntime) -> Result<(), Fail> {
     let header = LinuxSllHeader {
         packet_type: LinuxSllPacketType::BROADCAST,
         arp_hrd_type: ArpHardwareId::ETHERNET,
@@ -241,6 +249,7 @@ fn linux_sll_header(rt: HostRuntime) {
         protocol_type: EtherType::ARP,
     };
     assert!(rt; header.to_bytes() == [0, 1, 0, 1, 0, 6, 2, 0, 0, 0, 0, 1, 0, 0, 8, 6]);
+    Ok(())
 }
 
 #[test]
@@ -268,11 +277,12 @@ fn linux_sll_header_slice(rt: HostRuntime) -> Result<(), Fail> {
 }
 
 #[test]
-fn linux_sll_packet_type(rt: HostRuntime) {
+fn linux_sll_packet_type(rt: HostRuntime) -> Result<(), Fail> {
     assert!(rt; LinuxSllPacketType(4) == LinuxSllPacketType::OUTGOING);
     // The byte of a capture of version 2.
     let byte: u8 = 1;
     assert!(rt; LinuxSllPacketType::from(byte) == LinuxSllPacketType::BROADCAST);
+    Ok(())
 }
 
 #[test]

@@ -1,30 +1,15 @@
-//! The examples in the doc comments of `etherparse_transport`, line by line as they stand there.
+//! The examples in the doc comments of `etherparse_transport` that are not in `packet_examples`, line
+//! by line as they stand there.
 
-use etherparse::{IpNumber, Ipv4Header, Ipv4HeaderSlice, Ipv6Header, checksum};
+use etherparse::{IpNumber, Ipv4Header, Ipv4HeaderSlice, Ipv6Header};
 use etherparse_transport::{
-    TcpHeader, TcpHeaderSlice, TcpOptionElement, TcpOptionWriteError, TcpOptions, UdpHeader,
-    UdpHeaderSlice,
+    TcpHeader, TcpHeaderSlice, TcpOptionElement, TcpOptionWriteError, TcpOptions, UdpHeader, UdpHeaderSlice,
 };
+use std::process::Abort;
 use std::test::Fail;
 
 #[test]
-fn tcp_from_slice(rt: HostRuntime) -> Result<(), Fail> {
-    // A SYN from port 1024 to port 80, with sequence number 1 and a window of 8192 bytes.
-    let segment = [
-        4, 0, 0, 80, 0, 0, 0, 1, 0, 0, 0, 0, 0x50, 0x02, 0x20, 0, 0x09, 0x79, 0, 0,
-    ];
-    let header = TcpHeaderSlice::from_slice(&segment)?;
-    assert!(rt; (header.source_port(), header.destination_port()) == (1024, 80));
-    assert!(rt; (header.sequence_number(), header.acknowledgment_number()) == (1, 0));
-    assert!(rt; header.syn() && !header.ack() && !header.fin() && !header.rst());
-    assert!(rt; (header.data_offset(), header.flags()) == (5, 0b0000_0010));
-    assert!(rt; (header.window_size(), header.checksum()) == (8192, 0x0979));
-    assert!(rt; header.urgent_pointer() == 0 && header.options().is_empty());
-    Ok(())
-}
-
-#[test]
-fn tcp_options_iterator(rt: HostRuntime) -> Result<(), Fail> {
+fn options_of_a_view(rt: HostRuntime) -> Result<(), Fail> {
     // A SYN with a maximum segment size of 1460 bytes.
     let segment = [
         4, 0, 0, 80, 0, 0, 0, 1, 0, 0, 0, 0, 0x60, 0x02, 0x20, 0, 0xf1, 0xbc, 0, 0, 2, 4, 0x05,
@@ -37,12 +22,12 @@ fn tcp_options_iterator(rt: HostRuntime) -> Result<(), Fail> {
 }
 
 #[test]
-fn tcp_checksum_calc_checksum_ipv4(rt: HostRuntime) -> Result<(), Fail> {
+fn tcp_checksum_of_a_view(rt: HostRuntime) -> Result<(), Fail> {
     // A segment with the payload "test" from 192.168.0.1 to 192.168.0.199.
     let packet = [
-        0x45, 0, 0, 44, 0, 0, 0x40, 0, 64, 6, 0xb8, 0xb3, 192, 168, 0, 1, 192, 168, 0, 199, 4, 0,
-        0, 80, 0, 0, 0, 1, 0, 0, 0, 0, 0x50, 0x08, 0x20, 0, 0x21, 0x95, 0, 0, b't', b'e', b's',
-        b't',
+        0x45, 0, 0, 44, 0, 0, 0x40, 0, 64, 6, 0xb8, 0xb3, 192, 168, 0, 1, 192, 168, 0, 199,
+        4, 0, 0, 80, 0, 0, 0, 1, 0, 0, 0, 0, 0x50, 0x08, 0x20, 0, 0x21, 0x95, 0, 0,
+        b't', b'e', b's', b't',
     ];
     let ip = Ipv4HeaderSlice::from_slice(&packet)?;
     let tcp = TcpHeaderSlice::from_slice(&packet[20..])?;
@@ -51,7 +36,7 @@ fn tcp_checksum_calc_checksum_ipv4(rt: HostRuntime) -> Result<(), Fail> {
 }
 
 #[test]
-fn tcp_header(rt: HostRuntime) -> Result<(), Fail> {
+fn tcp_written_and_read(rt: HostRuntime) -> Result<(), Fail> {
     let mut header = TcpHeader::new(1024, 80, 1, 8192);
     header.syn = true;
     let bytes = header.to_bytes();
@@ -61,7 +46,7 @@ fn tcp_header(rt: HostRuntime) -> Result<(), Fail> {
 }
 
 #[test]
-fn tcp_header_header_len(rt: HostRuntime) -> Result<(), Fail> {
+fn tcp_lengths(rt: HostRuntime) -> Result<(), Fail> {
     let mut header = TcpHeader::default();
     header.set_options_raw(&[2, 4, 0x05, 0xb4, 1])?;
     assert!(rt; (header.data_offset(), header.header_len()) == (7, 28));
@@ -69,7 +54,7 @@ fn tcp_header_header_len(rt: HostRuntime) -> Result<(), Fail> {
 }
 
 #[test]
-fn tcp_header_set_options(rt: HostRuntime) -> Result<(), Fail> {
+fn tcp_options_set(rt: HostRuntime) -> Result<(), Fail> {
     let mut header = TcpHeader::new(1024, 80, 1, 8192);
     header.set_options(&[TcpOptionElement::MaximumSegmentSize(1460)])?;
     assert!(rt; header.options.as_slice() == [2, 4, 0x05, 0xb4].as_slice());
@@ -79,7 +64,7 @@ fn tcp_header_set_options(rt: HostRuntime) -> Result<(), Fail> {
 }
 
 #[test]
-fn tcp_header_from_slice(rt: HostRuntime) -> Result<(), Fail> {
+fn tcp_read(rt: HostRuntime) -> Result<(), Fail> {
     // A SYN from port 1024 to port 80 with a maximum segment size of 1460 bytes.
     let segment = [
         4, 0, 0, 80, 0, 0, 0, 1, 0, 0, 0, 0, 0x60, 0x02, 0x20, 0, 0xf1, 0xbc, 0, 0, 2, 4, 0x05,
@@ -93,7 +78,7 @@ fn tcp_header_from_slice(rt: HostRuntime) -> Result<(), Fail> {
 }
 
 #[test]
-fn tcp_header_checksum_calc_checksum_ipv4(rt: HostRuntime) -> Result<(), Fail> {
+fn tcp_checksum_over_ipv4(rt: HostRuntime) -> Result<(), Fail> {
     let (source, destination) = ([192, 168, 0, 1], [192, 168, 0, 199]);
     let ip = Ipv4Header::new(24, 64, IpNumber::TCP, source, destination)?;
     let mut tcp = TcpHeader::new(1024, 80, 1, 8192);
@@ -104,7 +89,7 @@ fn tcp_header_checksum_calc_checksum_ipv4(rt: HostRuntime) -> Result<(), Fail> {
 }
 
 #[test]
-fn tcp_header_checksum_calc_checksum_ipv6(rt: HostRuntime) -> Result<(), Fail> {
+fn tcp_checksum_over_ipv6(rt: HostRuntime) -> Result<(), Fail> {
     let mut ip = Ipv6Header::default();
     ip.source = [0x20, 0x01, 0x0d, 0xb8, 0, 0, 0, 0, 0, 0, 0, 0, 0, 0, 0, 1];
     ip.destination = [0x20, 0x01, 0x0d, 0xb8, 0, 0, 0, 0, 0, 0, 0, 0, 0, 0, 0, 2];
@@ -115,7 +100,7 @@ fn tcp_header_checksum_calc_checksum_ipv6(rt: HostRuntime) -> Result<(), Fail> {
 }
 
 #[test]
-fn tcp_options(rt: HostRuntime) -> Result<(), Fail> {
+fn tcp_options_as_bytes(rt: HostRuntime) -> Result<(), Fail> {
     // A maximum segment size of 1460 bytes, a no-operation and a window scale of 7: the zero after
     // them fills up the word.
     let options = TcpOptions::try_from_slice(&[2, 4, 0x05, 0xb4, 1, 3, 3])?;
@@ -126,7 +111,7 @@ fn tcp_options(rt: HostRuntime) -> Result<(), Fail> {
 }
 
 #[test]
-fn tcp_options_elements_try_from_elements(rt: HostRuntime) -> Result<(), Fail> {
+fn tcp_options_written(rt: HostRuntime) -> Result<(), Fail> {
     let elements = [
         TcpOptionElement::MaximumSegmentSize(1460),
         TcpOptionElement::WindowScale(7),
@@ -137,7 +122,7 @@ fn tcp_options_elements_try_from_elements(rt: HostRuntime) -> Result<(), Fail> {
 }
 
 #[test]
-fn tcp_options_iterator_2(rt: HostRuntime) -> Result<(), Fail> {
+fn tcp_options_read(rt: HostRuntime) -> Result<(), Fail> {
     // A maximum segment size of 1460 bytes, a no-operation, a window scale of 7, and the end.
     let options = TcpOptions::try_from_slice(&[2, 4, 0x05, 0xb4, 1, 3, 3, 7, 0])?;
     let mut iterator = options.elements_iter();
@@ -149,46 +134,7 @@ fn tcp_options_iterator_2(rt: HostRuntime) -> Result<(), Fail> {
 }
 
 #[test]
-fn udp_from_slice(rt: HostRuntime) -> Result<(), Fail> {
-    let slice = [4, 0, 0, 53, 0, 12, 0x91, 0xae, b't', b'e', b's', b't'];
-    let (header, rest) = UdpHeader::from_slice(&slice)?;
-    assert!(rt; (header.source_port, header.destination_port) == (1024, 53));
-    assert!(rt; rest == b"test".as_slice());
-    Ok(())
-}
-
-#[test]
-fn udp_set_checksum_ipv4(rt: HostRuntime) -> Result<(), Fail> {
-    let (source, destination) = ([192, 168, 0, 1], [192, 168, 0, 199]);
-    let ip = Ipv4Header::new(12, 64, IpNumber::UDP, source, destination)?;
-    let mut udp = UdpHeader {
-        source_port: 1024,
-        destination_port: 53,
-        length: 12,
-        checksum: 0,
-    };
-    udp.set_checksum_ipv4(&ip, b"test");
-    assert!(rt; udp.to_bytes() == [4, 0, 0, 53, 0, 12, 0x91, 0xae]);
-    Ok(())
-}
-
-#[test]
-fn udp_set_checksum_ipv6(rt: HostRuntime) {
-    let mut ip = Ipv6Header::default();
-    ip.source = [0x20, 0x01, 0x0d, 0xb8, 0, 0, 0, 0, 0, 0, 0, 0, 0, 0, 0, 1];
-    ip.destination = [0x20, 0x01, 0x0d, 0xb8, 0, 0, 0, 0, 0, 0, 0, 0, 0, 0, 0, 2];
-    let mut udp = UdpHeader {
-        source_port: 1024,
-        destination_port: 53,
-        length: 12,
-        checksum: 0,
-    };
-    udp.set_checksum_ipv6(&ip, b"test");
-    assert!(rt; udp.checksum == 0xb852);
-}
-
-#[test]
-fn udp_checksum_without_ipv4_checksum(rt: HostRuntime) -> Result<(), Fail> {
+fn udp_without_checksum(rt: HostRuntime) -> Result<(), Fail> {
     let header = UdpHeader::without_ipv4_checksum(1024, 53, 4)?;
     assert!(rt; header.to_bytes() == [4, 0, 0, 53, 0, 12, 0, 0]);
     assert!(rt; UdpHeader::without_ipv4_checksum(1024, 53, 65528).is_err());
@@ -196,7 +142,7 @@ fn udp_checksum_without_ipv4_checksum(rt: HostRuntime) -> Result<(), Fail> {
 }
 
 #[test]
-fn udp_checksum_with_ipv4_checksum(rt: HostRuntime) -> Result<(), Fail> {
+fn udp_made_over_ipv4(rt: HostRuntime) -> Result<(), Fail> {
     let (source, destination) = ([192, 168, 0, 1], [192, 168, 0, 199]);
     let ip = Ipv4Header::new(12, 64, IpNumber::UDP, source, destination)?;
     let header = UdpHeader::with_ipv4_checksum(1024, 53, &ip, b"test")?;
@@ -205,7 +151,7 @@ fn udp_checksum_with_ipv4_checksum(rt: HostRuntime) -> Result<(), Fail> {
 }
 
 #[test]
-fn udp_checksum_calc_checksum_ipv4(rt: HostRuntime) -> Result<(), Fail> {
+fn udp_checksum_over_ipv4(rt: HostRuntime) -> Result<(), Fail> {
     let (source, destination) = ([192, 168, 0, 1], [192, 168, 0, 199]);
     let ip = Ipv4Header::new(12, 64, IpNumber::UDP, source, destination)?;
     let udp = UdpHeader::without_ipv4_checksum(1024, 53, 4)?;
@@ -214,7 +160,7 @@ fn udp_checksum_calc_checksum_ipv4(rt: HostRuntime) -> Result<(), Fail> {
 }
 
 #[test]
-fn udp_checksum_calc_checksum_ipv6(rt: HostRuntime) -> Result<(), Fail> {
+fn udp_checksum_over_ipv6(rt: HostRuntime) -> Result<(), Fail> {
     let mut ip = Ipv6Header::default();
     ip.source = [0x20, 0x01, 0x0d, 0xb8, 0, 0, 0, 0, 0, 0, 0, 0, 0, 0, 0, 1];
     ip.destination = [0x20, 0x01, 0x0d, 0xb8, 0, 0, 0, 0, 0, 0, 0, 0, 0, 0, 0, 2];
@@ -224,7 +170,7 @@ fn udp_checksum_calc_checksum_ipv6(rt: HostRuntime) -> Result<(), Fail> {
 }
 
 #[test]
-fn udp_header_slice(rt: HostRuntime) -> Result<(), Fail> {
+fn views_of_udp(rt: HostRuntime) -> Result<(), Fail> {
     let datagram = [4, 0, 0, 53, 0, 12, 0x91, 0xae, b't', b'e', b's', b't'];
     let view = UdpHeaderSlice::from_slice(&datagram)?;
     assert!(rt; (view.source_port(), view.destination_port()) == (1024, 53));

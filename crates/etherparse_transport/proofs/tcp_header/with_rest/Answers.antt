@@ -8,10 +8,14 @@ header_with-requires c =
     let view = c.args.view.now in
     let room = (rw c.unwrap-bytes.ensures at c.first_chunk.ensures.cases).same in
     c.from_front-options.ensures.value
-    ∙ options_in_room c.args.slice.now view.slice.now _ _ (front_whole _ _ c.requires) (omega (arith, view.offset, view.len)) (omega (arith, view.len, view.are_bytes 12)) room
+    ∙ options_in_room c.args.slice.now view.slice.now _ _ (front_whole _ _ c.requires)
+    (omega (arith, view.offset, view.len)) (omega (arith, view.len, view.are_bytes 12)) room
 
 pub returns-then-slice-ge-MAX_LEN : goal.returns-then-slice-ge-MAX_LEN
-returns-then-slice-ge-MAX_LEN c = record { begins = front_read _ _ _ c.requires c.header_with.ensures.layout }
+returns-then-slice-ge-MAX_LEN c = record {
+  begins = front_read _ _ _ c.requires
+      c.header_with.ensures.layout;
+}
 
 pub returns : goal.returns
 returns c = record { begins = front_read _ _ _ c.requires c.header_with-2.ensures.layout }

@@ -14,7 +14,8 @@ returns-clause-only c = λ h k.
     let urg = bool_of_bit _ h.urg _ c.urg.ensures.bit_5 flags.bit_5 in
     let ece = bool_of_bit _ h.ece _ c.ece.ensures.bit_6 flags.bit_6 in
     let cwr = bool_of_bit _ h.cwr _ c.cwr.ensures.bit_7 flags.bit_7 in
-    let ns = bool_of_bit _ h.ns _ c.ns.ensures.lowest_of_byte_12 (ns_told h k.reserved _ k.layout) in
+    let ns = bool_of_bit _ h.ns _ c.ns.ensures.lowest_of_byte_12
+    (ns_told h k.reserved _ k.layout) in
     search (rules, k.layout)
 
 pub returns-clause-layout : goal.returns-clause-layout

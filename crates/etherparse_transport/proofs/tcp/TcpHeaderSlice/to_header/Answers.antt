@@ -1,4 +1,3 @@
-use Rattle.std.proofs.Common.{arith, length-drop}
 use Rattle.etherparse_transport.proofs.TcpLayout.{cleared_layout}
 use Rattle.etherparse_transport.proofs.tcp.TcpHeaderSlice.to_header.Goals as goal
 

@@ -6,7 +6,12 @@ use Rattle.etherparse_transport.proofs.tcp_header.TcpHeader.from_slice.Goals as 
 pub returns-in-Err : goal.returns-in-Err
 returns-in-Err c =
     let refused = c.in-Err.ensures.views in
-    record { reads = refused; only = λ other o. read_once IsTcpLayout Refuses tells_headers _ other _ o refused; cleared = tt }
+    record {
+      reads = refused;
+      only = λ other o. read_once IsTcpLayout Refuses tells_headers _ other
+          _ o refused;
+      cleared = tt;
+    }
 
 pub returns-in-Ok : goal.returns-in-Ok
 returns-in-Ok c =

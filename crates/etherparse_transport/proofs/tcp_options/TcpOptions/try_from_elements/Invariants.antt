@@ -7,4 +7,5 @@ use Rattle.etherparse_transport.proofs.tcp_options.TcpOptions.try_from_elements.
 -- the options so far are written, and are read again
 abbrev pub invariant-loop-element : goal.invariant-loop-element
 invariant-loop-element l =
-    (l.bytes.items ≡ flat_map option_bytes (take l.element-index l.elements)) × AreReadAgain (take l.element-index l.elements)
+    (l.bytes.items ≡ flat_map option_bytes (take l.element-index l.elements)) × AreReadAgain
+    (take l.element-index l.elements)

@@ -8,5 +8,6 @@ pub returns-clause-computed : goal.returns-clause-computed
 returns-clause-computed c =
     let a = c.args in
     let header = udp_header_for a.source_port a.destination_port (length a.payload.now) in
-    subst (λ (ip : Ipv6Header). IsUdpChecksumIpv6 ip.source ip.destination header a.payload.now c.checksum_over_ipv6-checksum.result) c.ip_header.view_is
+    subst (λ (ip : Ipv6Header). IsUdpChecksumIpv6 ip.source ip.destination header a.payload.now
+    c.checksum_over_ipv6-checksum.result) c.ip_header.view_is
     c.checksum_over_ipv6-checksum.ensures.computed

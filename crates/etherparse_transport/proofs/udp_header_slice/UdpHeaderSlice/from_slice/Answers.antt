@@ -9,11 +9,17 @@ use Rattle.std.proofs.lemmas.Grind.{common_steps}
 
 pub returns : goal.returns
 returns c =
-    let views = front_viewed c.args.slice.now (omega arith) (λ i. omega (arith, c.type_inv.slice i)) in
+    let views = front_viewed c.args.slice.now (omega arith)
+    (λ i. omega (arith, c.type_inv.slice i)) in
     record {
       views = views;
-      only = λ other o. viewed_once IsUdpLayout (IsTooShort layer.UdpHeader 8) (fixed_tells IsUdpLayout layer.UdpHeader 8 same_header (λ h p l. l.len)) _ other _ o views;
+      only = λ other o. viewed_once IsUdpLayout (IsTooShort layer.UdpHeader 8)
+          (fixed_tells IsUdpLayout layer.UdpHeader 8 same_header (λ h p l. l.len)) _ other _ o
+          views;
     }
 
 pub invariant_of-result : goal.invariant_of-result
-invariant_of-result c = record { len = grind (arith, common_steps); are_bytes = λ i. grind (arith, common_steps, c.type_inv.slice i) }
+invariant_of-result c = record {
+  len = grind (arith, common_steps);
+  are_bytes = λ i. grind (arith, common_steps, c.type_inv.slice i);
+}
