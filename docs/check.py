@@ -6,7 +6,7 @@
 - Code in Rattle stands in a source file, contracts aside, or else proves in a crate of its own;
   a line in antt stands in a proof or a definition; other code stands in a file of its language or
   compiles.
-- An example in a doc comment stands in a test of `etherparse_tests` or in a caller of `uses`.
+- An example in a doc comment stands in a test of `etherparse_tests` or `header_tests`, or in a caller of `uses`.
 - A file that a page names is there, and each command names files that are there; a command that
   pipes into `rt run` or `rt try` in crates/iphead is run by the built program, and prints what the
   page shows.
@@ -250,7 +250,7 @@ def check_comments(file, text):
     comment = '\n'.join(re.sub(r'^\s*//[/!] ?', '', line) if re.match(r'\s*//[/!]', line) else ''
                         for line in text.split('\n'))
     tests = [source for path, source in SQUEEZED.items()
-             if 'etherparse_tests/src' in str(path) or 'uses/src' in str(path)]
+             if any(f'{crate}/src' in str(path) for crate in ('etherparse_tests', 'header_tests', 'uses'))]
     for language, block in blocks(comment):
         if language == '':
             first = block.strip().split('\n')[0]

@@ -15,7 +15,7 @@ mkdir -p "$out"
 # proved here before is taken over, and kept for the next time.
 room=$out/room
 mkdir -p "$room"
-for crate in etherparse_base etherparse_fields etherparse packet_parts packet_links packet packet_filter; do
+for crate in etherparse_base etherparse_fields etherparse etherparse_net packet_parts etherparse_transport etherparse_link packet_links packet packet_filter; do
   mkdir -p "$room/crates/$crate"
   for part in src specs proofs; do
     rm -rf "$room/crates/$crate/$part"

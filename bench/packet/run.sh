@@ -28,7 +28,7 @@ done
 # The libraries and the loop in Rattle, in a repository of their own, since no proof of a library needs the loop. What was proved
 # here before is taken over, and kept for the next time.
 room=$out/room
-for crate in etherparse_base etherparse_fields etherparse packet_parts packet_links packet; do
+for crate in etherparse_base etherparse_fields etherparse etherparse_net packet_parts etherparse_transport etherparse_link packet_links packet; do
   mkdir -p "$room/crates/$crate"
   for part in src specs proofs; do
     rm -rf "$room/crates/$crate/$part"
@@ -39,7 +39,7 @@ for crate in etherparse_base etherparse_fields etherparse packet_parts packet_li
   fi
   grep "^$crate[: ]" "$here/../../crates.txt"
 done > "$room/crates.txt"
-echo 'frames staticlib: etherparse packet_links packet_parts packet' >> "$room/crates.txt"
+echo 'frames staticlib: etherparse etherparse_link packet_links packet_parts packet' >> "$room/crates.txt"
 mkdir -p "$room/crates/frames/src"
 cp "$here/frames.rt.txt" "$room/crates/frames/src/lib.rt" # the gate wants no other Rattle file beside the crates
 (cd "$room/crates/frames" && rt lib "--cpu=$level") > "$out/frames.txt" 2>&1 || {

@@ -17,45 +17,6 @@
 #include <time.h>
 #include <unistd.h>
 
-static const uint8_t SKIPPABLE[8] = {0, 43, 44, 51, 60, 135, 139, 140};
-
-/* Numbers that look random, and are the same in each run. */
-static uint64_t state = 0x9e3779b97f4a7c15;
-
-uint64_t next_random(void)
-{
-    state ^= state >> 12;
-    state ^= state << 25;
-    state ^= state >> 27;
-    return state * 0x2545f4914f6cdd1d;
-}
-
-size_t below(size_t bound)
-{
-    return (size_t)(next_random() >> 16) % bound;
-}
-
-void fill(uint8_t *at, size_t len)
-{
-    for (size_t i = 0; i < len; i++)
-        at[i] = (uint8_t)(next_random() >> 56);
-}
-
-/* The current packet, for the report of a failure. */
-static const uint8_t *packet;
-static size_t packet_len;
-
-void expect(bool holds, const char *what)
-{
-    if (holds)
-        return;
-    fprintf(stderr, "fuzz: %s, of ", what);
-    for (size_t i = 0; i < packet_len; i++)
-        fprintf(stderr, "%02x", packet[i]);
-    fprintf(stderr, "\n");
-    abort();
-}
-
 /* The packet from an offset on. */
 static const uint8_t *from(size_t offset)
 {
@@ -64,37 +25,7 @@ static const uint8_t *from(size_t offset)
 
 /* Packets. */
 
-size_t make_ipv4(uint8_t *at)
-{
-    size_t len = 20 + 4 * below(11);
-    fill(at, len);
-    at[0] = (uint8_t)(0x40 + len / 4);
-    return len;
-}
-
-size_t make_ipv6(uint8_t *at, uint8_t next_header)
-{
-    fill(at, 40);
-    at[0] = 0x60 | (at[0] & 15);
-    at[6] = next_header;
-    return 40;
-}
-
-/* Extension headers; the first has this number, and what follows them the other. */
-size_t make_chain(uint8_t *at, uint8_t number, uint8_t upper)
-{
-    size_t len = 0;
-    for (size_t count = below(6); count > 0; count--) {
-        uint8_t words = (uint8_t)below(3);
-        size_t header = number == 44 ? 8 : number == 51 ? 4 * ((size_t)words + 2) : 8 * ((size_t)words + 1);
-        fill(at + len, header);
-        number = SKIPPABLE[below(8)];
-        at[len] = count == 1 ? upper : number;
-        at[len + 1] = words;
-        len += header;
-    }
-    return len;
-}
+static const uint8_t SKIPPABLE[8] = {0, 43, 44, 51, 60, 135, 139, 140};
 
 static size_t make_packet(uint8_t *at, uint8_t *number)
 {
@@ -207,21 +138,6 @@ static void check_walk(uint8_t number)
         "ipv6_walk");
     expect(same_walk(etherparse_ipv6_walk_up_to(packet, packet_len, number, limit),
         reference_ipv6_walk_up_to(packet, packet_len, number, limit)), "ipv6_walk_up_to");
-}
-
-/* A number that is often one of the greatest or the least. */
-static uint64_t some_number(uint64_t most)
-{
-    switch (below(6)) {
-    case 0:
-        return most;
-    case 1:
-        return 0;
-    case 2:
-        return most - below(4);
-    default:
-        return next_random() & most;
-    }
 }
 
 /* The checksum of a sum with this fold, the low byte first, and its form with no zero. */
@@ -646,17 +562,6 @@ static void tell_all(uint8_t number)
     tell_update();
 }
 
-/* A page that can be read and written, between two that cannot. */
-static uint8_t *guarded_page(size_t page_len)
-{
-    uint8_t *at = mmap(NULL, 3 * page_len, PROT_NONE, MAP_PRIVATE | MAP_ANONYMOUS, -1, 0);
-    if (at == MAP_FAILED || mprotect(at + page_len, page_len, PROT_READ | PROT_WRITE) != 0) {
-        perror("fuzz: pages");
-        exit(2);
-    }
-    return at + page_len;
-}
-
 static FILE *opened(const char *name)
 {
     FILE *file = fopen(name, "w");
@@ -674,7 +579,7 @@ int main(int argc, char **argv)
         return 2;
     }
     if (argc == 7)
-        state += strtoull(argv[6], NULL, 10);
+        seed_random(strtoull(argv[6], NULL, 10));
     unsigned long long count = strtoull(argv[1], NULL, 10);
     unsigned long long every = strtoull(argv[3], NULL, 10);
     time_t end = time(NULL) + atoi(argv[2]);

@@ -16,7 +16,7 @@ mkdir -p "$out"
   exit 1
 }
 gcc -std=c11 -O2 -g -Wall -Wextra -Werror -fsanitize=address,undefined -fno-sanitize-recover=all -I "$library/include" \
-  -o "$out/fuzz" "$here/fuzz.c" "$here/packets.c" "$here/reference.c" "$here/reference_packets.c" "$library/out/libetherparse_c.a"
+  -o "$out/fuzz" "$here/fuzz.c" "$here/inputs.c" "$here/packets.c" "$here/reference.c" "$here/reference_packets.c" "$library/out/libetherparse_c.a"
 "$out/fuzz" "$count" 86400 500 "$out/cases.txt" "$out/answers.txt" "$seed"
 [ -n "$reference" ] || exit 0
 "$reference" < "$out/cases.txt" > "$out/expected.txt"

@@ -28,10 +28,13 @@ pub extern "C" fn etherparse_packet_lax_from_link_type(
 )
     ensures reads { GivesLax link_type checksums frame.now answer.new }
 {
-    match LinkType::from_number(link_type) {
-        Some(link_type) => put_lax(link_type, frame, checksums, answer),
-        None => *answer = refused(Error::of_link_type(link_type)),
-    }
+    put(
+        LinkType::from_number(link_type),
+        link_type,
+        frame,
+        checksums,
+        answer,
+    );
 }
 
 /// The layers of a frame that is read whole. All else is 0 if it is not, and the error is what
@@ -49,7 +52,7 @@ pub extern "C" fn etherparse_packet_strict_from_link_type(
 {
     match LinkType::from_number(link_type) {
         Some(link_type) => {
-            put_lax(link_type, frame, checksums, answer);
+            put_kept(link_type, frame, checksums, answer);
             refuse_stopped(answer);
         }
         None => *answer = refused(Error::of_link_type(link_type)),
@@ -111,9 +114,11 @@ pub extern "C" fn etherparse_packet_lax_batch(
         GivesLax link_type checksums frame.bytes.now answer)
         frames.now answers.old answers.new result }
 {
+    let known = LinkType::from_number(link_type);
     let count = frames.len().min(answers.len());
     for i in 0..count {
-        etherparse_packet_lax_from_link_type(
+        put(
+            known,
             link_type,
             frames[i].bytes,
             checksums,
@@ -123,7 +128,31 @@ pub extern "C" fn etherparse_packet_lax_batch(
     count
 }
 
+// The layers of a frame of the link type of a number, or the error of one that is not read. That of
+// Ethernet is known where its code is compiled.
+#[inline(always)]
+fn put(known: Option<LinkType>, number: u32, frame: &[u8], checksums: bool, answer: &mut Packet)
+    requires known { known ≡ link_type_of number }
+    ensures reads { GivesLax number checksums frame.now answer.new }
+{
+    match known {
+        Some(LinkType::Ethernet2) => put_lax(LinkType::Ethernet2, frame, checksums, answer),
+        Some(link_type) => put_kept(link_type, frame, checksums, answer),
+        None => *answer = refused(Error::of_link_type(number)),
+    }
+}
+
 // The layers of a frame of a link type that is read.
+#[inline(never)]
+fn put_kept(link_type: LinkType, frame: &[u8], checksums: bool, answer: &mut Packet)
+    ensures reads { GetsAnswer (IsLaxReadingOf link_type frame.now)
+        (IsLaxInC (length frame.now) checksums answer.new) }
+{
+    put_lax(link_type, frame, checksums, answer);
+}
+
+// The same, compiled into its caller.
+#[inline(always)]
 fn put_lax(link_type: LinkType, frame: &[u8], checksums: bool, answer: &mut Packet)
     ensures reads { GetsAnswer (IsLaxReadingOf link_type frame.now)
         (IsLaxInC (length frame.now) checksums answer.new) }

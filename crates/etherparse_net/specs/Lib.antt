@@ -1,1 +1,11 @@
+pub mod IpAuthHeader
+pub mod IpAuthIcv
+pub mod Ipv4Options
+pub mod Ipv6ExtPayload
+pub mod Ipv6Extensions
 pub mod Ipv6FragmentHeader
+pub mod Ipv6OptionAction
+pub mod Ipv6OptionWriting
+pub mod Ipv6Options
+pub mod Ipv6RawExtHeader
+pub mod Options

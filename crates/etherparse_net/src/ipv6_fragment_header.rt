@@ -2,6 +2,9 @@
 
 ghost use Rattle.std.specs.Prelude.{◌≡◌, length};
 ghost use Rattle.etherparse_net.specs.Ipv6FragmentHeader.{IsFragmentLayout};
+ghost use Rattle.etherparse_net.specs.declared.ipv6_fragment_header.Ipv6FragmentHeader.{
+  Ipv6FragmentHeader as Header,
+};
 
 use etherparse::err::{Layer, LenError};
 use etherparse::{IpFragOffset, IpNumber, LenSource};
@@ -21,10 +24,13 @@ pub struct Ipv6FragmentHeader {
 }
 
 impl Ipv6FragmentHeader {
-    ghost use Rattle.std.specs.Prelude.{ℕ, ◌≡◌, ◌↔◌, List, Result, IsTrue};
+    ghost use Rattle.std.specs.Prelude.{ℕ, ◌≡◌, ◌+◌, ◌*◌, ◌^◌, ◌<◌, ◌∷◌, ◌++◌, List, Ok, Result};
+    ghost use Rattle.std.specs.Int.{from_bool, to_be_bytes, w16, w32};
     ghost use Rattle.etherparse.specs.Reading.{Reads, found_and_rest};
-    ghost use Rattle.etherparse_net.specs.Ipv6FragmentHeader.{IsFragmentLayout, RefusesFragment, is_part};
-    ghost use Rattle.etherparse_net.specs.declared.ipv6_fragment_header.Ipv6FragmentHeader.{Ipv6FragmentHeader as Header};
+    ghost use Rattle.etherparse_net.specs.Ipv6FragmentHeader.{IsClearedFragmentLayout};
+    ghost use Rattle.etherparse_net.specs.Ipv6FragmentHeader.{IsFragmentLayout, RefusesFragment};
+    ghost use Rattle.etherparse_net.specs.Ipv6FragmentHeader.{is_part};
+    ghost use Rattle.etherparse_net.specs.Ipv6FragmentHeader.{with_fragment_reserved_cleared};
 
     /// The length of the header, in bytes: 8.
     pub const LEN: usize = 8;
@@ -73,12 +79,53 @@ impl Ipv6FragmentHeader {
     {
         self.more_fragments || self.fragment_offset.value() != 0
     }
+
+    /// The 8 bytes of the header. All that is reserved is written as 0: byte 1, and the second and
+    /// third lowest bits of byte 3.
+    ///
+    /// # Example
+    ///
+    /// ```
+    /// // What is reserved in bytes 1 and 3 is not kept.
+    /// let slice = [17, 255, 0, 0x0f, 1, 2, 3, 4];
+    /// let (header, _) = Ipv6FragmentHeader::from_slice(&slice)?;
+    /// assert!(rt; header.to_bytes() == [17, 0, 0, 9, 1, 2, 3, 4]);
+    /// ```
+    pub fn to_bytes(&self) -> [u8; 8]
+        ensures layout { IsClearedFragmentLayout self.now result }
+        ensures only { (bytes : List ℕ) → IsClearedFragmentLayout self.now bytes → bytes ≡ result }
+        ensures read_again { (rest : List ℕ) →
+            Reads IsFragmentLayout RefusesFragment (result ++ rest) (Ok (self.now, rest)) }
+
+        // Bytes that are read as this header are written back, with all that is reserved 0.
+        ensures cleared { (bytes : List ℕ) → IsFragmentLayout self.now bytes →
+            result ≡ with_fragment_reserved_cleared bytes }
+    {
+        self.fields()
+    }
+
+    // The fields in their order, with zeros for what is reserved.
+    fn fields(&self) -> [u8; 8]
+        ensures value { result ≡ self.now.next_header ∷ 0
+            ∷ (to_be_bytes w16 (self.now.fragment_offset * 2 ^ 3
+            + from_bool self.now.more_fragments)
+            ++ to_be_bytes w32 self.now.identification) }
+        ensures next_header { self.now.next_header < 2 ^ 8 }
+        ensures fragment_offset { self.now.fragment_offset < 2 ^ 13 }
+        ensures identification { self.now.identification < 2 ^ 32 }
+    {
+        let (next_header, identification) = (self.next_header.0, self.identification);
+        let offset = self.fragment_offset.value() << 3;
+        let [c, d] = (offset + u16::from(self.more_fragments)).to_be_bytes();
+        let [e, f, g, h] = identification.to_be_bytes();
+        [next_header, 0, c, d, e, f, g, h]
+    }
 }
 
 const _: () = prove!(Ipv6FragmentHeader::LEN == 8);
 
 // The header of 8 bytes.
-fn header_of(bytes: &[u8]) -> Ipv6FragmentHeader
+pub(crate) fn header_of(bytes: &[u8]) -> Ipv6FragmentHeader
     requires { length bytes.now ≡ 8 }
     ensures layout { IsFragmentLayout result bytes.now }
 {

@@ -37,8 +37,6 @@ mod layers;
 #[cfg(test)]
 mod limited_walk;
 #[cfg(test)]
-mod link_examples;
-#[cfg(test)]
 mod packet_examples;
 #[cfg(test)]
 mod reassembly;

@@ -1,1 +1,5 @@
+mod Checksums
+mod TcpLayout
+mod TcpOptionBytes
+mod TcpReading
 mod UdpLayout

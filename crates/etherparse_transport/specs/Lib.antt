@@ -1,2 +1,10 @@
 pub mod Tcp
+pub mod TcpChecksum
+pub mod TcpHeader
+pub mod TcpOptionErrors
+pub mod TcpOptions
+pub mod TcpPadding
+pub mod TransportChecksum
 pub mod Udp
+pub mod UdpChecksum
+pub mod UdpView

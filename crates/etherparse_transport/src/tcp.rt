@@ -4,6 +4,9 @@ ghost use Rattle.std.specs.Prelude.{◌≡◌, ◌*◌, ◌≤◌, Some, length}
 ghost use Rattle.etherparse.specs.Bytes.{IsBytes};
 ghost use Rattle.etherparse_transport.specs.Tcp.{data_offset_of, tcp_error_text, tcp_len_error};
 
+mod checksum;
+
+use crate::{TcpHeader, TcpOptions, TcpOptionsIterator};
 use etherparse::LenSource;
 use etherparse::err::{Layer, LenError};
 use std::fmt;
@@ -46,11 +49,13 @@ pub struct TcpHeaderSlice<'a> {
 }
 
 impl<'a> TcpHeaderSlice<'a> {
-    ghost use Rattle.std.specs.Prelude.{ℕ, ◌≡◌, ◌*◌, ◌↔◌, List, IsTrue, Result, drop, length};
+    ghost use Rattle.std.specs.Prelude.{ℕ, ◌≡◌, ◌*◌, ◌%◌, ◌↔◌, List, IsTrue, Result, drop, length};
     ghost use Rattle.std.specs.Prelude.{slice_index, slice_range};
     ghost use Rattle.std.specs.Int.{from_be_bytes, w16, w32};
     ghost use Rattle.std.specs.Result.{result_map_both};
     ghost use Rattle.etherparse_transport.specs.Tcp.{ViewsTcp, flag_at};
+    ghost use Rattle.etherparse_transport.specs.TcpHeader.{IsTcpLayout, IsTcpLayoutWith};
+    ghost use Rattle.etherparse_transport.specs.TcpHeader.{OfTcpHeader, with_reserved_bits_cleared};
     ghost use Rattle.etherparse_transport.specs.declared.tcp.TcpError.{TcpError as Refused};
 
     /// The length of a header without options, in bytes: 20.
@@ -78,6 +83,7 @@ impl<'a> TcpHeaderSlice<'a> {
     /// assert!(rt; (header.window_size(), header.checksum()) == (8192, 0x0979));
     /// assert!(rt; header.urgent_pointer() == 0 && header.options().is_empty());
     /// ```
+    #[inline(always)]
     pub fn from_slice(slice: &'a [u8]) -> Result<TcpHeaderSlice<'a>, TcpError>
         ensures views { ViewsTcp slice.now
             (result_map_both (λ view. view.slice.now) (λ e. e) result) }
@@ -199,6 +205,110 @@ impl<'a> TcpHeaderSlice<'a> {
         ensures bytes_from_20 { result.now ≡ drop 20 self.now.slice.now }
     {
         &self.slice[20..]
+    }
+
+    /// Whether the data is to be pushed to the receiving user: the fourth lowest bit of byte 13.
+    pub fn psh(&self) -> bool
+        ensures bit_3 { IsTrue result ↔ (flag_at 3 self.now.slice.now ≡ 1) }
+    {
+        (self.slice[13] >> 3) & 1 == 1
+    }
+
+    /// Whether the urgent pointer counts: the third highest bit of byte 13.
+    pub fn urg(&self) -> bool
+        ensures bit_5 { IsTrue result ↔ (flag_at 5 self.now.slice.now ≡ 1) }
+    {
+        (self.slice[13] >> 5) & 1 == 1
+    }
+
+    /// Whether congestion was experienced, or in a SYN whether the sender can take part in that
+    /// (RFC 3168): the second highest bit of byte 13.
+    pub fn ece(&self) -> bool
+        ensures bit_6 { IsTrue result ↔ (flag_at 6 self.now.slice.now ≡ 1) }
+    {
+        (self.slice[13] >> 6) & 1 == 1
+    }
+
+    /// Whether the congestion window was reduced (RFC 3168): the highest bit of byte 13.
+    pub fn cwr(&self) -> bool
+        ensures bit_7 { IsTrue result ↔ (flag_at 7 self.now.slice.now ≡ 1) }
+    {
+        (self.slice[13] >> 7) & 1 == 1
+    }
+
+    /// The nonce sum (RFC 3540, historic): the lowest bit of byte 12, which RFC 9293 reserves.
+    pub fn ns(&self) -> bool
+        ensures lowest_of_byte_12 { IsTrue result ↔ (slice_index self.now.slice.now 12 % 2 ≡ 1) }
+    {
+        self.slice[12] & 1 == 1
+    }
+
+    /// The bytes of the header, which live as long as the slice that was read.
+    pub fn slice(&self) -> &'a [u8]
+        ensures value { result.now ≡ self.now.slice.now }
+    {
+        self.slice
+    }
+
+    /// The options one after the other.
+    ///
+    /// # Example
+    ///
+    /// ```
+    /// // A SYN with a maximum segment size of 1460 bytes.
+    /// let segment = [
+    ///     4, 0, 0, 80, 0, 0, 0, 1, 0, 0, 0, 0, 0x60, 0x02, 0x20, 0, 0xf1, 0xbc, 0, 0, 2, 4, 0x05,
+    ///     0xb4,
+    /// ];
+    /// let mut iterator = TcpHeaderSlice::from_slice(&segment)?.options_iterator();
+    /// assert!(rt; iterator.next() == Some(Ok(TcpOptionElement::MaximumSegmentSize(1460))));
+    /// assert!(rt; iterator.next() == None);
+    /// ```
+    #[inline]
+    pub fn options_iterator(&self) -> TcpOptionsIterator<'a>
+        ensures bytes_from_20 { result.options.now ≡ drop 20 self.now.slice.now }
+    {
+        TcpOptionsIterator::from_slice(self.options())
+    }
+
+    /// The header whose layout the bytes have, with any reserved bits.
+    pub fn to_header(&self) -> TcpHeader
+        ensures layout { IsTcpLayout result self.now.slice.now }
+        ensures only { OfTcpHeader self.now.slice.now (λ header. header ≡ result) }
+
+        // It is written as these bytes, with the reserved bits 0.
+        ensures cleared { IsTcpLayoutWith result 0
+            (with_reserved_bits_cleared self.now.slice.now) }
+    {
+        self.header_with(TcpOptions::copy_of(self.options()))
+    }
+
+    // The header whose layout the bytes have, with these options.
+    #[inline(always)]
+    pub(crate) fn header_with(&self, options: TcpOptions) -> TcpHeader
+        requires { options ≡ drop 20 self.now.slice.now }
+        ensures layout { IsTcpLayout result self.now.slice.now }
+        ensures only { OfTcpHeader self.now.slice.now (λ header. header ≡ result) }
+    {
+        TcpHeader {
+            source_port: self.source_port(),
+            destination_port: self.destination_port(),
+            sequence_number: self.sequence_number(),
+            acknowledgment_number: self.acknowledgment_number(),
+            ns: self.ns(),
+            fin: self.fin(),
+            syn: self.syn(),
+            rst: self.rst(),
+            psh: self.psh(),
+            ack: self.ack(),
+            urg: self.urg(),
+            ece: self.ece(),
+            cwr: self.cwr(),
+            window_size: self.window_size(),
+            checksum: self.checksum(),
+            urgent_pointer: self.urgent_pointer(),
+            options,
+        }
     }
 }
 

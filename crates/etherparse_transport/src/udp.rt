@@ -1,7 +1,11 @@
 //! The UDP header (RFC 768).
 
 ghost use Rattle.std.specs.Prelude.{◌≡◌, length};
+ghost use Rattle.etherparse.specs.Reading.{too_short_error};
+ghost use Rattle.etherparse.specs.declared.err.Layer.TheVariants as layer;
 ghost use Rattle.etherparse_transport.specs.Udp.{IsUdpLayout};
+
+mod checksum;
 
 use etherparse::checksum::Sum16BitWords;
 use etherparse::err::{Layer, LenError};
@@ -46,19 +50,14 @@ impl UdpHeader {
     /// assert!(rt; (header.source_port, header.destination_port) == (1024, 53));
     /// assert!(rt; rest == b"test".as_slice());
     /// ```
+    #[inline(always)]
     pub fn from_slice(slice: &[u8]) -> Result<(UdpHeader, &[u8]), LenError>
         ensures reads { ReadsUdp slice.now (found_and_rest result) }
         ensures only { (other : UdpReading) → ReadsUdp slice.now other →
             other ≡ found_and_rest result }
     {
         if slice.len() < UdpHeader::LEN {
-            return Err(LenError {
-                required_len: UdpHeader::LEN,
-                len: slice.len(),
-                len_source: LenSource::Slice,
-                layer: Layer::UdpHeader,
-                layer_start_offset: 0,
-            });
+            return Err(too_short(slice.len()));
         }
         let (front, rest) = (&slice[..UdpHeader::LEN], &slice[UdpHeader::LEN..]);
         Ok((header_of(front), rest))
@@ -169,7 +168,8 @@ impl UdpHeader {
 const _: () = prove!(UdpHeader::LEN == 8);
 
 // The header of 8 bytes.
-fn header_of(bytes: &[u8]) -> UdpHeader
+#[inline(always)]
+pub(crate) fn header_of(bytes: &[u8]) -> UdpHeader
     requires { length bytes.now ≡ 8 }
     ensures layout { IsUdpLayout result bytes.now }
 {
@@ -178,5 +178,18 @@ fn header_of(bytes: &[u8]) -> UdpHeader
         destination_port: u16::from_be_bytes([bytes[2], bytes[3]]),
         length: u16::from_be_bytes([bytes[4], bytes[5]]),
         checksum: u16::from_be_bytes([bytes[6], bytes[7]]),
+    }
+}
+
+// The error of a slice of so many bytes, which are fewer than 8.
+pub(crate) fn too_short(len: usize) -> LenError
+    ensures value { result ≡ too_short_error layer.UdpHeader 8 len }
+{
+    LenError {
+        required_len: UdpHeader::LEN,
+        len,
+        len_source: LenSource::Slice,
+        layer: Layer::UdpHeader,
+        layer_start_offset: 0,
     }
 }

@@ -267,6 +267,7 @@ fn layers<'a>(
 }
 
 // A packet of which no IP packet is read.
+#[inline(always)]
 fn without_ip<'a>(
     link: Option<LinkSlice<'a>>,
     vlan: Option<VlanSlice<'a>>,
@@ -291,6 +292,7 @@ fn without_ip<'a>(
 }
 
 // Whether an IP packet follows.
+#[inline(always)]
 pub(crate) fn carries_ip(link: &Option<LinkSlice>, ether_type: &Option<EtherType>) -> bool
     ensures value { result ≡ carries_ip (option_map link_parts link.now) ether_type.now }
 {

@@ -67,6 +67,7 @@ pub(crate) enum Protocol {
 }
 
 // The protocol of the payload of a packet, unless that is of a later fragment.
+#[inline(always)]
 fn protocol_of(ip: &IpSlice) -> Option<Protocol>
     ensures value { result ≡ protocol_of ip.now }
 {
@@ -99,6 +100,7 @@ pub(crate) fn ports_in(ip: &IpSlice) -> Option<(u16, u16)>
 }
 
 // The transport header of a payload at a place, or the error of one that is incomplete.
+#[inline(always)]
 pub(crate) fn transport_of<'a>(
     place: usize,
     ip: &IpSlice<'a>,
@@ -120,6 +122,7 @@ pub(crate) fn transport_of<'a>(
 }
 
 // The header of a protocol at the front of a payload at a place.
+#[inline(always)]
 fn header_of(protocol: Protocol, place: usize, payload: &[u8]) -> Result<TransportSlice, SliceError>
     requires fits { place < 2 ^ 63 }
     ensures reads { ReadsHeader protocol place payload.now
@@ -149,6 +152,7 @@ fn header_of(protocol: Protocol, place: usize, payload: &[u8]) -> Result<Transpo
 }
 
 // What a message begins with, and the rest of it.
+#[inline(always)]
 fn icmp(layer: Layer, message: &[u8]) -> Result<(IcmpHeader, &[u8]), LenError>
     ensures reads { Reads IsIcmpLayout (IsTooShort layer 4) message.now (found_and_rest result) }
 {
@@ -165,6 +169,7 @@ fn icmp(layer: Layer, message: &[u8]) -> Result<(IcmpHeader, &[u8]), LenError>
 }
 
 // The header of 4 bytes.
+#[inline(always)]
 fn icmp_header_of(bytes: &[u8]) -> IcmpHeader
     requires { length bytes.now ≡ 4 }
     ensures layout { IsIcmpLayout result bytes.now }

@@ -32,6 +32,7 @@ pub(crate) struct Tagged<'a> {
 }
 
 // What follows up to two tags at the front of the last bytes of a frame of this length.
+#[inline(always)]
 pub(crate) fn after_tags(frame_len: usize, first: Option<EtherType>, bytes: &[u8]) -> Tagged
     requires within { length bytes.now ≤ frame_len }
     ensures tags { HasTags first bytes.now result.vlan result.ether_type result.bytes.now }
@@ -83,6 +84,7 @@ pub(crate) fn after_tags(frame_len: usize, first: Option<EtherType>, bytes: &[u8
 }
 
 // Whether this is the EtherType of a tag.
+#[inline(always)]
 fn is_tag(ether_type: &Option<EtherType>) -> bool
     ensures value { result ≡ is_tag ether_type.now }
 {
@@ -93,6 +95,7 @@ fn is_tag(ether_type: &Option<EtherType>) -> bool
 }
 
 // The tag at the front of a slice, and what follows it.
+#[inline(always)]
 fn tag(bytes: &[u8]) -> Option<(SingleVlanHeaderSlice, &[u8])>
     ensures found { IfSome result (λ x. bytes.now ≡ x.0.slice.now ++ x.1.now) }
     ensures none { IfNone result (length bytes.now < 4) }

@@ -6,8 +6,8 @@ pub loop-i-init : goal.loop-i-init
 loop-i-init c = none c.args.frames.now c.args.answers.now
 
 pub loop-i-preserved : goal.loop-i-preserved
-loop-i-preserved c = one_more c.args.frames.now c.args.answers.now c.loop-i.answers c.loop-i.i _ c.etherparse_packet_lax_from_link_type.new.answer c.loop-i.invariant
-    (omega (arith, c.loop-i-test.true, c.min-count.ensures)) (omega (arith, c.loop-i-test.true, c.min-count.ensures, c.loop-i.auto.answers)) c.etherparse_packet_lax_from_link_type.ensures.reads
+loop-i-preserved c = one_more c.args.frames.now c.args.answers.now c.loop-i.answers c.loop-i.i _ c.put.new.answer c.loop-i.invariant
+    (omega (arith, c.loop-i-test.true, c.min-count.ensures)) (omega (arith, c.loop-i-test.true, c.min-count.ensures, c.loop-i.auto.answers)) c.put.ensures.reads
 
 pub returns : goal.returns
 returns c =

@@ -1,0 +1,11 @@
+use Rattle.std.proofs.Common.{◌≡◌, ◌-◌, length}
+use Rattle.etherparse_net.proofs.OptionLists.{CountedTo}
+use Rattle.etherparse_net.specs.Ipv6Options.{IsIpv6Option}
+use Rattle.etherparse_net.proofs.ipv6_options_iterator.Ipv6OptionsIterator.count_of.Given as goal
+
+abbrev pub invariant-options : goal.invariant-options
+invariant-options l =
+    (l.left.options.now ≡ l.fn.options) × CountedTo IsIpv6Option l.fn.options l.left.offset l.count
+
+abbrev pub decreases-options : goal.decreases-options
+decreases-options l = length l.fn.options - l.left.offset

@@ -1,0 +1,61 @@
+ghost use Rattle.std.specs.Prelude.{Some};
+ghost use Rattle.etherparse_transport.specs.TcpOptionErrors.{read_error_text};
+
+use std::error::Error;
+use std::fmt;
+
+/// Why no option is read.
+#[derive(Clone, Debug, PartialEq, Eq, Drop)]
+pub enum TcpOptionReadError {
+    /// The bytes end before the option does.
+    UnexpectedEndOfSlice {
+        /// The kind of the option.
+        option_id: u8,
+        /// How many bytes it needs, or 2 if its length is missing.
+        expected_len: u8,
+        /// How many bytes are left.
+        actual_len: usize,
+    },
+    /// The length of the option is none that its kind has.
+    UnexpectedSize {
+        /// The kind of the option.
+        option_id: u8,
+        /// The length.
+        size: u8,
+    },
+    /// The kind is none that is known here.
+    UnknownId(u8),
+}
+
+impl fmt::Display for TcpOptionReadError {
+    ghost output = { λ error. Some (read_error_text error) };
+
+    fn fmt<W: fmt::Write>(&self, f: &mut fmt::Formatter<W>) -> fmt::Result {
+        match self {
+            TcpOptionReadError::UnexpectedEndOfSlice {
+                option_id,
+                expected_len,
+                actual_len,
+            } => {
+                let (kind, expected, actual) = (*option_id, *expected_len, *actual_len);
+                write!(
+                    f,
+                    "TCP option of kind {kind} needs {expected} bytes, but only {actual} are left."
+                )
+            }
+            TcpOptionReadError::UnexpectedSize { option_id, size } => {
+                let (kind, len) = (*option_id, *size);
+                write!(
+                    f,
+                    "TCP option of kind {kind} has the length {len}, which its kind does not allow."
+                )
+            }
+            TcpOptionReadError::UnknownId(option_id) => {
+                let kind = *option_id;
+                write!(f, "TCP option of kind {kind} is not known.")
+            }
+        }
+    }
+}
+
+impl Error for TcpOptionReadError {}

@@ -1,0 +1,15 @@
+//! Tests of the crates of headers by their public paths: the examples of their doc comments.
+//!
+//! They are in a crate of their own, since each crate with tests is proved once more for them.
+#![tactic(auto)]
+
+#[cfg(test)]
+mod builder_examples;
+#[cfg(test)]
+mod built_packets;
+#[cfg(test)]
+mod link_examples;
+#[cfg(test)]
+mod net_examples;
+#[cfg(test)]
+mod transport_examples;

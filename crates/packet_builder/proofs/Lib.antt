@@ -1,0 +1,2 @@
+mod BuiltHeaders
+mod Parts

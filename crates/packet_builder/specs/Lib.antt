@@ -1,0 +1,4 @@
+pub mod BuiltPacket
+pub mod ErrorText
+pub mod Steps
+pub mod Writing

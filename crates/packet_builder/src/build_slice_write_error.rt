@@ -1,0 +1,33 @@
+//! Why a packet is not written.
+
+ghost use Rattle.std.specs.Prelude.{Some};
+ghost use Rattle.packet_builder.specs.ErrorText.{write_error_text};
+
+use etherparse::err::ValueTooBigError;
+use std::fmt;
+
+/// Why a packet is not written into a slice.
+#[derive(Clone, Debug, PartialEq, Eq, Drop)]
+pub enum BuildSliceWriteError {
+    /// The IP header cannot count the bytes after it.
+    PayloadLen(ValueTooBigError<usize>),
+    /// The slice is too short. It needs this many bytes.
+    Space(usize),
+}
+
+impl fmt::Display for BuildSliceWriteError {
+    ghost output = { λ error. Some (write_error_text error) };
+
+    fn fmt<W: fmt::Write>(&self, f: &mut fmt::Formatter<W>) -> fmt::Result {
+        match self {
+            BuildSliceWriteError::PayloadLen(e) => fmt::Display::fmt(e, f),
+            BuildSliceWriteError::Space(required_len) => {
+                let required_len = *required_len;
+                write!(
+                    f,
+                    "Not enough space to write packet to slice. Needed {required_len} byte(s)."
+                )
+            }
+        }
+    }
+}

@@ -1,0 +1,85 @@
+//! A packet that is built, after its UDP header.
+
+ghost use Rattle.std.specs.Prelude.{◌+◌, ◌<◌, ◌^◌, length};
+ghost use Rattle.packet_builder.specs.BuiltPacket.{IsUdpBefore};
+
+use crate::build_slice_write_error::BuildSliceWriteError;
+use crate::headers::{Headers, IpHeader};
+use etherparse::IpNumber;
+use etherparse_transport::UdpHeader;
+
+/// A packet that is built, after its UDP header.
+#[derive(Clone, Debug, PartialEq, Eq, Drop)]
+pub struct UdpStep {
+    /// All headers before that of UDP.
+    pub headers: Headers,
+    /// The source port.
+    pub source_port: u16,
+    /// The destination port.
+    pub destination_port: u16,
+}
+
+impl UdpStep {
+    ghost use Rattle.std.specs.Prelude.{◌≡◌, ◌+◌, ◌≤◌, ◌<◌, ◌^◌, ◌↔◌, IfErr, IfOk, IsOk, OnErr};
+    ghost use Rattle.std.specs.Prelude.{length};
+    ghost use Rattle.packet_builder.specs.BuiltPacket.{IsUdpPacket, RefusesToWrite, headers_len};
+    ghost use Rattle.packet_builder.specs.BuiltPacket.{max_len_after};
+    ghost use Rattle.packet_builder.specs.Writing.{WritesFront};
+
+    /// The length of the packet with a payload of this length, in bytes.
+    pub fn size(&self, payload_size: usize) -> usize
+        requires fits { payload_size < 2 ^ 63 }
+        ensures value { result ≡ headers_len self.now.headers + (8 + payload_size) }
+    {
+        self.headers.len() + UdpHeader::LEN + payload_size
+    }
+
+    /// Writes the packet with this payload at the front of a slice. Returns its length in bytes. The
+    /// slice is as before after it.
+    ///
+    /// # Errors
+    ///
+    /// `PayloadLen` if the IP header cannot count the bytes after it; otherwise `Space` if the slice
+    /// is too short. Nothing is written.
+    pub fn write_to_slice(
+        self,
+        slice: &mut [u8],
+        payload: &[u8],
+    ) -> Result<usize, BuildSliceWriteError>
+        ensures packet { IfOk result (λ end. WritesFront (IsUdpPacket self.headers self.source_port
+            self.destination_port payload.now) end slice.old slice.new) }
+        ensures accepted { IsOk result ↔ ((8 + length payload.now ≤ max_len_after self.headers.ip)
+            × (headers_len self.headers + (8 + length payload.now) ≤ length slice.old)) }
+        ensures refused { IfErr result
+            (RefusesToWrite self.headers (8 + length payload.now) (length slice.old)) }
+        ensures unchanged { OnErr result (slice.new ≡ slice.old) }
+    {
+        let Headers { link, vlan, ip } = self.headers;
+        let ip = match ip.before(IpNumber::UDP, UdpHeader::LEN + payload.len()) {
+            Ok(ip) => ip,
+            Err(e) => return Err(BuildSliceWriteError::PayloadLen(e)),
+        };
+        let udp = header_over(&ip, self.source_port, self.destination_port, payload);
+        let headers = Headers { link, vlan, ip };
+        headers.write(&udp.to_bytes(), payload, slice)
+    }
+}
+
+// The header of a datagram over this IP header.
+fn header_over(ip: &IpHeader, source_port: u16, destination_port: u16, payload: &[u8]) -> UdpHeader
+    requires fits { 8 + length payload.now < 2 ^ 16 }
+    ensures made { IsUdpBefore ip.now source_port destination_port payload.now result }
+{
+    let mut header = UdpHeader {
+        source_port,
+        destination_port,
+        length: (UdpHeader::LEN + payload.len()) as u16,
+        checksum: 0,
+    };
+    let checksum = match ip {
+        IpHeader::Ipv4(ip) => header.calc_checksum_ipv4(ip, payload).unwrap(),
+        IpHeader::Ipv6(ip) => header.calc_checksum_ipv6(ip, payload).unwrap(),
+    };
+    header.checksum = checksum;
+    header
+}

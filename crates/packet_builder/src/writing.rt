@@ -1,0 +1,110 @@
+//! The parts of a packet, written into memory one after the other. Each function returns the place
+//! after its part.
+
+ghost use Rattle.std.specs.Prelude.{◌≡◌, ◌+◌, ◌≤◌, length};
+ghost use Rattle.packet_builder.specs.BuiltPacket.{AreTags, IsIp, IsLink, IsTag, ip_len, link_len};
+ghost use Rattle.packet_builder.specs.BuiltPacket.{AreTwoTags, tags_len};
+ghost use Rattle.packet_builder.specs.Writing.{WritesPart};
+
+use crate::headers::{IpHeader, LinkHeader, VlanHeader};
+use etherparse_link::{EtherType, Ethernet2Header, LinuxSllHeader, SingleVlanHeader};
+
+// These bytes.
+pub(crate) fn put(part: &[u8], at: usize, out: &mut [u8]) -> usize
+    requires room { at + length part.now ≤ length out.old }
+    ensures end { result ≡ at + length part.now }
+    ensures writes { WritesPart (λ bytes. bytes ≡ part.now) at result out.old out.new }
+{
+    let end = at + part.len();
+    out[at..end].copy_from_slice(part);
+    end
+}
+
+// A link header that has this EtherType.
+pub(crate) fn put_link(
+    link: &Option<LinkHeader>,
+    ether_type: EtherType,
+    at: usize,
+    out: &mut [u8],
+) -> usize
+    requires room { at + link_len link.now ≤ length out.old }
+    ensures end { result ≡ at + link_len link.now }
+    ensures writes { WritesPart (IsLink link.now ether_type) at result out.old out.new }
+{
+    match link {
+        None => put(&[], at, out),
+        Some(LinkHeader::Ethernet2(header)) => {
+            let header = Ethernet2Header {
+                ether_type,
+                ..*header
+            };
+            put(&header.to_bytes(), at, out)
+        }
+        Some(LinkHeader::LinuxSll(header)) => {
+            let header = LinuxSllHeader {
+                protocol_type: ether_type,
+                ..*header
+            };
+            put(&header.to_bytes(), at, out)
+        }
+    }
+}
+
+// VLAN tags before what has this EtherType.
+pub(crate) fn put_tags(
+    vlan: &Option<VlanHeader>,
+    ether_type: EtherType,
+    at: usize,
+    out: &mut [u8],
+) -> usize
+    requires room { at + tags_len vlan.now ≤ length out.old }
+    ensures end { result ≡ at + tags_len vlan.now }
+    ensures writes { WritesPart (AreTags vlan.now ether_type) at result out.old out.new }
+{
+    match vlan {
+        None => put(&[], at, out),
+        Some(VlanHeader::Single(tag)) => put_tag(tag, ether_type, at, out),
+        Some(VlanHeader::Double { outer, inner }) => {
+            put_two_tags(outer, inner, ether_type, at, out)
+        }
+    }
+}
+
+// Two tags before what has this EtherType.
+fn put_two_tags(
+    outer: &SingleVlanHeader,
+    inner: &SingleVlanHeader,
+    ether_type: EtherType,
+    at: usize,
+    out: &mut [u8],
+) -> usize
+    requires room { at + 8 ≤ length out.old }
+    ensures end { result ≡ at + 8 }
+    ensures writes { WritesPart (AreTwoTags outer.now inner.now ether_type)
+        at result out.old out.new }
+{
+    let at = put_tag(outer, EtherType::VLAN_TAGGED_FRAME, at, out);
+    put_tag(inner, ether_type, at, out)
+}
+
+// A tag before what has this EtherType.
+fn put_tag(tag: &SingleVlanHeader, ether_type: EtherType, at: usize, out: &mut [u8]) -> usize
+    requires room { at + 4 ≤ length out.old }
+    ensures end { result ≡ at + 4 }
+    ensures writes { WritesPart (IsTag tag.now ether_type) at result out.old out.new }
+{
+    let tag = SingleVlanHeader { ether_type, ..*tag };
+    put(&tag.to_bytes(), at, out)
+}
+
+// An IP header.
+pub(crate) fn put_ip(ip: &IpHeader, at: usize, out: &mut [u8]) -> usize
+    requires room { at + ip_len ip.now ≤ length out.old }
+    ensures end { result ≡ at + ip_len ip.now }
+    ensures writes { WritesPart (IsIp ip.now) at result out.old out.new }
+{
+    match ip {
+        IpHeader::Ipv4(header) => put(&header.to_bytes(), at, out),
+        IpHeader::Ipv6(header) => put(&header.to_bytes(), at, out),
+    }
+}
