@@ -3,7 +3,8 @@
 
 use etherparse::{IpNumber, Ipv4Header, Ipv4HeaderSlice, Ipv6Header};
 use etherparse_transport::{
-    TcpHeader, TcpHeaderSlice, TcpOptionElement, TcpOptionWriteError, TcpOptions, UdpHeader, UdpHeaderSlice,
+    TcpHeader, TcpHeaderSlice, TcpOptionElement, TcpOptionWriteError, TcpOptions, UdpHeader,
+    UdpHeaderSlice,
 };
 use std::process::Abort;
 use std::test::Fail;
@@ -25,9 +26,9 @@ fn options_of_a_view(rt: HostRuntime) -> Result<(), Fail> {
 fn tcp_checksum_of_a_view(rt: HostRuntime) -> Result<(), Fail> {
     // A segment with the payload "test" from 192.168.0.1 to 192.168.0.199.
     let packet = [
-        0x45, 0, 0, 44, 0, 0, 0x40, 0, 64, 6, 0xb8, 0xb3, 192, 168, 0, 1, 192, 168, 0, 199,
-        4, 0, 0, 80, 0, 0, 0, 1, 0, 0, 0, 0, 0x50, 0x08, 0x20, 0, 0x21, 0x95, 0, 0,
-        b't', b'e', b's', b't',
+        0x45, 0, 0, 44, 0, 0, 0x40, 0, 64, 6, 0xb8, 0xb3, 192, 168, 0, 1, 192, 168, 0, 199, 4, 0,
+        0, 80, 0, 0, 0, 1, 0, 0, 0, 0, 0x50, 0x08, 0x20, 0, 0x21, 0x95, 0, 0, b't', b'e', b's',
+        b't',
     ];
     let ip = Ipv4HeaderSlice::from_slice(&packet)?;
     let tcp = TcpHeaderSlice::from_slice(&packet[20..])?;
