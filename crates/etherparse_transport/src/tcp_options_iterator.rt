@@ -61,7 +61,7 @@ impl<'a> Iterator for TcpOptionsIterator<'a> {
 
     ghost remaining = { λ iterator. at_most (length iterator.options.now) };
 
-    #[inline]
+    #[inline(always)]
     fn next(&mut self) -> Option<Result<TcpOptionElement, TcpOptionReadError>> {
         let options = self.options;
         self.options = &options[options.len()..];
