@@ -1,5 +1,4 @@
--- The fragment header of IPv6, and what the fragments of one packet have in common (RFC 791 section
--- 3.2, RFC 8200 section 4.5).
+-- The fragment header of IPv6 (RFC 8200 section 4.5).
 use Rattle.std.specs.Prelude.{ℕ, ◌≡◌, ◌==◌, ◌+◌, ◌*◌, ◌/◌, ◌%◌, ◌^◌, ◌||◌, Bool, List}
 use Rattle.std.specs.Prelude.{Result, length, not, slice_index, slice_range, slice_set}
 use Rattle.std.specs.Int.{from_be_bytes, w16, w32}
