@@ -60,7 +60,7 @@ build_after_ci() {
 build_alone() { (cd "$crates/$1" && rt lib); }
 
 # What a library needs of the C library: of memcpy, memmove, memset and memcmp, which compilers call by
-# themselves. One that is not named here needs nothing.
+# themselves. One that is not named here needs nothing, and neither do all together, where musl is there.
 declare -A needs=(
   [packet_filter_c]='memcpy memset'
   [packet_reassembly_c]='memcpy memmove memset'
@@ -74,6 +74,8 @@ stands_alone() {
   echo "${needs[$1]:-}" | tr ' ' '\n' | sed '/^$/d' | diff - "$room/needed.txt" &&
     ! grep -v ' T etherparse_' "$room/exported.txt"
 }
+
+needs_nothing() { ! nm --undefined-only "$1" | grep ' U '; }
 
 # Builds a program by a command, and runs it.
 runs() { "$@" -o "$room/program" && "$room/program"; }
@@ -146,6 +148,19 @@ for compiler in gcc clang; do
     "-Wl,--version-script=$here/exports.map" -Wl,--whole-archive "$archive" -Wl,--no-whole-archive
   linked "$compiler"
 done
+# A program without a C library, and one whose own memcpy, memmove and memset no call may reach.
+if [[ -n $(make -s -C "$here" musl) ]]; then
+  has nm && try "all libraries together need nothing" needs_nothing "$archive"
+  for compiler in gcc clang; do
+    has "$compiler" || continue
+    for own in -UOWN -DOWN; do
+      try "$compiler, no C library, $own" runs "$compiler" -std=c11 "${strict[@]}" -ffreestanding -nostdlib -static "$own" \
+        "$here/tests/alone.c" "$archive"
+    done
+  done
+else
+  leave_out "a program without a C library: musl is not there"
+fi
 if has make && has pkg-config && has gcc; then
   try "the commands of the page" "$here/install.sh"
 else
