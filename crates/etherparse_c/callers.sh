@@ -42,9 +42,11 @@ leave_out() {
 has() { command -v "$1" > /dev/null; }
 
 # Builds a library on top of the proved crates that `rt ci` left. They have no stamp, so `rt lib` would
-# prove them once more. A library that crates.txt does not list is the kit's.
+# prove them once more. Of a static library `rt ci` leaves nothing that a build can take, so it is proved
+# here too; what was proved is kept for the next time, if no other run of this script uses that. A library
+# that crates.txt does not list is the kit's.
 build_after_ci() {
-  local kit below library=$1 words=()
+  local kit below library=$1 words=() kept=${XDG_CACHE_HOME:-${HOME-}/.cache}/etherparse_c/$1
   kit=$(dirname "$(dirname "$(readlink -f "$(command -v rt)")")")
   for below in std $(sed -n "s/^$library .*: *//p" "$crates/../crates.txt"); do
     words+=(--extern "$below=$(find "$kit/rlibs" "$crates/$below/out/rlib" -maxdepth 1 -name "$below.rlib" 2> /dev/null)")
@@ -53,6 +55,7 @@ build_after_ci() {
   for below in $("$here/libraries.sh" "$library"); do words+=(-L "dependency=$crates/$below/out/rlib"); done
   words+=(--antt-project "$kit/rattle/logic/antt-project.json" --logic-built "$kit/logic_built" --jobs 1)
   words+=(--links "$library=" --crate-type staticlib --toolchain "$kit/toolchain" --backend llvm)
+  mkdir -p "$kept" && exec 9> "$kept.lock" && flock --nonblock 9 && words+=(--incremental "$kept")
   (cd "$crates/$library" && mkdir -p out &&
     "$kit/bin/rattle" build --crate-name "$library" src/lib.rt "${words[@]}" -o "out/lib$library.a")
 }
