@@ -42,9 +42,11 @@ leave_out() {
 has() { command -v "$1" > /dev/null; }
 
 # Builds a library on top of the proved crates that `rt ci` left. They have no stamp, so `rt lib` would
-# prove them once more. A library that crates.txt does not list is the kit's.
+# prove them once more. Of a static library `rt ci` leaves nothing that a build can take, so it is proved
+# here too; what was proved is kept for the next time, if no other run of this script uses that. A library
+# that crates.txt does not list is the kit's.
 build_after_ci() {
-  local kit below library=$1 words=()
+  local kit below library=$1 words=() kept=${XDG_CACHE_HOME:-${HOME-}/.cache}/etherparse_c/$1
   kit=$(dirname "$(dirname "$(readlink -f "$(command -v rt)")")")
   for below in std $(sed -n "s/^$library .*: *//p" "$crates/../crates.txt"); do
     words+=(--extern "$below=$(find "$kit/rlibs" "$crates/$below/out/rlib" -maxdepth 1 -name "$below.rlib" 2> /dev/null)")
@@ -53,6 +55,7 @@ build_after_ci() {
   for below in $("$here/libraries.sh" "$library"); do words+=(-L "dependency=$crates/$below/out/rlib"); done
   words+=(--antt-project "$kit/rattle/logic/antt-project.json" --logic-built "$kit/logic_built" --jobs 1)
   words+=(--links "$library=" --crate-type staticlib --toolchain "$kit/toolchain" --backend llvm)
+  mkdir -p "$kept" && exec 9> "$kept.lock" && flock --nonblock 9 && words+=(--incremental "$kept")
   (cd "$crates/$library" && mkdir -p out &&
     "$kit/bin/rattle" build --crate-name "$library" src/lib.rt "${words[@]}" -o "out/lib$library.a")
 }
@@ -60,7 +63,7 @@ build_after_ci() {
 build_alone() { (cd "$crates/$1" && rt lib); }
 
 # What a library needs of the C library: of memcpy, memmove, memset and memcmp, which compilers call by
-# themselves. One that is not named here needs nothing.
+# themselves. One that is not named here needs nothing, and neither do all together, where musl is there.
 declare -A needs=(
   [packet_filter_c]='memcpy memset'
   [packet_reassembly_c]='memcpy memmove memset'
@@ -74,6 +77,8 @@ stands_alone() {
   echo "${needs[$1]:-}" | tr ' ' '\n' | sed '/^$/d' | diff - "$room/needed.txt" &&
     ! grep -v ' T etherparse_' "$room/exported.txt"
 }
+
+needs_nothing() { ! nm --undefined-only "$1" | grep ' U '; }
 
 # Builds a program by a command, and runs it.
 runs() { "$@" -o "$room/program" && "$room/program"; }
@@ -146,6 +151,19 @@ for compiler in gcc clang; do
     "-Wl,--version-script=$here/exports.map" -Wl,--whole-archive "$archive" -Wl,--no-whole-archive
   linked "$compiler"
 done
+# A program without a C library, and one whose own memcpy, memmove and memset no call may reach.
+if [[ -n $(make -s -C "$here" musl) ]]; then
+  has nm && try "all libraries together need nothing" needs_nothing "$archive"
+  for compiler in gcc clang; do
+    has "$compiler" || continue
+    for own in -UOWN -DOWN; do
+      try "$compiler, no C library, $own" runs "$compiler" -std=c11 "${strict[@]}" -ffreestanding -nostdlib -static "$own" \
+        "$here/tests/alone.c" "$archive"
+    done
+  done
+else
+  leave_out "a program without a C library: musl is not there"
+fi
 if has make && has pkg-config && has gcc; then
   try "the commands of the page" "$here/install.sh"
 else

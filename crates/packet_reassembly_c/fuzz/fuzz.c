@@ -1,9 +1,9 @@
-/* fuzz COUNT SECONDS [SEED]: calls every function of the library on COUNT inputs, for SECONDS at most, and compares each answer with
- * that of the reference.
+/* fuzz COUNT SECONDS [SEED]: calls every function of the library on COUNT inputs, for SECONDS at most, and compares each answer
+ * with that of the reference.
  *
  * An input is a fragment for one datagram, and a packet for a pool of a few slots: a piece of one of a few datagrams that are cut
- * anew again and again, or one that is altered, repeated, cut off or damaged. Packets, states and all memory that the library is lent
- * end at pages that cannot be read. */
+ * anew again and again, or one that is altered, repeated, cut off or damaged. Packets, states and all memory that the library is
+ * lent end at pages that cannot be read. */
 
 #define _DEFAULT_SOURCE
 #include "fuzz.h"
@@ -59,12 +59,12 @@ static void make_cut(struct cut *cut)
     cut->places[cut->count] = cut->len;
 }
 
-/* A piece of it; one of 24 is another one. */
+/* A piece of it, or something like it. */
 struct part_of {
     size_t offset;
     bool more;
     size_t len;
-    uint8_t *bytes; /* one more than there are may be read */
+    uint8_t *bytes;
 };
 
 static void alter(struct part_of *part, const struct cut *cut)
@@ -431,7 +431,7 @@ static void check_pool(void)
 
 /* ---- texts */
 
-/* The text of an error of any numbers: empty for no other kind than those without an error; and a buffer of any size. */
+/* The text of an error of any numbers, which is empty if its kind is none; and in a buffer of any size. */
 static void check_text(void)
 {
     char whole[ETHERPARSE_DEFRAG_ERROR_TEXT_SIZE], numbers[2][24];

@@ -116,8 +116,8 @@ static bool read_ipv4(const uint8_t *packet, const struct etherparse_packet_ip *
     return ip->is_fragment;
 }
 
-/* RFC 8200 section 4.5: the fragments of a packet have the same addresses and identification. A fragment header that is atomic makes
- * none (RFC 6946). */
+/* RFC 8200 section 4.5: the fragments of a packet have the same addresses and identification. An atomic fragment header makes none
+ * (RFC 6946). */
 static bool read_ipv6(const uint8_t *packet, struct fragment *fragment)
 {
     size_t end = 40 + bits_at(packet, 32, 16), at = 40;
@@ -153,8 +153,8 @@ bool read_fragment(const uint8_t *packet, size_t len, struct fragment *fragment,
     memset(fragment, 0, sizeof *fragment);
     *error = error_of(ETHERPARSE_DEFRAG_OK, 0, 0);
     reference_lax_from_link_type(RAW, packet, len, false, &parts);
-    /* Headers of upper layers are not asked for here. An extension header that is cut off makes it no packet (docs/SPECIFICATION.md,
-     * "Packets"), also where the first fragment lacks the rest of its chain. */
+    /* Headers of upper layers are not asked for here. One that ends within an extension header is no packet, also where a first
+     * fragment lacks the rest of its chain so (docs/SPECIFICATION.md, "Packets"). */
     if (parts.stop.kind == ETHERPARSE_UNEXPECTED_VERSION
         || (parts.stop.kind != ETHERPARSE_OK && parts.stop.layer < ETHERPARSE_UDP_HEADER)) {
         *error = error_of(ETHERPARSE_DEFRAG_PACKET, 0, 0);

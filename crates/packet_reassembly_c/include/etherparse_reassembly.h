@@ -17,7 +17,7 @@
  *
  * Systems: x86-64 with the System V calling convention, as Linux has it, and the processor level
  * that the library was built for: x86-64-v2 unless another was asked for. It calls memmove, memset
- * and memcpy of the C library and nothing else. */
+ * and memcpy of the C library and nothing else, or not even these if the archive has its own. */
 
 #ifndef ETHERPARSE_REASSEMBLY_H
 #define ETHERPARSE_REASSEMBLY_H
