@@ -7,8 +7,8 @@ use std::marker::Model;
 /// A kind of hardware: in ARP the hardware type (RFC 826, `ar$hrd`), in a Linux cooked capture the
 /// kind of the device. Any number can be made, as in `ArpHardwareId(7)`.
 ///
-/// The constants have the names and numbers of ARPHRD in Linux's `if_arp.h`. Those up to 255 are
-/// IANA's hardware types too; those above are Linux's own, and stand in no ARP packet.
+/// The constants have the numbers of ARPHRD in Linux's `if_arp.h`, and mostly its names. Those from
+/// 1 to 255 are IANA's hardware types too; the others are Linux's own.
 ///
 /// Equality, order and hash are those of the number.
 ///

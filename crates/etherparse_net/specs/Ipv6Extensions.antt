@@ -53,6 +53,6 @@ GivesExtension number s offset (Some (Ok view)) next rest after =
     BeginsWithExtension number s view rest × (next ≡ slice_index (extension_bytes view) 0)
     × (after ≡ offset + length (extension_bytes view))
 GivesExtension number s offset (Some (Err e)) next rest after =
-    EndsInExtension number s offset e × (next ≡ 59) × (rest ≡ [])
+    EndsInExtension number s offset e × (next ≡ 59) × (rest ≡ []) × (after ≡ offset)
 GivesExtension number s offset None next rest after =
     (¬ IsSkippable number) × (next ≡ number) × (rest ≡ s) × (after ≡ offset)

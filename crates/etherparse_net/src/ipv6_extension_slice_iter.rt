@@ -44,7 +44,8 @@ pub struct Ipv6ExtensionSliceIter<'a> {
     pub next_header: IpNumber,
     /// The bytes that are left, from what comes next on. After an error, none.
     pub rest: &'a [u8],
-    /// Where they begin, in bytes from the first header on.
+    /// Where they begin, in bytes from the first header on. After an error, where the incomplete
+    /// header begins.
     pub offset: usize,
     // What every iterator keeps.
     pub ghost place: { offset + length rest.now < 2 ^ 64 },
@@ -85,7 +86,8 @@ impl<'a> Ipv6ExtensionSliceIter<'a> {
             × (self.new.offset ≡ self.old.offset + length (extension_bytes view)))) }
         ensures incomplete { IfSome result (λ found. IfErr found (λ e.
             EndsInExtension self.old.next_header self.old.rest.now self.old.offset e
-            × (self.new.next_header ≡ 59) × (self.new.rest.now ≡ []))) }
+            × (self.new.next_header ≡ 59) × (self.new.rest.now ≡ [])
+            × (self.new.offset ≡ self.old.offset))) }
         ensures end { IfNone result (¬ IsSkippable self.old.next_header
             × (self.new.next_header ≡ self.old.next_header)
             × (self.new.rest.now ≡ self.old.rest.now)

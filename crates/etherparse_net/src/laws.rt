@@ -1,7 +1,7 @@
 //! What the derived `==` and `clone` of the headers say, each as the clause of one small function.
 //! Nothing calls them: they are there to be proved.
 
-ghost use Rattle.std.specs.Prelude.{◌≡◌, ◌↔◌, IsTrue, IfOk};
+ghost use Rattle.std.specs.Prelude.{◌≡◌, ◌↔◌, IsTrue, Ok};
 
 use crate::{IpAuthHeader, Ipv6FragmentHeader, Ipv6RawExtHeader};
 use std::alloc::AllocError;
@@ -19,7 +19,7 @@ fn ipv6_raw_ext_header_equality(a: &Ipv6RawExtHeader, b: &Ipv6RawExtHeader) -> b
 }
 
 fn ipv6_raw_ext_header_copy(header: &Ipv6RawExtHeader) -> Result<Ipv6RawExtHeader, AllocError>
-    ensures same_value { IfOk result (λ copy. copy ≡ header.now) }
+    ensures same_value { result ≡ Ok header.now }
 {
     header.clone()
 }
@@ -31,7 +31,7 @@ fn ip_auth_header_equality(a: &IpAuthHeader, b: &IpAuthHeader) -> bool
 }
 
 fn ip_auth_header_copy(header: &IpAuthHeader) -> Result<IpAuthHeader, AllocError>
-    ensures same_value { IfOk result (λ copy. copy ≡ header.now) }
+    ensures same_value { result ≡ Ok header.now }
 {
     header.clone()
 }

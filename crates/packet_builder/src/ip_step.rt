@@ -76,8 +76,8 @@ impl IpStep {
         self.headers.len() + payload_size
     }
 
-    /// Writes the packet with a payload of this protocol at the front of a slice. Returns its length
-    /// in bytes. The slice is as before after it.
+    /// Writes the packet with a payload of this protocol at the front of a slice, as it is: a checksum
+    /// in it is not set. Returns the length of the packet in bytes. The slice is as before after it.
     ///
     /// # Errors
     ///

@@ -1,6 +1,6 @@
 use Rattle.std.proofs.Common.{arith}
 use Rattle.std.proofs.lemmas.List.{length-take}
-use Rattle.etherparse_tests.proofs.whole_frames.two_fragments.Goals as goal
+use Rattle.packet_tests.proofs.whole_frames.two_fragments.Goals as goal
 
 pub slice_bounds-eq-end : goal.slice_bounds-eq-end
 slice_bounds-eq-end g c =
