@@ -6,7 +6,8 @@
 - Code in Rattle stands in a source file, contracts aside, or else proves in a crate of its own;
   a line in antt stands in a proof or a definition; other code stands in a file of its language or
   compiles.
-- An example in a doc comment stands in a test of `etherparse_tests` or `header_tests`, or in a caller of `uses`.
+- An example in a doc comment stands in a test of `etherparse_tests`, `header_tests` or `packet_tests`,
+  or in a caller of `uses`.
 - A file that a page names is there, and each command names files that are there; a command that
   pipes into `rt run` or `rt try` in crates/iphead is run by the built program, and prints what the
   page shows.
@@ -38,6 +39,7 @@ SPECS = {file: file.read_text() for file in FILES if file.suffix == '.antt'}
 LIBRARY = ('etherparse_base', 'etherparse_fields', 'etherparse', 'etherparse_net', 'packet_parts',
            'etherparse_transport', 'etherparse_link', 'packet_links', 'packet', 'packet_rewriting',
            'packet_capture', 'packet_reassembly')
+TESTS = ('etherparse_tests', 'header_tests', 'packet_tests', 'uses')
 PATH = re.compile(r'[\w.{},/-]+\.(?:md|rt|antt|sh|py|edit|txt|c|h|rs|toml)$')
 FIGURE = re.compile(r'(?<![\w.])\d+(?:\.\d+)? (?:ns|nanoseconds?|seconds?|minutes?|GB|MB)\b')
 RUN = re.compile(r'\| rt (run|try)\b')
@@ -251,7 +253,7 @@ def check_comments(file, text):
     comment = '\n'.join(re.sub(r'^\s*//[/!] ?', '', line) if re.match(r'\s*//[/!]', line) else ''
                         for line in text.split('\n'))
     tests = [source for path, source in SQUEEZED.items()
-             if any(f'{crate}/src' in str(path) for crate in ('etherparse_tests', 'header_tests', 'uses'))]
+             if any(f'{crate}/src' in str(path) for crate in TESTS)]
     for language, block in blocks(comment):
         if language == '':
             first = block.strip().split('\n')[0]
