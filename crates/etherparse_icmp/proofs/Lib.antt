@@ -1,0 +1,3 @@
+mod Checksums
+mod Icmpv6Layout
+mod Rests
