@@ -1,17 +1,18 @@
 -- The layout of a header of ICMPv6: bytes have one header, and a header has one list of bytes.
-use Rattle.std.proofs.Common.{ℕ, ◌≡◌, ◌==◌, ◌⊎◌, List, [], ◌∷◌, ◌++◌, length, length-drop, drop, if◌then◌else◌, inl, inr, ap, arith, refl, rules, sym, subst, ◌∙◌, w16, w32}
+use Rattle.std.proofs.Common.{take, take-append-drop, ℕ, ◌≡◌, ◌==◌, ◌⊎◌, List, [], ◌∷◌, ◌++◌, length, length-drop, drop, if◌then◌else◌, inl, inr, ap, arith, refl, rules, sym, subst, ◌∙◌, w16, w32}
 use Rattle.std.specs.Int.{from_be_bytes, to_be_bytes}
 use Rattle.std.proofs.lemmas.Nat.{be_bytes_4}
 use Rattle.etherparse.proofs.Fronts.{TellsHeaders, fixed_tells}
 use Rattle.etherparse.proofs.Layouts.{from_be_bytes-lt, told, u16, u8}
+use Rattle.etherparse.proofs.Parts.{same_append}
 use Rattle.etherparse.specs.Bytes.{IsBytes}
 use Rattle.etherparse.specs.Reading.{IsTooShort}
 use Rattle.etherparse.specs.WordSums.{little_endian_word_sum}
 use Rattle.etherparse.specs.declared.err.Layer.TheVariants as layer
 use Rattle.etherparse_icmp.proofs.Checksums.{HasWords}
 use Rattle.etherparse_icmp.proofs.Rests.{drop_is_bytes, echo_of, echo_spelled, echo_told}
-use Rattle.etherparse_icmp.specs.Icmpv6.{HasIcmpv6Name, HasIcmpv6Rest, IsIcmpv6Layout, IsIcmpv6Told, IsIcmpv6UnusedZero, IsIcmpv6Written, SaysIcmpv6}
-use Rattle.etherparse_icmp.specs.Icmpv6.{icmpv6_code_number, icmpv6_type_number}
+use Rattle.etherparse_icmp.specs.Icmpv6.{HasIcmpv6Bytes, HasIcmpv6Name, HasIcmpv6Rest, IsIcmpv6Layout, IsIcmpv6AsRead, IsIcmpv6Written, SaysIcmpv6}
+use Rattle.etherparse_icmp.specs.Icmpv6.{icmpv6_cleared, icmpv6_code_number, icmpv6_type_number}
 use Rattle.etherparse_icmp.specs.Icmpv6Codes.{dest_unreachable_number, parameter_problem_number, time_exceeded_number}
 use Rattle.etherparse_icmp.specs.declared.icmpv6.dest_unreachable_code.DestUnreachableCode.{DestUnreachableCode}
 use Rattle.etherparse_icmp.specs.declared.icmpv6.dest_unreachable_code.DestUnreachableCode.TheVariants as unreachable
@@ -84,11 +85,11 @@ told_by_numbers (icmp.EchoRequest echo) rest h = inl (tt, ap icmp.EchoRequest (e
 told_by_numbers (icmp.EchoReply echo) rest h = inl (tt, ap icmp.EchoReply (echo_told echo rest h))
 
 -- an unknown type does not have the numbers of one that has a name
-not_unknown : (n code : ℕ) (rest : List ℕ) (t named : Icmpv6Type) → icmp.Unknown n code rest ≡ t → IsIcmpv6Told t → HasIcmpv6Name named → SaysIcmpv6 n code rest named → ⊥
-not_unknown n code rest t named e told name says = (subst IsIcmpv6Told (sym e) told) named name says.type_is says.code_is
+not_unknown : (n code : ℕ) (rest : List ℕ) (t named : Icmpv6Type) → icmp.Unknown n code rest ≡ t → IsIcmpv6AsRead t → HasIcmpv6Name named → SaysIcmpv6 n code rest named → ⊥
+not_unknown n code rest t named e told name says = (subst IsIcmpv6AsRead (sym e) told) named name says.type_is says.code_is
 
 -- numbers and bytes are of one type
-same_type : (n code : ℕ) (rest : List ℕ) (g h : Icmpv6Type) → SaysIcmpv6 n code rest g → SaysIcmpv6 n code rest h → IsIcmpv6Told g → IsIcmpv6Told h → g ≡ h
+same_type : (n code : ℕ) (rest : List ℕ) (g h : Icmpv6Type) → SaysIcmpv6 n code rest g → SaysIcmpv6 n code rest h → IsIcmpv6AsRead g → IsIcmpv6AsRead h → g ≡ h
 same_type n code rest g h k l g_told h_told = which (rw (k.type_is, k.code_is) at (told_by_numbers g rest k.rest_is)) (rw (l.type_is, l.code_is) at (told_by_numbers h rest l.rest_is)) where
   which : (HasIcmpv6Name g × (type_of n code rest ≡ g)) ⊎ (icmp.Unknown n code rest ≡ g) → (HasIcmpv6Name h × (type_of n code rest ≡ h)) ⊎ (icmp.Unknown n code rest ≡ h) → g ≡ h
   which (inl a) (inl b) = sym a.1 ∙ b.1
@@ -98,7 +99,7 @@ same_type n code rest g h k l g_told h_told = which (rw (k.type_is, k.code_is) a
 
 same_header : (g h : Icmpv6Header) (p : List ℕ) → IsIcmpv6Layout g p → IsIcmpv6Layout h p → g ≡ h
 same_header g h p k l =
-    let icmp_type = same_type _ _ _ g.icmp_type h.icmp_type k.layout.says l.layout.says k.told l.told in
+    let icmp_type = same_type _ _ _ g.icmp_type h.icmp_type k.layout.says l.layout.says k.as_read l.as_read in
     let checksum = sym k.layout.checksum_is ∙ l.layout.checksum_is in
     search (rules, icmp_type, checksum)
 
@@ -115,24 +116,35 @@ rest_of (icmp.ParameterProblem header) = to_be_bytes w32 header.pointer
 rest_of (icmp.EchoRequest echo) = to_be_bytes w16 echo.id ++ to_be_bytes w16 echo.seq
 rest_of (icmp.EchoReply echo) = to_be_bytes w16 echo.id ++ to_be_bytes w16 echo.seq
 
-rest_spelled : (t : Icmpv6Type) (rest : List ℕ) → length rest ≡ 4 → IsBytes rest → HasIcmpv6Rest t rest → IsIcmpv6UnusedZero t rest → rest ≡ rest_of t
-rest_spelled (icmp.Unknown n code b) rest len bytes h unused = h
-rest_spelled (icmp.DestinationUnreachable code) rest len bytes h unused = unused
-rest_spelled (icmp.PacketTooBig mtu) rest len bytes h unused = sym (be_bytes_4 rest mtu len bytes (sym h))
-rest_spelled (icmp.TimeExceeded code) rest len bytes h unused = unused
-rest_spelled (icmp.ParameterProblem header) rest len bytes h unused = sym (be_bytes_4 rest header.pointer len bytes (sym h))
-rest_spelled (icmp.EchoRequest echo) rest len bytes h unused = echo_spelled echo rest len bytes h
-rest_spelled (icmp.EchoReply echo) rest len bytes h unused = echo_spelled echo rest len bytes h
+cleared_spelled : (t : Icmpv6Type) (rest : List ℕ) → length rest ≡ 4 → IsBytes rest → HasIcmpv6Rest t rest → icmpv6_cleared t rest ≡ rest_of t
+cleared_spelled (icmp.Unknown n code b) rest len bytes h = h
+cleared_spelled (icmp.DestinationUnreachable code) rest len bytes h = refl
+cleared_spelled (icmp.PacketTooBig mtu) rest len bytes h = sym (be_bytes_4 rest mtu len bytes (sym h))
+cleared_spelled (icmp.TimeExceeded code) rest len bytes h = refl
+cleared_spelled (icmp.ParameterProblem header) rest len bytes h = sym (be_bytes_4 rest header.pointer len bytes (sym h))
+cleared_spelled (icmp.EchoRequest echo) rest len bytes h = echo_spelled echo rest len bytes h
+cleared_spelled (icmp.EchoReply echo) rest len bytes h = echo_spelled echo rest len bytes h
 
 abbrev spelling : Icmpv6Type → ℕ → List ℕ
 spelling t checksum = icmpv6_type_number t ∷ icmpv6_code_number t ∷ (to_be_bytes w16 checksum ++ rest_of t)
 
+-- the bytes before the first that are of the type
+front_spelled : (t : Icmpv6Type) (checksum : ℕ) (p : List ℕ) → HasIcmpv6Bytes t checksum p
+    → p ≡ icmpv6_type_number t ∷ icmpv6_code_number t ∷ (to_be_bytes w16 checksum ++ drop 4 p)
+front_spelled t checksum p l =
+    told p 0 (u8 (icmpv6_type_number t) ∷ u8 (icmpv6_code_number t) ∷ u16 checksum ∷ []) (drop 4 p) l.are_bytes (omega (arith, l.len))
+    (sym l.says.type_is, (sym l.says.code_is, (l.checksum_is, refl)))
+
+rest_spelled : (t : Icmpv6Type) (checksum : ℕ) (p : List ℕ) → HasIcmpv6Bytes t checksum p → icmpv6_cleared t (drop 4 p) ≡ rest_of t
+rest_spelled t checksum p l =
+    cleared_spelled t (drop 4 p) (omega (arith, length-drop 4 p, l.len)) (drop_is_bytes 4 p l.are_bytes) l.says.rest_is
+
+-- bytes with those not used cleared
+pub cleared : (t : Icmpv6Type) (checksum : ℕ) (p : List ℕ) → HasIcmpv6Bytes t checksum p → take 4 p ++ icmpv6_cleared t (drop 4 p) ≡ spelling t checksum
+cleared t checksum p l = same_append (ap (take 4) (front_spelled t checksum p l)) (rest_spelled t checksum p l)
+
 pub spelled : (t : Icmpv6Type) (checksum : ℕ) (p : List ℕ) → IsIcmpv6Written t checksum p → p ≡ spelling t checksum
-spelled t checksum p w =
-    let l = w.layout in
-    let rest = rest_spelled t (drop 4 p) (omega (arith, length-drop 4 p, l.len)) (drop_is_bytes 4 p l.are_bytes) l.says.rest_is w.unused in
-    told p 0 (u8 (icmpv6_type_number t) ∷ u8 (icmpv6_code_number t) ∷ u16 checksum ∷ []) (rest_of t) l.are_bytes (omega (arith, l.len))
-    (sym l.says.type_is, (sym l.says.code_is, (l.checksum_is, rest)))
+spelled t checksum p w = sym (take-append-drop 4 p) ∙ ap (λ rest. take 4 p ++ rest) w.unused ∙ cleared t checksum p w.layout
 
 pub has_words : (t : Icmpv6Type) (zeroed p : List ℕ) (n : ℕ) → IsIcmpv6Written t 0 zeroed → IsIcmpv6Written t n p → HasWords (little_endian_word_sum zeroed) n p
 has_words t zeroed p n k l = record {

@@ -51,11 +51,11 @@ HasIcmpv6Rest (ParameterProblem header) rest = from_be_bytes w32 rest ≡ header
 HasIcmpv6Rest (EchoRequest echo) rest = HasEcho echo rest
 HasIcmpv6Rest (EchoReply echo) rest = HasEcho echo rest
 
--- those that are not used are 0, as a sender has to have them
-abbrev pub IsIcmpv6UnusedZero : Icmpv6Type → List ℕ → Type 0
-IsIcmpv6UnusedZero (DestinationUnreachable code) rest = rest ≡ 0 ∷ 0 ∷ 0 ∷ 0 ∷ []
-IsIcmpv6UnusedZero (TimeExceeded code) rest = rest ≡ 0 ∷ 0 ∷ 0 ∷ 0 ∷ []
-IsIcmpv6UnusedZero icmp_type rest = Unit {0}
+-- the same bytes with those 0 that the type does not use, as a sender has to have them
+abbrev pub icmpv6_cleared : Icmpv6Type → List ℕ → List ℕ
+icmpv6_cleared (DestinationUnreachable code) rest = 0 ∷ 0 ∷ 0 ∷ 0 ∷ []
+icmpv6_cleared (TimeExceeded code) rest = 0 ∷ 0 ∷ 0 ∷ 0 ∷ []
+icmpv6_cleared icmp_type rest = rest
 
 -- a message of these numbers, with these 4 bytes, is of the type
 pub record SaysIcmpv6 (type_number code_number : ℕ) (rest : List ℕ) (icmp_type : Icmpv6Type)
@@ -76,7 +76,7 @@ pub record HasIcmpv6Bytes (icmp_type : Icmpv6Type) (checksum : ℕ) (bytes : Lis
 pub record IsIcmpv6Written (icmp_type : Icmpv6Type) (checksum : ℕ) (bytes : List ℕ)
     : Type 0 where
   pub layout : HasIcmpv6Bytes icmp_type checksum bytes
-  pub unused : IsIcmpv6UnusedZero icmp_type (drop 4 bytes)
+  pub unused : drop 4 bytes ≡ icmpv6_cleared icmp_type (drop 4 bytes)
 
 -- the type has a name
 abbrev pub HasIcmpv6Name : Icmpv6Type → Type 0
@@ -88,15 +88,15 @@ abbrev pub AreIcmpv6Unnamed : ℕ → ℕ → Type 0
 AreIcmpv6Unnamed type_number code_number = (named : Icmpv6Type) → HasIcmpv6Name named
     → icmpv6_type_number named ≡ type_number → icmpv6_code_number named ≡ code_number → ⊥
 
--- the type is unknown only where no type that has a name has its numbers
-abbrev pub IsIcmpv6Told : Icmpv6Type → Type 0
-IsIcmpv6Told (Unknown type_u8 code_u8 bytes5to8) = AreIcmpv6Unnamed type_u8 code_u8
-IsIcmpv6Told icmp_type = Unit {0}
+-- a type as it is read: unknown only where no type that has a name has its numbers
+abbrev pub IsIcmpv6AsRead : Icmpv6Type → Type 0
+IsIcmpv6AsRead (Unknown type_u8 code_u8 bytes5to8) = AreIcmpv6Unnamed type_u8 code_u8
+IsIcmpv6AsRead icmp_type = Unit {0}
 
 -- the bytes of a header, as they are read
 pub record IsIcmpv6Layout (header : Icmpv6Header) (bytes : List ℕ) : Type 0 where
   pub layout : HasIcmpv6Bytes header.icmp_type header.checksum bytes
-  pub told : IsIcmpv6Told header.icmp_type
+  pub as_read : IsIcmpv6AsRead header.icmp_type
 
 -- a header and the bytes after it, or why there is no header
 abbrev pub Icmpv6Reading : Type 0

@@ -41,10 +41,11 @@ pub struct Icmpv6Header {
 
 impl Icmpv6Header {
     ghost use Rattle.std.specs.Prelude.{ℕ, ◌≡◌, ◌≤◌, ◌↔◌, List, ◌++◌, IfErr, IfOk, IsOk, Ok};
-    ghost use Rattle.std.specs.Prelude.{length};
+    ghost use Rattle.std.specs.Prelude.{drop, length, take};
     ghost use Rattle.etherparse.specs.Reading.{found_and_rest};
-    ghost use Rattle.etherparse_icmp.specs.Icmpv6.{Icmpv6Reading, IsIcmpv6Told, IsIcmpv6Written};
+    ghost use Rattle.etherparse_icmp.specs.Icmpv6.{Icmpv6Reading, IsIcmpv6AsRead, IsIcmpv6Written};
     ghost use Rattle.etherparse_icmp.specs.Icmpv6.{ReadsIcmpv6};
+    ghost use Rattle.etherparse_icmp.specs.Icmpv6.{HasIcmpv6Bytes, icmpv6_cleared};
     ghost use Rattle.etherparse_icmp.specs.Icmpv6Checksum.{IsIcmpv6Checksum};
 
     /// The length of the header, in bytes: 8.
@@ -132,7 +133,10 @@ impl Icmpv6Header {
         ensures layout { IsIcmpv6Written self.now.icmp_type self.now.checksum result }
         ensures only { (bytes : List ℕ) →
             IsIcmpv6Written self.now.icmp_type self.now.checksum bytes → bytes ≡ result }
-        ensures read_again { IsIcmpv6Told self.now.icmp_type → (rest : List ℕ) →
+        ensures cleared { (bytes : List ℕ) →
+            HasIcmpv6Bytes self.now.icmp_type self.now.checksum bytes →
+            result ≡ take 4 bytes ++ icmpv6_cleared self.now.icmp_type (drop 4 bytes) }
+        ensures read_again { IsIcmpv6AsRead self.now.icmp_type → (rest : List ℕ) →
             ReadsIcmpv6 (result ++ rest) (Ok (self.now, rest)) }
     {
         self.icmp_type.bytes_with(self.checksum)

@@ -51,7 +51,7 @@ pub enum Icmpv6Type {
 impl Icmpv6Type {
     ghost use Rattle.std.specs.Prelude.{◌≡◌, ◌≤◌, ◌↔◌, IfErr, IfOk, IsOk, length};
     ghost use Rattle.etherparse_icmp.specs.Icmpv6.{HasIcmpv6Rest};
-    ghost use Rattle.etherparse_icmp.specs.Icmpv6.{IsIcmpv6Told, IsIcmpv6UnusedZero, SaysIcmpv6};
+    ghost use Rattle.etherparse_icmp.specs.Icmpv6.{IsIcmpv6AsRead, icmpv6_cleared, SaysIcmpv6};
     ghost use Rattle.etherparse_icmp.specs.Icmpv6.{IsIcmpv6Written, icmpv6_code_number};
     ghost use Rattle.etherparse_icmp.specs.Icmpv6.{icmpv6_type_number};
     ghost use Rattle.etherparse_icmp.specs.Icmpv6Checksum.{IsIcmpv6Checksum};
@@ -138,7 +138,7 @@ impl Icmpv6Type {
     // What a message of these numbers, with these bytes after the checksum, is.
     pub(crate) fn of(type_u8: u8, code_u8: u8, bytes5to8: [u8; 4]) -> Icmpv6Type
         ensures says { SaysIcmpv6 type_u8 code_u8 bytes5to8 result }
-        ensures told { IsIcmpv6Told result }
+        ensures as_read { IsIcmpv6AsRead result }
     {
         match named(type_u8, code_u8, bytes5to8) {
             Some(icmp_type) => icmp_type,
@@ -162,7 +162,7 @@ impl Icmpv6Type {
     // The 4 bytes after the checksum.
     fn bytes5to8(&self) -> [u8; 4]
         ensures rest { HasIcmpv6Rest self.now result }
-        ensures unused { IsIcmpv6UnusedZero self.now result }
+        ensures unused { result ≡ icmpv6_cleared self.now result }
     {
         match self {
             Icmpv6Type::Unknown { bytes5to8, .. } => *bytes5to8,

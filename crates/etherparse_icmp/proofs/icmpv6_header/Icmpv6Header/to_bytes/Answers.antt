@@ -1,5 +1,5 @@
 use Rattle.std.proofs.Common.{refl, sym, ◌∙◌}
-use Rattle.etherparse_icmp.proofs.Icmpv6Layout.{spelled}
+use Rattle.etherparse_icmp.proofs.Icmpv6Layout.{cleared, spelled}
 use Rattle.etherparse_icmp.proofs.icmpv6_header.Icmpv6Header.to_bytes.Goals as goal
 
 pub returns : goal.returns
@@ -9,5 +9,6 @@ returns c =
     record {
       layout = written;
       only = λ bytes other. spelled h.icmp_type h.checksum bytes other ∙ sym (spelled h.icmp_type h.checksum _ written);
-      read_again = λ told rest. record { front = c.bytes_with.result; whole = refl; layout = record { layout = written.layout; told = told } };
+      cleared = λ bytes other. spelled h.icmp_type h.checksum _ written ∙ sym (cleared h.icmp_type h.checksum bytes other);
+      read_again = λ as_read rest. record { front = c.bytes_with.result; whole = refl; layout = record { layout = written.layout; as_read = as_read } };
     }
