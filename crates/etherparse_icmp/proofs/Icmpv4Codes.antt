@@ -1,7 +1,8 @@
 -- The codes of ICMP: each is told by its number and by what it has after the checksum.
-use Rattle.std.proofs.Common.{drop_of_length-le, ℕ, ◌≡◌, ◌==◌, List, [], ◌∷◌, length, slice_index, if◌then◌else◌, ap, arith, refl, w16}
+use Rattle.std.proofs.Common.{drop, drop_of_length-le, ℕ, ◌≡◌, ◌==◌, List, [], ◌∷◌, length, slice_index, if◌then◌else◌, arith, refl, w16}
 use Rattle.std.specs.Int.{from_be_bytes, to_be_bytes}
 use Rattle.std.specs.List.{slice_range}
+use Rattle.std.proofs.lemmas.Grind.{common_steps}
 use Rattle.etherparse.proofs.Layouts.{told, u16}
 use Rattle.etherparse.specs.Bytes.{IsBytes}
 use Rattle.etherparse_icmp.specs.Icmpv4Codes.{IsNextHopMtu, IsPointer, problem_cleared, unreachable_cleared}
@@ -24,22 +25,7 @@ unreachable_code n mtu = if n == 0 then unreachable.Network else if n == 1 then 
     unreachable.PrecedenceCutoff
 
 pub unreachable_told : (header : DestUnreachableHeader) (mtu : ℕ) → IsNextHopMtu header mtu → unreachable_code (dest_unreachable_number header) mtu ≡ header
-unreachable_told unreachable.Network mtu h = refl
-unreachable_told unreachable.Host mtu h = refl
-unreachable_told unreachable.Protocol mtu h = refl
-unreachable_told unreachable.Port mtu h = refl
-unreachable_told (unreachable.FragmentationNeeded next_hop_mtu) mtu h = ap unreachable.FragmentationNeeded h
-unreachable_told unreachable.SourceRouteFailed mtu h = refl
-unreachable_told unreachable.NetworkUnknown mtu h = refl
-unreachable_told unreachable.HostUnknown mtu h = refl
-unreachable_told unreachable.Isolated mtu h = refl
-unreachable_told unreachable.NetworkProhibited mtu h = refl
-unreachable_told unreachable.HostProhibited mtu h = refl
-unreachable_told unreachable.TosNetwork mtu h = refl
-unreachable_told unreachable.TosHost mtu h = refl
-unreachable_told unreachable.FilterProhibited mtu h = refl
-unreachable_told unreachable.HostPrecedenceViolation mtu h = refl
-unreachable_told unreachable.PrecedenceCutoff mtu h = refl
+unreachable_told header mtu h = grind (arith, common_steps)
 
 -- the 4 bytes after the checksum, those that are not used 0
 abbrev pub unreachable_rest : DestUnreachableHeader → List ℕ
@@ -48,54 +34,33 @@ unreachable_rest header = 0 ∷ 0 ∷ 0 ∷ 0 ∷ []
 
 pub unreachable_rest_is : (header : DestUnreachableHeader) (rest : List ℕ) → length rest ≡ 4 → IsBytes rest
     → IsNextHopMtu header (from_be_bytes w16 (slice_range rest 2 4)) → unreachable_cleared header rest ≡ unreachable_rest header
-unreachable_rest_is unreachable.Network rest len bytes h = refl
-unreachable_rest_is unreachable.Host rest len bytes h = refl
-unreachable_rest_is unreachable.Protocol rest len bytes h = refl
-unreachable_rest_is unreachable.Port rest len bytes h = refl
-unreachable_rest_is (unreachable.FragmentationNeeded mtu) rest len bytes h =
-    ap (λ mtu. 0 ∷ 0 ∷ mtu) (told rest 2 (u16 mtu ∷ []) [] bytes (omega (arith, len)) (h, drop_of_length-le rest {i = 4} (omega (arith, len))))
-unreachable_rest_is unreachable.SourceRouteFailed rest len bytes h = refl
-unreachable_rest_is unreachable.NetworkUnknown rest len bytes h = refl
-unreachable_rest_is unreachable.HostUnknown rest len bytes h = refl
-unreachable_rest_is unreachable.Isolated rest len bytes h = refl
-unreachable_rest_is unreachable.NetworkProhibited rest len bytes h = refl
-unreachable_rest_is unreachable.HostProhibited rest len bytes h = refl
-unreachable_rest_is unreachable.TosNetwork rest len bytes h = refl
-unreachable_rest_is unreachable.TosHost rest len bytes h = refl
-unreachable_rest_is unreachable.FilterProhibited rest len bytes h = refl
-unreachable_rest_is unreachable.HostPrecedenceViolation rest len bytes h = refl
-unreachable_rest_is unreachable.PrecedenceCutoff rest len bytes h = refl
+unreachable_rest_is header rest len bytes h =
+    let mtu : drop 2 rest ≡ to_be_bytes w16 (from_be_bytes w16 (slice_range rest 2 4)) =
+    told rest 2 (u16 _ ∷ []) [] bytes (omega (arith, len)) (refl, drop_of_length-le rest {i = 4} (omega (arith, len))) in
+    grind (arith, common_steps)
 
 abbrev pub redirect_code : ℕ → RedirectCode
 redirect_code n = if n == 0 then redirect.RedirectForNetwork else if n == 1 then redirect.RedirectForHost
     else if n == 2 then redirect.RedirectForTypeOfServiceAndNetwork else redirect.RedirectForTypeOfServiceAndHost
 
 pub redirect_told : (code : RedirectCode) → redirect_code (redirect_number code) ≡ code
-redirect_told redirect.RedirectForNetwork = refl
-redirect_told redirect.RedirectForHost = refl
-redirect_told redirect.RedirectForTypeOfServiceAndNetwork = refl
-redirect_told redirect.RedirectForTypeOfServiceAndHost = refl
+redirect_told code = grind (arith, common_steps)
 
 abbrev pub exceeded_code : ℕ → TimeExceededCode
 exceeded_code n = if n == 0 then exceeded.TtlExceededInTransit else exceeded.FragmentReassemblyTimeExceeded
 
 pub exceeded_told : (code : TimeExceededCode) → exceeded_code (time_exceeded_number code) ≡ code
-exceeded_told exceeded.TtlExceededInTransit = refl
-exceeded_told exceeded.FragmentReassemblyTimeExceeded = refl
+exceeded_told code = grind (arith, common_steps)
 
 abbrev pub problem_code : ℕ → ℕ → ParameterProblemHeader
 problem_code n byte = if n == 0 then problem.PointerIndicatesError byte else if n == 1 then problem.MissingRequiredOption else problem.BadLength
 
 pub problem_told : (header : ParameterProblemHeader) (byte : ℕ) → IsPointer header byte → problem_code (parameter_problem_number header) byte ≡ header
-problem_told (problem.PointerIndicatesError pointer) byte h = ap problem.PointerIndicatesError h
-problem_told problem.MissingRequiredOption byte h = refl
-problem_told problem.BadLength byte h = refl
+problem_told header byte h = grind (arith, common_steps)
 
 abbrev pub problem_rest : ParameterProblemHeader → List ℕ
 problem_rest (problem.PointerIndicatesError pointer) = pointer ∷ 0 ∷ 0 ∷ 0 ∷ []
 problem_rest header = 0 ∷ 0 ∷ 0 ∷ 0 ∷ []
 
 pub problem_rest_is : (header : ParameterProblemHeader) (rest : List ℕ) → IsPointer header (slice_index rest 0) → problem_cleared header rest ≡ problem_rest header
-problem_rest_is (problem.PointerIndicatesError pointer) rest h = ap (λ n. n ∷ 0 ∷ 0 ∷ 0 ∷ []) h
-problem_rest_is problem.MissingRequiredOption rest h = refl
-problem_rest_is problem.BadLength rest h = refl
+problem_rest_is header rest h = grind (arith, common_steps)

@@ -110,15 +110,7 @@ len_told (icmp.TimestampRequest message) told = refl
 len_told (icmp.TimestampReply message) told = refl
 
 len_at_least : (t : Icmpv4Type) → 8 ≤ icmpv4_len t
-len_at_least (icmp.Unknown n code bytes) = omega arith
-len_at_least (icmp.EchoReply echo) = omega arith
-len_at_least (icmp.DestinationUnreachable header) = omega arith
-len_at_least (icmp.Redirect header) = omega arith
-len_at_least (icmp.EchoRequest echo) = omega arith
-len_at_least (icmp.TimeExceeded code) = omega arith
-len_at_least (icmp.ParameterProblem header) = omega arith
-len_at_least (icmp.TimestampRequest message) = omega arith
-len_at_least (icmp.TimestampReply message) = omega arith
+len_at_least t = grind (arith, common_steps)
 
 -- the front of a slice has its first bytes, and is as long as they tell
 record HasFrontLen (s front : List ℕ) : Type 0 where
@@ -227,15 +219,7 @@ written_joined t checksum rest p e are_bytes fits len says unused = subst (IsIcm
 })
 
 len_even : (t : Icmpv4Type) → icmpv4_len t % 2 ≡ 0
-len_even (icmp.Unknown n code bytes) = refl
-len_even (icmp.EchoReply echo) = refl
-len_even (icmp.DestinationUnreachable header) = refl
-len_even (icmp.Redirect header) = refl
-len_even (icmp.EchoRequest echo) = refl
-len_even (icmp.TimeExceeded code) = refl
-len_even (icmp.ParameterProblem header) = refl
-len_even (icmp.TimestampRequest message) = refl
-len_even (icmp.TimestampReply message) = refl
+len_even t = grind (arith, common_steps)
 
 pub has_words : (t : Icmpv4Type) (zeroed p : List ℕ) (n : ℕ) → IsIcmpv4Written t 0 zeroed → IsIcmpv4Written t n p → HasWords (little_endian_word_sum zeroed) n p
 has_words t zeroed p n k l = record {

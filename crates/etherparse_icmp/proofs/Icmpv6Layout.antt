@@ -2,6 +2,7 @@
 use Rattle.std.proofs.Common.{take, take-append-drop, ℕ, ◌≡◌, ◌==◌, ◌⊎◌, List, [], ◌∷◌, ◌++◌, length, length-drop, drop, if◌then◌else◌, inl, inr, ap, arith, refl, rules, sym, subst, ◌∙◌, w16, w32}
 use Rattle.std.specs.Int.{from_be_bytes, to_be_bytes}
 use Rattle.std.proofs.lemmas.Nat.{be_bytes_4}
+use Rattle.std.proofs.lemmas.Grind.{common_steps}
 use Rattle.etherparse.proofs.Fronts.{TellsHeaders, fixed_tells}
 use Rattle.etherparse.proofs.Layouts.{from_be_bytes-lt, told, u16, u8}
 use Rattle.etherparse.proofs.Parts.{same_append}
@@ -31,20 +32,13 @@ unreachable_code n = if n == 0 then unreachable.NoRoute else if n == 1 then unre
     else unreachable.RejectRoute
 
 unreachable_told : (code : DestUnreachableCode) → unreachable_code (dest_unreachable_number code) ≡ code
-unreachable_told unreachable.NoRoute = refl
-unreachable_told unreachable.Prohibited = refl
-unreachable_told unreachable.BeyondScope = refl
-unreachable_told unreachable.Address = refl
-unreachable_told unreachable.Port = refl
-unreachable_told unreachable.SourceAddressFailedPolicy = refl
-unreachable_told unreachable.RejectRoute = refl
+unreachable_told code = grind (arith, common_steps)
 
 abbrev exceeded_code : ℕ → TimeExceededCode
 exceeded_code n = if n == 0 then exceeded.HopLimitExceeded else exceeded.FragmentReassemblyTimeExceeded
 
 exceeded_told : (code : TimeExceededCode) → exceeded_code (time_exceeded_number code) ≡ code
-exceeded_told exceeded.HopLimitExceeded = refl
-exceeded_told exceeded.FragmentReassemblyTimeExceeded = refl
+exceeded_told code = grind (arith, common_steps)
 
 abbrev problem_code : ℕ → ParameterProblemCode
 problem_code n = if n == 0 then problem.ErroneousHeaderField else if n == 1 then problem.UnrecognizedNextHeader
@@ -54,17 +48,7 @@ problem_code n = if n == 0 then problem.ErroneousHeaderField else if n == 1 then
     else if n == 8 then problem.TooManyExtensionHeaders else if n == 9 then problem.TooManyOptionsInExtensionHeader else problem.OptionTooBig
 
 problem_told : (code : ParameterProblemCode) → problem_code (parameter_problem_number code) ≡ code
-problem_told problem.ErroneousHeaderField = refl
-problem_told problem.UnrecognizedNextHeader = refl
-problem_told problem.UnrecognizedIpv6Option = refl
-problem_told problem.Ipv6FirstFragmentIncompleteHeaderChain = refl
-problem_told problem.SrUpperLayerHeaderError = refl
-problem_told problem.UnrecognizedNextHeaderByIntermediateNode = refl
-problem_told problem.ExtensionHeaderTooBig = refl
-problem_told problem.ExtensionHeaderChainTooLong = refl
-problem_told problem.TooManyExtensionHeaders = refl
-problem_told problem.TooManyOptionsInExtensionHeader = refl
-problem_told problem.OptionTooBig = refl
+problem_told code = grind (arith, common_steps)
 
 -- a type that has a name, by its numbers and the bytes after the checksum
 abbrev type_of : ℕ → ℕ → List ℕ → Icmpv6Type

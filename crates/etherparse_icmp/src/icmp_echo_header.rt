@@ -1,6 +1,18 @@
 //! What tells echo messages apart (RFC 792, RFC 4443 section 4.1).
 
-/// The identifier and the sequence number of an echo message or its reply.
+/// The identifier and the sequence number of an echo message or its reply. They begin the reply as
+/// they began the request.
+///
+/// # Example
+///
+/// ```
+/// let request = [8, 0, 0x21, 4, 0x12, 0x34, 0, 1, b'a', b'b', b'c', b'd'];
+/// let (header, payload) = Icmpv4Header::from_slice(&request)?;
+/// if let Icmpv4Type::EchoRequest(echo) = header.icmp_type {
+///     let reply = Icmpv4Header::with_checksum(Icmpv4Type::EchoReply(echo), payload);
+///     assert!(rt; reply.to_bytes()[..] == [0, 0, 0x29, 4, 0x12, 0x34, 0, 1]);
+/// }
+/// ```
 #[derive(Clone, Copy, Debug, PartialEq, Eq)]
 pub struct IcmpEchoHeader {
     /// Bytes 4 and 5 of the message: which sender it is of.

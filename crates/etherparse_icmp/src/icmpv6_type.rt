@@ -97,6 +97,15 @@ impl Icmpv6Type {
     ///
     /// A `ValueTooBigError` if the payload is longer than 4294967287 bytes: with the 8 of the
     /// header, that is more than the length of a pseudo-header can count.
+    ///
+    /// # Example
+    ///
+    /// ```
+    /// let source = [0x20, 0x01, 0x0d, 0xb8, 0, 0, 0, 0, 0, 0, 0, 0, 0, 0, 0, 1];
+    /// let destination = [0x20, 0x01, 0x0d, 0xb8, 0, 0, 0, 0, 0, 0, 0, 0, 0, 0, 0, 2];
+    /// let too_big = Icmpv6Type::PacketTooBig { mtu: 1280 };
+    /// assert!(rt; too_big.calc_checksum(source, destination, b"abcd")? == 0xd87d);
+    /// ```
     pub fn calc_checksum(
         &self,
         source: [u8; 16],

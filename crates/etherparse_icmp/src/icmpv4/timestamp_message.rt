@@ -3,6 +3,24 @@
 /// What a timestamp message of ICMP, or its reply, says (RFC 792): bytes 4 to 19 of the message.
 /// Each time is in milliseconds since midnight, Universal Time, or any number with the highest bit
 /// set.
+///
+/// # Example
+///
+/// ```
+/// let bytes = [
+///     13, 0, 0xe0, 0xc4, 0x12, 0x34, 0, 1, 0, 0, 0, 1, 0, 0, 0, 2, 0, 0, 0, 3,
+/// ];
+/// let (header, rest) = Icmpv4Header::from_slice(&bytes)?;
+/// let message = TimestampMessage {
+///     id: 0x1234,
+///     seq: 1,
+///     originate_timestamp: 1,
+///     receive_timestamp: 2,
+///     transmit_timestamp: 3,
+/// };
+/// assert!(rt; header.icmp_type == Icmpv4Type::TimestampRequest(message) && rest.is_empty());
+/// assert!(rt; header.icmp_type.calc_checksum(&[]) == 0xe0c4);
+/// ```
 #[derive(Clone, Copy, Debug, PartialEq, Eq)]
 pub struct TimestampMessage {
     /// Bytes 4 and 5: which sender the message is of.
