@@ -5,7 +5,8 @@ use Rattle.etherparse.specs.WordSums.{checksum_of, network_order_word_sum, ones_
 -- The ones-complement of the ones-complement sum of the words of the whole message, and before it
 -- of the pseudo-header. ICMP has none: no bytes.
 abbrev pub icmp_checksum : List ℕ → List ℕ → ℕ
-icmp_checksum pseudo_header message = checksum_of (network_order_word_sum (pseudo_header ++ message))
+icmp_checksum pseudo_header message =
+    checksum_of (network_order_word_sum (pseudo_header ++ message))
 
 -- the message sums to all ones with the pseudo-header: a receiver finds its checksum right
 abbrev pub IsMessageRight : List ℕ → List ℕ → Type 0

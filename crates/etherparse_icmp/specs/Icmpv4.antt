@@ -1,5 +1,5 @@
--- The header of a message of ICMP (RFC 792): type, code, checksum, and bytes whose meaning is of the
--- type, 16 of a timestamp message and 4 of any other.
+-- The header of a message of ICMP (RFC 792): type, code, checksum, and bytes whose meaning is of
+-- the type, 16 of a timestamp message and 4 of any other.
 use Rattle.std.specs.Prelude.{ℕ, ◌≡◌, ◌≤◌, ◌⊎◌, List, [], ◌∷◌, drop, length, Result, slice_index}
 use Rattle.std.specs.Prelude.{slice_range}
 use Rattle.std.specs.Int.{from_be_bytes, w16}

@@ -10,7 +10,7 @@
 /// let (header, payload) = Icmpv4Header::from_slice(&request)?;
 /// if let Icmpv4Type::EchoRequest(echo) = header.icmp_type {
 ///     let reply = Icmpv4Header::with_checksum(Icmpv4Type::EchoReply(echo), payload);
-///     assert!(rt; reply.to_bytes()[..] == [0, 0, 0x29, 4, 0x12, 0x34, 0, 1]);
+///     assert!(rt; reply.to_bytes().as_slice() == [0, 0, 0x29, 4, 0x12, 0x34, 0, 1].as_slice());
 /// }
 /// ```
 #[derive(Clone, Copy, Debug, PartialEq, Eq)]

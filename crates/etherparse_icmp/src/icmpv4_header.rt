@@ -32,7 +32,7 @@ use etherparse::err::{Layer, LenError};
 /// let echo = IcmpEchoHeader { id: 0x1234, seq: 1 };
 /// assert!(rt; header.icmp_type == Icmpv4Type::EchoRequest(echo));
 /// assert!(rt; header.checksum == 0x2104 && payload == b"abcd".as_slice());
-/// assert!(rt; header.to_bytes()[..] == bytes[..8]);
+/// assert!(rt; header.to_bytes().as_slice() == &bytes[..8]);
 /// ```
 #[derive(Clone, Copy, Debug, PartialEq, Eq)]
 pub struct Icmpv4Header {
@@ -74,7 +74,7 @@ impl Icmpv4Header {
     /// ```
     /// let reply = Icmpv4Type::EchoReply(IcmpEchoHeader { id: 0x1234, seq: 1 });
     /// let header = Icmpv4Header::with_checksum(reply, b"abcd");
-    /// assert!(rt; header.to_bytes()[..] == [0, 0, 0x29, 4, 0x12, 0x34, 0, 1]);
+    /// assert!(rt; header.to_bytes().as_slice() == [0, 0, 0x29, 4, 0x12, 0x34, 0, 1].as_slice());
     /// ```
     pub fn with_checksum(icmp_type: Icmpv4Type, payload: &[u8]) -> Icmpv4Header
         ensures icmp_type { result.icmp_type ≡ icmp_type }

@@ -29,7 +29,7 @@ use etherparse::err::{Layer, LenError, ValueTooBigError, ValueType};
 /// let echo = IcmpEchoHeader { id: 0x1234, seq: 1 };
 /// assert!(rt; header.icmp_type == Icmpv6Type::EchoRequest(echo));
 /// assert!(rt; header.checksum == 0x4d48 && payload == b"abcd".as_slice());
-/// assert!(rt; header.to_bytes() == bytes[..8]);
+/// assert!(rt; header.to_bytes().as_slice() == &bytes[..8]);
 /// ```
 #[derive(Clone, Copy, Debug, PartialEq, Eq)]
 pub struct Icmpv6Header {

@@ -27,6 +27,10 @@ mod framings;
 #[cfg(test)]
 mod headers;
 #[cfg(test)]
+mod icmp_examples;
+#[cfg(test)]
+mod icmpv6_code_examples;
+#[cfg(test)]
 mod ip_number;
 #[cfg(test)]
 mod ipv4_reading;

@@ -8,10 +8,18 @@ pub returns : goal.returns
 returns c =
     let p = c.args.bytes.now in
     let len = c.requires.len in
-    let says = subst (λ rest. SaysIcmpv4 (slice_index p 0) (slice_index p 1) rest c.of.result) (sym (rest_at p len)) c.of.ensures.says in
+    let says = subst (λ rest. SaysIcmpv4 (slice_index p 0) (slice_index p 1) rest c.of.result)
+    (sym (rest_at p len)) c.of.ensures.says in
     record {
       layout = record {
-        layout = record { len = len ∙ sym c.of.ensures.len; are_bytes = λ i. omega (arith, c.type_inv.bytes i); says = says; checksum_is = grind (arith, common_steps) };
+        layout = record {
+          len = len ∙ sym c.of.ensures.len;
+          are_bytes =
+              λ i. omega (arith, c.type_inv.bytes i);
+          says = says;
+          checksum_is =
+              grind (arith, common_steps);
+        };
         as_read = c.of.ensures.as_read;
       };
     }

@@ -12,8 +12,13 @@ returns c =
     let header = c.bytes_with-header.result.items in
     let words = little_endian_word_sum header in
     record {
-      computed = rw c.swap_bytes.ensures (icmp_checksum_is (IsIcmpv4Written t) [] payload words c.add_slice-sum.result refl
+      computed = rw c.swap_bytes.ensures
+          (icmp_checksum_is (IsIcmpv4Written t) [] payload words c.add_slice-sum.result refl
           (λ n p l. has_words t header p n c.bytes_with-header.ensures.written l)
-          (c.add_slice-sum.ensures.adds.sum ∙ ap folded_sum (add_comm c.add_slice-header_sum.result _) ∙ c.add_slice-header_sum.ensures.adds.in_a_sum _ ∙ ap folded_sum (omega (arith, ap little_endian_word_sum c.as_slice.ensures.value, c.new.ensures)))
+          (c.add_slice-sum.ensures.adds.sum
+          ∙ ap folded_sum (add_comm c.add_slice-header_sum.result _)
+          ∙ c.add_slice-header_sum.ensures.adds.in_a_sum _
+          ∙ ap folded_sum
+          (omega (arith, ap little_endian_word_sum c.as_slice.ensures.value, c.new.ensures)))
           _ (omega arith) c.ones_complement.ensures.complements);
     }
