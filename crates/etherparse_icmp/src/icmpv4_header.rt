@@ -87,6 +87,14 @@ impl Icmpv4Header {
         }
     }
 
+    /// Sets the checksum to that of a message that has this payload.
+    pub fn update_checksum(&mut self, payload: &[u8])
+        ensures others { self.new ≡ record self.old { checksum = self.new.checksum } }
+        ensures computed { IsIcmpv4Checksum self.old.icmp_type payload.now self.new.checksum }
+    {
+        self.checksum = self.icmp_type.calc_checksum(payload);
+    }
+
     /// The header at the front of a slice, and all the bytes after it. Any type and any code is
     /// read.
     ///

@@ -40,7 +40,7 @@ pub struct Icmpv6Header {
 }
 
 impl Icmpv6Header {
-    ghost use Rattle.std.specs.Prelude.{ℕ, ◌≡◌, ◌≤◌, ◌↔◌, List, ◌++◌, IfErr, IfOk, IsOk, Ok};
+    ghost use Rattle.std.specs.Prelude.{ℕ, ◌≡◌, ◌≤◌, ◌↔◌, List, ◌++◌, IfErr, IfOk, IsErr, IsOk, Ok};
     ghost use Rattle.std.specs.Prelude.{drop, length, take};
     ghost use Rattle.etherparse.specs.Reading.{found_and_rest};
     ghost use Rattle.etherparse_icmp.specs.Icmpv6.{Icmpv6Reading, IsIcmpv6AsRead, IsIcmpv6Written};
@@ -101,6 +101,34 @@ impl Icmpv6Header {
             icmp_type,
             checksum,
         })
+    }
+
+    /// Sets the checksum to that of a message that has this payload, between these addresses, as
+    /// [`Icmpv6Header::with_checksum`] has it.
+    ///
+    /// # Errors
+    ///
+    /// A `ValueTooBigError` if the payload is longer than 4294967287 bytes: then the header stays
+    /// as it is.
+    pub fn update_checksum(
+        &mut self,
+        source: [u8; 16],
+        destination: [u8; 16],
+        payload: &[u8],
+    ) -> Result<(), ValueTooBigError<usize>>
+        ensures accepted { IsOk result ↔ (length payload.now ≤ 4294967287) }
+        ensures refused { IfErr result (λ e. e ≡ record {
+          actual = length payload.now;
+          max_allowed = 4294967287;
+          value_type = ValueType.Icmpv6PayloadLength;
+        }) }
+        ensures unchanged { IsErr result → self.new ≡ self.old }
+        ensures others { self.new ≡ record self.old { checksum = self.new.checksum } }
+        ensures computed { IsOk result → IsIcmpv6Checksum source destination
+            self.old.icmp_type payload.now self.new.checksum }
+    {
+        self.checksum = self.icmp_type.calc_checksum(source, destination, payload)?;
+        Ok(())
     }
 
     /// The header at the front of a slice, and all the bytes after it. Any type and any code is
