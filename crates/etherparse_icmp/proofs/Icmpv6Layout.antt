@@ -74,7 +74,9 @@ type_of n code rest = if n == 1 then icmp.DestinationUnreachable (unreachable_co
     else if n == 3 then icmp.TimeExceeded (exceeded_code code)
     else if n == 4 then icmp.ParameterProblem
     (record { code = problem_code code; pointer = from_be_bytes w32 rest })
-    else if n == 128 then icmp.EchoRequest (echo_of rest) else icmp.EchoReply (echo_of rest)
+    else if n == 128 then icmp.EchoRequest (echo_of rest) else if n == 129 then icmp.EchoReply (echo_of rest)
+    else if n == 133 then icmp.RouterSolicitation
+    else if n == 135 then icmp.NeighborSolicitation else icmp.Redirect
 
 -- a type has a name and is told by its numbers, or it is unknown
 told_by_numbers : (t : Icmpv6Type) (rest : List ℕ) → HasIcmpv6Rest t rest
@@ -91,6 +93,9 @@ told_by_numbers (icmp.ParameterProblem header) rest h =
 told_by_numbers (icmp.EchoRequest echo) rest h =
     inl (tt, ap icmp.EchoRequest (echo_told echo rest h))
 told_by_numbers (icmp.EchoReply echo) rest h = inl (tt, ap icmp.EchoReply (echo_told echo rest h))
+told_by_numbers icmp.RouterSolicitation rest h = inl (tt, refl)
+told_by_numbers icmp.NeighborSolicitation rest h = inl (tt, refl)
+told_by_numbers icmp.Redirect rest h = inl (tt, refl)
 
 -- an unknown type does not have the numbers of one that has a name
 not_unknown : (n code : ℕ) (rest : List ℕ) (t named : Icmpv6Type) → icmp.Unknown n code rest ≡ t
@@ -130,6 +135,9 @@ rest_of (icmp.TimeExceeded code) = 0 ∷ 0 ∷ 0 ∷ 0 ∷ []
 rest_of (icmp.ParameterProblem header) = to_be_bytes w32 header.pointer
 rest_of (icmp.EchoRequest echo) = to_be_bytes w16 echo.id ++ to_be_bytes w16 echo.seq
 rest_of (icmp.EchoReply echo) = to_be_bytes w16 echo.id ++ to_be_bytes w16 echo.seq
+rest_of icmp.RouterSolicitation = 0 ∷ 0 ∷ 0 ∷ 0 ∷ []
+rest_of icmp.NeighborSolicitation = 0 ∷ 0 ∷ 0 ∷ 0 ∷ []
+rest_of icmp.Redirect = 0 ∷ 0 ∷ 0 ∷ 0 ∷ []
 
 cleared_spelled : (t : Icmpv6Type) (rest : List ℕ) → length rest ≡ 4 → IsBytes rest
     → HasIcmpv6Rest t rest → icmpv6_cleared t rest ≡ rest_of t
@@ -142,6 +150,9 @@ cleared_spelled (icmp.ParameterProblem header) rest len bytes h =
     sym (be_bytes_4 rest header.pointer len bytes (sym h))
 cleared_spelled (icmp.EchoRequest echo) rest len bytes h = echo_spelled echo rest len bytes h
 cleared_spelled (icmp.EchoReply echo) rest len bytes h = echo_spelled echo rest len bytes h
+cleared_spelled icmp.RouterSolicitation rest len bytes h = refl
+cleared_spelled icmp.NeighborSolicitation rest len bytes h = refl
+cleared_spelled icmp.Redirect rest len bytes h = refl
 
 abbrev spelling : Icmpv6Type → ℕ → List ℕ
 spelling t checksum = icmpv6_type_number t ∷ icmpv6_code_number t

@@ -1,5 +1,5 @@
--- The header of a message of ICMPv6 (RFC 4443 section 2.1): type, code, checksum, and 4 bytes whose
--- meaning is of the type.
+-- The header of a message of ICMPv6 (RFC 4443 section 2.1, and RFC 4861 section 4 for the types
+-- from 133 on): type, code, checksum, and 4 bytes whose meaning is of the type.
 use Rattle.std.specs.Prelude.{ℕ, ◌≡◌, List, [], ◌∷◌, drop, length, Result, slice_index}
 use Rattle.std.specs.Prelude.{slice_range}
 use Rattle.std.specs.Int.{from_be_bytes, w16, w32}
@@ -19,6 +19,9 @@ use Rattle.etherparse_icmp.specs.declared.icmpv6_type.Icmpv6Type.TheVariants.{Ti
 use Rattle.etherparse_icmp.specs.declared.icmpv6_type.Icmpv6Type.TheVariants.{ParameterProblem}
 use Rattle.etherparse_icmp.specs.declared.icmpv6_type.Icmpv6Type.TheVariants.{EchoRequest}
 use Rattle.etherparse_icmp.specs.declared.icmpv6_type.Icmpv6Type.TheVariants.{EchoReply}
+use Rattle.etherparse_icmp.specs.declared.icmpv6_type.Icmpv6Type.TheVariants.{RouterSolicitation}
+use Rattle.etherparse_icmp.specs.declared.icmpv6_type.Icmpv6Type.TheVariants.{NeighborSolicitation}
+use Rattle.etherparse_icmp.specs.declared.icmpv6_type.Icmpv6Type.TheVariants.{Redirect}
 
 -- the number of the type
 abbrev pub icmpv6_type_number : Icmpv6Type → ℕ
@@ -29,6 +32,9 @@ icmpv6_type_number (TimeExceeded code) = 3
 icmpv6_type_number (ParameterProblem header) = 4
 icmpv6_type_number (EchoRequest echo) = 128
 icmpv6_type_number (EchoReply echo) = 129
+icmpv6_type_number RouterSolicitation = 133
+icmpv6_type_number NeighborSolicitation = 135
+icmpv6_type_number Redirect = 137
 
 -- the number of the code
 abbrev pub icmpv6_code_number : Icmpv6Type → ℕ
@@ -39,9 +45,11 @@ icmpv6_code_number (TimeExceeded code) = time_exceeded_number code
 icmpv6_code_number (ParameterProblem header) = parameter_problem_number header.code
 icmpv6_code_number (EchoRequest echo) = 0
 icmpv6_code_number (EchoReply echo) = 0
+icmpv6_code_number RouterSolicitation = 0
+icmpv6_code_number NeighborSolicitation = 0
+icmpv6_code_number Redirect = 0
 
--- what the 4 bytes after the checksum say; a destination unreachable and a time exceeded message do
--- not use them
+-- what the 4 bytes after the checksum say; some types do not use them
 abbrev pub HasIcmpv6Rest : Icmpv6Type → List ℕ → Type 0
 HasIcmpv6Rest (Unknown type_u8 code_u8 bytes5to8) rest = rest ≡ bytes5to8
 HasIcmpv6Rest (DestinationUnreachable code) rest = Unit {0}
@@ -50,11 +58,17 @@ HasIcmpv6Rest (TimeExceeded code) rest = Unit {0}
 HasIcmpv6Rest (ParameterProblem header) rest = from_be_bytes w32 rest ≡ header.pointer
 HasIcmpv6Rest (EchoRequest echo) rest = HasEcho echo rest
 HasIcmpv6Rest (EchoReply echo) rest = HasEcho echo rest
+HasIcmpv6Rest RouterSolicitation rest = Unit {0}
+HasIcmpv6Rest NeighborSolicitation rest = Unit {0}
+HasIcmpv6Rest Redirect rest = Unit {0}
 
 -- the same bytes with those 0 that the type does not use, as a sender has to have them
 abbrev pub icmpv6_cleared : Icmpv6Type → List ℕ → List ℕ
 icmpv6_cleared (DestinationUnreachable code) rest = 0 ∷ 0 ∷ 0 ∷ 0 ∷ []
 icmpv6_cleared (TimeExceeded code) rest = 0 ∷ 0 ∷ 0 ∷ 0 ∷ []
+icmpv6_cleared RouterSolicitation rest = 0 ∷ 0 ∷ 0 ∷ 0 ∷ []
+icmpv6_cleared NeighborSolicitation rest = 0 ∷ 0 ∷ 0 ∷ 0 ∷ []
+icmpv6_cleared Redirect rest = 0 ∷ 0 ∷ 0 ∷ 0 ∷ []
 icmpv6_cleared icmp_type rest = rest
 
 -- a message of these numbers, with these 4 bytes, is of the type

@@ -12,7 +12,7 @@ use etherparse::err::{ValueTooBigError, ValueType};
 use packet_parts::checksum::ipv6_pseudo_header;
 
 /// The type of a message of ICMPv6, its code, and what the 4 bytes after its checksum say (RFC
-/// 4443).
+/// 4443, RFC 4861).
 ///
 /// A message of a type or a code that has no name here is `Unknown`, with its 4 bytes as they are.
 /// A value that is made as `Unknown` with the numbers of a named type is written as it is, and is
@@ -46,6 +46,16 @@ pub enum Icmpv6Type {
     EchoRequest(IcmpEchoHeader),
     /// Type 129, code 0: the echo (RFC 4443 section 4.2).
     EchoReply(IcmpEchoHeader),
+    /// Type 133, code 0: asks for routers (RFC 4861 section 4.1). Bytes 4 to 7 are not used: they
+    /// are read whatever they are, and written as 0; options follow the header.
+    RouterSolicitation,
+    /// Type 135, code 0: asks for the link-layer address of a neighbor (RFC 4861 section 4.3).
+    /// Bytes 4 to 7 are not used: they are read whatever they are, and written as 0; the target's
+    /// address follows the header.
+    NeighborSolicitation,
+    /// Type 137, code 0: another first hop is nearer (RFC 4861 section 4.5). Bytes 4 to 7 are not
+    /// used: they are read whatever they are, and written as 0; two addresses follow the header.
+    Redirect,
 }
 
 impl Icmpv6Type {
@@ -71,6 +81,9 @@ impl Icmpv6Type {
             Icmpv6Type::ParameterProblem(_) => 4,
             Icmpv6Type::EchoRequest(_) => 128,
             Icmpv6Type::EchoReply(_) => 129,
+            Icmpv6Type::RouterSolicitation => 133,
+            Icmpv6Type::NeighborSolicitation => 135,
+            Icmpv6Type::Redirect => 137,
         }
     }
 
@@ -85,7 +98,10 @@ impl Icmpv6Type {
             Icmpv6Type::ParameterProblem(header) => header.code.code_u8(),
             Icmpv6Type::PacketTooBig { .. }
             | Icmpv6Type::EchoRequest(_)
-            | Icmpv6Type::EchoReply(_) => 0,
+            | Icmpv6Type::EchoReply(_)
+            | Icmpv6Type::RouterSolicitation
+            | Icmpv6Type::NeighborSolicitation
+            | Icmpv6Type::Redirect => 0,
         }
     }
 
@@ -175,7 +191,11 @@ impl Icmpv6Type {
     {
         match self {
             Icmpv6Type::Unknown { bytes5to8, .. } => *bytes5to8,
-            Icmpv6Type::DestinationUnreachable(_) | Icmpv6Type::TimeExceeded(_) => [0; 4],
+            Icmpv6Type::DestinationUnreachable(_)
+            | Icmpv6Type::TimeExceeded(_)
+            | Icmpv6Type::RouterSolicitation
+            | Icmpv6Type::NeighborSolicitation
+            | Icmpv6Type::Redirect => [0; 4],
             Icmpv6Type::PacketTooBig { mtu } => mtu.to_be_bytes(),
             Icmpv6Type::ParameterProblem(header) => header.pointer.to_be_bytes(),
             Icmpv6Type::EchoRequest(echo) | Icmpv6Type::EchoReply(echo) => echo.to_bytes(),
@@ -212,6 +232,9 @@ fn named(type_u8: u8, code_u8: u8, rest: [u8; 4]) -> Option<Icmpv6Type>
         },
         128 if code_u8 == 0 => Some(Icmpv6Type::EchoRequest(IcmpEchoHeader::from_bytes(rest))),
         129 if code_u8 == 0 => Some(Icmpv6Type::EchoReply(IcmpEchoHeader::from_bytes(rest))),
+        133 if code_u8 == 0 => Some(Icmpv6Type::RouterSolicitation),
+        135 if code_u8 == 0 => Some(Icmpv6Type::NeighborSolicitation),
+        137 if code_u8 == 0 => Some(Icmpv6Type::Redirect),
         _ => None,
     }
 }

@@ -150,16 +150,26 @@ fn unused_bytes_are_cleared(rt: HostRuntime) -> Result<(), Fail> {
     Ok(())
 }
 
-// Neighbor solicitation has no name here, nor has code 1 of an echo request.
+// A neighbor solicitation, before its target's address.
+#[test]
+fn neighbors_are_asked_for(rt: HostRuntime) -> Result<(), Fail> {
+    let bytes = [135, 0, 0xef, 0x7c, 0, 0, 0, 0, 0x20, 1];
+    let (header, rest) = Icmpv6Header::from_slice(&bytes)?;
+    assert!(rt; header.icmp_type == Icmpv6Type::NeighborSolicitation);
+    assert!(rt; header.to_bytes().as_slice() == &bytes[..8] && rest == [0x20, 1].as_slice());
+    Ok(())
+}
+
+// Multicast listener reports have no name here, nor has code 1 of an echo request.
 #[test]
 fn other_messages_are_unknown(rt: HostRuntime) -> Result<(), Fail> {
-    let (header, rest) = Icmpv6Header::from_slice(&[135, 0, 0xef, 0x7c, 0, 0, 0, 0, 0x20, 1])?;
-    let solicitation = Icmpv6Type::Unknown {
-        type_u8: 135,
+    let (header, rest) = Icmpv6Header::from_slice(&[143, 0, 0x10, 0x20, 0, 0, 0, 1, 4, 0])?;
+    let report = Icmpv6Type::Unknown {
+        type_u8: 143,
         code_u8: 0,
-        bytes5to8: [0; 4],
+        bytes5to8: [0, 0, 0, 1],
     };
-    assert!(rt; header.icmp_type == solicitation && rest == [0x20, 1].as_slice());
+    assert!(rt; header.icmp_type == report && rest == [4, 0].as_slice());
     let bytes = [8, 1, 0, 0, 1, 2, 3, 4];
     let (header, _) = Icmpv4Header::from_slice(&bytes)?;
     let other = Icmpv4Type::Unknown {
