@@ -8,6 +8,10 @@ mod builder_examples;
 #[cfg(test)]
 mod built_packets;
 #[cfg(test)]
+mod icmp_examples;
+#[cfg(test)]
+mod icmpv6_code_examples;
+#[cfg(test)]
 mod link_examples;
 #[cfg(test)]
 mod net_examples;

@@ -1,0 +1,5 @@
+mod Checksums
+mod Icmpv4Codes
+mod Icmpv4Layout
+mod Icmpv6Layout
+mod Rests

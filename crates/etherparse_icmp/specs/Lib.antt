@@ -1,0 +1,9 @@
+pub mod IcmpChecksum
+pub mod IcmpEcho
+pub mod IcmpTimestamps
+pub mod Icmpv4
+pub mod Icmpv4Checksum
+pub mod Icmpv4Codes
+pub mod Icmpv6
+pub mod Icmpv6Checksum
+pub mod Icmpv6Codes

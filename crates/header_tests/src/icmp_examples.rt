@@ -1,0 +1,218 @@
+//! The examples in the doc comments of `etherparse_icmp`, line by line as they stand there, and
+//! worked messages. Their bytes are those that Scapy makes of the same fields.
+
+use etherparse::LenSource;
+use etherparse::err::{Layer, LenError};
+use etherparse_icmp::icmpv4::{
+    DestUnreachableHeader, ParameterProblemHeader, RedirectCode, RedirectHeader, TimeExceededCode,
+    TimestampMessage,
+};
+use etherparse_icmp::{IcmpEchoHeader, Icmpv4Header, Icmpv4Type, Icmpv6Header, Icmpv6Type};
+use std::test::Fail;
+
+#[test]
+fn icmpv4_headers(rt: HostRuntime) -> Result<(), Fail> {
+    // An echo request with the payload `abcd`.
+    let bytes = [8, 0, 0x21, 4, 0x12, 0x34, 0, 1, b'a', b'b', b'c', b'd'];
+    let (header, payload) = Icmpv4Header::from_slice(&bytes)?;
+    let echo = IcmpEchoHeader { id: 0x1234, seq: 1 };
+    assert!(rt; header.icmp_type == Icmpv4Type::EchoRequest(echo));
+    assert!(rt; header.checksum == 0x2104 && payload == b"abcd".as_slice());
+    assert!(rt; header.to_bytes().as_slice() == &bytes[..8]);
+
+    let reply = Icmpv4Type::EchoReply(IcmpEchoHeader { id: 0x1234, seq: 1 });
+    let header = Icmpv4Header::with_checksum(reply, b"abcd");
+    assert!(rt; header.to_bytes().as_slice() == [0, 0, 0x29, 4, 0x12, 0x34, 0, 1].as_slice());
+
+    let request = Icmpv4Type::EchoRequest(IcmpEchoHeader { id: 0x1234, seq: 1 });
+    assert!(rt; request.calc_checksum(b"abcd") == 0x2104);
+
+    let request = [8, 0, 0x21, 4, 0x12, 0x34, 0, 1, b'a', b'b', b'c', b'd'];
+    let (header, payload) = Icmpv4Header::from_slice(&request)?;
+    if let Icmpv4Type::EchoRequest(echo) = header.icmp_type {
+        let reply = Icmpv4Header::with_checksum(Icmpv4Type::EchoReply(echo), payload);
+        assert!(rt; reply.to_bytes().as_slice() == [0, 0, 0x29, 4, 0x12, 0x34, 0, 1].as_slice());
+    }
+    Ok(())
+}
+
+#[test]
+fn icmpv6_headers(rt: HostRuntime) -> Result<(), Fail> {
+    // An echo request with the payload `abcd`, from 2001:db8::1 to 2001:db8::2.
+    let bytes = [128, 0, 0x4d, 0x48, 0x12, 0x34, 0, 1, b'a', b'b', b'c', b'd'];
+    let (header, payload) = Icmpv6Header::from_slice(&bytes)?;
+    let echo = IcmpEchoHeader { id: 0x1234, seq: 1 };
+    assert!(rt; header.icmp_type == Icmpv6Type::EchoRequest(echo));
+    assert!(rt; header.checksum == 0x4d48 && payload == b"abcd".as_slice());
+    assert!(rt; header.to_bytes().as_slice() == &bytes[..8]);
+
+    let source = [0x20, 0x01, 0x0d, 0xb8, 0, 0, 0, 0, 0, 0, 0, 0, 0, 0, 0, 1];
+    let destination = [0x20, 0x01, 0x0d, 0xb8, 0, 0, 0, 0, 0, 0, 0, 0, 0, 0, 0, 2];
+    let request = Icmpv6Type::EchoRequest(IcmpEchoHeader { id: 0x1234, seq: 1 });
+    let header = Icmpv6Header::with_checksum(request, source, destination, b"abcd")?;
+    assert!(rt; header.to_bytes() == [128, 0, 0x4d, 0x48, 0x12, 0x34, 0, 1]);
+
+    let source = [0x20, 0x01, 0x0d, 0xb8, 0, 0, 0, 0, 0, 0, 0, 0, 0, 0, 0, 1];
+    let destination = [0x20, 0x01, 0x0d, 0xb8, 0, 0, 0, 0, 0, 0, 0, 0, 0, 0, 0, 2];
+    let too_big = Icmpv6Type::PacketTooBig { mtu: 1280 };
+    assert!(rt; too_big.calc_checksum(source, destination, b"abcd")? == 0xd87d);
+    Ok(())
+}
+
+#[test]
+fn codes_of_icmpv4(rt: HostRuntime) -> Result<(), Fail> {
+    let header = DestUnreachableHeader::from_values(4, 1400);
+    let needed = DestUnreachableHeader::FragmentationNeeded { next_hop_mtu: 1400 };
+    assert!(rt; header == Some(needed) && needed.code_u8() == 4);
+    assert!(rt; DestUnreachableHeader::from_values(3, 0) == Some(DestUnreachableHeader::Port));
+    assert!(rt; DestUnreachableHeader::from_values(16, 0).is_none());
+
+    let code = RedirectCode::from_u8(1);
+    assert!(rt; code == Some(RedirectCode::RedirectForHost));
+    assert!(rt; RedirectCode::RedirectForHost.code_u8() == 1);
+    assert!(rt; RedirectCode::from_u8(4).is_none());
+
+    // Packets to the host are to go to 192.0.2.1.
+    let bytes = [5, 1, 0x74, 0x36, 192, 0, 2, 1, b'a', b'b', b'c', b'd'];
+    let (header, _) = Icmpv4Header::from_slice(&bytes)?;
+    let redirect = RedirectHeader {
+        code: RedirectCode::RedirectForHost,
+        gateway_internet_address: [192, 0, 2, 1],
+    };
+    assert!(rt; header.icmp_type == Icmpv4Type::Redirect(redirect));
+
+    let code = TimeExceededCode::from_u8(0);
+    assert!(rt; code == Some(TimeExceededCode::TtlExceededInTransit));
+    assert!(rt; TimeExceededCode::TtlExceededInTransit.code_u8() == 0);
+    assert!(rt; TimeExceededCode::from_u8(2).is_none());
+
+    let header = ParameterProblemHeader::from_values(0, 20);
+    let problem = ParameterProblemHeader::PointerIndicatesError(20);
+    assert!(rt; header == Some(problem) && problem.code_u8() == 0);
+    let length = ParameterProblemHeader::from_values(2, 0);
+    assert!(rt; length == Some(ParameterProblemHeader::BadLength));
+    assert!(rt; ParameterProblemHeader::from_values(3, 0).is_none());
+
+    let bytes = [
+        13, 0, 0xe0, 0xc4, 0x12, 0x34, 0, 1, 0, 0, 0, 1, 0, 0, 0, 2, 0, 0, 0, 3,
+    ];
+    let (header, rest) = Icmpv4Header::from_slice(&bytes)?;
+    let message = TimestampMessage {
+        id: 0x1234,
+        seq: 1,
+        originate_timestamp: 1,
+        receive_timestamp: 2,
+        transmit_timestamp: 3,
+    };
+    assert!(rt; header.icmp_type == Icmpv4Type::TimestampRequest(message) && rest.is_empty());
+    assert!(rt; header.icmp_type.calc_checksum(&[]) == 0xe0c4);
+    Ok(())
+}
+
+// The messages that Scapy makes, each with the payload `abcd`, but that of a timestamp reply.
+#[test]
+fn worked_messages(rt: HostRuntime) -> Result<(), Fail> {
+    let needed = DestUnreachableHeader::FragmentationNeeded { next_hop_mtu: 1400 };
+    let messages = [
+        (
+            Icmpv4Type::DestinationUnreachable(needed),
+            [3, 4, 0x32, 0xbd, 0, 0, 5, 0x78],
+        ),
+        (
+            Icmpv4Type::DestinationUnreachable(DestUnreachableHeader::Host),
+            [3, 1, 0x38, 0x38, 0, 0, 0, 0],
+        ),
+        (
+            Icmpv4Type::TimeExceeded(TimeExceededCode::TtlExceededInTransit),
+            [11, 0, 0x30, 0x39, 0, 0, 0, 0],
+        ),
+        (
+            Icmpv4Type::ParameterProblem(ParameterProblemHeader::PointerIndicatesError(20)),
+            [12, 0, 0x1b, 0x39, 20, 0, 0, 0],
+        ),
+    ];
+    for (icmp_type, bytes) in messages {
+        let header = Icmpv4Header::with_checksum(icmp_type, b"abcd");
+        assert!(rt; header.to_bytes().as_slice() == bytes.as_slice());
+        assert!(rt; Icmpv4Header::from_slice(&bytes)?.0 == header);
+    }
+    Ok(())
+}
+
+// Bytes that are not used are read whatever they are, and written as 0: the length of RFC 4884.
+#[test]
+fn unused_bytes_are_cleared(rt: HostRuntime) -> Result<(), Fail> {
+    let bytes = [11, 0, 0xf4, 0xee, 0, 17, 0, 0];
+    let (header, _) = Icmpv4Header::from_slice(&bytes)?;
+    let exceeded = Icmpv4Type::TimeExceeded(TimeExceededCode::TtlExceededInTransit);
+    assert!(rt; header.icmp_type == exceeded);
+    assert!(rt; header.to_bytes().as_slice() == [11, 0, 0xf4, 0xee, 0, 0, 0, 0].as_slice());
+    Ok(())
+}
+
+// A neighbor solicitation, before its target's address.
+#[test]
+fn neighbors_are_asked_for(rt: HostRuntime) -> Result<(), Fail> {
+    let bytes = [135, 0, 0xef, 0x7c, 0, 0, 0, 0, 0x20, 1];
+    let (header, rest) = Icmpv6Header::from_slice(&bytes)?;
+    assert!(rt; header.icmp_type == Icmpv6Type::NeighborSolicitation);
+    assert!(rt; header.to_bytes().as_slice() == &bytes[..8] && rest == [0x20, 1].as_slice());
+    Ok(())
+}
+
+// Multicast listener reports have no name here, nor has code 1 of an echo request.
+#[test]
+fn other_messages_are_unknown(rt: HostRuntime) -> Result<(), Fail> {
+    let (header, rest) = Icmpv6Header::from_slice(&[143, 0, 0x10, 0x20, 0, 0, 0, 1, 4, 0])?;
+    let report = Icmpv6Type::Unknown {
+        type_u8: 143,
+        code_u8: 0,
+        bytes5to8: [0, 0, 0, 1],
+    };
+    assert!(rt; header.icmp_type == report && rest == [4, 0].as_slice());
+    let bytes = [8, 1, 0, 0, 1, 2, 3, 4];
+    let (header, _) = Icmpv4Header::from_slice(&bytes)?;
+    let other = Icmpv4Type::Unknown {
+        type_u8: 8,
+        code_u8: 1,
+        bytes5to8: [1, 2, 3, 4],
+    };
+    assert!(rt; header.icmp_type == other && header.to_bytes().as_slice() == bytes.as_slice());
+    Ok(())
+}
+
+// Whether the answer is this refusal of a slice.
+fn is_refused(
+    answer: Result<(Icmpv4Header, &[u8]), LenError>,
+    layer: Layer,
+    required_len: usize,
+    len: usize,
+) -> bool {
+    match answer {
+        Ok(_) => false,
+        Err(e) => {
+            e == LenError {
+                required_len,
+                len,
+                len_source: LenSource::Slice,
+                layer,
+                layer_start_offset: 0,
+            }
+        }
+    }
+}
+
+#[test]
+fn short_messages_are_refused(rt: HostRuntime) {
+    let short = Icmpv4Header::from_slice(&[8, 0, 0, 0, 0, 0, 0]);
+    assert!(rt; is_refused(short, Layer::Icmpv4, 8, 7));
+    let request = [13, 0, 0, 0, 0, 0, 0, 0, 0];
+    let short = Icmpv4Header::from_slice(&request);
+    assert!(rt; is_refused(short, Layer::Icmpv4Timestamp, 20, 9));
+    let reply = [14, 0, 0, 0, 0, 0, 0, 0];
+    let short = Icmpv4Header::from_slice(&reply);
+    assert!(rt; is_refused(short, Layer::Icmpv4TimestampReply, 20, 8));
+    // Another code is no timestamp message.
+    assert!(rt; Icmpv4Header::from_slice(&[13, 1, 0, 0, 0, 0, 0, 0]).is_ok());
+    assert!(rt; Icmpv6Header::from_slice(&[128, 0, 0, 0, 0, 0, 0]).is_err());
+}
