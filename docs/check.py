@@ -37,8 +37,8 @@ PAGES = [file for file in FILES if file.suffix == '.md']
 SOURCES = {file: file.read_text() for file in FILES if file.suffix == '.rt'}
 SPECS = {file: file.read_text() for file in FILES if file.suffix == '.antt'}
 LIBRARY = ('etherparse_base', 'etherparse_fields', 'etherparse', 'etherparse_net', 'packet_parts',
-           'etherparse_transport', 'etherparse_link', 'packet_links', 'packet', 'packet_rewriting',
-           'packet_capture', 'packet_reassembly')
+           'etherparse_transport', 'etherparse_icmp', 'etherparse_link', 'packet_links', 'packet',
+           'packet_rewriting', 'packet_capture', 'packet_reassembly')
 TESTS = ('etherparse_tests', 'header_tests', 'packet_tests', 'uses')
 PATH = re.compile(r'[\w.{},/-]+\.(?:md|rt|antt|sh|py|edit|txt|c|h|rs|toml)$')
 FIGURE = re.compile(r'(?<![\w.])\d+(?:\.\d+)? (?:ns|nanoseconds?|seconds?|minutes?|GB|MB)\b')
