@@ -9,8 +9,8 @@ use Rattle.etherparse_link.specs.declared.err.double_vlan.HeaderError.TheVariant
 use Rattle.etherparse_link.specs.declared.err.double_vlan.HeaderSliceError as error
 use Rattle.etherparse_link.specs.declared.err.double_vlan.HeaderSliceError.TheVariants as slice
 
--- the EtherTypes of tags: of a customer's VLAN and of a service's (IEEE 802.1Q section 9.5), and the
--- one that the outer of two tags had before that of a service existed
+-- the EtherTypes of tags: of a customer's VLAN and of a service's (IEEE 802.1Q section 9.5), and
+-- the one that the outer of two tags had before that of a service existed
 abbrev pub IsTagType : ℕ → Type 0
 IsTagType ether_type = (ether_type ≡ 0x8100) ⊎ (ether_type ≡ 0x88a8) ⊎ (ether_type ≡ 0x9100)
 

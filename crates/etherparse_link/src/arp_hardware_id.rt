@@ -131,6 +131,50 @@ impl ArpHardwareId {
     pub const VOID: ArpHardwareId = ArpHardwareId(0xffff);
 }
 
+// Numbers of IANA, and 0
+const _: () = prove!(
+    ArpHardwareId::NETROM.0 == 0
+        && ArpHardwareId::ETHERNET.0 == 1
+        && ArpHardwareId::EETHER.0 == 2
+        && ArpHardwareId::AX25.0 == 3
+        && ArpHardwareId::IEEE802.0 == 6
+        && ArpHardwareId::ARCNET.0 == 7
+        && ArpHardwareId::DLCI.0 == 15
+        && ArpHardwareId::ATM.0 == 19
+        && ArpHardwareId::IEEE1394.0 == 24
+        && ArpHardwareId::EUI64.0 == 27
+        && ArpHardwareId::INFINIBAND.0 == 32
+);
+
+// Linux's own numbers
+const _: () = prove!(
+    ArpHardwareId::SLIP.0 == 0x100
+        && ArpHardwareId::CAN.0 == 0x118
+        && ArpHardwareId::PPP.0 == 0x200
+        && ArpHardwareId::HDLC.0 == 0x201
+        && ArpHardwareId::RAWIP.0 == 0x207
+        && ArpHardwareId::TUNNEL.0 == 0x300
+        && ArpHardwareId::TUNNEL6.0 == 0x301
+        && ArpHardwareId::FRAD.0 == 0x302
+        && ArpHardwareId::LOOPBACK.0 == 0x304
+        && ArpHardwareId::FDDI.0 == 0x306
+        && ArpHardwareId::SIT.0 == 0x308
+        && ArpHardwareId::IPGRE.0 == 0x30a
+);
+
+const _: () = prove!(
+    ArpHardwareId::IEEE80211.0 == 0x321
+        && ArpHardwareId::IEEE80211_PRISM.0 == 0x322
+        && ArpHardwareId::IEEE80211_RADIOTAP.0 == 0x323
+        && ArpHardwareId::IEEE802154.0 == 0x324
+        && ArpHardwareId::IP6GRE.0 == 0x337
+        && ArpHardwareId::NETLINK.0 == 0x338
+        && ArpHardwareId::IPV6_LOWPAN.0 == 0x339
+        && ArpHardwareId::VSOCKMON.0 == 0x33a
+        && ArpHardwareId::NONE.0 == 0xfffe
+        && ArpHardwareId::VOID.0 == 0xffff
+);
+
 impl From<u16> for ArpHardwareId {
     ghost from_gives = { λ number id. id ≡ number };
 

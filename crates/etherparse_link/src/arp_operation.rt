@@ -35,6 +35,8 @@ impl ArpOperation {
     pub const REPLY: ArpOperation = ArpOperation(2);
 }
 
+const _: () = prove!(ArpOperation::REQUEST.0 == 1 && ArpOperation::REPLY.0 == 2);
+
 impl From<u16> for ArpOperation {
     ghost from_gives = { λ number operation. operation ≡ number };
 

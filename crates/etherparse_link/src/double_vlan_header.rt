@@ -16,6 +16,10 @@ use etherparse::err::{Layer, LenError};
 /// them and is not tested here: for tags of a service provider it is
 /// [`EtherType::PROVIDER_BRIDGING`]. That of the inner tag is `outer.ether_type`.
 ///
+/// These are the 8 bytes as they stand in a frame, with the EtherTypes that they have. The
+/// `VlanHeader::Double` of `packet_builder` is another thing: two tags of a packet that is built,
+/// whose EtherTypes are set when it is written.
+///
 /// # Example
 ///
 /// ```

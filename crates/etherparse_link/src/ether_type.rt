@@ -88,6 +88,33 @@ impl EtherType {
     pub const VLAN_DOUBLE_TAGGED_FRAME: EtherType = EtherType(0x9100);
 }
 
+// The numbers in decimal, as the registry of IANA has them too.
+const _: () = prove!(
+    EtherType::IPV4.0 == 2048
+        && EtherType::ARP.0 == 2054
+        && EtherType::WAKE_ON_LAN.0 == 2114
+        && EtherType::TRILL.0 == 8947
+        && EtherType::TRANSPARENT_ETHERNET_BRIDGING.0 == 25944
+        && EtherType::RARP.0 == 32821
+        && EtherType::VLAN_TAGGED_FRAME.0 == 33024
+        && EtherType::IPV6.0 == 34525
+        && EtherType::MPLS.0 == 34887
+        && EtherType::MPLS_UPSTREAM_ASSIGNED.0 == 34888
+);
+
+const _: () = prove!(
+    EtherType::PPPOE_DISCOVERY.0 == 34915
+        && EtherType::PPPOE_SESSION.0 == 34916
+        && EtherType::EAPOL.0 == 34958
+        && EtherType::PROVIDER_BRIDGING.0 == 34984
+        && EtherType::LLDP.0 == 35020
+        && EtherType::MACSEC.0 == 35045
+        && EtherType::PRECISION_TIME_PROTOCOL.0 == 35063
+        && EtherType::CONNECTIVITY_FAULT_MANAGEMENT.0 == 35074
+        && EtherType::NETWORK_SERVICE_HEADER.0 == 35151
+        && EtherType::VLAN_DOUBLE_TAGGED_FRAME.0 == 37120
+);
+
 impl From<u16> for EtherType {
     ghost from_gives = { λ number ether_type. ether_type ≡ number };
 

@@ -95,6 +95,62 @@ fn arp_packet_clone(packet: &ArpPacket) -> Result<ArpPacket, AllocError>
     packet.clone()
 }
 
+fn arp_eth_ipv4_packet_clone(packet: &ArpEthIpv4Packet) -> Result<ArpEthIpv4Packet, AllocError>
+    ensures same_value { result ≡ Ok packet.now }
+{
+    packet.clone()
+}
+
+fn double_vlan_header_clone(header: &DoubleVlanHeader) -> Result<DoubleVlanHeader, AllocError>
+    ensures same_value { result ≡ Ok header.now }
+{
+    header.clone()
+}
+
+fn ethernet2_header_clone(header: &Ethernet2Header) -> Result<Ethernet2Header, AllocError>
+    ensures same_value { result ≡ Ok header.now }
+{
+    header.clone()
+}
+
+fn linux_sll_header_clone(header: &LinuxSllHeader) -> Result<LinuxSllHeader, AllocError>
+    ensures same_value { result ≡ Ok header.now }
+{
+    header.clone()
+}
+
+fn linux_sll2_header_clone(header: &LinuxSll2Header) -> Result<LinuxSll2Header, AllocError>
+    ensures same_value { result ≡ Ok header.now }
+{
+    header.clone()
+}
+
+fn single_vlan_header_clone(header: &SingleVlanHeader) -> Result<SingleVlanHeader, AllocError>
+    ensures same_value { result ≡ Ok header.now }
+{
+    header.clone()
+}
+
+fn vlan_id_clone(number: &VlanId) -> Result<VlanId, AllocError>
+    ensures same_value { result ≡ Ok number.now }
+{
+    number.clone()
+}
+
+fn vlan_pcp_clone(number: &VlanPcp) -> Result<VlanPcp, AllocError>
+    ensures same_value { result ≡ Ok number.now }
+{
+    number.clone()
+}
+
+fn double_vlan_header_slice_error_clone(
+    error: &HeaderSliceError,
+) -> Result<HeaderSliceError, AllocError>
+    ensures same_value { result ≡ Ok error.now }
+{
+    error.clone()
+}
+
 // Numbers have the order of the numbers.
 fn arp_hardware_id_order(a: &ArpHardwareId, b: &ArpHardwareId) -> Ordering
     ensures by_number { result ≡ nat_cmp a.now b.now }

@@ -52,7 +52,8 @@ pub struct LinuxSll2Header {
     pub interface_index: u32,
     /// The kind of the device: bytes 8 and 9.
     pub arp_hrd_type: ArpHardwareId,
-    /// Where the packet went: byte 10. `LinuxSllPacketType::from(packet_type)` has names.
+    /// Where the packet went: byte 10. `LinuxSllPacketType::from(packet_type)` has names, and
+    /// `u8::try_from` of that type gives the byte back.
     pub packet_type: u8,
     /// The length of the sender's address, in bytes: byte 11. Above 8 the address was cut.
     pub sender_address_valid_length: u8,

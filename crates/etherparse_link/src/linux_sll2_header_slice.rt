@@ -8,7 +8,9 @@ use crate::linux_sll2_header::{LinuxSll2Header, header_of};
 use etherparse::LenSource;
 use etherparse::err::{Layer, LenError};
 
-/// A view of the header of a Linux cooked capture of version 2 (LINKTYPE_LINUX_SLL2).
+/// A view of the header of a Linux cooked capture of version 2 (LINKTYPE_LINUX_SLL2). It keeps the
+/// two reserved bytes, which are no field of a [`LinuxSll2Header`], and is made for any kind of
+/// device.
 ///
 /// # Example
 ///
@@ -83,7 +85,8 @@ impl<'a> LinuxSll2HeaderSlice<'a> {
         header_of(self.slice)
     }
 
-    /// What follows the header: bytes 0 and 1.
+    /// What follows the header: bytes 0 and 1. For some kinds of devices it is no EtherType, as
+    /// [`crate::LinuxSllHeader`] says.
     pub fn protocol_type(&self) -> EtherType
         ensures bytes_0_1 { result ≡ number_at 0 self.now.slice.now }
     {

@@ -11,7 +11,8 @@ use etherparse::err::LenError;
 
 /// The header of a Linux cooked capture (LINKTYPE_LINUX_SLL of tcpdump.org's registry), which Linux
 /// puts before packets that are captured on several devices at once, or on one without a link
-/// header.
+/// header. Any kind of device is read and written, and so is any packet type. What the protocol
+/// type means depends on the kind of device, which the caller compares.
 ///
 /// ```text
 ///  0                   1                   2                   3

@@ -8,7 +8,8 @@ use crate::linux_sll_header::{LinuxSllHeader, header_of};
 use etherparse::LenSource;
 use etherparse::err::{Layer, LenError};
 
-/// A view of the header of a Linux cooked capture (LINKTYPE_LINUX_SLL).
+/// A view of the header of a Linux cooked capture (LINKTYPE_LINUX_SLL). It is made for any kind of
+/// device: [`LinuxSllHeader`] says for which of them the protocol type is no EtherType.
 ///
 /// # Example
 ///
@@ -111,7 +112,8 @@ impl<'a> LinuxSllHeaderSlice<'a> {
         )
     }
 
-    /// What follows the header: bytes 14 and 15.
+    /// What follows the header: bytes 14 and 15. For some kinds of devices it is no EtherType, as
+    /// [`LinuxSllHeader`] says.
     pub fn protocol_type(&self) -> EtherType
         ensures bytes_14_15 { result ≡ number_at 14 self.now.slice.now }
     {

@@ -1,7 +1,10 @@
 //! Where a packet of a Linux cooked capture went.
 
 ghost use Rattle.std.specs.Prelude.{ℕ, ◌≡◌};
+ghost use Rattle.etherparse.specs.ValueTooBigError.{TakesUpTo};
+ghost use Rattle.etherparse.specs.declared.err.ValueType.TheVariants as value_type;
 
+use etherparse::err::{ValueTooBigError, ValueType};
 use std::marker::Model;
 
 /// Where a packet of a Linux cooked capture went, by the numbers PACKET of Linux's `if_packet.h`.
@@ -57,6 +60,17 @@ impl LinuxSllPacketType {
     pub const KERNEL: LinuxSllPacketType = LinuxSllPacketType(7);
 }
 
+const _: () = prove!(
+    LinuxSllPacketType::HOST.0 == 0
+        && LinuxSllPacketType::BROADCAST.0 == 1
+        && LinuxSllPacketType::MULTICAST.0 == 2
+        && LinuxSllPacketType::OTHERHOST.0 == 3
+        && LinuxSllPacketType::OUTGOING.0 == 4
+        && LinuxSllPacketType::LOOPBACK.0 == 5
+        && LinuxSllPacketType::USER.0 == 6
+        && LinuxSllPacketType::KERNEL.0 == 7
+);
+
 impl From<u16> for LinuxSllPacketType {
     ghost from_gives = { λ number packet_type. packet_type ≡ number };
 
@@ -79,5 +93,28 @@ impl From<u8> for LinuxSllPacketType {
 
     fn from(value: u8) -> LinuxSllPacketType {
         LinuxSllPacketType(u16::from(value))
+    }
+}
+
+/// The byte of version 2, which has one for the packet type.
+///
+/// # Errors
+///
+/// A `ValueTooBigError` if the number is above 255. Those that are named here are below 8.
+impl TryFrom<LinuxSllPacketType> for u8 {
+    type Error = ValueTooBigError<u16>;
+
+    ghost try_from_gives = { TakesUpTo (λ byte. byte) 255 value_type.LinuxSllType };
+
+    fn try_from(value: LinuxSllPacketType) -> Result<u8, ValueTooBigError<u16>> {
+        let number = value.0;
+        if number > 255 {
+            return Err(ValueTooBigError {
+                actual: number,
+                max_allowed: 255,
+                value_type: ValueType::LinuxSllType,
+            });
+        }
+        Ok(number as u8)
     }
 }

@@ -1,6 +1,4 @@
-mod IpAuthHeaders
+mod ExtensionHeaders
 mod IpOptions
 mod Ipv6Extensions
-mod Ipv6FragmentHeaders
-mod Ipv6RawExtHeaders
 mod OptionLists

@@ -1,14 +1,13 @@
 -- Bytes are listed as options in one way.
-use Rattle.std.proofs.Common.{ℕ, ◌≡◌, ◌+◌, ◌-◌, ◌≤◌, List, [], ◌∷◌, ◌++◌, length, take, drop}
-use Rattle.std.proofs.Common.{drop-drop, length-drop, refl, sym, ap, ◌∙◌, subst, arith}
-use Rattle.std.proofs.Common.{append_assoc, append-nil, length-append, Result, Ok, Err, nat_eq}
-use Rattle.std.proofs.Common.{true}
+use Rattle.std.proofs.Common.{ℕ, ◌≡◌, ◌+◌, ◌≤◌, List, [], ◌∷◌, ◌++◌, length, drop, length-drop}
+use Rattle.std.proofs.Common.{sym, ap, ◌∙◌, subst, arith, append_assoc, append-nil, length-append}
+use Rattle.std.proofs.Common.{Option, Some, None, Result, Ok, Err, drop-drop, refl}
 use Rattle.std.specs.List.{AllByRecursion, concat}
-use Rattle.std.proofs.lemmas.Bool.Decides.{Decides-eqb}
-use Rattle.std.proofs.lemmas.List.{append_cancel_left, take_rest}
+use Rattle.std.proofs.lemmas.List.{append_cancel_left}
 use Rattle.std.proofs.lemmas.List.Folds.{concat-append}
 use Rattle.etherparse.proofs.Parts.{same_front}
-use Rattle.etherparse_net.specs.Options.{BeginsWithOptions, IsOnlyListing, ListsOptions}
+use Rattle.etherparse_net.specs.Options.{BeginsWithOptions, GivesOption, IsOnlyListing}
+use Rattle.etherparse_net.specs.Options.{ListsOptions}
 
 -- What makes it one way: options at one front have one length; what begins with an option is not
 -- the end, and not refused; the end is not refused; and what is refused has one reason.
@@ -47,6 +46,21 @@ same_options t (o ∷ os) (p ∷ ps) r q k l e stuck other =
     let same = same_options t os ps r q k.1 l.1 rest stuck other in
     (ap (λ z. z ∷ os) first ∙ ap (λ z. p ∷ z) same.0, same.1)
 
+-- one more option
+all_append : (P : List ℕ → Type 0) (os : List (List ℕ)) (o : List ℕ) → AllByRecursion P os → P o
+    → AllByRecursion P (os ++ o ∷ [])
+all_append P [] o all p = (p, tt)
+all_append P (x ∷ os) o all p = (all.0, all_append P os o all.1 p)
+
+pub one_more : (IsOption : List ℕ → Type 0) (s : List ℕ) (os : List (List ℕ)) (o r t : List ℕ)
+    → BeginsWithOptions IsOption s os r → IsOption o → r ≡ o ++ t
+    → BeginsWithOptions IsOption s (os ++ o ∷ []) t
+one_more IsOption s os o r t b is e = record {
+  are_options = all_append IsOption os o b.are_options is;
+  whole = b.whole ∙ ap (λ x. concat os ++ x) e
+      ∙ sym (rw (concat-append os (o ∷ []), append-nil o, append_assoc (concat os) o t) refl);
+}
+
 module _ {E : Type 0} (IsOption IsEnd : List ℕ → Type 0) (Refuses : ℕ → List ℕ → E → Type 0)
     (t : TellsOptions IsOption IsEnd Refuses) (s : List ℕ) where
   -- so are options that begin some bytes
@@ -84,48 +98,28 @@ module _ {E : Type 0} (IsOption IsEnd : List ℕ → Type 0) (Refuses : ℕ → 
       → ListsOptions IsOption IsEnd Refuses s os a → IsOnlyListing IsOption IsEnd Refuses s os a
   only_listing os a l = record { lists = l; only = λ ps b k. listed_once ps os b a k l }
 
--- one more option
-all_append : (P : List ℕ → Type 0) (os : List (List ℕ)) (o : List ℕ) → AllByRecursion P os → P o
-    → AllByRecursion P (os ++ o ∷ [])
-all_append P [] o all p = (p, tt)
-all_append P (x ∷ os) o all p = (all.0, all_append P os o all.1 p)
+  -- with the options before a place, what is found there begins the bytes, or ends their listing
+  abbrev pub ListsOn : ℕ → Option (Result (List ℕ) E) → ℕ → List (List ℕ) → Type 0
+  ListsOn at (Some (Ok o)) after os = BeginsWithOptions IsOption s (os ++ o ∷ []) (drop after s)
+  ListsOn at (Some (Err e)) after os = IsOnlyListing IsOption IsEnd Refuses s os (Err e)
+  ListsOn at None after os = IsOnlyListing IsOption IsEnd Refuses s os (Ok (drop at s))
 
-pub one_more : (IsOption : List ℕ → Type 0) (s : List ℕ) (os : List (List ℕ)) (o r t : List ℕ)
-    → BeginsWithOptions IsOption s os r → IsOption o → r ≡ o ++ t
-    → BeginsWithOptions IsOption s (os ++ o ∷ []) t
-one_more IsOption s os o r t b is e = record {
-  are_options = all_append IsOption os o b.are_options is;
-  whole = b.whole ∙ ap (λ x. concat os ++ x) e
-      ∙ sym (rw (concat-append os (o ∷ []), append-nil o, append_assoc (concat os) o t) refl);
-}
+  pub lists_on : (at : ℕ) (found : Option (Result (List ℕ) E)) (after : ℕ) → at ≤ length s
+      → GivesOption IsOption IsEnd Refuses s at found after → (os : List (List ℕ))
+      → BeginsWithOptions IsOption s os (drop at s) → ListsOn at found after os
+  lists_on at (Some (Ok o)) after within g os b =
+      one_more IsOption s os o (drop at s) (drop after s) b g.0 g.1
+  lists_on at (Some (Err e)) after within g os b =
+      let place : at ≡ length (concat os) =
+      omega (arith, ap length b.whole, length-append (concat os) (drop at s), length-drop at s) in
+      only_listing os (Err e) (drop at s, b, subst (λ n. Refuses n (drop at s) e) place g.0)
+  lists_on at None after within g os b = only_listing os (Ok (drop at s)) (b, g.0)
 
 -- after an option at a place the place is further on by its length
-pub next_option : (s o : List ℕ) (at : ℕ)
-    → take (length s - at) (drop at s) ≡ o ++ drop (length o) (take (length s - at) (drop at s))
+pub further : (s rest o : List ℕ) (at : ℕ) → rest ≡ drop at s → rest ≡ o ++ drop (length o) rest
     → drop at s ≡ o ++ drop (at + length o) s
-next_option s o at e =
-    let rest = take_rest s at in
-    rw rest at e ∙ ap (λ x. o ++ x) (drop-drop (length o) at s)
-
--- what is refused at a place, which is that after the options before it
-pub refused_at : {E : Type 0} (IsOption IsEnd : List ℕ → Type 0)
-    (Refuses : ℕ → List ℕ → E → Type 0) (s : List ℕ) (os : List (List ℕ)) (at : ℕ) (e : E)
-    → BeginsWithOptions IsOption s os (drop at s) → at ≤ length s
-    → Refuses at (take (length s - at) (drop at s)) e
-    → ListsOptions IsOption IsEnd Refuses s os (Err e)
-refused_at IsOption IsEnd Refuses s os at e b within refuses =
-    let place : at ≡ length (concat os) =
-    omega (arith, ap length b.whole, length-append (concat os) (drop at s), length-drop at s) in
-    (drop at s, b, subst (λ n. Refuses n (drop at s) e) place (rw take_rest at refuses))
-
--- no bytes are left at a place
-none_of_length : (s : List ℕ) → length s ≡ 0 → s ≡ []
-none_of_length [] e = refl
-none_of_length (x ∷ s) e = absurd (omega (arith, e))
-
-pub none_left : (s : List ℕ) (at : ℕ) → nat_eq (length (take (length s - at) (drop at s))) 0 ≡ true
-    → drop at s ≡ []
-none_left s at e = none_of_length (drop at s) (rw take_rest at ((Decides-eqb _ 0).0 e))
+further s rest o at is e =
+    sym is ∙ e ∙ ap (λ x. o ++ x) (ap (drop (length o)) is ∙ drop-drop (length o) at s)
 
 -- so many options stand before a place
 pub record CountedTo (IsOption : List ℕ → Type 0) (s : List ℕ) (at count : ℕ) : Type 0 where

@@ -1,3 +1,4 @@
+pub mod HeaderErrors
 pub mod IpAuthHeader
 pub mod IpAuthIcv
 pub mod Ipv4Options
@@ -8,4 +9,5 @@ pub mod Ipv6OptionAction
 pub mod Ipv6OptionWriting
 pub mod Ipv6Options
 pub mod Ipv6RawExtHeader
+pub mod OptionErrors
 pub mod Options

@@ -1,6 +1,6 @@
 //! Bytes one after the other.
 
-ghost use Rattle.std.specs.Prelude.{◌≡◌, ◌≤◌, ◌+◌, ◌++◌, length};
+ghost use Rattle.std.specs.Prelude.{◌≡◌, ◌≤◌, ◌+◌, ◌++◌, drop, length};
 ghost use Rattle.etherparse.specs.Bytes.{IsBytes};
 
 use arrayvec::ArrayVec;
@@ -23,4 +23,12 @@ pub(crate) fn known_bytes(bytes: &[u8]) -> &[u8]
     ensures are_bytes { IsBytes result.now }
 {
     bytes
+}
+
+// The bytes from a place on.
+pub(crate) fn bytes_from(bytes: &[u8], place: usize) -> &[u8]
+    requires { place ≤ length bytes.now }
+    ensures value { result.now ≡ drop place bytes.now }
+{
+    &bytes[place..]
 }

@@ -27,6 +27,11 @@ use etherparse::IpNumber;
 /// header less two. The two reserved bytes are not a field either: they are read with any value,
 /// and written as 0.
 ///
+/// In IPv6 the header has to be a multiple of 8 bytes long (RFC 4302 section 2.6), by padding in
+/// the integrity check value. That is not tested here, neither when a header is read nor when it is
+/// made: a header does not know which version it is in. A length of 12 or of 20 bytes, as of an
+/// empty value or of one of 8, is for IPv4 alone.
+///
 /// # Example
 ///
 /// ```
@@ -70,7 +75,8 @@ impl IpAuthHeader {
     /// # Errors
     ///
     /// In this order: `TooBig` if the integrity check value has more than 1016 bytes, `Unaligned`
-    /// if their number is not a multiple of 4.
+    /// if their number is not a multiple of 4. Whether the header is then a multiple of 8 bytes
+    /// long, as IPv6 wants it, is not tested.
     pub fn new(
         next_header: IpNumber,
         spi: u32,
@@ -88,8 +94,8 @@ impl IpAuthHeader {
         })
     }
 
-    /// The header at the front of a slice, and all the bytes after it. The integrity check value is
-    /// not tested.
+    /// The header at the front of a slice, and all the bytes after it. Neither the integrity check
+    /// value is tested, nor whether the length is a multiple of 8, as in IPv6.
     ///
     /// # Errors
     ///
@@ -105,14 +111,14 @@ impl IpAuthHeader {
         Ok((view.to_header(), rest))
     }
 
-    /// The bytes of the integrity check value.
+    /// The bytes of the integrity check value, 0 to 1016.
     pub fn raw_icv(&self) -> &[u8]
         ensures value { result.now ≡ self.now.icv }
     {
         self.icv.as_slice()
     }
 
-    /// Sets the integrity check value.
+    /// Sets the integrity check value. No other field changes.
     ///
     /// # Errors
     ///
@@ -134,7 +140,7 @@ impl IpAuthHeader {
         IpAuthHeader::MIN_LEN + self.icv.as_slice().len()
     }
 
-    /// The bytes of the header, with the two reserved ones 0.
+    /// The bytes of the header, 12 to 1028, with the two reserved ones 0.
     pub fn to_bytes(&self) -> ArrayVec<u8, 1028>
         ensures layout { IsClearedAuthLayout self.now result.items }
         ensures only { (bytes : List ℕ) → IsClearedAuthLayout self.now bytes →

@@ -13,6 +13,10 @@ use etherparse::err::Layer;
 /// A view of the bytes of an authentication header (RFC 4302 section 2). It keeps the two reserved
 /// bytes, which are no field of an [`IpAuthHeader`].
 ///
+/// In IPv6 the header has to be a multiple of 8 bytes long (RFC 4302 section 2.6). A view of
+/// another length is made too: compare `slice().len() % 8` with 0 if the header stands in an IPv6
+/// packet.
+///
 /// # Example
 ///
 /// ```

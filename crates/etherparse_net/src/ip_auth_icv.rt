@@ -10,7 +10,7 @@ use arrayvec::ArrayVec;
 use std::marker::Model;
 
 /// The integrity check value of an authentication header: 0 to 1016 bytes, in words of 4 (RFC 4302
-/// section 2.6).
+/// section 2.6). In IPv6 it has 4 bytes more than a multiple of 8, which is not tested.
 ///
 /// # Example
 ///
@@ -41,7 +41,7 @@ impl IpAuthIcv {
     /// The greatest number of bytes: 1016.
     pub const MAX_LEN: usize = 1016;
 
-    /// The bytes.
+    /// The bytes, 0 to 1016.
     pub fn as_slice(&self) -> &[u8]
         ensures value { result.now ≡ self.now }
         ensures icv_len { IsIcvLen (length result.now) }

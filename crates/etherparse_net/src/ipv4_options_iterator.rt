@@ -1,11 +1,14 @@
 //! The options of an IPv4 header, one after another.
 
 ghost use Rattle.std.specs.Prelude.{◌≡◌, ◌≢◌, ◌≤◌, ◌++◌, IfErr, IfOk, drop, length, slice_index};
+ghost use Rattle.std.specs.Prelude.{⊤};
 ghost use Rattle.etherparse_net.specs.Ipv4Options.{HasLengthOctet, RefusesIpv4Option};
 ghost use Rattle.etherparse_net.specs.Ipv4Options.{cut_off_error};
 
 use crate::Ipv4OptionSlice;
+use crate::bytes::bytes_from;
 use crate::err::{IncompleteOption, Ipv4OptionError};
+use std::alloc::AllocError;
 
 /// The options of an IPv4 header, one after another (RFC 791 section 3.1). They end with the bytes,
 /// at the type 0, or at what is no option.
@@ -85,7 +88,7 @@ impl<'a> Ipv4OptionsIterator<'a> {
             IfSome result (λ found. IfErr found (λ e.
             IsOnlyIpv4Listing self.old.options.now options (Err e))) }
     {
-        let rest = &self.options[self.offset..];
+        let rest = bytes_from(self.options, self.offset);
         if rest.is_empty() || rest[0] == 0 {
             return None;
         }
@@ -126,6 +129,21 @@ impl<'a> Ipv4OptionsIterator<'a> {
                 None => return Ok(count),
             }
         }
+    }
+}
+
+/// A clone goes on from the same place.
+impl<'a> Clone for Ipv4OptionsIterator<'a> {
+    ghost is_clone = { λ left copy. (copy.options.now ≡ left.options.now)
+        × (copy.offset ≡ left.offset) };
+
+    ghost is_infallible = { λ _. ⊤ };
+
+    fn clone(&self) -> Result<Ipv4OptionsIterator<'a>, AllocError> {
+        Ok(Ipv4OptionsIterator {
+            options: self.options,
+            offset: self.offset,
+        })
     }
 }
 

@@ -43,7 +43,7 @@ impl Ipv6ExtPayload {
     /// The greatest number of bytes: 2046.
     pub const MAX_LEN: usize = 2046;
 
-    /// The bytes.
+    /// The bytes, 6 to 2046.
     pub fn as_slice(&self) -> &[u8]
         ensures value { result.now ≡ self.now }
         ensures payload_len { IsExtPayloadLen (length result.now) }

@@ -7,10 +7,12 @@ ghost use Rattle.etherparse_net.specs.Ipv6Extensions.{IsOfKind, extension_bytes}
 use crate::{IpAuthHeaderSlice, Ipv6FragmentHeaderSlice, Ipv6RawExtHeaderSlice};
 use etherparse::IpNumber;
 
-/// A view of an extension header of IPv6 that can be skipped (RFC 8200 section 4).
+/// A view of an extension header of IPv6 that can be skipped (RFC 8200 section 4). Each is told by
+/// the number of the header before it, whatever place it has in the chain.
 #[derive(Clone, Copy, Debug, PartialEq, Eq)]
 pub enum Ipv6ExtensionSlice<'a> {
-    /// Hop-by-hop options: number 0.
+    /// Hop-by-hop options: number 0. Only right after the IPv6 header are they allowed (RFC 8200
+    /// section 4.1), which is not tested.
     HopByHop(Ipv6RawExtHeaderSlice<'a>),
     /// A routing header: number 43.
     Routing(Ipv6RawExtHeaderSlice<'a>),

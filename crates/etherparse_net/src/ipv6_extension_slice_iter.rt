@@ -1,7 +1,7 @@
 //! The extension headers of IPv6, one after another.
 
 ghost use Rattle.std.specs.Prelude.{ℕ, List, ◌≡◌, ◌+◌, ◌-◌, ◌^◌, ◌<◌, IfErr, IfOk, Err, length};
-ghost use Rattle.std.specs.Prelude.{slice_index};
+ghost use Rattle.std.specs.Prelude.{slice_index, ⊤};
 ghost use Rattle.etherparse.specs.ExtensionHeaderChain.{FollowsChain, IsWalkOf};
 ghost use Rattle.etherparse.specs.ExtensionHeaders.{IsSkippable};
 ghost use Rattle.etherparse.specs.LenError.{len_error_moved};
@@ -12,6 +12,7 @@ use crate::Ipv6ExtensionSlice;
 use crate::ipv6_extension_slice::extension_of;
 use etherparse::err::LenError;
 use etherparse::{IpNumber, Ipv6Header};
+use std::alloc::AllocError;
 
 /// The extension headers at the front of some bytes, one after another (RFC 8200 section 4). They
 /// end where the walk of [`Ipv6Header::skip_all_header_extensions_in_slice`] does: before a number
@@ -19,6 +20,10 @@ use etherparse::{IpNumber, Ipv6Header};
 ///
 /// A fragment header is passed whatever its offset: after one with an offset above 0 comes the
 /// middle of a payload, in which what looks like a header is none.
+///
+/// The order of the headers is not tested, nor how many there are of a kind. RFC 8200 section 4.1
+/// lets them stand in any order, but for hop-by-hop options: these are given at any place too, and
+/// are allowed only as the first header, where `offset` was 0.
 ///
 /// # Example
 ///
@@ -59,7 +64,8 @@ impl<'a> Ipv6ExtensionSliceIter<'a> {
     ghost use Rattle.etherparse_net.specs.Ipv6Extensions.{BeginsWithExtension, EndsInExtension};
     ghost use Rattle.etherparse_net.specs.Ipv6Extensions.{extension_bytes};
 
-    /// The extension headers at the front of a slice, of which the first has this number.
+    /// The extension headers at the front of a slice: what an IPv6 header has after it. `first` is
+    /// the number of the first, the next header of that header.
     pub fn new(first: IpNumber, slice: &'a [u8]) -> Ipv6ExtensionSliceIter<'a>
         ensures first { result.next_header ≡ first }
         ensures slice { result.rest.now ≡ slice.now }
@@ -124,6 +130,22 @@ impl<'a> Ipv6ExtensionSliceIter<'a> {
                 Some(Err(e.add_offset(self.offset)))
             }
         }
+    }
+}
+
+/// A clone goes on from the same place.
+impl<'a> Clone for Ipv6ExtensionSliceIter<'a> {
+    ghost is_clone = { λ left copy. (copy.next_header ≡ left.next_header)
+        × (copy.rest.now ≡ left.rest.now) × (copy.offset ≡ left.offset) };
+
+    ghost is_infallible = { λ _. ⊤ };
+
+    fn clone(&self) -> Result<Ipv6ExtensionSliceIter<'a>, AllocError> {
+        Ok(Ipv6ExtensionSliceIter {
+            next_header: self.next_header,
+            rest: self.rest,
+            offset: self.offset,
+        })
     }
 }
 

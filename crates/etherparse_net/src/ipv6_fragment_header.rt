@@ -6,8 +6,9 @@ ghost use Rattle.etherparse_net.specs.declared.ipv6_fragment_header.Ipv6Fragment
   Ipv6FragmentHeader as Header,
 };
 
+use crate::errors::too_short;
 use etherparse::err::{Layer, LenError};
-use etherparse::{IpFragOffset, IpNumber, LenSource};
+use etherparse::{IpFragOffset, IpNumber};
 
 /// A fragment header of IPv6 (RFC 8200 section 4.5). Its reserved bits are not fields.
 #[derive(Clone, Copy, Debug, PartialEq, Eq)]
@@ -26,6 +27,7 @@ pub struct Ipv6FragmentHeader {
 impl Ipv6FragmentHeader {
     ghost use Rattle.std.specs.Prelude.{ℕ, ◌≡◌, ◌+◌, ◌*◌, ◌^◌, ◌<◌, ◌∷◌, ◌++◌, List, Ok, Result};
     ghost use Rattle.std.specs.Int.{from_bool, to_be_bytes, w16, w32};
+    ghost use Rattle.etherparse.specs.Bytes.{IsBytes};
     ghost use Rattle.etherparse.specs.Reading.{Reads, found_and_rest};
     ghost use Rattle.etherparse_net.specs.Ipv6FragmentHeader.{IsClearedFragmentLayout};
     ghost use Rattle.etherparse_net.specs.Ipv6FragmentHeader.{IsFragmentLayout, RefusesFragment};
@@ -58,13 +60,7 @@ impl Ipv6FragmentHeader {
             other ≡ found_and_rest result }
     {
         if slice.len() < Ipv6FragmentHeader::LEN {
-            return Err(LenError {
-                required_len: Ipv6FragmentHeader::LEN,
-                len: slice.len(),
-                len_source: LenSource::Slice,
-                layer: Layer::Ipv6FragHeader,
-                layer_start_offset: 0,
-            });
+            return Err(too_short(Layer::Ipv6FragHeader, Ipv6FragmentHeader::LEN, slice.len()));
         }
         let (front, rest) = (
             &slice[..Ipv6FragmentHeader::LEN],
@@ -110,7 +106,7 @@ impl Ipv6FragmentHeader {
             ∷ (to_be_bytes w16 (self.now.fragment_offset * 2 ^ 3
             + from_bool self.now.more_fragments)
             ++ to_be_bytes w32 self.now.identification) }
-        ensures next_header { self.now.next_header < 2 ^ 8 }
+        ensures are_bytes { IsBytes result }
         ensures fragment_offset { self.now.fragment_offset < 2 ^ 13 }
         ensures identification { self.now.identification < 2 ^ 32 }
     {

@@ -50,6 +50,7 @@ impl<'a> Ipv6OptionSlice<'a> {
     }
 
     /// Whether the data can change on the way to the destination: the third highest bit of byte 0.
+    /// The data of such an option counts as zeros in an authentication header's check.
     pub fn may_change(&self) -> bool
         ensures third_highest_bit { IsTrue result
             ↔ (slice_index self.now.slice.now 0 / 2 ^ 5 % 2 ≡ 1) }

@@ -1,10 +1,12 @@
 //! The options of an IPv6 header, one after another.
 
-ghost use Rattle.std.specs.Prelude.{◌≡◌, ◌≢◌, ◌≤◌, ◌++◌, [], IfErr, IfOk, drop, length};
+ghost use Rattle.std.specs.Prelude.{◌≡◌, ◌≢◌, ◌≤◌, ◌++◌, [], IfErr, IfOk, drop, length, ⊤};
 ghost use Rattle.etherparse_net.specs.Ipv6Options.{RefusesIpv6Option, ipv6_option_required_len};
 
 use crate::Ipv6OptionSlice;
+use crate::bytes::bytes_from;
 use crate::err::IncompleteOption;
+use std::alloc::AllocError;
 
 /// The options of a hop-by-hop or destination options header, one after another (RFC 8200 section
 /// 4.2): Pad1, PadN and all others. They end with the bytes, or at an option that is cut off.
@@ -83,7 +85,7 @@ impl<'a> Ipv6OptionsIterator<'a> {
             IfSome result (λ found. IfErr found (λ e.
             IsOnlyIpv6Listing self.old.options.now options (Err e))) }
     {
-        let rest = &self.options[self.offset..];
+        let rest = bytes_from(self.options, self.offset);
         if rest.is_empty() {
             return None;
         }
@@ -124,6 +126,21 @@ impl<'a> Ipv6OptionsIterator<'a> {
                 None => return Ok(count),
             }
         }
+    }
+}
+
+/// A clone goes on from the same place.
+impl<'a> Clone for Ipv6OptionsIterator<'a> {
+    ghost is_clone = { λ left copy. (copy.options.now ≡ left.options.now)
+        × (copy.offset ≡ left.offset) };
+
+    ghost is_infallible = { λ _. ⊤ };
+
+    fn clone(&self) -> Result<Ipv6OptionsIterator<'a>, AllocError> {
+        Ok(Ipv6OptionsIterator {
+            options: self.options,
+            offset: self.offset,
+        })
     }
 }
 

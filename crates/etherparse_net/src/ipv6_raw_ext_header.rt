@@ -25,7 +25,7 @@ use etherparse::err::LenError;
 pub struct Ipv6RawExtHeader {
     /// The number of what follows the header: byte 0.
     pub next_header: IpNumber,
-    /// What follows the first two bytes, of which the second counts it.
+    /// What follows the first two bytes, of which the second counts it: 6 to 2046 bytes.
     pub payload: Ipv6ExtPayload,
 }
 
@@ -65,7 +65,8 @@ impl Ipv6RawExtHeader {
     ///
     /// # Errors
     ///
-    /// A `LenError` if the slice has fewer than 8 bytes, or fewer than its second byte says.
+    /// A `LenError` if the slice has fewer than 8 bytes; or else if it has fewer than its second
+    /// byte says, which is then the `required_len`.
     pub fn from_slice(slice: &[u8]) -> Result<(Ipv6RawExtHeader, &[u8]), LenError>
         ensures reads { ReadsRawExt slice.now (found_and_rest result) }
         ensures only { (other : RawExtReading) → ReadsRawExt slice.now other →
@@ -83,7 +84,7 @@ impl Ipv6RawExtHeader {
         self.payload.as_slice()
     }
 
-    /// Sets what follows the first two bytes.
+    /// Sets what follows the first two bytes. The number of what follows the header stays.
     ///
     /// # Errors
     ///
@@ -105,7 +106,7 @@ impl Ipv6RawExtHeader {
         2 + self.payload.as_slice().len()
     }
 
-    /// The bytes of the header.
+    /// The bytes of the header, 8 to 2048 in units of 8.
     pub fn to_bytes(&self) -> ArrayVec<u8, 2048>
         ensures layout { IsRawExtLayout self.now result.items }
         ensures only { (bytes : List ℕ) → IsRawExtLayout self.now bytes → bytes ≡ result.items }

@@ -44,7 +44,8 @@ impl<'a> Ipv6RawExtHeaderSlice<'a> {
     ///
     /// # Errors
     ///
-    /// A `LenError` if the slice has fewer than 8 bytes, or fewer than its second byte says.
+    /// A `LenError` if the slice has fewer than 8 bytes; or else if it has fewer than its second
+    /// byte says, which is then the `required_len`.
     pub fn from_slice(slice: &'a [u8]) -> Result<Ipv6RawExtHeaderSlice<'a>, LenError>
         ensures views { ViewsRawExt slice.now
             (result_map_both (λ view. view.slice.now) (λ e. e) result) }

@@ -1,3 +1,9 @@
+ghost use Rattle.std.specs.Prelude.{Some};
+ghost use Rattle.etherparse_net.specs.OptionErrors.{incomplete_option_text};
+
+use std::error::Error;
+use std::fmt;
+
 /// An option of IP that is cut off by the end of the bytes.
 #[derive(Clone, Debug, PartialEq, Eq, Hash, Drop)]
 pub struct IncompleteOption {
@@ -10,3 +16,19 @@ pub struct IncompleteOption {
     /// Where the option begins, in bytes from the first option on.
     pub offset: usize,
 }
+
+/// Says which option it is, where it begins, how many bytes it needs and how many there are.
+impl fmt::Display for IncompleteOption {
+    ghost output = { λ e. Some (incomplete_option_text e) };
+
+    fn fmt<W: fmt::Write>(&self, f: &mut fmt::Formatter<W>) -> fmt::Result {
+        let (option_type, offset) = (self.option_type, self.offset);
+        let (required_len, len) = (self.required_len, self.len);
+        write!(
+            f,
+            "IP Option Error: The option of type '{option_type}' at byte {offset} is cut off. {required_len} byte(s) would be required, but only {len} byte(s) are available."
+        )
+    }
+}
+
+impl Error for IncompleteOption {}

@@ -1,4 +1,9 @@
+ghost use Rattle.std.specs.Prelude.{Some};
+ghost use Rattle.etherparse_net.specs.OptionErrors.{ipv4_option_error_text};
+
 use super::IncompleteOption;
+use std::error::Error;
+use std::fmt;
 
 /// Why the options of an IPv4 header do not go on (RFC 791 section 3.1).
 #[derive(Clone, Debug, PartialEq, Eq, Hash, Drop)]
@@ -15,3 +20,28 @@ pub enum Ipv4OptionError {
         offset: usize,
     },
 }
+
+/// Says which option it is, where it begins, and what is wrong with it.
+impl fmt::Display for Ipv4OptionError {
+    ghost output = { λ e. Some (ipv4_option_error_text e) };
+
+    fn fmt<W: fmt::Write>(&self, f: &mut fmt::Formatter<W>) -> fmt::Result {
+        match self {
+            Ipv4OptionError::Incomplete(e) => e.fmt(f),
+            Ipv4OptionError::LengthBelowTwo {
+                option_type,
+                option_length,
+                offset,
+            } => {
+                let (option_type, offset) = (*option_type, *offset);
+                let len = *option_length;
+                write!(
+                    f,
+                    "IP Option Error: The option of type '{option_type}' at byte {offset} has the length '{len}' (minimum allowed value is '2')."
+                )
+            }
+        }
+    }
+}
+
+impl Error for Ipv4OptionError {}

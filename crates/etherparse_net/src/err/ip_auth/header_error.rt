@@ -1,3 +1,9 @@
+ghost use Rattle.std.specs.Prelude.{Some};
+ghost use Rattle.etherparse_net.specs.HeaderErrors.{header_error_text};
+
+use std::error::Error;
+use std::fmt;
+
 /// Why a slice of sufficient length does not begin with an authentication header (RFC 4302 section
 /// 2).
 #[derive(Clone, Debug, PartialEq, Eq, Hash, Drop)]
@@ -5,3 +11,19 @@ pub enum HeaderError {
     /// The payload length is 0: of the 12 bytes before the integrity check value it counts 8.
     ZeroPayloadLen,
 }
+
+/// Says what the payload length is, and the least that it can be.
+impl fmt::Display for HeaderError {
+    ghost output = { λ e. Some (header_error_text e) };
+
+    fn fmt<W: fmt::Write>(&self, f: &mut fmt::Formatter<W>) -> fmt::Result {
+        match self {
+            HeaderError::ZeroPayloadLen => write!(
+                f,
+                "IP Authentication Header Error: The payload length is '0' (minimum allowed value is '1')."
+            ),
+        }
+    }
+}
+
+impl Error for HeaderError {}

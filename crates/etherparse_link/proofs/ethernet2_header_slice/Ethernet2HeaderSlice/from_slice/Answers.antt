@@ -3,7 +3,8 @@ use Rattle.etherparse.proofs.Fronts.{viewed_once}
 use Rattle.etherparse_link.proofs.Ethernet2Layout.{header_at, tells_headers}
 use Rattle.etherparse_link.proofs.Headers.{front_viewed}
 use Rattle.etherparse_link.specs.Ethernet2Header.{IsEthernet2Layout, RefusesEthernet2}
-use Rattle.etherparse_link.proofs.ethernet2_header_slice.Ethernet2HeaderSlice.from_slice.Goals as goal
+use Rattle.etherparse_link.proofs.ethernet2_header_slice.Ethernet2HeaderSlice.from_slice.Goals
+    as goal
 
 pub returns : goal.returns
 returns c =

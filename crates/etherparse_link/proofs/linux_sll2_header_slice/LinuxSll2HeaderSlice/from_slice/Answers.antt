@@ -3,7 +3,8 @@ use Rattle.etherparse.proofs.Fronts.{viewed_once}
 use Rattle.etherparse_link.proofs.LinuxSll2Layout.{header_at, tells_headers}
 use Rattle.etherparse_link.proofs.Headers.{front_viewed}
 use Rattle.etherparse_link.specs.LinuxSll2Header.{IsLinuxSll2Layout, RefusesLinuxSll2}
-use Rattle.etherparse_link.proofs.linux_sll2_header_slice.LinuxSll2HeaderSlice.from_slice.Goals as goal
+use Rattle.etherparse_link.proofs.linux_sll2_header_slice.LinuxSll2HeaderSlice.from_slice.Goals
+    as goal
 
 pub returns : goal.returns
 returns c =

@@ -3,7 +3,8 @@ use Rattle.etherparse.proofs.Fronts.{viewed_once}
 use Rattle.etherparse_link.proofs.LinuxSllLayout.{header_at, tells_headers}
 use Rattle.etherparse_link.proofs.Headers.{front_viewed}
 use Rattle.etherparse_link.specs.LinuxSllHeader.{IsLinuxSllLayout, RefusesLinuxSll}
-use Rattle.etherparse_link.proofs.linux_sll_header_slice.LinuxSllHeaderSlice.from_slice.Goals as goal
+use Rattle.etherparse_link.proofs.linux_sll_header_slice.LinuxSllHeaderSlice.from_slice.Goals
+    as goal
 
 pub returns : goal.returns
 returns c =

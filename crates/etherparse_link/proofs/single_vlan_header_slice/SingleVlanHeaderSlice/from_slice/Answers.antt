@@ -3,7 +3,8 @@ use Rattle.etherparse.proofs.Fronts.{viewed_once}
 use Rattle.etherparse_link.proofs.SingleVlanLayout.{header_at, tells_headers}
 use Rattle.etherparse_link.proofs.Headers.{front_viewed}
 use Rattle.etherparse_link.specs.SingleVlanHeader.{IsSingleVlanLayout, RefusesSingleVlan}
-use Rattle.etherparse_link.proofs.single_vlan_header_slice.SingleVlanHeaderSlice.from_slice.Goals as goal
+use Rattle.etherparse_link.proofs.single_vlan_header_slice.SingleVlanHeaderSlice.from_slice.Goals
+    as goal
 
 pub returns : goal.returns
 returns c =

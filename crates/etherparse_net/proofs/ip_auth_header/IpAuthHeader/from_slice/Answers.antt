@@ -1,6 +1,6 @@
 use Rattle.std.proofs.Common.{length, refl}
 use Rattle.etherparse.proofs.Fronts.{begins_at, read_once}
-use Rattle.etherparse_net.proofs.IpAuthHeaders.{tells_auth}
+use Rattle.etherparse_net.proofs.ExtensionHeaders.{tells_auth}
 use Rattle.etherparse_net.specs.IpAuthHeader.{IsAuthLayout, RefusesAuth}
 use Rattle.etherparse_net.proofs.ip_auth_header.IpAuthHeader.from_slice.Goals as goal
 

@@ -1,5 +1,5 @@
 use Rattle.std.proofs.Common.{arith}
-use Rattle.etherparse_net.proofs.IpAuthHeaders.{auth_viewed}
+use Rattle.etherparse_net.proofs.ExtensionHeaders.{auth_viewed}
 use Rattle.etherparse_net.proofs.ip_auth_header_slice.IpAuthHeaderSlice.from_slice.Goals as goal
 
 pub returns-clause-views : goal.returns-clause-views

@@ -1,6 +1,6 @@
 use Rattle.std.proofs.Common.{length, refl}
 use Rattle.etherparse.proofs.Fronts.{begins_at, read_once}
-use Rattle.etherparse_net.proofs.Ipv6RawExtHeaders.{tells_raw_ext}
+use Rattle.etherparse_net.proofs.ExtensionHeaders.{tells_raw_ext}
 use Rattle.etherparse_net.specs.Ipv6RawExtHeader.{IsRawExtLayout, RefusesRawExt}
 use Rattle.etherparse_net.proofs.ipv6_raw_ext_header.Ipv6RawExtHeader.from_slice.Goals as goal
 

@@ -1,5 +1,5 @@
 use Rattle.std.proofs.Common.{arith}
-use Rattle.etherparse_net.proofs.Ipv6RawExtHeaders.{raw_ext_viewed}
+use Rattle.etherparse_net.proofs.ExtensionHeaders.{raw_ext_viewed}
 use Rattle.etherparse_net.proofs.ipv6_raw_ext_header_slice.Ipv6RawExtHeaderSlice.from_slice.Goals
     as goal
 
