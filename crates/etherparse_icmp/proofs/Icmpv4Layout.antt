@@ -14,8 +14,6 @@ use Rattle.etherparse.proofs.Parts.{same_append}
 use Rattle.etherparse.specs.Bytes.{IsBytes}
 use Rattle.etherparse.specs.Reading.{BeginsWith}
 use Rattle.etherparse.specs.WordSums.{little_endian_word_sum}
-use Rattle.etherparse.specs.declared.err.Layer.{Layer}
-use Rattle.etherparse.specs.declared.err.Layer.TheVariants as layer
 use Rattle.etherparse.specs.declared.err.LenError.{LenError}
 use Rattle.etherparse_icmp.proofs.Checksums.{HasWords}
 use Rattle.etherparse_icmp.proofs.Icmpv4Codes.{exceeded_code, exceeded_told, problem_code}
@@ -27,7 +25,7 @@ use Rattle.etherparse_icmp.proofs.Rests.{drop_is_bytes, echo_of, echo_spelled, e
 use Rattle.etherparse_icmp.specs.IcmpTimestamps.{HasTimestamps}
 use Rattle.etherparse_icmp.specs.Icmpv4.{HasIcmpv4Bytes, HasIcmpv4Name, HasIcmpv4Rest}
 use Rattle.etherparse_icmp.specs.Icmpv4.{IsIcmpv4Layout, IsIcmpv4AsRead, IsIcmpv4Written}
-use Rattle.etherparse_icmp.specs.Icmpv4.{IsShortTimestamp, RefusesIcmpv4, SaysIcmpv4}
+use Rattle.etherparse_icmp.specs.Icmpv4.{RefusesIcmpv4, SaysIcmpv4}
 use Rattle.etherparse_icmp.specs.Icmpv4.{icmpv4_cleared, icmpv4_code_number, icmpv4_len}
 use Rattle.etherparse_icmp.specs.Icmpv4.{icmpv4_type_number}
 use Rattle.etherparse_icmp.specs.declared.icmpv4.timestamp_message.TimestampMessage.{TimestampMessage}
@@ -154,14 +152,7 @@ len_told : (t : Icmpv4Type) → IsIcmpv4AsRead t
 len_told (icmp.Unknown n code bytes) told =
     unnamed_len n code (λ a b. told (icmp.TimestampRequest no_times) tt (sym a) (sym b))
     (λ a b. told (icmp.TimestampReply no_times) tt (sym a) (sym b))
-len_told (icmp.EchoReply echo) told = refl
-len_told (icmp.DestinationUnreachable header) told = refl
-len_told (icmp.Redirect header) told = refl
-len_told (icmp.EchoRequest echo) told = refl
-len_told (icmp.TimeExceeded code) told = refl
-len_told (icmp.ParameterProblem header) told = refl
-len_told (icmp.TimestampRequest message) told = refl
-len_told (icmp.TimestampReply message) told = refl
+len_told t told = grind (arith, common_steps)
 
 len_at_least : (t : Icmpv4Type) → 8 ≤ icmpv4_len t
 len_at_least t = grind (arith, common_steps)
@@ -189,32 +180,12 @@ front_len s h x b =
       within = omega (arith, ap length b.whole, length-append b.front x);
     }
 
-timestamp_refused : (n : ℕ) (layer : Layer) (s front : List ℕ) (e : LenError) → HasFrontLen s front
-    → (n ≡ 13) ⊎ (n ≡ 14) → IsShortTimestamp n layer s e → ⊥
-timestamp_refused n layer s front e f (inl which) r =
-    omega (arith, (rw (r.type_is ∙ which, r.code_is) at f.len), f.within, r.short.short)
-timestamp_refused n layer s front e f (inr which) r =
-    omega (arith, (rw (r.type_is ∙ which, r.code_is) at f.len), f.within, r.short.short)
-
 not_refused : (s : List ℕ) (h : Icmpv4Header) (x : List ℕ) (e : LenError)
     → BeginsWith IsIcmpv4Layout s h x → RefusesIcmpv4 s e → ⊥
-not_refused s h x e b (inl r) = let f = front_len s h x b in
-    omega (arith, f.enough, f.within, r.short)
-not_refused s h x e b (inr (inl r)) =
-    timestamp_refused 13 layer.Icmpv4Timestamp s b.front e (front_len s h x b) (inl refl) r
-not_refused s h x e b (inr (inr r)) =
-    timestamp_refused 14 layer.Icmpv4TimestampReply s b.front e (front_len s h x b) (inr refl) r
+not_refused s h x e b r = let f = front_len s h x b in grind (arith, f, r)
 
 one_refusal : (s : List ℕ) (e f : LenError) → RefusesIcmpv4 s e → RefusesIcmpv4 s f → e ≡ f
-one_refusal s e f (inl p) (inl q) = p.error ∙ sym q.error
-one_refusal s e f (inl p) (inr (inl q)) = absurd (omega (arith, p.short, q.enough))
-one_refusal s e f (inl p) (inr (inr q)) = absurd (omega (arith, p.short, q.enough))
-one_refusal s e f (inr (inl p)) (inl q) = absurd (omega (arith, q.short, p.enough))
-one_refusal s e f (inr (inl p)) (inr (inl q)) = p.short.error ∙ sym q.short.error
-one_refusal s e f (inr (inl p)) (inr (inr q)) = absurd (omega (arith, p.type_is, q.type_is))
-one_refusal s e f (inr (inr p)) (inl q) = absurd (omega (arith, q.short, p.enough))
-one_refusal s e f (inr (inr p)) (inr (inl q)) = absurd (omega (arith, p.type_is, q.type_is))
-one_refusal s e f (inr (inr p)) (inr (inr q)) = p.short.error ∙ sym q.short.error
+one_refusal s e f p q = grind (arith, p, q)
 
 pub tells_headers : TellsHeaders IsIcmpv4Layout RefusesIcmpv4
 tells_headers = record {

@@ -129,30 +129,22 @@ tells_headers = fixed_tells IsIcmpv6Layout layer.Icmpv6 8 same_header (λ h p l.
 -- the 4 bytes after the checksum of a type, those that are not used 0
 abbrev rest_of : Icmpv6Type → List ℕ
 rest_of (icmp.Unknown n code bytes) = bytes
-rest_of (icmp.DestinationUnreachable code) = 0 ∷ 0 ∷ 0 ∷ 0 ∷ []
 rest_of (icmp.PacketTooBig mtu) = to_be_bytes w32 mtu
-rest_of (icmp.TimeExceeded code) = 0 ∷ 0 ∷ 0 ∷ 0 ∷ []
 rest_of (icmp.ParameterProblem header) = to_be_bytes w32 header.pointer
 rest_of (icmp.EchoRequest echo) = to_be_bytes w16 echo.id ++ to_be_bytes w16 echo.seq
 rest_of (icmp.EchoReply echo) = to_be_bytes w16 echo.id ++ to_be_bytes w16 echo.seq
-rest_of icmp.RouterSolicitation = 0 ∷ 0 ∷ 0 ∷ 0 ∷ []
-rest_of icmp.NeighborSolicitation = 0 ∷ 0 ∷ 0 ∷ 0 ∷ []
-rest_of icmp.Redirect = 0 ∷ 0 ∷ 0 ∷ 0 ∷ []
+rest_of icmp_type = 0 ∷ 0 ∷ 0 ∷ 0 ∷ []
 
 cleared_spelled : (t : Icmpv6Type) (rest : List ℕ) → length rest ≡ 4 → IsBytes rest
     → HasIcmpv6Rest t rest → icmpv6_cleared t rest ≡ rest_of t
 cleared_spelled (icmp.Unknown n code b) rest len bytes h = h
-cleared_spelled (icmp.DestinationUnreachable code) rest len bytes h = refl
 cleared_spelled (icmp.PacketTooBig mtu) rest len bytes h =
     sym (be_bytes_4 rest mtu len bytes (sym h))
-cleared_spelled (icmp.TimeExceeded code) rest len bytes h = refl
 cleared_spelled (icmp.ParameterProblem header) rest len bytes h =
     sym (be_bytes_4 rest header.pointer len bytes (sym h))
 cleared_spelled (icmp.EchoRequest echo) rest len bytes h = echo_spelled echo rest len bytes h
 cleared_spelled (icmp.EchoReply echo) rest len bytes h = echo_spelled echo rest len bytes h
-cleared_spelled icmp.RouterSolicitation rest len bytes h = refl
-cleared_spelled icmp.NeighborSolicitation rest len bytes h = refl
-cleared_spelled icmp.Redirect rest len bytes h = refl
+cleared_spelled t rest len bytes h = grind arith
 
 abbrev spelling : Icmpv6Type → ℕ → List ℕ
 spelling t checksum = icmpv6_type_number t ∷ icmpv6_code_number t

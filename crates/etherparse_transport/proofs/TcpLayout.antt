@@ -38,16 +38,7 @@ pub record AreBitsOf (n a b c d e f g h : ℕ) : Type 0 where
 bits_told : (n a b c d e f g h : ℕ) → a < 2 → b < 2 → c < 2 → d < 2 → e < 2 → f < 2 → g < 2 → h < 2
     → n ≡ a * 2 ^ 7 + b * 2 ^ 6 + c * 2 ^ 5 + d * 2 ^ 4 + e * 2 ^ 3 + f * 2 ^ 2 + g * 2 + h
     → AreBitsOf n a b c d e f g h
-bits_told n a b c d e f g h a2 b2 c2 d2 e2 f2 g2 h2 is = record {
-  bit_7 = omega arith;
-  bit_6 = omega arith;
-  bit_5 = omega arith;
-  bit_4 = omega arith;
-  bit_3 = omega arith;
-  bit_2 = omega arith;
-  bit_1 = omega arith;
-  bit_0 = omega arith;
-}
+bits_told n a b c d e f g h a2 b2 c2 d2 e2 f2 g2 h2 is = omega arith
 
 -- the flags of a header, by their places in byte 13
 abbrev pub HasFlags : TcpHeader → ℕ → Type 0

@@ -96,21 +96,12 @@ ends_with_0 (k ∷ s) e = e
 -- no option has it
 option_kind : (x : option.TcpOptionElement) (r : List ℕ) → slice_index (option_bytes x ++ r) 0 ≡ 0
     → ⊥
-option_kind option.TheVariants.Noop r e = omega (arith, e)
-option_kind (option.TheVariants.MaximumSegmentSize n) r e = omega (arith, e)
-option_kind (option.TheVariants.WindowScale n) r e = omega (arith, e)
-option_kind option.TheVariants.SelectiveAcknowledgementPermitted r e = omega (arith, e)
-option_kind (option.TheVariants.SelectiveAcknowledgement a xs) r e = omega (arith, e)
-option_kind (option.TheVariants.Timestamp m n) r e = omega (arith, e)
+option_kind x r e = grind (arith, e)
 
 -- nor what is refused
 refused_kind : (s : List ℕ) (e : refused.TcpOptionReadError) → RefusesOption s e
     → slice_index s 0 ≡ 0 → ⊥
-refused_kind s (refused.TheVariants.UnexpectedEndOfSlice kind needed len) refused at_end =
-    grind (arith, refused, at_end)
-refused_kind s (refused.TheVariants.UnexpectedSize kind len) refused at_end =
-    grind (arith, refused, at_end)
-refused_kind s (refused.TheVariants.UnknownId kind) refused at_end = grind (arith, refused, at_end)
+refused_kind s e refused at_end = grind (arith, refused, at_end)
 
 -- how many bytes blocks have
 pub length-edges : (blocks : List (ℕ × ℕ)) → length (flat_map edges blocks) ≡ 8 * length blocks
@@ -142,10 +133,6 @@ blocks_length n few = grind arith
 
 shape_of : (x : option.TcpOptionElement) (r : List ℕ) → IsOption x
     → HasShape x (option_bytes x ++ r)
-shape_of option.TheVariants.Noop r i = refl
-shape_of (option.TheVariants.MaximumSegmentSize size) r i = (refl, refl, omega arith)
-shape_of (option.TheVariants.WindowScale shift) r i = (refl, refl, omega arith)
-shape_of option.TheVariants.SelectiveAcknowledgementPermitted r i = (refl, refl, omega arith)
 shape_of (option.TheVariants.SelectiveAcknowledgement first others) r i =
     let blocks = first ∷ blocks_of others in (
       refl,
@@ -153,7 +140,7 @@ shape_of (option.TheVariants.SelectiveAcknowledgement first others) r i =
       omega arith,
       omega (arith, length-append (flat_map edges blocks) r, length-edges blocks),
     )
-shape_of (option.TheVariants.Timestamp value echo) r i = (refl, refl, omega arith)
+shape_of x r i = grind arith
 
 -- what is refused for its kind has none that is known
 abbrev HasNoKind : refused.TcpOptionReadError → Type 0
@@ -309,15 +296,11 @@ blocks_of-front (b ∷ blocks) k = ap (λ t. b ∷ t) (blocks_of-front blocks k)
 
 -- what is read again has the same bytes
 same_bytes : (x : option.TcpOptionElement) → option_bytes (read_again x) ≡ option_bytes x
-same_bytes option.TheVariants.Noop = refl
-same_bytes (option.TheVariants.MaximumSegmentSize size) = refl
-same_bytes (option.TheVariants.WindowScale shift) = refl
-same_bytes option.TheVariants.SelectiveAcknowledgementPermitted = refl
 same_bytes (option.TheVariants.SelectiveAcknowledgement first others) =
     let blocks = blocks_of others in
     ap (λ rest. 5 ∷ (2 + 8 * length (first ∷ rest)) ∷ flat_map edges (first ∷ rest))
     (blocks_of-front blocks (3 - length blocks))
-same_bytes (option.TheVariants.Timestamp value echo) = refl
+same_bytes x = grind arith
 
 all_same_bytes : (xs : List option.TcpOptionElement) → flat_map option_bytes
     (map read_again xs) ≡ flat_map option_bytes xs

@@ -1,10 +1,13 @@
-//! What the derived `==` of the headers says, each as the clause of one small function. Nothing
-//! calls them: they are there to be proved.
+//! What the derived `==` and `clone` say, each as the clause of one small function. Nothing calls
+//! them: they are there to be proved.
 
-ghost use Rattle.std.specs.Prelude.{◌≡◌, ◌↔◌, IsTrue};
+ghost use Rattle.std.specs.Prelude.{◌≡◌, ◌↔◌, IsTrue, Ok};
 
-use crate::tcp_options::TcpOptions;
-use crate::udp::UdpHeader;
+use crate::{
+    TcpError, TcpHeader, TcpHeaderSlice, TcpOptionReadError, TcpOptionWriteError, TcpOptions,
+    TcpOptionsIterator, UdpHeader, UdpHeaderSlice,
+};
+use std::alloc::AllocError;
 
 fn udp_header_equality(a: &UdpHeader, b: &UdpHeader) -> bool
     ensures same_value { IsTrue result ↔ (a.now ≡ b.now) }
@@ -13,6 +16,63 @@ fn udp_header_equality(a: &UdpHeader, b: &UdpHeader) -> bool
 }
 
 fn tcp_options_equality(a: &TcpOptions, b: &TcpOptions) -> bool
+    ensures same_value { IsTrue result ↔ (a.now ≡ b.now) }
+{
+    a == b
+}
+
+// Views are equal if they show the same bytes.
+fn udp_view_equality(a: &UdpHeaderSlice, b: &UdpHeaderSlice) -> bool
+    ensures same_bytes { IsTrue result ↔ (a.now.slice.now ≡ b.now.slice.now) }
+{
+    a == b
+}
+
+fn tcp_view_equality(a: &TcpHeaderSlice, b: &TcpHeaderSlice) -> bool
+    ensures same_bytes { IsTrue result ↔ (a.now.slice.now ≡ b.now.slice.now) }
+{
+    a == b
+}
+
+// Iterators are equal if the same bytes are left.
+fn tcp_options_iterator_equality(a: &TcpOptionsIterator, b: &TcpOptionsIterator) -> bool
+    ensures same_bytes { IsTrue result ↔ (a.now.options.now ≡ b.now.options.now) }
+{
+    a == b
+}
+
+// A clone is equal, and cloning never fails.
+fn udp_header_clone(header: &UdpHeader) -> Result<UdpHeader, AllocError>
+    ensures same_value { result ≡ Ok header.now }
+{
+    header.clone()
+}
+
+fn tcp_header_clone(header: &TcpHeader) -> Result<TcpHeader, AllocError>
+    ensures same_value { result ≡ Ok header.now }
+{
+    header.clone()
+}
+
+fn tcp_options_clone(options: &TcpOptions) -> Result<TcpOptions, AllocError>
+    ensures same_value { result ≡ Ok options.now }
+{
+    options.clone()
+}
+
+fn tcp_error_equality(a: &TcpError, b: &TcpError) -> bool
+    ensures same_value { IsTrue result ↔ (a.now ≡ b.now) }
+{
+    a == b
+}
+
+fn tcp_option_read_error_equality(a: &TcpOptionReadError, b: &TcpOptionReadError) -> bool
+    ensures same_value { IsTrue result ↔ (a.now ≡ b.now) }
+{
+    a == b
+}
+
+fn tcp_option_write_error_equality(a: &TcpOptionWriteError, b: &TcpOptionWriteError) -> bool
     ensures same_value { IsTrue result ↔ (a.now ≡ b.now) }
 {
     a == b

@@ -9,14 +9,16 @@ mod checksum;
 use crate::{TcpHeader, TcpOptions, TcpOptionsIterator};
 use etherparse::LenSource;
 use etherparse::err::{Layer, LenError};
+use std::error::Error;
 use std::fmt;
 
 /// Why a slice does not begin with a TCP header.
 #[derive(Clone, Debug, PartialEq, Eq, Drop)]
 pub enum TcpError {
-    /// The slice has fewer than 20 bytes, or fewer than its data offset says.
+    /// The slice has fewer than 20 bytes, or fewer than its data offset says. The layer is
+    /// `Layer::TcpHeader`.
     Len(LenError),
-    /// The data offset, which is below 5: less than a header without options.
+    /// The data offset, in words of four bytes, is below 5, those of a header without options.
     DataOffset(u8),
 }
 
@@ -37,7 +39,10 @@ impl fmt::Display for TcpError {
     }
 }
 
-/// A view of the bytes of a TCP header with its options.
+impl Error for TcpError {}
+
+/// A view of the bytes of a TCP header with its options (RFC 9293 section 3.1). Whether they are
+/// options that are known, only [`TcpHeaderSlice::options_iterator`] tells.
 #[derive(Clone, Copy, Debug, PartialEq, Eq)]
 pub struct TcpHeaderSlice<'a> {
     /// The bytes of the header, 20 to 60.
@@ -61,7 +66,8 @@ impl<'a> TcpHeaderSlice<'a> {
     /// The length of a header without options, in bytes: 20.
     pub const MIN_LEN: usize = 20;
 
-    /// A view of the header at the front of a slice, as long as its data offset says.
+    /// A view of the header at the front of a slice, as long as its data offset says. Neither the
+    /// checksum nor the options are tested, and any reserved bits and flags are taken.
     ///
     /// # Errors
     ///
@@ -250,7 +256,7 @@ impl<'a> TcpHeaderSlice<'a> {
         self.slice
     }
 
-    /// The options one after the other.
+    /// The options one after the other, up to the first that is not known.
     ///
     /// # Example
     ///

@@ -47,37 +47,40 @@ use arrayvec::ArrayVec;
 /// ```
 #[derive(Clone, Debug, PartialEq, Eq, Hash, Drop)]
 pub struct TcpHeader {
+    /// Bytes 0 and 1: the port of the sender.
     pub source_port: u16,
+    /// Bytes 2 and 3: the port of the receiver.
     pub destination_port: u16,
-    /// The sequence number of the first byte of data, or of the SYN.
+    /// Bytes 4 to 7: the sequence number of the first byte of data, or of the SYN.
     pub sequence_number: u32,
-    /// The next sequence number that the sender expects, if `ack` is set.
+    /// Bytes 8 to 11: the next sequence number that the sender expects, if `ack` is set.
     pub acknowledgment_number: u32,
-    /// The nonce sum (RFC 3540, historic): RFC 9293 reserves this bit.
+    /// The lowest bit of byte 12: the nonce sum (RFC 3540, historic). RFC 9293 reserves it.
     pub ns: bool,
-    /// The sender has no more data.
+    /// Bit 0 of byte 13, from the lowest: the sender has no more data.
     pub fin: bool,
-    /// Sequence numbers are synchronized.
+    /// Bit 1 of byte 13, from the lowest: sequence numbers are synchronized.
     pub syn: bool,
-    /// The connection is reset.
+    /// Bit 2 of byte 13, from the lowest: the connection is reset.
     pub rst: bool,
-    /// The data is to be pushed to the receiving user.
+    /// Bit 3 of byte 13, from the lowest: the data is to be pushed to the receiving user.
     pub psh: bool,
-    /// The acknowledgment number counts.
+    /// Bit 4 of byte 13, from the lowest: the acknowledgment number counts.
     pub ack: bool,
-    /// The urgent pointer counts.
+    /// Bit 5 of byte 13, from the lowest: the urgent pointer counts.
     pub urg: bool,
-    /// Congestion was experienced (RFC 3168), or in a SYN the sender can take part in that.
+    /// Bit 6 of byte 13, from the lowest: congestion was experienced (RFC 3168), or in a SYN the
+    /// sender can take part in that.
     pub ece: bool,
-    /// The congestion window was reduced (RFC 3168).
+    /// Bit 7 of byte 13, from the lowest: the congestion window was reduced (RFC 3168).
     pub cwr: bool,
-    /// How many bytes the sender of the segment can take, before any scaling.
+    /// Bytes 14 and 15: how many bytes the sender of the segment can take, before any scaling.
     pub window_size: u16,
-    /// The checksum, right or wrong.
+    /// Bytes 16 and 17: the checksum, right or wrong.
     pub checksum: u16,
-    /// Where urgent data ends, counted from the sequence number, if `urg` is set.
+    /// Bytes 18 and 19: where urgent data ends, counted from the sequence number, if `urg` is set.
     pub urgent_pointer: u16,
-    /// What follows the fixed fields, 0 to 40 bytes in words of 4.
+    /// The bytes from 20 on: 0 to 40 bytes of options with their padding, in words of 4.
     pub options: TcpOptions,
 }
 

@@ -4,10 +4,11 @@ ghost use Rattle.etherparse_transport.specs.TcpOptionErrors.{write_error_text};
 use std::error::Error;
 use std::fmt;
 
-/// Why options are not written into a TCP header.
+/// Why options are not put into a TCP header.
 #[derive(Clone, Debug, PartialEq, Eq, Drop)]
 pub enum TcpOptionWriteError {
-    /// How many bytes they have, which is more than the 40 that a header has room for.
+    /// How many bytes they have without padding, which is more than the 40 that a header has room
+    /// for.
     NotEnoughSpace(usize),
 }
 

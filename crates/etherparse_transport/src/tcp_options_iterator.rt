@@ -7,12 +7,16 @@ ghost use Rattle.std.specs.Int.{from_be_bytes, w32};
 ghost use Rattle.std.specs.List.{flat_map};
 ghost use Rattle.etherparse_transport.specs.TcpOptions.{BeginsWithOption, RefusesOption};
 ghost use Rattle.etherparse_transport.specs.TcpOptions.{AreOtherBlocks, HasBlocksLength};
-ghost use Rattle.etherparse_transport.specs.TcpOptions.{HasLength, IsBlock, blocks_of, edges};
+ghost use Rattle.etherparse_transport.specs.TcpOptions.{HasLength, IsBlock, NextOption, blocks_of, edges};
 
 use crate::{TcpOptionElement, TcpOptionReadError};
 
-/// The options in some bytes, one after the other. The end is where the bytes end, at End of Option
-/// List (kind 0), or after the first error.
+/// The options in some bytes, one after the other, with each No-Operation (kind 1). The end is where
+/// the bytes end, at End of Option List (kind 0), or after the first error.
+///
+/// An option of a kind that is not known here is an error, `TcpOptionReadError::UnknownId`, and so
+/// the last item, although its length says where the next option begins: the options after it are
+/// not read.
 ///
 /// # Example
 ///
@@ -27,7 +31,7 @@ use crate::{TcpOptionElement, TcpOptionReadError};
 /// ```
 #[derive(Clone, Debug, PartialEq, Eq, Drop)]
 pub struct TcpOptionsIterator<'a> {
-    /// The bytes that are left.
+    /// The bytes that are left: none after the end or an error.
     pub options: &'a [u8],
 }
 
@@ -63,58 +67,73 @@ impl<'a> Iterator for TcpOptionsIterator<'a> {
 
     #[inline(always)]
     fn next(&mut self) -> Option<Result<TcpOptionElement, TcpOptionReadError>> {
-        let options = self.options;
-        self.options = &options[options.len()..];
-        if options.is_empty() || options[0] == 0 {
-            return None;
-        }
-        match option_at(options) {
-            Ok((element, len)) => {
-                self.options = &options[len..];
-                Some(Ok(element))
-            }
-            Err(e) => Some(Err(e)),
-        }
+        let (next, rest) = next_option(self.options);
+        self.options = rest;
+        next
     }
 }
 
-// The option at the front of some bytes, and its length.
+// What comes next in some bytes, and the bytes after it. Each case has its own result, which a loop
+// over the options takes apart where it is made.
 #[inline(always)]
-fn option_at(s: &[u8]) -> Result<(TcpOptionElement, usize), TcpOptionReadError>
-    requires some { 0 < length s.now }
-    requires not_end { slice_index s.now 0 ≢ 0 }
-    ensures within { IfOk result (λ found. (0 < found.1) × (found.1 ≤ length s.now)) }
-    ensures read { IfOk result (λ found. BeginsWithOption s.now found.0 (drop found.1 s.now)) }
-    ensures refused { IfErr result (RefusesOption s.now) }
+fn next_option(s: &[u8]) -> (Option<Result<TcpOptionElement, TcpOptionReadError>>, &[u8])
+    ensures next { NextOption s.now result.0 result.1.now }
 {
+    if s.is_empty() || s[0] == 0 {
+        return (None, after(s, s.len()));
+    }
     match s[0] {
-        1 => Ok((TcpOptionElement::Noop, 1)),
+        1 => (Some(Ok(TcpOptionElement::Noop)), after(s, 1)),
         2 => match check_len(s, 4) {
             Ok(()) => {
                 let size = u16::from_be_bytes([s[2], s[3]]);
-                Ok((TcpOptionElement::MaximumSegmentSize(size), 4))
+                (
+                    Some(Ok(TcpOptionElement::MaximumSegmentSize(size))),
+                    after(s, 4),
+                )
             }
-            Err(e) => Err(e),
+            Err(e) => (Some(Err(e)), after(s, s.len())),
         },
         3 => match check_len(s, 3) {
-            Ok(()) => Ok((TcpOptionElement::WindowScale(s[2]), 3)),
-            Err(e) => Err(e),
+            Ok(()) => (Some(Ok(TcpOptionElement::WindowScale(s[2]))), after(s, 3)),
+            Err(e) => (Some(Err(e)), after(s, s.len())),
         },
         4 => match check_len(s, 2) {
-            Ok(()) => Ok((TcpOptionElement::SelectiveAcknowledgementPermitted, 2)),
-            Err(e) => Err(e),
+            Ok(()) => {
+                let permitted = TcpOptionElement::SelectiveAcknowledgementPermitted;
+                (Some(Ok(permitted)), after(s, 2))
+            }
+            Err(e) => (Some(Err(e)), after(s, s.len())),
         },
-        5 => blocks_at(s),
+        5 => match check_blocks_len(s) {
+            Ok(len) => (Some(Ok(blocks_at(s, len))), after(s, usize::from(len))),
+            Err(e) => (Some(Err(e)), after(s, s.len())),
+        },
         8 => match check_len(s, 10) {
             Ok(()) => {
                 let value = u32::from_be_bytes([s[2], s[3], s[4], s[5]]);
                 let echo = u32::from_be_bytes([s[6], s[7], s[8], s[9]]);
-                Ok((TcpOptionElement::Timestamp(value, echo), 10))
+                (
+                    Some(Ok(TcpOptionElement::Timestamp(value, echo))),
+                    after(s, 10),
+                )
             }
-            Err(e) => Err(e),
+            Err(e) => (Some(Err(e)), after(s, s.len())),
         },
-        kind => Err(TcpOptionReadError::UnknownId(kind)),
+        kind => (
+            Some(Err(TcpOptionReadError::UnknownId(kind))),
+            after(s, s.len()),
+        ),
     }
+}
+
+// The bytes from a place on.
+#[inline(always)]
+fn after(s: &[u8], at: usize) -> &[u8]
+    requires { at ≤ length s.now }
+    ensures value { result.now ≡ drop at s.now }
+{
+    &s[at..]
 }
 
 // Whether an option of one length has it, and all its bytes are there.
@@ -142,24 +161,18 @@ fn check_len(s: &[u8], len: u8) -> Result<(), TcpOptionReadError>
     Ok(())
 }
 
-// Selective Acknowledgement at the front of some bytes, and its length.
+// Selective Acknowledgement at the front of some bytes, of this length.
 #[inline(always)]
-fn blocks_at(s: &[u8]) -> Result<(TcpOptionElement, usize), TcpOptionReadError>
-    requires some { 0 < length s.now }
+fn blocks_at(s: &[u8], len: u8) -> TcpOptionElement
+    requires has_length { HasBlocksLength len }
+    requires enough { len ≤ length s.now }
     requires kind { slice_index s.now 0 ≡ 5 }
-    ensures within { IfOk result (λ found. (0 < found.1) × (found.1 ≤ length s.now)) }
-    ensures read { IfOk result (λ found. BeginsWithOption s.now found.0 (drop found.1 s.now)) }
-    ensures refused { IfErr result (RefusesOption s.now) }
+    requires right { slice_index s.now 1 ≡ len }
+    ensures read { BeginsWithOption s.now result (drop len s.now) }
 {
-    match check_blocks_len(s) {
-        Ok(len) => {
-            let first = block_at(s, 2);
-            let others = other_blocks(s, len);
-            let element = TcpOptionElement::SelectiveAcknowledgement(first, others);
-            Ok((element, usize::from(len)))
-        }
-        Err(e) => Err(e),
-    }
+    let first = block_at(s, 2);
+    let others = other_blocks(s, len);
+    TcpOptionElement::SelectiveAcknowledgement(first, others)
 }
 
 // The blocks after the first, up to the length of Selective Acknowledgement.

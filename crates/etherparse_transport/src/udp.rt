@@ -7,40 +7,53 @@ ghost use Rattle.etherparse_transport.specs.Udp.{IsUdpLayout};
 
 mod checksum;
 
-use etherparse::checksum::Sum16BitWords;
 use etherparse::err::{Layer, LenError};
-use etherparse::{IpNumber, Ipv4Header, Ipv6Header, LenSource};
-use packet_parts::checksum::{ipv4_pseudo_header, ipv6_pseudo_header};
+use etherparse::{Ipv4Header, Ipv6Header, LenSource};
 
-/// A UDP header.
+/// A UDP header (RFC 768): 8 bytes, each number with the high byte first.
+///
+/// ```text
+///  0               1               2               3
+/// +---------------+---------------+---------------+---------------+
+/// |          source_port          |        destination_port       |
+/// +---------------+---------------+---------------+---------------+
+/// |             length            |            checksum           |
+/// +---------------+---------------+---------------+---------------+
+/// ```
 #[derive(Clone, Debug, PartialEq, Eq, Drop)]
 pub struct UdpHeader {
+    /// Bytes 0 and 1: the port of the sender, or 0 if it expects no answer.
     pub source_port: u16,
+    /// Bytes 2 and 3: the port of the receiver.
     pub destination_port: u16,
-    /// The length of the header and the payload, in bytes.
+    /// Bytes 4 and 5: the length of the header and the payload, in bytes. It is read and written as
+    /// it stands, also below 8.
     pub length: u16,
-    /// The checksum, or 0 if there is none.
+    /// Bytes 6 and 7: the checksum, right or wrong, or 0 if there is none.
     pub checksum: u16,
 }
 
 impl UdpHeader {
-    ghost use Rattle.std.specs.Prelude.{ℕ, ◌≡◌, ◌≢◌, ◌<◌, ◌^◌, List, [], ◌∷◌, ◌++◌, Ok, map};
-    ghost use Rattle.std.specs.Prelude.{slice_index};
+    ghost use Rattle.std.specs.Prelude.{ℕ, ◌≡◌, ◌≢◌, ◌+◌, ◌<◌, ◌^◌, List, [], ◌∷◌, ◌++◌, Ok, map};
+    ghost use Rattle.std.specs.Prelude.{length, slice_index};
     ghost use Rattle.std.specs.Int.{to_be_bytes, w16};
     ghost use Rattle.std.specs.List.{concat};
     ghost use Rattle.etherparse.specs.Reading.{found_and_rest};
-    ghost use Rattle.etherparse.specs.WordSums.{StandsForWords, ones_complement_sum};
+    ghost use Rattle.etherparse.specs.WordSums.{ones_complement_sum};
     ghost use Rattle.packet_parts.specs.Checksum.{ipv4_pseudo_header, ipv6_pseudo_header};
     ghost use Rattle.etherparse_transport.specs.Udp.{IsUdpLayout, ReadsUdp, UdpReading, udp_words};
+    ghost use Rattle.etherparse_transport.specs.UdpChecksum.{IsRightDatagramIpv4};
+    ghost use Rattle.etherparse_transport.specs.UdpChecksum.{IsRightDatagramIpv6};
 
     /// The length of the header, in bytes: 8.
     pub const LEN: usize = 8;
 
-    /// The header at the front of a slice, and all the bytes after it.
+    /// The header at the front of a slice, and all the bytes after it: neither is the length field
+    /// compared with them, nor the checksum tested.
     ///
     /// # Errors
     ///
-    /// A `LenError` if the slice has fewer than 8 bytes.
+    /// A `LenError` of `Layer::UdpHeader` if the slice has fewer than 8 bytes.
     ///
     /// # Example
     ///
@@ -75,7 +88,9 @@ impl UdpHeader {
     /// Sets the checksum of a datagram over IPv4. With it the datagram sums to all ones with its
     /// pseudo-header, and it is not 0, which says that there is none.
     ///
-    /// The sum counts the field `length` as it stands: set it first, to 8 and the payload's length.
+    /// The payload may have any length, and the sum has the field `length` as it stands: set it
+    /// first, to 8 and the payload's length. Otherwise no receiver finds the checksum of this
+    /// datagram right, but by chance.
     ///
     /// # Example
     ///
@@ -97,14 +112,10 @@ impl UdpHeader {
         ensures right { (header : List ℕ) → IsUdpLayout self.new header → ones_complement_sum
             (ipv4_pseudo_header ip.now.source ip.now.destination 17 self.old.length
             ∷ (header ++ payload.now) ∷ []) ≡ 65535 }
+        ensures datagram { self.old.length ≡ 8 + length payload.now → IsRightDatagramIpv4
+            ip.now.source ip.now.destination self.old payload.now self.new.checksum }
     {
-        let pseudo_header = ipv4_pseudo_header(
-            ip.source,
-            ip.destination,
-            IpNumber::UDP,
-            self.length,
-        );
-        self.complete(pseudo_header, payload);
+        self.checksum = self.checksum_over_ipv4(ip.source, ip.destination, payload);
     }
 
     /// Sets the checksum of a datagram over IPv6, as [`UdpHeader::set_checksum_ipv4`] does. In a
@@ -131,23 +142,10 @@ impl UdpHeader {
         ensures right { (header : List ℕ) → IsUdpLayout self.new header → ones_complement_sum
             (ipv6_pseudo_header ip.now.source ip.now.destination 17 self.old.length
             ∷ (header ++ payload.now) ∷ []) ≡ 65535 }
+        ensures datagram { self.old.length ≡ 8 + length payload.now → IsRightDatagramIpv6
+            ip.now.source ip.now.destination self.old payload.now self.new.checksum }
     {
-        let len = u32::from(self.length);
-        let pseudo_header = ipv6_pseudo_header(ip.source, ip.destination, IpNumber::UDP, len);
-        self.complete(pseudo_header, payload);
-    }
-
-    // Sets the checksum, from the sum of the pseudo-header.
-    fn complete(&mut self, mut pseudo_header: Sum16BitWords, payload: &[u8])
-        ensures others { self.new ≡ record self.old { checksum = self.new.checksum } }
-        ensures there { self.new.checksum ≢ 0 }
-        ensures right { (before header : List ℕ) → StandsForWords 0 before pseudo_header →
-            IsUdpLayout self.new header →
-            ones_complement_sum (before ∷ (header ++ payload.now) ∷ []) ≡ 65535 }
-    {
-        self.checksum = 0;
-        let sum = pseudo_header.add_8bytes(self.to_bytes()).add_slice(payload);
-        self.checksum = sum.to_ones_complement_with_no_zero().swap_bytes();
+        self.checksum = self.checksum_over_ipv6(ip.source, ip.destination, payload);
     }
 
     // The four words, each with the high byte first.

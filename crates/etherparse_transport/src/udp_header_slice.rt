@@ -7,7 +7,7 @@ use crate::UdpHeader;
 use crate::udp::{header_of, too_short};
 use etherparse::err::LenError;
 
-/// A view of the bytes of a UDP header.
+/// A view of the 8 bytes of a UDP header (RFC 768). Its length field is not compared with anything.
 ///
 /// # Example
 ///

@@ -1,8 +1,8 @@
 //! Checksums of TCP that are computed for a header and a payload (RFC 9293 section 3.1).
 
-ghost use Rattle.std.specs.Prelude.{ℕ, ◌≡◌, ◌+◌, ◌-◌, ◌%◌, ◌<◌, ◌≤◌, ◌↔◌, List};
+ghost use Rattle.std.specs.Prelude.{ℕ, ◌≡◌, ◌+◌, ◌-◌, ◌%◌, ◌≤◌, ◌↔◌, List};
 ghost use Rattle.std.specs.Prelude.{IfErr, IfOk, IsOk, length};
-ghost use Rattle.etherparse.specs.WordSums.{StandsForWords, little_endian_word_sum};
+ghost use Rattle.etherparse.specs.WordSums.{StandsForWords};
 ghost use Rattle.etherparse.specs.declared.err.ValueType.TheVariants.{TcpPayloadLengthIpv4};
 ghost use Rattle.etherparse.specs.declared.err.ValueType.TheVariants.{TcpPayloadLengthIpv6};
 ghost use Rattle.etherparse_transport.specs.TcpChecksum.{HasTcpBytesWith};
@@ -146,7 +146,7 @@ impl TcpHeader {
     // The checksum, from the sum of the pseudo-header.
     fn checksum_after(&self, pseudo_header: Sum16BitWords, payload: &[u8]) -> u16
         ensures computed { (before : List ℕ) → StandsForWords 0 before pseudo_header →
-            length before % 2 ≡ 0 → 0 < little_endian_word_sum before →
+            length before % 2 ≡ 0 →
             IsTcpChecksum (HasTcpBytesWith self.now) before payload.now result }
     {
         let front = self.front(0);

@@ -1,10 +1,12 @@
 //! Checksums of UDP that are computed, and headers that are made for a payload (RFC 768).
 
-ghost use Rattle.std.specs.Prelude.{ℕ, ◌≡◌, ◌+◌, ◌%◌, ◌<◌, ◌≤◌, ◌↔◌, List, IfErr, IfOk, IsOk};
+ghost use Rattle.std.specs.Prelude.{ℕ, ◌≡◌, ◌≢◌, ◌+◌, ◌%◌, ◌≤◌, ◌↔◌, List, IfErr, IfOk, IsOk};
 ghost use Rattle.std.specs.Prelude.{length};
-ghost use Rattle.etherparse.specs.WordSums.{StandsForWords, little_endian_word_sum};
+ghost use Rattle.etherparse.specs.WordSums.{StandsForWords};
 ghost use Rattle.etherparse_transport.specs.TransportChecksum.{IsUdpChecksum};
 ghost use Rattle.etherparse_transport.specs.UdpChecksum.{HasUdpBytesWith, udp_header_for};
+ghost use Rattle.etherparse_transport.specs.UdpChecksum.{IsRightDatagramIpv4};
+ghost use Rattle.etherparse_transport.specs.UdpChecksum.{IsRightDatagramIpv6};
 ghost use Rattle.etherparse_transport.specs.UdpChecksum.{IsUdpChecksumIpv4, IsUdpChecksumIpv6};
 
 use super::UdpHeader;
@@ -49,17 +51,8 @@ impl UdpHeader {
         ensures made { IfOk result (λ header.
             header ≡ udp_header_for source_port destination_port payload_len) }
     {
-        check_payload_len(
-            payload_len,
-            UdpHeader::MAX_PAYLOAD_LEN,
-            ValueType::UdpPayloadLengthIpv4,
-        )?;
-        Ok(UdpHeader {
-            source_port,
-            destination_port,
-            length: (UdpHeader::LEN + payload_len) as u16,
-            checksum: 0,
-        })
+        let value_type = ValueType::UdpPayloadLengthIpv4;
+        UdpHeader::for_payload(source_port, destination_port, payload_len, value_type)
     }
 
     /// A header for this payload, with its checksum over IPv4: the addresses are those of the IP
@@ -91,17 +84,18 @@ impl UdpHeader {
         }) }
         ensures made { IfOk result (λ header. header ≡ record (udp_header_for source_port
             destination_port (length payload.now)) { checksum = header.checksum }) }
+        ensures there { IfOk result (λ header. header.checksum ≢ 0) }
         ensures computed { IfOk result (λ header. IsUdpChecksumIpv4 ip_header.now.source
             ip_header.now.destination header payload.now header.checksum) }
+        ensures datagram { IfOk result (λ header. IsRightDatagramIpv4 ip_header.now.source
+            ip_header.now.destination header payload.now header.checksum) }
     {
-        let made = UdpHeader::without_ipv4_checksum(source_port, destination_port, payload.len());
+        let value_type = ValueType::UdpPayloadLengthIpv4;
+        let made = UdpHeader::for_payload(source_port, destination_port, payload.len(), value_type);
         match made {
             Ok(header) => {
-                let checksum = header.checksum_over_ipv4(
-                    ip_header.source,
-                    ip_header.destination,
-                    payload,
-                );
+                let (source, destination) = (ip_header.source, ip_header.destination);
+                let checksum = header.checksum_over_ipv4(source, destination, payload);
                 Ok(UdpHeader { checksum, ..header })
             }
             Err(e) => Err(e),
@@ -130,32 +124,34 @@ impl UdpHeader {
         }) }
         ensures made { IfOk result (λ header. header ≡ record (udp_header_for source_port
             destination_port (length payload.now)) { checksum = header.checksum }) }
+        ensures there { IfOk result (λ header. header.checksum ≢ 0) }
         ensures computed { IfOk result (λ header. IsUdpChecksumIpv6 ip_header.now.source
             ip_header.now.destination header payload.now header.checksum) }
+        ensures datagram { IfOk result (λ header. IsRightDatagramIpv6 ip_header.now.source
+            ip_header.now.destination header payload.now header.checksum) }
     {
-        check_payload_len(
-            payload.len(),
-            UdpHeader::MAX_PAYLOAD_LEN,
-            ValueType::UdpPayloadLengthIpv6,
-        )?;
-        let header = UdpHeader {
-            source_port,
-            destination_port,
-            length: (UdpHeader::LEN + payload.len()) as u16,
-            checksum: 0,
-        };
-        let checksum = header.checksum_over_ipv6(ip_header.source, ip_header.destination, payload);
-        Ok(UdpHeader { checksum, ..header })
+        let value_type = ValueType::UdpPayloadLengthIpv6;
+        let made = UdpHeader::for_payload(source_port, destination_port, payload.len(), value_type);
+        match made {
+            Ok(header) => {
+                let (source, destination) = (ip_header.source, ip_header.destination);
+                let checksum = header.checksum_over_ipv6(source, destination, payload);
+                Ok(UdpHeader { checksum, ..header })
+            }
+            Err(e) => Err(e),
+        }
     }
 
     /// The checksum over IPv4 that belongs into this header before this payload, whatever its field
     /// `checksum` has; the addresses are those of the IP header. It is never 0.
     ///
-    /// The sum counts the field `length` as it stands: set it first, to 8 and the payload's length.
+    /// The sum has the field `length` as it stands: set it first, to 8 and the payload's length.
+    /// Otherwise no receiver finds the checksum of this datagram right, but by chance.
     ///
     /// # Errors
     ///
-    /// A `ValueTooBigError` if the payload is longer than 65527 bytes.
+    /// A `ValueTooBigError` if the payload is longer than 65527 bytes: with the 8 of the header,
+    /// that is more than the length field can count.
     ///
     /// # Example
     ///
@@ -176,8 +172,12 @@ impl UdpHeader {
           max_allowed = 65527;
           value_type = ValueType.UdpPayloadLengthIpv4;
         }) }
+        ensures there { IfOk result (λ checksum. checksum ≢ 0) }
         ensures computed { IfOk result (IsUdpChecksumIpv4 ip_header.now.source
             ip_header.now.destination self.now payload.now) }
+        ensures datagram { self.now.length ≡ 8 + length payload.now → IfOk result
+            (IsRightDatagramIpv4 ip_header.now.source ip_header.now.destination self.now
+            payload.now) }
     {
         self.calc_checksum_ipv4_raw(ip_header.source, ip_header.destination, payload)
     }
@@ -199,8 +199,11 @@ impl UdpHeader {
           max_allowed = 65527;
           value_type = ValueType.UdpPayloadLengthIpv4;
         }) }
+        ensures there { IfOk result (λ checksum. checksum ≢ 0) }
         ensures computed { IfOk result
             (IsUdpChecksumIpv4 source destination self.now payload.now) }
+        ensures datagram { self.now.length ≡ 8 + length payload.now → IfOk result
+            (IsRightDatagramIpv4 source destination self.now payload.now) }
     {
         check_payload_len(
             payload.len(),
@@ -213,10 +216,15 @@ impl UdpHeader {
     /// The checksum over IPv6, as [`UdpHeader::calc_checksum_ipv4`] gives that over IPv4. In a
     /// packet with a routing header, the destination has to be the last one (RFC 8200 section 8.1).
     ///
+    /// The sum has the field `length` as it stands, in the pseudo-header too. A payload from 65528
+    /// bytes on, which that field cannot count, is summed as any other: for a jumbogram, whose
+    /// field `length` is 0 (RFC 2675 section 4), the result is not its checksum, since the
+    /// pseudo-header has to have the true length.
+    ///
     /// # Errors
     ///
     /// A `ValueTooBigError` if the payload is longer than 4294967287 bytes: with the 8 of the
-    /// header, that is more than the length of a pseudo-header can count.
+    /// header, that is more than the length of a pseudo-header of IPv6 can count.
     ///
     /// # Example
     ///
@@ -238,13 +246,18 @@ impl UdpHeader {
           max_allowed = 4294967287;
           value_type = ValueType.UdpPayloadLengthIpv6;
         }) }
+        ensures there { IfOk result (λ checksum. checksum ≢ 0) }
         ensures computed { IfOk result (IsUdpChecksumIpv6 ip_header.now.source
             ip_header.now.destination self.now payload.now) }
+        ensures datagram { self.now.length ≡ 8 + length payload.now → IfOk result
+            (IsRightDatagramIpv6 ip_header.now.source ip_header.now.destination self.now
+            payload.now) }
     {
         self.calc_checksum_ipv6_raw(ip_header.source, ip_header.destination, payload)
     }
 
-    /// The same as [`UdpHeader::calc_checksum_ipv6`], between these addresses.
+    /// The same as [`UdpHeader::calc_checksum_ipv6`], between these addresses. Payloads from 65528
+    /// bytes on, which the length field cannot count, are summed too.
     ///
     /// # Errors
     ///
@@ -261,8 +274,11 @@ impl UdpHeader {
           max_allowed = 4294967287;
           value_type = ValueType.UdpPayloadLengthIpv6;
         }) }
+        ensures there { IfOk result (λ checksum. checksum ≢ 0) }
         ensures computed { IfOk result
             (IsUdpChecksumIpv6 source destination self.now payload.now) }
+        ensures datagram { self.now.length ≡ 8 + length payload.now → IfOk result
+            (IsRightDatagramIpv6 source destination self.now payload.now) }
     {
         check_payload_len(
             payload.len(),
@@ -272,17 +288,58 @@ impl UdpHeader {
         Ok(self.checksum_over_ipv6(source, destination, payload))
     }
 
+    // A header without a checksum for a payload of this length.
+    fn for_payload(
+        source_port: u16,
+        destination_port: u16,
+        payload_len: usize,
+        value_type: ValueType,
+    ) -> Result<UdpHeader, ValueTooBigError<usize>>
+        ensures accepted { IsOk result ↔ (payload_len ≤ 65527) }
+        ensures refused { IfErr result (λ e. e ≡ record {
+          actual = payload_len;
+          max_allowed = 65527;
+          value_type = value_type;
+        }) }
+        ensures made { IfOk result (λ header.
+            header ≡ udp_header_for source_port destination_port payload_len) }
+    {
+        check_payload_len(payload_len, UdpHeader::MAX_PAYLOAD_LEN, value_type)?;
+        Ok(UdpHeader {
+            source_port,
+            destination_port,
+            length: (UdpHeader::LEN + payload_len) as u16,
+            checksum: 0,
+        })
+    }
+
     // The checksum between these addresses of IPv4.
-    fn checksum_over_ipv4(&self, source: [u8; 4], destination: [u8; 4], payload: &[u8]) -> u16
+    pub(super) fn checksum_over_ipv4(
+        &self,
+        source: [u8; 4],
+        destination: [u8; 4],
+        payload: &[u8],
+    ) -> u16
+        ensures there { result ≢ 0 }
         ensures computed { IsUdpChecksumIpv4 source destination self.now payload.now result }
+        ensures datagram { self.now.length ≡ 8 + length payload.now →
+            IsRightDatagramIpv4 source destination self.now payload.now result }
     {
         let sum = ipv4_pseudo_header(source, destination, IpNumber::UDP, self.length);
         self.checksum_after(sum, payload)
     }
 
     // The checksum between these addresses of IPv6.
-    fn checksum_over_ipv6(&self, source: [u8; 16], destination: [u8; 16], payload: &[u8]) -> u16
+    pub(super) fn checksum_over_ipv6(
+        &self,
+        source: [u8; 16],
+        destination: [u8; 16],
+        payload: &[u8],
+    ) -> u16
+        ensures there { result ≢ 0 }
         ensures computed { IsUdpChecksumIpv6 source destination self.now payload.now result }
+        ensures datagram { self.now.length ≡ 8 + length payload.now →
+            IsRightDatagramIpv6 source destination self.now payload.now result }
     {
         let len = u32::from(self.length);
         let sum = ipv6_pseudo_header(source, destination, IpNumber::UDP, len);
@@ -291,8 +348,9 @@ impl UdpHeader {
 
     // The checksum, from the sum of the pseudo-header.
     fn checksum_after(&self, mut pseudo_header: Sum16BitWords, payload: &[u8]) -> u16
+        ensures there { result ≢ 0 }
         ensures computed { (before : List ℕ) → StandsForWords 0 before pseudo_header →
-            length before % 2 ≡ 0 → 0 < little_endian_word_sum before →
+            length before % 2 ≡ 0 →
             IsUdpChecksum (HasUdpBytesWith self.now) before payload.now result }
     {
         let zeroed = UdpHeader {

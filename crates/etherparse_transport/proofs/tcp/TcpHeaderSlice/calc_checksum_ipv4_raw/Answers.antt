@@ -1,12 +1,7 @@
-use Rattle.std.proofs.Common.{◌+◌, ◌∷◌, arith, length, w16}
-use Rattle.std.specs.Int.{to_be_bytes}
-use Rattle.etherparse_transport.proofs.Checksums.{is_pseudo_header}
+use Rattle.std.proofs.Common.{arith, refl}
+use Rattle.etherparse_transport.proofs.Checksums.{even_pseudo_header}
 use Rattle.etherparse_transport.proofs.tcp.TcpHeaderSlice.calc_checksum_ipv4_raw.Goals as goal
 
 pub returns-in-Ok-clause-computed : goal.returns-in-Ok-clause-computed
-returns-in-Ok-clause-computed c =
-    let a = c.args in
-    let len = length a.self.now.slice.now + length a.payload.now in
-    let pseudo = is_pseudo_header a.source a.destination (0 ∷ 6 ∷ to_be_bytes w16 len) (grind arith)
-    (grind arith) (grind arith) (omega arith) in
-    c.checksum_after.ensures.computed _ c.in-Ok.ensures.sum pseudo.even pseudo.some
+returns-in-Ok-clause-computed c = c.checksum_after.ensures.computed _ c.in-Ok.ensures.sum
+    (even_pseudo_header c.args.source c.args.destination _ (grind arith) (grind arith) refl)

@@ -40,13 +40,13 @@ has_words s n p long even is =
 
 pub returns : goal.returns
 returns c = record {
-  computed = λ before stands even some.
+  computed = λ before stands even.
       let v = c.args.self.now in
       let s = v.slice.now in
       rw c.swap_bytes.ensures (
       tcp_checksum (IsTcpFrontWith s) before c.args.payload.now
       (little_endian_word_sum (take 16 s) + little_endian_word_sum (drop 18 s))
-      c.add_slice-sum.result even some
+      c.add_slice-sum.result even
       (λ n p is. has_words s n p (omega (arith, v.offset, v.len)) (omega (arith, v.len)) is)
       (c.add_slice-sum.ensures.adds.sum ∙ ap folded_sum (add_comm c.add_slice-header.result _)
       ∙ c.add_slice-header.ensures.adds.in_a_sum _

@@ -8,7 +8,7 @@ use Rattle.etherparse_transport.proofs.tcp_header.TcpHeader.checksum_after.Goals
 
 pub returns : goal.returns
 returns c = record {
-  computed = λ before stands even some.
+  computed = λ before stands even.
       let h = c.args.self.now in
       let zeroed = record h { checksum = 0 } in
       let front = c.front-front.result in
@@ -20,7 +20,7 @@ returns c = record {
       ∙ little_endian_word_sum-append front options (omega arith) in
       rw c.swap_bytes.ensures (
       tcp_checksum (HasTcpBytesWith h) before c.args.payload.now words c.add_slice-sum.result even
-      some (has_words h)
+      (has_words h)
       (c.add_slice-sum.ensures.adds.sum ∙ ap folded_sum (add_comm c.add_slice-header.result _)
       ∙ c.add_slice-header.ensures.adds.in_a_sum _
       ∙ c.add_slice-fixed.ensures.adds.in_a_sum _ ∙ stands _ ∙ ap folded_sum (omega (arith, parts)))

@@ -1,15 +1,12 @@
-use Rattle.std.proofs.Common.{◌∷◌, arith, w16}
-use Rattle.std.specs.Int.{to_be_bytes}
-use Rattle.etherparse_transport.proofs.Checksums.{is_pseudo_header}
+use Rattle.std.proofs.Common.{arith, refl}
+use Rattle.etherparse_transport.proofs.Checksums.{even_pseudo_header}
+use Rattle.etherparse_transport.proofs.UdpLayout.{right_ipv4}
 use Rattle.etherparse_transport.proofs.udp.UdpHeader.checksum_over_ipv4.Goals as goal
 
-pub returns : goal.returns
-returns c =
-    let a = c.args in
-    let pseudo = is_pseudo_header a.source a.destination
-    (0 ∷ 17 ∷ to_be_bytes w16 a.self.now.length) (grind arith) (grind arith) (grind arith)
-    (omega arith) in
-    record {
-      computed = c.checksum_after.ensures.computed _ c.ipv4_pseudo_header-sum.ensures.sum
-          pseudo.even pseudo.some;
-    }
+pub returns-clause-computed : goal.returns-clause-computed
+returns-clause-computed c = c.checksum_after.ensures.computed _ c.ipv4_pseudo_header-sum.ensures.sum
+    (even_pseudo_header c.args.source c.args.destination _ (grind arith) (grind arith) refl)
+
+pub returns-clause-datagram : goal.returns-clause-datagram
+returns-clause-datagram c = λ len bytes l.
+    right_ipv4 _ _ _ c.args.self.now _ bytes len (returns-clause-computed c) l

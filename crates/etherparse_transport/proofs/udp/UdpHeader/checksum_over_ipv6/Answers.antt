@@ -1,22 +1,13 @@
-use Rattle.std.proofs.Common.{ℕ, [], ◌∷◌, ◌++◌, arith, subst, w32}
-use Rattle.std.specs.Int.{to_be_bytes}
-use Rattle.etherparse_transport.proofs.Checksums.{is_pseudo_header}
-use Rattle.etherparse_transport.specs.TransportChecksum.{IsUdpChecksum}
-use Rattle.etherparse_transport.specs.UdpChecksum.{HasUdpBytesWith}
-use Rattle.packet_parts.specs.Checksum.{ipv6_pseudo_header}
+use Rattle.std.proofs.Common.{arith, refl}
+use Rattle.etherparse_transport.proofs.Checksums.{even_pseudo_header}
+use Rattle.etherparse_transport.proofs.UdpLayout.{right_ipv6}
 use Rattle.etherparse_transport.proofs.udp.UdpHeader.checksum_over_ipv6.Goals as goal
 
-pub returns : goal.returns
-returns c =
-    let a = c.args in
-    let is_checksum = λ (n : ℕ). IsUdpChecksum (HasUdpBytesWith a.self.now)
-    (ipv6_pseudo_header a.source a.destination 17 n) a.payload.now c.checksum_after.result in
-    let len = c.from-len.result in
-    let pseudo = is_pseudo_header a.source a.destination
-    (to_be_bytes w32 len ++ (0 ∷ 0 ∷ 0 ∷ 17 ∷ [])) (grind arith) (grind arith) (grind arith)
-    (omega arith) in
-    record {
-      computed = subst is_checksum c.from-len.ensures
-          (c.checksum_after.ensures.computed _ c.ipv6_pseudo_header-sum.ensures.sum pseudo.even
-          pseudo.some);
-    }
+pub returns-clause-computed : goal.returns-clause-computed
+returns-clause-computed c = rw c.from-len.ensures at
+    (c.checksum_after.ensures.computed _ c.ipv6_pseudo_header-sum.ensures.sum
+    (even_pseudo_header c.args.source c.args.destination _ (grind arith) (grind arith) refl))
+
+pub returns-clause-datagram : goal.returns-clause-datagram
+returns-clause-datagram c = λ len bytes l.
+    right_ipv6 _ _ _ c.args.self.now _ bytes len (returns-clause-computed c) l c.checksum_after.ensures.there
