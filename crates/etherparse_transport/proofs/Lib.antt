@@ -1,5 +1,5 @@
 mod Checksums
-mod TcpLayout
+pub mod TcpLayout
 mod TcpOptionBytes
-mod TcpReading
-mod UdpLayout
+pub mod TcpReading
+pub mod UdpLayout

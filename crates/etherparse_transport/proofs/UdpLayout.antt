@@ -46,7 +46,7 @@ spelled h p l = told_by_words p l.are_bytes (omega (arith, l.len))
     ∙ ap (λ ns. concat (map (λ n. to_be_bytes w16 n) ns)) l.words
 
 -- a word has sixteen bits
-words_of-lt : (p : List ℕ) → IsBytes p → (i : ℕ) → slice_index (words_of p) i < 2 ^ 16
+pub words_of-lt : (p : List ℕ) → IsBytes p → (i : ℕ) → slice_index (words_of p) i < 2 ^ 16
 words_of-lt [] bytes i = omega arith
 words_of-lt (a ∷ []) bytes i = omega arith
 words_of-lt (a ∷ b ∷ p) bytes zero = omega (arith, bytes 0, bytes 1)

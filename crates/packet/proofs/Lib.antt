@@ -1,3 +1,4 @@
 pub mod Frames
 pub mod Places
 mod Transports
+pub mod WholeHeaders
