@@ -1,5 +1,8 @@
 pub mod Arrivals
 pub mod FirstHeaders
+pub mod IpFragments
 pub mod Kept
+pub mod PacketAnswers
+pub mod Stops
 pub mod TableLaws
 pub mod Walked

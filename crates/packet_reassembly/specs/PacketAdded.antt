@@ -1,11 +1,10 @@
 -- A packet whose fragment is added to a pool.
 use Rattle.std.specs.Prelude.{ℕ, ◌≡◌, ◌<◌, ◌≤◌, ◌==◌, ◌⊎◌, List, Option, None, Some, length}
 use Rattle.std.specs.Prelude.{if◌then◌else◌}
-use Rattle.packet_parts.specs.IpSlice.{RefusesIp}
 use Rattle.packet_reassembly.specs.Fragment.{Fragment, IsRight, IsWhole, fragment}
 use Rattle.packet_reassembly.specs.HeaderChain.{HasWholeChain, LacksChain}
 use Rattle.packet_reassembly.specs.Headers.{IsPacketOf, IsTooLongFor}
-use Rattle.packet_reassembly.specs.IpFragment.{HasIpFragment}
+use Rattle.packet_reassembly.specs.IpFragment.{HasIpFragment, RefusesIpFragment}
 use Rattle.packet_reassembly.specs.Pool.{IsAdded, OthersStay}
 use Rattle.packet_reassembly.specs.Refusal.{Refuses}
 use Rattle.packet_reassembly.specs.declared.ip_defrag_error.IpDefragError.{IpDefragError}
@@ -82,7 +81,7 @@ pub record HasRefusedFragment (packet : List ℕ) (e : IpDefragError) : Type 0 w
 
 -- why nothing is added: the first of these that holds
 abbrev pub RefusesPacket : List ℕ → IpDefragPacketError → Type 0
-RefusesPacket packet (why.Packet e) = RefusesIp packet e
+RefusesPacket packet (why.Packet e) = RefusesIpFragment packet e
 RefusesPacket packet why.HeaderChain = HasLackingChain packet
 RefusesPacket packet (why.HeadersTooLong len) = HasLongHeaders packet len
 RefusesPacket packet (why.Fragment e) = HasRefusedFragment packet e

@@ -24,11 +24,14 @@ Has slots k id = (k < length slots) × ((slot_at slots k).id ≡ Some id)
 abbrev pub IsExpired : IpDefragSlot → ℕ → ℕ → Type 0
 IsExpired slot timeout now = slot.since + timeout ≤ now
 
--- the slot that a new datagram takes: one that none has, or else that of the oldest datagram
+-- the slot that a new datagram takes: the first that none has, or else that of the oldest datagram,
+-- the first of those that are equally old
 pub record IsFree (slots : List IpDefragSlot) (k : ℕ) : Type 0 where
   pub within : k < length slots
-  pub first : ((slot_at slots k).id ≡ None) ⊎ ((j : ℕ) → j < length slots
-      → ((slot_at slots j).id ≢ None) × ((slot_at slots k).since ≤ (slot_at slots j).since))
+  pub first : (((slot_at slots k).id ≡ None) × ((j : ℕ) → j < k → (slot_at slots j).id ≢ None))
+      ⊎ ((j : ℕ) → j < length slots → ((slot_at slots j).id ≢ None)
+      × ((slot_at slots k).since ≤ (slot_at slots j).since)
+      × (j < k → (slot_at slots k).since < (slot_at slots j).since))
 
 -- all other slots are as they were
 abbrev pub AreSameBut : ℕ → List IpDefragSlot → List IpDefragSlot → Type 0

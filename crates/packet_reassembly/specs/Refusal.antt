@@ -15,4 +15,5 @@ Refuses f (why.Empty offset) = Says f offset 0
 Refuses f (why.UnalignedFragmentPayloadLen offset len) =
     Says f offset len × (f.more ≡ true) × (len % 8 ≢ 0)
 Refuses f (why.SegmentTooBig offset len max) =
-    Says f offset len × (f.more ≡ true → len % 8 ≡ 0) × (65535 < end_of f) × (max ≡ 65535)
+    Says f offset len × (0 < len) × (f.more ≡ true → len % 8 ≡ 0) × (65535 < end_of f)
+    × (max ≡ 65535)

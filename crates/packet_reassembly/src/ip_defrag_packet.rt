@@ -1,8 +1,14 @@
 //! Packets that are added to a pool, and packets that are taken from it.
 
-ghost use Rattle.std.specs.Prelude.{◌≡◌, ◌<◌, IfSome, IsFalse, IsTrue, length, option_map};
+ghost use Rattle.std.specs.Prelude.{ℕ, ◌≡◌, ◌<◌, IfSome, IsFalse, IsTrue, List, Option, length};
+ghost use Rattle.std.specs.Prelude.{option_map};
 ghost use Rattle.packet_reassembly.specs.HeaderChain.{HasWholeChain, LacksChain};
+ghost use Rattle.packet_reassembly.specs.IpFragment.{IsNoFragment};
 ghost use Rattle.packet_reassembly.specs.PacketAdded.{HasShortHeaders, IsFirstOfIpv6, headers_of};
+ghost use Rattle.packet_reassembly.specs.PacketAdded.{IsPacketAdded, RefusesPacket};
+ghost use Rattle.packet_reassembly.specs.declared.ip_defrag_packet.IpDefragPacketError.{IpDefragPacketError as Refused};
+ghost use Rattle.packet_reassembly.specs.declared.ip_defrag_pool.Added.{Added as What};
+ghost use Rattle.packet_reassembly.specs.declared.ip_defrag_pool.IpDefragSlot.{IpDefragSlot as Slot};
 
 use crate::header_chain::has_whole_chain;
 use crate::ip_defrag_error::IpDefragError;
@@ -16,10 +22,12 @@ use packet_parts::ip_slice::IpSliceError;
 /// Why a packet is not added to a pool.
 #[derive(Debug, Drop)]
 pub enum IpDefragPacketError {
-    /// It is no IP packet, or not all of it is there.
+    /// It is no IP packet, or not all of it is there, or it is one of IPv6 that ends within an
+    /// extension header with no fragment header before it that is not atomic.
     Packet(IpSliceError),
-    /// It is the first fragment of an IPv6 packet, and lacks a part of the header chain (RFC 7112
-    /// section 5).
+    /// It is the first fragment of an IPv6 packet, and lacks a part of the header chain: it ends
+    /// within an extension header after its fragment header, or within the header of the upper layer
+    /// (RFC 7112 section 5).
     HeaderChain,
     /// It is the first fragment of a datagram, and its headers are longer than
     /// [`IpDefragHeaders::MAX_LEN`].
@@ -240,3 +248,17 @@ fn lacks_chain(fragment: &IpFragmentSlice) -> bool
         _ => false,
     }
 }
+
+/// A packet has one answer: it is added, or it is no fragment, or it is refused for one reason.
+pub fn packet_law()
+    ensures one_reason { (packet : List ℕ) → (e other : Refused) → RefusesPacket packet e →
+        RefusesPacket packet other → e ≡ other }
+    ensures refused_or_whole { (packet : List ℕ) → (e : Refused) → RefusesPacket packet e →
+        ¬ IsNoFragment packet }
+    ensures refused_or_added { (old new : List Slot) → (packet : List ℕ) →
+        (outer inner : Option ℕ) → (timeout now : ℕ) → (added : What) → (e : Refused) →
+        IsPacketAdded old packet outer inner timeout now new added → ¬ RefusesPacket packet e }
+    ensures whole_or_added { (old new : List Slot) → (packet : List ℕ) →
+        (outer inner : Option ℕ) → (timeout now : ℕ) → (added : What) →
+        IsPacketAdded old packet outer inner timeout now new added → ¬ IsNoFragment packet }
+{}

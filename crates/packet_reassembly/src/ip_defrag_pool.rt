@@ -96,9 +96,10 @@ impl<'a, 'b> IpDefragPool<'a, 'b> {
     /// kept for 15 seconds, or as long as the time to live says.
     pub const TIMEOUT_SECONDS: u64 = 60;
 
-    /// Adds a fragment to its datagram. If none has this id, it takes a slot: one that none has, or
-    /// else that of the oldest. A datagram that is older than the timeout is given up when a
-    /// fragment with its id comes. The other slots do not change.
+    /// Adds a fragment to its datagram. If none has this id, it takes a slot: the first that none
+    /// has, or else that of the oldest, the first of those that are equally old. A datagram that is
+    /// older than the timeout is given up when a fragment with its id comes. The other slots do not
+    /// change.
     ///
     /// No headers are kept: if the fragment at offset 0 comes this way alone,
     /// [`IpDefragPool::write_packet`] finds no packet.

@@ -1,19 +1,23 @@
 //! A packet of either version that is a fragment.
 
-ghost use Rattle.std.specs.Prelude.{ℕ, ◌≡◌, ◌≤◌, ◌+◌, List, IfErr, IfNone, IfOk, IfSome};
-ghost use Rattle.std.specs.Prelude.{length};
+ghost use Rattle.std.specs.Prelude.{ℕ, ◌≡◌, ◌≢◌, ◌≤◌, ◌+◌, List, IfErr, IfNone, IfOk, IfSome};
+ghost use Rattle.std.specs.Prelude.{Option, Result, length};
 ghost use Rattle.etherparse.specs.Ipv4Header.{IsIpv4Layout};
 ghost use Rattle.etherparse.specs.Ipv6Header.{IsIpv6Layout};
 ghost use Rattle.etherparse.specs.Reading.{BeginsWith};
 ghost use Rattle.etherparse.specs.declared.net.ipv4_header.Ipv4Header.{Ipv4Header as Header4};
 ghost use Rattle.etherparse.specs.declared.net.ipv6_header.Ipv6Header.{Ipv6Header as Header6};
-ghost use Rattle.packet_parts.specs.IpSlice.{RefusesIp, ipv4_bytes, ipv6_bytes};
+ghost use Rattle.packet_parts.specs.declared.ip_slice.IpSliceError.{IpSliceError as Refused};
+ghost use Rattle.packet_parts.specs.IpSlice.{HasIpParts, ipv4_bytes, ipv6_bytes, packet_len_of};
 ghost use Rattle.packet_reassembly.specs.IpFragment.{HasIpFragment, IsNoFragment};
+ghost use Rattle.packet_reassembly.specs.IpFragment.{ReadsIpFragment, RefusesIpFragment};
+ghost use Rattle.packet_reassembly.specs.IpFragment.{ip_fragment_answer};
+ghost use Rattle.packet_reassembly.specs.declared.ip_fragment_slice.IpFragmentSlice.{IpFragmentSlice as Found};
 
 use crate::ip_frag_id::IpFragVersionSpecId;
 use crate::ipv6_fragment::ipv6_fragment_parts;
 use etherparse::{IpFragOffset, IpNumber, Ipv4HeaderSlice, Ipv6Header, Ipv6HeaderSlice};
-use packet_parts::ip_slice::{IpHeaderSlice, IpSlice, IpSliceError};
+use packet_parts::ip_slice::{IpHeaderSlice, IpSlice, IpSliceError, LaxIpSlice};
 
 /// A packet that is a fragment: which packet it is of, where it stands in that, and its bytes.
 #[derive(Debug, Drop)]
@@ -40,9 +44,13 @@ pub struct IpFragmentSlice<'a> {
 /// The fragment that a packet is; `None` if it is no fragment. So is one with atomic fragment
 /// headers alone, which is never put together with others (RFC 6946).
 ///
+/// A fragment of IPv6 can end within an extension header after its fragment header:
+/// [`has_whole_chain`](crate::header_chain::has_whole_chain) tells.
+///
 /// # Errors
 ///
-/// Those of [`IpSlice::from_slice`].
+/// Those of [`IpSlice::from_slice`], but `Extensions` only if no fragment header that is not atomic
+/// stands before the extension header that is incomplete.
 ///
 /// # Example
 ///
@@ -65,9 +73,11 @@ pub struct IpFragmentSlice<'a> {
 pub fn ip_fragment(packet: &[u8]) -> Result<Option<IpFragmentSlice>, IpSliceError>
     ensures found { IfOk result (λ found. IfSome found (HasIpFragment packet.now)) }
     ensures none { IfOk result (λ found. IfNone found (IsNoFragment packet.now)) }
-    ensures refused { IfErr result (RefusesIp packet.now) }
+    ensures refused { IfErr result (RefusesIpFragment packet.now) }
+    ensures only { (other : Result (Option Found) Refused) →
+        ReadsIpFragment packet.now other → ip_fragment_answer other ≡ ip_fragment_answer result }
 {
-    let slice = match IpSlice::from_slice(packet) {
+    let slice = match all_there(packet) {
         Ok(slice) => slice,
         Err(e) => return Err(e),
     };
@@ -80,12 +90,34 @@ pub fn ip_fragment(packet: &[u8]) -> Result<Option<IpFragmentSlice>, IpSliceErro
     }
 }
 
+// The parts of a packet that has all its bytes. It can end within an extension header.
+fn all_there(packet: &[u8]) -> Result<IpSlice, IpSliceError>
+    ensures parts { IfOk result (HasIpParts packet.now) }
+    ensures told { IfOk result (λ slice. packet_len_of slice.header ≢ 0) }
+    ensures enough { IfOk result (λ slice. packet_len_of slice.header ≤ length packet.now) }
+    ensures refused { IfErr result (RefusesIpFragment packet.now) }
+{
+    let LaxIpSlice { slice, stop } = match LaxIpSlice::from_slice(packet) {
+        Ok(lax) => lax,
+        Err(e) => return Err(e),
+    };
+    match stop {
+        None => Ok(slice),
+        Some(e) => match e {
+            IpSliceError::Extensions(_) => Ok(slice),
+            other => Err(other),
+        },
+    }
+}
+
 // The fragment with this header and these bytes.
 fn ipv4_fragment<'a>(view: Ipv4HeaderSlice<'a>, payload: &'a [u8]) -> Option<IpFragmentSlice<'a>>
     ensures found { (packet : List ℕ) → (header : Header4) →
+        header.total_len ≢ 0 → header.total_len ≤ length packet →
         (begins : BeginsWith IsIpv4Layout (ipv4_bytes header packet) header payload.now) →
         begins.front ≡ view.entry.slice.now → IfSome result (HasIpFragment packet) }
     ensures none { (packet : List ℕ) → (header : Header4) →
+        header.total_len ≢ 0 → header.total_len ≤ length packet →
         (begins : BeginsWith IsIpv4Layout (ipv4_bytes header packet) header payload.now) →
         begins.front ≡ view.entry.slice.now → IfNone result (IsNoFragment packet) }
 {
@@ -118,17 +150,19 @@ fn ipv6_fragment<'a>(
     requires within { length body.now ≤ 65535 }
     requires whole { length body.now ≤ length whole.now }
     ensures found { (packet : List ℕ) → (header : Header6) →
+        40 + header.payload_length ≤ length packet →
         (begins : BeginsWith IsIpv6Layout (ipv6_bytes header packet) header body.now) →
         begins.front ≡ view.entry.slice.now → ipv6_bytes header packet ≡ whole.now →
         IfOk result (λ found. IfSome found (HasIpFragment packet)) }
     ensures none { (packet : List ℕ) → (header : Header6) →
+        40 + header.payload_length ≤ length packet →
         (begins : BeginsWith IsIpv6Layout (ipv6_bytes header packet) header body.now) →
         begins.front ≡ view.entry.slice.now →
         IfOk result (λ found. IfNone found (IsNoFragment packet)) }
     ensures refused { (packet : List ℕ) → (header : Header6) →
         40 + header.payload_length ≤ length packet →
         (begins : BeginsWith IsIpv6Layout (ipv6_bytes header packet) header body.now) →
-        begins.front ≡ view.entry.slice.now → IfErr result (RefusesIp packet) }
+        begins.front ≡ view.entry.slice.now → IfErr result (RefusesIpFragment packet) }
 {
     let parts = match ipv6_fragment_parts(body, view.next_header()) {
         Ok(Some(parts)) => parts,

@@ -153,15 +153,19 @@ bool read_fragment(const uint8_t *packet, size_t len, struct fragment *fragment,
     memset(fragment, 0, sizeof *fragment);
     *error = error_of(ETHERPARSE_DEFRAG_OK, 0, 0);
     reference_lax_from_link_type(RAW, packet, len, false, &parts);
-    /* Headers of upper layers are not asked for here. One that ends within an extension header is no packet, also where a first
-     * fragment lacks the rest of its chain so (docs/SPECIFICATION.md, "Packets"). */
+    /* Headers of upper layers are not asked for here. One that ends within an extension header is a fragment if a fragment header
+     * stands before that, and lacks a part of its chain if it is the first (RFC 8200 section 4.5). */
+    bool ends_in_extension = parts.stop.kind == ETHERPARSE_LEN && parts.stop.layer == ETHERPARSE_IPV6_EXT_HEADER;
     if (parts.stop.kind == ETHERPARSE_UNEXPECTED_VERSION
-        || (parts.stop.kind != ETHERPARSE_OK && parts.stop.layer < ETHERPARSE_UDP_HEADER)) {
+        || (parts.stop.kind != ETHERPARSE_OK && parts.stop.layer < ETHERPARSE_UDP_HEADER && !ends_in_extension)) {
         *error = error_of(ETHERPARSE_DEFRAG_PACKET, 0, 0);
         return false;
     }
-    if (parts.ip.version == 4 ? !read_ipv4(packet, &parts.ip, fragment) : !read_ipv6(packet, fragment))
+    if (parts.ip.version == 4 ? !read_ipv4(packet, &parts.ip, fragment) : !read_ipv6(packet, fragment)) {
+        if (ends_in_extension)
+            *error = error_of(ETHERPARSE_DEFRAG_PACKET, 0, 0);
         return false;
+    }
     if (parts.ip.version == 6 && fragment->offset == 0
         && !has_whole_chain(packet + fragment->headers_len, fragment->len, fragment->next_header))
         *error = error_of(ETHERPARSE_DEFRAG_HEADER_CHAIN, 0, 0);

@@ -61,9 +61,11 @@ enum {
     /* more fragments follow, and its length is no multiple of 8 bytes */
     ETHERPARSE_DEFRAG_UNALIGNED_LEN = 2,
     ETHERPARSE_DEFRAG_TOO_BIG = 3, /* it ends past byte 65535 */
-    /* the bytes are no IP packet, or not all of it is there */
+    /* the bytes are no IP packet, or not all of it is there, or it is one of IPv6 that ends within an
+     * extension header with no fragment header before it */
     ETHERPARSE_DEFRAG_PACKET = 4,
-    /* the first fragment of an IPv6 packet lacks a part of the header chain (RFC 7112) */
+    /* the first fragment of an IPv6 packet lacks a part of the header chain (RFC 7112): it ends within
+     * an extension header after its fragment header, or within the header of the upper layer */
     ETHERPARSE_DEFRAG_HEADER_CHAIN = 5,
     /* the headers of a first fragment have more than 1280 bytes */
     ETHERPARSE_DEFRAG_HEADERS_TOO_LONG = 6,
@@ -227,7 +229,9 @@ struct etherparse_defrag_added etherparse_defrag_pool_add_packet(
 struct etherparse_defrag_written etherparse_defrag_pool_write_packet(
     struct etherparse_defrag_pool *pool, size_t slot, uint8_t *out, size_t len);
 
-/* Takes a slot of the pool from its datagram. */
+/* Takes a slot of the pool from its datagram. The slot keeps what has come of that until another
+ * datagram takes it: etherparse_defrag_pool_write_packet still writes the packet of a slot that was
+ * released while it was complete. */
 void etherparse_defrag_pool_release(struct etherparse_defrag_pool *pool, size_t slot);
 
 #ifdef ETHERPARSE_STATIC_ASSERT

@@ -163,7 +163,8 @@ pub extern "C" fn etherparse_defrag_pool_write_packet(
     }
 }
 
-/// Takes a slot from its datagram.
+/// Takes a slot from its datagram. What has come of that stays in the slot until another datagram
+/// takes it: a packet that was complete can still be written.
 #[unsafe(no_mangle)]
 pub extern "C" fn etherparse_defrag_pool_release(pool: &mut DefragPool, slot: usize)
     requires within { slot < length pool.old.pool.slots }

@@ -328,6 +328,17 @@ static void ipv6_packets(void)
     packet[5] = 16;
     packet[43] = 1;
     EXPECT_REFUSED(etherparse_defrag_pool_add_packet(&pool, packet, 56, NO_VLAN, NO_VLAN, 3), ETHERPARSE_DEFRAG_HEADER_CHAIN, 0, 0);
+    /* One that ends within an extension header after its fragment header: the 16 bytes of its destination options are 8. */
+    packet[40] = 60;
+    packet[48] = 17;
+    packet[49] = 1;
+    EXPECT_REFUSED(etherparse_defrag_pool_add_packet(&pool, packet, 56, NO_VLAN, NO_VLAN, 3), ETHERPARSE_DEFRAG_HEADER_CHAIN, 0, 0);
+    /* One that ends within its fragment header, or within an extension header after an atomic one: it is not known to be a fragment. */
+    packet[5] = 7;
+    EXPECT_REFUSED(etherparse_defrag_pool_add_packet(&pool, packet, 47, NO_VLAN, NO_VLAN, 3), ETHERPARSE_DEFRAG_PACKET, 0, 0);
+    packet[5] = 16;
+    packet[43] = 0;
+    EXPECT_REFUSED(etherparse_defrag_pool_add_packet(&pool, packet, 56, NO_VLAN, NO_VLAN, 3), ETHERPARSE_DEFRAG_PACKET, 0, 0);
     /* Headers of 40, 1240 and 8 bytes before the first fragment, which is a UDP header. */
     memset(packet + 40, 0, sizeof packet - 40);
     packet[4] = 1256 / 256;

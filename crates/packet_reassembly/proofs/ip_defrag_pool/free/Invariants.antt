@@ -7,6 +7,7 @@ invariant-loop-k l = record {
   within : l.oldest < length l.slots;
   taken : (j : ℕ) → j < l.k → (slot_at l.slots j).id ≢ None;
   oldest : (j : ℕ) → j < l.k → (slot_at l.slots l.oldest).since ≤ (slot_at l.slots j).since;
+  first : (j : ℕ) → j < l.oldest → (slot_at l.slots l.oldest).since < (slot_at l.slots j).since;
 }
 
 abbrev pub decreases-loop-k : goal.decreases-loop-k

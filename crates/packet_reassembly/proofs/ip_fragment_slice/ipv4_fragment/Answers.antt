@@ -2,15 +2,17 @@ use Rattle.std.proofs.Common.{◌∙◌, inl, refl, sym}
 use Rattle.packet_reassembly.proofs.ip_fragment_slice.ipv4_fragment.Goals as goal
 
 pub returns-then-not-is_fragmenting_payload-clause-none : goal.returns-then-not-is_fragmenting_payload-clause-none
-returns-then-not-is_fragmenting_payload-clause-none c = λ packet header begins front.
+returns-then-not-is_fragmenting_payload-clause-none c = λ packet header told enough begins front.
     let is_layout = rw front at begins.layout in
-    inl (record { header = header; payload = c.args.payload.now; begins = begins; is_whole = λ f. let t = (c.is_fragmenting_payload.ensures.value header is_layout).1 f in let e = c.if-not-is_fragmenting_payload.true in cc })
+    inl (record { header = header; payload = c.args.payload.now; told = told; enough = enough; begins = begins; is_whole = λ f. let t = (c.is_fragmenting_payload.ensures.value header is_layout).1 f in let e = c.if-not-is_fragmenting_payload.true in cc })
 
 pub returns-clause-found : goal.returns-clause-found
-returns-clause-found c = λ packet header begins front.
+returns-clause-found c = λ packet header told enough begins front.
     let is_layout = rw front at begins.layout in
     inl (record {
       header = header;
+      told = told;
+      enough = enough;
       begins = begins;
       is_fragment = (c.is_fragmenting_payload.ensures.value header is_layout).0 c.if-not-is_fragmenting_payload.false;
       id = cc (

@@ -1,4 +1,5 @@
-use Rattle.std.proofs.Common.{ℕ, ◌++◌, ◌∙◌, ap, arith, inr, length, length-append, refl, subst, sym}
+use Rattle.std.proofs.Common.{ℕ, ◌++◌, ◌∙◌, None, Some, ap, arith, false, inr, length, length-append, refl, subst, sym}
+use Rattle.packet_parts.specs.Extensions.{EndsAs}
 use Rattle.packet_reassembly.specs.Ipv6Fragment.{AreFragmentParts}
 use Rattle.packet_reassembly.proofs.Kept.{before_payload}
 use Rattle.packet_reassembly.proofs.ip_fragment_slice.ipv6_fragment.Goals as goal
@@ -9,7 +10,7 @@ slice_bounds-result-count c =
     omega (arith, c.requires.whole, ap length p.whole, ap length p.begins.whole, length-append {A = ℕ})
 
 pub returns-clause-found : goal.returns-clause-found
-returns-clause-found c = λ packet header begins front is_whole.
+returns-clause-found c = λ packet header enough begins front is_whole.
     let is_layout = rw front at begins.layout in
     let parts = c.in-Ok-Some.parts in
     let named : AreFragmentParts c.args.body.now c.next_header.result parts = rw c.in-Ok-Some.field-0-is at c.in-Ok-Some.ensures.found in
@@ -17,6 +18,7 @@ returns-clause-found c = λ packet header begins front is_whole.
     inr (record {
       header = header;
       body = c.args.body.now;
+      enough = enough;
       begins = begins;
       parts = parts;
       are_parts = p;
@@ -29,3 +31,22 @@ returns-clause-found c = λ packet header begins front is_whole.
           (sym is_whole ∙ (begins.whole ∙ ap (λ x. begins.front ++ x) (p.whole ∙ ap (λ x. parts.before.now ++ (parts.last.now ++ x)) p.begins.whole)));
       last_extension = refl;
     })
+
+pub returns-in-Err-clause-refused : goal.returns-in-Err-clause-refused
+returns-in-Err-clause-refused c = λ packet header enough begins front.
+    let is_layout = rw front at begins.layout in
+    let q = c.in-Err.ensures.refused in record {
+      ends = record {
+        header = header;
+        body = c.args.body.now;
+        enough = enough;
+        begins = begins;
+        fragment = None;
+        number = q.number;
+        rest = q.rest;
+        inside = c.in-Err.e;
+        ends = subst (λ (n : ℕ). EndsAs false (Some c.in-Err.e) c.args.body.now n None q.number q.rest) (c.next_header.ensures.value header is_layout) q.ends;
+        moved = c.add_offset.ensures.moved;
+      };
+      undecided = refl;
+    }
