@@ -6,6 +6,8 @@
 #[cfg(test)]
 mod builder_examples;
 #[cfg(test)]
+mod built_messages;
+#[cfg(test)]
 mod built_packets;
 #[cfg(test)]
 mod icmp_examples;

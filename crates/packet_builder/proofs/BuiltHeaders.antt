@@ -1,15 +1,14 @@
 -- Headers that are made for what comes after them.
-use Rattle.std.proofs.Common.{ℕ, ◌≡◌, ◌+◌, ◌≤◌, ◌↔◌, Err, IfErr, IsOk, List, Ok, Option, Result, ◌++◌, ap, arith, length, refl}
+use Rattle.std.proofs.Common.{ℕ, ◌≡◌, ◌+◌, ◌≤◌, ◌↔◌, Err, IfErr, IsOk, List, Ok, Result, ◌++◌, ap, arith, length, refl}
 use Rattle.std.proofs.Math.Nat.{lt_of_not-le}
 use Rattle.std.proofs.lemmas.Bool.{false≢true}
 use Rattle.etherparse_transport.specs.declared.tcp_header.TcpHeader.{TcpHeader}
-use Rattle.packet_builder.specs.BuiltPacket.{AreTags, IsIp, IsIpBefore, IsTcpChecksumOver, RefusesToWrite, headers_len, ip_len, max_len_after}
+use Rattle.packet_builder.specs.BuiltPacket.{IsIp, IsIpBefore, IsIpv6, IsTcpChecksumOver, RefusesIcmpv6, RefusesToWrite, headers_len, ip_len, max_len_after}
 use Rattle.packet_builder.specs.declared.build_slice_write_error.BuildSliceWriteError as error
 use Rattle.packet_builder.specs.declared.build_slice_write_error.BuildSliceWriteError.TheVariants as why
 use Rattle.packet_builder.specs.declared.headers.Headers.{Headers}
 use Rattle.packet_builder.specs.declared.headers.IpHeader.{IpHeader}
 use Rattle.packet_builder.specs.declared.headers.IpHeader.TheVariants as ip
-use Rattle.packet_builder.specs.declared.headers.VlanHeader.{VlanHeader}
 
 -- the header that is made has the length of the one that was given
 same_len : (given made : IpHeader) (protocol len : ℕ) → IsIpBefore given protocol len made → ip_len made ≡ ip_len given
@@ -43,15 +42,16 @@ refused headers made protocol len room is fits (Err e) accepted space =
     let lens = same_len headers.ip made protocol len is in
     rw space (fits, omega (arith, short, lens), omega (arith, lens))
 
--- an IP header and what follows it; and the tags before both
+-- over IPv6 a message of ICMPv6 is refused for the same reasons
+pub refused_over_ipv6 : (headers : Headers) (len room : ℕ) → IsIpv6 headers.ip → (r : Result ℕ error.BuildSliceWriteError) → IfErr r (RefusesToWrite headers len room)
+    → IfErr r (RefusesIcmpv6 headers len room)
+refused_over_ipv6 headers len room is (Ok n) refuses = tt
+refused_over_ipv6 headers len room is (Err (why.PayloadLen e)) refuses = (is, refuses)
+refused_over_ipv6 headers len room is (Err (why.Space n)) refuses = (is, refuses)
+refused_over_ipv6 headers len room is (Err why.Icmpv6InIpv4) refuses = elim refuses [ ]
+
+-- an IP header and what follows it
 pub record IpAndUpper (given : IpHeader) (upper bytes : List ℕ) : Type 0 where
   pub ip : List ℕ
   pub is_ip : IsIp given ip
   pub whole : bytes ≡ ip ++ upper
-
-pub record TagsAndUpper (vlan : Option VlanHeader) (ether_type : ℕ) (given : IpHeader) (upper bytes : List ℕ) : Type 0 where
-  pub tags : List ℕ
-  pub after : List ℕ
-  pub are_tags : AreTags vlan ether_type tags
-  pub is_after : IpAndUpper given upper after
-  pub whole : bytes ≡ tags ++ after

@@ -1,2 +1,4 @@
+mod ArpFrames
 mod BuiltHeaders
 mod Parts
+mod TakenApart

@@ -1,5 +1,5 @@
 -- A packet that is built: the bytes of its headers, one after the other, and its payload.
-use Rattle.std.specs.Prelude.{ℕ, ◌≡◌, ◌+◌, ◌≤◌, ◌<◌, List, [], ◌++◌, length}
+use Rattle.std.specs.Prelude.{ℕ, ◌≡◌, ◌+◌, ◌*◌, ◌≤◌, ◌<◌, List, [], ◌++◌, length}
 use Rattle.std.specs.Prelude.{Option, None, Some}
 use Rattle.etherparse.specs.HeaderChecksum.{header_checksum_of}
 use Rattle.etherparse.specs.Ipv4Header.{IsIpv4LayoutWith, ipv4_header_len, ipv4_max_payload_len}
@@ -8,9 +8,18 @@ use Rattle.etherparse.specs.declared.err.ValueType.{ValueType}
 use Rattle.etherparse.specs.declared.err.ValueType.TheVariants.{Ipv4PayloadLength}
 use Rattle.etherparse.specs.declared.err.ValueType.TheVariants.{Ipv6PayloadLength}
 use Rattle.etherparse.specs.declared.net.ipv4_header.Ipv4Header.{Ipv4Header}
+use Rattle.etherparse_icmp.specs.Icmpv4.{IsIcmpv4Written}
+use Rattle.etherparse_icmp.specs.Icmpv4Checksum.{IsIcmpv4Checksum}
+use Rattle.etherparse_icmp.specs.Icmpv6.{IsIcmpv6Written}
+use Rattle.etherparse_icmp.specs.Icmpv6Checksum.{IsIcmpv6Checksum}
+use Rattle.etherparse_icmp.specs.declared.icmpv4_type.Icmpv4Type.{Icmpv4Type}
+use Rattle.etherparse_icmp.specs.declared.icmpv6_type.Icmpv6Type.{Icmpv6Type}
+use Rattle.etherparse_link.specs.ArpPacket.{IsArpLayout, sender_hw_addr_of}
+use Rattle.etherparse_link.specs.ArpPacket.{sender_protocol_addr_of}
 use Rattle.etherparse_link.specs.Ethernet2Header.{IsEthernet2Layout}
 use Rattle.etherparse_link.specs.LinuxSllHeader.{IsLinuxSllLayout}
 use Rattle.etherparse_link.specs.SingleVlanHeader.{IsSingleVlanLayout}
+use Rattle.etherparse_link.specs.declared.arp_packet.ArpPacket.{ArpPacket}
 use Rattle.etherparse_link.specs.declared.single_vlan_header.SingleVlanHeader.{SingleVlanHeader}
 use Rattle.etherparse_transport.specs.TcpChecksum.{IsTcpChecksumIpv4, IsTcpChecksumIpv6}
 use Rattle.etherparse_transport.specs.TcpHeader.{IsTcpLayoutWith}
@@ -19,6 +28,7 @@ use Rattle.etherparse_transport.specs.UdpChecksum.{IsUdpChecksumIpv4, IsUdpCheck
 use Rattle.etherparse_transport.specs.UdpChecksum.{udp_header_for}
 use Rattle.etherparse_transport.specs.declared.tcp_header.TcpHeader.{TcpHeader}
 use Rattle.etherparse_transport.specs.declared.udp.UdpHeader.{UdpHeader}
+use Rattle.packet_builder.specs.declared.arp_step.ArpStep.{ArpStep}
 use Rattle.packet_builder.specs.declared.build_slice_write_error.BuildSliceWriteError as error
 use Rattle.packet_builder.specs.declared.build_slice_write_error.BuildSliceWriteError.TheVariants
     as why
@@ -71,6 +81,15 @@ AreTags None ether_type bytes = bytes ≡ []
 AreTags (Some (vlan.Single tag)) ether_type bytes = IsTag tag ether_type bytes
 AreTags (Some (vlan.Double outer inner)) ether_type bytes =
     AreTwoTags outer inner ether_type bytes
+
+-- the bytes of a link header and of the tags after it, before what has this EtherType
+pub record AreLinkHeaders (link : Option LinkHeader) (vlan : Option VlanHeader) (ether_type : ℕ)
+    (bytes : List ℕ) : Type 0 where
+  pub first : List ℕ
+  pub tags : List ℕ
+  pub is_link : IsLink link (first_ether_type vlan ether_type) first
+  pub are_tags : AreTags vlan ether_type tags
+  pub both : bytes ≡ first ++ tags
 
 -- ---- the IP header
 
@@ -161,6 +180,40 @@ pub record IsTcpPacket (headers : Headers) (header : TcpHeader) (payload packet 
   pub layout : IsTcpLayoutWith tcp 0 bytes
   pub has_headers : HasHeaders headers 6 (bytes ++ payload) packet
 
+-- the packet is these headers, the header of a message of ICMP of this type, and the payload
+pub record IsIcmpv4Packet (headers : Headers) (icmp_type : Icmpv4Type)
+    (payload packet : List ℕ) : Type 0 where
+  pub checksum : ℕ
+  pub bytes : List ℕ
+  pub is_checksum : IsIcmpv4Checksum icmp_type payload checksum
+  pub written : IsIcmpv4Written icmp_type checksum bytes
+  pub has_headers : HasHeaders headers 1 (bytes ++ payload) packet
+
+-- the checksum of a message of ICMPv6 between the addresses of an IPv6 header; over IPv4, which has
+-- another pseudo-header, there is none
+abbrev pub IsIcmpv6ChecksumOver : IpHeader → Icmpv6Type → List ℕ → ℕ → Type 0
+IsIcmpv6ChecksumOver (ip.Ipv4 header) icmp_type payload checksum = ⊥
+IsIcmpv6ChecksumOver (ip.Ipv6 header) icmp_type payload checksum =
+    IsIcmpv6Checksum header.source header.destination icmp_type payload checksum
+
+-- the packet is these headers, the header of a message of ICMPv6 of this type, and the payload
+pub record IsIcmpv6Packet (headers : Headers) (icmp_type : Icmpv6Type)
+    (payload packet : List ℕ) : Type 0 where
+  pub checksum : ℕ
+  pub bytes : List ℕ
+  pub is_checksum : IsIcmpv6ChecksumOver headers.ip icmp_type payload checksum
+  pub written : IsIcmpv6Written icmp_type checksum bytes
+  pub has_headers : HasHeaders headers 58 (bytes ++ payload) packet
+
+-- the packet is a link header, tags if there are any, and an ARP packet, whose EtherType is that of
+-- RFC 826
+pub record IsArpFrame (step : ArpStep) (packet : List ℕ) : Type 0 where
+  pub before : List ℕ
+  pub arp : List ℕ
+  pub are_before : AreLinkHeaders (Some step.link) step.vlan 0x0806 before
+  pub is_arp : IsArpLayout step.arp arp
+  pub whole : packet ≡ before ++ arp
+
 -- ---- lengths and refusals
 
 -- the lengths of the headers, in bytes
@@ -173,6 +226,13 @@ abbrev pub tags_len : Option VlanHeader → ℕ
 tags_len None = 0
 tags_len (Some (vlan.Single tag)) = 4
 tags_len (Some (vlan.Double outer inner)) = 8
+
+-- the lengths of a frame with an ARP packet: 8 bytes, and two addresses of each kind
+abbrev pub arp_len : ArpPacket → ℕ
+arp_len arp = 8 + 2 * length (sender_hw_addr_of arp) + 2 * length (sender_protocol_addr_of arp)
+
+abbrev pub arp_frame_len : ArpStep → ℕ
+arp_frame_len step = link_len (Some step.link) + tags_len step.vlan + arp_len step.arp
 
 abbrev pub ip_len : IpHeader → ℕ
 ip_len (ip.Ipv4 header) = ipv4_header_len header
@@ -192,6 +252,12 @@ abbrev pub len_type : IpHeader → ValueType
 len_type (ip.Ipv4 header) = Ipv4PayloadLength
 len_type (ip.Ipv6 header) = Ipv6PayloadLength
 
+-- a packet with this many bytes after its IP header can be written in this room: the IP header can
+-- count them, and the packet has no more bytes than the room
+abbrev pub FitsInto : Headers → ℕ → ℕ → Type 0
+FitsInto headers len room =
+    (len ≤ max_len_after headers.ip) × (headers_len headers + len ≤ room)
+
 -- why a packet with this many bytes after its IP header is not written in this room: the IP header
 -- cannot count them; or else the packet has more bytes than the room
 abbrev pub RefusesToWrite : Headers → ℕ → ℕ → error.BuildSliceWriteError → Type 0
@@ -202,3 +268,21 @@ RefusesToWrite headers len room (why.PayloadLen e) = (max_len_after headers.ip <
 })
 RefusesToWrite headers len room (why.Space required_len) = (len ≤ max_len_after headers.ip)
     × (room < required_len) × (required_len ≡ headers_len headers + len)
+RefusesToWrite headers len room why.Icmpv6InIpv4 = ⊥
+
+-- which version an IP header is of
+abbrev pub IsIpv4 : IpHeader → Type 0
+IsIpv4 (ip.Ipv4 header) = Unit {0}
+IsIpv4 (ip.Ipv6 header) = ⊥
+
+abbrev pub IsIpv6 : IpHeader → Type 0
+IsIpv6 (ip.Ipv4 header) = ⊥
+IsIpv6 (ip.Ipv6 header) = Unit {0}
+
+-- why a message of ICMPv6 is not: it would follow an IPv4 header; or else for the same reasons
+abbrev pub RefusesIcmpv6 : Headers → ℕ → ℕ → error.BuildSliceWriteError → Type 0
+RefusesIcmpv6 headers len room why.Icmpv6InIpv4 = IsIpv4 headers.ip
+RefusesIcmpv6 headers len room (why.PayloadLen e) =
+    IsIpv6 headers.ip × RefusesToWrite headers len room (why.PayloadLen e)
+RefusesIcmpv6 headers len room (why.Space required_len) =
+    IsIpv6 headers.ip × RefusesToWrite headers len room (why.Space required_len)

@@ -1,14 +1,14 @@
 -- The headers that the steps of a builder begin with.
-use Rattle.std.specs.Prelude.{ℕ, List, None, Some, false}
+use Rattle.std.specs.Prelude.{ℕ, List, Option, false}
 use Rattle.etherparse.specs.Ipv4Header.{default_ipv4_header}
 use Rattle.etherparse.specs.Ipv6Header.{default_ipv6_header}
-use Rattle.etherparse.specs.declared.net.ipv4_header.Ipv4Header.{Ipv4Header}
-use Rattle.etherparse.specs.declared.net.ipv6_header.Ipv6Header.{Ipv6Header}
 use Rattle.etherparse_link.specs.declared.linux_sll_header.LinuxSllHeader.{LinuxSllHeader}
 use Rattle.etherparse_link.specs.declared.single_vlan_header.SingleVlanHeader.{SingleVlanHeader}
 use Rattle.packet_builder.specs.declared.headers.IpHeader.{IpHeader}
 use Rattle.packet_builder.specs.declared.headers.IpHeader.TheVariants as ip
+use Rattle.packet_builder.specs.declared.headers.LinkHeader.{LinkHeader}
 use Rattle.packet_builder.specs.declared.headers.LinkHeader.TheVariants as link
+use Rattle.packet_builder.specs.declared.headers.VlanHeader.{VlanHeader}
 use Rattle.packet_builder.specs.declared.ip_step.IpStep.{IpStep}
 use Rattle.packet_builder.specs.declared.link_step.LinkStep.{LinkStep}
 
@@ -36,29 +36,21 @@ tag_of vlan_id = record {
 }
 
 -- an IPv4 header between two addresses, with no options, and all else as in the default
-abbrev pub ipv4_header : List ℕ → List ℕ → ℕ → Ipv4Header
-ipv4_header source destination time_to_live = record default_ipv4_header {
+abbrev pub ipv4_header : List ℕ → List ℕ → ℕ → IpHeader
+ipv4_header source destination time_to_live = ip.Ipv4 (record default_ipv4_header {
   time_to_live = time_to_live;
   source = source;
   destination = destination;
-}
+})
 
 -- the same of IPv6
-abbrev pub ipv6_header : List ℕ → List ℕ → ℕ → Ipv6Header
-ipv6_header source destination hop_limit = record default_ipv6_header {
+abbrev pub ipv6_header : List ℕ → List ℕ → ℕ → IpHeader
+ipv6_header source destination hop_limit = ip.Ipv6 (record default_ipv6_header {
   hop_limit = hop_limit;
   source = source;
   destination = destination;
-}
+})
 
--- an IP header with nothing before it
-abbrev pub ip_step : IpHeader → IpStep
-ip_step ip = record { headers = record { link = None; vlan = None; ip = ip } }
-
-abbrev pub ipv4_step : List ℕ → List ℕ → ℕ → IpStep
-ipv4_step source destination time_to_live =
-    ip_step (ip.Ipv4 (ipv4_header source destination time_to_live))
-
-abbrev pub ipv6_step : List ℕ → List ℕ → ℕ → IpStep
-ipv6_step source destination hop_limit =
-    ip_step (ip.Ipv6 (ipv6_header source destination hop_limit))
+-- an IP header after a link header and tags, if there are any
+abbrev pub ip_step : Option LinkHeader → Option VlanHeader → IpHeader → IpStep
+ip_step link vlan ip = record { headers = record { link = link; vlan = vlan; ip = ip } }

@@ -1,5 +1,5 @@
 -- What is written into memory, and what stays as it was.
-use Rattle.std.specs.Prelude.{ℕ, ◌≡◌, ◌+◌, ◌≤◌, List, ◌++◌, drop, length, take}
+use Rattle.std.specs.Prelude.{ℕ, ◌≡◌, ◌≤◌, List, ◌++◌, drop, length, take}
 
 -- the first bytes of the memory, up to an end, are now such; what comes after them is as it was
 pub record WritesFront (IsSuch : List ℕ → Type 0) (end : ℕ) (old new : List ℕ) : Type 0 where

@@ -11,6 +11,8 @@ use std::fmt;
 pub enum BuildSliceWriteError {
     /// The IP header cannot count the bytes after it.
     PayloadLen(ValueTooBigError<usize>),
+    /// A message of ICMPv6 would follow an IPv4 header, which has no pseudo-header for its checksum.
+    Icmpv6InIpv4,
     /// The slice is too short. It needs this many bytes.
     Space(usize),
 }
@@ -21,6 +23,9 @@ impl fmt::Display for BuildSliceWriteError {
     fn fmt<W: fmt::Write>(&self, f: &mut fmt::Formatter<W>) -> fmt::Result {
         match self {
             BuildSliceWriteError::PayloadLen(e) => fmt::Display::fmt(e, f),
+            BuildSliceWriteError::Icmpv6InIpv4 => {
+                write!(f, "A message of ICMPv6 cannot follow an IPv4 header.")
+            }
             BuildSliceWriteError::Space(required_len) => {
                 let required_len = *required_len;
                 write!(

@@ -1,10 +1,11 @@
 //! The headers that come before the transport header of a packet that is built.
 
-ghost use Rattle.std.specs.Prelude.{◌≡◌};
-ghost use Rattle.packet_builder.specs.BuiltPacket.{ether_type_of, first_ether_type};
+ghost use Rattle.std.specs.Prelude.{◌≡◌, ◌+◌, ◌≤◌};
+ghost use Rattle.packet_builder.specs.BuiltPacket.{ether_type_of, link_len, tags_len};
+ghost use Rattle.packet_builder.specs.Steps.{ipv4_header, ipv6_header};
 
 use crate::build_slice_write_error::BuildSliceWriteError;
-use crate::writing::{put, put_ip, put_link, put_tags};
+use crate::writing::{put, put_ip, put_link_headers};
 use etherparse::err::ValueTooBigError;
 use etherparse::{IpNumber, Ipv4Header, Ipv6Header};
 use etherparse_link::{EtherType, Ethernet2Header, LinuxSllHeader, SingleVlanHeader};
@@ -64,21 +65,11 @@ impl Headers {
         ensures value { result ≡ headers_len self.now }
         ensures within { result ≤ 84 }
     {
-        let link = match &self.link {
-            None => 0,
-            Some(LinkHeader::Ethernet2(_)) => Ethernet2Header::LEN,
-            Some(LinkHeader::LinuxSll(_)) => LinuxSllHeader::LEN,
-        };
-        let tags = match &self.vlan {
-            None => 0,
-            Some(VlanHeader::Single(_)) => SingleVlanHeader::LEN,
-            Some(VlanHeader::Double { .. }) => 2 * SingleVlanHeader::LEN,
-        };
         let ip = match &self.ip {
             IpHeader::Ipv4(header) => header.header_len(),
             IpHeader::Ipv6(_) => Ipv6Header::LEN,
         };
-        link + tags + ip
+        link_headers_len(&self.link, &self.vlan) + ip
     }
 
     // Writes the headers, what follows the IP header, and the payload at the front of a slice.
@@ -104,9 +95,7 @@ impl Headers {
             return Err(BuildSliceWriteError::Space(required_len));
         }
         let ether_type = ether_type_of(&self.ip);
-        let first = first_ether_type(&self.vlan, ether_type);
-        let at = put_link(&self.link, first, 0, out);
-        let at = put_tags(&self.vlan, ether_type, at, out);
+        let at = put_link_headers(&self.link, &self.vlan, ether_type, out);
         let at = put_ip(&self.ip, at, out);
         let at = put(transport, at, out);
         Ok(put(payload, at, out))
@@ -151,6 +140,30 @@ impl IpHeader {
     }
 }
 
+// An IPv4 header without options, between these addresses.
+pub(crate) fn ipv4_header(source: [u8; 4], destination: [u8; 4], time_to_live: u8) -> IpHeader
+    ensures value { result ≡ ipv4_header source destination time_to_live }
+{
+    IpHeader::Ipv4(Ipv4Header {
+        time_to_live,
+        source,
+        destination,
+        ..Ipv4Header::default()
+    })
+}
+
+// An IPv6 header between these addresses.
+pub(crate) fn ipv6_header(source: [u8; 16], destination: [u8; 16], hop_limit: u8) -> IpHeader
+    ensures value { result ≡ ipv6_header source destination hop_limit }
+{
+    IpHeader::Ipv6(Ipv6Header {
+        hop_limit,
+        source,
+        destination,
+        ..Ipv6Header::default()
+    })
+}
+
 // The EtherType of an IP packet with this header.
 fn ether_type_of(ip: &IpHeader) -> EtherType
     ensures value { result ≡ ether_type_of ip.now }
@@ -161,13 +174,20 @@ fn ether_type_of(ip: &IpHeader) -> EtherType
     }
 }
 
-// The EtherType that stands before these tags, before a packet of an EtherType.
-fn first_ether_type(vlan: &Option<VlanHeader>, ether_type: EtherType) -> EtherType
-    ensures value { result ≡ first_ether_type vlan.now ether_type }
+// The length of a link header and tags, in bytes.
+pub(crate) fn link_headers_len(link: &Option<LinkHeader>, vlan: &Option<VlanHeader>) -> usize
+    ensures value { result ≡ link_len link.now + tags_len vlan.now }
+    ensures within { result ≤ 24 }
 {
-    match vlan {
-        None => ether_type,
-        Some(VlanHeader::Single(_)) => EtherType::VLAN_TAGGED_FRAME,
-        Some(VlanHeader::Double { .. }) => EtherType::PROVIDER_BRIDGING,
-    }
+    let link = match link {
+        None => 0,
+        Some(LinkHeader::Ethernet2(_)) => Ethernet2Header::LEN,
+        Some(LinkHeader::LinuxSll(_)) => LinuxSllHeader::LEN,
+    };
+    let tags = match vlan {
+        None => 0,
+        Some(VlanHeader::Single(_)) => SingleVlanHeader::LEN,
+        Some(VlanHeader::Double { .. }) => 2 * SingleVlanHeader::LEN,
+    };
+    link + tags
 }

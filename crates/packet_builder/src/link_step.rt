@@ -3,11 +3,11 @@
 ghost use Rattle.std.specs.Prelude.{◌≡◌};
 ghost use Rattle.packet_builder.specs.Steps.{tag_of};
 
-use crate::headers::{Headers, IpHeader, LinkHeader, VlanHeader};
+use crate::arp_step::ArpStep;
+use crate::headers::{IpHeader, LinkHeader, VlanHeader, ipv4_header, ipv6_header};
 use crate::ip_step::IpStep;
 use crate::vlan_step::VlanStep;
-use etherparse::{Ipv4Header, Ipv6Header};
-use etherparse_link::{EtherType, SingleVlanHeader, VlanId, VlanPcp};
+use etherparse_link::{ArpPacket, EtherType, SingleVlanHeader, VlanId, VlanPcp};
 
 /// A packet that is built, after its link header.
 #[derive(Clone, Copy, Debug, PartialEq, Eq)]
@@ -18,7 +18,7 @@ pub struct LinkStep {
 
 impl LinkStep {
     ghost use Rattle.std.specs.Prelude.{◌≡◌, None, Some};
-    ghost use Rattle.packet_builder.specs.Steps.{ipv4_header, ipv6_header, tag_of};
+    ghost use Rattle.packet_builder.specs.Steps.{ip_step, ipv4_header, ipv6_header, tag_of};
 
     /// Adds a tag of a VLAN, with priority 0.
     pub fn single_vlan(self, vlan_id: VlanId) -> VlanStep
@@ -53,57 +53,36 @@ impl LinkStep {
 
     /// Adds an IPv4 header without options, between these addresses.
     pub fn ipv4(self, source: [u8; 4], destination: [u8; 4], time_to_live: u8) -> IpStep
-        ensures made { result ≡ record {
-          headers = record {
-            link = Some self.link;
-            vlan = None;
-            ip = IpHeader.Ipv4 (ipv4_header source destination time_to_live);
-          };
-        } }
+        ensures made { result ≡
+            ip_step (Some self.link) None (ipv4_header source destination time_to_live) }
     {
-        self.ip(IpHeader::Ipv4(Ipv4Header {
-            time_to_live,
-            source,
-            destination,
-            ..Ipv4Header::default()
-        }))
+        self.ip(ipv4_header(source, destination, time_to_live))
     }
 
     /// Adds an IPv6 header between these addresses.
     pub fn ipv6(self, source: [u8; 16], destination: [u8; 16], hop_limit: u8) -> IpStep
-        ensures made { result ≡ record {
-          headers = record {
-            link = Some self.link;
-            vlan = None;
-            ip = IpHeader.Ipv6 (ipv6_header source destination hop_limit);
-          };
-        } }
+        ensures made { result ≡
+            ip_step (Some self.link) None (ipv6_header source destination hop_limit) }
     {
-        self.ip(IpHeader::Ipv6(Ipv6Header {
-            hop_limit,
-            source,
-            destination,
-            ..Ipv6Header::default()
-        }))
+        self.ip(ipv6_header(source, destination, hop_limit))
+    }
+
+    /// Adds an ARP packet, which ends the packet.
+    pub fn arp(self, arp: ArpPacket) -> ArpStep
+        ensures made { result ≡ record { link = self.link; vlan = None; arp = arp } }
+    {
+        ArpStep {
+            link: self.link,
+            vlan: None,
+            arp,
+        }
     }
 
     /// Adds this IP header.
     pub fn ip(self, ip: IpHeader) -> IpStep
-        ensures made { result ≡ record {
-          headers = record {
-            link = Some self.link;
-            vlan = None;
-            ip = ip;
-          };
-        } }
+        ensures made { result ≡ ip_step (Some self.link) None ip }
     {
-        IpStep {
-            headers: Headers {
-                link: Some(self.link),
-                vlan: None,
-                ip,
-            },
-        }
+        IpStep::after(Some(self.link), None, ip)
     }
 }
 

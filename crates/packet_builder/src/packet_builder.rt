@@ -1,9 +1,8 @@
 //! Where a packet that is built begins.
 
-use crate::headers::{Headers, IpHeader, LinkHeader};
+use crate::headers::{IpHeader, LinkHeader, ipv4_header, ipv6_header};
 use crate::ip_step::IpStep;
 use crate::link_step::LinkStep;
-use etherparse::{Ipv4Header, Ipv6Header};
 use etherparse_link::{EtherType, Ethernet2Header, LinuxSllHeader};
 
 /// Builds a packet from its headers, from the outside to the inside, and writes it with a payload.
@@ -24,9 +23,9 @@ use etherparse_link::{EtherType, Ethernet2Header, LinuxSllHeader};
 pub struct PacketBuilder;
 
 impl PacketBuilder {
-    ghost use Rattle.std.specs.Prelude.{◌≡◌};
-    ghost use Rattle.packet_builder.specs.Steps.{ethernet2_step, ipv4_step, ipv6_step};
-    ghost use Rattle.packet_builder.specs.Steps.{linux_sll_step};
+    ghost use Rattle.std.specs.Prelude.{◌≡◌, None};
+    ghost use Rattle.packet_builder.specs.Steps.{ethernet2_step, ip_step, ipv4_header};
+    ghost use Rattle.packet_builder.specs.Steps.{ipv6_header, linux_sll_step};
 
     /// A packet that begins with an Ethernet header between these addresses.
     pub fn ethernet2(source: [u8; 6], destination: [u8; 6]) -> LinkStep
@@ -52,39 +51,23 @@ impl PacketBuilder {
 
     /// A packet that begins with an IPv4 header without options, between these addresses.
     pub fn ipv4(source: [u8; 4], destination: [u8; 4], time_to_live: u8) -> IpStep
-        ensures made { result ≡ ipv4_step source destination time_to_live }
+        ensures made { result ≡ ip_step None None (ipv4_header source destination time_to_live) }
     {
-        PacketBuilder::ip(IpHeader::Ipv4(Ipv4Header {
-            time_to_live,
-            source,
-            destination,
-            ..Ipv4Header::default()
-        }))
+        PacketBuilder::ip(ipv4_header(source, destination, time_to_live))
     }
 
     /// A packet that begins with an IPv6 header between these addresses.
     pub fn ipv6(source: [u8; 16], destination: [u8; 16], hop_limit: u8) -> IpStep
-        ensures made { result ≡ ipv6_step source destination hop_limit }
+        ensures made { result ≡ ip_step None None (ipv6_header source destination hop_limit) }
     {
-        PacketBuilder::ip(IpHeader::Ipv6(Ipv6Header {
-            hop_limit,
-            source,
-            destination,
-            ..Ipv6Header::default()
-        }))
+        PacketBuilder::ip(ipv6_header(source, destination, hop_limit))
     }
 
     /// A packet that begins with this IP header, whose length, number of what follows, and checksum
     /// are set when the packet is written.
     pub fn ip(ip: IpHeader) -> IpStep
-        ensures made { result ≡ record { headers = record { link = None; vlan = None; ip = ip } } }
+        ensures made { result ≡ ip_step None None ip }
     {
-        IpStep {
-            headers: Headers {
-                link: None,
-                vlan: None,
-                ip,
-            },
-        }
+        IpStep::after(None, None, ip)
     }
 }

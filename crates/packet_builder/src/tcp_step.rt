@@ -7,7 +7,7 @@ ghost use Rattle.packet_builder.specs.BuiltPacket.{IsTcpBefore};
 use crate::build_slice_write_error::BuildSliceWriteError;
 use crate::headers::{Headers, IpHeader};
 use etherparse::IpNumber;
-use etherparse_transport::{TcpHeader, TcpOptionWriteError};
+use etherparse_transport::{TcpHeader, TcpOptionElement, TcpOptionWriteError};
 
 /// A packet that is built, after its TCP header.
 #[derive(Clone, Debug, PartialEq, Eq, Drop)]
@@ -20,11 +20,13 @@ pub struct TcpStep {
 
 impl TcpStep {
     ghost use Rattle.std.specs.Prelude.{◌≡◌, ◌+◌, ◌≤◌, ◌<◌, ◌^◌, ◌↔◌, IfErr, IfOk, IsOk, OnErr};
-    ghost use Rattle.std.specs.Prelude.{length, true};
+    ghost use Rattle.std.specs.Prelude.{length, map, true};
+    ghost use Rattle.std.specs.List.{flat_map};
     ghost use Rattle.etherparse_transport.specs.TcpHeader.{tcp_header_len};
+    ghost use Rattle.etherparse_transport.specs.TcpOptions.{IsOptionList, option_bytes};
+    ghost use Rattle.etherparse_transport.specs.TcpOptions.{options_len, read_again};
     ghost use Rattle.etherparse_transport.specs.TcpPadding.{IsPadded};
-    ghost use Rattle.packet_builder.specs.BuiltPacket.{IsTcpPacket, RefusesToWrite, headers_len};
-    ghost use Rattle.packet_builder.specs.BuiltPacket.{max_len_after};
+    ghost use Rattle.packet_builder.specs.BuiltPacket.{FitsInto, IsTcpPacket, RefusesToWrite, headers_len};
     ghost use Rattle.packet_builder.specs.Writing.{WritesFront};
 
     /// Sets the flag NS: the nonce sum (RFC 3540).
@@ -111,6 +113,41 @@ impl TcpStep {
         self
     }
 
+    /// Sets the options to these, filled up to a multiple of 4 with zeros.
+    ///
+    /// # Errors
+    ///
+    /// A `TcpOptionWriteError` if they have more than 40 bytes.
+    ///
+    /// # Example
+    ///
+    /// ```
+    /// let builder = PacketBuilder::ipv4([10, 0, 0, 1], [10, 0, 0, 2], 64)
+    ///     .tcp(1024, 80, 1, 8192)
+    ///     .syn()
+    ///     .options(&[
+    ///         TcpOptionElement::MaximumSegmentSize(1460),
+    ///         TcpOptionElement::WindowScale(7),
+    ///     ])?;
+    /// assert!(rt; builder.size(0) == 48);
+    /// ```
+    pub fn options(mut self, options: &[TcpOptionElement]) -> Result<TcpStep, TcpOptionWriteError>
+        ensures accepted { IsOk result ↔ (options_len options.now ≤ 40) }
+        ensures refused { IfErr result (λ e.
+            e ≡ TcpOptionWriteError.NotEnoughSpace (options_len options.now)) }
+        ensures made { IfOk result (λ step.
+            IsPadded (flat_map option_bytes options.now) step.tcp.options) }
+        ensures read_again { IfOk result (λ step.
+            IsOptionList (map read_again options.now) step.tcp.options) }
+        ensures others { IfOk result (λ step. step ≡
+            record self { tcp = record self.tcp { options = step.tcp.options } }) }
+    {
+        match self.tcp.set_options(options) {
+            Ok(()) => Ok(self),
+            Err(e) => Err(e),
+        }
+    }
+
     /// Sets the options to these bytes, filled up to a multiple of 4 with zeros.
     ///
     /// # Errors
@@ -130,7 +167,8 @@ impl TcpStep {
         }
     }
 
-    /// The length of the packet with a payload of this length, in bytes.
+    /// The length of the packet with a payload of this length, in bytes. The payload has to be below
+    /// 2^63 bytes.
     pub fn size(&self, payload_size: usize) -> usize
         requires fits { payload_size < 2 ^ 63 }
         ensures value { result ≡
@@ -153,10 +191,8 @@ impl TcpStep {
     ) -> Result<usize, BuildSliceWriteError>
         ensures packet { IfOk result (λ end.
             WritesFront (IsTcpPacket self.headers self.tcp payload.now) end slice.old slice.new) }
-        ensures accepted { IsOk result ↔
-            ((tcp_header_len self.tcp + length payload.now ≤ max_len_after self.headers.ip)
-            × (headers_len self.headers + (tcp_header_len self.tcp + length payload.now)
-            ≤ length slice.old)) }
+        ensures accepted { IsOk result ↔ FitsInto self.headers
+            (tcp_header_len self.tcp + length payload.now) (length slice.old) }
         ensures refused { IfErr result (RefusesToWrite self.headers
             (tcp_header_len self.tcp + length payload.now) (length slice.old)) }
         ensures unchanged { OnErr result (slice.new ≡ slice.old) }

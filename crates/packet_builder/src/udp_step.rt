@@ -22,11 +22,11 @@ pub struct UdpStep {
 impl UdpStep {
     ghost use Rattle.std.specs.Prelude.{◌≡◌, ◌+◌, ◌≤◌, ◌<◌, ◌^◌, ◌↔◌, IfErr, IfOk, IsOk, OnErr};
     ghost use Rattle.std.specs.Prelude.{length};
-    ghost use Rattle.packet_builder.specs.BuiltPacket.{IsUdpPacket, RefusesToWrite, headers_len};
-    ghost use Rattle.packet_builder.specs.BuiltPacket.{max_len_after};
+    ghost use Rattle.packet_builder.specs.BuiltPacket.{FitsInto, IsUdpPacket, RefusesToWrite, headers_len};
     ghost use Rattle.packet_builder.specs.Writing.{WritesFront};
 
-    /// The length of the packet with a payload of this length, in bytes.
+    /// The length of the packet with a payload of this length, in bytes. The payload has to be below
+    /// 2^63 bytes.
     pub fn size(&self, payload_size: usize) -> usize
         requires fits { payload_size < 2 ^ 63 }
         ensures value { result ≡ headers_len self.now.headers + (8 + payload_size) }
@@ -48,8 +48,8 @@ impl UdpStep {
     ) -> Result<usize, BuildSliceWriteError>
         ensures packet { IfOk result (λ end. WritesFront (IsUdpPacket self.headers self.source_port
             self.destination_port payload.now) end slice.old slice.new) }
-        ensures accepted { IsOk result ↔ ((8 + length payload.now ≤ max_len_after self.headers.ip)
-            × (headers_len self.headers + (8 + length payload.now) ≤ length slice.old)) }
+        ensures accepted { IsOk result ↔
+            FitsInto self.headers (8 + length payload.now) (length slice.old) }
         ensures refused { IfErr result
             (RefusesToWrite self.headers (8 + length payload.now) (length slice.old)) }
         ensures unchanged { OnErr result (slice.new ≡ slice.old) }

@@ -1,8 +1,9 @@
 //! A packet that is built, after its VLAN tags.
 
-use crate::headers::{Headers, IpHeader, LinkHeader, VlanHeader};
+use crate::arp_step::ArpStep;
+use crate::headers::{IpHeader, LinkHeader, VlanHeader, ipv4_header, ipv6_header};
 use crate::ip_step::IpStep;
-use etherparse::{Ipv4Header, Ipv6Header};
+use etherparse_link::ArpPacket;
 
 /// A packet that is built, after its VLAN tags.
 #[derive(Clone, Copy, Debug, PartialEq, Eq)]
@@ -15,60 +16,39 @@ pub struct VlanStep {
 
 impl VlanStep {
     ghost use Rattle.std.specs.Prelude.{◌≡◌, Some};
-    ghost use Rattle.packet_builder.specs.Steps.{ipv4_header, ipv6_header};
+    ghost use Rattle.packet_builder.specs.Steps.{ip_step, ipv4_header, ipv6_header};
 
     /// Adds an IPv4 header without options, between these addresses.
     pub fn ipv4(self, source: [u8; 4], destination: [u8; 4], time_to_live: u8) -> IpStep
-        ensures made { result ≡ record {
-          headers = record {
-            link = Some self.link;
-            vlan = Some self.vlan;
-            ip = IpHeader.Ipv4 (ipv4_header source destination time_to_live);
-          };
-        } }
+        ensures made { result ≡
+            ip_step (Some self.link) (Some self.vlan) (ipv4_header source destination time_to_live) }
     {
-        self.ip(IpHeader::Ipv4(Ipv4Header {
-            time_to_live,
-            source,
-            destination,
-            ..Ipv4Header::default()
-        }))
+        self.ip(ipv4_header(source, destination, time_to_live))
     }
 
     /// Adds an IPv6 header between these addresses.
     pub fn ipv6(self, source: [u8; 16], destination: [u8; 16], hop_limit: u8) -> IpStep
-        ensures made { result ≡ record {
-          headers = record {
-            link = Some self.link;
-            vlan = Some self.vlan;
-            ip = IpHeader.Ipv6 (ipv6_header source destination hop_limit);
-          };
-        } }
+        ensures made { result ≡
+            ip_step (Some self.link) (Some self.vlan) (ipv6_header source destination hop_limit) }
     {
-        self.ip(IpHeader::Ipv6(Ipv6Header {
-            hop_limit,
-            source,
-            destination,
-            ..Ipv6Header::default()
-        }))
+        self.ip(ipv6_header(source, destination, hop_limit))
+    }
+
+    /// Adds an ARP packet, which ends the packet.
+    pub fn arp(self, arp: ArpPacket) -> ArpStep
+        ensures made { result ≡ record { link = self.link; vlan = Some self.vlan; arp = arp } }
+    {
+        ArpStep {
+            link: self.link,
+            vlan: Some(self.vlan),
+            arp,
+        }
     }
 
     /// Adds this IP header.
     pub fn ip(self, ip: IpHeader) -> IpStep
-        ensures made { result ≡ record {
-          headers = record {
-            link = Some self.link;
-            vlan = Some self.vlan;
-            ip = ip;
-          };
-        } }
+        ensures made { result ≡ ip_step (Some self.link) (Some self.vlan) ip }
     {
-        IpStep {
-            headers: Headers {
-                link: Some(self.link),
-                vlan: Some(self.vlan),
-                ip,
-            },
-        }
+        IpStep::after(Some(self.link), Some(self.vlan), ip)
     }
 }

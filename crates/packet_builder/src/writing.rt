@@ -3,7 +3,8 @@
 
 ghost use Rattle.std.specs.Prelude.{◌≡◌, ◌+◌, ◌≤◌, length};
 ghost use Rattle.packet_builder.specs.BuiltPacket.{AreTags, IsIp, IsLink, IsTag, ip_len, link_len};
-ghost use Rattle.packet_builder.specs.BuiltPacket.{AreTwoTags, tags_len};
+ghost use Rattle.packet_builder.specs.BuiltPacket.{AreLinkHeaders, AreTwoTags};
+ghost use Rattle.packet_builder.specs.BuiltPacket.{first_ether_type, tags_len};
 ghost use Rattle.packet_builder.specs.Writing.{WritesPart};
 
 use crate::headers::{IpHeader, LinkHeader, VlanHeader};
@@ -20,13 +21,36 @@ pub(crate) fn put(part: &[u8], at: usize, out: &mut [u8]) -> usize
     end
 }
 
-// A link header that has this EtherType.
-pub(crate) fn put_link(
+// A link header and tags before what has this EtherType, at the front.
+pub(crate) fn put_link_headers(
     link: &Option<LinkHeader>,
+    vlan: &Option<VlanHeader>,
     ether_type: EtherType,
-    at: usize,
     out: &mut [u8],
 ) -> usize
+    requires room { link_len link.now + tags_len vlan.now ≤ length out.old }
+    ensures end { result ≡ link_len link.now + tags_len vlan.now }
+    ensures writes { WritesPart (AreLinkHeaders link.now vlan.now ether_type)
+        0 result out.old out.new }
+{
+    let first = first_ether_type(vlan, ether_type);
+    let at = put_link(link, first, 0, out);
+    put_tags(vlan, ether_type, at, out)
+}
+
+// The EtherType that stands before these tags, before a packet of an EtherType.
+fn first_ether_type(vlan: &Option<VlanHeader>, ether_type: EtherType) -> EtherType
+    ensures value { result ≡ first_ether_type vlan.now ether_type }
+{
+    match vlan {
+        None => ether_type,
+        Some(VlanHeader::Single(_)) => EtherType::VLAN_TAGGED_FRAME,
+        Some(VlanHeader::Double { .. }) => EtherType::PROVIDER_BRIDGING,
+    }
+}
+
+// A link header that has this EtherType.
+fn put_link(link: &Option<LinkHeader>, ether_type: EtherType, at: usize, out: &mut [u8]) -> usize
     requires room { at + link_len link.now ≤ length out.old }
     ensures end { result ≡ at + link_len link.now }
     ensures writes { WritesPart (IsLink link.now ether_type) at result out.old out.new }
@@ -51,12 +75,7 @@ pub(crate) fn put_link(
 }
 
 // VLAN tags before what has this EtherType.
-pub(crate) fn put_tags(
-    vlan: &Option<VlanHeader>,
-    ether_type: EtherType,
-    at: usize,
-    out: &mut [u8],
-) -> usize
+fn put_tags(vlan: &Option<VlanHeader>, ether_type: EtherType, at: usize, out: &mut [u8]) -> usize
     requires room { at + tags_len vlan.now ≤ length out.old }
     ensures end { result ≡ at + tags_len vlan.now }
     ensures writes { WritesPart (AreTags vlan.now ether_type) at result out.old out.new }
