@@ -1,5 +1,5 @@
 -- A packet that was built is read in its layers: they are given, and reading has no other answer.
-use Rattle.std.proofs.Common.{ℕ, zero, suc, ◌≡◌, ◌≢◌, ◌+◌, ◌*◌, ◌-◌, ◌==◌, ◌<◌, ◌≤◌, ◌^◌, ◌⊎◌, ◌∙◌, ◌++◌, Bool, Err, IsFalse, IsTrue, List, [], ◌∷◌, None, Ok, Option, Result, Some, ap, append-nil, arith, drop, false, inl, inr, length, length-append, map, not, option_map, refl, slice_index, sym, take}
+use Rattle.std.proofs.Common.{ℕ, zero, suc, ◌≡◌, ◌≢◌, ◌+◌, ◌-◌, ◌<◌, ◌≤◌, ◌^◌, ◌⊎◌, ◌∙◌, ◌++◌, Err, IsFalse, IsTrue, List, [], ◌∷◌, None, Ok, Option, Result, Some, ap, append-nil, arith, drop, false, inl, inr, length, length-append, map, option_map, refl, slice_index, sym, take}
 use Rattle.std.specs.Prelude.{IsOkAnd, IsSomeAnd}
 use Rattle.std.proofs.lemmas.Grind.{common_steps}
 use Rattle.std.proofs.lemmas.List.{append_assoc, drop_at, take_all, take_at}

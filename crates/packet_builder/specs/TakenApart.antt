@@ -25,7 +25,7 @@ use Rattle.packet_builder.specs.declared.headers.LinkHeader.TheVariants as link
 use Rattle.packet_builder.specs.declared.headers.VlanHeader.{VlanHeader}
 use Rattle.packet_builder.specs.declared.headers.VlanHeader.TheVariants as vlan
 use Rattle.packet_parts.specs.Checksum.{IsVerdict}
-use Rattle.packet_parts.specs.IpSlice.{IpHeaderParts, IpParts, Ipv4Bytes, Ipv6Bytes}
+use Rattle.packet_parts.specs.IpSlice.{IpHeaderParts, Ipv4Bytes, Ipv6Bytes}
 use Rattle.packet_parts.specs.declared.checksum.Verdict.TheVariants.{Right}
 use Rattle.etherparse_transport.specs.declared.tcp_header.TcpHeader.{TcpHeader}
 
