@@ -15,28 +15,28 @@ ghost use Rattle.packet_builder.specs.TakenApart.{IsBuiltOfIcmpv6, IsBuiltOfTcp,
 ghost use Rattle.packet_builder.specs.TakenApart.{IsNoFragment};
 ghost use Rattle.packet_builder.specs.TakenApart.{TagsAreLinked, link_type_for};
 ghost use Rattle.packet_builder.specs.declared.arp_step.ArpStep.{ArpStep as Arp};
-ghost use Rattle.packet_builder.specs.declared.headers.Headers.{Headers as All};
+ghost use Rattle.packet_builder.specs.declared.headers.Headers.{Headers as Before};
 
 /// A packet that was built, and is no fragment, is read by `SlicedPacket::from_link_type` in its
 /// layers, each with the bytes that it was built of; and its checksum is right.
 pub fn built_packet_law()
-    ensures udp { (headers : All) → (source_port destination_port : ℕ) →
+    ensures udp { (headers : Before) → (source_port destination_port : ℕ) →
         (payload frame : List ℕ) →
         IsUdpPacket headers source_port destination_port payload frame →
         IsNoFragment headers.ip → TagsAreLinked headers → (answer : Result Packet Refused) →
         IsReadingOf (link_type_for headers.link) frame answer →
         IsOkAnd answer (IsBuiltOfUdp headers source_port destination_port payload frame) }
-    ensures tcp { (headers : All) → (header : Tcp) → (payload frame : List ℕ) →
+    ensures tcp { (headers : Before) → (header : Tcp) → (payload frame : List ℕ) →
         IsTcpPacket headers header payload frame → IsNoFragment headers.ip →
         TagsAreLinked headers → (answer : Result Packet Refused) →
         IsReadingOf (link_type_for headers.link) frame answer →
         IsOkAnd answer (IsBuiltOfTcp headers header payload frame) }
-    ensures icmpv4 { (headers : All) → (icmp_type : Icmpv4) → (payload frame : List ℕ) →
+    ensures icmpv4 { (headers : Before) → (icmp_type : Icmpv4) → (payload frame : List ℕ) →
         IsIcmpv4Packet headers icmp_type payload frame → IsIpv4 headers.ip →
         IsNoFragment headers.ip → TagsAreLinked headers → (answer : Result Packet Refused) →
         IsReadingOf (link_type_for headers.link) frame answer →
         IsOkAnd answer (IsBuiltOfIcmpv4 headers icmp_type payload frame) }
-    ensures icmpv6 { (headers : All) → (icmp_type : Icmpv6) → (payload frame : List ℕ) →
+    ensures icmpv6 { (headers : Before) → (icmp_type : Icmpv6) → (payload frame : List ℕ) →
         IsIcmpv6Packet headers icmp_type payload frame → TagsAreLinked headers →
         (answer : Result Packet Refused) →
         IsReadingOf (link_type_for headers.link) frame answer →
