@@ -438,19 +438,25 @@ found_right : (given made : IpHeader) (protocol : ℕ) (ip_bytes upper : List �
     → IsVerdictOver (header_of made ip_bytes is) protocol upper Right
 found_right (ip.Ipv4 given) (ip.Ipv4 made) protocol ip_bytes upper is before covers there sums =
     let source = is.source ∙ ap (λ h. h.source) before.fields in
-    let destination = is.destination ∙ ap (λ h. h.destination) before.fields in
-    (upper, record { covers = covers; there = there }, record {
-      fits = λ _. counted_4 given made protocol (length upper) ip_bytes before is;
-      sum = rw (source, destination) sums;
-    })
+    let destination = is.destination ∙ ap (λ h. h.destination) before.fields in (
+      upper,
+      record { covers = covers; there = there },
+      record {
+        fits = λ _. counted_4 given made protocol (length upper) ip_bytes before is;
+        sum = rw (source, destination) sums;
+      },
+    )
 found_right (ip.Ipv6 given) (ip.Ipv6 made) protocol ip_bytes upper is before covers there sums =
     let source = is.source ∙ ap (λ h. h.source) before in
-    let destination = is.destination ∙ ap (λ h. h.destination) before in
-    (upper, covers, record {
-      there = there;
-      fits = omega (arith, counted_6 made ip_bytes is, ap (λ h. h.payload_length) before);
-      sum = rw (source, destination) sums;
-    })
+    let destination = is.destination ∙ ap (λ h. h.destination) before in (
+      upper,
+      covers,
+      record {
+        there = there;
+        fits = omega (arith, counted_6 made ip_bytes is, ap (λ h. h.payload_length) before);
+        sum = rw (source, destination) sums;
+      },
+    )
 found_right (ip.Ipv4 given) (ip.Ipv6 made) protocol ip_bytes upper is before covers there sums = elim before [ ]
 found_right (ip.Ipv6 given) (ip.Ipv4 made) protocol ip_bytes upper is before covers there sums = elim before [ ]
 
@@ -479,11 +485,11 @@ udp_read headers source_port destination_port payload frame built alone linked r
     let counts = ap (λ h. h.length) built.is_udp.fields in
     let whole = len built.udp built.bytes payload built.layout counts in
     let right = found_right headers.ip has.ip 17 has.begins.ip (built.bytes ++ payload) has.begins.is_ip has.is_ip (covers_udp built.udp built.bytes payload built.layout counts (icmp_over headers.ip))
-        (udp_there headers.ip built.udp built.bytes payload built.layout counts built.is_udp.checksum)
-        (udp_sums headers.ip built.udp built.bytes payload built.layout whole built.is_udp.checksum) in
+    (udp_there headers.ip built.udp built.bytes payload built.layout counts built.is_udp.checksum)
+    (udp_sums headers.ip built.udp built.bytes payload built.layout whole built.is_udp.checksum) in
     okay r (is_read_in_layers headers 17 (built.bytes ++ payload) frame has alone linked (no_extension 17 (inl refl)) (transport.Udp built.udp (shared payload))
-        (λ place. udp_found place (net_of has.ip 17 has.begins.ip (built.bytes ++ payload) has.begins.is_ip) built.udp built.bytes (shared payload) refl refl refl refl built.layout) right r reading)
-        (λ packet both. record { built = built; layers = both.0; right = both.1 })
+    (λ place. udp_found place (net_of has.ip 17 has.begins.ip (built.bytes ++ payload) has.begins.is_ip) built.udp built.bytes (shared payload) refl refl refl refl built.layout) right r reading)
+    (λ packet both. record { built = built; layers = both.0; right = both.1 })
 
 -- ---- TCP
 
@@ -511,11 +517,11 @@ tcp_read headers header payload frame built alone linked r reading =
     let whole : length (bytes ++ payload) ≡ tcp_header_len built.tcp + length payload = omega (arith, length-append bytes payload, built.layout.len) in
     let enough : 20 ≤ length (bytes ++ payload) = omega (arith, whole) in
     let right = found_right headers.ip has.ip 6 has.begins.ip (bytes ++ payload) has.begins.is_ip has.is_ip (inr (inl (refl, enough, refl))) (λ none. omega (arith, none.0))
-        (tcp_sums headers.ip built.tcp bytes payload built.layout whole built.is_tcp.checksum) in
+    (tcp_sums headers.ip built.tcp bytes payload built.layout whole built.is_tcp.checksum) in
     okay r (is_read_in_layers headers 6 (bytes ++ payload) frame has alone linked (no_extension 6 (inr (inl refl))) (transport.Tcp (tcp_view built.tcp bytes built.layout) (shared payload))
-        (λ place. tcp_found place (net_of has.ip 6 has.begins.ip (bytes ++ payload) has.begins.is_ip) (tcp_view built.tcp bytes built.layout) (shared payload) refl refl refl refl
-        (layout_viewed built.tcp 0 bytes payload built.layout)) right r reading)
-        (λ packet both. record { built = built; layers = both.0; right = both.1 })
+    (λ place. tcp_found place (net_of has.ip 6 has.begins.ip (bytes ++ payload) has.begins.is_ip) (tcp_view built.tcp bytes built.layout) (shared payload) refl refl refl refl
+    (layout_viewed built.tcp 0 bytes payload built.layout)) right r reading)
+    (λ packet both. record { built = built; layers = both.0; right = both.1 })
 
 -- ---- ICMP
 
@@ -567,15 +573,15 @@ icmpv4_read headers icmp_type payload frame built over alone linked r reading =
     let enough : 4 ≤ length (bytes ++ payload) = omega (arith, long, length-append bytes payload) in
     let view = view_over_4 headers.ip has.ip 1 (length (bytes ++ payload)) has.begins.ip has.begins.is_ip has.is_ip over in
     let right = found_right headers.ip has.ip 1 has.begins.ip (bytes ++ payload) has.begins.is_ip has.is_ip (icmpv4_covers headers.ip (bytes ++ payload) over enough) (λ none. omega (arith, none.0))
-        (icmpv4_sums headers.ip (bytes ++ payload) over (built.is_checksum.right bytes built.written)) in
+    (icmpv4_sums headers.ip (bytes ++ payload) over (built.is_checksum.right bytes built.written)) in
     let header : icmp_header (bytes ++ payload) ≡ icmp_header_for (icmpv4_type_number icmp_type) (icmpv4_code_number icmp_type) built.checksum =
-        icmp_header_is bytes payload long ∙ rw (sym layout.says.type_is, sym layout.says.code_is, layout.checksum_is) refl in
+    icmp_header_is bytes payload long ∙ rw (sym layout.says.type_is, sym layout.says.code_is, layout.checksum_is) refl in
     let parts : Icmpv4Parts (icmp_header (bytes ++ payload)) (drop 4 (bytes ++ payload))
-        ≡ Icmpv4Parts (icmp_header_for (icmpv4_type_number icmp_type) (icmpv4_code_number icmp_type) built.checksum) (drop 4 bytes ++ payload) =
-        rw (header, after_icmp_header bytes payload long) refl in
+    ≡ Icmpv4Parts (icmp_header_for (icmpv4_type_number icmp_type) (icmpv4_code_number icmp_type) built.checksum) (drop 4 bytes ++ payload) =
+    rw (header, after_icmp_header bytes payload long) refl in
     okay r (is_read_in_layers headers 1 (bytes ++ payload) frame has alone linked (no_extension 1 (inr (inr (inl refl)))) (transport.Icmpv4 (icmp_header (bytes ++ payload)) (shared (drop 4 (bytes ++ payload))))
-        (λ place. icmpv4_found place (net_of has.ip 1 has.begins.ip (bytes ++ payload) has.begins.is_ip) view.0 (shared (drop 4 (bytes ++ payload))) refl refl refl view.1 enough refl) right r reading)
-        (λ packet both. record { built = built; layers = both.0 ∙ ap (layers_for headers 1 (bytes ++ payload) frame has) parts; right = both.1 })
+    (λ place. icmpv4_found place (net_of has.ip 1 has.begins.ip (bytes ++ payload) has.begins.is_ip) view.0 (shared (drop 4 (bytes ++ payload))) refl refl refl view.1 enough refl) right r reading)
+    (λ packet both. record { built = built; layers = both.0 ∙ ap (layers_for headers 1 (bytes ++ payload) frame has) parts; right = both.1 })
 
 no_fragment_6 : (given : IpHeader) → IsIpv6 given → IsNoFragment given
 no_fragment_6 (ip.Ipv6 given) over = tt
@@ -607,15 +613,15 @@ icmpv6_read headers icmp_type payload frame built linked r reading =
     let enough : 4 ≤ length (bytes ++ payload) = omega (arith, long, length-append bytes payload) in
     let view = view_over_6 headers.ip has.ip 58 (length (bytes ++ payload)) has.begins.ip has.begins.is_ip has.is_ip over in
     let right = found_right headers.ip has.ip 58 has.begins.ip (bytes ++ payload) has.begins.is_ip has.is_ip (icmpv6_covers headers.ip (bytes ++ payload) over enough) (λ none. omega (arith, none.0))
-        (icmpv6_sums headers.ip icmp_type bytes payload built.checksum built.is_checksum built.written) in
+    (icmpv6_sums headers.ip icmp_type bytes payload built.checksum built.is_checksum built.written) in
     let header : icmp_header (bytes ++ payload) ≡ icmp_header_for (icmpv6_type_number icmp_type) (icmpv6_code_number icmp_type) built.checksum =
-        icmp_header_is bytes payload long ∙ rw (sym layout.says.type_is, sym layout.says.code_is, layout.checksum_is) refl in
+    icmp_header_is bytes payload long ∙ rw (sym layout.says.type_is, sym layout.says.code_is, layout.checksum_is) refl in
     let parts : Icmpv6Parts (icmp_header (bytes ++ payload)) (drop 4 (bytes ++ payload))
-        ≡ Icmpv6Parts (icmp_header_for (icmpv6_type_number icmp_type) (icmpv6_code_number icmp_type) built.checksum) (drop 4 bytes ++ payload) =
-        rw (header, after_icmp_header bytes payload long) refl in
+    ≡ Icmpv6Parts (icmp_header_for (icmpv6_type_number icmp_type) (icmpv6_code_number icmp_type) built.checksum) (drop 4 bytes ++ payload) =
+    rw (header, after_icmp_header bytes payload long) refl in
     okay r (is_read_in_layers headers 58 (bytes ++ payload) frame has (no_fragment_6 headers.ip over) linked (no_extension 58 (inr (inr (inr refl)))) (transport.Icmpv6 (icmp_header (bytes ++ payload)) (shared (drop 4 (bytes ++ payload))))
-        (λ place. icmpv6_found place (net_of has.ip 58 has.begins.ip (bytes ++ payload) has.begins.is_ip) view.0 (shared (drop 4 (bytes ++ payload))) refl refl refl view.1 enough refl) right r reading)
-        (λ packet both. record { built = built; layers = both.0 ∙ ap (layers_for headers 58 (bytes ++ payload) frame has) parts; right = both.1 })
+    (λ place. icmpv6_found place (net_of has.ip 58 has.begins.ip (bytes ++ payload) has.begins.is_ip) view.0 (shared (drop 4 (bytes ++ payload))) refl refl refl view.1 enough refl) right r reading)
+    (λ packet both. record { built = built; layers = both.0 ∙ ap (layers_for headers 58 (bytes ++ payload) frame has) parts; right = both.1 })
 
 -- ---- ARP
 
