@@ -1,4 +1,5 @@
 mod Places
+mod Stored
 mod Whole
 mod Within
 mod Answered

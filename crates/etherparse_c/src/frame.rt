@@ -10,6 +10,7 @@ ghost use Rattle.etherparse_c.specs.Layers.{OfLinkType, refused_packet};
 
 use crate::answer::Error;
 use crate::packet_layers::{Packet, packet_of};
+use crate::store::put_whole;
 use etherparse_link::EtherType;
 use packet::lax_sliced_packet::{LaxSlicedPacket, frame_layers, layers_after};
 use packet::link::LinkType;
@@ -136,10 +137,27 @@ fn put(known: Option<LinkType>, number: u32, frame: &[u8], checksums: bool, answ
     ensures reads { GivesLax number checksums frame.now answer.new }
 {
     match known {
-        Some(LinkType::Ethernet2) => put_lax(LinkType::Ethernet2, frame, checksums, answer),
+        Some(LinkType::Ethernet2) => put_ethernet(frame, checksums, answer),
         Some(link_type) => put_kept(link_type, frame, checksums, answer),
         None => *answer = refused(Error::of_link_type(number)),
     }
+}
+
+// The layers of an Ethernet frame: in one pass, if its checksums are not judged and nothing stops
+// its reading.
+#[inline(always)]
+fn put_ethernet(frame: &[u8], checksums: bool, answer: &mut Packet)
+    ensures reads { GetsAnswer (IsLaxReadingOf LinkType.Ethernet2 frame.now)
+        (IsLaxInC (length frame.now) checksums answer.new) }
+{
+    if checksums {
+        put_kept(LinkType::Ethernet2, frame, checksums, answer);
+        return;
+    }
+    if put_whole(frame, answer) {
+        return;
+    }
+    put_kept(LinkType::Ethernet2, frame, checksums, answer);
 }
 
 // The layers of a frame of a link type that is read.

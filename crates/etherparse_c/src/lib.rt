@@ -15,6 +15,7 @@ pub mod ipv6_walk;
 mod laws;
 pub mod packet_layers;
 mod room;
+mod store;
 pub mod text;
 
 use answer::{Error, Rest};

@@ -2,17 +2,19 @@
 
 ghost use Rattle.std.specs.Prelude.{◌≡◌, ◌+◌, ◌^◌, ◌<◌, ◌≤◌, IfSome, length, true};
 ghost use Rattle.packet.specs.SlicedPacket.{IsVerdictOn};
+ghost use Rattle.packet.specs.declared.sliced_packet.SlicedPacket.{SlicedPacket as Sliced};
 ghost use Rattle.packet_parts.specs.Checksum.{IsVerdict};
 ghost use Rattle.packet_parts.specs.IpSlice.{header_len_of};
 ghost use Rattle.etherparse_c.specs.Layers.{HasTransportInC, IsHeaderVerdict, IsPacketInC};
 ghost use Rattle.etherparse_c.specs.Layers.{IsPayloadVerdict, header_at, icmp_at, ip_in_c};
+ghost use Rattle.etherparse_c.specs.Layers.{ip_parts_in_c};
 ghost use Rattle.etherparse_c.specs.Layers.{link_family, link_header_len, link_in_c, link_kind};
 ghost use Rattle.etherparse_c.specs.Layers.{tag_in_c, tags_in_c};
 ghost use Rattle.etherparse_c.specs.Private.Within.{ArePartsWithin};
 
 use crate::answer::Error;
 use etherparse::checksum::u64_16bit_word;
-use etherparse_link::SingleVlanHeaderSlice;
+use etherparse_link::{EtherType, SingleVlanHeaderSlice};
 use packet::error::SliceError;
 use packet::link::LinkSlice;
 use packet::sliced_packet::SlicedPacket;
@@ -157,7 +159,13 @@ pub(crate) fn packet_of(
 {
     let place = frame_len - packet.payload.len();
     Packet {
-        link: link_of(place, packet),
+        link: link_of(
+            place,
+            &packet.link,
+            &packet.vlan,
+            &packet.ether_type,
+            packet.payload,
+        ),
         ip: ip_of(place, packet),
         transport: transport_of(place, packet),
         stop: Error::of_stop(stop),
@@ -172,12 +180,20 @@ pub(crate) fn packet_of(
 
 // The link header and the tags before a payload at a place.
 #[inline(always)]
-fn link_of(place: usize, packet: &SlicedPacket) -> PacketLink
-    ensures value { result ≡ link_in_c place packet.now }
+pub(crate) fn link_of(
+    place: usize,
+    link: &Option<LinkSlice>,
+    vlan: &Option<VlanSlice>,
+    ether_type: &Option<EtherType>,
+    payload: &[u8],
+) -> PacketLink
+    ensures value { (packet : Sliced) → packet.link ≡ link.now → packet.vlan ≡ vlan.now →
+        packet.ether_type ≡ ether_type.now → packet.payload.now ≡ payload.now →
+        result ≡ link_in_c place packet }
 {
-    let (outer_vlan, inner_vlan, vlan_count) = tags_of(packet);
-    let (kind, header_len, family) = header_of(packet);
-    let (has_ether_type, ether_type) = match packet.ether_type {
+    let (outer_vlan, inner_vlan, vlan_count) = tags_of(vlan);
+    let (kind, header_len, family) = header_of(link);
+    let (has_ether_type, ether_type) = match ether_type {
         Some(ether_type) => (true, ether_type.0),
         None => (false, 0),
     };
@@ -188,7 +204,7 @@ fn link_of(place: usize, packet: &SlicedPacket) -> PacketLink
         },
         payload: Part {
             offset: place,
-            len: packet.payload.len(),
+            len: payload.len(),
         },
         family,
         ether_type,
@@ -202,12 +218,12 @@ fn link_of(place: usize, packet: &SlicedPacket) -> PacketLink
 
 // Which link header it is, how long it is in bytes, and its family.
 #[inline(always)]
-fn header_of(packet: &SlicedPacket) -> (u8, usize, u32)
-    ensures kind { result.0 ≡ link_kind packet.now.link }
-    ensures len { result.1 ≡ link_header_len packet.now.link }
-    ensures family { result.2 ≡ link_family packet.now.link }
+fn header_of(link: &Option<LinkSlice>) -> (u8, usize, u32)
+    ensures kind { result.0 ≡ link_kind link.now }
+    ensures len { result.1 ≡ link_header_len link.now }
+    ensures family { result.2 ≡ link_family link.now }
 {
-    match &packet.link {
+    match link {
         None => (0, 0, 0),
         Some(LinkSlice::Ethernet2(header)) => (1, header.slice.len(), 0),
         Some(LinkSlice::LinuxSll(header)) => (2, header.slice.len(), 0),
@@ -219,10 +235,10 @@ fn header_of(packet: &SlicedPacket) -> (u8, usize, u32)
 
 // The outer tag, the inner tag, and how many there are.
 #[inline(always)]
-fn tags_of(packet: &SlicedPacket) -> (VlanTag, VlanTag, u8)
-    ensures value { result ≡ tags_in_c packet.now.vlan }
+fn tags_of(vlan: &Option<VlanSlice>) -> (VlanTag, VlanTag, u8)
+    ensures value { result ≡ tags_in_c vlan.now }
 {
-    match &packet.vlan {
+    match vlan {
         None => (VlanTag::default(), VlanTag::default(), 0),
         Some(VlanSlice::SingleVlan(tag)) => (tag_of(tag), VlanTag::default(), 1),
         Some(VlanSlice::DoubleVlan { outer, inner }) => (tag_of(outer), tag_of(inner), 2),
@@ -250,9 +266,19 @@ fn ip_of(place: usize, packet: &SlicedPacket) -> PacketIp
         header_len_of ip ≤ length packet.now.payload.now) }
     ensures value { result ≡ ip_in_c place packet.now }
 {
-    let Some(ip) = &packet.net else {
-        return PacketIp::default();
-    };
+    match &packet.net {
+        Some(ip) => ip_parts_of(place, packet.payload.len(), ip),
+        None => PacketIp::default(),
+    }
+}
+
+// The parts of an IP packet at a place, of which so many bytes are there.
+#[inline(always)]
+pub(crate) fn ip_parts_of(place: usize, there: usize, ip: &IpSlice) -> PacketIp
+    requires fits { place + there < 2 ^ 63 }
+    requires within { header_len_of ip.now ≤ there }
+    ensures value { result ≡ ip_parts_in_c place there ip.now }
+{
     let (is_fragment, identification, fragment_offset, more_fragments) = match ip.fragment {
         Some(it) => (true, it.identification, it.offset, it.more_fragments),
         None => (false, 0, 0, false),
@@ -283,7 +309,7 @@ fn ip_of(place: usize, packet: &SlicedPacket) -> PacketIp
         is_fragment,
         more_fragments,
         is_later_fragment: ip.is_later_fragment,
-        is_truncated: packet.payload.len() < packet_len,
+        is_truncated: there < packet_len,
     }
 }
 
@@ -313,7 +339,7 @@ fn transport_of(place: usize, packet: &SlicedPacket) -> PacketTransport
 
 // A transport header at a place, without its ports.
 #[inline(always)]
-fn header_at(start: usize, transport: &Option<TransportSlice>) -> PacketTransport
+pub(crate) fn header_at(start: usize, transport: &Option<TransportSlice>) -> PacketTransport
     requires fits { start < 2 ^ 63 }
     ensures value { result ≡ header_at start transport.now }
 {
