@@ -1,8 +1,8 @@
 use crate::arguments::Arguments;
 use crate::shown::{Written, write_shown, write_text};
 use crate::{
-    comparison, constants, equality, fields, filters, fragments, ipv4, ipv6, offsets, options,
-    packets, sums, texts, walks,
+    build, comparison, constants, equality, extensions, fields, filters, fragments, icmp, ipv4,
+    ipv6, link, offsets, options, packets, sums, texts, transport, walks,
 };
 use etherparse::err::{Layer, ValueType};
 use etherparse::{IpDscpKnown, IpNumber};
@@ -43,6 +43,11 @@ fn answer_case(arguments: &mut Arguments, answer: &mut String) -> Written {
         "text" => texts::answer(name, arguments, answer),
         "off" => offsets::answer(name, arguments, answer),
         "eq" => equality::answer(name, arguments, answer),
+        "link" => link::answer(name, arguments, answer),
+        "ext" => extensions::answer(name, arguments, answer),
+        "udp" => transport::answer_udp(name, arguments, answer),
+        "tcp" => transport::answer_tcp(name, arguments, answer),
+        "icmp" => icmp::answer(name, arguments, answer),
         _ => match name {
             "" => answer_alone(group, arguments, answer),
             "cmp" => comparison::answer(group, arguments, answer),
@@ -58,6 +63,7 @@ fn answer_alone(operation: &str, arguments: &mut Arguments, answer: &mut String)
         "packet" => packets::answer(arguments, answer),
         "filter" => filters::answer(arguments, answer),
         "fragments" => fragments::answer(arguments, answer),
+        "build" => build::answer(arguments, answer),
         "upd" => sums::answer_update(arguments, answer),
         "known" => write_shown(
             &IpDscpKnown::try_from_ip_dscp(arguments.field::<u8, _>()),

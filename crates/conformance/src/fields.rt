@@ -5,6 +5,7 @@ use crate::arguments::Arguments;
 use crate::shown::{Shown, Written, write_shown};
 use etherparse::err::ip::IpDscpUnknownValueError;
 use etherparse::{IpDscp, IpDscpKnown, IpEcn, IpFragOffset, IpNumber, Ipv6FlowLabel, Ipv6Header};
+use etherparse_link::{VlanId, VlanPcp};
 use std::fmt;
 
 /// The cases `FIELD.new V` and `FIELD.try V`: a field from its number.
@@ -34,6 +35,16 @@ pub fn answer(field: &str, name: &str, arguments: &mut Arguments, answer: &mut S
         "ecn" => {
             let number = arguments.number();
             let made = [IpEcn::try_new(number), IpEcn::try_from(number)];
+            write_made(name, &made, arguments, answer)
+        }
+        "vlan_id" => {
+            let number = arguments.number();
+            let made = [VlanId::try_new(number), VlanId::try_from(number)];
+            write_made(name, &made, arguments, answer)
+        }
+        "vlan_pcp" => {
+            let number = arguments.number();
+            let made = [VlanPcp::try_new(number), VlanPcp::try_from(number)];
             write_made(name, &made, arguments, answer)
         }
         _ => arguments.refused(),
@@ -79,6 +90,20 @@ impl Shown for IpEcn {
     fn show<W: fmt::Write>(&self, f: &mut fmt::Formatter<W>) -> fmt::Result {
         let (value, into) = (self.value(), u8::from(*self));
         write!(f, "value={value} into={into} text={self} variant={self:?}")
+    }
+}
+
+impl Shown for VlanId {
+    fn show<W: fmt::Write>(&self, f: &mut fmt::Formatter<W>) -> fmt::Result {
+        let (value, into) = (self.value(), u16::from(*self));
+        write!(f, "value={value} into={into} text={self}")
+    }
+}
+
+impl Shown for VlanPcp {
+    fn show<W: fmt::Write>(&self, f: &mut fmt::Formatter<W>) -> fmt::Result {
+        let (value, into) = (self.value(), u8::from(*self));
+        write!(f, "value={value} into={into} text={self}")
     }
 }
 

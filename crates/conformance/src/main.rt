@@ -4,14 +4,18 @@
 
 mod answer;
 mod arguments;
+mod build;
 mod comparison;
 mod constants;
 mod equality;
+mod extensions;
 mod fields;
 mod filters;
 mod fragments;
+mod icmp;
 mod ipv4;
 mod ipv6;
+mod link;
 mod offsets;
 mod options;
 mod packets;
@@ -20,6 +24,7 @@ mod shown;
 mod sums;
 mod tables;
 mod texts;
+mod transport;
 mod walks;
 
 use replay::replay;

@@ -307,16 +307,6 @@ fn first_fragment_header(
 
 impl Shown for (Ipv6FragmentHeader, &[u8]) {
     fn show<W: fmt::Write>(&self, f: &mut fmt::Formatter<W>) -> fmt::Result {
-        let (header, rest) = (self.0, Bytes(self.1));
-        let numbers = [
-            ("next_header", u16::from(header.next_header.0)),
-            ("fragment_offset", header.fragment_offset.value()),
-        ];
-        let (more_fragments, identification) = (header.more_fragments, header.identification);
-        write!(
-            f,
-            "{} more_fragments={more_fragments} identification={identification} rest={rest}",
-            Named(&numbers)
-        )
+        write!(f, "{} rest={}", Show(&self.0), Bytes(self.1))
     }
 }

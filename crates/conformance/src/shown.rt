@@ -28,6 +28,17 @@ pub fn write_named<T: Display>(values: &[(&str, T)], answer: &mut String) -> Wri
     write!(answer, "{}", Named(values))
 }
 
+/// Writes a header, what follows it, and its bytes again.
+pub fn write_header<H: Shown>(
+    header: &H,
+    rest: &[u8],
+    bytes: &[u8],
+    answer: &mut String,
+) -> Written {
+    let (rest, bytes) = (Bytes(rest), Bytes(bytes));
+    write!(answer, "ok {} rest={rest} bytes={bytes}", Show(header))
+}
+
 /// Writes whether two values are equal.
 pub fn write_equality(is_equal: bool, answer: &mut String) -> Written {
     write!(answer, "eq={is_equal}")
@@ -141,6 +152,12 @@ impl Display for Comparison {
 }
 
 impl Shown for u16 {
+    fn show<W: fmt::Write>(&self, f: &mut fmt::Formatter<W>) -> fmt::Result {
+        write!(f, "{self}")
+    }
+}
+
+impl Shown for usize {
     fn show<W: fmt::Write>(&self, f: &mut fmt::Formatter<W>) -> fmt::Result {
         write!(f, "{self}")
     }
