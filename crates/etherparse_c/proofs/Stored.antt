@@ -1,5 +1,5 @@
 -- A frame that is stored layer by layer is read as it is stored.
-use Rattle.std.proofs.Common.{ℕ, ◌≡◌, ◌==◌, ◌+◌, ◌-◌, ◌≤◌, ◌∙◌, ◌++◌, IsFalse, IsTrue, List, [], MatchOption, Option, Some, None, Ok, ap, arith, false, inl, inr, is_some, length, length-append, not, option_map, refl, subst, sym, take}
+use Rattle.std.proofs.Common.{ℕ, ◌≡◌, ◌==◌, ◌+◌, ◌-◌, ◌≤◌, ◌∙◌, ◌++◌, IsFalse, IsTrue, List, [], ◌∷◌, MatchOption, Option, Some, None, Ok, ap, arith, drop, false, inl, inr, is_some, length, length-append, not, option_map, refl, slice_index, subst, sym, take}
 use Rattle.std.proofs.lemmas.Bool.Decides.{nat_tests}
 use Rattle.std.proofs.lemmas.Grind.{common_steps}
 use Rattle.etherparse.proofs.Ipv4Layout.{same_header as ipv4_same_header}
@@ -11,7 +11,9 @@ use Rattle.etherparse.specs.declared.net.ipv4_header.Ipv4Header.{Ipv4Header}
 use Rattle.etherparse.specs.declared.net.ipv4_header_slice.Ipv4HeaderSlice.{Ipv4HeaderSlice}
 use Rattle.etherparse.specs.declared.net.ipv6_header_slice.Ipv6HeaderSlice.{Ipv6HeaderSlice}
 use Rattle.etherparse_link.specs.Bytes.{number_at}
+use Rattle.std.specs.Borrow.{Bor}
 use Rattle.packet.proofs.Frames.{lax_frame_read}
+use Rattle.packet.proofs.WholeHeaders.{icmp_header, icmpv4_found, icmpv6_found}
 use Rattle.packet.specs.Link.{link_parts}
 use Rattle.packet.specs.SlicedPacket.{HasLinkLayers, IsFrame, IsLaxReadingOf, carries_ip}
 use Rattle.packet.specs.Transport.{HasPorts, ReadsHeader, TransportReading, missing_in, protocol_of, transport_parts}
@@ -20,6 +22,7 @@ use Rattle.packet.specs.declared.link.LinkType.{LinkType}
 use Rattle.packet.specs.declared.link_layers.LinkLayers.{LinkLayers}
 use Rattle.packet.specs.declared.sliced_packet.SlicedPacket.{SlicedPacket}
 use Rattle.packet.specs.declared.transport.TransportSlice.{TransportSlice}
+use Rattle.packet.specs.declared.transport.TransportSlice.TheVariants as transport
 use Rattle.packet_parts.proofs.IpPackets.{whole_4, whole_or_refused}
 use Rattle.packet_parts.proofs.IpParts.{cut_front}
 use Rattle.packet_parts.specs.Extensions.{EndsAs, at_front}
@@ -29,7 +32,7 @@ use Rattle.packet_parts.specs.declared.ip_slice.IpHeaderSlice.{IpHeaderSlice}
 use Rattle.packet_parts.specs.declared.ip_slice.IpHeaderSlice.TheVariants as version
 use Rattle.packet_parts.specs.declared.ip_slice.IpSlice.{IpSlice}
 use Rattle.etherparse_c.specs.Error.{no_error}
-use Rattle.etherparse_c.specs.Layers.{GetsAnswer, HasTransportInC, IsLaxInC, header_at, ip_in_c, ip_parts_in_c, link_in_c, no_ip, no_transport, with_ports}
+use Rattle.etherparse_c.specs.Layers.{GetsAnswer, HasTransportInC, IsLaxInC, header_at, icmp_at, ip_in_c, ip_parts_in_c, link_in_c, no_ip, no_transport, with_ports}
 use Rattle.etherparse_c.specs.Private.Stored.{HasNetworkInC, HasPortsInC, reads_tcp, reads_udp}
 use Rattle.etherparse_c.specs.declared.packet_layers.Packet.{Packet}
 use Rattle.etherparse_c.specs.declared.packet_layers.PacketIp.{PacketIp}
@@ -111,6 +114,15 @@ udp_ports : (slice : IpSlice) (h : IpHeaderSlice) → slice.header ≡ h → sli
 udp_ports slice (version.Ipv4 view) is later upper enough = record { protocol = inl (rw (later, is, upper) refl); enough = enough; source = refl; destination = refl }
 udp_ports slice (version.Ipv6 view) is later upper enough = record { protocol = inl (rw (later, is, upper) refl); enough = enough; source = refl; destination = refl }
 
+-- the header of a message is its first 4 bytes
+same_icmp : (start kind : ℕ) (s : List ℕ) → 4 ≤ length s → icmp_at start kind (slice_index s 0) (slice_index s 1) (drop 4 s)
+    ≡ icmp_at start kind (icmp_header s).type_u8 (icmp_header s).code_u8 (drop 4 s)
+same_icmp start kind (a ∷ b ∷ c ∷ d ∷ s) enough = refl
+same_icmp start kind [] enough = absurd (omega (arith, enough))
+same_icmp start kind (a ∷ []) enough = absurd (omega (arith, enough))
+same_icmp start kind (a ∷ b ∷ []) enough = absurd (omega (arith, enough))
+same_icmp start kind (a ∷ b ∷ c ∷ []) enough = absurd (omega (arith, enough))
+
 module _ (place : ℕ) (packet : List ℕ) (slice : IpSlice) (ip_in_c : PacketIp) (transport_in_c : PacketTransport) (parts : HasLaxIpParts packet (record { slice = slice; stop = None }))
     (ip_value : ip_in_c ≡ ip_parts_in_c place (length packet) slice) (later : slice.is_later_fragment ≡ false) where
   abbrev pub start : ℕ
@@ -143,6 +155,46 @@ module _ (place : ℕ) (packet : List ℕ) (slice : IpSlice) (ip_in_c : PacketIp
   pub with_udp : slice.upper ≡ 17 → HasPortsInC (reads_udp start slice.payload.now) start slice.payload.now transport_in_c → HasNetworkInC place packet ip_in_c transport_in_c
   with_udp upper header = with_header (reads_udp start slice.payload.now) header (udp_read slice slice.header start slice.payload.now _ refl later upper header.reads)
       (udp_ports slice slice.header refl later upper header.enough)
+
+  -- a message of ICMP over IPv4, and of ICMPv6 over IPv6, has no ports
+  no_ports_4 : (view : Ipv4HeaderSlice) → slice.header ≡ version.Ipv4 view → slice.upper ≡ 1 → (ports : ℕ × ℕ) → HasPorts slice ports → ⊥
+  no_ports_4 view is upper ports has = elim has.protocol [
+    | inl udp ↦ let e = rw (later, is, upper) at udp in cc
+    | inr tcp ↦ let e = rw (later, is, upper) at tcp in cc
+  ]
+
+  no_ports_6 : (view : Ipv6HeaderSlice) → slice.header ≡ version.Ipv6 view → slice.upper ≡ 58 → (ports : ℕ × ℕ) → HasPorts slice ports → ⊥
+  no_ports_6 view is upper ports has = elim has.protocol [
+    | inl udp ↦ let e = rw (later, is, upper) at udp in cc
+    | inr tcp ↦ let e = rw (later, is, upper) at tcp in cc
+  ]
+
+  abbrev rest : Bor (List ℕ)
+  rest = record { ref_ptr = (0, 0); now = drop 4 slice.payload.now }
+
+  pub with_icmpv4 : (view : Ipv4HeaderSlice) → slice.header ≡ version.Ipv4 view → slice.fragment ≡ None → slice.upper ≡ 1 → 4 ≤ length slice.payload.now
+      → transport_in_c ≡ icmp_at start 1 (slice_index slice.payload.now 0) (slice_index slice.payload.now 1) (drop 4 slice.payload.now) → HasNetworkInC place packet ip_in_c transport_in_c
+  with_icmpv4 view is alone upper enough value = record {
+    slice = slice;
+    transport = Some (transport.Icmpv4 (icmp_header slice.payload.now) rest);
+    network = record { ip_stop = None; parts = parts; missing = None; reads = icmpv4_found start slice view rest later alone upper is enough refl; stops = refl };
+    ports = None;
+    are_ports = no_ports_4 view is upper;
+    ip_value = ip_value;
+    transport_value = value ∙ same_icmp start 1 slice.payload.now enough;
+  }
+
+  pub with_icmpv6 : (view : Ipv6HeaderSlice) → slice.header ≡ version.Ipv6 view → slice.fragment ≡ None → slice.upper ≡ 58 → 4 ≤ length slice.payload.now
+      → transport_in_c ≡ icmp_at start 58 (slice_index slice.payload.now 0) (slice_index slice.payload.now 1) (drop 4 slice.payload.now) → HasNetworkInC place packet ip_in_c transport_in_c
+  with_icmpv6 view is alone upper enough value = record {
+    slice = slice;
+    transport = Some (transport.Icmpv6 (icmp_header slice.payload.now) rest);
+    network = record { ip_stop = None; parts = parts; missing = None; reads = icmpv6_found start slice view rest later alone upper is enough refl; stops = refl };
+    ports = None;
+    are_ports = no_ports_6 view is upper;
+    ip_value = ip_value;
+    transport_value = value ∙ same_icmp start 58 slice.payload.now enough;
+  }
 
 -- a whole header, as it is stored
 pub has_ports : (Reads : TransportReading → Type 0) (place : ℕ) (payload : List ℕ) (found : TransportSlice) (transport in_c : PacketTransport) → transport ≡ header_at place (Some found)

@@ -381,7 +381,13 @@ pub(crate) fn header_at(start: usize, transport: &Option<TransportSlice>) -> Pac
 
 // A header of ICMP or ICMPv6 at a place.
 #[inline(always)]
-fn icmp_at(start: usize, kind: u8, icmp_type: u8, icmp_code: u8, payload: &[u8]) -> PacketTransport
+pub(crate) fn icmp_at(
+    start: usize,
+    kind: u8,
+    icmp_type: u8,
+    icmp_code: u8,
+    payload: &[u8],
+) -> PacketTransport
     requires fits { start < 2 ^ 63 }
     ensures value { result ≡ icmp_at start kind icmp_type icmp_code payload.now }
 {

@@ -2,17 +2,22 @@
 //! to the next.
 
 ghost use Rattle.std.specs.Prelude.{ℕ, ◌≡◌, ◌+◌, ◌^◌, ◌<◌, ◌≤◌, IfSome, IsTrue, None, Some, false};
-ghost use Rattle.std.specs.Prelude.{length};
+ghost use Rattle.std.specs.Prelude.{drop, length, slice_index};
 ghost use Rattle.etherparse.specs.Ipv4Header.{IsFragment, OfIpv4Header};
-ghost use Rattle.etherparse_c.specs.Layers.{GetsAnswer, IsLaxInC, with_ports};
+ghost use Rattle.etherparse.specs.declared.net.ipv4_header_slice.Ipv4HeaderSlice.{Ipv4HeaderSlice as View4};
+ghost use Rattle.etherparse.specs.declared.net.ipv6_header_slice.Ipv6HeaderSlice.{Ipv6HeaderSlice as View6};
+ghost use Rattle.etherparse_c.specs.Layers.{GetsAnswer, IsLaxInC, icmp_at, with_ports};
 ghost use Rattle.etherparse_c.specs.Private.Stored.{HasNetworkInC, HasPortsInC, reads_tcp};
 ghost use Rattle.etherparse_c.specs.Private.Stored.{reads_udp};
 ghost use Rattle.etherparse_link.specs.Bytes.{number_at};
 ghost use Rattle.packet.specs.SlicedPacket.{IsLaxReadingOf};
 ghost use Rattle.packet_parts.specs.IpSlice.{HasLaxIpParts};
+ghost use Rattle.packet_parts.specs.declared.ip_slice.IpHeaderSlice.TheVariants as version;
 
 use crate::answer::Error;
-use crate::packet_layers::{Packet, PacketIp, PacketTransport, header_at, ip_parts_of, link_of};
+use crate::packet_layers::{
+    Packet, PacketIp, PacketTransport, header_at, icmp_at, ip_parts_of, link_of,
+};
 use etherparse::{Ipv4HeaderSlice, Ipv6Header, Ipv6HeaderSlice};
 use etherparse_transport::{TcpHeaderSlice, UdpHeader};
 use packet::link::LinkType;
@@ -21,8 +26,8 @@ use packet::transport::TransportSlice;
 use packet_parts::ip_slice::{IpHeaderSlice, IpSlice, LaxIpSlice};
 
 // Stores the layers of an Ethernet frame, with no verdicts on checksums, if nothing stops their
-// reading, and its IP packet carries TCP or UDP, if it has one. Of any other frame it stores what it
-// comes to, and returns `false`.
+// reading, and its IP packet carries TCP, UDP or ICMP, if it has one. Of any other frame it stores
+// what it comes to, and returns `false`.
 #[inline(always)]
 pub(crate) fn put_whole(frame: &[u8], answer: &mut Packet) -> bool
     ensures taken { IsTrue result → GetsAnswer (IsLaxReadingOf LinkType.Ethernet2 frame.now)
@@ -175,7 +180,33 @@ fn put_ip(
     match upper_of(ip) {
         6 => put_tcp(start, ip.payload, transport),
         17 => put_udp(start, ip.payload, transport),
+        1 => is_ipv4(ip) && put_icmp(start, 1, ip.payload, transport),
+        58 => is_ipv6(ip) && put_icmp(start, 58, ip.payload, transport),
         _ => false,
+    }
+}
+
+// Whether a packet is one of IPv4, and no fragment.
+#[inline(always)]
+fn is_ipv4(ip: &IpSlice) -> bool
+    ensures is { IsTrue result → (view : View4) × (ip.now.header ≡ version.Ipv4 view) }
+    ensures alone { IsTrue result → ip.now.fragment ≡ None }
+{
+    match &ip.header {
+        IpHeaderSlice::Ipv4(_) => ip.fragment.is_none(),
+        IpHeaderSlice::Ipv6(_) => false,
+    }
+}
+
+// Whether a packet is one of IPv6, and no fragment.
+#[inline(always)]
+fn is_ipv6(ip: &IpSlice) -> bool
+    ensures is { IsTrue result → (view : View6) × (ip.now.header ≡ version.Ipv6 view) }
+    ensures alone { IsTrue result → ip.now.fragment ≡ None }
+{
+    match &ip.header {
+        IpHeaderSlice::Ipv6(_) => ip.fragment.is_none(),
+        IpHeaderSlice::Ipv4(_) => false,
     }
 }
 
@@ -225,6 +256,22 @@ fn put_udp(place: usize, payload: &[u8], transport: &mut PacketTransport) -> boo
         }
         Err(_) => false,
     }
+}
+
+// Stores the 4 bytes that a message of ICMP or ICMPv6 begins with at a place, if all of them are
+// there.
+#[inline(always)]
+fn put_icmp(place: usize, kind: u8, payload: &[u8], transport: &mut PacketTransport) -> bool
+    requires fits { place < 2 ^ 63 }
+    ensures enough { IsTrue result → 4 ≤ length payload.now }
+    ensures stored { IsTrue result → transport.new ≡ icmp_at place kind
+        (slice_index payload.now 0) (slice_index payload.now 1) (drop 4 payload.now) }
+{
+    if payload.len() < 4 {
+        return false;
+    }
+    *transport = icmp_at(place, kind, payload[0], payload[1], &payload[4..]);
+    true
 }
 
 // A transport header with the ports at the front of its payload.
