@@ -429,10 +429,12 @@ pub enum IpDefragError {
 /// Why a packet is not added to a pool, or not written.
 #[derive(Clone, Copy, Debug, PartialEq, Eq, Hash)]
 pub enum IpDefragPacketError {
-    /// It is no IP packet, or not all of it is there.
+    /// It is no IP packet, or not all of it is there, or it is one of IPv6 that ends within an
+    /// extension header with no fragment header before it that is not atomic.
     Packet,
-    /// It is the first fragment of an IPv6 packet, and lacks a part of the header chain (RFC 7112
-    /// section 5).
+    /// It is the first fragment of an IPv6 packet, and lacks a part of the header chain: it ends
+    /// within an extension header after its fragment header, or within the header of the upper layer
+    /// (RFC 7112 section 5).
     HeaderChain,
     /// It is the first fragment of a datagram, and its headers have more than 1280 bytes.
     HeadersTooLong {
