@@ -408,7 +408,7 @@ def check_commands(page, text):
 
 
 def check_operands(page, line):
-    for word in re.findall(r'(?<![\w./-])(?:crates|docs|bench|misuse|conformance)/[\w./-]+', line):
+    for word in re.findall(r'(?<![\w./-])(?:crates|docs|bench|misuse|comparison)/[\w./-]+', line):
         if '/out/' not in word:
             judge(page, word, is_there(page, word.rstrip('.')), 'is not there')
 

@@ -3,7 +3,7 @@
  *
  * An input is a random or mutated packet, at one end of a page between two pages that cannot be read, a frame that stands there
  * too, and fields, words and an error of random numbers, which end at such a page. For each EVERYth packet the calls are written to
- * the file CASES and the answers to ANSWERS, in the protocol of conformance/PROTOCOL.md. */
+ * the file CASES and the answers to ANSWERS, in the protocol of comparison/PROTOCOL.md. */
 
 #define _DEFAULT_SOURCE
 #include "fuzz.h"

@@ -1,7 +1,7 @@
 #!/bin/sh
 # fuzz.sh [REFERENCE [COUNT [SEED]]]: calls every function of the library on COUNT inputs, by default 10,000,000, from a program in
 # C under gcc's address and undefined-behaviour sanitizers, and compares each result with that of a reference in C written from the
-# RFCs (reference.c). Each buffer begins or ends at a page that faults. With REFERENCE, the program of conformance/ over the Rust
+# RFCs (reference.c). Each buffer begins or ends at a page that faults. With REFERENCE, the program of comparison/ over the Rust
 # crate, the results for a sample of the packets are compared with the crate's too; an empty REFERENCE is none.
 set -eu
 here=$(CDPATH= cd -- "$(dirname -- "$0")" && pwd)

@@ -35,4 +35,4 @@ compile --edition 2021 --crate-type rlib --crate-name etherparse "$upstream/src/
   --extern arrayvec="$out/libarrayvec.rlib"
 NAMES=$out/names.rs compile --edition 2021 --crate-type bin --crate-name reference \
   "$here/src/main.rs" --extern etherparse="$out/libetherparse.rlib"
-echo "built: conformance/out/reference"
+echo "built: comparison/out/reference"
