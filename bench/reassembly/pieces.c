@@ -31,7 +31,7 @@ static struct {
 
 static void read_fragments(void) {
   size_t len = fread(input, 1, sizeof input, stdin);
-  const uint8_t *at = input;
+  const uint8_t *at = len < 2 ? input : input + 2 + input[0] + 256u * input[1];
   while (input + len - at >= 5 && count < 8192) {
     fragments[count] = at;
     lengths[count] = 5 + at[3] + 256u * at[4];

@@ -1,11 +1,13 @@
-"""table.py PEER PROGRAM RUNS CPU: runs both programs in turn over each set of fragments, wants the same datagram of
-both, and prints the least time of each."""
+"""table.py PEER PROGRAM RUNS CPU: runs both programs in turn over each set of fragments, wants the same datagram of both, and
+prints the mean over 16 places of the fragments in memory of the least time of each. How fast bytes are copied depends on how far
+they move, modulo 4096: by up to 1.3."""
 
 import random
 import subprocess
 import sys
 
 MOST = 65535
+PLACES = range(0, 4096, 256)
 
 
 def sets():
@@ -30,16 +32,16 @@ def cut(datagram, size):
     ]
 
 
-def run(command, fragments, cpu):
-    text = b"".join(
+def run(command, fragments, cpu, place=0):
+    text = place.to_bytes(2, "little") + bytes(place) + b"".join(
         offset.to_bytes(2, "little") + bytes([more]) + len(payload).to_bytes(2, "little") + payload
         for offset, more, payload in fragments
     )
     return subprocess.run(["taskset", "-c", cpu, *command], input=text, stdout=subprocess.PIPE, check=True).stdout
 
 
-def least(command, fragments, times, wanted, cpu):
-    lines = [line.split() for line in run([*command, str(times)], fragments, cpu).decode().splitlines()]
+def least(command, fragments, times, wanted, cpu, place):
+    lines = [line.split() for line in run([*command, str(times)], fragments, cpu, place).decode().splitlines()]
     if any(int(total) != wanted for _, total in lines):
         sys.exit(f"not whole: {command}")
     return min(int(nanoseconds) for nanoseconds, _ in lines) / times
@@ -53,15 +55,16 @@ def main():
             if run(command, fragments, cpu) != datagram:
                 sys.exit(f"not the same bytes: {name}: {command}")
         whole = times * len(datagram)
-        best = [float("inf")] * 3
+        best = {place: [float("inf")] * 3 for place in PLACES}
         for _ in range(int(runs)):
-            found = (
-                least([peer, "copy"], fragments, times, times, cpu),
-                least([peer], fragments, times, whole, cpu),
-                least([program], fragments, times, whole, cpu),
-            )
-            best = [min(pair) for pair in zip(best, found)]
-        copied, theirs, ours = best
+            for place in PLACES:
+                found = (
+                    least([peer, "copy"], fragments, times, times, cpu, place),
+                    least([peer], fragments, times, whole, cpu, place),
+                    least([program], fragments, times, whole, cpu, place),
+                )
+                best[place] = [min(pair) for pair in zip(best[place], found)]
+        copied, theirs, ours = (sum(column) / len(PLACES) for column in zip(*best.values()))
         print(
             f"{name:46s} {copied / 1000:8.2f} us {theirs / 1000:8.2f} us {ours / 1000:8.2f} us"
             f"  {ours / theirs:5.2f} of C, {ours / copied:5.2f} of the copy {ours / len(fragments):7.1f} ns"
