@@ -3,6 +3,7 @@
 #![tactic(auto)]
 
 pub mod error;
+mod laws;
 pub mod lax_sliced_packet;
 pub mod link;
 pub mod link_layers;

@@ -7,4 +7,5 @@ mod frame_relay;
 pub mod framing;
 pub mod header;
 mod ieee80211;
+mod laws;
 mod ppp;

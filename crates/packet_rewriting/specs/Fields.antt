@@ -22,6 +22,8 @@ use Rattle.packet_parts.specs.declared.checksum.Verdict.TheVariants.{Right}
 use Rattle.packet_parts.specs.declared.ip_slice.IpHeaderSlice.{IpHeaderSlice}
 use Rattle.packet_parts.specs.declared.ip_slice.IpHeaderSlice.TheVariants as header
 use Rattle.packet_parts.specs.declared.ip_slice.IpSlice.{IpSlice}
+use Rattle.packet_parts.specs.declared.ip_slice.IpSliceError.{IpSliceError}
+use Rattle.packet_parts.specs.declared.ip_slice.IpSliceError.TheVariants as ip_error
 use Rattle.packet_rewriting.specs.UpperChecksum.{checksum_field, with_checksum}
 use Rattle.packet_rewriting.specs.declared.fields.Cut.{Cut}
 use Rattle.packet_rewriting.specs.declared.fields.Reach.{Reach}
@@ -294,9 +296,19 @@ abbrev pub HasOtherEcn : IpEcn → List ℕ → List ℕ → Type 0
 HasOtherEcn ecn before after = MarksIpv4 (λ h. record h { ecn = ecn }) before after
     ⊎ MarksIpv6 (λ class. class / 2 ^ 2 * 2 ^ 2 + ecn_value ecn) before after
 
+-- why a packet has no IP header; what follows a header is no reason
+abbrev pub HasNoIpHeader : List ℕ → IpSliceError → Type 0
+HasNoIpHeader packet ip_error.Empty = RefusesIp packet ip_error.Empty
+HasNoIpHeader packet (ip_error.UnexpectedVersion version) =
+    RefusesIp packet (ip_error.UnexpectedVersion version)
+HasNoIpHeader packet (ip_error.Ipv4Header e) = RefusesIp packet (ip_error.Ipv4Header e)
+HasNoIpHeader packet (ip_error.Ipv6Header e) = RefusesIp packet (ip_error.Ipv6Header e)
+HasNoIpHeader packet (ip_error.Packet e) = ⊥
+HasNoIpHeader packet (ip_error.Extensions e) = ⊥
+
 -- why a header is not marked
 abbrev pub RefusesMark : List ℕ → RewriteError → Type 0
-RefusesMark packet (error.Ip e) = RefusesIp packet e
+RefusesMark packet (error.Ip e) = HasNoIpHeader packet e
 RefusesMark packet other = ⊥
 
 -- the text of a refusal

@@ -5,4 +5,5 @@
 pub mod checksum;
 pub mod echo;
 pub mod fields;
+mod laws;
 pub mod translation;
