@@ -179,6 +179,9 @@ too_long s text rest word after place r b at =
 all_words : (s : State) (text rest : List ℕ) (count : ℕ) (r : Reached s text rest count) → words_of rest ≡ [] → words_of text ≡ r.before
 all_words s text rest count r h = r.words ∙ ap (λ l. r.before ++ l) h ∙ append-nil r.before
 
+pub few_words : (s : State) (text rest : List ℕ) (count : ℕ) → Reached s text rest count → count ≤ 64 → words_of rest ≡ [] → length (words_of text) ≤ 64
+few_words s text rest count r few h = omega (arith, r.counted, ap length (all_words s text rest count r h), few)
+
 pub accepted : (s : State) (text rest : List ℕ) (count : ℕ) (o : List Step) → Reached s text rest count → words_of rest ≡ [] → finish s ≡ Some o → IsText text (expression_of o) × Computes o (expression_of o)
 accepted s text rest count o r h e =
     let x = read_at_end s o r.tokens r.stands e in
@@ -191,7 +194,7 @@ pub incomplete : (s next : State) (text rest : List ℕ) (count : ℕ) → Reach
 incomplete s next text rest count r few h e left =
     let all = all_words s text rest count r h in
     record {
-      few = omega (arith, r.counted, ap length all, few);
+      few = few_words s text rest count r few h;
       can = subst CanGoOn (sym all) (can_go_on s text rest count r);
       no_expression = λ x t.
           let same : t.tokens ≡ r.tokens = spelled_once r.before t.tokens r.tokens (subst (λ w. AreSpelled w t.tokens) all t.spelled) r.spelled in

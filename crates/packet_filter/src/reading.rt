@@ -1,6 +1,6 @@
 //! Filters from text.
 
-ghost use Rattle.std.specs.Prelude.{◌≡◌, ◌≤◌, IfErr, IfOk, IsOkAnd, Some, length};
+ghost use Rattle.std.specs.Prelude.{◌≡◌, ◌≤◌, IfErr, IfOk, IsOkAnd, OnOk, Some, length};
 ghost use Rattle.packet_filter.specs.Language.{IsText, Refuses, filter_error_place};
 ghost use Rattle.packet_filter.specs.Language.{filter_error_text, readings_text};
 ghost use Rattle.packet_filter.specs.Meaning.{Expression};
@@ -185,6 +185,7 @@ impl Filter {
     /// ```
     pub fn from_text(text: &[u8]) -> Result<Filter, FilterError>
         ensures read { IfOk result (λ filter. IsText text.now (expression_of filter)) }
+        ensures few { OnOk result (length (words_of text.now) ≤ 64) }
         ensures refused { IfErr result (Refuses text.now) }
         ensures accepted { (e : Expression) → IsText text.now e → length (words_of text.now) ≤ 64 →
             IsOkAnd result (λ filter. expression_of filter ≡ e) }

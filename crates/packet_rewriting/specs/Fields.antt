@@ -59,7 +59,7 @@ covers_addresses (header.Ipv6 view) number = has_ports number || (number == 58)
 
 -- How far the change of an address reaches in a packet: into the header of the upper layer, which
 -- is there; or it ends with that of IP, since the payload is a later fragment, or of a protocol
--- whose checksum does not cover the addresses.
+-- whose checksum does not cover the addresses, or of another one, which is not known here.
 abbrev pub Reaches : IpSlice → Reach → Type 0
 Reaches slice reaching.Upper = (slice.is_later_fragment ≡ false)
     × (covers_addresses slice.header slice.upper ≡ true)
