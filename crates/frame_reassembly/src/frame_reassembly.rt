@@ -125,6 +125,7 @@ impl<'a, 'b> FrameReassembly<'a, 'b> {
         ensures takes { TakesFrame link_type frame.now now self.old self.new datagrams.old
             datagrams.new (option_map (λ len. take len out.new) result) }
         ensures within { IfSome result (λ len. len ≤ length out.new) }
+        ensures nothing { IfNone result (out.new ≡ out.old) }
         ensures same_len { length out.new ≡ length out.old }
     {
         let carried = packet_in(link_type, frame)?;
@@ -191,6 +192,7 @@ fn take_packet(
         pool.old.slots.now pool.new.slots.now datagrams.old datagrams.new
         (option_map (λ len. take len out.new) result) }
     ensures within { IfSome result (λ len. len ≤ length out.new) }
+    ensures nothing { IfNone result (out.new ≡ out.old) }
     ensures same_len { length out.new ≡ length out.old }
     ensures slots { length pool.new.slots.now ≡ length pool.old.slots.now }
     ensures timeout { pool.new.timeout ≡ 60 }
@@ -251,6 +253,7 @@ fn follow(
         (option_map (λ len. take len out.new) result) }
     ensures within { IfSome result (λ len. len ≤ length out.new) }
     ensures headers { HaveFirstHeaders pool.new.slots.now }
+    ensures nothing { IfNone result (out.new ≡ out.old) }
     ensures same_len { length out.new ≡ length out.old }
     ensures slots { length pool.new.slots.now ≡ length pool.old.slots.now }
     ensures timeout { pool.new.timeout ≡ pool.old.timeout }
@@ -291,6 +294,7 @@ fn complete(pool: &mut IpDefragPool, slot: usize, out: &mut [u8]) -> Option<usiz
     ensures none { IfNone result (HasTooLongPacket (slot_at pool.old.slots.now slot)) }
     ensures within { IfSome result (λ len. len ≤ length out.new) }
     ensures headers { HaveFirstHeaders pool.new.slots.now }
+    ensures nothing { IfNone result (out.new ≡ out.old) }
     ensures same_len { length out.new ≡ length out.old }
     ensures slots { length pool.new.slots.now ≡ length pool.old.slots.now }
     ensures timeout { pool.new.timeout ≡ pool.old.timeout }

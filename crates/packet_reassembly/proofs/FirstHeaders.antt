@@ -28,30 +28,19 @@ others_have k old new same this have = record {
 pub released_have : (k : ℕ) (old new : List IpDefragSlot) → AreSameBut k old new → (slot_at new k).id ≡ None → HaveFirstHeaders old → HaveFirstHeaders new
 released_have k old new same free = others_have k old new same (λ id has. absurd (cc))
 
-neither : (a b : Option (List ℕ)) → option_or a b ≡ None → (a ≡ None) × (b ≡ None)
-neither None b none = (refl, none)
-neither (Some x) b none = absurd (cc)
-
 -- a fragment more, with its headers if it is at offset 0
-takes_have : (old new : Option (List Fragment)) (f : Fragment) (before came : Option (List ℕ)) → Takes old f new → (f.start ≡ 0 → came ≢ None)
-    → ((kept : List Fragment) (g : Fragment) → old ≡ Some kept → Contains kept g → g.start ≡ 0 → before ≢ None)
-    → (kept : List Fragment) (g : Fragment) → new ≡ Some kept → Contains kept g → g.start ≡ 0 → option_or before came ≢ None
-takes_have None new f before came takes brings has kept g is contains front = absurd (cc)
-takes_have (Some old) None f before came takes brings has kept g is contains front = absurd (cc)
-takes_have (Some old) (Some new) f before came takes brings has kept g is contains front = λ none.
-    let (no_before, no_came) = neither before came none in
-    let e : new ≡ kept = cc in
-    elim (Contains-push_cases old f g ((takes.1 g).0 (rw (← e) at contains))) [
-      | inl a ↦ has old g refl a front no_before
-      | inr same ↦ brings (rw (← same) at front) no_came
-    ]
+takes_have : (old : Option (List Fragment)) (kept : List Fragment) (f : Fragment) (before came : Option (List ℕ)) → Takes old f (Some kept) → (f.start ≡ 0 → came ≢ None)
+    → ((kept : List Fragment) (g : Fragment) → old ≡ Some kept → Contains kept g → g.start ≡ 0 → before ≢ None) → (g : Fragment) → Contains kept g → g.start ≡ 0 → option_or before came ≢ None
+takes_have None kept f before came takes brings has g contains front = absurd (cc)
+takes_have (Some old) kept f before came takes brings has g contains front = λ none.
+    grind (arith, Contains-push_cases old f g ((takes.1 g).0 contains), has old g refl, brings)
 
 -- the same of the slots of a pool
 pub added_have : {old : List IpDefragSlot} {id : IpFragId} {timeout now : ℕ} {f : Fragment} {came : Option (List ℕ)} {added : Added} {new : List IpDefragSlot}
     → IsAdded old id timeout now f came added new → (f.start ≡ 0 → came ≢ None) → HaveFirstHeaders old → HaveFirstHeaders new
 added_have {old = old} {id = id} {f = f} {came = came} {added = added} {new = new} is brings have = others_have added.slot old new is.others (λ other has. record {
   known = λ kept g buf contains front. elim is.takes [
-    | inl (on, since, headers, takes) ↦ rw headers (takes_have _ _ f _ came takes brings (have.each added.slot id on.has).known kept g buf contains front)
-    | inr (begins, since, headers, takes) ↦ rw headers (takes_have (Some []) _ f None came takes brings (λ before h e c _. let none : [] ≡ before = cc in omega (arith, (rw (← none) at c).1)) kept g buf contains front)
+    | inl (on, since, headers, takes) ↦ rw headers (takes_have _ kept f _ came (rw buf at takes) brings (have.each added.slot id on.has).known g contains front)
+    | inr (begins, since, headers, takes) ↦ rw headers (takes_have (Some []) kept f None came (rw buf at takes) brings (λ before h e c _. let none : [] ≡ before = cc in omega (arith, (rw (← none) at c).1)) g contains front)
   ];
 }) have

@@ -1,13 +1,10 @@
 -- the headers of a fragment, and what is kept of them
-use Rattle.std.proofs.Common.{ℕ, ◌≡◌, ◌+◌, ◌-◌, ◌<◌, ◌≤◌, ◌++◌, ◌↔◌, ◌∙◌, IfErr, IsOk, List, Result, Ok, Err, add-zero, length, arith, ap, append_assoc, drop, inl, inr, length-append, slice_index, slice_range, sym, take}
-use Rattle.std.proofs.lemmas.Bool.{cases_lt}
+use Rattle.std.proofs.Common.{ℕ, ◌≡◌, ◌+◌, ◌-◌, ◌<◌, ◌≤◌, ◌++◌, ◌↔◌, ◌∙◌, IfErr, IsOk, List, Result, add-zero, length, arith, ap, append_assoc, drop, length-append, slice_index, slice_range, sym, take}
 use Rattle.std.proofs.lemmas.List.{drop_at, get_or-drop, take_at}
 use Rattle.std.proofs.lemmas.List.Prefix.{end_rest}
 use Rattle.etherparse.specs.Ipv6Header.{IsIpv6Layout}
 use Rattle.etherparse.specs.Reading.{BeginsWith}
-use Rattle.etherparse.specs.declared.net.ipv6_header.Ipv6Header.{Ipv6Header}
-use Rattle.packet_reassembly.specs.Headers.{AreIpv6HeadersAt, IsIpv6PacketWith, IsTooLongForIpv6}
-use Rattle.packet_reassembly.specs.Packet.{IsIpv6Packet}
+use Rattle.packet_reassembly.specs.Headers.{AreIpv6HeadersAt}
 
 -- all but the payload of a packet in five parts
 pub before_payload : (a b c d p w : List ℕ) → w ≡ a ++ (b ++ (c ++ (d ++ p))) → take (length w - length p) w ≡ a ++ (b ++ (c ++ d))
@@ -36,21 +33,6 @@ parts_at headers place p =
 pub ipv6_first : (headers : List ℕ) (place : ℕ) (p : AreIpv6HeadersAt headers place) → BeginsWith IsIpv6Layout headers p.first (p.before ++ (p.last ++ p.are_headers.at))
 ipv6_first headers place p = record { front = p.are_headers.front; whole = p.are_headers.whole; layout = p.are_headers.layout }
 
--- the packet that is written with the parts of the headers
-pub ipv6_with : (headers datagram packet : List ℕ) (place : ℕ) (p : AreIpv6HeadersAt headers place) (first : Ipv6Header) → first ≡ p.first
-    → IsIpv6Packet first (slice_range headers 40 place) (slice_range headers place (length headers - 8)) (slice_index headers (length headers - 8)) datagram packet → IsIpv6PacketWith headers datagram packet
-ipv6_with headers datagram packet place p first same is_packet =
-    let (is_before, is_last, is_number) = parts_at headers place p in
-    let has = rw (same, is_before, is_last, is_number) at is_packet in search
-
--- why it is not written
-pub ipv6_long : (headers datagram : List ℕ) (place : ℕ) (p : AreIpv6HeadersAt headers place)
-    → 65535 < length (slice_range headers 40 place) + length (slice_range headers place (length headers - 8)) + length datagram → IsTooLongForIpv6 headers datagram
-ipv6_long headers datagram place p long =
-    let (is_before, is_last, is_number) = parts_at headers place p in
-    let is_long = rw (is_before, is_last) at long in search
-
 -- what is accepted up to a greatest length is refused if it is longer
 pub too_long : {E : Type 0} (r : Result ℕ E) (n greatest : ℕ) → (IsOk r ↔ (n ≤ greatest)) → IfErr r (λ e. greatest < n)
-too_long (Ok x) n greatest accepted = tt
-too_long (Err e) n greatest accepted = elim (cases_lt greatest n) [ inl l ↦ l | inr l ↦ let f = accepted.1 l in absurd (cc) ]
+too_long r n greatest accepted = grind arith

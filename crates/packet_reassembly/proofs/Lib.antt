@@ -3,6 +3,5 @@ pub mod FirstHeaders
 pub mod IpFragments
 pub mod Kept
 pub mod PacketAnswers
-pub mod Stops
 pub mod TableLaws
 pub mod Walked

@@ -1,14 +1,14 @@
 -- a packet is added, or is no fragment, or is refused for one reason
 use Rattle.std.proofs.Common.{ℕ, ◌≡◌, ◌*◌, ◌∙◌, List, None, Option, Some, ap, arith, false, inl, inr, length, refl, subst, sym, true}
 use Rattle.packet_parts.proofs.ExtensionEnds.{one_end}
+use Rattle.packet_reassembly.proofs.Arrivals.{not_refused}
 use Rattle.packet_reassembly.proofs.IpFragments.{fragment_not_refused, fragment_not_whole, fragment_once, fragment_refused_once, whole_not_refused}
-use Rattle.packet_reassembly.specs.Fragment.{Fragment, IsRight}
+use Rattle.packet_reassembly.specs.Fragment.{Fragment}
 use Rattle.packet_reassembly.specs.HeaderChain.{HasWholeChain, LacksChain, upper_header_len}
 use Rattle.packet_reassembly.specs.IpFragment.{HasIpFragment, IsNoFragment}
 use Rattle.packet_reassembly.specs.PacketAdded.{HasLackingChain, HasLongHeaders, HasRefusedFragment, HasShortHeaders, IsFirstOfIpv6, IsIpv6, IsPacketAdded, RefusesPacket, fragment_of_packet}
 use Rattle.packet_reassembly.specs.Refusal.{Refuses}
 use Rattle.packet_reassembly.specs.declared.ip_defrag_error.IpDefragError.{IpDefragError}
-use Rattle.packet_reassembly.specs.declared.ip_defrag_error.IpDefragError.TheVariants.{Empty, SegmentTooBig, UnalignedFragmentPayloadLen}
 use Rattle.packet_reassembly.specs.declared.ip_defrag_packet.IpDefragPacketError.{IpDefragPacketError}
 use Rattle.packet_reassembly.specs.declared.ip_defrag_packet.IpDefragPacketError.TheVariants.{Fragment as Refused, HeaderChain, HeadersTooLong, Packet}
 use Rattle.packet_reassembly.specs.declared.ip_defrag_pool.Added.{Added}
@@ -26,35 +26,17 @@ whole_not_lacking number payload w (inr (inl q)) =
 whole_not_lacking number payload w (inr (inr q)) =
     let no = (one_end payload number false true None None w.decided q.decided w.upper q.upper w.rest q.rest w.ends q.ends).later in cc
 
--- a fragment is refused for one reason, and not if a datagram can have it
+-- a fragment is refused for one reason
 refuses_once : (f : Fragment) (a b : IpDefragError) → Refuses f a → Refuses f b → a ≡ b
-refuses_once f (Empty o) (Empty p) r q = let e : o ≡ p = omega (arith, r.0, q.0) in rw e refl
-refuses_once f (Empty o) (UnalignedFragmentPayloadLen p n) r q = let e : n ≡ 0 = omega (arith, r.1, q.0.1) in absurd (q.2 (rw e refl))
-refuses_once f (Empty o) (SegmentTooBig p n max) r q = absurd (omega (arith, r.1, q.0.1, q.1))
-refuses_once f (UnalignedFragmentPayloadLen o m) (Empty p) r q = let e : m ≡ 0 = omega (arith, q.1, r.0.1) in absurd (r.2 (rw e refl))
-refuses_once f (UnalignedFragmentPayloadLen o m) (UnalignedFragmentPayloadLen p n) r q = let e : o ≡ p = omega (arith, r.0.0, q.0.0) in let g : m ≡ n = omega (arith, r.0.1, q.0.1) in rw (e, g) refl
-refuses_once f (UnalignedFragmentPayloadLen o m) (SegmentTooBig p n max) r q = let g : m ≡ n = omega (arith, r.0.1, q.0.1) in absurd (r.2 (rw g (q.2 r.1)))
-refuses_once f (SegmentTooBig o m max) (Empty p) r q = absurd (omega (arith, q.1, r.0.1, r.1))
-refuses_once f (SegmentTooBig o m max) (UnalignedFragmentPayloadLen p n) r q = let g : n ≡ m = omega (arith, r.0.1, q.0.1) in absurd (q.2 (rw g (r.2 q.1)))
-refuses_once f (SegmentTooBig o m max) (SegmentTooBig p n other) r q =
-    let e : o ≡ p = omega (arith, r.0.0, q.0.0) in let g : m ≡ n = omega (arith, r.0.1, q.0.1) in let h : max ≡ other = omega (arith, r.4, q.4) in rw (e, g, h) refl
-
-right_not_refused : (f : Fragment) (a : IpDefragError) → IsRight f → Refuses f a → ⊥
-right_not_refused f (Empty o) right r = omega (arith, right.some, r.1)
-right_not_refused f (UnalignedFragmentPayloadLen o n) right r = r.2 (rw r.0.1 at (right.units r.1))
-right_not_refused f (SegmentTooBig o n max) right r = omega (arith, right.within, r.3)
+refuses_once f a b r q = grind arith
 
 module _ (s : List ℕ) (f : IpFragmentSlice) (has : HasIpFragment s f) where
-  -- what is said of another fragment that the packet is holds of this one
-  first_at : (g : IpFragmentSlice) → HasIpFragment s g → IsFirstOfIpv6 g → IsFirstOfIpv6 f
-  first_at g is first =
-      let same = fragment_once s g f is has in (subst IsIpv6 (ap (λ x. x.ip) same) first.0, sym (ap (λ x. x.offset) same) ∙ first.1)
-
   -- it does not lack a part of the chain if it has all of it
   chain_not_lacking : HasLackingChain s → (IsFirstOfIpv6 f → HasWholeChain f.next_header f.payload.now) → ⊥
   chain_not_lacking l chain =
       let same = fragment_once s l.f f l.has has in
-      whole_not_lacking f.next_header f.payload.now (chain (first_at l.f l.has l.first)) (subst (λ x. LacksChain x.next_header x.payload) same l.lacks)
+      let first : IsFirstOfIpv6 f = (subst IsIpv6 (ap (λ x. x.ip) same) l.first.0, sym (ap (λ x. x.offset) same) ∙ l.first.1) in
+      whole_not_lacking f.next_header f.payload.now (chain first) (subst (λ x. LacksChain x.next_header x.payload) same l.lacks)
 
   -- its headers are not long if they are short
   short_not_long : (len : ℕ) → HasLongHeaders s len → HasShortHeaders f → ⊥
@@ -93,14 +75,10 @@ refused_not_whole s HeaderChain r none = fragment_not_whole s r.f r.has none
 refused_not_whole s (HeadersTooLong n) r none = fragment_not_whole s r.f r.has none
 refused_not_whole s (Refused e) r none = fragment_not_whole s r.f r.has none
 
-module _ {s : List ℕ} {outer inner : Option ℕ} {timeout now : ℕ} {old new : List IpDefragSlot} {added : Added} (a : IsPacketAdded old s outer inner timeout now new added) where
-  -- and it is not added
-  pub refused_not_added : (e : IpDefragPacketError) → RefusesPacket s e → ⊥
-  refused_not_added (Packet e) r = fragment_not_refused s a.f e a.has r
-  refused_not_added HeaderChain r = chain_not_lacking s a.f a.has r a.chain
-  refused_not_added (HeadersTooLong n) r = short_not_long s a.f a.has n r a.short
-  refused_not_added (Refused e) r = right_not_refused (fragment_of_packet a.f) e a.right (refused_at s a.f a.has e r)
-
-  -- nor is one that is no fragment
-  pub whole_not_added : IsNoFragment s → ⊥
-  whole_not_added none = fragment_not_whole s a.f a.has none
+-- and it is not added
+pub refused_not_added : {s : List ℕ} {outer inner : Option ℕ} {timeout now : ℕ} {old new : List IpDefragSlot} {added : Added} → IsPacketAdded old s outer inner timeout now new added
+    → (e : IpDefragPacketError) → RefusesPacket s e → ⊥
+refused_not_added {s = s} a (Packet e) r = fragment_not_refused s a.f e a.has r
+refused_not_added {s = s} a HeaderChain r = chain_not_lacking s a.f a.has r a.chain
+refused_not_added {s = s} a (HeadersTooLong n) r = short_not_long s a.f a.has n r a.short
+refused_not_added {s = s} a (Refused e) r = not_refused (fragment_of_packet a.f) e a.right (refused_at s a.f a.has e r)

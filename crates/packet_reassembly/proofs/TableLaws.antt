@@ -1,73 +1,58 @@
 -- the table of the fragments that have come: what it holds, what a new fragment changes, and when the datagram is whole
-use Rattle.std.proofs.Common.{ℕ, ◌≡◌, ◌≢◌, ◌+◌, ◌-◌, ◌*◌, ◌/◌, ◌<◌, ◌≤◌, ◌⊎◌, ◌==◌, ◌↔◌, [], ◌∷◌, List, length, arith, inl, inr, Bool, true, false, ap, subst, sym, ◌∙◌, refl, take, drop, slice_index, slice_index_or, slice_range, cond, not, suc, zero, ◌++◌, ◌||◌, max, Some, length-append, length-take, length-drop, Option}
+use Rattle.std.proofs.Common.{ℕ, ◌≡◌, ◌≢◌, ◌+◌, ◌-◌, ◌*◌, ◌/◌, ◌<◌, ◌≤◌, ◌⊎◌, ◌==◌, ◌↔◌, [], ◌∷◌, List, length, arith, inl, inr, Bool, true, false, ap, subst, sym, ◌∙◌, refl, take, drop, slice_index, slice_range, cond, not, suc, zero, ◌||◌, max, Some, length-append, length-take, length-drop, map, Option}
 use Rattle.std.proofs.lemmas.Bool.{cases_Bool, cases_lt, eqb-true, eq-eqb, cases_eq, not-false, or_parts}
-use Rattle.std.proofs.lemmas.Bool.Decides.{Decides-eqb, nat_tests}
-use Rattle.std.proofs.lemmas.List.{get_or-drop, get_or_default, get_or-map, get_or_past, length-drop, length-map, length-take-le, take-append-drop, take-take}
-use Rattle.std.proofs.lemmas.List.Edits.{get_or-between, length-between}
-use Rattle.std.proofs.lemmas.List.Elements.{All-contains, All-map, Contains-append_left, Contains-push, contains_decides, filter-append, filter_more, filter_passes, Contains-push_cases}
+use Rattle.std.proofs.lemmas.Bool.Decides.{nat_tests}
+use Rattle.std.proofs.lemmas.List.{get_or-drop, get_or_past, length-drop, length-take-le, take-take}
+use Rattle.std.proofs.lemmas.List.Edits.{length-between}
+use Rattle.std.proofs.lemmas.List.Elements.{All-contains, All-map, Contains-append_left, Contains-append_right, Contains-push, filter_passes, Contains-push_cases}
 use Rattle.std.proofs.lemmas.List.FromFn.{get_or-range_with_len, length-range_with_len}
-use Rattle.std.proofs.lemmas.List.Sums.{prefix_len_passes, prefix_len_stops, sum_by-cons}
-use Rattle.std.specs.Bool.{Decides}
-use Rattle.std.specs.List.{Contains, IsAnyAnswer, filter, prefix_len, range_with_len}
+use Rattle.std.proofs.lemmas.List.Sums.{prefix_len_passes, prefix_len_stops, sum_by-cons, count_by-le-length}
+use Rattle.std.specs.List.{Contains, filter, prefix_len, range_with_len}
 use Rattle.packet_reassembly.specs.declared.table.Arrival.TheVariants.{Conflict as Contradicts}
 use Rattle.packet_reassembly.specs.declared.table.Extent.{Extent}
 use Rattle.packet_reassembly.specs.declared.ip_frag_range.IpFragRange.{IpFragRange}
-use Rattle.packet_reassembly.specs.Fragment.{Conflict, Fragment, end_of, Takes, AreCutFrom, Covers, IsPieceOf, IsWhole, Overlap}
+use Rattle.packet_reassembly.specs.Fragment.{Fragment, end_of, Takes, AreCutFrom, Covers, IsPieceOf, IsWhole, Overlap}
 use Rattle.packet_reassembly.specs.Table.{AreKept, Arrives, Begins, Fits, HasCome, IsInside, IsNew, IsRange, IsTable, fragment_in, fragment_of, has_more, held, past, range_at, units_in, units_to, IsMarked, units_at, kept}
 use borrow.Rule.Slice.PartMut.{put_mid}
 use Rattle.std.proofs.lemmas.Slice.{between-put_mid, between_is, drop-put_mid, take-put_mid_below}
 use Rattle.packet_reassembly.proofs.Arrivals.{one_cut}
 
--- 1 for a unit that has come
-abbrev one_if : ℕ → ℕ
-one_if u = cond (not (u == 0)) 1 0
-
-one_if_is : (u : ℕ) → ((0 < u) × (one_if u ≡ 1)) ⊎ ((u ≡ 0) × (one_if u ≡ 0))
-one_if_is u = grind (arith, nat_tests)
+-- one unit more, which has come or has not
+units_cons : (u : ℕ) (us : List ℕ) → ((0 < u) × (units_in (u ∷ us) ≡ units_in us + 1)) ⊎ ((u ≡ 0) × (units_in (u ∷ us) ≡ units_in us))
+units_cons u us = grind (arith, nat_tests, sum_by-cons (λ x. cond (not (x == 0)) 1 0) u us)
 
 -- no unit has come from this one on
 abbrev pub EndsAt : List ℕ → ℕ → Type 0
 EndsAt units n = (k : ℕ) → n ≤ k → slice_index units k ≡ 0
 
--- so many at most, and exactly so many if each has come
-at_most : (units : List ℕ) (n : ℕ) → EndsAt units n → units_in units ≤ n
-at_most [] n ends = omega arith
-at_most (u ∷ us) n ends =
-    grind (arith, sum_by-cons one_if u us, one_if_is u, ends 0, at_most us (n - 1) (λ k from. ends (suc k) (omega arith)))
-
--- each has come if so many have
-pub each_come : (units : List ℕ) (n k : ℕ) → EndsAt units n → n ≤ units_in units → k < n → HasCome units k
-each_come [] n k ends enough below = absurd (omega arith)
-each_come (u ∷ us) n zero ends enough below =
-    grind (arith, sum_by-cons one_if u us, one_if_is u, at_most us (n - 1) (λ k from. ends (suc k) (omega arith)))
-each_come (u ∷ us) n (suc k) ends enough below =
-    each_come us (n - 1) k (λ j from. ends (suc j) (omega arith)) (omega (arith, sum_by-cons one_if u us, one_if_is u)) (omega arith)
+-- there are fewer if one has not come
+fewer : (units : List ℕ) (n k : ℕ) → EndsAt units n → k < n → slice_index units k ≡ 0 → units_in units < n
+fewer [] n k ends below none = omega arith
+fewer (u ∷ us) zero k ends below none = absurd (omega arith)
+fewer (u ∷ us) (suc n) zero ends below none =
+    grind (arith, units_cons u us, fewer us (suc n) n (λ j from. ends (suc j) (omega arith)) (omega arith) (ends (suc n) (omega arith)))
+fewer (u ∷ us) (suc n) (suc k) ends below none =
+    omega (arith, units_cons u us, fewer us n k (λ j from. ends (suc j) (omega arith)) (omega arith) none)
 
 -- so many have come if each has
 pub many_come : (units : List ℕ) (n : ℕ) → ((k : ℕ) → k < n → HasCome units k) → n ≤ units_in units
 many_come [] n each = grind (arith, each 0)
 many_come (u ∷ us) n each =
-    grind (arith, sum_by-cons one_if u us, one_if_is u, each 0, many_come us (n - 1) (λ k below. each (suc k) (omega arith)))
+    grind (arith, units_cons u us, each 0, many_come us (n - 1) (λ k below. each (suc k) (omega arith)))
 
 -- n units more from the unit a on
 pub more_come : (old new : List ℕ) (a n : ℕ) → length new ≡ length old → a + n ≤ length old
-    → ((k : ℕ) → a ≤ k → k < a + n → (slice_index old k ≡ 0) × (0 < slice_index new k))
-    → ((k : ℕ) → (k < a → slice_index new k ≡ slice_index old k) × (a + n ≤ k → slice_index new k ≡ slice_index old k)) → units_in new ≡ units_in old + n
-more_come [] [] a n len room come others = omega arith
-more_come [] (y ∷ ys) a n len room come others = absurd (omega arith)
-more_come (x ∷ xs) [] a n len room come others = absurd (omega arith)
-more_come (x ∷ xs) (y ∷ ys) a n len room come others =
-    let rest = more_come xs ys (a - 1) (n - (1 - a)) (omega arith) (omega arith) (λ k from to. come (suc k) (omega arith) (omega arith))
-    (λ k. (λ below. (others (suc k)).0 (omega arith), λ past. (others (suc k)).1 (omega arith))) in
-    grind (arith, sum_by-cons one_if x xs, sum_by-cons one_if y ys, one_if_is x, one_if_is y, come 0, (others 0).0, (others 0).1, rest)
-
--- none has come past the reach
-pub ends_at : (units : List ℕ) (extent : Extent) → IsTable units extent → EndsAt units ((extent.reach + 7) / 8)
-ends_at units extent table k past = grind (arith, table.within k)
+    → ((k : ℕ) → ((a ≤ k) × (k < a + n) × (slice_index old k ≡ 0) × (0 < slice_index new k)) ⊎ (((k < a) ⊎ (a + n ≤ k)) × (slice_index new k ≡ slice_index old k)))
+    → units_in new ≡ units_in old + n
+more_come [] ys a n len room each = omega (arith, count_by-le-length (λ u. not (u == 0)) ys)
+more_come (x ∷ xs) [] a n len room each = absurd (omega arith)
+more_come (x ∷ xs) (y ∷ ys) a n len room each =
+    let rest = more_come xs ys (a - 1) (n - (1 - a)) (omega arith) (omega arith) (λ k. grind (arith, each (suc k))) in
+    grind (arith, units_cons x xs, units_cons y ys, each 0, rest)
 
 -- an empty table is that of a datagram of which nothing has come
 pub table_none : (units : List ℕ) → 8192 ≤ length units → ((k : ℕ) → slice_index units k ≡ 0) → IsTable units (record { reach = 0; ended = false; units = 0 })
-table_none units len empty = search (arith, empty, at_most units 0 (λ k _. empty k))
+table_none units len empty = search (arith, empty, fewer units 1 0 (λ k _. empty k) (omega arith) (empty 0))
 
 -- whether a fragment that is kept is the last of the datagram
 pub last_is : (extent : Extent) (end : ℕ) → (has_more extent end ≡ false) ↔ ((extent.ended ≡ true) × (end ≡ extent.reach))
@@ -76,9 +61,7 @@ last_is extent end = (λ e. grind (arith, nat_tests), λ e. grind (arith, nat_te
 module _ (units : List ℕ) where
   -- the units of a fragment after its first
   pub inside : (k j : ℕ) → k < j → j < past units k → slice_index units j ≡ 2
-  inside k j after before =
-      let e : k + 1 + (j - (k + 1)) ≡ j = omega arith in
-      eqb-true (slice_index units j) 2 (rw (get_or-drop, e) at (prefix_len_passes (λ u. u == 2) (drop (k + 1) units) (j - (k + 1)) 0 (omega arith)))
+  inside k j after before = grind (arith, nat_tests, prefix_len_passes (λ u. u == 2) (drop (k + 1) units) (j - (k + 1)) 0, get_or-drop (k + 1) units (j - (k + 1)) 0)
 
   -- the unit after its last
   pub not_past : (k : ℕ) → slice_index units (past units k) ≢ 2
@@ -96,10 +79,12 @@ module _ (units : List ℕ) where
   pub come : (k j : ℕ) → Begins units k → k ≤ j → j < past units k → HasCome units j
   come k j begins from below = grind (arith, inside k j)
 
-to_filter : (p : ℕ → Bool) (xs : List ℕ) (k : ℕ) → k < length xs → p (slice_index xs k) ≡ true → Contains (filter p xs) (slice_index xs k)
-to_filter p xs k w is =
-    let all = rw (take-append-drop, filter_more p xs k 0 w, is) at (filter-append p (take (k + 1) xs) (drop (k + 1) xs)) in
-    rw all (Contains-append_left _ (filter p (drop (k + 1) xs)) _ (Contains-push (filter p (take k xs)) (slice_index xs k)))
+-- what passes is kept
+kept_by : (p : ℕ → Bool) (f : ℕ → Fragment) (xs : List ℕ) (k : ℕ) → k < length xs → p (slice_index xs k) ≡ true → Contains (map f (filter p xs)) (f (slice_index xs k))
+kept_by p f [] k within is = absurd (omega arith)
+kept_by p f (x ∷ xs) zero within is = rw is (0, omega arith, refl)
+kept_by p f (x ∷ xs) (suc k) within is =
+    let rest = kept_by p f xs k (omega arith) is in elim (cases_Bool (p x)) [ inl t ↦ rw t (Contains-append_right (f x ∷ []) _ _ rest) | inr e ↦ rw e rest ]
 
 -- the fragment that begins with a unit
 abbrev pub held_at : List ℕ → List ℕ → Extent → ℕ → Fragment
@@ -112,19 +97,15 @@ pub record IsHeld (bytes units : List ℕ) (extent : Extent) (f : Fragment) : Ty
   pub is : held_at bytes units extent at ≡ f
 
 pub held_from_Contains : (bytes units : List ℕ) (extent : Extent) (f : Fragment) → Contains (held bytes units extent) f → IsHeld bytes units extent f
-held_from_Contains bytes units extent f =
-    let begin : List ℕ = filter (λ k. slice_index units k == 1) (range_with_len 0 (length units)) in
-    All-contains (IsHeld bytes units extent) (held bytes units extent) f (All-map (IsHeld bytes units extent) (held_at bytes units extent) begin
-    (λ i d w. record { at = slice_index_or begin i d; begins = eqb-true _ 1 (filter_passes (λ k. slice_index units k == 1) (range_with_len 0 (length units)) i d w); is = refl }))
+held_from_Contains bytes units extent f = All-contains (IsHeld bytes units extent) (held bytes units extent) f (All-map (IsHeld bytes units extent) (held_at bytes units extent) _
+    (λ i d w. record { at = _; begins = eqb-true _ 1 (filter_passes (λ k. slice_index units k == 1) _ i d w); is = refl }))
 
 pub Contains_from_held : (bytes units : List ℕ) (extent : Extent) (k : ℕ) → Begins units k → Contains (held bytes units extent) (held_at bytes units extent k)
 Contains_from_held bytes units extent k begins =
-    let p : ℕ → Bool = λ k. slice_index units k == 1 in
     let all : List ℕ = range_with_len 0 (length units) in
-    let w : k < length units = grind (arith, get_or_past units k 0) in
-    let is : slice_index all k ≡ k = get_or-range_with_len 0 (length units) k 0 w ∙ omega arith in
-    let (i, within, at) = to_filter p all k (omega (arith, length-range_with_len 0 (length units))) (rw is (eq-eqb (slice_index units k) 1 begins)) in
-    (i, omega (arith, length-map (filter p all) (held_at bytes units extent)), get_or-map (held_at bytes units extent) (filter p all) i _ _ within ∙ ap (held_at bytes units extent) (at ∙ is))
+    let within : k < length units = grind (arith, get_or_past units k 0) in
+    let is : slice_index all k ≡ k = get_or-range_with_len 0 (length units) k 0 within ∙ omega arith in
+    rw is at (kept_by (λ j. slice_index units j == 1) (held_at bytes units extent) all k (omega (arith, length-range_with_len 0 (length units))) (rw is (eq-eqb (slice_index units k) 1 begins)))
 
 -- an empty table holds nothing
 no_member : (xs : List Fragment) → ((f : Fragment) → ¬ Contains xs f) → xs ≡ []
@@ -134,53 +115,34 @@ no_member (f ∷ fs) without = absurd (without f (0, omega arith, refl))
 pub held_none : (bytes units : List ℕ) (extent : Extent) → ((k : ℕ) → slice_index units k ≡ 0) → held bytes units extent ≡ []
 held_none bytes units extent empty = no_member (held bytes units extent) (λ f has. let h = held_from_Contains bytes units extent f has in omega (arith, empty h.at, h.begins))
 
-pub same_range : (range : IpFragRange) (start end : ℕ) (more : Bool) → start ≡ range.start → end ≡ range.end → more ≡ range.more_fragments → record { start = start; end = end; more_fragments = more } ≡ range
-same_range range start end more is_start is_end is_more = rw (is_start, is_end, is_more)
-
--- what `contains` says of a part of the table
-pub any_begins : (r : Bool) (units : List ℕ) (a b : ℕ) → b ≤ length units → IsAnyAnswer (λ y t. (y == 1) ≡ t) (slice_range units a b) r → Decides r ((k : ℕ) × (a ≤ k) × (k < b) × Begins units k)
-any_begins r units a b within any =
-    let decides = contains_decides (λ y x. y == x) Decides-eqb (slice_range units a b) 1 r any in
-    let len = length-between units a b in (
-      λ t. let (k, w, is) = decides.0 t in (a + k, omega arith, omega arith, sym (get_or-between units a b k 0 (omega arith)) ∙ is 0),
-      λ (k, from, to, begins). let e : a + (k - a) ≡ k = omega arith in
-          decides.1 (k - a, omega arith, λ d. get_or-between units a b (k - a) d (omega arith) ∙ rw e (get_or_default units k d 0 (omega arith) ∙ begins)),
-    )
+pub range_is : (units : List ℕ) (extent : Extent) (k : ℕ) (range : IpFragRange) → 8 * k ≡ range.start → (range_at units extent k).end ≡ range.end → has_more extent range.end ≡ range.more_fragments → range_at units extent k ≡ range
+range_is units extent k range start end more = let own = ap (has_more extent) end ∙ more in rw (own, start, end)
 
 -- whether a fragment has the range of the one that begins with the same unit
 module _ {units : List ℕ} {extent : Extent} {range : IpFragRange} (table : IsTable units extent) (is : IsRange range) (begins : Begins units (range.start / 8)) where
-  pub same_if : ((k : ℕ) → IsInside range k → ¬ Begins units k) → (extent.ended ≡ true → range.end ≤ extent.reach) → range.more_fragments ≡ has_more extent range.end
-      → HasCome units (units_to range - 1) → slice_index units (units_to range) ≢ 2 → range_at units extent (range.start / 8) ≡ range
-  same_if alone before_end more some stops =
-      let first : ℕ = range.start / 8 in
-      let (k, le, own, below) = table.begun (units_to range - 1) some in
-      let at : k ≡ first = grind (arith, alone k, in_order units k first begins) in
-      let below_first = rw at at below in
-      let to : past units first ≡ units_to range = grind (arith, inside units first (units_to range)) in
-      let end : (range_at units extent first).end ≡ range.end =
-      rw to (grind (arith, nat_tests, cases_Bool range.more_fragments, cases_Bool extent.ended, table.within (units_to range - 1) some)) in
-      same_range range _ _ _ (omega arith) end (ap (has_more extent) end ∙ sym more)
-
-  pub same_only : range_at units extent (range.start / 8) ≡ range → (range.more_fragments ≡ has_more extent range.end) × HasCome units (units_to range - 1) × (slice_index units (units_to range) ≢ 2)
-  same_only same =
-      let first : ℕ = range.start / 8 in
-      let end : (range_at units extent first).end ≡ range.end = ap (λ r. r.end) same in
-      let last = table.within (past units first - 1) (come units first (past units first - 1) begins (omega arith) (omega arith)) in
-      let to : past units first ≡ units_to range = omega arith in
-      (ap (λ r. r.more_fragments) (sym same) ∙ ap (has_more extent) end, come units first (units_to range - 1) begins (omega arith) (omega arith), rw to at (not_past units first))
+  pub same_if : (n : ℕ) → n ≡ units_to range → ((k : ℕ) → IsInside range k → ¬ Begins units k) → (extent.ended ≡ true → range.end ≤ extent.reach) → range.more_fragments ≡ has_more extent range.end
+      → ((HasCome units (n - 1) × (slice_index units n ≢ 2)) ↔ (range_at units extent (range.start / 8) ≡ range))
+  same_if n is_n alone before_end more =
+      let first : ℕ = range.start / 8 in (
+        λ t.
+            let (k, le, own, below) = table.begun (n - 1) t.0 in
+            let to : past units first ≡ units_to range = grind (arith, alone k, in_order units k first begins, inside units first n, t) in
+            let end : (range_at units extent first).end ≡ range.end = rw to (grind (arith, nat_tests, cases_Bool range.more_fragments, cases_Bool extent.ended, table.within (n - 1) t.0)) in
+            range_is units extent first range (omega arith) end (sym more),
+        λ same.
+            let last = table.within (past units first - 1) (come units first (past units first - 1) begins (omega arith) (omega arith)) in
+            let to : past units first ≡ n = omega (arith, ap (λ r. r.end) same) in
+            (come units first (n - 1) begins (omega arith) (omega arith), rw to at (not_past units first)),
+      )
 
 -- the unit is free: so are all that follow, if no fragment begins with one
 pub all_new : {units : List ℕ} {extent : Extent} {range : IpFragRange} → IsTable units extent → IsRange range → slice_index units (range.start / 8) ≡ 0 → ((k : ℕ) → IsInside range k → ¬ Begins units k)
     → (extent.ended ≡ true → range.end ≤ extent.reach) → (range.more_fragments ≡ false → extent.reach ≤ range.end) → IsNew units extent range
-all_new {units = units} {range = range} table is free alone before_end at_end = record {
-  clear = λ k from to. elim (cases_lt 0 (slice_index units k)) [
-    | inr l ↦ omega arith
-    | inl l ↦ let (j, le, begins, below) = table.begun k l in
-        absurd (grind (arith, cases_lt (range.start / 8) j, alone j, come units j (range.start / 8) begins))
-  ];
-  before_end = before_end;
-  at_end = at_end;
-}
+all_new {units = units} {range = range} table is free alone before_end at_end =
+    let clear : (k : ℕ) → range.start ≤ 8 * k → 8 * k < range.end → slice_index units k ≡ 0 = λ k from to.
+    let none : ¬ HasCome units k = λ some.
+    let (j, le, begins, below) = table.begun k some in grind (arith, cases_lt (range.start / 8) j, alone j, come units j (range.start / 8) begins) in omega arith in
+    search (clear, before_end, at_end)
 
 module _ {bytes units : List ℕ} {extent : Extent} (are : AreKept bytes units extent) where
   -- where a fragment that is kept ends, in its units and in bytes
@@ -197,35 +159,28 @@ module _ {bytes units : List ℕ} {extent : Extent} (are : AreKept bytes units e
       (k, begins, omega arith)
 
   module _ {range : IpFragRange} {payload : List ℕ} (fits : Fits range payload) where
-    -- one that overlaps a fragment that is kept and is not the same
-    pub conflict_at : (k : ℕ) → Begins units k → 8 * k < range.end → range.start < (range_at units extent k).end → held_at bytes units extent k ≢ fragment_of range payload
-        → (f : Fragment) × Contains (held bytes units extent) f × Conflict f (fragment_of range payload)
-    conflict_at k begins l r other =
-        (held_at bytes units extent k, Contains_from_held bytes units extent k begins, inl (other, (omega (arith, fits.len), omega (arith, end_at k begins))))
+    -- one that has a unit of a fragment that is kept, and is not the same
+    pub conflict_at : (k j : ℕ) → Begins units k → k ≤ j → j < past units k → range.start / 8 ≤ j → j < units_to range → (k ≡ range.start / 8 → held_at bytes units extent k ≢ fragment_of range payload)
+        → Arrives bytes units extent range payload Contradicts
+    conflict_at k j begins le below from to other =
+        let right = fits.right in
+        let apart : held_at bytes units extent k ≢ fragment_of range payload = λ is. let e = ap (λ f. f.start) is in other (omega arith) is in
+        (held_at bytes units extent k, Contains_from_held bytes units extent k begins, inl (apart, (omega (arith, fits.len), omega (arith, end_at k begins, reaches k j begins le below))))
 
     -- one that goes past the end, and one that ends before what has come
     pub conflict_past : (extent.ended ≡ true) × (extent.reach < range.end) ⊎ (range.more_fragments ≡ false) × (range.end < extent.reach)
         → Arrives bytes units extent range payload Contradicts
     conflict_past past =
-        let (k, begins, is) = furthest (elim past [ inl p ↦ are.table.ended p.0 | inr p ↦ omega (arith, p.1) ]) in
-        let e = end_at k begins in (
-          held_at bytes units extent k,
-          Contains_from_held bytes units extent k begins,
-          elim past [
-            | inl p ↦ inr (inl ((last_is extent (range_at units extent k).end).1 (p.0, is), omega (arith, fits.len, p.1)))
-            | inr p ↦ inr (inr (p.0, omega (arith, fits.len, p.1)))
-          ],
-        )
+        let (k, begins, is) = furthest (grind (arith, past, are.table.ended)) in
+        (held_at bytes units extent k, Contains_from_held bytes units extent k begins, inr (grind (arith, past, end_at k begins, fits.len, last_is extent (range_at units extent k).end)))
 
     -- a fragment is the same exactly if it has the same range and bytes
     pub same_parts : (k : ℕ) → Begins units k → held_at bytes units extent k ≡ fragment_of range payload
         → (range_at units extent k ≡ range) × (slice_range bytes range.start range.end ≡ payload)
     same_parts k begins is =
-        let e : range_at units extent k ≡ range = same_range range _ _ _ (ap (λ f. f.start) is) (sym (end_at k begins) ∙ (ap end_of is ∙ fits.len)) (ap (λ f. f.more) is) in
+        let end : (range_at units extent k).end ≡ range.end = omega (arith, end_at k begins, ap end_of is, fits.len) in
+        let e = range_is units extent k range (ap (λ f. f.start) is) end (rw end at (ap (λ f. f.more) is)) in
         (e, subst (λ r. slice_range bytes r.start r.end ≡ payload) e (ap (λ f. f.bytes) is))
-
-    pub same_fragment : (k : ℕ) → range_at units extent k ≡ range → slice_range bytes range.start range.end ≡ payload → held_at bytes units extent k ≡ fragment_of range payload
-    same_fragment k e is = ap (fragment_in bytes) e ∙ rw is
 
 -- how far the datagram goes then
 abbrev pub after : Extent → IpFragRange → ℕ → Extent
@@ -244,9 +199,7 @@ module _ {bytes payload old new : List ℕ} {extent : Extent} {range : IpFragRan
   -- nothing that is kept overlaps the new fragment
   no_overlap : (k : ℕ) → Begins old k → 8 * k < range.end → range.start < (range_at old extent k).end → ⊥
   no_overlap k begins l r =
-      let j : ℕ = max k (range.start / 8) in
-      let unit = fits.right.unit in
-      omega (arith, come old k j begins (omega arith) (omega arith), is_new.clear j (omega arith) (omega arith))
+      let right = fits.right in grind (arith, come old k (max k (range.start / 8)) begins, is_new.clear (max k (range.start / 8)))
 
   -- the unit after the last of a fragment, the new one and any other
   past_first : past new (range.start / 8) ≡ units_to range
@@ -266,46 +219,28 @@ module _ {bytes payload old new : List ℕ} {extent : Extent} {range : IpFragRan
       let not_last : extent.ended ≡ true → range.end ≢ extent.reach = λ ended is.
       let (k, begins, at) = furthest kept (kept.table.ended ended) in no_overlap k begins (omega (arith, reaches kept k k begins)) (omega arith) in
       let end : (range_at new (after extent range units) (range.start / 8)).end ≡ range.end = rw past_first (elim (cases_Bool range.more_fragments) [ inl m ↦ omega (arith, right.more m) | inr m ↦ omega (arith, is_new.at_end m) ]) in
-      same_range range _ _ _ (omega arith) end
-      (ap (has_more (after extent range units)) end ∙ grind (arith, nat_tests, cases_Bool extent.ended, cases_Bool range.more_fragments, is_new.at_end, is_new.before_end, not_last))
+      range_is new (after extent range units) _ range (omega arith) end (grind (arith, nat_tests, cases_Bool extent.ended, cases_Bool range.more_fragments, is_new.at_end, is_new.before_end, not_last))
 
   range_other : (units k : ℕ) → Begins old k → range_at new (after extent range units) k ≡ range_at old extent k
   range_other units k begins =
-      let there = (range_at old extent k).end in
       let below = reaches kept k k begins (omega arith) (omega arith) in
       let last = kept.table.within (past old k - 1) (come old k (past old k - 1) begins (omega arith) (omega arith)) in
-      let end : (range_at new (after extent range units) k).end ≡ there = rw (past_other k begins) (grind (arith, cases_Bool extent.ended, is_new.before_end, kept.table.unit)) in
-      let apart : there ≢ range.end = λ is. no_overlap k begins (omega arith) (omega (arith, fits.right.some)) in
-      same_range (range_at old extent k) _ _ _ refl end
-      (ap (has_more (after extent range units)) end ∙ grind (arith, nat_tests, cases_Bool extent.ended, cases_Bool range.more_fragments, is_new.at_end, is_new.before_end))
+      let end : (range_at new (after extent range units) k).end ≡ (range_at old extent k).end = rw (past_other k begins) (grind (arith, cases_Bool extent.ended, is_new.before_end, kept.table.unit)) in
+      let apart : (range_at old extent k).end ≢ range.end = λ is. no_overlap k begins (omega arith) (omega (arith, fits.right.some)) in
+      range_is new (after extent range units) k (range_at old extent k) refl end (grind (arith, nat_tests, cases_Bool extent.ended, cases_Bool range.more_fragments, is_new.at_end, is_new.before_end))
 
   pub kept-new : (n units : ℕ) → n ≡ length payload → units ≡ extent.units + units_at range → AreKept (put_mid range.start n bytes payload) new (after extent range units)
   kept-new n units len are_units =
-      let t = kept.table in let right = fits.right in record {
+      let t = kept.table in let right = fits.right in
+      let last : HasCome new ((max extent.reach range.end - 1) / 8) = grind (arith, unit ((extent.reach - 1) / 8), unit ((range.end - 1) / 8), t.reached, right.some, cases_lt range.end extent.reach) in
+      let begun : (k : ℕ) → HasCome new k → (j : ℕ) × (j ≤ k) × Begins new j × (k < past new j) = λ k come. elim (unit k) [
+        | inl own ↦ (range.start / 8, own.0, marked.begins, omega (arith, own.1, past_first))
+        | inr o ↦ let (j, le, begins, below) = t.begun k (omega (arith, o.1)) in (j, le, stays j 1 begins (omega arith), omega (arith, past_other j begins))
+      ] in
+      let count = more_come old new (range.start / 8) (units_at range) marked.len (omega (arith, t.len, right)) (λ k. grind (arith, unit k)) in
+      record {
         room = simp (length-append, length-take, length-drop) (omega (arith, kept.room, fits.len, right.limit));
-        table = record {
-          len = omega (arith, marked.len, t.len);
-          limit = omega (arith, t.limit, right.limit);
-          marks = λ k. grind (arith, unit k, t.marks k);
-          begun = λ k come. elim (unit k) [
-            | inl own ↦ (range.start / 8, own.0, marked.begins, omega (arith, own.1, past_first))
-            | inr o ↦ let (j, le, begins, below) = t.begun k (omega (arith, o.1)) in
-                (j, le, stays j 1 begins (omega arith), omega (arith, past_other j begins))
-          ];
-          within = λ k come. grind (arith, unit k, t.within k, right.unit);
-          reached = λ _. elim (cases_lt range.end extent.reach) [
-            | inl l ↦ let e : (max extent.reach range.end - 1) / 8 ≡ (extent.reach - 1) / 8 = omega arith in rw e (grind (arith, unit ((extent.reach - 1) / 8), t.reached))
-            | inr l ↦ let e : (max extent.reach range.end - 1) / 8 ≡ (range.end - 1) / 8 = omega arith in rw e (grind (arith, unit ((range.end - 1) / 8), right.some))
-          ];
-          unit = λ going. let (no_end, more) = or_parts _ _ going in omega (arith, t.unit no_end, right.more (not-false _ more));
-          ended = λ _. omega (arith, right.some);
-          count = omega (
-            arith,
-            t.count,
-            more_come old new (range.start / 8) (units_at range) marked.len (omega (arith, t.len, right))
-                (λ k from to. grind (arith, unit k)) (λ k. (λ below. marked.outside k (inl below), λ past. marked.outside k (inr (omega arith)))),
-          );
-        };
+        table = search (arith, begun, last, count, t, right, marked, unit, or_parts, not-false);
       }
 
   -- what the memory holds, once the payload is written
@@ -313,17 +248,12 @@ module _ {bytes payload old new : List ℕ} {extent : Extent} {range : IpFragRan
   unchanged n k len begins =
       let r : IpFragRange = range_at old extent k in
       let f : List ℕ → Fragment = λ b. record { start = r.start; more = r.more_fragments; bytes = b } in
+      let room : range.end ≤ length bytes = omega (arith, kept.room, fits.right.limit) in
       ap f (elim (cases_lt r.start range.end) [
-        | inl l ↦ between_is (put_mid range.start n bytes payload) r.start r.end
-            ∙ (ap (drop r.start) (take-put_mid_below range.start n bytes payload r.end (grind (arith, no_overlap k begins l)) (omega (arith, kept.room, fits.right))) ∙ sym (between_is bytes r.start r.end))
-        | inr l ↦ ap (take (r.end - r.start)) (drop-put_mid range.start n bytes payload r.start (omega (arith, fits.len)) (omega (arith, kept.room, fits.right)) (sym len))
+        | inl l ↦ let before : r.end ≤ range.start = grind (arith, no_overlap k begins l) in
+            between_is (put_mid range.start n bytes payload) r.start r.end ∙ rw (take-put_mid_below range.start n bytes payload r.end before (omega arith)) (sym (between_is bytes r.start r.end))
+        | inr l ↦ rw (drop-put_mid range.start n bytes payload r.start (omega (arith, fits.len)) (omega arith) (sym len))
       ])
-
-  no_conflict : (k : ℕ) → Begins old k → ¬ Conflict (held_at bytes old extent k) (fragment_of range payload)
-  no_conflict k begins (inl o) = no_overlap k begins (omega (arith, o.1, fits.len)) (omega (arith, o.1, end_at kept k begins))
-  no_conflict k begins (inr (inl q)) =
-      let (ended, is) = (last_is extent (range_at old extent k).end).0 q.0 in omega (arith, q.1, fits.len, end_at kept k begins, is_new.before_end ended)
-  no_conflict k begins (inr (inr q)) = omega (arith, q.1, fits.len, end_at kept k begins, is_new.at_end q.0)
 
   pub takes-new : (n units : ℕ) → n ≡ length payload → Takes (Some (held bytes old extent)) (fragment_of range payload) (Some (held (put_mid range.start n bytes payload) new (after extent range units)))
   takes-new n units len =
@@ -333,16 +263,17 @@ module _ {bytes payload old new : List ℕ} {extent : Extent} {range : IpFragRan
       let own : held_at to new last (range.start / 8) ≡ f =
       ap (fragment_in to) (range_new units) ∙ rw (between-put_mid range.start n bytes payload range.end (omega (arith, kept.room, fits.right)) (omega (arith, fits.len))) in
       let other : (k : ℕ) → Begins old k → held_at to new last k ≡ held_at bytes old extent k = λ k b. ap (fragment_in to) (range_other units k b) ∙ unchanged n k len b in (
-        λ g has c. let h = held_from_Contains bytes old extent g has in no_conflict h.at h.begins (rw (← h.is) at c),
+        λ g has c.
+            let h = held_from_Contains bytes old extent g has in
+            grind (arith, h.is, no_overlap h.at h.begins, fits.len, end_at kept h.at h.begins, last_is extent (range_at old extent h.at).end, is_new.before_end, is_new.at_end),
         λ g. (
-          λ has. let h = held_from_Contains to new last g has in subst (Contains (held bytes old extent ++ f ∷ [])) h.is (elim (unit h.at) [
-            | inl o ↦ let e : h.at ≡ range.start / 8 = grind (arith, h.begins) in rw (e, own) (Contains-push (held bytes old extent) f)
-            | inr o ↦ let b : Begins old h.at = omega (arith, o.1, h.begins) in rw (other h.at b) (Contains-append_left _ (f ∷ []) _ (Contains_from_held bytes old extent h.at b))
-          ]),
+          λ has. let h = held_from_Contains to new last g has in elim (unit h.at) [
+            | inl o ↦ let e : h.at ≡ range.start / 8 = grind (arith, h.begins) in rw (← h.is, e, own) (Contains-push (held bytes old extent) f)
+            | inr o ↦ let b : Begins old h.at = omega (arith, o.1, h.begins) in rw (← h.is, other h.at b) (Contains-append_left _ (f ∷ []) _ (Contains_from_held bytes old extent h.at b))
+          ],
           λ has. elim (Contains-push_cases (held bytes old extent) f g has) [
-            | inl o ↦ let h = held_from_Contains bytes old extent g o in
-                subst (Contains (held to new last)) (other h.at h.begins ∙ h.is) (Contains_from_held to new last h.at (stays h.at 1 h.begins (omega arith)))
-            | inr e ↦ subst (Contains (held to new last)) (own ∙ e) (Contains_from_held to new last (range.start / 8) marked.begins)
+            | inl o ↦ let h = held_from_Contains bytes old extent g o in rw (← h.is, ← other h.at h.begins) (Contains_from_held to new last h.at (stays h.at 1 h.begins (omega arith)))
+            | inr e ↦ rw (← e, ← own) (Contains_from_held to new last (range.start / 8) marked.begins)
           ],
         ),
       )
@@ -354,47 +285,42 @@ module _ {bytes units : List ℕ} {extent : Extent} (are : AreKept bytes units e
   apart : (f g : Fragment) → Holds f → Holds g → Overlap f g → f ≡ g
   apart f g has_f has_g overlap =
       let a = held_from_Contains bytes units extent f has_f in let b = held_from_Contains bytes units extent g has_g in
-      let both : Overlap (held_at bytes units extent a.at) (held_at bytes units extent b.at) = rw (← a.is, ← b.is) at overlap in
-      let same : a.at ≡ b.at = grind (arith, in_order units a.at b.at b.begins, in_order units b.at a.at a.begins, end_at are a.at a.begins, end_at are b.at b.begins) in
-      sym a.is ∙ (ap (held_at bytes units extent) same ∙ b.is)
-
-  no_past : (f g : Fragment) → Holds f → Holds g → f.more ≡ false → end_of g ≤ end_of f
-  no_past f g has_f has_g last =
-      let a = held_from_Contains bytes units extent f has_f in let b = held_from_Contains bytes units extent g has_g in
-      let (ended, is) = (last_is extent (range_at units extent a.at).end).0 (ap (λ x. x.more) a.is ∙ last) in
-      omega (arith, ap end_of a.is, ap end_of b.is, end_at are a.at a.begins, end_at are b.at b.begins)
+      let same : a.at ≡ b.at = grind (arith, in_order units a.at b.at b.begins, in_order units b.at a.at a.begins, end_at are a.at a.begins, end_at are b.at b.begins, a.is, b.is) in cc
 
   -- a fragment that has come before
   pub takes_same : (f : Fragment) → Holds f → Takes (Some (held bytes units extent)) f (Some (held bytes units extent))
   takes_same f has = (
-    λ g has_g c. elim c [
-      | inl o ↦ o.0 (apart g f has_g has o.1)
-      | inr p ↦ elim p [ inl q ↦ omega (arith, q.1, no_past g f has_g has q.0) | inr q ↦ omega (arith, q.1, no_past f g has has_g q.0) ]
-    ],
+    λ g has_g c.
+        let a = held_from_Contains bytes units extent f has in let b = held_from_Contains bytes units extent g has_g in
+        grind (arith, apart g f has_g has, end_at are a.at a.begins, end_at are b.at b.begins, last_is extent (range_at units extent a.at).end, last_is extent (range_at units extent b.at).end, a.is, b.is),
     λ g. (Contains-append_left _ (f ∷ []) g, λ h. elim (Contains-push_cases _ f g h) [ inl a ↦ a | inr e ↦ rw e at has ]),
   )
 
-  piece_at : (k : ℕ) → extent.ended ≡ true → Begins units k → IsPieceOf (take extent.reach bytes) (held_at bytes units extent k)
-  piece_at k ended begins =
-      let end = end_at are k begins in
-      let len = length-take-le extent.reach bytes (omega (arith, are.room, are.table.limit)) in
-      let last = last_is extent (range_at units extent k).end in record {
-        within = omega arith;
-        bytes = rw end (between_is bytes _ _ ∙ (ap (drop (8 * k)) (sym (take-take (range_at units extent k).end extent.reach bytes (omega arith))) ∙ sym (between_is (take extent.reach bytes) _ _)));
-        last = (λ m. omega (arith, last.0 m), λ i. last.1 (ended, omega arith));
-      }
-
-  pub whole : extent.ended ≡ true → (extent.reach + 7) / 8 ≤ extent.units → AreCutFrom (take extent.reach bytes) (held bytes units extent)
-  whole ended full =
-      let len = length-take-le extent.reach bytes (omega (arith, are.room, are.table.limit)) in record {
+  -- each byte has come, by what a contract sees
+  pub whole_view : (discarded : Bool) (value : Option (List Fragment)) → kept discarded bytes units extent ≡ value → discarded ≡ false → extent.ended ≡ true → (extent.reach + 7) / 8 ≤ extent.units → IsWhole value (take extent.reach bytes)
+  whole_view discarded value view alive ended full =
+      let len = length-take-le extent.reach bytes (omega (arith, are.room, are.table.limit)) in rw (← view, alive) (record {
         some = omega (arith, are.table.ended ended);
-        pieces = λ f has. let h = held_from_Contains bytes units extent f has in rw h.is at (piece_at h.at ended h.begins);
+        pieces = λ f has.
+            let h = held_from_Contains bytes units extent f has in
+            let end = end_at are h.at h.begins in
+            let last = last_is extent (range_at units extent h.at).end in
+            let piece : IsPieceOf (take extent.reach bytes) (held_at bytes units extent h.at) = record {
+              within = omega arith;
+              bytes = rw end (between_is bytes _ _ ∙ (ap (drop (8 * h.at)) (sym (take-take (range_at units extent h.at).end extent.reach bytes (omega arith))) ∙ sym (between_is (take extent.reach bytes) _ _)));
+              last = (λ m. omega (arith, last.0 m), λ i. last.1 (ended, omega arith));
+            } in rw h.is at piece;
         covered = λ i below.
-            let some = each_come units ((extent.reach + 7) / 8) (i / 8) (ends_at units extent are.table) (omega (arith, are.table.count)) (omega arith) in
+            let some : HasCome units (i / 8) = grind (arith, are.table.count, fewer units ((extent.reach + 7) / 8) (i / 8) (λ k past. grind (arith, are.table.within k)) (omega arith)) in
             let (k, from, begins, to) = are.table.begun (i / 8) some in
             (held_at bytes units extent k, Contains_from_held bytes units extent k begins, (omega arith, omega (arith, end_at are k begins)));
         apart = apart;
-      }
+      })
+
+  pub only_view : (discarded : Bool) (value : Option (List Fragment)) → kept discarded bytes units extent ≡ value → discarded ≡ false → extent.ended ≡ true → (extent.reach + 7) / 8 ≤ extent.units → (datagram : List ℕ) → IsWhole value datagram
+      → take extent.reach bytes ≡ datagram
+  only_view discarded value view alive ended full datagram cut =
+      one_cut (held bytes units extent) (take extent.reach bytes) datagram (whole_view false (Some (held bytes units extent)) refl refl ended full) (rw (← view, alive) at cut)
 
   -- the end has not come, or a byte before it
   pub not_whole : (extent.ended ≡ false) ⊎ (extent.units < (extent.reach + 7) / 8) → (datagram : List ℕ) → ¬ AreCutFrom datagram (held bytes units extent)
@@ -411,14 +337,6 @@ module _ {bytes units : List ℕ} {extent : Extent} (are : AreKept bytes units e
       let covers : Covers (held_at bytes units extent h.at) (8 * k) = rw (← h.is) at cover in
       come units h.at k h.begins (omega arith) (omega (arith, end_at are h.at h.begins)) in
       omega (arith, are.table.count, many_come units ((extent.reach + 7) / 8) each)
-
-  -- the same of what a contract sees
-  module _ (discarded : Bool) (value : Option (List Fragment)) (view : kept discarded bytes units extent ≡ value) (alive : discarded ≡ false) where
-    pub whole_view : extent.ended ≡ true → (extent.reach + 7) / 8 ≤ extent.units → IsWhole value (take extent.reach bytes)
-    whole_view ended full = rw (← view, alive) (whole ended full)
-
-    pub only_view : extent.ended ≡ true → (extent.reach + 7) / 8 ≤ extent.units → (datagram : List ℕ) → IsWhole value datagram → take extent.reach bytes ≡ datagram
-    only_view ended full datagram cut = one_cut (held bytes units extent) (take extent.reach bytes) datagram (whole ended full) (rw (← view, alive) at cut)
 
 pub not_whole_view : (bytes units : List ℕ) (extent : Extent) (discarded : Bool) (value : Option (List Fragment)) → kept discarded bytes units extent ≡ value → discarded ≡ false → AreKept bytes units extent
     → (extent.ended ≡ false) ⊎ (extent.units < (extent.reach + 7) / 8) → (datagram : List ℕ) → ¬ IsWhole value datagram

@@ -1,5 +1,6 @@
--- extension headers, one after the other, up to the fragment header that decides
-use Rattle.std.proofs.Common.{ℕ, ◌≡◌, ◌+◌, ◌-◌, ◌<◌, ◌≤◌, ◌++◌, [], ◌∷◌, List, None, length, arith, ap, append_assoc, drop, false, get_or, length-append, length-drop, refl, slice_index, slice_range, sym, take, ◌∙◌}
+-- extension headers, one after the other, up to the one place where a fragment header decides or there is none
+use Rattle.std.proofs.Common.{ℕ, ◌≡◌, ◌+◌, ◌-◌, ◌<◌, ◌≤◌, ◌++◌, [], ◌∷◌, IsTrue, List, None, Option, length, arith, ap, append_assoc, drop, false, get_or, length-append, length-drop, refl, rules, slice_index, slice_range, subst, sym, take, ◌∙◌}
+use Rattle.std.specs.Option.{option_or}
 use Rattle.std.proofs.Math.ListN.{get_or-append}
 use Rattle.std.proofs.Math.Seq.{drop-append_seam, take-add}
 use Rattle.std.proofs.lemmas.Bool.Decides.{nat_tests}
@@ -7,16 +8,18 @@ use Rattle.std.proofs.lemmas.Grind.{common_steps}
 use Rattle.std.proofs.lemmas.List.Folds.{concat-append}
 use Rattle.std.specs.List.{concat}
 use Rattle.std.proofs.lemmas.List.{append-nil, drop-drop, get_or-take, length-take-le}
-use Rattle.etherparse.specs.ExtensionHeaderChain.{FollowsChain, IsExtensionHeader, IsExtensionHeaderChain, incomplete_header_error, extension_header_len, required_len_of}
+use Rattle.etherparse.proofs.Fronts.{TellsHeaders, fixed_tells}
+use Rattle.etherparse.specs.ExtensionHeaderChain.{FollowsChain, IsExtensionHeader, IsExtensionHeaderChain, extension_header_len, required_len_of}
 use Rattle.etherparse.specs.ExtensionHeaders.{IsSkippable}
 use Rattle.etherparse.specs.Reading.{BeginsWith}
-use Rattle.etherparse.specs.LenError.{len_error_moved}
-use Rattle.etherparse.specs.declared.err.LenError.{LenError}
-use Rattle.packet_parts.specs.Extensions.{Passes, after_fragment, at_front, deciding}
-use Rattle.etherparse_net.specs.Ipv6FragmentHeader.{IsFragmentLayout, is_part}
+use Rattle.etherparse.specs.declared.err.Layer.TheVariants as layer
+use Rattle.packet_parts.proofs.ExtensionEnds.{same_beginning}
+use Rattle.packet_parts.specs.Extensions.{EndsInHeader, Passes, after_fragment, after_other, at_front, deciding}
+use Rattle.etherparse_net.specs.Ipv6FragmentHeader.{IsFragmentLayout, RefusesFragment, is_part}
 use Rattle.etherparse_net.specs.declared.ipv6_fragment_header.Ipv6FragmentHeader.{Ipv6FragmentHeader}
-use Rattle.packet_reassembly.specs.Ipv6Fragment.{EndsBefore}
+use Rattle.packet_reassembly.specs.Ipv6Fragment.{AreFragmentParts, HasNoFragment}
 use Rattle.packet_reassembly.specs.Packet.{AreUnfragmentable, IsChain}
+use Rattle.packet_reassembly.specs.declared.ipv6_fragment.Ipv6FragmentParts.{Ipv6FragmentParts}
 
 -- one header more of a chain
 chain_one : (first : ℕ) (headers : List (List ℕ)) (header : List ℕ) (number : ℕ) → IsExtensionHeaderChain first headers number → IsExtensionHeader number header → IsExtensionHeaderChain first (headers ++ header ∷ []) (slice_index header 0)
@@ -24,13 +27,10 @@ chain_one first [] header number e h = (rw e at h, refl)
 chain_one first (one ∷ headers) header number c h = (c.0, chain_one (slice_index one 0) headers header number c.1 h)
 
 pub chain_more : (first : ℕ) (before header rest : List ℕ) (number : ℕ) → IsChain first before number → IsExtensionHeader number header → FollowsChain (before ++ (header ++ rest)) first (slice_index header 0) rest
-chain_more first before header rest number c h = record {
-  headers = c.headers ++ header ∷ [];
-  begins = record {
-    chain = chain_one first c.headers header number c.begins.chain h;
-    whole = let e : before ≡ concat c.headers = c.begins.whole ∙ append-nil (concat c.headers) in rw (e, concat-append) (simp (append_assoc, append-nil));
-  };
-}
+chain_more first before header rest number c h =
+    let chain = chain_one first c.headers header number c.begins.chain h in
+    let e : before ≡ concat c.headers = c.begins.whole ∙ append-nil (concat c.headers) in
+    let whole : before ++ (header ++ rest) ≡ concat (c.headers ++ header ∷ []) ++ rest = rw (e, concat-append) (simp (append_assoc, append-nil)) in search (rules, chain, whole)
 
 -- headers have been passed up to a place, the last of them from another place on
 pub record IsWalked (body : List ℕ) (first last at number : ℕ) (rest : List ℕ) : Type 0 where
@@ -60,31 +60,90 @@ module _ {body rest : List ℕ} {first last at number : ℕ} (w : IsWalked body 
       let is_header : IsExtensionHeader number (take k rest) = record { skippable = skippable; len = rw (length-take-le k rest fits, get_or-take k rest 1 0 (omega arith)) len } in
       let all : take to body ≡ take at body ++ (take k rest ++ []) = rw (append-nil, here) (rw (← w.is) at (take-add at k body)) in
       let n : to - at ≡ k = omega arith in
-      record {
-        order = omega arith;
-        within = omega (arith, w.within, ap length w.is, length-drop at body);
-        is = ap (drop k) w.is ∙ (drop-drop k at body ∙ ap (λ i. drop i body) (sym here));
-        passes = passes;
-        chain = rw (all, sym (get_or-take k rest 0 0 (omega arith))) (chain_more first (take at body) (take k rest) [] number w.chain is_header);
-        headers = rw (n, ← w.is) (unfragmentable first number (take at body) (take k rest) w.chain is_header (omega (arith, length-take-le k rest fits)));
-      }
+      let within : to ≤ length body = omega (arith, w.within, ap length w.is, length-drop at body) in
+      let is = ap (drop k) w.is ∙ (drop-drop k at body ∙ ap (λ i. drop i body) (sym here)) in
+      let chain : IsChain first (take to body) (slice_index rest 0) = rw (all, sym (get_or-take k rest 0 0 (omega arith))) (chain_more first (take at body) (take k rest) [] number w.chain is_header) in
+      let headers : AreUnfragmentable first (take at body) (slice_range body at to) = rw (n, ← w.is) (unfragmentable first number (take at body) (take k rest) w.chain is_header (omega (arith, length-take-le k rest fits))) in
+      search (arith, within, is, passes, chain, headers)
 
-  -- the error of a header that is incomplete
-  pub ends_before : length rest < required_len_of number rest → (e moved : LenError) → e ≡ incomplete_header_error number rest 0 → moved ≡ len_error_moved at e → EndsBefore body first moved
-  ends_before short e moved is move =
-      let n : 0 + at ≡ length body - length rest = omega (arith, w.within, ap length w.is, length-drop at body) in record {
-        number = number;
-        rest = rest;
-        ends = (record { passes = w.passes; skippable = skippable; short = short }, move ∙ (ap (len_error_moved at) is ∙ ap (incomplete_header_error number rest) n));
-      }
+-- a fragment header is whole, and what follows it is told by its first byte and its length
+fragment_next : (at : List ℕ) (h : Ipv6FragmentHeader) (x : List ℕ) → BeginsWith IsFragmentLayout at h x
+    → (required_len_of 44 at ≤ length at) × (slice_index at 0 ≡ h.next_header) × (drop (required_len_of 44 at) at ≡ x)
+fragment_next at h x b =
+    let len = b.layout.len in
+    let enough : 8 ≤ length at = omega (arith, ap length b.whole, length-append {A = ℕ}) in
+    let required : required_len_of 44 at ≡ 8 = grind (arith, common_steps) in
+    (omega (arith, required), rw b.whole (get_or-append b.front x 0 0 (omega arith)) ∙ b.layout.next_header, rw (required, b.whole, sym len) (drop-append_seam b.front x))
 
 -- an atomic fragment header is passed
 pub atomic_passed : (body slice rest : List ℕ) (header : Ipv6FragmentHeader) (first number : ℕ) → number ≡ 44 → BeginsWith IsFragmentLayout slice header rest → is_part header ≡ false → header.fragment_offset ≡ 0 → Passes body first None number slice → Passes body first None (slice_index slice 0) (drop (required_len_of number slice) slice)
 atomic_passed body slice rest header first number is begins whole front passes =
-    let len = begins.layout.len in
-    let enough : 8 ≤ length slice = omega (arith, ap length begins.whole, length-append {A = ℕ}) in
-    let named : slice_index slice 0 ≡ header.next_header = rw begins.whole (get_or-append begins.front rest 0 0 (omega arith)) ∙ begins.layout.next_header in
-    let required : required_len_of number slice ≡ 8 = rw is (grind (arith, common_steps)) in
-    let after : drop (required_len_of number slice) slice ≡ rest = rw (required, begins.whole, sym len) (drop-append_seam begins.front rest) in
+    let (enough, named, after) = fragment_next slice header rest begins in
     let none : deciding header ≡ None = rw whole refl in
-    rw (named, after) (rw none at (after_fragment (rw is at passes) begins front))
+    rw (is, named, after) (rw none at (after_fragment (rw is at passes) begins front))
+
+tells_fragment : TellsHeaders IsFragmentLayout RefusesFragment
+tells_fragment = fixed_tells IsFragmentLayout layer.Ipv6FragHeader 8 (λ g h p k l. search rules) (λ h p l. l.len)
+
+-- a slice begins with one fragment header
+one_fragment : (s : List ℕ) (g h : Ipv6FragmentHeader) (x y : List ℕ) → BeginsWith IsFragmentLayout s g x → BeginsWith IsFragmentLayout s h y → (g ≡ h) × (x ≡ y)
+one_fragment = same_beginning IsFragmentLayout RefusesFragment tells_fragment
+
+-- one more header can be passed, and does not decide
+record CanPass (number : ℕ) (rest : List ℕ) : Type 0 where
+  skippable : IsSkippable number
+  enough : required_len_of number rest ≤ length rest
+  undecided : (h : Ipv6FragmentHeader) (x : List ℕ) → number ≡ 44 → BeginsWith IsFragmentLayout rest h x → is_part h ≡ false
+
+-- such headers lead from one place to another
+data Leads (m : ℕ) (t : List ℕ) : ℕ → List ℕ → Type 0 where
+  there : Leads m t m t
+  passed : {n : ℕ} {r : List ℕ} → CanPass n r → Leads m t (slice_index r 0) (drop (required_len_of n r) r) → Leads m t n r
+
+further : {m : ℕ} {t : List ℕ} {n : ℕ} {r : List ℕ} → Leads m t n r → CanPass m t → Leads (slice_index t 0) (drop (required_len_of m t) t) n r
+further there pass = passed pass there
+further (passed before more) pass = passed before (further more pass)
+
+-- where none has decided, none did before, nor does the last
+none_before : (d : Option Ipv6FragmentHeader) (h : Ipv6FragmentHeader) → option_or d (deciding h) ≡ None → (d ≡ None) × (is_part h ≡ false)
+none_before d h none = grind arith
+
+-- headers that are passed, none of which decides, lead to the place after them
+leads : {s : List ℕ} {first : ℕ} {d : Option Ipv6FragmentHeader} {n : ℕ} {r : List ℕ} → Passes s first d n r → d ≡ None → Leads n r first s
+leads at_front none = there
+leads (after_other p skippable other enough) none = further (leads p none) (record { skippable = skippable; enough = enough; undecided = λ h x is. absurd (other is) })
+leads (after_fragment {decided = d} {at = at} {rest = x} {next = next} p b front) none =
+    let (before, whole) = none_before d next none in
+    let (enough, named, after) = fragment_next at next x b in
+    let pass : CanPass 44 at = record { skippable = search rules; enough = enough; undecided = λ h y is f. sym (ap is_part (one_fragment at next h x y b f).0) ∙ whole } in
+    rw (← named, ← after) (further (leads p before) pass)
+
+-- two places where it stops are one
+one_stop : {m : ℕ} {t : List ℕ} {k : ℕ} {u : List ℕ} {n : ℕ} {r : List ℕ} → Leads m t n r → Leads k u n r → (CanPass m t → ⊥) → (CanPass k u → ⊥) → (m ≡ k) × (t ≡ u)
+one_stop there there stuck other = (refl, refl)
+one_stop there (passed pass more) stuck other = absurd (stuck pass)
+one_stop (passed pass more) there stuck other = absurd (other pass)
+one_stop (passed pass more) (passed again rest) stuck other = one_stop more rest stuck other
+
+module _ {body : List ℕ} {first : ℕ} where
+  -- it stops before a header that decides
+  stuck : {a : Ipv6FragmentParts} (p : AreFragmentParts body first a) → CanPass 44 p.at → ⊥
+  stuck {a = a} p pass = let part : IsTrue false = subst IsTrue (pass.undecided a.fragment a.payload.now refl p.begins) p.is_part in cc
+
+  -- the fragment header that decides is one, and so is what follows it
+  pub parts_once : (a b : Ipv6FragmentParts) → AreFragmentParts body first a → AreFragmentParts body first b → (a.fragment ≡ b.fragment) × (a.payload.now ≡ b.payload.now)
+  parts_once a b p q =
+      let same = one_stop (leads p.passes refl) (leads q.passes refl) (stuck p) (stuck q) in
+      one_fragment q.at a.fragment b.fragment a.payload.now b.payload.now (rw same.1 at p.begins) q.begins
+
+  -- there is none where it stops before another header
+  pub parts_not_at : (a : Ipv6FragmentParts) (n : ℕ) (r : List ℕ) → AreFragmentParts body first a → Passes body first None n r → (IsSkippable n → required_len_of n r ≤ length r → ⊥) → ⊥
+  parts_not_at a n r p passes stops =
+      let same = one_stop (leads p.passes refl) (leads passes refl) (stuck p) (λ pass. stops pass.skippable pass.enough) in
+      stops (rw (← same.0) (search rules)) (rw (← same.0, ← same.1) (fragment_next p.at a.fragment a.payload.now p.begins).0)
+
+  -- what has none does not end within a header before one
+  pub none_not_before : (n : ℕ) (r : List ℕ) → HasNoFragment body first → EndsInHeader body first None n r → ⊥
+  none_not_before n r p q =
+      let same = one_stop (leads p.passes refl) (leads q.passes refl) (λ pass. p.upper pass.skippable) (λ pass. omega (arith, pass.enough, q.short)) in
+      p.upper (rw same.0 q.skippable)

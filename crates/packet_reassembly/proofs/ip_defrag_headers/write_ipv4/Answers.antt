@@ -5,11 +5,6 @@ use Rattle.etherparse.specs.Ipv4Header.{IsIpv4Layout}
 use Rattle.packet_reassembly.proofs.Kept.{too_long}
 use Rattle.packet_reassembly.proofs.ip_defrag_headers.write_ipv4.Goals as goal
 
-pub unreachable-requires : goal.unreachable-requires
-unreachable-requires c =
-    let (first, layout) = c.requires.header in
-    cc (c.in-Err.ensures.reads.only (Ok (first, [])) (record { front = c.args.headers.now; whole = sym (append-nil c.args.headers.now); layout = layout }))
-
 pub returns : goal.returns
 returns c =
     let (first, layout) = c.requires.header in

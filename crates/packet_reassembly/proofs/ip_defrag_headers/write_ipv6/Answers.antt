@@ -1,6 +1,6 @@
-use Rattle.std.proofs.Common.{◌≡◌, ◌++◌, Ok, refl, take}
+use Rattle.std.proofs.Common.{◌≡◌, ◌++◌, Ok, refl}
 use Rattle.std.proofs.lemmas.Result.{IfErr-weaker, IfOk-at_ok, IfOk-weaker}
-use Rattle.packet_reassembly.proofs.Kept.{ipv6_first, ipv6_long, ipv6_with, parts_at, too_long}
+use Rattle.packet_reassembly.proofs.Kept.{ipv6_first, parts_at, too_long}
 use Rattle.packet_reassembly.proofs.ip_defrag_headers.write_ipv6.Goals as goal
 
 pub unreachable-requires : goal.unreachable-requires
@@ -19,9 +19,11 @@ pub returns-clause-packet : goal.returns-clause-packet
 returns-clause-packet c =
     let p = c.requires.headers in
     let same : c.in-Ok.first ≡ p.first = IfOk-at_ok (λ x. x.0 ≡ p.first) (c.in-Ok.ensures.reads.only (Ok (p.first, p.before ++ (p.last ++ p.are_headers.at))) (ipv6_first c.args.headers.now c.args.place p)) refl in
-    IfOk-weaker c.write_ipv6_packet.result _ _ (λ len. ipv6_with c.args.headers.now c.args.datagram.now (take len c.write_ipv6_packet.new.out) c.args.place p c.in-Ok.first same) c.write_ipv6_packet.ensures.packet
+    let (is_before, is_last, is_number) = parts_at c.args.headers.now c.args.place p in
+    IfOk-weaker c.write_ipv6_packet.result _ _ (λ len has. let packet = rw (same, is_before, is_last, is_number) at has in search) c.write_ipv6_packet.ensures.packet
 
 pub returns-clause-refused : goal.returns-clause-refused
 returns-clause-refused c =
     let p = c.requires.headers in
-    IfErr-weaker c.write_ipv6_packet.result _ _ (λ _. ipv6_long c.args.headers.now c.args.datagram.now c.args.place p) (too_long c.write_ipv6_packet.result _ 65535 c.write_ipv6_packet.ensures.accepted)
+    let (is_before, is_last, is_number) = parts_at c.args.headers.now c.args.place p in
+    IfErr-weaker c.write_ipv6_packet.result _ _ (λ _ long. let is_long = rw (is_before, is_last) at long in search) (too_long c.write_ipv6_packet.result _ 65535 c.write_ipv6_packet.ensures.accepted)

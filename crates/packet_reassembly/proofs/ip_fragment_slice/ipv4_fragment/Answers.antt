@@ -1,4 +1,4 @@
-use Rattle.std.proofs.Common.{◌∙◌, inl, refl, sym}
+use Rattle.std.proofs.Common.{◌∙◌, inl, rules, sym}
 use Rattle.packet_reassembly.proofs.ip_fragment_slice.ipv4_fragment.Goals as goal
 
 pub returns-then-not-is_fragmenting_payload-clause-none : goal.returns-then-not-is_fragmenting_payload-clause-none
@@ -9,21 +9,13 @@ returns-then-not-is_fragmenting_payload-clause-none c = λ packet header told en
 pub returns-clause-found : goal.returns-clause-found
 returns-clause-found c = λ packet header told enough begins front.
     let is_layout = rw front at begins.layout in
-    inl (record {
-      header = header;
-      told = told;
-      enough = enough;
-      begins = begins;
-      is_fragment = (c.is_fragmenting_payload.ensures.value header is_layout).0 c.if-not-is_fragmenting_payload.false;
-      id = cc (
-        c.source.ensures.value header is_layout,
-        c.destination.ensures.value header is_layout,
-        c.result.view_is ∙ c.protocol.ensures.value header is_layout,
-        c.identification.ensures.value header is_layout,
-      );
-      offset = c.fragments_offset.ensures.value header is_layout;
-      more = c.more_fragments.ensures.value header is_layout;
-      next = c.protocol-2.ensures.value header is_layout;
-      headers = c.slice-headers.ensures.value ∙ sym front;
-      last_extension = refl;
-    })
+    let is_fragment = (c.is_fragmenting_payload.ensures.value header is_layout).0 c.if-not-is_fragmenting_payload.false in
+    let source = c.source.ensures.value header is_layout in
+    let destination = c.destination.ensures.value header is_layout in
+    let protocol = c.result.view_is ∙ c.protocol.ensures.value header is_layout in
+    let identification = c.identification.ensures.value header is_layout in
+    let offset = c.fragments_offset.ensures.value header is_layout in
+    let more = c.more_fragments.ensures.value header is_layout in
+    let next = c.protocol-2.ensures.value header is_layout in
+    let headers = c.slice-headers.ensures.value ∙ sym front in
+    inl (search (rules, is_fragment, source, destination, protocol, identification, offset, more, next, headers))

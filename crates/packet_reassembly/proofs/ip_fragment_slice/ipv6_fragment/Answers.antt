@@ -1,4 +1,4 @@
-use Rattle.std.proofs.Common.{ℕ, ◌++◌, ◌∙◌, None, Some, ap, arith, false, inr, length, length-append, refl, subst, sym}
+use Rattle.std.proofs.Common.{ℕ, ◌++◌, ◌∙◌, None, Some, ap, arith, false, inr, length, length-append, refl, rules, subst, sym}
 use Rattle.packet_parts.specs.Extensions.{EndsAs}
 use Rattle.packet_reassembly.specs.Ipv6Fragment.{AreFragmentParts}
 use Rattle.packet_reassembly.proofs.Kept.{before_payload}
@@ -35,18 +35,6 @@ returns-clause-found c = λ packet header enough begins front is_whole.
 pub returns-in-Err-clause-refused : goal.returns-in-Err-clause-refused
 returns-in-Err-clause-refused c = λ packet header enough begins front.
     let is_layout = rw front at begins.layout in
-    let q = c.in-Err.ensures.refused in record {
-      ends = record {
-        header = header;
-        body = c.args.body.now;
-        enough = enough;
-        begins = begins;
-        fragment = None;
-        number = q.number;
-        rest = q.rest;
-        inside = c.in-Err.e;
-        ends = subst (λ (n : ℕ). EndsAs false (Some c.in-Err.e) c.args.body.now n None q.number q.rest) (c.next_header.ensures.value header is_layout) q.ends;
-        moved = c.add_offset.ensures.moved;
-      };
-      undecided = refl;
-    }
+    let q = c.in-Err.ensures.refused in
+    let ends = subst (λ (n : ℕ). EndsAs false (Some c.in-Err.e) c.args.body.now n None q.number q.rest) (c.next_header.ensures.value header is_layout) q.ends in
+    record { ends = search (rules, begins, ends, c.add_offset.ensures.moved); undecided = refl }

@@ -1,27 +1,29 @@
-use Rattle.std.proofs.Common.{ℕ, ◌≡◌, ◌-◌, ◌<◌, ap, arith, drop, length, length-drop, refl, slice_index, sym}
+use Rattle.std.proofs.Common.{ℕ, ◌≡◌, ◌+◌, ◌-◌, ◌<◌, ◌∙◌, None, ap, arith, drop, length, length-drop, refl, rules, slice_index, sym}
 use Rattle.std.proofs.lemmas.List.Edits.{split_between}
 use Rattle.std.proofs.lemmas.Result.{IfOk-at_ok}
-use Rattle.etherparse.specs.ExtensionHeaderChain.{required_len_of}
-use Rattle.packet_reassembly.proofs.Walked.{ends_before, walked_more}
+use Rattle.etherparse.specs.ExtensionHeaderChain.{incomplete_header_error, required_len_of}
+use Rattle.etherparse.specs.LenError.{len_error_moved}
+use Rattle.packet_parts.specs.Extensions.{EndsInHeader}
+use Rattle.packet_reassembly.proofs.Walked.{walked_more}
 use Rattle.packet_reassembly.proofs.ipv6_fragment.ipv6_fragment_parts.Goals as goal
 
 pub returns-in-Err-clause-refused : goal.returns-in-Err-clause-refused
 returns-in-Err-clause-refused c =
+    let w = c.headers.invariant in
     let skippable = c.is_skippable_header_extension.ensures.value.0 c.if-not-is_skippable_header_extension.false in
     let short : length c.headers.rest.now < required_len_of c.headers.number c.headers.rest.now = grind (arith, c.in-Err.ensures.accepted skippable) in
-    ends_before c.headers.invariant skippable short c.in-Err.e c.add_offset.result (let e = c.in-Err.ensures.refused skippable short in cc) c.add_offset.ensures.moved
+    let n : 0 + c.headers.at ≡ length c.args.body.now - length c.headers.rest.now = omega (arith, w.within, ap length w.is, length-drop c.headers.at c.args.body.now) in
+    let ends : EndsInHeader c.args.body.now c.args.first None c.headers.number c.headers.rest.now = record { passes = w.passes; skippable = skippable; short = short } in
+    let e = c.in-Err.ensures.refused skippable short in
+    let is : c.in-Err.e ≡ incomplete_header_error c.headers.number c.headers.rest.now 0 = cc in
+    let moved = ap (len_error_moved c.headers.at) is ∙ ap (incomplete_header_error c.headers.number c.headers.rest.now) n in
+    record { number = c.headers.number; rest = c.headers.rest.now; ends = (ends, c.add_offset.ensures.moved ∙ moved) }
 
 pub returns-in-Some-clause-found : goal.returns-in-Some-clause-found
 returns-in-Some-clause-found c =
     let w = c.headers.invariant in
-    let found = c.in-Some.ensures.found in record {
-      at = c.headers.rest.now;
-      whole = rw w.is (split_between c.args.body.now c.headers.last c.headers.at w.order);
-      headers = w.headers;
-      passes = rw found.0 at w.passes;
-      begins = found.1;
-      is_part = found.2;
-    }
+    let found = c.in-Some.ensures.found in
+    search (rules, w, found, split_between c.args.body.now c.headers.last c.headers.at w.order, rw found.0 at w.passes)
 
 pub headers-preserved : goal.headers-preserved
 headers-preserved c =
@@ -33,3 +35,10 @@ headers-preserved c =
     IfOk-at_ok (λ x. (x.0 ≡ slice_index c.headers.rest.now 0) × (x.1 ≡ drop k c.headers.rest.now)) (sym (c.in-Ok.ensures.skipped skippable fits)) (refl, refl) in
     rw (same.0, same.1) (walked_more w skippable fits (c.in-None.ensures.none c.args.body.now c.args.first w.passes) (length c.args.body.now - length (drop k c.headers.rest.now))
     (omega (arith, length-drop k c.headers.rest.now, ap length w.is, length-drop c.headers.at c.args.body.now)))
+
+pub deciding-requires-clause-skippable : goal.deciding-requires-clause-skippable
+deciding-requires-clause-skippable c = c.is_skippable_header_extension.ensures.value.0 c.if-not-is_skippable_header_extension.false
+
+pub deciding-requires-clause-enough : goal.deciding-requires-clause-enough
+deciding-requires-clause-enough c =
+    (c.in-Ok.ensures.accepted (c.is_skippable_header_extension.ensures.value.0 c.if-not-is_skippable_header_extension.false)).0 refl

@@ -1,7 +1,8 @@
-use Rattle.std.proofs.Common.{ℕ, ◌≡◌, ◌+◌, ◌<◌, ◌-◌, ◌++◌, ◌∙◌, [], ◌∷◌, List, ap, append_assoc, arith, drop, length, length-drop, refl, take}
+use Rattle.std.proofs.Common.{ℕ, ◌≡◌, ◌+◌, ◌<◌, ◌-◌, ◌++◌, ◌∙◌, [], ◌∷◌, List, ap, append_assoc, arith, drop, length, length-drop, rules, take}
 use Rattle.std.proofs.lemmas.List.{take_all}
 use Rattle.std.proofs.lemmas.Bool.Decides.{nat_tests}
 use Rattle.etherparse.specs.Ipv6Header.{IsIpv6Layout}
+use Rattle.etherparse.specs.Reading.{BeginsWith}
 use Rattle.etherparse.specs.declared.net.ipv6_header.Ipv6Header.{Ipv6Header}
 use Rattle.packet_reassembly.specs.Packet.{AreUnfragmentable, IsIpv6Packet}
 use Rattle.packet_reassembly.proofs.Walked.{chain_more}
@@ -11,14 +12,9 @@ ipv6_written : (first header : Ipv6Header) (before last payload packet bytes : L
     → header ≡ record first { payload_length = length before + length last + length payload } → packet ≡ bytes ++ (before ++ ((number ∷ drop 1 last) ++ payload))
     → IsIpv6Packet first before last number payload packet
 ipv6_written first header before [] payload packet bytes number are some layout fields whole = absurd (omega arith)
-ipv6_written first header before (byte ∷ rest) payload packet bytes number (m, chain, is) some layout fields whole = record {
-  header = header;
-  body = before ++ ((number ∷ rest) ++ payload);
-  begins = record { front = bytes; whole = whole; layout = layout };
-  fields = fields;
-  parts = refl;
-  chain = rw fields (chain_more first.next_header before (number ∷ rest) payload m chain (record { skippable = is.skippable; len = is.len }));
-}
+ipv6_written first header before (byte ∷ rest) payload packet bytes number (m, chain, is) some layout fields whole =
+    let begins : BeginsWith IsIpv6Layout packet header (before ++ ((number ∷ rest) ++ payload)) = record { front = bytes; whole = whole; layout = layout } in
+    search (rules, begins, fields, chain_more first.next_header before (number ∷ rest) payload m chain (record { skippable = is.skippable; len = is.len }))
 
 pub returns-clause-packet : goal.returns-clause-packet
 returns-clause-packet c =

@@ -1,13 +1,12 @@
-use Rattle.std.proofs.Common.{ℕ, ◌≡◌, ◌/◌, ap, arith, slice_index}
-use Rattle.packet_reassembly.proofs.TableLaws.{Contains_from_held, all_new, conflict_at, reaches, same_fragment, same_parts}
+use Rattle.std.proofs.Common.{ℕ, ◌≡◌, ◌/◌, arith, slice_index}
+use Rattle.packet_reassembly.proofs.TableLaws.{Contains_from_held, all_new, conflict_at, same_parts}
 use Rattle.packet_reassembly.proofs.table.arrival_of.Goals.{else-is_range-via-then-is_range+else-holds, else-is_range-via-else-is_range}
 use Rattle.packet_reassembly.proofs.table.arrival_of.Goals as goal
 
 pub returns-then-begins_inside-clause-arrives : goal.returns-then-begins_inside-clause-arrives
 returns-then-begins_inside-clause-arrives c =
     let (k, (from, to), begins) = c.begins_inside.ensures.some c.if-begins_inside.true in
-    let right = c.requires.fits.right in
-    conflict_at c.requires.kept c.requires.fits k begins (omega arith) (omega (arith, reaches c.requires.kept k k begins)) (λ is. let e = ap (λ f. f.start) is in omega arith)
+    conflict_at c.requires.kept c.requires.fits k k begins (omega arith) (omega arith) (omega arith) to (λ e _. omega arith)
 
 pub returns-then-found-eq-EMPTY-clause-arrives :
     goal.returns-then-found-eq-EMPTY-clause-arrives
@@ -17,23 +16,20 @@ returns-then-found-eq-EMPTY-clause-arrives c =
 pub returns-then-found-eq-GOES_ON-clause-arrives :
     goal.returns-then-found-eq-GOES_ON-clause-arrives
 returns-then-found-eq-GOES_ON-clause-arrives c =
-    let right = c.requires.fits.right in
     let (k, le, begins, below) = c.requires.kept.table.begun (c.args.range.start / 8) (omega arith) in
-    conflict_at c.requires.kept c.requires.fits k begins (omega arith) (omega (arith, right.unit, reaches c.requires.kept k (c.args.range.start / 8) begins le below))
-    (λ is. let e = ap (λ f. f.start) is in let own : k ≡ c.args.range.start / 8 = omega arith in omega (arith, rw own at begins))
+    conflict_at c.requires.kept c.requires.fits k (c.args.range.start / 8) begins le below (omega arith) (omega (arith, c.requires.fits.right)) (λ own _. omega (arith, rw own at begins))
 
 pub returns-then-holds-clause-arrives : goal.returns-then-holds-clause-arrives
 returns-then-holds-clause-arrives c =
     let begins : slice_index c.args.units.now (c.args.range.start / 8) ≡ 1 = omega (arith, c.requires.kept.table.marks (c.args.range.start / 8)) in
-    rw (← same_fragment c.requires.kept c.requires.fits (c.args.range.start / 8) (c.is_range.ensures.same.0 c.if-is_range.true) (c.holds.ensures.same.0 c.if-holds.true))
+    rw (← (c.holds.ensures.same.0 c.if-holds.true), ← (c.is_range.ensures.same.0 c.if-is_range.true))
     (Contains_from_held c.args.bytes.now c.args.units.now c.args.extent (c.args.range.start / 8) begins)
 
 pub returns-else-is_range-clause-arrives : goal.returns-else-is_range-clause-arrives
 returns-else-is_range-clause-arrives c =
-    let right = c.requires.fits.right in
     let first : ℕ = c.args.range.start / 8 in
     let begins : slice_index c.args.units.now first ≡ 1 = omega (arith, c.requires.kept.table.marks first) in
-    conflict_at c.requires.kept c.requires.fits first begins (omega arith) (omega (arith, right.unit, reaches c.requires.kept first first begins (omega arith) (omega arith))) (λ is.
+    conflict_at c.requires.kept c.requires.fits first first begins (omega arith) (omega arith) (omega arith) (omega (arith, c.requires.fits.right)) (λ _ is.
     let (e, same) = same_parts c.requires.kept c.requires.fits first begins is in
     elim c.else-is_range.branch [
       | else-is_range-via-then-is_range+else-holds w ↦ let t = w.holds.ensures.same.1 same in let f = w.if-holds.false in cc

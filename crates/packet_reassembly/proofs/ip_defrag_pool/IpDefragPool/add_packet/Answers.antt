@@ -5,6 +5,3 @@ use Rattle.packet_reassembly.proofs.ip_defrag_pool.IpDefragPool.add_packet.Goals
 
 pub returns-in-Ok-clause-headers : goal.returns-in-Ok-clause-headers
 returns-in-Ok-clause-headers c = added_have c.in-Ok.ensures.added (λ front none. let is = c.first_of.ensures.headers in grind (arith, nat_tests))
-
-pub returns-in-Err-add_to-clause-headers : goal.returns-in-Err-add_to-clause-headers
-returns-in-Err-add_to-clause-headers c = λ have. rw c.in-Err-add_to.ensures.unchanged have
