@@ -3,8 +3,10 @@
 -- 4.5).
 use Rattle.std.specs.Prelude.{ℕ, ◌≡◌, ◌+◌, ◌<◌, ◌≤◌, ◌++◌, ◌⊎◌, List, length, take}
 use Rattle.std.specs.Prelude.{Option, Some, None}
-use Rattle.etherparse.specs.Ipv4Header.{IsIpv4Layout}
+use Rattle.etherparse.specs.Ipv4Header.{IsIpv4Layout, ipv4_max_payload_len}
 use Rattle.etherparse.specs.Ipv6Header.{IsIpv6Layout}
+use Rattle.etherparse.specs.declared.err.ValueTooBigError.{ValueTooBigError}
+use Rattle.etherparse.specs.declared.err.ValueType.TheVariants as value
 use Rattle.etherparse.specs.declared.net.ipv4_header.Ipv4Header.{Ipv4Header}
 use Rattle.etherparse.specs.declared.net.ipv6_header.Ipv6Header.{Ipv6Header}
 use Rattle.etherparse_net.specs.Ipv6FragmentHeader.{IsFragmentLayout}
@@ -69,6 +71,36 @@ abbrev pub IsTooLongFor : Option (List ℕ) → List ℕ → Type 0
 IsTooLongFor None datagram = ⊥
 IsTooLongFor (Some headers) datagram =
     IsTooLongForIpv4 headers datagram ⊎ IsTooLongForIpv6 headers datagram
+
+-- The error of an IPv4 packet that would be too long: how long the datagram is, and how long it can
+-- be after this header.
+pub record IsIpv4ErrorFor (headers datagram : List ℕ) (e : ValueTooBigError ℕ) : Type 0 where
+  pub first : Ipv4Header
+  pub layout : IsIpv4Layout first headers
+  pub is : e ≡ record {
+    actual = length datagram;
+    max_allowed = ipv4_max_payload_len first;
+    value_type = value.Ipv4PayloadLength;
+  }
+
+-- that of an IPv6 packet: how long the extension headers and the datagram are, and can be
+pub record IsIpv6ErrorFor (headers datagram : List ℕ) (e : ValueTooBigError ℕ) : Type 0 where
+  pub first : Ipv6Header
+  pub before : List ℕ
+  pub last : List ℕ
+  pub fragment : Ipv6FragmentHeader
+  pub are_headers : AreIpv6Headers headers first before last fragment
+  pub is : e ≡ record {
+    actual = length before + length last + length datagram;
+    max_allowed = 65535;
+    value_type = value.Ipv6PayloadLength;
+  }
+
+-- the error of the packet of a datagram whose first fragment has these headers
+abbrev pub IsErrorFor : Option (List ℕ) → List ℕ → ValueTooBigError ℕ → Type 0
+IsErrorFor None datagram e = ⊥
+IsErrorFor (Some headers) datagram e =
+    IsIpv4ErrorFor headers datagram e ⊎ IsIpv6ErrorFor headers datagram e
 
 -- they are those of an IPv6 packet, and the last extension header before the fragment header is at
 -- this place, or if there is none the fragment header itself

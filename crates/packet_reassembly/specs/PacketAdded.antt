@@ -1,9 +1,10 @@
 -- A packet whose fragment is added to a pool.
 use Rattle.std.specs.Prelude.{ℕ, ◌≡◌, ◌<◌, ◌≤◌, ◌==◌, ◌⊎◌, List, Option, None, Some, length}
 use Rattle.std.specs.Prelude.{if◌then◌else◌}
+use Rattle.etherparse.specs.declared.err.ValueTooBigError.{ValueTooBigError}
 use Rattle.packet_reassembly.specs.Fragment.{Fragment, IsRight, IsWhole, fragment}
 use Rattle.packet_reassembly.specs.HeaderChain.{HasWholeChain, LacksChain}
-use Rattle.packet_reassembly.specs.Headers.{IsPacketOf, IsTooLongFor}
+use Rattle.packet_reassembly.specs.Headers.{IsErrorFor, IsPacketOf, IsTooLongFor}
 use Rattle.packet_reassembly.specs.IpFragment.{HasIpFragment, RefusesIpFragment}
 use Rattle.packet_reassembly.specs.Pool.{IsAdded, OthersStay}
 use Rattle.packet_reassembly.specs.Refusal.{Refuses}
@@ -97,6 +98,12 @@ pub record HasTooLongPacket (slot : IpDefragSlot) : Type 0 where
   pub datagram : List ℕ
   pub whole : IsWhole slot.buf datagram
   pub long : IsTooLongFor slot.headers datagram
+
+-- the datagram in the slot is complete, and this is the error of its packet
+pub record HasErrorOfPacket (slot : IpDefragSlot) (e : ValueTooBigError ℕ) : Type 0 where
+  pub datagram : List ℕ
+  pub whole : IsWhole slot.buf datagram
+  pub error : IsErrorFor slot.headers datagram e
 
 -- the datagram in the slot is not complete, or the headers of its first fragment have not come
 abbrev pub HasNoPacket : IpDefragSlot → Type 0

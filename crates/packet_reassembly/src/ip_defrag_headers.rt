@@ -1,12 +1,13 @@
 //! The headers of the first fragment of a datagram, in memory that the caller lends.
 
 ghost use Rattle.std.specs.Prelude.{ℕ, ◌≡◌, ◌≤◌, IfErr, IfNone, IfOk, IfSome, List, None, OnErr};
-ghost use Rattle.std.specs.Prelude.{Some, length, take};
+ghost use Rattle.std.specs.Prelude.{Some, drop, length, take};
 ghost use Rattle.std.specs.Option.{option_or};
 ghost use Rattle.etherparse.specs.Ipv4Header.{IsIpv4Layout};
 ghost use Rattle.etherparse.specs.declared.net.ipv4_header.Ipv4Header.{Ipv4Header as Header4};
 ghost use Rattle.packet_reassembly.specs.Headers.{AreIpv6HeadersAt, AreKeptAs, HasHeaders};
-ghost use Rattle.packet_reassembly.specs.Headers.{IsIpv4PacketWith, IsIpv6PacketWith, IsPacketOf};
+ghost use Rattle.packet_reassembly.specs.Headers.{IsErrorFor, IsIpv4ErrorFor, IsIpv4PacketWith};
+ghost use Rattle.packet_reassembly.specs.Headers.{IsIpv6ErrorFor, IsIpv6PacketWith, IsPacketOf};
 ghost use Rattle.packet_reassembly.specs.Headers.{IsTooLongFor, IsTooLongForIpv4, IsTooLongForIpv6};
 ghost use Rattle.packet_reassembly.specs.Headers.{kept_headers};
 
@@ -119,8 +120,11 @@ impl<'a> IpDefragHeaders<'a> {
         ensures packet { IfOk result (λ found. IfSome found (λ len.
             IsPacketOf self.now datagram.now (take len out.new))) }
         ensures within { IfOk result (λ found. IfSome found (λ len. len ≤ length out.new)) }
+        ensures after { IfOk result (λ found. IfSome found (λ len.
+            drop len out.new ≡ drop len out.old)) }
         ensures none { IfOk result (λ found. IfNone found (self.now ≡ None)) }
         ensures refused { IfErr result (λ e. IsTooLongFor self.now datagram.now) }
+        ensures error { IfErr result (IsErrorFor self.now datagram.now) }
         ensures unchanged { OnErr result (out.new ≡ out.old) }
         ensures nothing { IfOk result (λ found. IfNone found (out.new ≡ out.old)) }
     {
@@ -163,7 +167,9 @@ fn write_ipv4(
     ensures packet { IfOk result (λ len. IsIpv4PacketWith headers.now datagram.now
         (take len out.new)) }
     ensures within { IfOk result (λ len. len ≤ length out.new) }
+    ensures after { IfOk result (λ len. drop len out.new ≡ drop len out.old) }
     ensures refused { IfErr result (λ e. IsTooLongForIpv4 headers.now datagram.now) }
+    ensures error { IfErr result (IsIpv4ErrorFor headers.now datagram.now) }
     ensures unchanged { OnErr result (out.new ≡ out.old) }
 {
     match Ipv4Header::from_slice(headers) {
@@ -186,7 +192,9 @@ fn write_ipv6(
     ensures packet { IfOk result (λ len. IsIpv6PacketWith headers.now datagram.now
         (take len out.new)) }
     ensures within { IfOk result (λ len. len ≤ length out.new) }
+    ensures after { IfOk result (λ len. drop len out.new ≡ drop len out.old) }
     ensures refused { IfErr result (λ e. IsTooLongForIpv6 headers.now datagram.now) }
+    ensures error { IfErr result (IsIpv6ErrorFor headers.now datagram.now) }
     ensures unchanged { OnErr result (out.new ≡ out.old) }
 {
     let first = match Ipv6Header::from_slice(headers) {

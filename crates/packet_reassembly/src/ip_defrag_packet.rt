@@ -41,10 +41,11 @@ pub enum IpDefragPacketError {
 
 impl<'a, 'b> IpDefragPool<'a, 'b> {
     ghost use Rattle.std.specs.Prelude.{ℕ, ◌≡◌, ◌<◌, ◌≤◌, IfErr, IfNone, IfOk, IfSome, IsSome, List};
-    ghost use Rattle.std.specs.Prelude.{OnErr, length, take};
+    ghost use Rattle.std.specs.Prelude.{OnErr, drop, length, take};
     ghost use Rattle.packet_reassembly.specs.Fragment.{IsWhole};
     ghost use Rattle.packet_reassembly.specs.IpFragment.{IsNoFragment};
-    ghost use Rattle.packet_reassembly.specs.PacketAdded.{HasNoPacket, HasTooLongPacket};
+    ghost use Rattle.packet_reassembly.specs.PacketAdded.{HasErrorOfPacket, HasNoPacket};
+    ghost use Rattle.packet_reassembly.specs.PacketAdded.{HasTooLongPacket};
     ghost use Rattle.packet_reassembly.specs.PacketAdded.{IsPacketAdded, IsPacketIn, RefusesPacket};
     ghost use Rattle.packet_reassembly.specs.Pool.{HasFirstHeaders, HaveFirstHeaders, slot_at};
 
@@ -163,9 +164,12 @@ impl<'a, 'b> IpDefragPool<'a, 'b> {
         ensures packet { IfOk result (λ found. IfSome found (λ len.
             IsPacketIn (slot_at self.old.slots.now slot) (take len out.new))) }
         ensures within { IfOk result (λ found. IfSome found (λ len. len ≤ length out.new)) }
+        ensures after { IfOk result (λ found. IfSome found (λ len.
+            drop len out.new ≡ drop len out.old)) }
         ensures none { IfOk result (λ found.
             IfNone found (HasNoPacket (slot_at self.old.slots.now slot))) }
         ensures refused { IfErr result (λ e. HasTooLongPacket (slot_at self.old.slots.now slot)) }
+        ensures error { IfErr result (HasErrorOfPacket (slot_at self.old.slots.now slot)) }
         ensures some { HasFirstHeaders (slot_at self.old.slots.now slot) → (datagram : List ℕ) →
             IsWhole (slot_at self.old.slots.now slot).buf datagram → IfOk result IsSome }
         ensures unchanged { OnErr result (out.new ≡ out.old) }
@@ -182,9 +186,10 @@ impl<'a, 'b> IpDefragPool<'a, 'b> {
 
 impl<'a> IpDefragSlot<'a> {
     ghost use Rattle.std.specs.Prelude.{ℕ, ◌≡◌, ◌≤◌, IfErr, IfNone, IfOk, IfSome, IsSome, List};
-    ghost use Rattle.std.specs.Prelude.{OnErr, length, take};
+    ghost use Rattle.std.specs.Prelude.{OnErr, drop, length, take};
     ghost use Rattle.packet_reassembly.specs.Fragment.{IsWhole};
-    ghost use Rattle.packet_reassembly.specs.PacketAdded.{HasNoPacket, HasTooLongPacket, IsPacketIn};
+    ghost use Rattle.packet_reassembly.specs.PacketAdded.{HasErrorOfPacket, HasNoPacket};
+    ghost use Rattle.packet_reassembly.specs.PacketAdded.{HasTooLongPacket, IsPacketIn};
     ghost use Rattle.packet_reassembly.specs.Pool.{HasFirstHeaders};
 
     /// Writes the packet of the datagram that has the slot, as [`IpDefragHeaders::write_packet`]
@@ -200,8 +205,11 @@ impl<'a> IpDefragSlot<'a> {
         ensures packet { IfOk result (λ found. IfSome found (λ len.
             IsPacketIn self.now (take len out.new))) }
         ensures within { IfOk result (λ found. IfSome found (λ len. len ≤ length out.new)) }
+        ensures after { IfOk result (λ found. IfSome found (λ len.
+            drop len out.new ≡ drop len out.old)) }
         ensures none { IfOk result (λ found. IfNone found (HasNoPacket self.now)) }
         ensures refused { IfErr result (λ e. HasTooLongPacket self.now) }
+        ensures error { IfErr result (HasErrorOfPacket self.now) }
         ensures some { HasFirstHeaders self.now → (datagram : List ℕ) →
             IsWhole self.now.buf datagram → IfOk result IsSome }
         ensures unchanged { OnErr result (out.new ≡ out.old) }

@@ -146,7 +146,8 @@ impl<'a, 'b> IpDefragPool<'a, 'b> {
     pub fn release(&mut self, slot: usize)
         requires within { slot < length self.old.slots.now }
         ensures others { AreSameBut slot self.old.slots.now self.new.slots.now }
-        ensures free { (slot_at self.new.slots.now slot).id ≡ None }
+        ensures free { slot_at self.new.slots.now slot
+            ≡ record (slot_at self.old.slots.now slot) { id = None } }
         ensures headers { HaveFirstHeaders self.old.slots.now →
             HaveFirstHeaders self.new.slots.now }
         ensures timeout { self.new.timeout ≡ self.old.timeout }
@@ -160,7 +161,7 @@ impl<'a, 'b> IpDefragPool<'a, 'b> {
 fn release_at(slots: &mut [IpDefragSlot], k: usize)
     requires within { k < length slots.old }
     ensures others { AreSameBut k slots.old slots.new }
-    ensures free { (slot_at slots.new k).id ≡ None }
+    ensures free { slot_at slots.new k ≡ record (slot_at slots.old k) { id = None } }
 {
     let slot = &mut slots[k];
     slot.id = None;

@@ -1,6 +1,7 @@
 //! The packet that fragments were cut from (RFC 791 section 3.2, RFC 8200 section 4.5).
 
-ghost use Rattle.std.specs.Prelude.{◌≡◌, ◌+◌, ◌++◌, ◌≤◌, ◌↔◌, IfErr, IfOk, IsOk, OnErr, length, take};
+ghost use Rattle.std.specs.Prelude.{ℕ, ◌≡◌, ◌+◌, ◌++◌, ◌≤◌, ◌↔◌, IfErr, IfOk, IsOk, OnErr};
+ghost use Rattle.std.specs.Prelude.{drop, length, take};
 ghost use Rattle.etherparse.specs.Ipv4Header.{ipv4_max_payload_len};
 ghost use Rattle.etherparse.specs.declared.err.ValueType.TheVariants as ValueType;
 ghost use Rattle.packet_reassembly.specs.Packet.{AreUnfragmentable, IsIpv4Packet, IsIpv6Packet};
@@ -38,6 +39,7 @@ pub fn write_ipv4_packet(
     ensures accepted { IsOk result ↔ (length payload.now ≤ ipv4_max_payload_len first) }
     ensures packet { IfOk result (λ len. IsIpv4Packet first payload.now (take len out.new)) }
     ensures within { IfOk result (λ len. len ≤ length out.new) }
+    ensures after { IfOk result (λ len. drop len out.new ≡ drop len out.old) }
     ensures refused { IfErr result (λ e. e ≡ record {
       actual = length payload.now;
       max_allowed = ipv4_max_payload_len first;
@@ -93,6 +95,7 @@ pub fn write_ipv6_packet(
     ensures packet { IfOk result (λ len. IsIpv6Packet first before.now last.now next_header
         payload.now (take len out.new)) }
     ensures within { IfOk result (λ len. len ≤ length out.new) }
+    ensures after { IfOk result (λ len. drop len out.new ≡ drop len out.old) }
     ensures refused { IfErr result (λ e. e ≡ record {
       actual = length before.now + length last.now + length payload.now;
       max_allowed = 65535;
@@ -117,6 +120,7 @@ pub fn write_ipv6_packet(
 pub(crate) fn put(part: &[u8], out: &mut [u8], at: usize) -> usize
     requires room { at + length part.now ≤ length out.old }
     ensures joined { take result out.new ≡ take at out.old ++ part.now }
+    ensures after { (n : ℕ) → result ≤ n → drop n out.new ≡ drop n out.old }
     ensures end { result ≡ at + length part.now }
     ensures same_len { length out.new ≡ length out.old }
 {
@@ -129,11 +133,10 @@ pub(crate) fn put(part: &[u8], out: &mut [u8], at: usize) -> usize
 fn join(front: &[u8], rest: &[u8], out: &mut [u8]) -> usize
     requires room { length front.now + length rest.now ≤ length out.old }
     ensures joined { take result out.new ≡ front.now ++ rest.now }
+    ensures after { drop result out.new ≡ drop result out.old }
     ensures len { result ≡ length front.now + length rest.now }
     ensures same_len { length out.new ≡ length out.old }
 {
-    let len = front.len() + rest.len();
-    out[..front.len()].copy_from_slice(front);
-    out[front.len()..len].copy_from_slice(rest);
-    len
+    let at = put(front, out, 0);
+    put(rest, out, at)
 }

@@ -13,7 +13,9 @@ returns c =
     record {
       packet = IfOk-weaker c.write_ipv4_packet.result _ _ (λ len has. record { first = c.in-Ok.first; layout = own; has = has }) c.write_ipv4_packet.ensures.packet;
       within = c.write_ipv4_packet.ensures.within;
+      after = c.write_ipv4_packet.ensures.after;
       refused = IfErr-weaker c.write_ipv4_packet.result _ _ (λ _ long. record { first = c.in-Ok.first; layout = own; long = omega (arith, own.layout.len, long) })
           (too_long c.write_ipv4_packet.result _ _ c.write_ipv4_packet.ensures.accepted);
+      error = IfErr-weaker c.write_ipv4_packet.result _ _ (λ _ is. record { first = c.in-Ok.first; layout = own; is = is }) c.write_ipv4_packet.ensures.refused;
       unchanged = c.write_ipv4_packet.ensures.unchanged;
     }

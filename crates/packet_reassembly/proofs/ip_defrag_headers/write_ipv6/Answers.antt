@@ -27,3 +27,9 @@ returns-clause-refused c =
     let p = c.requires.headers in
     let (is_before, is_last, is_number) = parts_at c.args.headers.now c.args.place p in
     IfErr-weaker c.write_ipv6_packet.result _ _ (λ _ long. let is_long = rw (is_before, is_last) at long in search) (too_long c.write_ipv6_packet.result _ 65535 c.write_ipv6_packet.ensures.accepted)
+
+pub returns-clause-error : goal.returns-clause-error
+returns-clause-error c =
+    let p = c.requires.headers in
+    let (is_before, is_last, is_number) = parts_at c.args.headers.now c.args.place p in
+    IfErr-weaker c.write_ipv6_packet.result _ _ (λ _ is. let is_error = rw (is_before, is_last) at is in search) c.write_ipv6_packet.ensures.refused
