@@ -109,7 +109,7 @@ def tried(crate, bodies):
 def main():
     pattern, crates = ('**/*.edit', sys.argv[1:]) if sys.argv[1:] else ('*.edit', sorted(it.name for it in BODIES.iterdir()))
     bodies = {crate: sorted((BODIES / crate).glob(pattern)) for crate in crates}
-    crates.sort(key=lambda crate: -len(bodies[crate]))
+    crates = sorted((crate for crate in crates if bodies[crate]), key=lambda crate: -len(bodies[crate]))
     failed = 0
     with concurrent.futures.ThreadPoolExecutor(min(4, os.cpu_count())) as pool:
         for crate, found in zip(crates, pool.map(lambda crate: tried(crate, bodies[crate]), crates)):
