@@ -21,10 +21,10 @@ use Rattle.frame_reassembly.specs.declared.datagrams.Datagrams.{Datagrams}
 abbrev pub begins : List IpDefragSlot → Added → Bool
 begins old added = is_none (slot_at old added.slot).id || is_some added.given_up
 
--- the slot is taken from its datagram
+-- the slot is taken from its datagram, and all else in it stays
 pub record IsReleased (k : ℕ) (old new : List IpDefragSlot) : Type 0 where
   pub others : AreSameBut k old new
-  pub free : (slot_at new k).id ≡ None
+  pub free : slot_at new k ≡ record (slot_at old k) { id = None }
 
 -- What becomes of a datagram that is complete: it is put together; or its packet would be too long,
 -- and it counts as discarded. It then leaves its slot.

@@ -1,5 +1,5 @@
 -- What C gets for a packet that is added to a pool, and for one that is written.
-use Rattle.std.specs.Prelude.{ℕ, ◌≡◌, ◌≤◌, ◌⊎◌, ◌++◌, List, Option, Some, None, length, take}
+use Rattle.std.specs.Prelude.{ℕ, ◌≡◌, ◌≤◌, ◌⊎◌, ◌++◌, List, Option, Some, None, drop, length, take}
 use Rattle.std.specs.Prelude.{if◌then◌else◌, nat_lt, replicate}
 use Rattle.packet_reassembly.specs.IpFragment.{IsNoFragment}
 use Rattle.packet_reassembly.specs.PacketAdded.{HasNoPacket, HasTooLongPacket, IsPacketAdded}
@@ -110,11 +110,12 @@ AddsPacketInC old packet outer inner now new answer =
     IsPacketAddedInC old packet outer inner now new answer
     ⊎ IsNoFragmentInC old packet new answer ⊎ IsPacketRefusedInC old packet new answer
 
--- the packet is at the front of the buffer
-pub record IsPacketWrittenInC (slot : IpDefragSlot) (after : List ℕ) (answer : DefragWritten)
-    : Type 0 where
+-- the packet is at the front of the buffer, and what follows it there stays
+pub record IsPacketWrittenInC (slot : IpDefragSlot) (before after : List ℕ)
+    (answer : DefragWritten) : Type 0 where
   pub packet : IsPacketIn slot (take answer.len after)
   pub within : answer.len ≤ length after
+  pub rest : drop answer.len after ≡ drop answer.len before
   pub no_error : answer.error ≡ no_error
 
 -- there is none yet, and nothing is written
@@ -133,5 +134,5 @@ pub record HasTooLongPacketInC (slot : IpDefragSlot) (before after : List ℕ)
 
 -- the packet of the datagram in a slot, and what C gets
 abbrev pub WritesPacketInC : IpDefragSlot → List ℕ → List ℕ → DefragWritten → Type 0
-WritesPacketInC slot before after answer = IsPacketWrittenInC slot after answer
+WritesPacketInC slot before after answer = IsPacketWrittenInC slot before after answer
     ⊎ HasNoPacketInC slot before after answer ⊎ HasTooLongPacketInC slot before after answer

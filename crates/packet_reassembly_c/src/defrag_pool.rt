@@ -169,7 +169,8 @@ pub extern "C" fn etherparse_defrag_pool_write_packet(
 pub extern "C" fn etherparse_defrag_pool_release(pool: &mut DefragPool, slot: usize)
     requires within { slot < length pool.old.pool.slots }
     ensures others { AreSameBut slot pool.old.pool.slots pool.new.pool.slots }
-    ensures free { (slot_at pool.new.pool.slots slot).id ≡ None }
+    ensures free { slot_at pool.new.pool.slots slot
+        ≡ record (slot_at pool.old.pool.slots slot) { id = None } }
     ensures headers { HaveFirstHeaders pool.old.pool.slots →
         HaveFirstHeaders pool.new.pool.slots }
     ensures timeout { pool.new.pool.timeout ≡ pool.old.pool.timeout }

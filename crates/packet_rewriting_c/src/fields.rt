@@ -1,6 +1,6 @@
 //! Fields of a packet that are changed in place.
 
-ghost use Rattle.std.specs.Prelude.{◌≡◌, ◌≢◌, ◌<◌, ◌⊎◌};
+ghost use Rattle.std.specs.Prelude.{◌≡◌, ◌≢◌, ◌<◌, ◌≤◌, ◌⊎◌};
 ghost use Rattle.packet_rewriting.specs.Fields.{ChangesPort, HasOtherDscp, HasOtherEcn};
 ghost use Rattle.packet_rewriting.specs.Fields.{ReaddressesIpv4, RefusesAddress, RefusesMark};
 ghost use Rattle.packet_rewriting.specs.Fields.{HasOtherDestination, HasOtherSource, RefusesPort};
@@ -137,7 +137,7 @@ pub extern "C" fn etherparse_set_destination_port(packet: &mut [u8], port: u16) 
 pub extern "C" fn etherparse_set_dscp(packet: &mut [u8], dscp: u8) -> u32
     ensures changed { result ≡ 0 → HasOtherDscp dscp packet.old packet.new }
     ensures refused { result ≢ 0 → ((63 < dscp) × (result ≡ 12))
-        ⊎ IsRefused (RefusesMark packet.old) rewrite_kind result }
+        ⊎ ((dscp ≤ 63) × IsRefused (RefusesMark packet.old) rewrite_kind result) }
     ensures unchanged { result ≢ 0 → packet.new ≡ packet.old }
 {
     let dscp = match IpDscp::try_new(dscp) {
@@ -156,7 +156,7 @@ pub extern "C" fn etherparse_set_dscp(packet: &mut [u8], dscp: u8) -> u32
 pub extern "C" fn etherparse_set_ecn(packet: &mut [u8], ecn: u8) -> u32
     ensures changed { result ≡ 0 → IsOtherEcn ecn packet.old packet.new }
     ensures refused { result ≢ 0 → ((3 < ecn) × (result ≡ 12))
-        ⊎ IsRefused (RefusesMark packet.old) rewrite_kind result }
+        ⊎ ((ecn ≤ 3) × IsRefused (RefusesMark packet.old) rewrite_kind result) }
     ensures unchanged { result ≢ 0 → packet.new ≡ packet.old }
 {
     let ecn = match IpEcn::try_new(ecn) {
