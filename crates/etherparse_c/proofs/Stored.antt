@@ -1,6 +1,7 @@
 -- A frame that is stored layer by layer is read as it is stored.
-use Rattle.std.proofs.Common.{ℕ, ◌≡◌, ◌==◌, ◌+◌, ◌-◌, ◌≤◌, ◌∙◌, ◌++◌, IsFalse, IsTrue, List, [], ◌∷◌, MatchOption, Option, Some, None, Ok, ap, arith, drop, false, inl, inr, is_some, length, length-append, not, option_map, refl, slice_index, subst, sym, take}
-use Rattle.std.proofs.lemmas.Bool.Decides.{nat_tests}
+use Rattle.std.proofs.Common.{ℕ, ◌≡◌, ◌≢◌, ◌==◌, ◌+◌, ◌-◌, ◌≤◌, ◌∙◌, ◌++◌, IsFalse, IsTrue, List, [], ◌∷◌, MatchOption, Option, Some, None, Ok, ap, arith, drop, false, inl, inr, is_some, length, length-append, not, option_map, refl, slice_index, subst, sym, take, true}
+use Rattle.std.proofs.lemmas.Bool.{ne_eqb}
+use Rattle.std.proofs.lemmas.Bool.Decides.{eqb_tells, nat_tests}
 use Rattle.std.proofs.lemmas.Grind.{common_steps}
 use Rattle.etherparse.proofs.Ipv4Layout.{same_header as ipv4_same_header}
 use Rattle.etherparse.specs.ExtensionHeaders.{IsSkippable}
@@ -33,7 +34,7 @@ use Rattle.packet_parts.specs.declared.ip_slice.IpHeaderSlice.TheVariants as ver
 use Rattle.packet_parts.specs.declared.ip_slice.IpSlice.{IpSlice}
 use Rattle.etherparse_c.specs.Error.{no_error}
 use Rattle.etherparse_c.specs.Layers.{GetsAnswer, HasTransportInC, IsLaxInC, header_at, icmp_at, ip_in_c, ip_parts_in_c, link_in_c, no_ip, no_transport, with_ports}
-use Rattle.etherparse_c.specs.Private.Stored.{HasNetworkInC, HasPortsInC, reads_tcp, reads_udp}
+use Rattle.etherparse_c.specs.Private.Stored.{HasNetworkInC, HasOtherInC, HasPortsInC, icmp_over, reads_tcp, reads_udp}
 use Rattle.etherparse_c.specs.declared.packet_layers.Packet.{Packet}
 use Rattle.etherparse_c.specs.declared.packet_layers.PacketIp.{PacketIp}
 use Rattle.etherparse_c.specs.declared.packet_layers.PacketTransport.{PacketTransport}
@@ -114,6 +115,47 @@ udp_ports : (slice : IpSlice) (h : IpHeaderSlice) → slice.header ≡ h → sli
 udp_ports slice (version.Ipv4 view) is later upper enough = record { protocol = inl (rw (later, is, upper) refl); enough = enough; source = refl; destination = refl }
 udp_ports slice (version.Ipv6 view) is later upper enough = record { protocol = inl (rw (later, is, upper) refl); enough = enough; source = refl; destination = refl }
 
+-- a later fragment begins with no header, and a payload of another protocol with none that is read
+pub later_protocol : (slice : IpSlice) → slice.is_later_fragment ≡ true → protocol_of slice ≡ None
+later_protocol slice later = rw later refl
+
+other_protocol : (slice : IpSlice) (h : IpHeaderSlice) → slice.header ≡ h
+    → slice.is_later_fragment ≡ false → slice.upper ≢ 6 → slice.upper ≢ 17
+    → slice.upper ≢ icmp_over h → protocol_of slice ≡ None
+other_protocol slice (version.Ipv4 view) is later no_tcp no_udp no_icmp =
+    let number = slice.upper in
+    rw (later, is, ne_eqb number 17 no_udp, ne_eqb number 6 no_tcp, ne_eqb number 1 no_icmp) refl
+other_protocol slice (version.Ipv6 view) is later no_tcp no_udp no_icmp =
+    let number = slice.upper in
+    rw (later, is, ne_eqb number 17 no_udp, ne_eqb number 6 no_tcp, ne_eqb number 58 no_icmp) refl
+
+nothing_read : {P : Type 0} (o : Option P) (Nothing : Type 0) (Payload : P → Type 0) → o ≡ None
+    → Nothing → MatchOption o Nothing Payload
+nothing_read None Nothing Payload none nothing = nothing
+nothing_read (Some read) Nothing Payload none nothing = cc
+
+-- a packet whose payload begins with no header that is read
+pub without_header : (place : ℕ) (packet : List ℕ) (slice : IpSlice) (ip_in_c : PacketIp)
+    (transport_in_c : PacketTransport)
+    → HasLaxIpParts packet (record { slice = slice; stop = None })
+    → ip_in_c ≡ ip_parts_in_c place (length packet) slice → protocol_of slice ≡ None
+    → transport_in_c ≡ no_transport → HasNetworkInC place packet ip_in_c transport_in_c
+without_header place packet slice ip_in_c transport_in_c parts ip_value none value = record {
+  slice = slice;
+  transport = None;
+  network = record {
+    ip_stop = None;
+    parts = parts;
+    missing = None;
+    reads = nothing_read (protocol_of slice) _ _ none (refl, refl);
+    stops = refl;
+  };
+  ports = None;
+  are_ports = λ ports has. elim has.protocol [ inl udp ↦ cc | inr tcp ↦ cc ];
+  ip_value = ip_value;
+  transport_value = value;
+}
+
 -- the header of a message is its first 4 bytes
 same_icmp : (start kind : ℕ) (s : List ℕ) → 4 ≤ length s → icmp_at start kind (slice_index s 0) (slice_index s 1) (drop 4 s)
     ≡ icmp_at start kind (icmp_header s).type_u8 (icmp_header s).code_u8 (drop 4 s)
@@ -172,7 +214,7 @@ module _ (place : ℕ) (packet : List ℕ) (slice : IpSlice) (ip_in_c : PacketIp
   abbrev rest : Bor (List ℕ)
   rest = record { ref_ptr = (0, 0); now = drop 4 slice.payload.now }
 
-  pub with_icmpv4 : (view : Ipv4HeaderSlice) → slice.header ≡ version.Ipv4 view → slice.fragment ≡ None → slice.upper ≡ 1 → 4 ≤ length slice.payload.now
+  with_icmpv4 : (view : Ipv4HeaderSlice) → slice.header ≡ version.Ipv4 view → slice.fragment ≡ None → slice.upper ≡ 1 → 4 ≤ length slice.payload.now
       → transport_in_c ≡ icmp_at start 1 (slice_index slice.payload.now 0) (slice_index slice.payload.now 1) (drop 4 slice.payload.now) → HasNetworkInC place packet ip_in_c transport_in_c
   with_icmpv4 view is alone upper enough value = record {
     slice = slice;
@@ -184,7 +226,7 @@ module _ (place : ℕ) (packet : List ℕ) (slice : IpSlice) (ip_in_c : PacketIp
     transport_value = value ∙ same_icmp start 1 slice.payload.now enough;
   }
 
-  pub with_icmpv6 : (view : Ipv6HeaderSlice) → slice.header ≡ version.Ipv6 view → slice.fragment ≡ None → slice.upper ≡ 58 → 4 ≤ length slice.payload.now
+  with_icmpv6 : (view : Ipv6HeaderSlice) → slice.header ≡ version.Ipv6 view → slice.fragment ≡ None → slice.upper ≡ 58 → 4 ≤ length slice.payload.now
       → transport_in_c ≡ icmp_at start 58 (slice_index slice.payload.now 0) (slice_index slice.payload.now 1) (drop 4 slice.payload.now) → HasNetworkInC place packet ip_in_c transport_in_c
   with_icmpv6 view is alone upper enough value = record {
     slice = slice;
@@ -195,6 +237,37 @@ module _ (place : ℕ) (packet : List ℕ) (slice : IpSlice) (ip_in_c : PacketIp
     ip_value = ip_value;
     transport_value = value ∙ same_icmp start 58 slice.payload.now enough;
   }
+
+  -- the message of a number that ICMP has over the version of the packet
+  message_of : (icmp : ℕ) → slice.upper ≡ icmp
+      → HasOtherInC start slice.upper icmp slice.payload.now transport_in_c
+      → transport_in_c ≡ icmp_at start icmp (slice_index slice.payload.now 0)
+      (slice_index slice.payload.now 1) (drop 4 slice.payload.now)
+  message_of icmp upper other =
+      let Stores : ℕ → Type 0 = λ kind. transport_in_c ≡ icmp_at start kind
+      (slice_index slice.payload.now 0) (slice_index slice.payload.now 1)
+      (drop 4 slice.payload.now) in subst Stores upper (other.message upper)
+
+  with_message : (h : IpHeaderSlice) → slice.header ≡ h → slice.fragment ≡ None
+      → slice.upper ≡ icmp_over h
+      → HasOtherInC start slice.upper (icmp_over h) slice.payload.now transport_in_c
+      → HasNetworkInC place packet ip_in_c transport_in_c
+  with_message (version.Ipv4 view) is alone upper other =
+      with_icmpv4 view is alone upper (other.enough upper) (message_of 1 upper other)
+  with_message (version.Ipv6 view) is alone upper other =
+      with_icmpv6 view is alone upper (other.enough upper) (message_of 58 upper other)
+
+  -- a packet of another protocol than TCP and UDP
+  pub with_other : slice.fragment ≡ None → slice.upper ≢ 6 → slice.upper ≢ 17
+      → HasOtherInC start slice.upper (icmp_over slice.header) slice.payload.now transport_in_c
+      → HasNetworkInC place packet ip_in_c transport_in_c
+  with_other alone no_tcp no_udp other = elim (eqb_tells slice.upper (icmp_over slice.header)) [
+    | inl same ↦ with_message slice.header refl alone same.1 other
+    | inr differs ↦
+        let none = other_protocol slice slice.header refl later no_tcp no_udp differs.1 in
+        without_header place packet slice ip_in_c transport_in_c parts ip_value none
+        (other.none differs.1)
+  ]
 
 -- a whole header, as it is stored
 pub has_ports : (Reads : TransportReading → Type 0) (place : ℕ) (payload : List ℕ) (found : TransportSlice) (transport in_c : PacketTransport) → transport ≡ header_at place (Some found)

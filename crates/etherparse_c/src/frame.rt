@@ -1,6 +1,6 @@
 //! A frame in its layers in one call.
 
-ghost use Rattle.std.specs.Prelude.{◌≡◌, ◌≢◌, Some, length};
+ghost use Rattle.std.specs.Prelude.{◌≡◌, ◌≢◌, ◌<◌, IsTrue, Some, false, length};
 ghost use Rattle.packet.specs.Link.{link_type_of};
 ghost use Rattle.packet.specs.SlicedPacket.{IsLaxReadingAfter, IsLaxReadingOf};
 ghost use Rattle.packet.specs.SlicedPacket.{IsReadingAfter, IsReadingOf};
@@ -33,6 +33,7 @@ pub extern "C" fn etherparse_packet_lax_from_link_type(
         LinkType::from_number(link_type),
         link_type,
         frame,
+        !checksums,
         checksums,
         answer,
     );
@@ -117,11 +118,17 @@ pub extern "C" fn etherparse_packet_lax_batch(
 {
     let known = LinkType::from_number(link_type);
     let count = frames.len().min(answers.len());
+    let mut next = has_ether_type(frames, 0);
     for i in 0..count {
+        // The next frame is looked at before this one is stored, so that it is on its way to the
+        // processor meanwhile.
+        let in_one_pass = next && !checksums;
+        next = has_ether_type(frames, i + 1);
         put(
             known,
             link_type,
             frames[i].bytes,
+            in_one_pass,
             checksums,
             &mut answers[i],
         );
@@ -129,32 +136,50 @@ pub extern "C" fn etherparse_packet_lax_batch(
     count
 }
 
+// Whether there is a frame at a place, with an EtherType other than 0 where Ethernet has it.
+#[inline(always)]
+fn has_ether_type(frames: &[Frame], place: usize) -> bool
+    ensures there { IsTrue result → place < length frames.now }
+{
+    match frames.get(place) {
+        Some(frame) => {
+            let bytes = frame.bytes;
+            bytes.len() >= 14 && u16::from_be_bytes([bytes[12], bytes[13]]) != 0
+        }
+        None => false,
+    }
+}
+
 // The layers of a frame of the link type of a number, or the error of one that is not read. That of
 // Ethernet is known where its code is compiled.
 #[inline(always)]
-fn put(known: Option<LinkType>, number: u32, frame: &[u8], checksums: bool, answer: &mut Packet)
+fn put(
+    known: Option<LinkType>,
+    number: u32,
+    frame: &[u8],
+    in_one_pass: bool,
+    checksums: bool,
+    answer: &mut Packet,
+)
     requires known { known ≡ link_type_of number }
+    requires unjudged { IsTrue in_one_pass → checksums ≡ false }
     ensures reads { GivesLax number checksums frame.now answer.new }
 {
     match known {
-        Some(LinkType::Ethernet2) => put_ethernet(frame, checksums, answer),
+        Some(LinkType::Ethernet2) => put_ethernet(frame, in_one_pass, checksums, answer),
         Some(link_type) => put_kept(link_type, frame, checksums, answer),
         None => *answer = refused(Error::of_link_type(number)),
     }
 }
 
-// The layers of an Ethernet frame: in one pass, if its checksums are not judged and nothing stops
-// its reading.
+// The layers of an Ethernet frame: in one pass, if that is asked for and nothing stops its reading.
 #[inline(always)]
-fn put_ethernet(frame: &[u8], checksums: bool, answer: &mut Packet)
+fn put_ethernet(frame: &[u8], in_one_pass: bool, checksums: bool, answer: &mut Packet)
+    requires unjudged { IsTrue in_one_pass → checksums ≡ false }
     ensures reads { GetsAnswer (IsLaxReadingOf LinkType.Ethernet2 frame.now)
         (IsLaxInC (length frame.now) checksums answer.new) }
 {
-    if checksums {
-        put_kept(LinkType::Ethernet2, frame, checksums, answer);
-        return;
-    }
-    if put_whole(frame, answer) {
+    if in_one_pass && put_whole(frame, answer) {
         return;
     }
     put_kept(LinkType::Ethernet2, frame, checksums, answer);

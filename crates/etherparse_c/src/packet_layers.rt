@@ -1,13 +1,13 @@
 //! The layers of a frame as C has them: offsets, lengths and numbers.
 
-ghost use Rattle.std.specs.Prelude.{◌≡◌, ◌+◌, ◌^◌, ◌<◌, ◌≤◌, IfSome, length, true};
+ghost use Rattle.std.specs.Prelude.{◌≡◌, ◌+◌, ◌^◌, ◌<◌, ◌≤◌, IfSome, length, slice_index, true};
 ghost use Rattle.packet.specs.SlicedPacket.{IsVerdictOn};
 ghost use Rattle.packet.specs.declared.sliced_packet.SlicedPacket.{SlicedPacket as Sliced};
 ghost use Rattle.packet_parts.specs.Checksum.{IsVerdict};
 ghost use Rattle.packet_parts.specs.IpSlice.{header_len_of};
 ghost use Rattle.etherparse_c.specs.Layers.{HasTransportInC, IsHeaderVerdict, IsPacketInC};
-ghost use Rattle.etherparse_c.specs.Layers.{IsPayloadVerdict, header_at, icmp_at, ip_in_c};
-ghost use Rattle.etherparse_c.specs.Layers.{ip_parts_in_c};
+ghost use Rattle.etherparse_c.specs.Layers.{IsPayloadVerdict, header_and_payload, header_at};
+ghost use Rattle.etherparse_c.specs.Layers.{icmp_at, ip_in_c, ip_parts_in_c};
 ghost use Rattle.etherparse_c.specs.Layers.{link_family, link_header_len, link_in_c, link_kind};
 ghost use Rattle.etherparse_c.specs.Layers.{tag_in_c, tags_in_c};
 ghost use Rattle.etherparse_c.specs.Private.Within.{ArePartsWithin};
@@ -15,6 +15,7 @@ ghost use Rattle.etherparse_c.specs.Private.Within.{ArePartsWithin};
 use crate::answer::Error;
 use etherparse::checksum::u64_16bit_word;
 use etherparse_link::{EtherType, SingleVlanHeaderSlice};
+use etherparse_transport::TcpHeaderSlice;
 use packet::error::SliceError;
 use packet::link::LinkSlice;
 use packet::sliced_packet::SlicedPacket;
@@ -339,43 +340,65 @@ fn transport_of(place: usize, packet: &SlicedPacket) -> PacketTransport
 
 // A transport header at a place, without its ports.
 #[inline(always)]
-pub(crate) fn header_at(start: usize, transport: &Option<TransportSlice>) -> PacketTransport
+fn header_at(start: usize, transport: &Option<TransportSlice>) -> PacketTransport
     requires fits { start < 2 ^ 63 }
     ensures value { result ≡ header_at start transport.now }
 {
     match transport {
         None => PacketTransport::default(),
-        Some(TransportSlice::Udp { payload, .. }) => PacketTransport {
-            header: Part {
-                offset: start,
-                len: 8,
-            },
-            payload: Part {
-                offset: start + 8,
-                len: payload.len(),
-            },
-            kind: 17,
-            ..PacketTransport::default()
-        },
-        Some(TransportSlice::Tcp { header, payload }) => PacketTransport {
-            header: Part {
-                offset: start,
-                len: header.slice.len(),
-            },
-            payload: Part {
-                offset: start + header.slice.len(),
-                len: payload.len(),
-            },
-            kind: 6,
-            tcp_flags: header.flags(),
-            ..PacketTransport::default()
-        },
+        Some(TransportSlice::Udp { payload, .. }) => udp_at(start, payload),
+        Some(TransportSlice::Tcp { header, payload }) => tcp_at(start, header, payload),
         Some(TransportSlice::Icmpv4 { header, payload }) => {
             icmp_at(start, 1, header.type_u8, header.code_u8, payload)
         }
         Some(TransportSlice::Icmpv6 { header, payload }) => {
             icmp_at(start, 58, header.type_u8, header.code_u8, payload)
         }
+    }
+}
+
+// A UDP header at a place.
+#[inline(always)]
+pub(crate) fn udp_at(start: usize, payload: &[u8]) -> PacketTransport
+    requires fits { start < 2 ^ 63 }
+    ensures value { result ≡ record (header_and_payload start 8 payload.now) { kind = 17 } }
+{
+    PacketTransport {
+        header: Part {
+            offset: start,
+            len: 8,
+        },
+        payload: Part {
+            offset: start + 8,
+            len: payload.len(),
+        },
+        kind: 17,
+        ..PacketTransport::default()
+    }
+}
+
+// A TCP header at a place.
+#[inline(always)]
+pub(crate) fn tcp_at(start: usize, header: &TcpHeaderSlice, payload: &[u8]) -> PacketTransport
+    requires fits { start < 2 ^ 63 }
+    ensures value { result
+        ≡ record (header_and_payload start (length header.now.slice.now) payload.now) {
+          kind = 6;
+          tcp_flags = slice_index header.now.slice.now 13;
+        } }
+{
+    PacketTransport {
+        header: Part {
+            offset: start,
+            len: header.slice.len(),
+        },
+        payload: Part {
+            offset: start + header.slice.len(),
+            len: payload.len(),
+        },
+        kind: 6,
+        tcp_flags: header.flags(),
+        ..PacketTransport::default()
     }
 }
 

@@ -4,25 +4,21 @@
 ghost use Rattle.std.specs.Prelude.{ℕ, ◌≡◌, ◌+◌, ◌^◌, ◌<◌, ◌≤◌, IfSome, IsTrue, None, Some, false};
 ghost use Rattle.std.specs.Prelude.{drop, length, slice_index};
 ghost use Rattle.etherparse.specs.Ipv4Header.{IsFragment, OfIpv4Header};
-ghost use Rattle.etherparse.specs.declared.net.ipv4_header_slice.Ipv4HeaderSlice.{Ipv4HeaderSlice as View4};
-ghost use Rattle.etherparse.specs.declared.net.ipv6_header_slice.Ipv6HeaderSlice.{Ipv6HeaderSlice as View6};
 ghost use Rattle.etherparse_c.specs.Layers.{GetsAnswer, IsLaxInC, icmp_at, with_ports};
-ghost use Rattle.etherparse_c.specs.Private.Stored.{HasNetworkInC, HasPortsInC, reads_tcp};
-ghost use Rattle.etherparse_c.specs.Private.Stored.{reads_udp};
+ghost use Rattle.etherparse_c.specs.Private.Stored.{HasNetworkInC, HasOtherInC, HasPortsInC};
+ghost use Rattle.etherparse_c.specs.Private.Stored.{icmp_over, reads_tcp, reads_udp};
 ghost use Rattle.etherparse_link.specs.Bytes.{number_at};
 ghost use Rattle.packet.specs.SlicedPacket.{IsLaxReadingOf};
 ghost use Rattle.packet_parts.specs.IpSlice.{HasLaxIpParts};
-ghost use Rattle.packet_parts.specs.declared.ip_slice.IpHeaderSlice.TheVariants as version;
 
 use crate::answer::Error;
 use crate::packet_layers::{
-    Packet, PacketIp, PacketTransport, header_at, icmp_at, ip_parts_of, link_of,
+    Packet, PacketIp, PacketLink, PacketTransport, icmp_at, ip_parts_of, link_of, tcp_at, udp_at,
 };
 use etherparse::{Ipv4HeaderSlice, Ipv6Header, Ipv6HeaderSlice};
 use etherparse_transport::{TcpHeaderSlice, UdpHeader};
 use packet::link::LinkType;
 use packet::link_layers::LinkLayers;
-use packet::transport::TransportSlice;
 use packet_parts::ip_slice::{IpHeaderSlice, IpSlice, LaxIpSlice};
 
 // Stores the layers of an Ethernet frame, with no verdicts on checksums, if nothing stops their
@@ -42,13 +38,14 @@ pub(crate) fn put_whole(frame: &[u8], answer: &mut Packet) -> bool
     }
     let payload = layers.payload;
     let place = frame.len() - payload.len();
-    answer.link = link_of(
+    let link = link_of(
         place,
         &layers.link,
         &layers.vlan,
         &layers.ether_type,
         payload,
     );
+    put_link(link, &mut answer.link);
     answer.stop = Error::default();
     answer.header_checksum = 0;
     answer.payload_checksum = 0;
@@ -58,6 +55,34 @@ pub(crate) fn put_whole(frame: &[u8], answer: &mut Packet) -> bool
     answer.ip = PacketIp::default();
     answer.transport = PacketTransport::default();
     true
+}
+
+// Stores the link header and the tags, field by field: as a whole they would be copied with the
+// bytes between the fields.
+#[inline(always)]
+fn put_link(link: PacketLink, in_c: &mut PacketLink)
+    ensures value { in_c.new ≡ link }
+{
+    let PacketLink {
+        header,
+        payload,
+        family,
+        ether_type,
+        outer_vlan,
+        inner_vlan,
+        kind,
+        vlan_count,
+        has_ether_type,
+    } = link;
+    in_c.header = header;
+    in_c.payload = payload;
+    in_c.family = family;
+    in_c.ether_type = ether_type;
+    in_c.outer_vlan = outer_vlan;
+    in_c.inner_vlan = inner_vlan;
+    in_c.kind = kind;
+    in_c.vlan_count = vlan_count;
+    in_c.has_ether_type = has_ether_type;
 }
 
 // Stores the IP packet at a place and its transport header, if nothing stops their reading. A packet
@@ -159,7 +184,8 @@ fn plain_ipv6(packet: &[u8]) -> Option<IpSlice>
     })
 }
 
-// Stores a packet of these parts at a place, and its transport header if all of it is there.
+// Stores a packet of these parts at a place, and its transport header if it has one that is read
+// and all of it is there.
 #[inline(always)]
 fn put_ip(
     place: usize,
@@ -175,38 +201,26 @@ fn put_ip(
     *in_c = ip_parts_of(place, packet.len(), ip);
     let start = place + ip.header_len();
     if ip.is_later_fragment {
-        return false;
+        *transport = PacketTransport::default();
+        return true;
     }
     match upper_of(ip) {
         6 => put_tcp(start, ip.payload, transport),
         17 => put_udp(start, ip.payload, transport),
-        1 => is_ipv4(ip) && put_icmp(start, 1, ip.payload, transport),
-        58 => is_ipv6(ip) && put_icmp(start, 58, ip.payload, transport),
-        _ => false,
+        upper => {
+            ip.fragment.is_none() && put_other(start, upper, icmp_of(ip), ip.payload, transport)
+        }
     }
 }
 
-// Whether a packet is one of IPv4, and no fragment.
+// The number of ICMP over the version of a packet.
 #[inline(always)]
-fn is_ipv4(ip: &IpSlice) -> bool
-    ensures is { IsTrue result → (view : View4) × (ip.now.header ≡ version.Ipv4 view) }
-    ensures alone { IsTrue result → ip.now.fragment ≡ None }
+fn icmp_of(ip: &IpSlice) -> u8
+    ensures value { result ≡ icmp_over ip.now.header }
 {
     match &ip.header {
-        IpHeaderSlice::Ipv4(_) => ip.fragment.is_none(),
-        IpHeaderSlice::Ipv6(_) => false,
-    }
-}
-
-// Whether a packet is one of IPv6, and no fragment.
-#[inline(always)]
-fn is_ipv6(ip: &IpSlice) -> bool
-    ensures is { IsTrue result → (view : View6) × (ip.now.header ≡ version.Ipv6 view) }
-    ensures alone { IsTrue result → ip.now.fragment ≡ None }
-{
-    match &ip.header {
-        IpHeaderSlice::Ipv6(_) => ip.fragment.is_none(),
-        IpHeaderSlice::Ipv4(_) => false,
+        IpHeaderSlice::Ipv4(_) => 1,
+        IpHeaderSlice::Ipv6(_) => 58,
     }
 }
 
@@ -227,11 +241,8 @@ fn put_tcp(place: usize, payload: &[u8], transport: &mut PacketTransport) -> boo
 {
     match TcpHeaderSlice::from_slice(payload) {
         Ok(header) => {
-            let found = TransportSlice::Tcp {
-                header,
-                payload: &payload[header.slice.len()..],
-            };
-            *transport = with_ports(payload, header_at(place, &Some(found)));
+            let rest = &payload[header.slice.len()..];
+            *transport = with_ports(payload, tcp_at(place, &header, rest));
             true
         }
         Err(_) => false,
@@ -246,16 +257,32 @@ fn put_udp(place: usize, payload: &[u8], transport: &mut PacketTransport) -> boo
         transport.new }
 {
     match UdpHeader::from_slice(payload) {
-        Ok((header, rest)) => {
-            let found = TransportSlice::Udp {
-                header,
-                payload: rest,
-            };
-            *transport = with_ports(payload, header_at(place, &Some(found)));
+        Ok((_header, rest)) => {
+            *transport = with_ports(payload, udp_at(place, rest));
             true
         }
         Err(_) => false,
     }
+}
+
+// The same of a payload of another protocol, where this is the number of ICMP: the header of a
+// message, or else none.
+#[inline(never)] // TCP and UDP are then told apart before all others.
+fn put_other(
+    place: usize,
+    upper: u8,
+    icmp: u8,
+    payload: &[u8],
+    transport: &mut PacketTransport,
+) -> bool
+    requires fits { place < 2 ^ 63 }
+    ensures taken { IsTrue result → HasOtherInC place upper icmp payload.now transport.new }
+{
+    if upper == icmp {
+        return put_icmp(place, upper, payload, transport);
+    }
+    *transport = PacketTransport::default();
+    true
 }
 
 // Stores the 4 bytes that a message of ICMP or ICMPv6 begins with at a place, if all of them are

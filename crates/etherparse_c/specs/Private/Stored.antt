@@ -1,5 +1,6 @@
 -- What is stored of a frame layer by layer. No public clause cites it.
-use Rattle.std.specs.Prelude.{ℕ, ◌≡◌, ◌+◌, ◌≤◌, List, length, Option, Some, None, Ok}
+use Rattle.std.specs.Prelude.{ℕ, ◌≡◌, ◌≢◌, ◌+◌, ◌≤◌, List, drop, length, slice_index}
+use Rattle.std.specs.Prelude.{Option, Some, None, Ok}
 use Rattle.etherparse_link.specs.Bytes.{number_at}
 use Rattle.etherparse_transport.specs.Tcp.{ViewsTcp}
 use Rattle.etherparse_transport.specs.Udp.{ReadsUdp}
@@ -7,8 +8,11 @@ use Rattle.packet.specs.Network.{HasNetwork}
 use Rattle.packet.specs.Transport.{ReadsAs, TransportReading, tcp_reading, transport_parts, udp_reading}
 use Rattle.packet.specs.declared.transport.TransportSlice.{TransportSlice}
 use Rattle.packet_parts.specs.IpSlice.{header_len_of}
+use Rattle.packet_parts.specs.declared.ip_slice.IpHeaderSlice.{IpHeaderSlice}
+use Rattle.packet_parts.specs.declared.ip_slice.IpHeaderSlice.TheVariants as version
 use Rattle.packet_parts.specs.declared.ip_slice.IpSlice.{IpSlice}
-use Rattle.etherparse_c.specs.Layers.{ArePorts, header_at, ip_parts_in_c, with_ports}
+use Rattle.etherparse_c.specs.Layers.{ArePorts, header_at, icmp_at, ip_parts_in_c, no_transport}
+use Rattle.etherparse_c.specs.Layers.{with_ports}
 use Rattle.etherparse_c.specs.declared.packet_layers.PacketIp.{PacketIp}
 use Rattle.etherparse_c.specs.declared.packet_layers.PacketTransport.{PacketTransport}
 
@@ -27,6 +31,19 @@ pub record HasPortsInC (Reads : TransportReading → Type 0) (place : ℕ) (payl
   pub enough : 4 ≤ length payload
   pub value : in_c ≡ with_ports (Some (number_at 0 payload, number_at 2 payload))
       (header_at place (Some found))
+
+-- the number of ICMP over the version of this header
+abbrev pub icmp_over : IpHeaderSlice → ℕ
+icmp_over (version.Ipv4 view) = 1
+icmp_over (version.Ipv6 view) = 58
+
+-- C gets the header of a message at a place, if ICMP has the number of the payload, or else none
+pub record HasOtherInC (place upper icmp : ℕ) (payload : List ℕ) (in_c : PacketTransport)
+    : Type 0 where
+  pub enough : upper ≡ icmp → 4 ≤ length payload
+  pub message : upper ≡ icmp → in_c
+      ≡ icmp_at place upper (slice_index payload 0) (slice_index payload 1) (drop 4 payload)
+  pub none : upper ≢ icmp → in_c ≡ no_transport
 
 -- nothing stops the reading of the IP packet at a place, and C gets it and its transport header
 pub record HasNetworkInC (place : ℕ) (packet : List ℕ) (ip_in_c : PacketIp)

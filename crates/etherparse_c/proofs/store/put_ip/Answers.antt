@@ -1,6 +1,6 @@
-use Rattle.std.proofs.Common.{arith}
+use Rattle.std.proofs.Common.{arith, rules}
 use Rattle.packet.proofs.Places.{header_within}
-use Rattle.etherparse_c.proofs.Stored.{with_icmpv4, with_icmpv6, with_tcp, with_udp}
+use Rattle.etherparse_c.proofs.Stored.{later_protocol, with_other, with_tcp, with_udp, without_header}
 use Rattle.etherparse_c.proofs.store.put_ip.Goals as goal
 
 pub ip_parts_of-requires-clause-within : goal.ip_parts_of-requires-clause-within
@@ -26,24 +26,26 @@ returns-in-17 c = record {
       (let number = c.upper_of.ensures.value in let is = c.in-17.is in cc) (rw c.header_len.ensures.value at c.put_udp.ensures.taken yes);
 }
 
-pub put_icmp-requires : goal.put_icmp-requires
-put_icmp-requires c = record { fits = omega (arith, header_within c.args.packet.now c.args.ip.now c.requires.parts.parts, c.header_len.ensures.value, c.requires.fits) }
+pub put_other-requires : goal.put_other-requires
+put_other-requires c =
+    let within = header_within c.args.packet.now c.args.ip.now c.requires.parts.parts in
+    record { fits = omega (arith, within, c.header_len.ensures.value, c.requires.fits) }
 
-pub put_icmp-requires-then-is_ipv6 : goal.put_icmp-requires-then-is_ipv6
-put_icmp-requires-then-is_ipv6 c = record { fits = omega (arith, header_within c.args.packet.now c.args.ip.now c.requires.parts.parts, c.header_len.ensures.value, c.requires.fits) }
-
-pub returns-then-is_ipv4 : goal.returns-then-is_ipv4
-returns-then-is_ipv4 c = record {
+pub returns-then-is_none : goal.returns-then-is_none
+returns-then-is_none c = record {
   taken = λ yes.
-      let view = c.is_ipv4.ensures.is c.if-is_ipv4.true in
-      with_icmpv4 c.args.place c.args.packet.now c.args.ip.now _ _ c.requires.parts c.ip_parts_of.ensures.value c.if-ip.false view.0 view.1 (c.is_ipv4.ensures.alone c.if-is_ipv4.true)
-      (let number = c.upper_of.ensures.value in let is = c.in-1.is in cc) (c.put_icmp.ensures.enough yes) (rw c.header_len.ensures.value at c.put_icmp.ensures.stored yes);
+      let number = c.upper_of.ensures.value in
+      let icmp = c.icmp_of.ensures.value in
+      let other = rw (c.header_len.ensures.value, number, icmp) at c.put_other.ensures.taken yes in
+      with_other c.args.place c.args.packet.now c.args.ip.now _ _ c.requires.parts
+      c.ip_parts_of.ensures.value c.if-ip.false (search rules)
+      (λ is. omega (arith, is)) (λ is. omega (arith, is)) other;
 }
 
-pub returns-then-is_ipv6 : goal.returns-then-is_ipv6
-returns-then-is_ipv6 c = record {
+pub returns-then-ip : goal.returns-then-ip
+returns-then-ip c = record {
   taken = λ yes.
-      let view = c.is_ipv6.ensures.is c.if-is_ipv6.true in
-      with_icmpv6 c.args.place c.args.packet.now c.args.ip.now _ _ c.requires.parts c.ip_parts_of.ensures.value c.if-ip.false view.0 view.1 (c.is_ipv6.ensures.alone c.if-is_ipv6.true)
-      (let number = c.upper_of.ensures.value in let is = c.in-58.is in cc) (c.put_icmp-then-is_ipv6.ensures.enough yes) (rw c.header_len.ensures.value at c.put_icmp-then-is_ipv6.ensures.stored yes);
+      let none = later_protocol c.args.ip.now c.if-ip.true in
+      without_header c.args.place c.args.packet.now c.args.ip.now _ _ c.requires.parts
+      c.ip_parts_of.ensures.value none (search rules);
 }

@@ -8,6 +8,6 @@ pub returns-in-Ok : goal.returns-in-Ok
 returns-in-Ok c =
     let payload = c.args.payload.now in
     let reads = c.in-Ok.ensures.reads in record {
-      taken = λ yes. has_ports (reads_udp c.args.place payload) c.args.place payload (Udp c.in-Ok.header c.in-Ok.rest) _ _ c.header_at.ensures.value c.with_ports.ensures.value
-          (record { inside = Ok (c.in-Ok.header, c.in-Ok.rest.now); allowed = reads; becomes = refl }) (omega (arith, ap length reads.whole, reads.layout.len, length-append {A = ℕ}));
+      taken = λ yes. has_ports (reads_udp c.args.place payload) c.args.place payload (Udp c.in-Ok._header c.in-Ok.rest) _ _ c.udp_at.ensures.value c.with_ports.ensures.value
+          (record { inside = Ok (c.in-Ok._header, c.in-Ok.rest.now); allowed = reads; becomes = refl }) (omega (arith, ap length reads.whole, reads.layout.len, length-append {A = ℕ}));
     }

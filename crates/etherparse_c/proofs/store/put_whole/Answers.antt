@@ -5,13 +5,27 @@ use Rattle.etherparse_c.proofs.store.put_whole.Goals as goal
 pub returns-then-carries_ip : goal.returns-then-carries_ip
 returns-then-carries_ip c = record {
   taken = λ yes. with_network _ _ c.in-Ok.layers _ c.in-Ok.ensures.found (none_of c.in-Ok.layers.stop (sym c.is_some.ensures ∙ c.if-is_some.false))
-      (record { link = c.link_of-answer.ensures.value; stops = search rules; header_checksum = refl; payload_checksum = refl })
+      (record {
+        link = λ packet link vlan ether_type payload.
+            c.put_link.ensures.value
+            ∙ c.link_of-link.ensures.value packet link vlan ether_type payload;
+        stops = search rules;
+        header_checksum = refl;
+        payload_checksum = refl;
+      })
       (sym c.carries_ip.ensures.value ∙ c.if-carries_ip.true) (c.put_network.ensures.taken yes);
 }
 
 pub returns : goal.returns
 returns c = record {
   taken = λ yes. without_network _ _ c.in-Ok.layers _ c.in-Ok.ensures.found (none_of c.in-Ok.layers.stop (sym c.is_some.ensures ∙ c.if-is_some.false))
-      (record { link = c.link_of-answer.ensures.value; stops = search rules; header_checksum = refl; payload_checksum = refl })
+      (record {
+        link = λ packet link vlan ether_type payload.
+            c.put_link.ensures.value
+            ∙ c.link_of-link.ensures.value packet link vlan ether_type payload;
+        stops = search rules;
+        header_checksum = refl;
+        payload_checksum = refl;
+      })
       (sym c.carries_ip.ensures.value ∙ c.if-carries_ip.false) (search rules) (search rules);
 }
