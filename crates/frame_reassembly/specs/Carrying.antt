@@ -8,7 +8,6 @@ use Rattle.packet.specs.Vlan.{tags_of}
 use Rattle.packet.specs.declared.link.LinkError.{LinkError}
 use Rattle.packet.specs.declared.link.LinkType.{LinkType}
 use Rattle.packet.specs.declared.link_layers.LinkLayers.{LinkLayers}
-use Rattle.packet.specs.declared.vlan.VlanSlice.{VlanSlice}
 
 -- the identifier of the VLAN in a tag: the lower 12 bits of its first two bytes (IEEE 802.1Q section
 -- 9.6)

@@ -1,7 +1,7 @@
 //! Frames whose IP packets are fragments.
 
 ghost use Rattle.std.specs.Prelude.{◌≡◌, ◌≤◌, ◌+◌, ◌-◌, ◌<◌, ◌||◌, IfNone, IfSome, List, ℕ};
-ghost use Rattle.std.specs.Prelude.{length, map, option_map, take};
+ghost use Rattle.std.specs.Prelude.{drop, length, map, option_map, take};
 ghost use Rattle.std.specs.Option.{is_some};
 ghost use Rattle.packet.specs.Vlan.{tags_of};
 ghost use Rattle.packet_reassembly.specs.Fragment.{IsWhole};
@@ -125,6 +125,7 @@ impl<'a, 'b> FrameReassembly<'a, 'b> {
         ensures takes { TakesFrame link_type frame.now now self.old self.new datagrams.old
             datagrams.new (option_map (λ len. take len out.new) result) }
         ensures within { IfSome result (λ len. len ≤ length out.new) }
+        ensures after { IfSome result (λ len. drop len out.new ≡ drop len out.old) }
         ensures nothing { IfNone result (out.new ≡ out.old) }
         ensures same_len { length out.new ≡ length out.old }
     {
@@ -192,6 +193,7 @@ fn take_packet(
         pool.old.slots.now pool.new.slots.now datagrams.old datagrams.new
         (option_map (λ len. take len out.new) result) }
     ensures within { IfSome result (λ len. len ≤ length out.new) }
+    ensures after { IfSome result (λ len. drop len out.new ≡ drop len out.old) }
     ensures nothing { IfNone result (out.new ≡ out.old) }
     ensures same_len { length out.new ≡ length out.old }
     ensures slots { length pool.new.slots.now ≡ length pool.old.slots.now }
@@ -252,6 +254,7 @@ fn follow(
         added.slot pool.old.slots.now pool.new.slots.now datagrams.old datagrams.new
         (option_map (λ len. take len out.new) result) }
     ensures within { IfSome result (λ len. len ≤ length out.new) }
+    ensures after { IfSome result (λ len. drop len out.new ≡ drop len out.old) }
     ensures headers { HaveFirstHeaders pool.new.slots.now }
     ensures nothing { IfNone result (out.new ≡ out.old) }
     ensures same_len { length out.new ≡ length out.old }
@@ -293,6 +296,7 @@ fn complete(pool: &mut IpDefragPool, slot: usize, out: &mut [u8]) -> Option<usiz
         IsPacketIn (slot_at pool.old.slots.now slot) (take len out.new)) }
     ensures none { IfNone result (HasTooLongPacket (slot_at pool.old.slots.now slot)) }
     ensures within { IfSome result (λ len. len ≤ length out.new) }
+    ensures after { IfSome result (λ len. drop len out.new ≡ drop len out.old) }
     ensures headers { HaveFirstHeaders pool.new.slots.now }
     ensures nothing { IfNone result (out.new ≡ out.old) }
     ensures same_len { length out.new ≡ length out.old }
