@@ -4,5 +4,6 @@
 pub mod any;
 pub mod capture;
 pub mod file_format;
+mod laws;
 pub mod pcapng;
 pub mod skip;
