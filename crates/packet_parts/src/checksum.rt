@@ -30,6 +30,9 @@ pub enum Verdict {
 impl fmt::Display for Verdict {
     ghost output = { λ verdict. Some (verdict_text verdict) };
 
+    // A width, a precision or a flag changes nothing.
+    ghost styled_output = { λ verdict _. Some (verdict_text verdict) };
+
     fn fmt<W: fmt::Write>(&self, f: &mut fmt::Formatter<W>) -> fmt::Result {
         match self {
             Verdict::Right => f.write_str("right"),

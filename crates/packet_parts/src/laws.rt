@@ -1,7 +1,8 @@
-//! What the derived `==` and `clone` of the layers' values say, each as the clause of one small
-//! function. Nothing calls them: they are there to be proved.
+//! What the derived `==`, `clone` and `hash` of the layers' values say, each as the clause of one
+//! small function. Nothing calls them: they are there to be proved.
 
-ghost use Rattle.std.specs.Prelude.{◌≡◌, ◌↔◌, IsTrue, Ok};
+ghost use Rattle.std.specs.Prelude.{◌≡◌, ◌↔◌, ◌++◌, IsTrue, Ok, fold};
+ghost use Rattle.std.specs.Hash as fed;
 ghost use Rattle.packet_parts.specs.IpSlice.{ip_parts};
 
 use crate::address::Ipv6Text;
@@ -9,6 +10,7 @@ use crate::checksum::Verdict;
 use crate::fragment_key::{Ipv4Key, Ipv6Key};
 use crate::ip_slice::LaxIpSlice;
 use std::alloc::AllocError;
+use std::hash::{Hash, Hasher};
 
 fn ipv4_key_equality(a: &Ipv4Key, b: &Ipv4Key) -> bool
     ensures same_value { IsTrue result ↔ (a.now ≡ b.now) }
@@ -71,4 +73,20 @@ fn lax_ip_slice_clone<'a>(slice: &LaxIpSlice<'a>) -> Result<LaxIpSlice<'a>, Allo
     ensures same_value { result ≡ Ok slice.now }
 {
     slice.clone()
+}
+
+// A key is hashed by all its fields.
+fn ipv4_key_hash<H: Hasher>(key: &Ipv4Key, state: &mut H)
+    ensures by_fields { state.new ≡ fold H.write state.old (fed.slice fed.u8 key.now.source
+        ++ (fed.slice fed.u8 key.now.destination ++ (fed.u8 key.now.protocol
+        ++ fed.u16 key.now.identification))) }
+{
+    key.hash(state);
+}
+
+fn ipv6_key_hash<H: Hasher>(key: &Ipv6Key, state: &mut H)
+    ensures by_fields { state.new ≡ fold H.write state.old (fed.slice fed.u8 key.now.source
+        ++ (fed.slice fed.u8 key.now.destination ++ fed.u32 key.now.identification)) }
+{
+    key.hash(state);
 }
