@@ -1,13 +1,15 @@
-//! What the derived `==` and `clone` say, each as the clause of one small function. Nothing calls
-//! them: they are there to be proved.
+//! What the derived `==`, `clone` and `hash` say, each as the clause of one small function. Nothing
+//! calls them: they are there to be proved.
 
-ghost use Rattle.std.specs.Prelude.{◌≡◌, ◌↔◌, IsTrue, Ok};
+ghost use Rattle.std.specs.Prelude.{◌≡◌, ◌↔◌, ◌++◌, IsTrue, Ok, fold};
+ghost use Rattle.std.specs.Hash as fed;
 
 use crate::{
     TcpError, TcpHeader, TcpHeaderSlice, TcpOptionElement, TcpOptionReadError, TcpOptionWriteError,
     TcpOptions, TcpOptionsIterator, UdpHeader, UdpHeaderSlice,
 };
 use std::alloc::AllocError;
+use std::hash::{Hash, Hasher};
 
 fn udp_header_equality(a: &UdpHeader, b: &UdpHeader) -> bool
     ensures same_value { IsTrue result ↔ (a.now ≡ b.now) }
@@ -134,4 +136,25 @@ fn tcp_option_write_error_equality(a: &TcpOptionWriteError, b: &TcpOptionWriteEr
     ensures same_value { IsTrue result ↔ (a.now ≡ b.now) }
 {
     a == b
+}
+
+// Options are hashed by their bytes, a header by all its fields.
+fn tcp_options_hash<H: Hasher>(options: &TcpOptions, state: &mut H)
+    ensures by_bytes { state.new ≡ fold H.write state.old (fed.slice fed.u8 options.now) }
+{
+    options.hash(state);
+}
+
+fn tcp_header_hash<H: Hasher>(header: &TcpHeader, state: &mut H)
+    ensures by_fields { state.new ≡ fold H.write state.old (fed.u16 header.now.source_port
+        ++ (fed.u16 header.now.destination_port ++ (fed.u32 header.now.sequence_number
+        ++ (fed.u32 header.now.acknowledgment_number ++ (fed.bool header.now.ns
+        ++ (fed.bool header.now.fin ++ (fed.bool header.now.syn ++ (fed.bool header.now.rst
+        ++ (fed.bool header.now.psh ++ (fed.bool header.now.ack ++ (fed.bool header.now.urg
+        ++ (fed.bool header.now.ece ++ (fed.bool header.now.cwr
+        ++ (fed.u16 header.now.window_size ++ (fed.u16 header.now.checksum
+        ++ (fed.u16 header.now.urgent_pointer
+        ++ fed.slice fed.u8 header.now.options)))))))))))))))) }
+{
+    header.hash(state);
 }
