@@ -1,9 +1,10 @@
-//! What the derived `==` of the headers says, each as the clause of one small function. Nothing
-//! calls them: they are there to be proved.
+//! What the derived `==` of the headers and the `clone` of all types say, each as the clause of one
+//! small function. Nothing calls them: they are there to be proved.
 
-ghost use Rattle.std.specs.Prelude.{◌≡◌, ◌↔◌, IsTrue};
+ghost use Rattle.std.specs.Prelude.{◌≡◌, ◌↔◌, IsTrue, Ok};
 
-use crate::{Icmpv4Header, Icmpv6Header};
+use crate::{IcmpEchoHeader, Icmpv4Header, Icmpv4Type, Icmpv6Header, Icmpv6Type, icmpv4, icmpv6};
+use std::alloc::AllocError;
 
 fn icmpv4_header_equality(a: &Icmpv4Header, b: &Icmpv4Header) -> bool
     ensures same_value { IsTrue result ↔ (a.now ≡ b.now) }
@@ -15,4 +16,113 @@ fn icmpv6_header_equality(a: &Icmpv6Header, b: &Icmpv6Header) -> bool
     ensures same_value { IsTrue result ↔ (a.now ≡ b.now) }
 {
     a == b
+}
+
+// A clone is equal, and cloning never fails.
+fn icmpv4_header_clone(header: &Icmpv4Header) -> Result<Icmpv4Header, AllocError>
+    ensures same_value { result ≡ Ok header.now }
+{
+    header.clone()
+}
+
+fn icmpv4_type_clone(icmp_type: &Icmpv4Type) -> Result<Icmpv4Type, AllocError>
+    ensures same_value { result ≡ Ok icmp_type.now }
+{
+    icmp_type.clone()
+}
+
+fn icmpv6_header_clone(header: &Icmpv6Header) -> Result<Icmpv6Header, AllocError>
+    ensures same_value { result ≡ Ok header.now }
+{
+    header.clone()
+}
+
+fn icmpv6_type_clone(icmp_type: &Icmpv6Type) -> Result<Icmpv6Type, AllocError>
+    ensures same_value { result ≡ Ok icmp_type.now }
+{
+    icmp_type.clone()
+}
+
+fn echo_header_clone(echo: &IcmpEchoHeader) -> Result<IcmpEchoHeader, AllocError>
+    ensures same_value { result ≡ Ok echo.now }
+{
+    echo.clone()
+}
+
+fn icmpv4_dest_unreachable_header_clone(
+    header: &icmpv4::DestUnreachableHeader,
+) -> Result<icmpv4::DestUnreachableHeader, AllocError>
+    ensures same_value { result ≡ Ok header.now }
+{
+    header.clone()
+}
+
+fn icmpv4_parameter_problem_header_clone(
+    header: &icmpv4::ParameterProblemHeader,
+) -> Result<icmpv4::ParameterProblemHeader, AllocError>
+    ensures same_value { result ≡ Ok header.now }
+{
+    header.clone()
+}
+
+fn redirect_code_clone(code: &icmpv4::RedirectCode) -> Result<icmpv4::RedirectCode, AllocError>
+    ensures same_value { result ≡ Ok code.now }
+{
+    code.clone()
+}
+
+fn redirect_header_clone(
+    header: &icmpv4::RedirectHeader,
+) -> Result<icmpv4::RedirectHeader, AllocError>
+    ensures same_value { result ≡ Ok header.now }
+{
+    header.clone()
+}
+
+fn icmpv4_time_exceeded_code_clone(
+    code: &icmpv4::TimeExceededCode,
+) -> Result<icmpv4::TimeExceededCode, AllocError>
+    ensures same_value { result ≡ Ok code.now }
+{
+    code.clone()
+}
+
+fn timestamp_message_clone(
+    message: &icmpv4::TimestampMessage,
+) -> Result<icmpv4::TimestampMessage, AllocError>
+    ensures same_value { result ≡ Ok message.now }
+{
+    message.clone()
+}
+
+fn icmpv6_dest_unreachable_code_clone(
+    code: &icmpv6::DestUnreachableCode,
+) -> Result<icmpv6::DestUnreachableCode, AllocError>
+    ensures same_value { result ≡ Ok code.now }
+{
+    code.clone()
+}
+
+fn icmpv6_parameter_problem_code_clone(
+    code: &icmpv6::ParameterProblemCode,
+) -> Result<icmpv6::ParameterProblemCode, AllocError>
+    ensures same_value { result ≡ Ok code.now }
+{
+    code.clone()
+}
+
+fn icmpv6_parameter_problem_header_clone(
+    header: &icmpv6::ParameterProblemHeader,
+) -> Result<icmpv6::ParameterProblemHeader, AllocError>
+    ensures same_value { result ≡ Ok header.now }
+{
+    header.clone()
+}
+
+fn icmpv6_time_exceeded_code_clone(
+    code: &icmpv6::TimeExceededCode,
+) -> Result<icmpv6::TimeExceededCode, AllocError>
+    ensures same_value { result ≡ Ok code.now }
+{
+    code.clone()
 }
