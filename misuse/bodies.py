@@ -24,19 +24,20 @@ NAMES = re.compile(r'(note: )?(\./)?proofs/.*(has no field|is not in scope|has n
 
 
 def read(body):
-    """the functions that a body is tried at, and its edits: a file, the text that stands once in it, and that in its place"""
-    functions, edits, file = [], [], None
+    """the functions that a body is tried at, those that it adds among them, and its edits: a file, a text, and that in its place"""
+    functions, added, edits, file = [], [], [], None
     for line in body.read_text().splitlines():
         word, _, rest = line.partition(': ')
-        if word == 'fn':
+        if word in ('fn', 'adds'):
             functions.append(rest)
+            added += [rest] if word == 'adds' else []
         elif word == 'file':
             file = rest
         elif word == 'old':
             edits.append([file, rest, None])
         elif word == 'new':
             edits[-1][2] = rest
-    return functions, edits
+    return functions, added, edits
 
 
 def words(crate):
@@ -56,7 +57,8 @@ def words(crate):
 def check(crate, room, kept, functions):
     """Checks functions of a crate that stands in a folder, and keeps what was proved in another."""
     only = [word for it in sorted(functions) for word in ('--only', f'{crate}::{it}')]
-    return subprocess.run([KIT / 'bin/rattle', 'check', '--crate-name', crate, 'src/lib.rt', *words(crate), *only, '--incremental', kept],
+    root = next(it for it in ('src/lib.rt', 'src/main.rt') if pathlib.Path(room, it).is_file())
+    return subprocess.run([KIT / 'bin/rattle', 'check', '--crate-name', crate, root, *words(crate), *only, '--incremental', kept],
                           cwd=room, text=True, stdout=subprocess.PIPE, stderr=subprocess.STDOUT)
 
 
@@ -67,7 +69,7 @@ def linked(one, other):
 
 def why_failed(crate, body, whole, kept, room):
     """Returns why a body is not refused as it has to be, or nothing."""
-    functions, edits = read(body)
+    functions, _, edits = read(body)
     shutil.copytree(whole, f'{room}/crate')
     shutil.copytree(kept, f'{room}/kept', copy_function=linked)
     for file, old, new in edits:
@@ -82,7 +84,7 @@ def why_failed(crate, body, whole, kept, room):
     refused = [it for it in functions if re.search(rf'^fn {crate}::{it}: (not proved|no proof)', ran.stdout, re.MULTILINE)]
     if ran.returncode != 1 or not refused or any(re.search(r'\berror\[', line) for line in lines):
         return 'no verdict: ' + ' | '.join(lines[-4:])
-    told = [line for line in lines if re.match(r'(note: )?\S+:\d+:\d+:', line)]
+    told = [line for line in lines if re.match(r'note: \S+:\d+:\d+:|\S+:\d+:\d+: error', line)]
     if told and all(NAMES.match(line) for line in told):
         return f'a proof names what it took away: {told[0]}'
     return ''
@@ -96,7 +98,7 @@ def tried(crate, bodies):
             if (CRATES / crate / part).is_dir():
                 shutil.copytree(CRATES / crate / part, f'{whole}/{part}')
         os.mkdir(kept)
-        ran = check(crate, whole, kept, {it for body in bodies for it in read(body)[0]})
+        ran = check(crate, whole, kept, {it for functions, added, _ in map(read, bodies) for it in functions if it not in added})
         if ran.returncode:
             return ['without it the check says: ' + ' | '.join(ran.stdout.splitlines()[-4:])] * len(bodies)
         found = []
