@@ -2,9 +2,10 @@
 """bodies.py [CRATE ..]: tries the wrong bodies of the folders of misuse/bodies; for crates that are named, those of `more` too.
 
 Each is tried on a copy of its crate, over the libraries that `rt ci` has just proved: a check of the function whose contract
-speaks of it, and of those that it calls, has to prove them without the body, and to refuse that function with it. README.md says
-how a body is written. As many crates are tried at a time as there are processors, up to four. The last line is 'N passed, M
-failed'.
+speaks of it, and of those that it calls, has to prove them without the body, and to refuse that function with it. One check
+tries the bodies of different functions together: a function is proved by its own body and the contracts of others. README.md
+says how a body is written. As many crates are tried at a time as there are processors, up to four. The last line is 'N passed,
+M failed'.
 """
 import concurrent.futures
 import os
@@ -19,6 +20,10 @@ HERE = pathlib.Path(__file__).resolve().parent
 BODIES = HERE / 'bodies'
 CRATES = HERE.parent / 'crates'
 KIT = pathlib.Path(shutil.which('rt')).resolve().parents[1]
+# The line at which the body of a function begins, its name in the line before its parameters, and a line that names a place.
+BODY = re.compile(r' *(\{|((pub(\(crate\))?|const|unsafe|extern "C") )*fn .*\{|\) (-> .* )?\{)$')
+FUNCTION = re.compile(r'\bfn (\w+)')
+PLACE = re.compile(r'note: \S+:\d+:\d+:|\S+:\d+:\d+: error')
 # What the checker says where a proof names what the body took away: such a refusal tells nothing of the contract.
 NAMES = re.compile(r'(note: )?(\./)?proofs/.*(has no field|is not in scope|has no `|was not admitted)')
 
@@ -67,27 +72,70 @@ def linked(one, other):
     return os.link(one, other) if one.endswith('.oantt') else shutil.copy2(one, other)
 
 
-def why_failed(crate, body, whole, kept, room):
-    """Returns why a body is not refused as it has to be, or nothing."""
-    functions, _, edits = read(body)
-    shutil.copytree(whole, f'{room}/crate')
-    shutil.copytree(kept, f'{room}/kept', copy_function=linked)
-    for file, old, new in edits:
-        file = pathlib.Path(room, 'crate', file)
-        if file.read_text().count(old) != 1:
-            return f'{old} stands {file.read_text().count(old)} times in {file.name}'
-        file.write_text(file.read_text().replace(old, new))
-    ran = check(crate, f'{room}/crate', f'{room}/kept', functions)
+def changed(text, old):
+    """Returns the name of the function whose body has this text, and the line at which the body begins; nothing if no body has it."""
+    first = text[: text.index(old)].count('\n')
+    lines = text.split('\n')
+    for at in range(first, -1, -1):
+        if not BODY.match(lines[at]):
+            continue
+        close = re.match(' *', lines[at])[0] + '}'
+        end = next((it for it in range(at, len(lines)) if lines[it] == close), 0)
+        heads = (it for it in reversed(lines[: at + 1]) if FUNCTION.search(it))
+        return (FUNCTION.search(next(heads))[1], at) if at < first and first + old.count('\n') < end else None
+    return None
+
+
+def groups(crate, bodies):
+    """Returns the bodies in groups. Those of one are in different functions, so that none has a part in what another comes to."""
+    apart, alone = [], []
+    for body in bodies:
+        functions, _, edits = read(body)
+        bodies_of = {(file, changed((CRATES / crate / file).read_text(), old)) for file, old, new in edits}
+        _, found = min(bodies_of, key=str)
+        if len(bodies_of) > 1 or found is None or [found[0]] != [it.split('::')[-1] for it in functions]:
+            alone.append([body])
+            continue
+        group = next((it for it in apart if functions not in [read(other)[0] for other in it]), None)
+        if group is None:
+            apart.append(group := [])
+        group.append(body)
+    return apart + alone
+
+
+def told(crate, function, lines):
+    """Returns what the checker said of a function: of its proofs, and before its verdict."""
+    verdicts = [at for at, line in enumerate(lines) if line.startswith('fn ')]
+    end = next((at for at in verdicts if lines[at].startswith(f'fn {crate}::{function}: ')), 0)
+    begin = max((at for at in verdicts if at < end), default=end)
+    own = re.compile(rf'(note: )?(\./)?proofs/{function.replace("::", "/")}/')
+    return [line for at, line in enumerate(lines) if PLACE.match(line) and (own.match(line) or begin < at < end)]
+
+
+def why_failed(crate, bodies, whole, kept):
+    """Returns for each of these bodies, which are tried together, why it is not refused as it has to be, or nothing."""
+    with tempfile.TemporaryDirectory(dir=os.path.dirname(whole)) as room:
+        shutil.copytree(whole, f'{room}/crate')
+        shutil.copytree(kept, f'{room}/kept', copy_function=linked)
+        for body in bodies:
+            for file, old, new in read(body)[2]:
+                file = pathlib.Path(room, 'crate', file)
+                file.write_text(file.read_text().replace(old, new))
+        ran = check(crate, f'{room}/crate', f'{room}/kept', {it for body in bodies for it in read(body)[0]})
     lines = ran.stdout.splitlines() or ['nothing']
-    if ran.returncode == 0:
-        return 'it is proved'
-    refused = [it for it in functions if re.search(rf'^fn {crate}::{it}: (not proved|no proof)', ran.stdout, re.MULTILINE)]
-    if ran.returncode != 1 or not refused or any(re.search(r'\berror\[', line) for line in lines):
-        return 'no verdict: ' + ' | '.join(lines[-4:])
-    told = [line for line in lines if re.match(r'note: \S+:\d+:\d+:|\S+:\d+:\d+: error', line)]
-    if told and all(NAMES.match(line) for line in told):
-        return f'a proof names what it took away: {told[0]}'
-    return ''
+    found = {}
+    for body in bodies:
+        refused = [it for it in read(body)[0] if re.search(rf'^fn {crate}::{it}: (not proved|no proof)', ran.stdout, re.MULTILINE)]
+        said = [line for it in refused for line in told(crate, it, lines)]
+        if ran.returncode == 0 or ran.returncode == 1 and not refused:
+            found[body] = 'it is proved'
+        elif ran.returncode != 1 or any(re.search(r'\berror\[', line) for line in lines):
+            found[body] = 'no verdict: ' + ' | '.join(lines[-4:])
+        elif all(NAMES.match(line) for line in said):
+            found[body] = f'no contract refuses it, but a proof that names what it took away: {(said or ["nothing is told"])[0]}'
+        else:
+            found[body] = ''
+    return found
 
 
 def tried(crate, bodies):
@@ -98,14 +146,21 @@ def tried(crate, bodies):
             if (CRATES / crate / part).is_dir():
                 shutil.copytree(CRATES / crate / part, f'{whole}/{part}')
         os.mkdir(kept)
-        ran = check(crate, whole, kept, {it for functions, added, _ in map(read, bodies) for it in functions if it not in added})
+        found = {}
+        for body in bodies:
+            for file, old, new in read(body)[2]:
+                if (count := pathlib.Path(whole, file).read_text().count(old)) != 1:
+                    found[body] = f'{old} stands {count} times in {file}'
+        right = [body for body in bodies if body not in found]
+        ran = check(crate, whole, kept, {it for functions, added, _ in map(read, right) for it in functions if it not in added})
         if ran.returncode:
             return ['without it the check says: ' + ' | '.join(ran.stdout.splitlines()[-4:])] * len(bodies)
-        found = []
-        for body in bodies:
-            with tempfile.TemporaryDirectory(dir=room) as own:
-                found.append(why_failed(crate, body, whole, kept, own))
-        return found
+        for group in groups(crate, right):
+            came = why_failed(crate, group, whole, kept)
+            for body, why in came.items():
+                # (it may be the fault of another)
+                found[body] = why_failed(crate, [body], whole, kept)[body] if why and len(group) > 1 else why
+        return [found[body] for body in bodies]
 
 
 def main():
