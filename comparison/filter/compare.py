@@ -196,6 +196,10 @@ def type_of_ip_alone(pair):
         one in pair.primitives for one in (('ether-type', 0x800), ('ether-type', 0x86dd)))
 
 
+def other_device(pair):
+    return pair.frame.other
+
+
 # ---- frames that are not plain
 
 def tagged(pair):
@@ -269,6 +273,8 @@ INTENDED = [
     ('a range to a hexadecimal number: libpcap takes that for 0', hexadecimal_end),
     ('ether proto 0x809b or 0x80f3: libpcap finds AppleTalk after an LLC header too', apple_talk),
     ('ether proto of IP without a link header: libpcap goes by its version', type_of_ip_alone),
+    ('a Linux cooked capture of netlink, frame relay or radiotap: libpcap takes any protocol type for'
+     ' an EtherType', other_device),
     ('a VLAN tag', tagged),
     ('an extension header of IPv6', extended),
     ('bytes after the packet', padded),

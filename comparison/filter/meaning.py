@@ -6,7 +6,8 @@
 Two VLAN tags are seen past, and in IPv6 all extension headers and an atomic fragment header. What a
 packet does not have is not found: the primitive is false, and `not` of it true.
 
-RFC 791, 8200, 4302 and 6946 for IP, RFC 826 and 903 for ARP and RARP, IEEE 802.1Q for tags."""
+RFC 791, 8200, 4302 and 6946 for IP, RFC 826 and 903 for ARP and RARP, IEEE 802.1Q for tags,
+LINKTYPE_LINUX_SLL and LINKTYPE_LINUX_SLL2 of tcpdump.org for Linux cooked captures."""
 import itertools
 import struct
 import sys
@@ -23,6 +24,9 @@ ARP_TYPES = {'arp': 0x806, 'rarp': 0x8035}
 WIDTH = {4: 32, 6: 128}
 LINK_HEADERS = {1: 14, 101: 0, 113: 16, 276: 20}
 ETHER_TYPE_AT = {1: 12, 113: 14, 276: 0}
+# where a Linux cooked capture has the ARPHRD type; those for which its protocol type is no
+# EtherType: ARPHRD_NETLINK, ARPHRD_FRAD and ARPHRD_IEEE80211_RADIOTAP
+ARPHRD_AT, NO_ETHER_TYPE = {113: 2, 276: 8}, (824, 770, 803)
 
 # ---- frames
 
@@ -56,6 +60,8 @@ class Frame:
     ether_type: int
     payload: bytes
     ip: Ip
+    # a Linux cooked capture of a device whose protocol type is no EtherType
+    other: bool = False
 
 
 def number_at(data, at, size=2):
@@ -109,14 +115,16 @@ def read_frame(data, link_type=1):
     if len(data) < LINK_HEADERS[link_type]:
         return None
     payload, tags, ip = data[LINK_HEADERS[link_type]:], [], None
-    ether_type = number_at(data, ETHER_TYPE_AT[link_type]) if link_type != 101 else None
+    other = link_type in ARPHRD_AT and number_at(data, ARPHRD_AT[link_type]) in NO_ETHER_TYPE
+    told = link_type in ETHER_TYPE_AT and not other
+    ether_type = number_at(data, ETHER_TYPE_AT[link_type]) if told else None
     while ether_type in TAGS and len(tags) < 2 and len(payload) >= 4:
         tags.append(payload[:4])
         ether_type, payload = number_at(payload, 2), payload[4:]
     # the version is told by the packet itself
-    if ether_type in (0x800, 0x86dd, None):
+    if ether_type in (0x800, 0x86dd) or link_type == 101:
         ip = read_ipv4(payload) or read_ipv6(payload)
-    return Frame(data if link_type == 1 else b'', tags, ether_type, payload, ip)
+    return Frame(data if link_type == 1 else b'', tags, ether_type, payload, ip, other)
 
 
 # ---- parts

@@ -42,6 +42,8 @@ PORTS = [20, 21, 22, 25, 53, 67, 68, 80, 81, 90, 123, 443, 1024, 5353, 8080, 655
 ETHER_TYPES = [0x6001, 0x6002, 0x6003, 0x6004, 0x6007, 0x809b, 0x8863, 0x888e, 0x88a2, 0x88cc,
                0x88d9, 0x9000]
 # IP protocols that have no header of their own here; igrp, pim and vrrp twice
+# ARPHRD types: ARPHRD_ETHER most of the time, ARPHRD_IPGRE, and those without an EtherType
+DEVICES = [1] * 12 + [778, 824, 770, 803]
 OTHER_NUMBERS = [4, 8, 9, 9, 41, 47, 88, 89, 103, 103, 112, 112, 115, 255]
 ICMP_TYPES = [0, 3, 4, 5, 8, 9, 10, 11, 12, 13, 14]
 ICMP6_TYPES = [1, 2, 3, 4, 128, 129, 130, 133, 134, 135, 136, 143]
@@ -282,10 +284,12 @@ class Cases:
             data = data[:4] + struct.pack('>HB', len(rest), number) + data[7:40] + rest
         return front + tags + ether_type + data + self.pick([b'', b'', b'', bytes(20)])
 
-    def relinked(self, frame, link_type):
-        """what an Ethernet frame has, alone (101) or after a header of Linux (113, 276)"""
-        front = {101: b'', 113: b'\0\0\0\1\0\6' + frame[6:12] + b'\0\0' + frame[12:14],
-                 276: frame[12:14] + b'\0\0\0\0\0\2\0\1\0\6' + frame[6:12] + b'\0\0'}
+    def relinked(self, frame, link_type, device=1):
+        """what an Ethernet frame has, alone (101) or after a header of Linux (113, 276) with the
+        ARPHRD type of a device"""
+        kind = struct.pack('>H', device)
+        front = {101: b'', 113: b'\0\0' + kind + b'\0\6' + frame[6:12] + b'\0\0' + frame[12:14],
+                 276: frame[12:14] + b'\0\0\0\0\0\2' + kind + b'\0\6' + frame[6:12] + b'\0\0'}
         return front[link_type] + frame[14:]
 
     def aim(self, text):
@@ -837,8 +841,8 @@ def main():
                 frames.append(cases.frame())
         elif asked.kind == 'links':
             text, link_type = cases.expression(), cases.pick([101, 113, 276])
-            frames = [(cases.relinked(frame, link_type), wire) for frame, wire in (
-                first, cases.frame(cases.chance(0.7)))]
+            frames = [(cases.relinked(frame, link_type, cases.pick(DEVICES)), wire)
+                      for frame, wire in (first, cases.frame(cases.chance(0.7)))]
             if link_type == 101:
                 frames = [one for one in frames if one[0] and one[0][0] // 16 in (4, 6)]
         else:

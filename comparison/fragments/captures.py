@@ -44,8 +44,9 @@ def packet_of(link, frame):
         while frame[at:at + 2] in (b'\x81\x00', b'\x88\xa8'):
             at += 4
         return frame[at + 2:] if frame[at:at + 2] in IP else b''
-    if link == 113: # Linux cooked
-        return frame[16:] if frame[14:16] in IP else b''
+    if link == 113: # Linux cooked; of netlink, frame relay and radiotap it has no EtherType
+        other = frame[2:4] in (b'\x03\x38', b'\x03\x02', b'\x03\x23')
+        return frame[16:] if frame[14:16] in IP and not other else b''
     return {0: frame[4:], 12: frame, 14: frame, 101: frame}.get(link, b'')
 
 

@@ -38,6 +38,11 @@ def number(held, at, size=2):
     return int.from_bytes(held[at:at + size], 'big')
 
 
+def cooked(device, protocol):
+    """The EtherType of a Linux cooked capture: none of netlink, frame relay and radiotap (LINKTYPE_LINUX_SLL of tcpdump.org)."""
+    return 0 if device in (824, 770, 803) else protocol
+
+
 def link_headers(link, frame):
     """The headers of a frame: kinds, words before the bytes, and bytes."""
     if link == 1:
@@ -45,10 +50,10 @@ def link_headers(link, frame):
         ether_type, rest = number(frame, 12), frame[14:]
     elif link == 113:
         yield 'link.sll', '', frame
-        ether_type, rest = number(frame, 14), frame[16:]
+        ether_type, rest = cooked(number(frame, 2), number(frame, 14)), frame[16:]
     elif link == 276:
         yield 'link.sll2', '', frame
-        ether_type, rest = number(frame, 0), frame[20:]
+        ether_type, rest = cooked(number(frame, 8), number(frame, 0)), frame[20:]
     else:
         rest = frame[4:] if link in (0, 108) else frame
         ether_type = {4: 0x0800, 6: 0x86dd}.get(rest[0] >> 4 if rest else 0, 0)

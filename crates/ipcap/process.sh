@@ -714,10 +714,13 @@ link_types() {
     fronts 113 "$sent$tag\10\0"
     after 113 "$sent\10\0" "$sent\206\335" "$sent\10\6" 'type 0x0806'
     after 113 "$sent$tag\10\0" "$sent$tag\206\335" "$sent\0\4" 'type 0x0004'
+    address='\0\6\2\0\0\0\0\1\0\0'
+    after 113 "\0\0\3\12$address\10\0" "\0\0\3\12$address\206\335" "\0\0\3\70$address\10\0" 'ARPHRD 824'
     sent='\0\0\0\0\0\2\0\1\0\6\2\0\0\0\0\1\0\0'
     fronts 276 "\10\0$sent"
     after 276 "\10\0$sent" "\206\335$sent" "\10\6$sent" 'type 0x0806'
     after 276 "\201\0$sent\0\12\10\0" "\201\0$sent\0\12\206\335" "\0\4$sent" 'type 0x0004'
+    after 276 "\10\0$sent" "\206\335$sent" "\10\0\0\0\0\0\0\2\3\43$address" 'ARPHRD 803'
     framings
 }
 

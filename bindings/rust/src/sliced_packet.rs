@@ -29,7 +29,7 @@ pub struct SlicedPacket<'a> {
     /// The VLAN tags.
     pub vlan: Option<VlanSlice<'a>>,
     /// What follows the link header and the tags; `None` if no EtherType says so, as in a frame of
-    /// a loopback interface.
+    /// a loopback interface, or in a Linux cooked capture of netlink.
     pub ether_type: Option<EtherType>,
     /// All bytes after the link header and the tags: an IP packet and what comes after it, as
     /// Ethernet's padding, or another protocol.

@@ -211,6 +211,14 @@ static size_t make_tags(uint8_t *ether_type, uint8_t *at, uint16_t carried)
     return len;
 }
 
+/* An ARPHRD type: any, or one that says what the protocol type is: netlink, frame relay, radiotap, GRE. */
+static void make_device(uint8_t *arp_hrd_type)
+{
+    static const uint16_t devices[] = {824, 770, 803, 778};
+    if (below(2) == 0)
+        put(arp_hrd_type, 2, devices[below(4)]);
+}
+
 size_t make_frame(uint8_t *frame)
 {
     static const uint32_t families[] = {2, 24, 28, 30, 7};
@@ -230,9 +238,11 @@ size_t make_frame(uint8_t *frame)
         len = 14 + make_tags(frame + 12, frame + 14, carried);
         break;
     case 113:
+        make_device(frame + 2);
         len = 16 + make_tags(frame + 14, frame + 16, carried);
         break;
     case 276:
+        make_device(frame + 8);
         len = 20 + make_tags(frame, frame + 20, carried);
         break;
     default:

@@ -252,6 +252,13 @@ void reference_lax_from_ether_type(uint16_t ether_type, const uint8_t *at, size_
     read_after_link(at, len, 0, false, checksums, packet);
 }
 
+/* Whether the protocol type of a Linux cooked capture is an EtherType, by LINKTYPE_LINUX_SLL and LINKTYPE_LINUX_SLL2 of tcpdump.org: for
+   ARPHRD_NETLINK (824) it is a netlink protocol, for ARPHRD_FRAD (770) and ARPHRD_IEEE80211_RADIOTAP (803) it is ignored. */
+static bool is_ether_type(uint32_t arp_hrd_type)
+{
+    return arp_hrd_type != 824 && arp_hrd_type != 770 && arp_hrd_type != 803;
+}
+
 void reference_lax_from_link_type(uint32_t link_type, const uint8_t *at, size_t len, bool checksums,
     struct etherparse_packet *packet)
 {
@@ -289,6 +296,9 @@ void reference_lax_from_link_type(uint32_t link_type, const uint8_t *at, size_t 
         uint32_t low = bits_at(at, 24, 8) << 24 | bits_at(at, 16, 8) << 16 | bits_at(at, 8, 8) << 8 | bits_at(at, 0, 8);
         link->family = link_type == 0 && low < high ? low : high;
         carries_ip = link->family == 2 || link->family == 24 || link->family == 28 || link->family == 30;
+    } else if ((link->kind == ETHERPARSE_LINUX_SLL && !is_ether_type(bits_at(at, 16, 16)))
+        || (link->kind == ETHERPARSE_LINUX_SLL2 && !is_ether_type(bits_at(at, 64, 16)))) {
+        carries_ip = false;
     } else if (link->kind != ETHERPARSE_NO_LINK) {
         link->has_ether_type = true;
         link->ether_type = (uint16_t)bits_at(at, links[found].ether_type, 16);

@@ -461,7 +461,7 @@ struct etherparse_packet_link {
     struct etherparse_vlan_tag inner_vlan; /* if vlan_count is 2 */
     uint8_t kind; /* a link header above */
     uint8_t vlan_count; /* at most 2: a third tag is another protocol */
-    bool has_ether_type;
+    bool has_ether_type; /* not of LINUX_SLL and LINUX_SLL2 with the ARPHRD type 770, 803 or 824 */
 };
 
 /* The IP packet of a frame, if version is not 0. */

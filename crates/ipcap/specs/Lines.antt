@@ -26,8 +26,8 @@ use Rattle.ipcap.specs.declared.dates.DateTime.{DateTime}
 use Rattle.ipcap.specs.Shown.{has_no_length, hops_of, len_of}
 use Rattle.ipcap.specs.declared.reading.NoPacket.{NoPacket}
 use Rattle.ipcap.specs.declared.reading.NoPacket.TheVariants.{NoLinkHeader, OtherCarried}
-use Rattle.ipcap.specs.declared.reading.NoPacket.TheVariants.{OtherFamily, OtherLinkType}
-use Rattle.ipcap.specs.declared.reading.NoPacket.TheVariants.{OtherType}
+use Rattle.ipcap.specs.declared.reading.NoPacket.TheVariants.{OtherDevice, OtherFamily}
+use Rattle.ipcap.specs.declared.reading.NoPacket.TheVariants.{OtherLinkType, OtherType}
 use Rattle.ipcap.specs.declared.shown.Detail.{Detail}
 use Rattle.ipcap.specs.declared.shown.Detail.TheVariants.{Message, Nothing, Ports}
 use Rattle.ipcap.specs.declared.request.Mode.{Mode}
@@ -224,6 +224,7 @@ no_packet_text (NoLinkHeader len) =
     codes "truncated link header (" ++ (decimal len ++ codes " bytes)")
 no_packet_text (OtherType ether_type) = codes "type 0x" ++ hex_text ether_type
 no_packet_text (OtherFamily family) = codes "family " ++ decimal family
+no_packet_text (OtherDevice number) = codes "ARPHRD " ++ decimal number
 no_packet_text (OtherCarried carried) = carried_text carried
 no_packet_text (OtherLinkType number) =
     codes "link type " ++ (decimal number ++ name_text (link_type_name number))

@@ -2,8 +2,9 @@
 use Rattle.std.specs.Prelude.{ℕ, ◌≡◌, ◌||◌, ◌⊎◌, Bool, false, MatchBool, List, length, nat_lt}
 use Rattle.std.specs.Prelude.{MatchOption, Option, Some, None, option_map}
 use Rattle.std.specs.Option.{is_some}
-use Rattle.packet.specs.Link.{FramedParts, LacksLink, LinkParts, LoopbackParts, link_parts}
-use Rattle.packet.specs.Link.{link_type_of}
+use Rattle.etherparse_link.specs.Bytes.{number_at}
+use Rattle.packet.specs.Link.{FramedParts, LacksLink, LinkParts, LinuxSll2Parts, LinuxSllParts}
+use Rattle.packet.specs.Link.{LoopbackParts, link_parts, link_type_of}
 use Rattle.packet.specs.SlicedPacket.{HasLinkLayers, carries_ip}
 use Rattle.packet.specs.declared.link.LinkError.{LinkError}
 use Rattle.packet.specs.declared.link.LinkType.{LinkType}
@@ -14,8 +15,8 @@ use Rattle.packet_capture.specs.declared.any.PacketHead.{PacketHead}
 use Rattle.ipcap.specs.Shown.{IsRefused, IsShown, is_wrong, is_wrong_header}
 use Rattle.ipcap.specs.declared.reading.NoPacket.{NoPacket}
 use Rattle.ipcap.specs.declared.reading.NoPacket.TheVariants.{NoLinkHeader, OtherCarried}
-use Rattle.ipcap.specs.declared.reading.NoPacket.TheVariants.{OtherFamily, OtherLinkType}
-use Rattle.ipcap.specs.declared.reading.NoPacket.TheVariants.{OtherType}
+use Rattle.ipcap.specs.declared.reading.NoPacket.TheVariants.{OtherDevice, OtherFamily}
+use Rattle.ipcap.specs.declared.reading.NoPacket.TheVariants.{OtherLinkType, OtherType}
 use Rattle.ipcap.specs.declared.reading.Reading.{Reading}
 use Rattle.ipcap.specs.declared.reading.Reading.TheVariants.{Other, Packet, Refused}
 
@@ -25,11 +26,14 @@ ReadsPacket is_cut packet (Packet shown) = IsShown is_cut packet shown
 ReadsPacket is_cut packet (Refused e) = IsRefused is_cut packet e
 ReadsPacket is_cut packet reading = ⊥
 
--- what says that a frame carries another protocol: its EtherType, or else its family, or what its
--- framing tells; what has none of these counts as without a link header
+-- what says that a frame carries another protocol: its EtherType, or else its family, the ARPHRD
+-- type of its device (LINKTYPE_LINUX_SLL, LINKTYPE_LINUX_SLL2), or what its framing tells; what has
+-- none of these counts as without a link header
 abbrev pub other_of : Option ℕ → Option LinkParts → ℕ → NoPacket
 other_of (Some ether_type) link len = OtherType ether_type
 other_of None (Some (LoopbackParts family)) len = OtherFamily family
+other_of None (Some (LinuxSllParts bytes)) len = OtherDevice (number_at 2 bytes)
+other_of None (Some (LinuxSll2Parts bytes)) len = OtherDevice (number_at 8 bytes)
 other_of None (Some (FramedParts bytes carried)) len = OtherCarried carried
 other_of None link len = NoLinkHeader len
 

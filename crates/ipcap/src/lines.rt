@@ -221,6 +221,10 @@ impl fmt::Display for NoPacket {
                 let family = *family;
                 write!(f, "family {family}")
             }
+            NoPacket::OtherDevice(number) => {
+                let number = *number;
+                write!(f, "ARPHRD {number}")
+            }
             NoPacket::OtherCarried(carried) => write_carried(f, *carried),
             NoPacket::OtherLinkType(number) => {
                 let number = *number;

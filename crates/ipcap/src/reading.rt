@@ -23,6 +23,8 @@ pub enum NoPacket {
     OtherType(u16),
     /// It carries another protocol, of this family of a loopback interface.
     OtherFamily(u32),
+    /// It has no EtherType: it is a Linux cooked capture of a device of this ARPHRD type.
+    OtherDevice(u16),
     /// It carries what another framing tells, which is no IP packet.
     OtherCarried(Carried),
     /// Its link type is not read; the number of that.
@@ -91,6 +93,12 @@ pub fn read_frame(link_type: LinkType, is_cut: bool, frame: &[u8]) -> Reading
         (Some(ether_type), _) => Reading::Other(NoPacket::OtherType(ether_type.0)),
         (None, Some(LinkSlice::Loopback { family })) => {
             Reading::Other(NoPacket::OtherFamily(family))
+        }
+        (None, Some(LinkSlice::LinuxSll(header))) => {
+            Reading::Other(NoPacket::OtherDevice(header.arp_hardware_type()))
+        }
+        (None, Some(LinkSlice::LinuxSll2(header))) => {
+            Reading::Other(NoPacket::OtherDevice(header.arp_hardware_type()))
         }
         (None, Some(LinkSlice::Framed { carried, .. })) => {
             Reading::Other(NoPacket::OtherCarried(carried))

@@ -68,6 +68,16 @@ link_in LinuxSll2 frame bytes = Some (LinuxSll2Parts bytes)
 link_in (Framed framing) frame bytes =
     Some (FramedParts bytes (header_in framing frame).carried)
 
+-- The EtherType that the protocol type of a Linux cooked capture is, by the ARPHRD type of its
+-- device (LINKTYPE_LINUX_SLL and LINKTYPE_LINUX_SLL2 of tcpdump.org). For ARPHRD_NETLINK (824) the
+-- protocol type is a netlink protocol; for ARPHRD_FRAD (770) and ARPHRD_IEEE80211_RADIOTAP (803) it
+-- is ignored. For ARPHRD_IPGRE (778) it is a GRE protocol type, which is an EtherType (RFC 2784
+-- section 2.4). For any other it is an EtherType, or a number of Linux's own below 1536.
+abbrev pub cooked_ether_type : ℕ → ℕ → Option ℕ
+cooked_ether_type arp_hrd_type protocol_type =
+    if arp_hrd_type == 824 || arp_hrd_type == 770 || arp_hrd_type == 803 then None
+    else Some protocol_type
+
 -- the EtherType of what follows a header: Ethernet has it at the end, a Linux cooked capture too,
 -- and one of version 2 at the front; a loopback interface has a family in its place; another
 -- framing tells it in its own way, if at all
@@ -76,8 +86,8 @@ ether_type_in Null frame bytes = None
 ether_type_in Ethernet2 frame bytes = Some (number_at 12 bytes)
 ether_type_in Ip frame bytes = None
 ether_type_in Loop frame bytes = None
-ether_type_in LinuxSll frame bytes = Some (number_at 14 bytes)
-ether_type_in LinuxSll2 frame bytes = Some (number_at 0 bytes)
+ether_type_in LinuxSll frame bytes = cooked_ether_type (number_at 2 bytes) (number_at 14 bytes)
+ether_type_in LinuxSll2 frame bytes = cooked_ether_type (number_at 8 bytes) (number_at 0 bytes)
 ether_type_in (Framed framing) frame bytes = ether_type_of (header_in framing frame).carried
 
 -- the frame is this link header, and what follows it

@@ -2,12 +2,15 @@
 //! that tell what they carry in ways of their own.
 
 ghost use Rattle.std.specs.Prelude.{◌≡◌, ◌<◌, ◌++◌, IfErr, IfOk, Some, length};
-ghost use Rattle.packet.specs.Link.{BeginsWithLink, LacksLink, family_of, link_error_text};
+ghost use Rattle.packet.specs.Link.{BeginsWithLink, LacksLink, cooked_ether_type, family_of};
+ghost use Rattle.packet.specs.Link.{link_error_text};
 ghost use Rattle.packet.specs.declared.link.LinkType.TheVariants.{Framed};
 ghost use Rattle.packet_links.specs.Framing.{BeginsWith};
 ghost use Rattle.packet_links.specs.Header.{ether_type_of};
 
-use etherparse_link::{EtherType, Ethernet2HeaderSlice, LinuxSll2HeaderSlice, LinuxSllHeaderSlice};
+use etherparse_link::{
+    ArpHardwareId, EtherType, Ethernet2HeaderSlice, LinuxSll2HeaderSlice, LinuxSllHeaderSlice,
+};
 use packet_links::framing::Framing;
 use packet_links::header::{Carried, Header};
 use std::fmt;
@@ -151,14 +154,14 @@ pub(crate) fn link_header(link_type: LinkType, frame: &[u8]) -> Result<Found, Li
         LinkType::LinuxSll => {
             let (slice, rest) = front(16, frame)?;
             let header = LinuxSllHeaderSlice { slice };
-            let ether_type = header.protocol_type();
-            Ok((Some(LinkSlice::LinuxSll(header)), Some(ether_type), rest))
+            let ether_type = cooked_ether_type(header.arp_hardware_type(), header.protocol_type());
+            Ok((Some(LinkSlice::LinuxSll(header)), ether_type, rest))
         }
         LinkType::LinuxSll2 => {
             let (slice, rest) = front(20, frame)?;
             let header = LinuxSll2HeaderSlice { slice };
-            let ether_type = header.protocol_type();
-            Ok((Some(LinkSlice::LinuxSll2(header)), Some(ether_type), rest))
+            let ether_type = cooked_ether_type(header.arp_hardware_type(), header.protocol_type());
+            Ok((Some(LinkSlice::LinuxSll2(header)), ether_type, rest))
         }
         LinkType::Null | LinkType::Loop => {
             let (slice, rest) = front(4, frame)?;
@@ -204,6 +207,16 @@ fn framed_header(framing: Framing, frame: &[u8]) -> Result<Header, LinkError>
             required_len,
             len: frame.len(),
         }),
+    }
+}
+
+// The EtherType that the protocol type of a Linux cooked capture is, by the kind of the device.
+fn cooked_ether_type(arp_hrd_type: u16, protocol_type: EtherType) -> Option<EtherType>
+    ensures value { result ≡ cooked_ether_type arp_hrd_type protocol_type }
+{
+    match ArpHardwareId(arp_hrd_type) {
+        ArpHardwareId::NETLINK | ArpHardwareId::FRAD | ArpHardwareId::IEEE80211_RADIOTAP => None,
+        _ => Some(protocol_type),
     }
 }
 

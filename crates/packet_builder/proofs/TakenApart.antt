@@ -1,5 +1,5 @@
 -- A packet that was built is read in its layers: they are given, and reading has no other answer.
-use Rattle.std.proofs.Common.{ℕ, zero, suc, ◌≡◌, ◌≢◌, ◌+◌, ◌-◌, ◌<◌, ◌≤◌, ◌^◌, ◌⊎◌, ◌∙◌, ◌++◌, Err, IsFalse, IsTrue, List, [], ◌∷◌, None, Ok, Option, Result, Some, ap, append-nil, arith, drop, false, inl, inr, length, length-append, map, option_map, refl, slice_index, sym, take}
+use Rattle.std.proofs.Common.{ℕ, zero, suc, ◌≡◌, ◌≢◌, ◌==◌, ◌||◌, ◌+◌, ◌-◌, ◌<◌, ◌≤◌, ◌^◌, ◌⊎◌, ◌∙◌, ◌++◌, Bool, Err, IsFalse, IsTrue, List, [], ◌∷◌, None, Ok, Option, Result, Some, ap, append-nil, arith, drop, false, if◌then◌else◌, inl, inr, length, length-append, map, option_map, refl, slice_index, sym, take, true}
 use Rattle.std.specs.Prelude.{IsOkAnd, IsSomeAnd}
 use Rattle.std.proofs.lemmas.Grind.{common_steps}
 use Rattle.std.proofs.lemmas.List.{append_assoc, drop_at, take_all, take_at}
@@ -7,6 +7,7 @@ use Rattle.etherparse_transport.proofs.TcpLayout.{from_bool-lt}
 use Rattle.std.specs.Borrow.{Bor}
 use Rattle.std.specs.Int.{from_be_bytes, to_be_bytes, w16}
 use Rattle.std.specs.List.{concat, slice_range}
+use Rattle.std.specs.Option.{is_some}
 use Rattle.etherparse.proofs.Ipv6Layout.{word_of-layout}
 use Rattle.etherparse.proofs.Parts.{words_are_bytes, words_written}
 use Rattle.etherparse.specs.ExtensionHeaders.{IsSkippable}
@@ -22,6 +23,9 @@ use Rattle.etherparse_icmp.specs.Icmpv4.{icmpv4_code_number, icmpv4_len, icmpv4_
 use Rattle.etherparse_icmp.specs.Icmpv6.{IsIcmpv6Written, icmpv6_code_number, icmpv6_type_number}
 use Rattle.etherparse_icmp.specs.declared.icmpv4_type.Icmpv4Type.{Icmpv4Type}
 use Rattle.etherparse_icmp.specs.declared.icmpv6_type.Icmpv6Type.{Icmpv6Type}
+use Rattle.etherparse_link.specs.Bytes.{number_at}
+use Rattle.etherparse_link.specs.LinuxSllHeader.{IsLinuxSllLayout}
+use Rattle.etherparse_link.specs.declared.linux_sll_header.LinuxSllHeader.{LinuxSllHeader}
 use Rattle.etherparse_link.specs.declared.single_vlan_header_slice.SingleVlanHeaderSlice.{SingleVlanHeaderSlice}
 use Rattle.etherparse_transport.proofs.TcpReading.{layout_viewed}
 use Rattle.etherparse_transport.proofs.UdpLayout.{spelled, words_of-lt}
@@ -32,7 +36,7 @@ use Rattle.etherparse_transport.specs.UdpChecksum.{HasUdpBytesWith}
 use Rattle.etherparse_transport.specs.declared.tcp.TcpHeaderSlice.{TcpHeaderSlice}
 use Rattle.etherparse_transport.specs.declared.tcp_header.TcpHeader.{TcpHeader}
 use Rattle.etherparse_transport.specs.declared.udp.UdpHeader.{UdpHeader}
-use Rattle.packet.specs.Link.{BeginsWithLink, LinkParts, link_parts}
+use Rattle.packet.specs.Link.{BeginsWithLink, LinkParts, cooked_ether_type, link_parts}
 use Rattle.packet.specs.Network.{HasNetwork}
 use Rattle.packet.specs.SlicedPacket.{IsFrame, IsReadingOf, Layers, carries_ip, layers_of}
 use Rattle.packet.proofs.WholeHeaders.{icmp_header, icmpv4_found, icmpv6_found, tcp_found, udp_found}
@@ -42,13 +46,14 @@ use Rattle.packet.specs.declared.error.SliceError.{SliceError}
 use Rattle.packet.specs.declared.link.LinkSlice.{LinkSlice}
 use Rattle.packet.specs.declared.link.LinkSlice.TheVariants as slice
 use Rattle.packet.specs.declared.link.LinkType.{LinkType}
+use Rattle.packet.specs.declared.link.LinkType.TheVariants.{LinuxSll}
 use Rattle.packet.specs.declared.sliced_packet.SlicedPacket.{SlicedPacket}
 use Rattle.packet.specs.declared.transport.TransportSlice.{TransportSlice}
 use Rattle.packet.specs.declared.transport.TransportSlice.TheVariants as transport
 use Rattle.packet.specs.declared.vlan.VlanSlice.{VlanSlice}
 use Rattle.packet.specs.declared.vlan.VlanSlice.TheVariants.{DoubleVlan, SingleVlan}
 use Rattle.packet_builder.specs.BuiltPacket.{AreTags, HasHeaders, IsArpFrame, IsIcmpv4Packet, IsIcmpv6ChecksumOver, IsIcmpv6Packet, IsIp, IsIpBefore, IsIpv4, IsIpv4Before, IsIpv6, IsLink, IsTcpChecksumOver, IsTcpPacket, IsUdpChecksumOver, IsUdpPacket, ether_type_of, first_ether_type}
-use Rattle.packet_builder.specs.TakenApart.{IsBuiltOfArp, IsBuiltOfIcmpv4, IsBuiltOfIcmpv6, IsBuiltOfTcp, IsBuiltOfUdp, IsNoFragment, TagsAreLinked, ether_type_for, icmp_header_for, ip_header_for, layers_for, link_parts_for, link_type_for, tags_for}
+use Rattle.packet_builder.specs.TakenApart.{IsBuiltOfArp, IsBuiltOfIcmpv4, IsBuiltOfIcmpv6, IsBuiltOfTcp, IsBuiltOfUdp, IsNoFragment, TagsAreLinked, ether_type_for, icmp_header_for, ip_header_for, layers_after, layers_for, link_parts_for, link_type_for, tags_for, tells_ether_type}
 use Rattle.packet_builder.specs.declared.arp_step.ArpStep.{ArpStep}
 use Rattle.packet_builder.specs.declared.headers.Headers.{Headers}
 use Rattle.packet_builder.specs.declared.headers.IpHeader.{IpHeader}
@@ -83,13 +88,31 @@ abbrev after : Option LinkHeader → ℕ → Option ℕ
 after None next = None
 after (Some link) next = Some next
 
-begins_with_link : (given : Option LinkHeader) (next : ℕ) (bytes rest frame : List ℕ) (is : IsLink given next bytes) → frame ≡ bytes ++ rest
+-- a device has an EtherType in each of its headers, or in none
+told_by : (b : Bool) (t u : ℕ) → IsTrue (is_some (if b then None else Some t)) → (if b then None else Some u) ≡ Some u
+told_by false t u is = refl
+told_by true t u is = cc
+
+untold_by : (b : Bool) (t u : ℕ) → IsFalse (is_some (if b then None else Some t)) → (if b then None else Some u) ≡ None
+untold_by true t u is = refl
+untold_by false t u is = cc
+
+abbrev no_ether_type : ℕ → Bool
+no_ether_type arp_hrd_type = arp_hrd_type == 824 || arp_hrd_type == 770 || arp_hrd_type == 803
+
+-- that of a header with these fields
+cooked_is : (header : LinuxSllHeader) (next : ℕ) (bytes : List ℕ) → IsLinuxSllLayout (record header { protocol_type = next }) bytes
+    → cooked_ether_type (number_at 2 bytes) (number_at 14 bytes) ≡ cooked_ether_type header.arp_hrd_type next
+cooked_is header next bytes is = ap (λ a. cooked_ether_type a (number_at 14 bytes)) is.arp_hrd_type ∙ ap (cooked_ether_type header.arp_hrd_type) is.protocol_type
+
+begins_with_link : (given : Option LinkHeader) (next : ℕ) (bytes rest frame : List ℕ) (is : IsLink given next bytes) → frame ≡ bytes ++ rest → IsTrue (tells_ether_type given)
     → BeginsWithLink (link_type_for given) frame (link_of given next bytes is) (after given next) rest
-begins_with_link None next bytes rest frame is whole = record { front = []; whole = whole ∙ ap (λ b. b ++ rest) is; len = refl; header = refl; next = refl }
-begins_with_link (Some (link.Ethernet2 header)) next bytes rest frame is whole =
+begins_with_link None next bytes rest frame is whole told = record { front = []; whole = whole ∙ ap (λ b. b ++ rest) is; len = refl; header = refl; next = refl }
+begins_with_link (Some (link.Ethernet2 header)) next bytes rest frame is whole told =
     record { front = bytes; whole = whole; len = is.len; header = refl; next = ap Some (sym is.ether_type) }
-begins_with_link (Some (link.LinuxSll header)) next bytes rest frame is whole =
-    record { front = bytes; whole = whole; len = is.len; header = refl; next = ap Some (sym is.protocol_type) }
+begins_with_link (Some (link.LinuxSll header)) next bytes rest frame is whole told =
+    let some = told_by (no_ether_type header.arp_hrd_type) header.protocol_type next told in
+    record { front = bytes; whole = whole; len = is.len; header = refl; next = sym (cooked_is header next bytes is ∙ some) }
 
 -- ---- the tags
 
@@ -256,21 +279,21 @@ module _ (from made : IpHeader) (protocol : ℕ) (ip_bytes upper : List ℕ) (is
 
   frame_is : (given : Option LinkHeader) (tags : Option VlanHeader) (link_bytes tag_bytes frame : List ℕ) (is_link : IsLink given (first_ether_type tags (ether_type_of made)) link_bytes)
       (are : AreTags tags (ether_type_of made) tag_bytes) → frame ≡ link_bytes ++ (tag_bytes ++ (ip_bytes ++ upper)) → (given ≡ None → tags ≡ None)
-      → IsFrame (link_type_for given) frame (packet given tags link_bytes tag_bytes is_link are) None
-  frame_is None None link_bytes tag_bytes frame is_link are whole linked = record {
+      → IsTrue (tells_ether_type given) → IsFrame (link_type_for given) frame (packet given tags link_bytes tag_bytes is_link are) None
+  frame_is None None link_bytes tag_bytes frame is_link are whole linked told = record {
     ether_type = None;
     bytes = tag_bytes ++ (ip_bytes ++ upper);
-    begins = begins_with_link None (ether_type_of made) link_bytes (tag_bytes ++ (ip_bytes ++ upper)) frame is_link whole;
+    begins = begins_with_link None (ether_type_of made) link_bytes (tag_bytes ++ (ip_bytes ++ upper)) frame is_link whole told;
     layers = record {
       tags = record { tags = refl; whole = ap (λ b. b ++ (ip_bytes ++ upper)) are };
       ends = inr (inr (record { tags = inr refl; ip = refl; network = network (length frame - length (ip_bytes ++ upper)) }));
     };
   }
-  frame_is None (Some tag) link_bytes tag_bytes frame is_link are whole linked = let none = linked refl in cc
-  frame_is (Some given) tags link_bytes tag_bytes frame is_link are whole linked = record {
+  frame_is None (Some tag) link_bytes tag_bytes frame is_link are whole linked told = let none = linked refl in cc
+  frame_is (Some given) tags link_bytes tag_bytes frame is_link are whole linked told = record {
     ether_type = Some (first_ether_type tags (ether_type_of made));
     bytes = tag_bytes ++ (ip_bytes ++ upper);
-    begins = begins_with_link (Some given) (first_ether_type tags (ether_type_of made)) link_bytes (tag_bytes ++ (ip_bytes ++ upper)) frame is_link whole;
+    begins = begins_with_link (Some given) (first_ether_type tags (ether_type_of made)) link_bytes (tag_bytes ++ (ip_bytes ++ upper)) frame is_link whole told;
     layers = record {
       tags = has_tags tags (ether_type_of made) tag_bytes (ip_bytes ++ upper) (tag_bytes ++ (ip_bytes ++ upper)) are refl;
       ends = inr (inr (record {
@@ -348,7 +371,7 @@ same_layers payload protocol upper transport links tags types headers = rw (link
 
 -- a packet with these headers is read in its layers, and its checksum is right
 module _ (headers : Headers) (protocol : ℕ) (upper frame : List ℕ) (built : HasHeaders headers protocol upper frame) (alone : IsNoFragment headers.ip) (linked : TagsAreLinked headers)
-    (other : ¬ IsSkippable protocol) (found : TransportSlice)
+    (told : IsTrue (tells_ether_type headers.link)) (other : ¬ IsSkippable protocol) (found : TransportSlice)
     (reads : (place : ℕ) → ReadsTransport place (net_of built.ip protocol built.begins.ip upper built.begins.is_ip) (Some found) None)
     (right : IsVerdictOver (header_of built.ip built.begins.ip built.begins.is_ip) protocol upper Right) where
   abbrev p : SlicedPacket
@@ -364,7 +387,7 @@ module _ (headers : Headers) (protocol : ℕ) (upper frame : List ℕ) (built : 
 
   frame_of_p : IsFrame (link_type_for headers.link) frame p None
   frame_of_p = frame_is headers.ip built.ip protocol built.begins.ip upper built.begins.is_ip built.is_ip alone other found reads headers.link headers.vlan built.begins.link
-      built.begins.tags frame built.begins.is_link built.begins.are_tags built.begins.whole linked
+      built.begins.tags frame built.begins.is_link built.begins.are_tags built.begins.whole linked told
 
   pub is_read_in_layers : (r : Result SlicedPacket SliceError) → IsReadingOf (link_type_for headers.link) frame r
       → IsOkAnd r (λ packet. (layers_of packet ≡ layers_for headers protocol upper frame built (transport_parts found)) × IsSomeAnd packet.net (λ slice. IsVerdict slice Right))
@@ -478,16 +501,16 @@ okay (Ok x) p on = on x p
 okay (Err e) p on = p
 
 pub udp_read : (headers : Headers) (source_port destination_port : ℕ) (payload frame : List ℕ) → IsUdpPacket headers source_port destination_port payload frame
-    → IsNoFragment headers.ip → TagsAreLinked headers → (r : Result SlicedPacket SliceError) → IsReadingOf (link_type_for headers.link) frame r
+    → IsNoFragment headers.ip → TagsAreLinked headers → IsTrue (tells_ether_type headers.link) → (r : Result SlicedPacket SliceError) → IsReadingOf (link_type_for headers.link) frame r
     → IsOkAnd r (IsBuiltOfUdp headers source_port destination_port payload frame)
-udp_read headers source_port destination_port payload frame built alone linked r reading =
+udp_read headers source_port destination_port payload frame built alone linked told r reading =
     let has = built.has_headers in
     let counts = ap (λ h. h.length) built.is_udp.fields in
     let whole = len built.udp built.bytes payload built.layout counts in
     let right = found_right headers.ip has.ip 17 has.begins.ip (built.bytes ++ payload) has.begins.is_ip has.is_ip (covers_udp built.udp built.bytes payload built.layout counts (icmp_over headers.ip))
     (udp_there headers.ip built.udp built.bytes payload built.layout counts built.is_udp.checksum)
     (udp_sums headers.ip built.udp built.bytes payload built.layout whole built.is_udp.checksum) in
-    okay r (is_read_in_layers headers 17 (built.bytes ++ payload) frame has alone linked (no_extension 17 (inl refl)) (transport.Udp built.udp (shared payload))
+    okay r (is_read_in_layers headers 17 (built.bytes ++ payload) frame has alone linked told (no_extension 17 (inl refl)) (transport.Udp built.udp (shared payload))
     (λ place. udp_found place (net_of has.ip 17 has.begins.ip (built.bytes ++ payload) has.begins.is_ip) built.udp built.bytes (shared payload) refl refl refl refl built.layout) right r reading)
     (λ packet both. record { built = built; layers = both.0; right = both.1 })
 
@@ -510,15 +533,15 @@ tcp_sums (ip.Ipv4 given) tcp bytes payload l len is = rw len (is.right bytes l)
 tcp_sums (ip.Ipv6 given) tcp bytes payload l len is = rw len (is.right bytes l)
 
 pub tcp_read : (headers : Headers) (header : TcpHeader) (payload frame : List ℕ) → IsTcpPacket headers header payload frame → IsNoFragment headers.ip → TagsAreLinked headers
-    → (r : Result SlicedPacket SliceError) → IsReadingOf (link_type_for headers.link) frame r → IsOkAnd r (IsBuiltOfTcp headers header payload frame)
-tcp_read headers header payload frame built alone linked r reading =
+    → IsTrue (tells_ether_type headers.link) → (r : Result SlicedPacket SliceError) → IsReadingOf (link_type_for headers.link) frame r → IsOkAnd r (IsBuiltOfTcp headers header payload frame)
+tcp_read headers header payload frame built alone linked told r reading =
     let has = built.has_headers in
     let bytes = built.bytes in
     let whole : length (bytes ++ payload) ≡ tcp_header_len built.tcp + length payload = omega (arith, length-append bytes payload, built.layout.len) in
     let enough : 20 ≤ length (bytes ++ payload) = omega (arith, whole) in
     let right = found_right headers.ip has.ip 6 has.begins.ip (bytes ++ payload) has.begins.is_ip has.is_ip (inr (inl (refl, enough, refl))) (λ none. omega (arith, none.0))
     (tcp_sums headers.ip built.tcp bytes payload built.layout whole built.is_tcp.checksum) in
-    okay r (is_read_in_layers headers 6 (bytes ++ payload) frame has alone linked (no_extension 6 (inr (inl refl))) (transport.Tcp (tcp_view built.tcp bytes built.layout) (shared payload))
+    okay r (is_read_in_layers headers 6 (bytes ++ payload) frame has alone linked told (no_extension 6 (inr (inl refl))) (transport.Tcp (tcp_view built.tcp bytes built.layout) (shared payload))
     (λ place. tcp_found place (net_of has.ip 6 has.begins.ip (bytes ++ payload) has.begins.is_ip) (tcp_view built.tcp bytes built.layout) (shared payload) refl refl refl refl
     (layout_viewed built.tcp 0 bytes payload built.layout)) right r reading)
     (λ packet both. record { built = built; layers = both.0; right = both.1 })
@@ -564,8 +587,8 @@ icmpv4_covers (ip.Ipv4 given) upper over enough = inr (inr (refl, enough, refl))
 icmpv4_covers (ip.Ipv6 given) upper over enough = elim over [ ]
 
 pub icmpv4_read : (headers : Headers) (icmp_type : Icmpv4Type) (payload frame : List ℕ) → IsIcmpv4Packet headers icmp_type payload frame → IsIpv4 headers.ip → IsNoFragment headers.ip
-    → TagsAreLinked headers → (r : Result SlicedPacket SliceError) → IsReadingOf (link_type_for headers.link) frame r → IsOkAnd r (IsBuiltOfIcmpv4 headers icmp_type payload frame)
-icmpv4_read headers icmp_type payload frame built over alone linked r reading =
+    → TagsAreLinked headers → IsTrue (tells_ether_type headers.link) → (r : Result SlicedPacket SliceError) → IsReadingOf (link_type_for headers.link) frame r → IsOkAnd r (IsBuiltOfIcmpv4 headers icmp_type payload frame)
+icmpv4_read headers icmp_type payload frame built over alone linked told r reading =
     let has = built.has_headers in
     let bytes = built.bytes in
     let layout = built.written.layout in
@@ -579,7 +602,7 @@ icmpv4_read headers icmp_type payload frame built over alone linked r reading =
     let parts : Icmpv4Parts (icmp_header (bytes ++ payload)) (drop 4 (bytes ++ payload))
     ≡ Icmpv4Parts (icmp_header_for (icmpv4_type_number icmp_type) (icmpv4_code_number icmp_type) built.checksum) (drop 4 bytes ++ payload) =
     rw (header, after_icmp_header bytes payload long) refl in
-    okay r (is_read_in_layers headers 1 (bytes ++ payload) frame has alone linked (no_extension 1 (inr (inr (inl refl)))) (transport.Icmpv4 (icmp_header (bytes ++ payload)) (shared (drop 4 (bytes ++ payload))))
+    okay r (is_read_in_layers headers 1 (bytes ++ payload) frame has alone linked told (no_extension 1 (inr (inr (inl refl)))) (transport.Icmpv4 (icmp_header (bytes ++ payload)) (shared (drop 4 (bytes ++ payload))))
     (λ place. icmpv4_found place (net_of has.ip 1 has.begins.ip (bytes ++ payload) has.begins.is_ip) view.0 (shared (drop 4 (bytes ++ payload))) refl refl refl view.1 enough refl) right r reading)
     (λ packet both. record { built = built; layers = both.0 ∙ ap (layers_for headers 1 (bytes ++ payload) frame has) parts; right = both.1 })
 
@@ -603,8 +626,8 @@ icmpv6_covers (ip.Ipv6 given) upper over enough = inr (inr (refl, enough, refl))
 icmpv6_covers (ip.Ipv4 given) upper over enough = elim over [ ]
 
 pub icmpv6_read : (headers : Headers) (icmp_type : Icmpv6Type) (payload frame : List ℕ) → IsIcmpv6Packet headers icmp_type payload frame → TagsAreLinked headers
-    → (r : Result SlicedPacket SliceError) → IsReadingOf (link_type_for headers.link) frame r → IsOkAnd r (IsBuiltOfIcmpv6 headers icmp_type payload frame)
-icmpv6_read headers icmp_type payload frame built linked r reading =
+    → IsTrue (tells_ether_type headers.link) → (r : Result SlicedPacket SliceError) → IsReadingOf (link_type_for headers.link) frame r → IsOkAnd r (IsBuiltOfIcmpv6 headers icmp_type payload frame)
+icmpv6_read headers icmp_type payload frame built linked told r reading =
     let has = built.has_headers in
     let bytes = built.bytes in
     let layout = built.written.layout in
@@ -619,15 +642,15 @@ icmpv6_read headers icmp_type payload frame built linked r reading =
     let parts : Icmpv6Parts (icmp_header (bytes ++ payload)) (drop 4 (bytes ++ payload))
     ≡ Icmpv6Parts (icmp_header_for (icmpv6_type_number icmp_type) (icmpv6_code_number icmp_type) built.checksum) (drop 4 bytes ++ payload) =
     rw (header, after_icmp_header bytes payload long) refl in
-    okay r (is_read_in_layers headers 58 (bytes ++ payload) frame has (no_fragment_6 headers.ip over) linked (no_extension 58 (inr (inr (inr refl)))) (transport.Icmpv6 (icmp_header (bytes ++ payload)) (shared (drop 4 (bytes ++ payload))))
+    okay r (is_read_in_layers headers 58 (bytes ++ payload) frame has (no_fragment_6 headers.ip over) linked told (no_extension 58 (inr (inr (inr refl)))) (transport.Icmpv6 (icmp_header (bytes ++ payload)) (shared (drop 4 (bytes ++ payload))))
     (λ place. icmpv6_found place (net_of has.ip 58 has.begins.ip (bytes ++ payload) has.begins.is_ip) view.0 (shared (drop 4 (bytes ++ payload))) refl refl refl view.1 enough refl) right r reading)
     (λ packet both. record { built = built; layers = both.0 ∙ ap (layers_for headers 58 (bytes ++ payload) frame has) parts; right = both.1 })
 
 -- ---- ARP
 
-pub arp_read : (step : ArpStep) (frame : List ℕ) → IsArpFrame step frame → (r : Result SlicedPacket SliceError) → IsReadingOf (link_type_for (Some step.link)) frame r
-    → IsOkAnd r (IsBuiltOfArp step frame)
-arp_read step frame built r reading =
+pub arp_read : (step : ArpStep) (frame : List ℕ) → IsArpFrame step frame → IsTrue (tells_ether_type (Some step.link)) → (r : Result SlicedPacket SliceError)
+    → IsReadingOf (link_type_for (Some step.link)) frame r → IsOkAnd r (IsBuiltOfArp step frame)
+arp_read step frame built told r reading =
     let before = built.are_before in
     let next = first_ether_type step.vlan 0x0806 in
     let p : SlicedPacket = record {
@@ -642,7 +665,7 @@ arp_read step frame built r reading =
     let is : IsFrame (link_type_for (Some step.link)) frame p None = record {
       ether_type = Some next;
       bytes = before.tags ++ built.arp;
-      begins = begins_with_link (Some step.link) next before.first (before.tags ++ built.arp) frame before.is_link whole;
+      begins = begins_with_link (Some step.link) next before.first (before.tags ++ built.arp) frame before.is_link whole told;
       layers = record {
         tags = has_tags step.vlan 0x0806 before.tags built.arp (before.tags ++ built.arp) before.are_tags refl;
         ends = inr (inl (record { tags = inr refl; other = refl; goes_on = refl; net = refl; transport = refl }));
@@ -651,3 +674,30 @@ arp_read step frame built r reading =
     let links = link_is (Some step.link) next before.first before.is_link in
     let tags = tags_are step.vlan 0x0806 before.tags before.are_tags in
     okay r (is_built (link_type_for (Some step.link)) frame p r reading is) (λ packet same. record { built = built; layers = same ∙ rw (links, tags) refl })
+
+-- ---- another device
+
+pub other_device_read : (given : LinkHeader) (next : ℕ) (bytes rest : List ℕ) → IsLink (Some given) next bytes → IsFalse (tells_ether_type (Some given))
+    → (r : Result SlicedPacket SliceError) → IsReadingOf (link_type_for (Some given)) (bytes ++ rest) r
+    → IsOkAnd r (λ packet. layers_of packet ≡ layers_after (link_parts_for (Some given) bytes) rest)
+other_device_read (link.Ethernet2 header) next bytes rest is untold r reading = cc
+other_device_read (link.LinuxSll header) next bytes rest is untold r reading =
+    let none = untold_by (no_ether_type header.arp_hrd_type) header.protocol_type next untold in
+    let p : SlicedPacket = record {
+      link = link_of (Some (link.LinuxSll header)) next bytes is;
+      vlan = None;
+      ether_type = None;
+      payload = shared rest;
+      net = None;
+      transport = None;
+    } in
+    let is_frame : IsFrame LinuxSll (bytes ++ rest) p None = record {
+      ether_type = None;
+      bytes = rest;
+      begins = record { front = bytes; whole = refl; len = is.len; header = refl; next = sym (cooked_is header next bytes is ∙ none) };
+      layers = record {
+        tags = record { tags = refl; whole = refl };
+        ends = inr (inl (record { tags = inr refl; other = refl; goes_on = refl; net = refl; transport = refl }));
+      };
+    } in
+    is_built LinuxSll (bytes ++ rest) p r reading is_frame

@@ -1,11 +1,12 @@
 -- A packet that was built, taken apart.
-use Rattle.std.specs.Prelude.{ℕ, ◌≡◌, List, [], ◌∷◌, ◌++◌, drop, false, take}
+use Rattle.std.specs.Prelude.{ℕ, ◌≡◌, Bool, List, [], ◌∷◌, ◌++◌, drop, false, take, true}
 use Rattle.std.specs.Prelude.{IsSomeAnd, Option, None, Some}
+use Rattle.std.specs.Option.{is_some}
 use Rattle.etherparse_icmp.specs.Icmpv4.{icmpv4_code_number, icmpv4_type_number}
 use Rattle.etherparse_icmp.specs.Icmpv6.{icmpv6_code_number, icmpv6_type_number}
 use Rattle.etherparse_icmp.specs.declared.icmpv4_type.Icmpv4Type.{Icmpv4Type}
 use Rattle.etherparse_icmp.specs.declared.icmpv6_type.Icmpv6Type.{Icmpv6Type}
-use Rattle.packet.specs.Link.{LinkParts, Ethernet2Parts, LinuxSllParts}
+use Rattle.packet.specs.Link.{LinkParts, Ethernet2Parts, LinuxSllParts, cooked_ether_type}
 use Rattle.packet.specs.SlicedPacket.{Layers, layers_of}
 use Rattle.packet.specs.Transport.{TransportParts, Icmpv4Parts, Icmpv6Parts}
 use Rattle.packet.specs.Transport.{TcpParts, UdpParts}
@@ -65,6 +66,24 @@ IsNoFragment (ip.Ipv6 header) = Unit {0}
 -- tags stand after a link header
 abbrev pub TagsAreLinked : Headers → Type 0
 TagsAreLinked headers = headers.link ≡ None → headers.vlan ≡ None
+
+-- A link header has an EtherType, except that of a Linux cooked capture of a device whose protocol
+-- type is none, such as netlink.
+abbrev pub tells_ether_type : Option LinkHeader → Bool
+tells_ether_type (Some (link.LinuxSll header)) =
+    is_some (cooked_ether_type header.arp_hrd_type header.protocol_type)
+tells_ether_type link = true
+
+-- the layers of a frame of which only the link header is read, and these bytes after it are not
+abbrev pub layers_after : Option LinkParts → List ℕ → Layers
+layers_after link payload = record {
+  link = link;
+  tags = [];
+  ether_type = None;
+  payload = payload;
+  net = None;
+  transport = None;
+}
 
 -- the layers of a packet with these headers, whose bytes these are, and this transport header
 abbrev pub layers_for : (headers : Headers) → (protocol : ℕ) → (upper frame : List ℕ)

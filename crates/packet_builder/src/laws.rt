@@ -2,21 +2,23 @@
 //! was built of. And what the derived `clone` says, as the clause of one small function for each
 //! type. Nothing calls them: they are there to be proved.
 
-ghost use Rattle.std.specs.Prelude.{ℕ, ◌≡◌, IsOkAnd, List, Ok, Result, Some};
+ghost use Rattle.std.specs.Prelude.{ℕ, ◌≡◌, ◌++◌, IsFalse, IsOkAnd, IsTrue, List, Ok, Result, Some};
 ghost use Rattle.etherparse_icmp.specs.declared.icmpv4_type.Icmpv4Type.{Icmpv4Type as Icmpv4};
 ghost use Rattle.etherparse_icmp.specs.declared.icmpv6_type.Icmpv6Type.{Icmpv6Type as Icmpv6};
 ghost use Rattle.etherparse_transport.specs.declared.tcp_header.TcpHeader.{TcpHeader as Tcp};
-ghost use Rattle.packet.specs.SlicedPacket.{IsReadingOf};
+ghost use Rattle.packet.specs.SlicedPacket.{IsReadingOf, layers_of};
 ghost use Rattle.packet.specs.declared.error.SliceError.{SliceError as Refused};
 ghost use Rattle.packet.specs.declared.sliced_packet.SlicedPacket.{SlicedPacket as Packet};
 ghost use Rattle.packet_builder.specs.BuiltPacket.{IsArpFrame, IsIcmpv4Packet, IsIcmpv6Packet};
-ghost use Rattle.packet_builder.specs.BuiltPacket.{IsIpv4, IsTcpPacket, IsUdpPacket};
+ghost use Rattle.packet_builder.specs.BuiltPacket.{IsIpv4, IsLink, IsTcpPacket, IsUdpPacket};
 ghost use Rattle.packet_builder.specs.TakenApart.{IsBuiltOfArp, IsBuiltOfIcmpv4};
 ghost use Rattle.packet_builder.specs.TakenApart.{IsBuiltOfIcmpv6, IsBuiltOfTcp, IsBuiltOfUdp};
-ghost use Rattle.packet_builder.specs.TakenApart.{IsNoFragment};
-ghost use Rattle.packet_builder.specs.TakenApart.{TagsAreLinked, link_type_for};
+ghost use Rattle.packet_builder.specs.TakenApart.{IsNoFragment, TagsAreLinked, layers_after};
+ghost use Rattle.packet_builder.specs.TakenApart.{link_parts_for, link_type_for};
+ghost use Rattle.packet_builder.specs.TakenApart.{tells_ether_type};
 ghost use Rattle.packet_builder.specs.declared.arp_step.ArpStep.{ArpStep as Arp};
 ghost use Rattle.packet_builder.specs.declared.headers.Headers.{Headers as Before};
+ghost use Rattle.packet_builder.specs.declared.headers.LinkHeader.{LinkHeader as Link};
 
 use crate::{
     ArpStep, BuildSliceWriteError, Headers, Icmpv4Step, Icmpv6Step, IpHeader, IpStep, LinkHeader,
@@ -25,33 +27,43 @@ use crate::{
 use std::alloc::AllocError;
 
 /// A packet that was built, and is no fragment, is read by `SlicedPacket::from_link_type` in its
-/// layers, each with the bytes that it was built of; and its checksum is right.
+/// layers, each with the bytes that it was built of; and its checksum is right. Of a Linux cooked
+/// capture of a device whose protocol type is no EtherType, only the link header is read.
 pub fn built_packet_law()
     ensures udp { (headers : Before) → (source_port destination_port : ℕ) →
         (payload frame : List ℕ) →
         IsUdpPacket headers source_port destination_port payload frame →
-        IsNoFragment headers.ip → TagsAreLinked headers → (answer : Result Packet Refused) →
+        IsNoFragment headers.ip → TagsAreLinked headers →
+        IsTrue (tells_ether_type headers.link) → (answer : Result Packet Refused) →
         IsReadingOf (link_type_for headers.link) frame answer →
         IsOkAnd answer (IsBuiltOfUdp headers source_port destination_port payload frame) }
     ensures tcp { (headers : Before) → (header : Tcp) → (payload frame : List ℕ) →
         IsTcpPacket headers header payload frame → IsNoFragment headers.ip →
-        TagsAreLinked headers → (answer : Result Packet Refused) →
+        TagsAreLinked headers → IsTrue (tells_ether_type headers.link) →
+        (answer : Result Packet Refused) →
         IsReadingOf (link_type_for headers.link) frame answer →
         IsOkAnd answer (IsBuiltOfTcp headers header payload frame) }
     ensures icmpv4 { (headers : Before) → (icmp_type : Icmpv4) → (payload frame : List ℕ) →
         IsIcmpv4Packet headers icmp_type payload frame → IsIpv4 headers.ip →
-        IsNoFragment headers.ip → TagsAreLinked headers → (answer : Result Packet Refused) →
+        IsNoFragment headers.ip → TagsAreLinked headers →
+        IsTrue (tells_ether_type headers.link) → (answer : Result Packet Refused) →
         IsReadingOf (link_type_for headers.link) frame answer →
         IsOkAnd answer (IsBuiltOfIcmpv4 headers icmp_type payload frame) }
     ensures icmpv6 { (headers : Before) → (icmp_type : Icmpv6) → (payload frame : List ℕ) →
         IsIcmpv6Packet headers icmp_type payload frame → TagsAreLinked headers →
-        (answer : Result Packet Refused) →
+        IsTrue (tells_ether_type headers.link) → (answer : Result Packet Refused) →
         IsReadingOf (link_type_for headers.link) frame answer →
         IsOkAnd answer (IsBuiltOfIcmpv6 headers icmp_type payload frame) }
     ensures arp { (step : Arp) → (frame : List ℕ) → IsArpFrame step frame →
-        (answer : Result Packet Refused) →
+        IsTrue (tells_ether_type (Some step.link)) → (answer : Result Packet Refused) →
         IsReadingOf (link_type_for (Some step.link)) frame answer →
         IsOkAnd answer (IsBuiltOfArp step frame) }
+    ensures other_device { (link : Link) → (ether_type : ℕ) → (front rest : List ℕ) →
+        IsLink (Some link) ether_type front → IsFalse (tells_ether_type (Some link)) →
+        (answer : Result Packet Refused) →
+        IsReadingOf (link_type_for (Some link)) (front ++ rest) answer →
+        IsOkAnd answer (λ packet.
+            layers_of packet ≡ layers_after (link_parts_for (Some link) front) rest) }
 {}
 
 // A clone is equal, and cloning never fails.

@@ -244,6 +244,37 @@ fn families_of_ip_and_byte_orders(rt: HostRuntime) -> Result<(), Fail> {
 }
 
 #[test]
+fn protocol_types_of_cooked_captures(rt: HostRuntime) -> Result<(), Fail> {
+    // The protocol type is 0800 before an IPv4 packet.
+    let mut frame = [0; 46];
+    [frame[2], frame[14]] = [3, 8];
+    frame[16..].copy_from_slice(&DATAGRAM);
+    let mut frame_2 = [0; 50];
+    [frame_2[0], frame_2[8]] = [8, 3];
+    frame_2[20..].copy_from_slice(&DATAGRAM);
+    // ARPHRD_IPGRE is 778, of which the low byte is 10; ARPHRD_NETLINK 824, ARPHRD_FRAD 770 and
+    // ARPHRD_IEEE80211_RADIOTAP 803.
+    for (low, ether_type) in [
+        (10, Some(EtherType::IPV4)),
+        (56, None),
+        (2, None),
+        (35, None),
+    ] {
+        frame[3] = low;
+        let packet = SlicedPacket::from_linux_sll(&frame)?;
+        assert!(rt; packet.ether_type == ether_type);
+        assert!(rt; packet.net.is_some() == ether_type.is_some());
+        assert!(rt; packet.payload == DATAGRAM.as_slice());
+        frame_2[9] = low;
+        let packet = SlicedPacket::from_linux_sll2(&frame_2)?;
+        assert!(rt; packet.ether_type == ether_type);
+        assert!(rt; packet.net.is_some() == ether_type.is_some());
+        assert!(rt; packet.payload == DATAGRAM.as_slice());
+    }
+    Ok(())
+}
+
+#[test]
 fn errors_have_texts(rt: HostRuntime) -> Result<(), Fail> {
     let Err(e) = SlicedPacket::from_ethernet(&[0; 13]) else {
         return Err(Fail::from("no error"));

@@ -11,7 +11,8 @@ pub struct LinuxSll2Slice<'a> {
 layer!(LinuxSll2Slice, 20, protocol_type);
 
 impl<'a> LinuxSll2Slice<'a> {
-    /// What follows the header: bytes 0 and 1.
+    /// What follows the header: bytes 0 and 1. It is no EtherType if [`Self::arp_hardware_type`] is 824
+    /// (netlink), 770 (frame relay) or 803 (radiotap).
     pub fn protocol_type(&self) -> EtherType {
         EtherType(u16_at(self.slice, 0))
     }

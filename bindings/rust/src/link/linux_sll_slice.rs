@@ -32,7 +32,8 @@ impl<'a> LinuxSllSlice<'a> {
         &self.slice[6..][..len.min(8)]
     }
 
-    /// What follows the header: bytes 14 and 15.
+    /// What follows the header: bytes 14 and 15. It is no EtherType if [`Self::arp_hardware_type`] is 824
+    /// (netlink), 770 (frame relay) or 803 (radiotap).
     pub fn protocol_type(&self) -> EtherType {
         EtherType(u16_at(self.slice, 14))
     }
