@@ -28,9 +28,11 @@ pub enum LinkType {
     Ip,
     /// LINKTYPE_LOOP (108): four bytes with the family, in network byte order.
     Loop,
-    /// LINKTYPE_LINUX_SLL (113): the 16 bytes of a Linux cooked capture.
+    /// LINKTYPE_LINUX_SLL (113): the 16 bytes of a Linux cooked capture, of any kind of device. For
+    /// ARPHRD_FRAD (770), ARPHRD_IEEE80211_RADIOTAP (803) and ARPHRD_NETLINK (824) the protocol type
+    /// is no EtherType, and nothing after the header is read.
     LinuxSll,
-    /// LINKTYPE_LINUX_SLL2 (276): the 20 bytes of a Linux cooked capture of version 2.
+    /// LINKTYPE_LINUX_SLL2 (276): the 20 bytes of a Linux cooked capture of version 2, likewise.
     LinuxSll2,
     /// PPP, Cisco's HDLC, frame relay, SLIP or IEEE 802.11, by the numbers that are named there.
     Framed(Framing),

@@ -19,7 +19,8 @@ pub struct SlicedPacket<'a> {
     /// The VLAN tags, of which at most two are read: a third is another protocol.
     pub vlan: Option<VlanSlice<'a>>,
     /// What follows the link header and the tags: the EtherType in the last of them. `None` if it
-    /// was a loopback header, or if the bytes that were read began with an IP packet.
+    /// has none, as a loopback header or a Linux cooked capture of netlink, or if the bytes that were
+    /// read began with an IP packet.
     pub ether_type: Option<EtherType>,
     /// All bytes after the link header and the tags: an IP packet and what comes after it, as
     /// Ethernet's padding, or another protocol.
