@@ -63,7 +63,7 @@ pub fn built_packet_law()
         (answer : Result Packet Refused) →
         IsReadingOf (link_type_for (Some link)) (front ++ rest) answer →
         IsOkAnd answer (λ packet.
-            layers_of packet ≡ layers_after (link_parts_for (Some link) front) rest) }
+        layers_of packet ≡ layers_after (link_parts_for (Some link) front) rest) }
 {}
 
 // A clone is equal, and cloning never fails.
