@@ -1,3 +1,4 @@
+mod Equality
 pub mod Frames
 pub mod Places
 mod Transports
