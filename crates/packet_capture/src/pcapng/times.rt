@@ -2,6 +2,7 @@
 
 ghost use Rattle.std.specs.Prelude.{◌≡◌, ◌*◌, ◌/◌, ◌%◌, ◌<◌, ◌^◌};
 ghost use Rattle.packet_capture.specs.declared.pcapng.times.Resolution.TheVariants.{PowerOfTen};
+ghost use Rattle.packet_capture.specs.declared.pcapng.times.TheConstants.Resolution.{MICROSECONDS};
 ghost use Rattle.packet_capture.specs.Pcapng.Times.{nanoseconds, resolution_of, seconds, units};
 
 /// The unit of the timestamps of an interface, a fraction of a second.
@@ -128,7 +129,7 @@ fn split_by_two(power: u8, timestamp: u64) -> (u64, u32)
 
 /// Microseconds.
 impl Default for Resolution {
-    ghost is_default = { λ resolution. resolution ≡ PowerOfTen 6 };
+    ghost is_default = { λ resolution. (resolution ≡ PowerOfTen 6) × (resolution ≡ MICROSECONDS) };
 
     fn default() -> Resolution {
         Resolution::MICROSECONDS
