@@ -261,11 +261,12 @@ FitsInto headers len room =
 -- why a packet with this many bytes after its IP header is not written in this room: the IP header
 -- cannot count them; or else the packet has more bytes than the room
 abbrev pub RefusesToWrite : Headers → ℕ → ℕ → error.BuildSliceWriteError → Type 0
-RefusesToWrite headers len room (why.PayloadLen e) = (max_len_after headers.ip < len) × (e ≡ record {
-  actual = len;
-  max_allowed = max_len_after headers.ip;
-  value_type = len_type headers.ip;
-})
+RefusesToWrite headers len room (why.PayloadLen e) = (max_len_after headers.ip < len)
+    × (e ≡ record {
+      actual = len;
+      max_allowed = max_len_after headers.ip;
+      value_type = len_type headers.ip;
+    })
 RefusesToWrite headers len room (why.Space required_len) = (len ≤ max_len_after headers.ip)
     × (room < required_len) × (required_len ≡ headers_len headers + len)
 RefusesToWrite headers len room why.Icmpv6InIpv4 = ⊥

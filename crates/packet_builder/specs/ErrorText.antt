@@ -9,5 +9,6 @@ use Rattle.packet_builder.specs.declared.build_slice_write_error.BuildSliceWrite
 abbrev pub write_error_text : error.BuildSliceWriteError → List ℕ
 write_error_text (why.PayloadLen e) = value_too_big_error_text e
 write_error_text why.Icmpv6InIpv4 = codes "A message of ICMPv6 cannot follow an IPv4 header."
-write_error_text (why.Space required_len) = codes "Not enough space to write packet to slice. Needed "
+write_error_text (why.Space required_len) =
+    codes "Not enough space to write packet to slice. Needed "
     ++ (decimal required_len ++ codes " byte(s).")

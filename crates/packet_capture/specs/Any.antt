@@ -14,7 +14,8 @@ use Rattle.packet_capture.specs.declared.any.Capture.{Capture}
 use Rattle.packet_capture.specs.declared.any.Capture.TheVariants.{Pcap, Pcapng}
 use Rattle.packet_capture.specs.declared.any.PacketHead.{PacketHead}
 use Rattle.packet_capture.specs.declared.any.Stamp.{Stamp}
-use Rattle.packet_capture.specs.declared.any.Stamp.TheVariants.{Counted, Recorded as RecordedAt, Unknown}
+use Rattle.packet_capture.specs.declared.any.Stamp.TheVariants.{Counted, Unknown}
+use Rattle.packet_capture.specs.declared.any.Stamp.TheVariants.{Recorded as RecordedAt}
 use Rattle.packet_capture.specs.declared.capture.CaptureError.{CaptureError}
 use Rattle.packet_capture.specs.declared.capture.FileHeader.{FileHeader}
 use Rattle.packet_capture.specs.declared.capture.Resolution.TheVariants.{Microseconds, Nanoseconds}
@@ -24,7 +25,8 @@ use Rattle.packet_capture.specs.declared.pcapng.blocks.Section.{Section}
 use Rattle.packet_capture.specs.declared.pcapng.interfaces.Interface.{Interface}
 use Rattle.packet_capture.specs.declared.pcapng.packets.PacketHead as packets
 use Rattle.packet_capture.specs.declared.pcapng.times.Resolution.{Resolution}
-use Rattle.packet_capture.specs.declared.pcapng.times.Resolution.TheVariants.{PowerOfTen, PowerOfTwo}
+use Rattle.packet_capture.specs.declared.pcapng.times.Resolution.TheVariants.{PowerOfTen}
+use Rattle.packet_capture.specs.declared.pcapng.times.Resolution.TheVariants.{PowerOfTwo}
 
 -- the file begins as pcapng does: with the block type of a section header
 pub record IsPcapng (file : List ℕ) : Type 0 where

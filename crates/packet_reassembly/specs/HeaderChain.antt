@@ -3,7 +3,9 @@ use Rattle.std.specs.Prelude.{ℕ, ◌*◌, ◌/◌, ◌^◌, ◌<◌, ◌≤◌
 use Rattle.std.specs.Prelude.{if◌then◌else◌, false, length, nat_lt, slice_index, true}
 use Rattle.etherparse.specs.declared.err.LenError.{LenError}
 use Rattle.packet_parts.specs.Extensions.{EndsAs}
-use Rattle.etherparse_net.specs.declared.ipv6_fragment_header.Ipv6FragmentHeader.{Ipv6FragmentHeader}
+use Rattle.etherparse_net.specs.declared.ipv6_fragment_header.Ipv6FragmentHeader.{
+  Ipv6FragmentHeader,
+}
 
 -- How many bytes the upper-layer header of a number has at least: 20 of TCP, or as many words of
 -- four bytes as its data offset says (RFC 9293 section 3.1); 8 of UDP (RFC 768); 4 of ICMPv6 (RFC

@@ -10,7 +10,9 @@ use Rattle.etherparse.specs.declared.err.ValueType.TheVariants as value
 use Rattle.etherparse.specs.declared.net.ipv4_header.Ipv4Header.{Ipv4Header}
 use Rattle.etherparse.specs.declared.net.ipv6_header.Ipv6Header.{Ipv6Header}
 use Rattle.etherparse_net.specs.Ipv6FragmentHeader.{IsFragmentLayout}
-use Rattle.etherparse_net.specs.declared.ipv6_fragment_header.Ipv6FragmentHeader.{Ipv6FragmentHeader}
+use Rattle.etherparse_net.specs.declared.ipv6_fragment_header.Ipv6FragmentHeader.{
+  Ipv6FragmentHeader,
+}
 use Rattle.packet_reassembly.specs.Packet.{AreUnfragmentable, IsIpv4Packet, IsIpv6Packet}
 use Rattle.packet_reassembly.specs.declared.ip_defrag_headers.Kept.{Kept}
 use Rattle.packet_reassembly.specs.declared.ip_defrag_headers.Kept.TheVariants as kept

@@ -18,8 +18,8 @@ use Rattle.packet_reassembly.specs.declared.ip_fragment_slice.IpFragmentSlice.{I
 use Rattle.packet_reassembly.specs.declared.ipv6_fragment.Ipv6FragmentParts.{Ipv6FragmentParts}
 
 -- The packet has all the bytes that its total length says: an IPv4 header of a fragment, and the
--- bytes of that. The header says which packet it is of, where it stands, whether more follow and what
--- was fragmented. Its bytes are the headers.
+-- bytes of that. The header says which packet it is of, where it stands, whether more follow and
+-- what was fragmented. Its bytes are the headers.
 pub record HasIpv4Fragment (packet : List ℕ) (f : IpFragmentSlice) : Type 0 where
   pub header : Ipv4Header
   pub told : header.total_len ≢ 0
@@ -34,9 +34,10 @@ pub record HasIpv4Fragment (packet : List ℕ) (f : IpFragmentSlice) : Type 0 wh
   pub last_extension : f.last_extension ≡ length f.headers.now
 
 -- The packet has all the bytes that its payload length says: an IPv6 header and what follows it,
--- extension headers, a fragment header, and the bytes of the fragment. The fragment header says where
--- it stands, whether more follow and what was fragmented. All bytes before those of the fragment are
--- the headers. Whether the extension headers after the fragment header are whole makes no difference.
+-- extension headers, a fragment header, and the bytes of the fragment. The fragment header says
+-- where it stands, whether more follow and what was fragmented. All bytes before those of the
+-- fragment are the headers. Whether the extension headers after the fragment header are whole makes
+-- no difference.
 pub record HasIpv6Fragment (packet : List ℕ) (f : IpFragmentSlice) : Type 0 where
   pub header : Ipv6Header
   pub body : List ℕ

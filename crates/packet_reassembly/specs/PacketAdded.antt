@@ -9,7 +9,9 @@ use Rattle.packet_reassembly.specs.IpFragment.{HasIpFragment, RefusesIpFragment}
 use Rattle.packet_reassembly.specs.Pool.{IsAdded, OthersStay}
 use Rattle.packet_reassembly.specs.Refusal.{Refuses}
 use Rattle.packet_reassembly.specs.declared.ip_defrag_error.IpDefragError.{IpDefragError}
-use Rattle.packet_reassembly.specs.declared.ip_defrag_packet.IpDefragPacketError.{IpDefragPacketError}
+use Rattle.packet_reassembly.specs.declared.ip_defrag_packet.IpDefragPacketError.{
+  IpDefragPacketError,
+}
 use Rattle.packet_reassembly.specs.declared.ip_defrag_packet.IpDefragPacketError.TheVariants as why
 use Rattle.packet_reassembly.specs.declared.ip_defrag_pool.Added.{Added}
 use Rattle.packet_reassembly.specs.declared.ip_defrag_pool.IpDefragSlot.{IpDefragSlot}
@@ -63,7 +65,8 @@ pub record HasLackingChain (packet : List ℕ) : Type 0 where
   pub first : IsFirstOfIpv6 f
   pub lacks : LacksChain f.next_header f.payload.now
 
--- it is the first fragment of a datagram, and has headers of this length, for which there is no room
+-- it is the first fragment of a datagram, and has headers of this length, for which there is no
+-- room
 pub record HasLongHeaders (packet : List ℕ) (len : ℕ) : Type 0 where
   pub f : IpFragmentSlice
   pub has : HasIpFragment packet f
