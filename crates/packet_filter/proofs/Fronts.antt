@@ -1,11 +1,12 @@
 -- Reading words from the first on.
-use Rattle.std.proofs.Common.{◌≡◌, ℕ, ◌+◌, ◌-◌, ◌<◌, ◌≤◌, List, [], ◌∷◌, ◌++◌, Option, Some, None, refl, sym, ap, ◌∙◌, subst, append_assoc, length, length-append, arith}
+use Rattle.std.proofs.Common.{◌≡◌, ◌||◌, Bool, ℕ, ◌+◌, ◌-◌, ◌<◌, ◌≤◌, List, [], ◌∷◌, ◌++◌, Option, Some, None, refl, sym, ap, ◌∙◌, subst, append_assoc, length, length-append, arith}
 use Rattle.std.specs.Option.{unwrap_or}
 use Rattle.std.proofs.lemmas.List.{append-nil}
 use Rattle.packet_filter.specs.Meaning.{Expression, one, negation, compound}
 use Rattle.packet_filter.specs.Program.{and_then, built, Computes, expression_of, top_of}
 use Rattle.packet_filter.specs.Grammar.{IsExpression}
-use Rattle.packet_filter.specs.Language.{AreSpelled, CanFollow, CanGoOn, IsIncomplete, IsSentence, IsText, IsUnexpected, Refuses, operator_word, other}
+use Rattle.packet_filter.specs.Language.{AreSpelled, CanFollow, CanGoOn, IsIncomplete, IsSentence, IsText, IsUnexpected, NothingElse, Refuses, operator_word, other}
+use Rattle.packet_filter.specs.Expected.{leaves_out, leaves_out_at_end, names}
 use Rattle.packet_filter.specs.Private.Machine.{State, expected_of, finish, level_of, outcome, qualifiers_doing, refusal, settled, size_of, step_of, start}
 use Rattle.packet_filter.specs.Text.{BeginsWithWord, Spells, words_of}
 use Rattle.packet_filter.specs.declared.expected.Expected.{Expected}
@@ -19,6 +20,8 @@ use Rattle.packet_filter.specs.declared.token.Token.TheVariants as token
 use Rattle.packet_filter.proofs.Complete.{postfix, expression_is_read}
 use Rattle.packet_filter.proofs.Follows.{stands_can_go_on}
 use Rattle.packet_filter.proofs.Sound.{Stands, stands_on, stands_first, read_at_end}
+use Rattle.packet_filter.proofs.Runs.{then_some}
+use Rattle.packet_filter.proofs.Others.{Only, end_only, only, refused_only}
 use Rattle.packet_filter.proofs.Refusals.{Other, end_offers, other_operator, other_word, word_follows}
 use Rattle.packet_filter.proofs.Spelled.{one_token, spelled_apart, spelled_once, spelled_together}
 
@@ -94,13 +97,38 @@ can_go_on s text rest count r =
     let x = stands_can_go_on s r.tokens r.stands in
     record { more = x.more; expression = x.expression; sentence = record { tokens = r.tokens ++ x.tokens; spelled = spelled_together r.before (words_of x.more) r.tokens x.tokens r.spelled x.spelled; is = x.is } }
 
-cannot_go_on : (s : State) (text rest word after : List ℕ) (count : ℕ) (t : Token) (r : Reached s text rest count) → Spells word t → step_of s t ≡ None → ¬ CanGoOn (r.before ++ word ∷ [])
-cannot_go_on s text rest word after count t r h e = λ c.
+-- a word that can stand next is taken
+record Next (s : State) (word : List ℕ) : Type 0 where
+  token : Token
+  says : Spells word token
+  state : State
+  taken : step_of s token ≡ Some state
+
+next_word : (word : List ℕ) (ts : List Token) → AreSpelled (word ∷ []) ts → (t : Token) × Spells word t × (ts ≡ t ∷ [])
+next_word word [] h = absurd h
+next_word word (t ∷ []) h = (t, h.0, refl)
+next_word word (t ∷ u ∷ ts) h = absurd h.1
+
+goes_next : (s : State) (text rest word : List ℕ) (count : ℕ) (r : Reached s text rest count) → CanGoOn (r.before ++ word ∷ []) → Next s word
+goes_next s text rest word count r c =
     let p = spelled_apart (r.before ++ word ∷ []) (words_of c.more) c.sentence.tokens c.sentence.spelled in
-    let same : p.left ≡ r.tokens ++ t ∷ [] = spelled_once (r.before ++ word ∷ []) p.left (r.tokens ++ t ∷ []) p.front (spelled_together r.before (word ∷ []) r.tokens (t ∷ []) r.spelled (h, tt)) in
-    none_some (postfix c.expression)
-    (sym (ap (λ l. outcome l start) (p.whole ∙ ap (λ l. l ++ p.right) same ∙ append_assoc r.tokens (t ∷ []) p.right) ∙ r.leads (t ∷ p.right) ∙ ap (λ o. and_then o (outcome p.right)) e)
-    ∙ expression_is_read c.sentence.tokens c.expression c.sentence.is)
+    let q = spelled_apart r.before (word ∷ []) p.left p.front in
+    let t = next_word word q.right q.back in
+    let same : p.left ≡ r.tokens ++ t.0 ∷ [] = q.whole ∙ ap (λ l. l ++ q.right) (spelled_once r.before q.left r.tokens q.front r.spelled) ∙ ap (λ l. r.tokens ++ l) t.2 in
+    let n = then_some (step_of s t.0) (outcome p.right) (postfix c.expression)
+        (sym (ap (λ l. outcome l start) (p.whole ∙ ap (λ l. l ++ p.right) same ∙ append_assoc r.tokens (t.0 ∷ []) p.right) ∙ r.leads (t.0 ∷ p.right))
+        ∙ expression_is_read c.sentence.tokens c.expression c.sentence.is) in
+    record { token = t.0; says = t.1; state = n.0; taken = n.1 }
+
+cannot_go_on : (s : State) (text rest word : List ℕ) (count : ℕ) (t : Token) (r : Reached s text rest count) → Spells word t → step_of s t ≡ None → ¬ CanGoOn (r.before ++ word ∷ [])
+cannot_go_on s text rest word count t r h e = λ c.
+    let n = goes_next s text rest word count r c in
+    none_some n.state (sym e ∙ ap (step_of s) (one_token word t n.token h n.says) ∙ n.taken)
+
+nothing_else : (s : State) (text rest : List ℕ) (count : ℕ) (r : Reached s text rest count) (is : Token → Bool) → ((w : Token) → Only (is w) (step_of s w)) → NothingElse r.before is
+nothing_else s text rest count r is f = λ word c.
+    let n = goes_next s text rest word count r c in
+    (n.token, n.says, only (is n.token) (step_of s n.token) n.state (f n.token) n.taken)
 
 -- where the next word stands
 record Place (text word after : List ℕ) (before : List (List ℕ)) (place : ℕ) : Type 0 where
@@ -134,22 +162,24 @@ unexpected s text rest word after count place t r few b h e at =
       words = p.words;
       few = omega (arith, r.counted, few);
       can = can_go_on s text rest count r;
-      cannot = cannot_go_on s text rest word after count t r h e;
+      cannot = cannot_go_on s text rest word count t r h e;
     }
 
 -- which error says so
-why : (t : Token) (c : Option Joiner) (e : Expected) (s : State) (text : List ℕ) (place : ℕ) (u : IsUnexpected text place) → Spells u.word t → CanFollow u.before e → ((o : Joiner) → t ≡ token.Operator o → Other c s u.before o) → ((o : Joiner) → step_of s (token.Operator o) ≡ None → ¬ CanGoOn (u.before ++ operator_word o ∷ [])) → Refuses text (refusal place t c e)
-why token.Foreign c e s text place u h k f g = record { at = u; foreign = h }
-why (token.Operator o) (Some c) e s text place u h k f g = record { at = u; mixed = record { says = h; other_can = f o refl } }
-why (token.Operator o) None e s text place u h k f g = record {
+why : (t : Token) (c : Option Joiner) (e : Expected) (s : State) (text : List ℕ) (place : ℕ) (u : IsUnexpected text place) → Spells u.word t → CanFollow u.before e → NothingElse u.before (λ w. names e w || leaves_out e w) → ((o : Joiner) → t ≡ token.Operator o → Other c s u.before o) → ((o : Joiner) → step_of s (token.Operator o) ≡ None → ¬ CanGoOn (u.before ++ operator_word o ∷ [])) → Refuses text (refusal place t c e)
+why token.Foreign c e s text place u h k l f g = record { at = u; foreign = h }
+why (token.Operator o) (Some c) e s text place u h k l f g = record { at = u; mixed = record { says = h; other_can = f o refl } }
+why (token.Operator o) None e s text place u h k l f g = record {
   at = u;
   examples_can = k;
+  no_others = l;
   no_foreign = λ x. let same : token.Operator o ≡ token.Foreign = one_token u.word _ _ h x in cc;
   not_mixed = λ p m. g (other p) (f p (one_token u.word _ _ h m.says)) m.other_can;
 }
-why t c e s text place u h k f g = record {
+why t c e s text place u h k l f g = record {
   at = u;
   examples_can = k;
+  no_others = l;
   no_foreign = λ x. let same : t ≡ token.Foreign = one_token u.word _ _ h x in cc;
   not_mixed = λ p m. let same : t ≡ token.Operator p = one_token u.word _ _ h m.says in cc;
 }
@@ -158,7 +188,8 @@ pub refused : (s next : State) (text rest word after : List ℕ) (count place : 
 refused s next text rest word after count place t q x r few b h e at left l f =
     let u = unexpected s text rest word after count place t r few b h e at in
     let k = word_follows q s r.before r.tokens (sym l) r.stands r.spelled in
-    let w = why t (level_of (settled s).doing) (unwrap_or q (expected_of (settled s))) s text place u h k (λ o y. other_operator s r.before r.tokens o r.stands r.spelled (subst (λ z. step_of s z ≡ None) y e)) (λ o y. cannot_go_on s text rest (operator_word o) after count (token.Operator o) r (other_word o) y) in
+    let n = nothing_else s text rest count r (λ w. names (unwrap_or q (expected_of (settled s))) w || leaves_out (unwrap_or q (expected_of (settled s))) w) (λ w. refused_only q s.doing w s.waiting s.steps (sym l)) in
+    let w = why t (level_of (settled s).doing) (unwrap_or q (expected_of (settled s))) s text place u h k n (λ o y. other_operator s r.before r.tokens o r.stands r.spelled (subst (λ z. step_of s z ≡ None) y e)) (λ o y. cannot_go_on s text rest (operator_word o) count (token.Operator o) r (other_word o) y) in
     subst (Refuses text) (sym (f ∙ ap (λ (n : State). refusal place t (level_of n.doing) (unwrap_or q (expected_of n))) left)) w
 
 pub too_long : (s : State) (text rest word after : List ℕ) (place : ℕ) → Reached s text rest 64 → BeginsWithWord rest word after → place ≡ length text - length after - length word → Refuses text (error.TooLong place)
@@ -200,6 +231,9 @@ incomplete s next text rest count r few h e left =
           let same : t.tokens ≡ r.tokens = spelled_once r.before t.tokens r.tokens (subst (λ w. AreSpelled w t.tokens) all t.spelled) r.spelled in
           none_some (postfix x) (sym (ap (λ l. outcome l start) (same ∙ sym (append-nil r.tokens)) ∙ r.leads [] ∙ e) ∙ expression_is_read t.tokens x t.is);
       examples_can = subst (λ w. CanFollow w (expected_of next)) (sym all) (subst (λ (n : State). CanFollow r.before (expected_of n)) (sym left) (end_offers s r.before r.tokens r.stands r.spelled));
+      no_others = subst (λ v. NothingElse v (λ w. names (expected_of next) w || leaves_out_at_end (expected_of next) w)) (sym all)
+          (subst (λ (n : State). NothingElse r.before (λ w. names (expected_of n) w || leaves_out_at_end (expected_of n) w)) (sym left)
+          (nothing_else s text rest count r (λ w. names (expected_of (settled s)) w || leaves_out_at_end (expected_of (settled s)) w) (λ w. end_only s.doing w s.waiting s.steps)));
     }
 
 -- a text of the language that is not too long is not refused

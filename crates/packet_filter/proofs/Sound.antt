@@ -341,7 +341,7 @@ net_fits : (b : Bool) (x a : NetAddress) → if_fits b x ≡ Some a → (b ≡ t
 net_fits true x a e = (refl, some_same x a e)
 net_fits false x a e = cc
 
-net_word : (w : Token) (o : Option Head) (a : NetAddress) → net_address_of w o ≡ Some a → IsNet w o a
+pub net_word : (w : Token) (o : Option Head) (a : NetAddress) → net_address_of w o ≡ Some a → IsNet w o a
 net_word (token.Address (V4 k)) (Some (head.Net n d)) a e =
     let x = net_fits (fits n (V4 k)) _ a e in
     subst (IsNet (token.Address (V4 k)) (Some (head.Net n d))) x.1 (record { head = refl; address = refl; value = ap (λ b. provided b (says.Net n d (V4 k) 32)) x.0; fits = x.0 })

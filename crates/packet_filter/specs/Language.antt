@@ -1,7 +1,8 @@
 -- The texts that are expressions, and why others are none.
-use Rattle.std.specs.Prelude.{ℕ, ◌≡◌, ◌<◌, ◌≤◌, List, [], ◌∷◌, ◌++◌, All, Option, Some, None}
-use Rattle.std.specs.Prelude.{codes, decimal, length}
-use Rattle.packet_filter.specs.Expected.{examples, expected_text}
+use Rattle.std.specs.Prelude.{ℕ, ◌≡◌, ◌<◌, ◌≤◌, ◌||◌, Bool, IsTrue, List, [], ◌∷◌, ◌++◌, All}
+use Rattle.std.specs.Prelude.{Option, Some, None, codes, decimal, length}
+use Rattle.packet_filter.specs.Expected.{examples, expected_text, leaves_out, leaves_out_at_end}
+use Rattle.packet_filter.specs.Expected.{names}
 use Rattle.packet_filter.specs.Grammar.{IsExpression}
 use Rattle.packet_filter.specs.Meaning.{Expression}
 use Rattle.packet_filter.specs.Text.{Spells, words_of}
@@ -54,6 +55,11 @@ pub record IsUnexpected (text : List ℕ) (place : ℕ) : Type 0 where
 abbrev pub CanFollow : List (List ℕ) → Expected → Type 0
 CanFollow words expected = All (λ word. CanGoOn (words ++ word ∷ [])) (examples expected)
 
+-- each word that can stand after these is such a word
+abbrev pub NothingElse : List (List ℕ) → (Token → Bool) → Type 0
+NothingElse words is = (word : List ℕ) → CanGoOn (words ++ word ∷ [])
+    → (t : Token) × Spells word t × IsTrue (is t)
+
 abbrev pub operator_word : Operator → List ℕ
 operator_word And = codes "and"
 operator_word Or = codes "or"
@@ -78,19 +84,24 @@ pub record HasMixed (text : List ℕ) (place : ℕ) (o : Operator) : Type 0 wher
   pub at : IsUnexpected text place
   pub mixed : IsMixed at.before at.word o
 
--- at this place stands any other word that cannot stand there, and these can
+-- At this place stands any other word that cannot stand there. All that the error has as examples
+-- can, and nothing can that it neither names nor leaves out.
 pub record HasUnexpected (text : List ℕ) (place : ℕ) (expected : Expected) : Type 0 where
   pub at : IsUnexpected text place
   pub examples_can : CanFollow at.before expected
+  pub no_others : NothingElse at.before (λ t. names expected t || leaves_out expected t)
   pub no_foreign : ¬ Spells at.word token.Foreign
   pub not_mixed : (o : Operator) → ¬ IsMixed at.before at.word o
 
--- the words are no expression, but can go on, with these among others
+-- The words are no expression, but can go on, with all that the error has as examples, and with
+-- nothing that it neither names nor leaves out.
 pub record IsIncomplete (text : List ℕ) (expected : Expected) : Type 0 where
   pub few : length (words_of text) ≤ 64
   pub can : CanGoOn (words_of text)
   pub no_expression : (e : Expression) → ¬ IsText text e
   pub examples_can : CanFollow (words_of text) expected
+  pub no_others : NothingElse (words_of text)
+      (λ t. names expected t || leaves_out_at_end expected t)
 
 -- At this place in the text, in bytes, stands a word after 64 others, which can go on.
 pub record IsTooLong (text : List ℕ) (place : ℕ) : Type 0 where
