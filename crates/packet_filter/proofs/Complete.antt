@@ -99,8 +99,11 @@ left_true : (b c : Bool) → (b && c) ≡ true → b ≡ true
 left_true true c e = refl
 left_true false c e = cc
 
-not_some : (p : Primitive) → None ≡ Some p → ⊥
-not_some p e = cc
+pub not_some : {A : Type 0} (x : A) → None ≡ Some x → ⊥
+not_some x e = cc
+
+pub not_true : false ≡ true → ⊥
+not_true e = cc
 
 -- an address without a mask ends before a word that can follow an operand
 pub net_ends : (a : NetAddress) (ws : List Waiting) (out : List Step) (rest : List Token) → EndsOperand rest → outcome rest (has_net a ws out) ≡ outcome rest (put_net a ws out)
@@ -175,11 +178,11 @@ then_read d k s g ws out rest = ap (λ l. outcome l (at_scope s g ws out)) (appe
 -- which words are addresses
 host_value : (w : Token) (n : Option Network) (d : Option Direction) (p : Primitive) → value_of w (head.Host n d) ≡ Some p → (a : Address) × (w ≡ token.Address a)
 host_value (token.Address a) n d p e = (a, refl)
-host_value _ n d p e = cc
+host_value _ n d p e = absurd (not_some p e)
 
 ether_value : (w : Token) (d : Option Direction) (p : Primitive) → value_of w (head.Ether d) ≡ Some p → (a : List ℕ) × (w ≡ token.Hardware a)
 ether_value (token.Hardware a) d p e = (a, refl)
-ether_value _ d p e = cc
+ether_value _ d p e = absurd (not_some p e)
 
 -- a primitive that has begun takes values with a head
 pub record Takes (q : Partial) (h : Head) : Type 0 where
@@ -200,7 +203,7 @@ value_read h (token.Range l n) p e ws out rest k = ap (λ o. and_then (step_prog
 value_read h (token.IpNumber n) p e ws out rest k = ap (λ o. and_then (step_progress (found h o) None (token.IpNumber n) ws out) (outcome rest)) e
 value_read h (token.Hardware a) p e ws out rest k = ap (λ o. and_then (step_progress (found h o) None (token.Hardware a) ws out) (outcome rest)) e
 value_read h (token.TypeName n) p e ws out rest k = ap (λ o. and_then (step_progress (found h o) None (token.TypeName n) ws out) (outcome rest)) e
-value_read h _ p e ws out rest k = cc
+value_read h _ p e ws out rest k = absurd (not_some p e)
 
 masked_read : (h : Head) (w m : Token) (p : Primitive) → masked_value_of h (ipv4_of w) (ipv4_of m) ≡ Some p → (ws : List Waiting) (out : List Step) (rest : List Token) → outcome (w ∷ token.Mask ∷ m ∷ rest) (amid (partial.Value h) ws out) ≡ outcome rest (put p h ws out)
 masked_read (head.Net n d) (token.Address (V4 a)) m p e ws out rest = mask_after_head n d a 32 (partial.Value (head.Net n d)) (token.Address (V4 a)) m p e ws out rest
@@ -301,7 +304,7 @@ value_alone false (token.Range l n) h p e ws out rest k = ap (λ o. and_then (on
 value_alone false (token.IpNumber n) h p e ws out rest k = ap (λ o. and_then (on_progress (found h o) ws out) (outcome rest)) e
 value_alone false (token.Hardware a) h p e ws out rest k = ap (λ o. and_then (on_progress (found h o) ws out) (outcome rest)) e
 value_alone false (token.TypeName n) h p e ws out rest k = ap (λ o. and_then (on_progress (found h o) ws out) (outcome rest)) e
-value_alone _ _ h p e ws out rest k = cc
+value_alone _ _ h p e ws out rest k = absurd (not_some p e)
 
 masked_alone : (only : Bool) (h : Head) (w m : Token) (p : Primitive) → masked_value_of h (ipv4_of w) (ipv4_of m) ≡ Some p → (ws : List Waiting) (out : List Step) (rest : List Token) → outcome (w ∷ token.Mask ∷ m ∷ rest) (expects h only ws out) ≡ outcome rest (put p h ws out)
 masked_alone only (head.Net n d) (token.Address (V4 a)) m p e ws out rest = mask_alone n d a 32 (chosen only (head.Net n d) (token.Address (V4 a))) m p e ws out rest
@@ -351,7 +354,7 @@ alone_begins token.Broadcast a e g ws out rest = refl
 alone_begins token.Multicast a e g ws out rest = refl
 alone_begins token.Vlan a e g ws out rest = refl
 alone_begins token.Fragment a e g ws out rest = refl
-alone_begins _ a e g ws out rest = cc
+alone_begins _ a e g ws out rest = absurd (not_some a e)
 
 -- ---- comparisons
 
@@ -360,12 +363,12 @@ bracket_read token.Ether l e g ws out rest = ap (λ x. outcome rest (amid (parti
 bracket_read (token.Network n) l e g ws out rest = ap (λ x. outcome rest (amid (partial.Bracket x) ws out)) (some_same _ l e)
 bracket_read (token.Transport t) l e g ws out rest = ap (λ x. outcome rest (amid (partial.Bracket x) ws out)) (some_same _ l e)
 bracket_read (token.Protocol v k) l e g ws out rest = ap (λ x. outcome rest (amid (partial.Bracket x) ws out)) (some_same _ l e)
-bracket_read _ l e g ws out rest = cc
+bracket_read _ l e g ws out rest = absurd (not_some l e)
 
 place_read : (w : Token) (place : ℕ) (size : Size) → loads_at w ≡ Some (place, size) → (l : Layer) (ws : List Waiting) (out : List Step) (rest : List Token) → outcome (w ∷ token.CloseBracket ∷ rest) (amid (partial.Bracket l) ws out) ≡ outcome rest (amid (partial.Term (quantity.Load l place size) None) ws out)
 place_read (token.Number k) place size e l ws out rest = let x = some_same _ (place, size) e in ap (λ (z : ℕ × Size). outcome rest (amid (partial.Term (quantity.Load l z.0 z.1) None) ws out)) x
 place_read (token.Place k s) place size e l ws out rest = let x = some_same _ (place, size) e in ap (λ (z : ℕ × Size). outcome rest (amid (partial.Term (quantity.Load l z.0 z.1) None) ws out)) x
-place_read _ place size e l ws out rest = cc
+place_read _ place size e l ws out rest = absurd (not_some (place, size) e)
 
 bits_read : (u : Use) (words : List Token) (bits : ℕ) → AreBits words bits → (ws : List Waiting) (out : List Step) (rest : List Token) → outcome (words ++ rest) (amid (partial.Opened u) ws out) ≡ outcome rest (amid (partial.Listed u bits) ws out)
 bits_read u words bits (single k) ws out rest = refl

@@ -116,8 +116,8 @@ goes_next s text rest word count r c =
     let t = next_word word q.right q.back in
     let same : p.left ≡ r.tokens ++ t.0 ∷ [] = q.whole ∙ ap (λ l. l ++ q.right) (spelled_once r.before q.left r.tokens q.front r.spelled) ∙ ap (λ l. r.tokens ++ l) t.2 in
     let n = then_some (step_of s t.0) (outcome p.right) (postfix c.expression)
-        (sym (ap (λ l. outcome l start) (p.whole ∙ ap (λ l. l ++ p.right) same ∙ append_assoc r.tokens (t.0 ∷ []) p.right) ∙ r.leads (t.0 ∷ p.right))
-        ∙ expression_is_read c.sentence.tokens c.expression c.sentence.is) in
+    (sym (ap (λ l. outcome l start) (p.whole ∙ ap (λ l. l ++ p.right) same ∙ append_assoc r.tokens (t.0 ∷ []) p.right) ∙ r.leads (t.0 ∷ p.right))
+    ∙ expression_is_read c.sentence.tokens c.expression c.sentence.is) in
     record { token = t.0; says = t.1; state = n.0; taken = n.1 }
 
 cannot_go_on : (s : State) (text rest word : List ℕ) (count : ℕ) (t : Token) (r : Reached s text rest count) → Spells word t → step_of s t ≡ None → ¬ CanGoOn (r.before ++ word ∷ [])

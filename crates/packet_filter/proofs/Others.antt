@@ -2,10 +2,9 @@
 use Rattle.std.proofs.Common.{◌≡◌, ℕ, Bool, true, false, ◌||◌, ◌&&◌, cond, List, [], ◌∷◌, ◌++◌, Option, Some, None, refl, sym, ap, ◌∙◌, subst}
 use Rattle.std.specs.Prelude.{IsTrue, is_some, nat_le, option_map}
 use Rattle.std.specs.Option.{unwrap_or}
-use Rattle.packet_filter.specs.Expected.{is_after_address, is_after_ip, is_after_network, is_after_transport, is_after_vlan, is_going_on, is_joint, is_next, is_open_bracket, leaves_out, leaves_out_at_end, names}
-use Rattle.packet_filter.specs.Grammar.{alone, first_head, fits, masked_value_of, network_primitive, provided, value_of, ipv4_of}
-use Rattle.packet_filter.specs.Meaning.{transport_number}
-use Rattle.packet_filter.specs.Private.Machine.{State, after, after_network, after_protocol, after_transport, after_vlan, after_word, begun_at, complete, expected_after, expected_of, expected_value, expected_within, found, head_of_net, is_open, net_address_of, net_at, on_progress, primitive_of_net, put, qualifiers_doing, qualifiers_of, settled, settled_at, settled_doing, step_net, step_of, step_operand, step_operator, step_progress, step_state, step_within, values_after, version_of, whole, within_at}
+use Rattle.packet_filter.specs.Expected.{is_after_ip, is_after_network, is_after_transport, is_after_vlan, is_going_on, is_joint, is_next, is_open_bracket, leaves_out, leaves_out_at_end, names}
+use Rattle.packet_filter.specs.Grammar.{alone, first_head, fits, masked_value_of, provided, value_of, ipv4_of}
+use Rattle.packet_filter.specs.Private.Machine.{State, after, after_network, after_protocol, after_transport, after_vlan, after_word, begun_at, complete, expected_after, expected_of, expected_value, found, head_of_net, is_open, net_address_of, net_at, on_progress, primitive_of_net, put, qualifiers_doing, qualifiers_of, settled_at, settled_doing, step_net, step_operand, step_operator, step_progress, step_state, step_within, values_after, version_of, whole, within_at}
 use Rattle.packet_filter.specs.declared.address.Address.{Address}
 use Rattle.packet_filter.specs.declared.address.Address.TheVariants.{V4, V6}
 use Rattle.packet_filter.specs.declared.expected.Expected.{Expected}
@@ -37,7 +36,7 @@ use Rattle.packet_filter.specs.declared.partial.Scope.{Scope}
 use Rattle.packet_filter.specs.declared.partial.Scope.TheVariants as scope
 use Rattle.packet_filter.specs.declared.token.Token.{Token}
 use Rattle.packet_filter.specs.declared.token.Token.TheVariants as token
-use Rattle.packet_filter.proofs.Complete.{some_same}
+use Rattle.packet_filter.proofs.Complete.{not_some, not_true, some_same}
 use Rattle.packet_filter.proofs.Sound.{net_word}
 
 -- ---- a word that is taken is one of these
@@ -161,7 +160,7 @@ value_named (head.Proto v) (token.IpNumber k) p e = refl
 value_named (head.Ether d) (token.Hardware a) p e = refl
 value_named head.EtherProto (token.Number k) p e = given _ _ _ _ e
 value_named head.EtherProto (token.TypeName k) p e = refl
-value_named _ _ p e = cc
+value_named _ _ p e = absurd (not_some p e)
 
 net_named : (h : Head) (w : Token) (a : NetAddress) → net_address_of w (Some h) ≡ Some a → names (expected_value h) w ≡ true
 net_named h w a e =
@@ -317,7 +316,7 @@ qualified_only (partial.Word (token.Network network.Arp)) e w ws out f = word_on
 qualified_only (partial.Word (token.Network network.Rarp)) e w ws out f = word_only (token.Network network.Rarp) w expected.AfterNetwork e ws out f (rarp_misses w)
 qualified_only (partial.Word (token.Transport t)) e w ws out f = word_only (token.Transport t) w expected.AfterTransport e ws out f (transport_misses t w)
 qualified_only (partial.Word token.Vlan) e w ws out f = word_only token.Vlan w expected.AfterVlan e ws out f (vlan_misses w)
-qualified_only _ e w ws out f = cc
+qualified_only _ e w ws out f = absurd (not_some e f)
 
 net_only : (a : NetAddress) (w : Token) (ws : List Waiting) (out : List Step) → Fits expected.AfterAddress w (step_net a w ws out)
 net_only a token.Mask ws out = tt
@@ -349,7 +348,7 @@ FitsEnd e w o = Only (HasEnd e w) o
 
 bracket_goes : (w : Token) → is_open_bracket w ≡ true → is_going_on w ≡ true
 bracket_goes token.OpenBracket e = refl
-bracket_goes _ e = cc
+bracket_goes _ e = absurd (not_true e)
 
 at_end : (e : Expected) (w : Token) (o : Option State) → Fits e w o → FitsEnd e w o
 at_end (expected.Operator c closes) w o h = wider (is_next c closes w) (is_open_bracket w) (is_going_on w) o (bracket_goes w) h

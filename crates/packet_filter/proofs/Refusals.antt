@@ -50,7 +50,7 @@ use Rattle.packet_filter.specs.declared.partial.Use.{Use}
 use Rattle.packet_filter.specs.declared.partial.Use.TheVariants.{Limit, Masking}
 use Rattle.packet_filter.specs.declared.token.Token.{Token}
 use Rattle.packet_filter.specs.declared.token.Token.TheVariants as token
-use Rattle.packet_filter.proofs.Complete.{Takes, amid, ether_takes, expects, has_net, has_read, head_takes, network_takes, not_operator, after_complete, some_same, value_alone}
+use Rattle.packet_filter.proofs.Complete.{Takes, amid, ether_takes, expects, has_net, has_read, head_takes, network_takes, not_operator, not_some, after_complete, some_same, value_alone}
 use Rattle.packet_filter.proofs.Follows.{all_bits, closed_up, closing, closings, ones_4, open_in, stands_can_go_on}
 use Rattle.packet_filter.proofs.Runs.{then_some}
 use Rattle.packet_filter.proofs.Sound.{Amid, Opens, Stands, StandsAt, net_stands, stands_on, whole_stands}
@@ -249,7 +249,7 @@ word_offers (partial.Word (token.Network network.Arp)) e ws out f = subst (Offer
 word_offers (partial.Word (token.Network network.Rarp)) e ws out f = subst (Offers _) (some_same _ e f) (network_offers network.Rarp ws out)
 word_offers (partial.Word (token.Transport t)) e ws out f = subst (Offers _) (some_same _ e f) ((can token.Source refl tt, (can token.Destination refl tt, (can token.Port refl tt, (can token.PortRange refl tt, (can token.OpenBracket refl tt, tt))))))
 word_offers (partial.Word token.Vlan) e ws out f = subst (Offers _) (some_same _ e f) ((can (token.Number 5) refl tt, tt))
-word_offers _ e ws out f = cc
+word_offers _ e ws out f = absurd (not_some e f)
 
 -- the address of a network, and `mask` after it
 net_offers : (a : NetAddress) (ws : List Waiting) (out : List Step) → Offers (has_net a ws out) expected.AfterAddress

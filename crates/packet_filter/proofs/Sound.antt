@@ -2,7 +2,7 @@
 use Rattle.std.proofs.Common.{◌≡◌, ℕ, Bool, true, false, cond, List, [], ◌∷◌, ◌++◌, Option, Some, None, refl, sym, ap, ◌∙◌, subst, append_assoc, inl, inr}
 use Rattle.std.specs.Prelude.{◌⊎◌, nat_le}
 use Rattle.std.proofs.lemmas.Bool.{leb-true}
-use Rattle.packet_filter.proofs.Complete.{postfix, IsBase, some_same}
+use Rattle.packet_filter.proofs.Complete.{postfix, IsBase, not_some, not_true, some_same}
 use Rattle.packet_filter.specs.Meaning.{Expression, one, negation, compound}
 use Rattle.packet_filter.specs.Program.{and_then}
 use Rattle.packet_filter.specs.Grammar.{IsHead, host, directed, net, port, portrange, proto, ether_host, ether_directed, ether_proto, IsPrimitive, word, vlan, less, greater, ether_broadcast, ether_multicast, multicast, first_fragment, checksum_wrong, comparison, AreBits, single, with, IsConstant, number, list, IsTerm, len, load, masked_, grouped, Kind, operand, chain, Reads, primitive, headed, value, masked_value, not_, parentheses, first, more, IsExpression, direction_words, first_head, fits, provided, value_of, ipv4_of, masked_value_of, alone, layer_of, loads_at}
@@ -348,7 +348,7 @@ net_word (token.Address (V4 k)) (Some (head.Net n d)) a e =
 net_word (token.Front k bits) (Some (head.Net n d)) a e =
     let x = net_fits (fits n (V4 k)) _ a e in
     subst (IsNet (token.Front k bits) (Some (head.Net n d))) x.1 (record { head = refl; address = refl; value = ap (λ b. provided b (says.Net n d (V4 k) bits)) x.0; fits = x.0 })
-net_word _ _ a e = cc
+net_word _ _ a e = absurd (not_some a e)
 
 -- such a word stands after these
 pub record AtNet (a : NetAddress) (ws : List Waiting) (out : List Step) (us : List Token) : Type 0 where
@@ -429,7 +429,7 @@ begun_steps None w only g ws out ts s f x e = chosen_stands only w g ws out ts s
 waits_on : (w : Token) (y : Waiting) (only : Bool) (g : Head) (ws : List Waiting) (out : List Step) (ts : List Token) → waiting_of g only w ≡ Some y → Opens ws g only ts out → Opens (y ∷ ws) g only (ts ++ w ∷ []) out
 waits_on token.Not y only g ws out ts e x = subst (λ z. Opens (z ∷ ws) g only (ts ++ token.Not ∷ []) out) (some_same waiting.Not y e) (ts, refl, x)
 waits_on token.Open y only g ws out ts e x = subst (λ z. Opens (z ∷ ws) g only (ts ++ token.Open ∷ []) out) (some_same (waiting.Open g only) y e) (ts, refl, x, refl, refl)
-waits_on _ y only g ws out ts e x = cc
+waits_on _ y only g ws out ts e x = absurd (not_some y e)
 
 operand_steps : (o : Option Waiting) (w : Token) (only : Bool) (g : Head) (ws : List Waiting) (out : List Step) (ts : List Token) (s : State) → waiting_of g only w ≡ o → Opens ws g only ts out → operand_at o g only w ws out ≡ Some s → Stands s (ts ++ w ∷ [])
 operand_steps (Some y) w only g ws out ts s f x e = subst (λ z. Stands z (ts ++ w ∷ [])) (some_same _ s e) (waits_on w y only g ws out ts f x)
@@ -468,7 +468,7 @@ operator_steps None h (token.Operator o) ws out ts s b e = subst (λ x. Stands x
 operator_steps (Some And) h (token.Operator And) ws out ts s b e = subst (λ x. Stands x (ts ++ token.Operator And ∷ [])) (some_same _ s e) (joins_on And h ws out ts (Some And) b (inr b.reads))
 operator_steps (Some Or) h (token.Operator Or) ws out ts s b e = subst (λ x. Stands x (ts ++ token.Operator Or ∷ [])) (some_same _ s e) (joins_on Or h ws out ts (Some Or) b (inr b.reads))
 operator_steps c h token.Close ws out ts s b e = close_steps c h ws out ts s b e
-operator_steps _ _ _ ws out ts s b e = cc
+operator_steps _ _ _ ws out ts s b e = absurd (not_some s e)
 
 after_steps : (d : Doing) (w : Token) (ws : List Waiting) (out : List Step) (ts : List Token) (s : State) → StandsAt d ws out ts → after_doing d w ws out ≡ Some s → Stands s (ts ++ w ∷ [])
 after_steps (Operand h only) w ws out ts s x e = cc
@@ -485,7 +485,7 @@ pub whole_stands : (p : Partial) (a : Primitive) (ws : List Waiting) (out : List
 whole_stands (partial.Word w) a ws out ts e m =
     subst (Stands (put a first_head ws out)) (sym m.text)
     (completes ws m.before out m.words (one a) false m.head first_head m.opens (subst (λ l. Reads operand false m.head l (one a) first_head) (sym m.begun.2) (primitive (word e))))
-whole_stands _ a ws out ts e m = cc
+whole_stands _ a ws out ts e m = absurd (not_some a e)
 
 whole_steps : (o : Option Primitive) (p : Partial) (w : Token) (ws : List Waiting) (out : List Step) (ts : List Token) (s : State) → whole p ≡ o → Amid p ws out ts → and_then (completed o ws out) (after w) ≡ Some s → Stands s (ts ++ w ∷ [])
 whole_steps None p w ws out ts s h m e = cc
@@ -513,7 +513,7 @@ group_steps (partial.Term q mask) token.Close (waiting.Open g v ∷ ws) out ts e
       begun = grouped m.begun;
       opens = subst (λ b. Opens ws g b us out) (sym m.opens.4) m.opens.2;
     }
-group_steps _ _ _ out ts e m = cc
+group_steps _ _ _ out ts e m = absurd (not_true e)
 
 -- the words of a head that has begun
 head_begun : (p : Partial) (h : Head) (words : List Token) → head_of p ≡ Some h → Begun p words → IsHead words h
@@ -522,18 +522,18 @@ head_begun (partial.Directed scope.Any d) h words e x = subst (IsHead words) (so
 head_begun (partial.Directed (scope.Network n) d) h words e x = subst (IsHead words) (some_same _ h e) (subst (λ l. IsHead l (head.Host (Some n) (Some d))) (sym x) (directed (Some n) d))
 head_begun (partial.Directed (scope.Transport t) d) h words e x = cc
 head_begun (partial.Directed scope.Ether d) h words e x = subst (IsHead words) (some_same _ h e) (subst (λ l. IsHead l (head.Ether (Some d))) (sym x) (ether_directed d))
-head_begun _ h words e x = cc
+head_begun _ h words e x = absurd (not_some h e)
 
 -- `not` or a parenthesis after it
 values_open : (h : Head) (w : Token) (x : Head × Waiting) (p : Partial) (ws : List Waiting) (out : List Step) (ts : List Token) → head_of p ≡ Some h → values_after w (Some h) ≡ Some x → Amid p ws out ts → Opens (x.1 ∷ waiting.Head ∷ ws) x.0 true (ts ++ w ∷ []) out
 values_open h token.Not x p ws out ts f e m = subst (λ (z : Head × Waiting). Opens (z.1 ∷ waiting.Head ∷ ws) z.0 true (ts ++ token.Not ∷ []) out) (some_same (h, waiting.Not) x e) (ts, refl, (m.before, m.words, m.text, head_begun p h m.words f m.begun, refl, m.head, m.opens))
 values_open h token.Open x p ws out ts f e m = subst (λ (z : Head × Waiting). Opens (z.1 ∷ waiting.Head ∷ ws) z.0 true (ts ++ token.Open ∷ []) out) (some_same (h, waiting.Open h true) x e) (ts, refl, (m.before, m.words, m.text, head_begun p h m.words f m.begun, refl, m.head, m.opens), refl, refl)
-values_open h _ x p ws out ts f e m = cc
+values_open h _ x p ws out ts f e m = absurd (not_some x e)
 
 no_values : (w : Token) (x : Head × Waiting) → values_after w None ≡ Some x → ⊥
 no_values token.Not x e = cc
 no_values token.Open x e = cc
-no_values _ x e = cc
+no_values _ x e = not_some x e
 
 values_opened : (o : Option Head) (w : Token) (x : Head × Waiting) (p : Partial) (ws : List Waiting) (out : List Step) (ts : List Token) → head_of p ≡ o → values_after w o ≡ Some x → Amid p ws out ts → Opens (x.1 ∷ waiting.Head ∷ ws) x.0 true (ts ++ w ∷ []) out
 values_opened None w x p ws out ts f e m = absurd (no_values w x e)
