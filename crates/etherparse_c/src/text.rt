@@ -27,7 +27,7 @@ ghost use Rattle.etherparse_c.specs.ErrorText.{link_type_error_text};
 use crate::answer::{
     BAD_OPTIONS_LEN, DATA_OFFSET, Error, HEADER_LENGTH_SMALLER_THAN_HEADER, ICMPV4, ICMPV6,
     IP_DSCP, IP_ECN, IP_FRAGMENT_OFFSET, IP_HEADER, IPV4_HEADER, IPV4_PACKET, IPV4_PACKET_BYTES,
-    IPV4_PAYLOAD_LENGTH, IPV6_EXT_HEADER, IPV6_FLOW_LABEL, IPV6_HEADER, IPV6_PACKET,
+    IPV4_PAYLOAD_LENGTH, IPV6_FLOW_LABEL, IPV6_HEADER, IPV6_PACKET,
     IPV6_PAYLOAD_LENGTH, LEN, LINK_HEADER, LINK_TYPE, TCP_HEADER, TOO_MANY, UDP_HEADER,
     UNEXPECTED_VERSION, VALUE_TOO_BIG, VLAN_HEADER,
 };
@@ -94,70 +94,105 @@ pub extern "C" fn etherparse_error_text(error: &Error, text: &mut [u8]) -> usize
         GivesText [] text.old text.new result }
 {
     match error.kind {
-        LEN
-            if error.len < error.required_len
-                && error.layer > 0
-                && error.layer <= IPV6_EXT_HEADER => {
-            return put_len(error, text);
-        }
-        LEN if error.len < error.required_len && error.layer == LINK_HEADER => {
-            return put_link_len(error, text);
-        }
-        LEN
-            if error.len < error.required_len
-                && error.layer > LINK_HEADER
-                && error.layer <= ICMPV6 => {
-            return put_frame_len(error, text);
-        }
-        UNEXPECTED_VERSION if error.layer == IP_HEADER => return put_number(
-            "IP Header Error: Version ",
-            usize::from(error.number),
-            " is neither 4 nor 6.",
-            text,
-        ),
-        DATA_OFFSET => return put_number(
-            "TCP Header Error: Data offset ",
-            usize::from(error.number),
-            " is less than 5.",
-            text,
-        ),
-        LINK_TYPE => return put_number(
-            "Link Type Error: Frames of link type ",
-            error.len,
-            " are not read.",
-            text,
-        ),
-        UNEXPECTED_VERSION if error.layer == IPV4_HEADER => return put_number(
-            "IPv4 Header Error: Encountered '",
-            usize::from(error.number),
-            "' as IP version number in the IPv4 header (must be '4' in an IPv4 header).",
-            text,
-        ),
-        UNEXPECTED_VERSION if error.layer == IPV6_HEADER => return put_number(
-            "IPv6 Header Error: Encountered '",
-            usize::from(error.number),
-            "' as IP version number in the IPv6 header (must be '6' in an IPv6 header).",
-            text,
-        ),
-        HEADER_LENGTH_SMALLER_THAN_HEADER => return put_number(
+        LEN if error.len < error.required_len => put_short(error, text),
+        UNEXPECTED_VERSION => put_version(error, text),
+        HEADER_LENGTH_SMALLER_THAN_HEADER => put_number(
             "IPv4 Header Error: The 'internet header length' value '",
             usize::from(error.number),
             "' present in the IPv4 header is smaller than the minimum size of an IPv4 header. The \
              minimum allowed value is '5'.",
             text,
         ),
-        TOO_MANY => return put_too_many(error, text),
+        TOO_MANY => put_too_many(error, text),
         VALUE_TOO_BIG if error.number > 0 && error.number <= IPV6_PAYLOAD_LENGTH => {
-            return put_value(error, text);
+            put_value(error, text)
         }
-        BAD_OPTIONS_LEN => return put_number(
+        BAD_OPTIONS_LEN => put_number(
             "Slice of length ",
             error.len,
             " cannot be set as IPv4 header options. The length must be a multiple of 4 and at \
              maximum 40.",
             text,
         ),
-        _ => return put(&[], text),
+        DATA_OFFSET => put_number(
+            "TCP Header Error: Data offset ",
+            usize::from(error.number),
+            " is less than 5.",
+            text,
+        ),
+        LINK_TYPE => put_number(
+            "Link Type Error: Frames of link type ",
+            error.len,
+            " are not read.",
+            text,
+        ),
+        _ => put(&[], text),
+    }
+}
+
+// The text of an unexpected version.
+fn put_version(error: &Error, text: &mut [u8]) -> usize
+    ensures ipv4_version { error.now.layer ≡ 1 →
+        GivesText (ipv4_header_error_text (ipv4.UnexpectedVersion error.now.number))
+        text.old text.new result }
+    ensures ipv6_version { error.now.layer ≡ 3 →
+        GivesText (ipv6_header_error_text (ipv6.UnexpectedVersion error.now.number))
+        text.old text.new result }
+    ensures ip_version { error.now.layer ≡ 7 →
+        GivesText (ip_slice_error_text (ip.UnexpectedVersion error.now.number))
+        text.old text.new result }
+    ensures none { error.now.layer ≢ 1 → error.now.layer ≢ 3 → error.now.layer ≢ 7 →
+        GivesText [] text.old text.new result }
+{
+    match error.layer {
+        IPV4_HEADER => put_number(
+            "IPv4 Header Error: Encountered '",
+            usize::from(error.number),
+            "' as IP version number in the IPv4 header (must be '4' in an IPv4 header).",
+            text,
+        ),
+        IPV6_HEADER => put_number(
+            "IPv6 Header Error: Encountered '",
+            usize::from(error.number),
+            "' as IP version number in the IPv6 header (must be '6' in an IPv6 header).",
+            text,
+        ),
+        IP_HEADER => put_number(
+            "IP Header Error: Version ",
+            usize::from(error.number),
+            " is neither 4 nor 6.",
+            text,
+        ),
+        _ => put(&[], text),
+    }
+}
+
+// The text of a length that is too small.
+fn put_short(error: &Error, text: &mut [u8]) -> usize
+    requires below { error.now.len < error.now.required_len }
+    ensures len { (e : LenError) → HasNumbers e →
+        record error.now { number = 0; limit = 0 } ≡ len_error_in_c e →
+        GivesText (len_error_text e) text.old text.new result }
+    ensures ipv4_packet { (e : LenError) → IsShortIpv4Packet e →
+        record error.now { number = 0; limit = 0 } ≡ record (len_error_in_c e) { layer = 8 } →
+        GivesText (len_error_text e) text.old text.new result }
+    ensures link { error.now.layer ≡ 5 → GivesText (link_error_text (record {
+      required_len = error.now.required_len;
+      len = error.now.len;
+    })) text.old text.new result }
+    ensures none { (error.now.layer ≡ 0) ⊎ (13 < error.now.layer) →
+        GivesText [] text.old text.new result }
+{
+    if error.layer == LINK_HEADER {
+        return put_link_len(error, text);
+    }
+    if error.layer == 0 || error.layer > ICMPV6 {
+        return put(&[], text);
+    }
+    if error.layer > LINK_HEADER {
+        put_frame_len(error, text)
+    } else {
+        put_len(error, text)
     }
 }
 
