@@ -1,6 +1,6 @@
 //! Texts in a buffer of the caller.
 
-ghost use Rattle.std.specs.Prelude.{◌≡◌, ◌≤◌, length};
+ghost use Rattle.std.specs.Prelude.{◌≡◌, ◌≤◌, ◌+◌, ◌++◌, length};
 ghost use Rattle.std.specs.Fmt.{decimal};
 ghost use Rattle.std.specs.List.{flat_map};
 ghost use Rattle.c_answers.specs.Text.{GivesText};
@@ -36,6 +36,16 @@ pub fn put(pieces: &[&str], text: &mut [u8]) -> usize
         text[len.min(room)] = 0;
     }
     len
+}
+
+/// Writes a number between two texts, as [`put`] does.
+#[inline(never)]
+pub fn put_number(before: &str, number: usize, after: &str, text: &mut [u8]) -> usize
+    requires short { length before.now + length after.now ≤ 512 }
+    ensures gives { GivesText (before.now ++ decimal number ++ after.now)
+        text.old text.new result }
+{
+    put(&[before, digits(number, &mut Buffer::new()), after], text)
 }
 
 // Copies bytes over as many others. `copy_from_slice` would call `memmove` of the C library.

@@ -31,7 +31,7 @@ use crate::answer::{
     IPV6_PAYLOAD_LENGTH, LEN, LINK_HEADER, LINK_TYPE, TCP_HEADER, TOO_MANY, UDP_HEADER,
     UNEXPECTED_VERSION, VALUE_TOO_BIG, VLAN_HEADER,
 };
-use c_answers::text::{digits, put};
+use c_answers::text::{digits, put, put_number};
 use itoa::Buffer;
 
 /// Writes the text of the error with these numbers to the front of a buffer, as much of it as there
@@ -375,13 +375,4 @@ fn put_too_many(error: &Error, text: &mut [u8]) -> usize
         ],
         text,
     )
-}
-
-// Writes a number between two texts.
-fn put_number(before: &'static str, number: usize, after: &'static str, text: &mut [u8]) -> usize
-    requires short { length before.now + length after.now ≤ 512 }
-    ensures gives { GivesText (before.now ++ decimal number ++ after.now)
-        text.old text.new result }
-{
-    put(&[before, digits(number, &mut Buffer::new()), after], text)
 }

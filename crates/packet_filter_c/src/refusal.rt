@@ -1,6 +1,7 @@
 //! Why a text is no filter, by its numbers, and the text of that.
 
-ghost use Rattle.std.specs.Prelude.{ℕ, ◌≡◌, ◌≢◌, ◌≤◌, [], IfSome, Some, length};
+ghost use Rattle.std.specs.Prelude.{ℕ, ◌≡◌, ◌≢◌, ◌≤◌, ◌+◌, ◌++◌, [], IfSome, Some, codes, length};
+ghost use Rattle.std.specs.Fmt.{decimal};
 ghost use Rattle.c_answers.specs.Text.{GivesText};
 ghost use Rattle.packet_filter.specs.Expected.{expected_text};
 ghost use Rattle.packet_filter.specs.Language.{filter_error_text, readings_text};
@@ -10,7 +11,7 @@ ghost use Rattle.packet_filter.specs.declared.reading.FilterError.{FilterError a
 ghost use Rattle.packet_filter_c.specs.Refusal.{expected_in_c, no_refusal, operator_in_c};
 ghost use Rattle.packet_filter_c.specs.Refusal.{refusal_in_c};
 
-use c_answers::text::{digits, put};
+use c_answers::text::{digits, put, put_number};
 use itoa::Buffer;
 use packet_filter::{Expected, FilterError, Operator, Version};
 
@@ -291,34 +292,25 @@ pub extern "C" fn etherparse_filter_error_text(refusal: &FilterRefusal, text: &m
 fn put_error(error: &FilterError, text: &mut [u8]) -> usize
     ensures gives { GivesText (filter_error_text error.now) text.old text.new result }
 {
-    let mut buffer = Buffer::new();
     match error {
-        FilterError::Unexpected { place, expected } => put(
-            &[
-                "Expression Error: The word at byte ",
-                digits(*place, &mut buffer),
-                " cannot stand there: expected ",
-                expected_text(*expected),
-                ".",
-            ],
+        FilterError::Unexpected { place, expected } => put_words(
+            "Expression Error: The word at byte ",
+            *place,
+            " cannot stand there: expected ",
+            expected_text(*expected),
             text,
         ),
-        FilterError::Mixed { place, operator } => put(
-            &[
-                "Expression Error: `and` and `or` stand together at byte ",
-                digits(*place, &mut buffer),
-                ": parentheses have to say which comes first, as in ",
-                readings_text(*operator),
-                ".",
-            ],
+        FilterError::Mixed { place, operator } => put_words(
+            "Expression Error: `and` and `or` stand together at byte ",
+            *place,
+            ": parentheses have to say which comes first, as in ",
+            readings_text(*operator),
             text,
         ),
-        FilterError::Unsupported { place } => put(
-            &[
-                "Expression Error: The word of pcap-filter(7) at byte ",
-                digits(*place, &mut buffer),
-                " is not part of the language.",
-            ],
+        FilterError::Unsupported { place } => put_number(
+            "Expression Error: The word of pcap-filter(7) at byte ",
+            *place,
+            " is not part of the language.",
             text,
         ),
         FilterError::Incomplete { expected } => put(
@@ -329,15 +321,32 @@ fn put_error(error: &FilterError, text: &mut [u8]) -> usize
             ],
             text,
         ),
-        FilterError::TooLong { place } => put(
-            &[
-                "Expression Error: It has more than 64 words: the first beyond them is at byte ",
-                digits(*place, &mut buffer),
-                ".",
-            ],
+        FilterError::TooLong { place } => put_number(
+            "Expression Error: It has more than 64 words: the first beyond them is at byte ",
+            *place,
+            ".",
             text,
         ),
     }
+}
+
+// Writes a number between two texts, and these words and a full stop after them.
+fn put_words(
+    before: &'static str,
+    number: usize,
+    after: &'static str,
+    words: &'static str,
+    text: &mut [u8],
+) -> usize
+    requires short { length before.now + length after.now + length words.now ≤ 512 }
+    ensures gives { GivesText (before.now ++ (decimal number ++ (after.now ++ (words.now
+        ++ codes ".")))) text.old text.new result }
+{
+    let mut buffer = Buffer::new();
+    put(
+        &[before, digits(number, &mut buffer), after, words, "."],
+        text,
+    )
 }
 
 // What could stand at a place.

@@ -1,5 +1,7 @@
 //! The text of an error.
 
+ghost use Rattle.std.specs.Prelude.{◌≤◌, ◌+◌, ◌++◌, length};
+ghost use Rattle.std.specs.Fmt.{decimal};
 ghost use Rattle.c_answers.specs.Text.{GivesText};
 ghost use Rattle.packet_reassembly_c.specs.ErrorText.{error_text};
 
@@ -7,7 +9,7 @@ use crate::error::{
     DefragError, EMPTY, HEADER_CHAIN, HEADERS_TOO_LONG, OFFSET, PACKET, PACKET_TOO_LONG, TOO_BIG,
     UNALIGNED_LEN,
 };
-use c_answers::text::{digits, put};
+use c_answers::text::{digits, put, put_number};
 use itoa::Buffer;
 
 /// Writes the text of the error with these numbers to the front of a buffer, as much of it as there
@@ -18,36 +20,26 @@ use itoa::Buffer;
 pub extern "C" fn etherparse_defrag_error_text(error: &DefragError, text: &mut [u8]) -> usize
     ensures gives { GivesText (error_text error.now) text.old text.new result }
 {
-    let (mut offset, mut len) = (Buffer::new(), Buffer::new());
-    let offset = digits(usize::from(error.offset), &mut offset);
-    let len = digits(error.len, &mut len);
+    let offset = usize::from(error.offset);
     match error.kind {
-        EMPTY => put(
-            &[
-                "IP Fragment Error: The fragment at offset ",
-                offset,
-                " has no bytes.",
-            ],
+        EMPTY => put_number(
+            "IP Fragment Error: The fragment at offset ",
+            offset,
+            " has no bytes.",
             text,
         ),
-        UNALIGNED_LEN => put(
-            &[
-                "IP Fragment Error: More fragments follow the one at offset ",
-                offset,
-                ", and its ",
-                len,
-                " bytes are no multiple of 8.",
-            ],
+        UNALIGNED_LEN => put_numbers(
+            "IP Fragment Error: More fragments follow the one at offset ",
+            error,
+            ", and its ",
+            " bytes are no multiple of 8.",
             text,
         ),
-        TOO_BIG => put(
-            &[
-                "IP Fragment Error: The fragment at offset ",
-                offset,
-                " has ",
-                len,
-                " bytes and ends past byte 65535.",
-            ],
+        TOO_BIG => put_numbers(
+            "IP Fragment Error: The fragment at offset ",
+            error,
+            " has ",
+            " bytes and ends past byte 65535.",
             text,
         ),
         PACKET => put(
@@ -58,20 +50,16 @@ pub extern "C" fn etherparse_defrag_error_text(error: &DefragError, text: &mut [
             &["IPv6 Fragment Error: The first fragment lacks a part of the header chain."],
             text,
         ),
-        HEADERS_TOO_LONG => put(
-            &[
-                "IP Fragment Error: The headers of the first fragment have ",
-                len,
-                " bytes, and there is room for 1280.",
-            ],
+        HEADERS_TOO_LONG => put_number(
+            "IP Fragment Error: The headers of the first fragment have ",
+            error.len,
+            " bytes, and there is room for 1280.",
             text,
         ),
-        OFFSET => put(
-            &[
-                "IP Fragment Error: The offset ",
-                offset,
-                " is greater than 8191.",
-            ],
+        OFFSET => put_number(
+            "IP Fragment Error: The offset ",
+            offset,
+            " is greater than 8191.",
             text,
         ),
         PACKET_TOO_LONG => put(
@@ -80,4 +68,29 @@ pub extern "C" fn etherparse_defrag_error_text(error: &DefragError, text: &mut [
         ),
         _ => put(&[], text),
     }
+}
+
+// Writes the offset and the length of an error between three texts.
+fn put_numbers(
+    before: &'static str,
+    error: &DefragError,
+    between: &'static str,
+    after: &'static str,
+    text: &mut [u8],
+) -> usize
+    requires short { length before.now + length between.now + length after.now ≤ 512 }
+    ensures gives { GivesText (before.now ++ (decimal error.now.offset ++ (between.now
+        ++ (decimal error.now.len ++ after.now)))) text.old text.new result }
+{
+    let (mut offset, mut len) = (Buffer::new(), Buffer::new());
+    put(
+        &[
+            before,
+            digits(usize::from(error.offset), &mut offset),
+            between,
+            digits(error.len, &mut len),
+            after,
+        ],
+        text,
+    )
 }
