@@ -9,8 +9,8 @@ use Rattle.packet.specs.declared.link.LinkError.{LinkError}
 use Rattle.packet.specs.declared.link.LinkType.{LinkType}
 use Rattle.packet.specs.declared.link_layers.LinkLayers.{LinkLayers}
 
--- the identifier of the VLAN in a tag: the lower 12 bits of its first two bytes (IEEE 802.1Q section
--- 9.6)
+-- the identifier of the VLAN in a tag: the lower 12 bits of its first two bytes (IEEE 802.1Q
+-- section 9.6)
 abbrev pub vlan_id : List ℕ → ℕ
 vlan_id tag = number_at 0 tag % 2 ^ 12
 

@@ -7,7 +7,9 @@ use Rattle.packet_reassembly.specs.IpFragment.{IsNoFragment}
 use Rattle.packet_reassembly.specs.PacketAdded.{HasTooLongPacket, IsPacketAdded, IsPacketIn}
 use Rattle.packet_reassembly.specs.PacketAdded.{RefusesPacket}
 use Rattle.packet_reassembly.specs.Pool.{AreSameBut, slot_at}
-use Rattle.packet_reassembly.specs.declared.ip_defrag_packet.IpDefragPacketError.{IpDefragPacketError}
+use Rattle.packet_reassembly.specs.declared.ip_defrag_packet.IpDefragPacketError.{
+  IpDefragPacketError,
+}
 use Rattle.packet_reassembly.specs.declared.ip_defrag_pool.Added.{Added}
 use Rattle.packet_reassembly.specs.declared.ip_defrag_pool.DatagramState.{DatagramState}
 use Rattle.packet_reassembly.specs.declared.ip_defrag_pool.DatagramState.TheVariants as state

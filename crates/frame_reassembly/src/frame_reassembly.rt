@@ -271,16 +271,11 @@ fn follow(
             *datagrams = datagrams.count(begins, false, !was.is_discarded);
             None
         }
-        DatagramState::Complete => match complete(pool, added.slot, out) {
-            Some(len) => {
-                *datagrams = datagrams.count(begins, true, false);
-                Some(len)
-            }
-            None => {
-                *datagrams = datagrams.count(begins, false, true);
-                None
-            }
-        },
+        DatagramState::Complete => {
+            let len = complete(pool, added.slot, out);
+            *datagrams = datagrams.count(begins, len.is_some(), len.is_none());
+            len
+        }
     }
 }
 

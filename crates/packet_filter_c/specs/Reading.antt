@@ -20,8 +20,8 @@ pub record RefusesInC (text : List ℕ) (refusal : FilterRefusal) : Type 0 where
 abbrev pub ChoosesNothing : List Step → Type 0
 ChoosesNothing steps = (lax : LaxSlicedPacket) → (len : ℕ) → ¬ Matches (expression_of steps) lax len
 
--- A text was read, or not: if it was, it is the expression of the filter, and there is no refusal; if
--- not, the refusal says why. A text of the language, of up to 64 words, is read.
+-- A text was read, or not: if it was, it is the expression of the filter, and there is no refusal;
+-- if not, the refusal says why. A text of the language, of up to 64 words, is read.
 pub record ReadsText (text : List ℕ) (filter : List Step) (refusal : FilterRefusal)
     (is_read : Bool) : Type 0 where
   pub read : IsTrue is_read → IsText text (expression_of filter)

@@ -4,7 +4,9 @@ use Rattle.std.specs.Prelude.{if◌then◌else◌, nat_lt, replicate}
 use Rattle.packet_reassembly.specs.IpFragment.{IsNoFragment}
 use Rattle.packet_reassembly.specs.PacketAdded.{HasNoPacket, HasTooLongPacket, IsPacketAdded}
 use Rattle.packet_reassembly.specs.PacketAdded.{IsPacketIn, RefusesPacket}
-use Rattle.packet_reassembly.specs.declared.ip_defrag_packet.IpDefragPacketError.{IpDefragPacketError}
+use Rattle.packet_reassembly.specs.declared.ip_defrag_packet.IpDefragPacketError.{
+  IpDefragPacketError,
+}
 use Rattle.packet_reassembly.specs.declared.ip_defrag_pool.Added.{Added}
 use Rattle.packet_reassembly.specs.declared.ip_defrag_pool.IpDefragSlot.{IpDefragSlot}
 use Rattle.packet_reassembly.specs.declared.ip_frag_id.IpFragId.{IpFragId}

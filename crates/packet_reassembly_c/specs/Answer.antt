@@ -26,7 +26,8 @@ pub record IsRefusedInC (old : Option (List Fragment)) (f : Fragment) (new : Opt
   pub unchanged : new ≡ old
 
 -- what is kept once a fragment has come, and what C gets
-abbrev pub AddsInC : Option (List Fragment) → Fragment → Option (List Fragment) → DefragError → Type 0
+abbrev pub AddsInC : Option (List Fragment) → Fragment → Option (List Fragment) → DefragError
+    → Type 0
 AddsInC old f new answer = IsTakenInC old f new answer ⊎ IsRefusedInC old f new answer
 
 -- the number of a state

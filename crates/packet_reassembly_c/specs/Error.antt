@@ -2,7 +2,9 @@
 use Rattle.std.specs.Prelude.{ℕ}
 use Rattle.packet_reassembly.specs.declared.ip_defrag_error.IpDefragError.{IpDefragError}
 use Rattle.packet_reassembly.specs.declared.ip_defrag_error.IpDefragError.TheVariants as fragment
-use Rattle.packet_reassembly.specs.declared.ip_defrag_packet.IpDefragPacketError.{IpDefragPacketError}
+use Rattle.packet_reassembly.specs.declared.ip_defrag_packet.IpDefragPacketError.{
+  IpDefragPacketError,
+}
 use Rattle.packet_reassembly.specs.declared.ip_defrag_packet.IpDefragPacketError.TheVariants as packet
 use Rattle.packet_reassembly_c.specs.declared.error.DefragError.{DefragError}
 

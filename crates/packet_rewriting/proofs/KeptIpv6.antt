@@ -115,6 +115,16 @@ enough_ipv6 {cut = cut} cuts rest is upper =
     let reaches : Reaches cuts.slice reaching.Upper = subst (Reaches cuts.slice) upper cuts.reaches in
     rw (taken cuts rest is, cuts.upper) (omega (arith, reaches.2, least_enough cuts.slice.upper))
 
+-- how long a packet is that begins with a header, and with another one in its place
+pub header_fits : {before rest : List ℕ} {header : Ipv6Header} → BeginsWith IsIpv6Layout before header rest → 40 ≤ length before
+header_fits {rest = rest} begins = omega (arith, ap length begins.whole, length-append begins.front rest, begins.layout.len)
+
+pub header_put : {before after rest : List ℕ} {header put marked : Ipv6Header} → BeginsWith IsIpv6Layout before header rest → put ≡ marked
+    → BeginsWith IsIpv6Layout after put (drop 40 before) → BeginsWith IsIpv6Layout after marked rest
+header_put {after = after} {rest = rest} {put = put} begins is written =
+    subst (λ h. BeginsWith IsIpv6Layout after h rest) is
+    (subst (BeginsWith IsIpv6Layout after put) (ap (drop 40) begins.whole ∙ drop_at begins.front rest 40 begins.layout.len) written)
+
 -- the packet with another address, from what was written to its parts
 pub readdressed_ipv6 : {before : List ℕ} {header : Ipv6Header} {cut : Cut} (cuts : CutsIpv6 before header cut) (old : Ipv6Header → List ℕ) (change : Ipv6Header → Ipv6Header)
     (address after first front rest payload : List ℕ) (others : ℕ) → first ≡ take cut.header_len before → rest ≡ drop cut.header_len before

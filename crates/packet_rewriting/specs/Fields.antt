@@ -10,7 +10,8 @@ use Rattle.etherparse.specs.Ipv4Header.{IsIpv4Layout, ipv4_first_word}
 use Rattle.etherparse.specs.Ipv6Header.{IsIpv6Layout}
 use Rattle.etherparse.specs.Reading.{BeginsWith}
 use Rattle.etherparse.specs.WordSums.{UpdatesChecksum, UpdatesChecksumWithNoZero}
-use Rattle.etherparse.specs.WordSums.{network_order_word_sum, updated_checksum, updated_checksum_of_words}
+use Rattle.etherparse.specs.WordSums.{network_order_word_sum, updated_checksum}
+use Rattle.etherparse.specs.WordSums.{updated_checksum_of_words}
 use Rattle.etherparse.specs.WordSums.{with_no_zero}
 use Rattle.etherparse.specs.declared.IpEcn.{IpEcn}
 use Rattle.etherparse.specs.declared.net.ipv4_header.Ipv4Header.{Ipv4Header}
@@ -34,9 +35,9 @@ use Rattle.packet_rewriting.specs.declared.fields.RewriteError.TheVariants as er
 -- The checksum of an upper layer after a change of so many words that it covers (RFC 1624 section
 -- 3). In UDP (17) 0 says that there is none, and stays; 65535 stands for another 0 (RFC 768).
 abbrev pub updated_upper : ℕ → ℕ → ℕ → List ℕ → List ℕ → ℕ
-updated_upper words number checksum old new = if number == 17
-    then (if checksum == 0 then 0 else with_no_zero (updated_checksum_of_words words checksum old new))
-    else updated_checksum_of_words words checksum old new
+updated_upper words number checksum old new =
+    let updated = updated_checksum_of_words words checksum old new in
+    if number == 17 then (if checksum == 0 then 0 else with_no_zero updated) else updated
 
 -- a payload with its checksum updated for that
 abbrev pub with_updated : ℕ → ℕ → List ℕ → List ℕ → List ℕ → List ℕ
@@ -146,7 +147,8 @@ pub record ReaddressesIpv4 (offset : ℕ) (address before after : List ℕ) (rea
   -- the payload is another one, or the same
   pub payload : List ℕ
   pub updated : UpdatesPayload reach 2 slice.upper
-      (slice_range (header_bytes slice.header) offset (offset + 4)) address slice.payload.now payload
+      (slice_range (header_bytes slice.header) offset (offset + 4)) address slice.payload.now
+      payload
   pub changed : after ≡ front ++ (payload ++ trailer)
   -- the checksum of a payload that is no later fragment is right if it was before
   pub keeps_right : slice.is_later_fragment ≡ false
@@ -262,8 +264,8 @@ pub record ChangesPort (offset port : ℕ) (before after : List ℕ) : Type 0 wh
       → IsVerdictOver slice.header slice.upper
       (with_port slice.upper offset (to_be_bytes w16 port) slice.payload.now) Right
 
--- An IPv4 header has another DSCP or ECN, in byte 1, and its checksum is updated for the first word:
--- it is right exactly when it was before. All else stays.
+-- An IPv4 header has another DSCP or ECN, in byte 1, and its checksum is updated for the first
+-- word: it is right exactly when it was before. All else stays.
 pub record MarksIpv4 (marked : Ipv4Header → Ipv4Header) (before after : List ℕ) : Type 0 where
   pub header : Ipv4Header
   pub rest : List ℕ

@@ -45,7 +45,8 @@ ipv4_checksum_of source destination protocol covered = complement_of protocol
 
 abbrev pub ipv6_checksum_of : List ℕ → List ℕ → ℕ → List ℕ → ℕ
 ipv6_checksum_of source destination number covered = complement_of number
-    (ipv6_pseudo_header source destination number (length covered) ++ with_checksum number 0 covered)
+    (ipv6_pseudo_header source destination number (length covered)
+    ++ with_checksum number 0 covered)
 
 -- This is the checksum over IPv4 of what is covered of a segment, whose length the 16 bits of a
 -- pseudo-header can tell.

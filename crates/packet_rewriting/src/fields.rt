@@ -12,14 +12,15 @@ ghost use Rattle.etherparse.specs.Ipv6Header.{IsIpv6Layout};
 ghost use Rattle.etherparse.specs.Reading.{BeginsWith};
 ghost use Rattle.etherparse.specs.WordSums.{network_order_word_sum};
 ghost use Rattle.etherparse.specs.HeaderChecksum.{with_field_and_checksum};
+ghost use Rattle.packet_parts.specs.IpSlice.{header_len_of};
 ghost use Rattle.packet_rewriting.specs.Fields.{CutsIpv4, CutsIpv6, EndsInUpper, ReaddressesIpv4};
 ghost use Rattle.packet_rewriting.specs.Fields.{HasOtherDestination, HasOtherSource, Reaches};
 ghost use Rattle.packet_rewriting.specs.Fields.{ChangesPort, CutsAtPorts, HasOtherDscp};
 ghost use Rattle.packet_rewriting.specs.Fields.{HasOtherEcn, MarksIpv4, MarksIpv6};
 ghost use Rattle.packet_rewriting.specs.Fields.{RefusesAddress, RefusesMark, RefusesPort};
 ghost use Rattle.packet_rewriting.specs.Fields.{UpdatesPayload, UpdatesUpper, covers_addresses};
-ghost use Rattle.packet_rewriting.specs.Fields.{has_ports, least_len, rewrite_error_text, updated_upper};
-ghost use Rattle.packet_rewriting.specs.Fields.{with_port, word_at};
+ghost use Rattle.packet_rewriting.specs.Fields.{has_ports, least_len, rewrite_error_text};
+ghost use Rattle.packet_rewriting.specs.Fields.{updated_upper, with_port, word_at};
 ghost use Rattle.packet_rewriting.specs.UpperChecksum.{checksum_field, checksum_place};
 ghost use Rattle.packet_rewriting.specs.declared.fields.Reach.TheVariants as reaching;
 
@@ -328,6 +329,21 @@ struct Cut {
     reach: Reach,
 }
 
+// How a packet of these parts is cut, if the change of an address reaches so far.
+fn cut_of(slice: &IpSlice, reach: Reach) -> Cut
+    ensures header_len { result.header_len ≡ header_len_of slice.now }
+    ensures payload_len { result.payload_len ≡ length slice.now.payload.now }
+    ensures upper { result.upper ≡ slice.now.upper }
+    ensures reach { result.reach ≡ reach }
+{
+    Cut {
+        header_len: slice.header_len(),
+        payload_len: slice.payload.len(),
+        upper: slice.upper,
+        reach,
+    }
+}
+
 // The header of a packet of IPv4, and how the packet is cut.
 fn ipv4_parts(packet: &[u8]) -> Result<(Ipv4Header, Cut), RewriteError>
     ensures found { IfOk result (λ x. CutsIpv4 packet.now x.0 x.1) }
@@ -337,21 +353,13 @@ fn ipv4_parts(packet: &[u8]) -> Result<(Ipv4Header, Cut), RewriteError>
         Ok(slice) => slice,
         Err(e) => return Err(RewriteError::Ip(e)),
     };
-    match slice.header {
-        IpHeaderSlice::Ipv4(view) => {
-            let reach = match reach_of(&slice) {
-                Some(reach) => reach,
-                None => return Err(RewriteError::Incomplete),
-            };
-            let cut = Cut {
-                header_len: slice.header_len(),
-                payload_len: slice.payload.len(),
-                upper: slice.upper,
-                reach,
-            };
-            Ok((view.to_header(), cut))
-        }
-        IpHeaderSlice::Ipv6(_) => Err(RewriteError::OtherVersion),
+    let view = match slice.header {
+        IpHeaderSlice::Ipv4(view) => view,
+        IpHeaderSlice::Ipv6(_) => return Err(RewriteError::OtherVersion),
+    };
+    match reach_of(&slice) {
+        Some(reach) => Ok((view.to_header(), cut_of(&slice, reach))),
+        None => Err(RewriteError::Incomplete),
     }
 }
 
@@ -364,21 +372,13 @@ fn ipv6_parts(packet: &[u8]) -> Result<(Ipv6Header, Cut), RewriteError>
         Ok(slice) => slice,
         Err(e) => return Err(RewriteError::Ip(e)),
     };
-    match slice.header {
-        IpHeaderSlice::Ipv6(view) => {
-            let reach = match reach_of(&slice) {
-                Some(reach) => reach,
-                None => return Err(RewriteError::Incomplete),
-            };
-            let cut = Cut {
-                header_len: slice.header_len(),
-                payload_len: slice.payload.len(),
-                upper: slice.upper,
-                reach,
-            };
-            Ok((view.to_header(), cut))
-        }
-        IpHeaderSlice::Ipv4(_) => Err(RewriteError::OtherVersion),
+    let view = match slice.header {
+        IpHeaderSlice::Ipv6(view) => view,
+        IpHeaderSlice::Ipv4(_) => return Err(RewriteError::OtherVersion),
+    };
+    match reach_of(&slice) {
+        Some(reach) => Ok((view.to_header(), cut_of(&slice, reach))),
+        None => Err(RewriteError::Incomplete),
     }
 }
 
@@ -525,12 +525,7 @@ fn port_cut(packet: &[u8]) -> Result<Cut, RewriteError>
     if slice.payload.len() < least_len(slice.upper) {
         return Err(RewriteError::Incomplete);
     }
-    Ok(Cut {
-        header_len: slice.header_len(),
-        payload_len: slice.payload.len(),
-        upper: slice.upper,
-        reach: Reach::Upper,
-    })
+    Ok(cut_of(&slice, Reach::Upper))
 }
 
 // Writes a port of a payload, and updates its checksum.

@@ -4,7 +4,9 @@ use Rattle.packet_reassembly.specs.IpFragment.{IsNoFragment}
 use Rattle.packet_reassembly.specs.PacketAdded.{HasTooLongPacket, IsPacketAdded, IsPacketIn}
 use Rattle.packet_reassembly.specs.PacketAdded.{RefusesPacket}
 use Rattle.packet_reassembly.specs.Pool.{slot_at}
-use Rattle.packet_reassembly.specs.declared.ip_defrag_packet.IpDefragPacketError.{IpDefragPacketError}
+use Rattle.packet_reassembly.specs.declared.ip_defrag_packet.IpDefragPacketError.{
+  IpDefragPacketError,
+}
 use Rattle.packet_reassembly.specs.declared.ip_defrag_pool.Added.{Added}
 use Rattle.packet_reassembly.specs.declared.ip_defrag_pool.DatagramState.TheVariants.{Complete}
 use Rattle.packet_reassembly.specs.declared.ip_defrag_pool.IpDefragSlot.{IpDefragSlot}

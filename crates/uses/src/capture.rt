@@ -40,16 +40,15 @@ pub fn first_wrong(file: &[u8]) -> Result<Option<Record>, Refusal>
     }
     let mut rest = records;
     'records: loop {
-        match next_record(&header, rest) {
-            Ok(Some((record, after))) => {
-                if is_wrong(record.bytes) {
-                    return Ok(Some(record));
-                }
-                rest = after;
-            }
+        let (record, after) = match next_record(&header, rest) {
+            Ok(Some(next)) => next,
             Ok(None) => return Ok(None),
             Err(e) => return Err(Refusal::CutOff(e)),
+        };
+        if is_wrong(record.bytes) {
+            return Ok(Some(record));
         }
+        rest = after;
     }
 }
 

@@ -2,7 +2,7 @@ use Rattle.std.proofs.Common.{◌≡◌, ◌++◌, ◌∙◌, ap, append_assoc, 
 use Rattle.etherparse.specs.Ipv4Header.{IsIpv4Layout}
 use Rattle.packet_parts.proofs.IpParts.{ipv4_front}
 use Rattle.packet_parts.specs.IpSlice.{HasIpv4Parts, HasPartsWith, header_bytes}
-use Rattle.packet_rewriting.specs.Fields.{version_in}
+use Rattle.packet_rewriting.specs.Fields.{Reaches, version_in}
 use Rattle.packet_rewriting.proofs.fields.ipv4_parts.Goals as goal
 
 pub returns-in-None-clause-refused : goal.returns-in-None-clause-refused
@@ -20,10 +20,10 @@ returns-in-Some-clause-found c =
       parts = c.in-Ok.ensures.found;
       version = ap version_in c.in-Ipv4.is;
       layout = subst (IsIpv4Layout c.to_header.result) (sym (ap header_bytes c.in-Ipv4.is)) c.to_header.ensures.layout;
-      header_len = c.header_len.ensures.value ∙ omega (arith, ap length parts.no_extensions);
-      payload_len = refl;
-      upper = refl;
-      reaches = c.in-Some.ensures.found;
+      header_len = c.cut_of.ensures.header_len ∙ omega (arith, ap length parts.no_extensions);
+      payload_len = c.cut_of.ensures.payload_len;
+      upper = c.cut_of.ensures.upper;
+      reaches = subst (Reaches slice) (sym c.cut_of.ensures.reach) c.in-Some.ensures.found;
       trailer = more.0;
       whole = more.1 ∙ ap (λ b. b ++ more.0) (parts.begins.whole ∙ ap (λ f. f ++ slice.payload.now) front) ∙ append_assoc (header_bytes slice.header) slice.payload.now more.0;
     }

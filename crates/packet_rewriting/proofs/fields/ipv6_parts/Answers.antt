@@ -2,7 +2,7 @@ use Rattle.std.proofs.Common.{◌∙◌, ap, arith, refl, subst, sym}
 use Rattle.etherparse.specs.Ipv6Header.{IsIpv6Layout}
 use Rattle.packet_parts.specs.IpSlice.{header_bytes}
 use Rattle.packet_rewriting.proofs.Readdressed.{whole}
-use Rattle.packet_rewriting.specs.Fields.{version_in}
+use Rattle.packet_rewriting.specs.Fields.{Reaches, version_in}
 use Rattle.packet_rewriting.proofs.fields.ipv6_parts.Goals as goal
 
 pub returns-in-None-clause-refused : goal.returns-in-None-clause-refused
@@ -16,10 +16,10 @@ returns-in-Some-clause-found c =
       parts = c.in-Ok.ensures.found;
       version = ap version_in c.in-Ipv6.is;
       layout = subst (IsIpv6Layout c.to_header.result) (sym (ap header_bytes c.in-Ipv6.is)) c.to_header.ensures.layout;
-      header_len = c.header_len.ensures.value;
-      payload_len = refl;
-      upper = refl;
-      reaches = c.in-Some.ensures.found;
+      header_len = c.cut_of.ensures.header_len;
+      payload_len = c.cut_of.ensures.payload_len;
+      upper = c.cut_of.ensures.upper;
+      reaches = subst (Reaches c.in-Ok.slice) (sym c.cut_of.ensures.reach) c.in-Some.ensures.found;
       trailer = cut.0;
       whole = cut.1;
     }

@@ -1,4 +1,4 @@
-use Rattle.std.proofs.Common.{refl, sym, ◌∙◌}
+use Rattle.std.proofs.Common.{sym, ◌∙◌}
 use Rattle.packet_rewriting.proofs.Readdressed.{whole}
 use Rattle.packet_rewriting.proofs.fields.port_cut.Goals as goal
 
@@ -25,9 +25,9 @@ returns-clause-found c =
         protocol = sym c.has_ports.ensures.value ∙ c.if-not-has_ports.false;
         enough = rw c.least_len.ensures.value at c.if-slice-least_len.false;
       };
-      header_len = c.header_len.ensures.value;
-      payload_len = refl;
-      upper = refl;
+      header_len = c.cut_of.ensures.header_len;
+      payload_len = c.cut_of.ensures.payload_len;
+      upper = c.cut_of.ensures.upper;
       trailer = cut.0;
       whole = cut.1;
     }
