@@ -17,7 +17,7 @@ use Rattle.packet.proofs.Frames.{lax_frame_read}
 use Rattle.packet.proofs.WholeHeaders.{icmp_header, icmpv4_found, icmpv6_found}
 use Rattle.packet.specs.Link.{link_parts}
 use Rattle.packet.specs.SlicedPacket.{HasLinkLayers, IsFrame, IsLaxReadingOf, carries_ip}
-use Rattle.packet.specs.Transport.{HasPorts, ReadsHeader, TransportReading, missing_in, protocol_of, transport_parts}
+use Rattle.packet.specs.Transport.{HasPorts, ReadsHeader, ReadsTransport, TransportReading, missing_in, protocol_of, transport_parts}
 use Rattle.packet.specs.Vlan.{AreAllTags, EndsTags}
 use Rattle.packet.specs.declared.link.LinkType.{LinkType}
 use Rattle.packet.specs.declared.link_layers.LinkLayers.{LinkLayers}
@@ -37,6 +37,7 @@ use Rattle.etherparse_c.specs.Layers.{GetsAnswer, HasTransportInC, IsLaxInC, hea
 use Rattle.etherparse_c.specs.Private.Stored.{HasNetworkInC, HasOtherInC, HasPortsInC, icmp_over, reads_tcp, reads_udp}
 use Rattle.etherparse_c.specs.declared.packet_layers.Packet.{Packet}
 use Rattle.etherparse_c.specs.declared.packet_layers.PacketIp.{PacketIp}
+use Rattle.etherparse_c.specs.declared.packet_layers.PacketLink.{PacketLink}
 use Rattle.etherparse_c.specs.declared.packet_layers.PacketTransport.{PacketTransport}
 
 -- a header of no fragment says so
@@ -214,29 +215,28 @@ module _ (place : ℕ) (packet : List ℕ) (slice : IpSlice) (ip_in_c : PacketIp
   abbrev rest : Bor (List ℕ)
   rest = record { ref_ptr = (0, 0); now = drop 4 slice.payload.now }
 
+  -- the header of a message, without ports
+  with_icmp : (found : TransportSlice) → ReadsTransport start slice (Some found) None → ((ports : ℕ × ℕ) → HasPorts slice ports → ⊥)
+      → transport_in_c ≡ header_at start (Some found) → HasNetworkInC place packet ip_in_c transport_in_c
+  with_icmp found reads none value = record {
+    slice = slice;
+    transport = Some found;
+    network = record { ip_stop = None; parts = parts; missing = None; reads = reads; stops = refl };
+    ports = None;
+    are_ports = none;
+    ip_value = ip_value;
+    transport_value = value;
+  }
+
   with_icmpv4 : (view : Ipv4HeaderSlice) → slice.header ≡ version.Ipv4 view → slice.fragment ≡ None → slice.upper ≡ 1 → 4 ≤ length slice.payload.now
       → transport_in_c ≡ icmp_at start 1 (slice_index slice.payload.now 0) (slice_index slice.payload.now 1) (drop 4 slice.payload.now) → HasNetworkInC place packet ip_in_c transport_in_c
-  with_icmpv4 view is alone upper enough value = record {
-    slice = slice;
-    transport = Some (transport.Icmpv4 (icmp_header slice.payload.now) rest);
-    network = record { ip_stop = None; parts = parts; missing = None; reads = icmpv4_found start slice view rest later alone upper is enough refl; stops = refl };
-    ports = None;
-    are_ports = no_ports_4 view is upper;
-    ip_value = ip_value;
-    transport_value = value ∙ same_icmp start 1 slice.payload.now enough;
-  }
+  with_icmpv4 view is alone upper enough value = with_icmp (transport.Icmpv4 (icmp_header slice.payload.now) rest) (icmpv4_found start slice view rest later alone upper is enough refl)
+      (no_ports_4 view is upper) (value ∙ same_icmp start 1 slice.payload.now enough)
 
   with_icmpv6 : (view : Ipv6HeaderSlice) → slice.header ≡ version.Ipv6 view → slice.fragment ≡ None → slice.upper ≡ 58 → 4 ≤ length slice.payload.now
       → transport_in_c ≡ icmp_at start 58 (slice_index slice.payload.now 0) (slice_index slice.payload.now 1) (drop 4 slice.payload.now) → HasNetworkInC place packet ip_in_c transport_in_c
-  with_icmpv6 view is alone upper enough value = record {
-    slice = slice;
-    transport = Some (transport.Icmpv6 (icmp_header slice.payload.now) rest);
-    network = record { ip_stop = None; parts = parts; missing = None; reads = icmpv6_found start slice view rest later alone upper is enough refl; stops = refl };
-    ports = None;
-    are_ports = no_ports_6 view is upper;
-    ip_value = ip_value;
-    transport_value = value ∙ same_icmp start 58 slice.payload.now enough;
-  }
+  with_icmpv6 view is alone upper enough value = with_icmp (transport.Icmpv6 (icmp_header slice.payload.now) rest) (icmpv6_found start slice view rest later alone upper is enough refl)
+      (no_ports_6 view is upper) (value ∙ same_icmp start 58 slice.payload.now enough)
 
   -- the message of a number that ICMP has over the version of the packet
   message_of : (icmp : ℕ) → slice.upper ≡ icmp
@@ -286,6 +286,17 @@ pub record StoresLayers (layers : LinkLayers) (place : ℕ) (in_c : Packet) : Ty
   pub stops : in_c.stop ≡ no_error
   pub header_checksum : in_c.header_checksum ≡ 0
   pub payload_checksum : in_c.payload_checksum ≡ 0
+
+pub stores : (layers : LinkLayers) (place : ℕ) (in_c : Packet) (link : PacketLink) → in_c.link ≡ link
+    → ((packet : SlicedPacket) → packet.link ≡ layers.link → packet.vlan ≡ layers.vlan → packet.ether_type ≡ layers.ether_type
+    → packet.payload.now ≡ layers.payload.now → link ≡ link_in_c place packet)
+    → in_c.stop ≡ no_error → in_c.header_checksum ≡ 0 → in_c.payload_checksum ≡ 0 → StoresLayers layers place in_c
+stores layers place in_c link put made stops header payload = record {
+  link = λ packet link vlan ether_type payload. put ∙ made packet link vlan ether_type payload;
+  stops = stops;
+  header_checksum = header;
+  payload_checksum = payload;
+}
 
 module _ (link_type : LinkType) (bytes : List ℕ) (layers : LinkLayers) (in_c : Packet) (has : HasLinkLayers link_type bytes layers) (goes_on : layers.stop ≡ None)
     (stored : StoresLayers layers (length bytes - length layers.payload.now) in_c) where

@@ -14,6 +14,7 @@ use crate::store::put_whole;
 use etherparse_link::EtherType;
 use packet::lax_sliced_packet::{LaxSlicedPacket, frame_layers, layers_after};
 use packet::link::LinkType;
+use std::mem;
 
 /// The layers of a frame, as far as they can be read. The link type is a number of the registry of
 /// tcpdump.org. If `checksums` is true, the checksums of the IP packet are judged.
@@ -54,7 +55,7 @@ pub extern "C" fn etherparse_packet_strict_from_link_type(
 {
     match LinkType::from_number(link_type) {
         Some(link_type) => {
-            put_kept(link_type, frame, checksums, answer);
+            put_as_read(link_type, frame, checksums, answer);
             refuse_stopped(answer);
         }
         None => *answer = refused(Error::of_link_type(link_type)),
@@ -167,7 +168,7 @@ fn put(
 {
     match known {
         Some(LinkType::Ethernet2) => put_ethernet(frame, in_one_pass, checksums, answer),
-        Some(link_type) => put_kept(link_type, frame, checksums, answer),
+        Some(link_type) => put_as_read(link_type, frame, checksums, answer),
         None => *answer = refused(Error::of_link_type(number)),
     }
 }
@@ -182,12 +183,12 @@ fn put_ethernet(frame: &[u8], in_one_pass: bool, checksums: bool, answer: &mut P
     if in_one_pass && put_whole(frame, answer) {
         return;
     }
-    put_kept(LinkType::Ethernet2, frame, checksums, answer);
+    put_as_read(LinkType::Ethernet2, frame, checksums, answer);
 }
 
 // The layers of a frame of a link type that is read.
 #[inline(never)]
-fn put_kept(link_type: LinkType, frame: &[u8], checksums: bool, answer: &mut Packet)
+fn put_as_read(link_type: LinkType, frame: &[u8], checksums: bool, answer: &mut Packet)
     ensures reads { GetsAnswer (IsLaxReadingOf link_type frame.now)
         (IsLaxInC (length frame.now) checksums answer.new) }
 {
@@ -215,24 +216,8 @@ fn refuse_stopped(answer: &mut Packet)
     ensures refused { answer.old.stop.kind ≢ 0 → answer.new ≡ refused_packet answer.old.stop }
 {
     if answer.stop.kind != 0 {
-        let Error {
-            kind,
-            number,
-            layer,
-            required_len,
-            len,
-            layer_start_offset,
-            limit,
-        } = answer.stop;
-        *answer = refused(Error {
-            kind,
-            number,
-            layer,
-            required_len,
-            len,
-            layer_start_offset,
-            limit,
-        });
+        let stop = mem::take(&mut answer.stop);
+        *answer = refused(stop);
     }
 }
 

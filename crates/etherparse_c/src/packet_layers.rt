@@ -435,18 +435,13 @@ pub(crate) fn icmp_at(
 fn header_verdict(packet: &SlicedPacket) -> u8
     ensures judges { IsHeaderVerdict true packet.now.net result }
 {
-    match &packet.net {
-        Some(ip) => match &ip.header {
-            IpHeaderSlice::Ipv4(view) => {
-                if u64_16bit_word::checksum(0, view.slice()) == 0 {
-                    1
-                } else {
-                    2
-                }
-            }
-            IpHeaderSlice::Ipv6(_) => 0,
-        },
-        None => 0,
+    let Some(ip) = &packet.net else {
+        return 0;
+    };
+    match &ip.header {
+        IpHeaderSlice::Ipv4(view) if u64_16bit_word::checksum(0, view.slice()) == 0 => 1,
+        IpHeaderSlice::Ipv4(_) => 2,
+        IpHeaderSlice::Ipv6(_) => 0,
     }
 }
 

@@ -5,7 +5,8 @@ use Rattle.etherparse_link.specs.Bytes.{number_at}
 use Rattle.etherparse_transport.specs.Tcp.{ViewsTcp}
 use Rattle.etherparse_transport.specs.Udp.{ReadsUdp}
 use Rattle.packet.specs.Network.{HasNetwork}
-use Rattle.packet.specs.Transport.{ReadsAs, TransportReading, tcp_reading, transport_parts, udp_reading}
+use Rattle.packet.specs.Transport.{ReadsAs, TransportReading}
+use Rattle.packet.specs.Transport.{tcp_reading, transport_parts, udp_reading}
 use Rattle.packet.specs.declared.transport.TransportSlice.{TransportSlice}
 use Rattle.packet_parts.specs.IpSlice.{header_len_of}
 use Rattle.packet_parts.specs.declared.ip_slice.IpHeaderSlice.{IpHeaderSlice}

@@ -5,5 +5,5 @@ use Rattle.etherparse_c.proofs.frame.etherparse_packet_strict_from_link_type.Goa
 pub returns-in-Some : goal.returns-in-Some
 returns-in-Some c = record {
   reads = rw (← c.in-Some.ensures.value)
-      (whole_frame c.in-Some.link_type c.args.frame.now (length c.args.frame.now) c.args.checksums _ _ c.put_kept.ensures.reads (c.refuse_stopped.ensures.whole, c.refuse_stopped.ensures.refused));
+      (whole_frame c.in-Some.link_type c.args.frame.now (length c.args.frame.now) c.args.checksums _ _ c.put_as_read.ensures.reads (c.refuse_stopped.ensures.whole, c.refuse_stopped.ensures.refused));
 }
