@@ -7,7 +7,8 @@
   a line in antt stands in a proof or a definition; other code stands in a file of its language or
   compiles.
 - An example in a doc comment stands in a test of `etherparse_tests`, `header_tests` or `packet_tests`,
-  or in a caller of `uses`.
+  or in a caller of `uses`; there `assert_equal(&rt, a, b)` may stand for `assert!(rt; a == b)`
+  and for `assert_eq!(rt; a, b)`.
 - A file that a page names is there, and each command names files that are there; a command that
   pipes into `rt run` or `rt try` in crates/iphead is run by the built program, and prints what the
   page shows.
@@ -248,17 +249,30 @@ def check_signatures(page, block):
             judge(page, found.group(1), is_one, f'is no clause of {function}')
 
 
+EQUATION = re.compile(r'assert!\(rt;((?:(?!&&|\|\||==|;(?!\d+\])).)+)==((?:(?!&&|\|\||==|;(?!\d+\])).)+)\);')
+
+
+def with_calls(squeezed):
+    """a squeezed text with the call `assert_equal(&rt, a, b)` for each `assert!(rt; a == b)` and each
+    `assert_eq!(rt; a, b)`"""
+    called = EQUATION.sub(r'assert_equal(&rt,\1,\2);', squeezed)
+    return called.replace('assert_eq!(rt;', 'assert_equal(&rt,').replace(',)', ')')
+
+
 def check_comments(file, text):
     """each example of a doc comment stands in a test or in a caller"""
     comment = '\n'.join(re.sub(r'^\s*//[/!] ?', '', line) if re.match(r'\s*//[/!]', line) else ''
                         for line in text.split('\n'))
-    tests = [source for path, source in SQUEEZED.items()
-             if any(f'{crate}/src' in str(path) for crate in TESTS)]
     for language, block in blocks(comment):
         if language == '':
             first = block.strip().split('\n')[0]
-            stands = any(without_contracts(block) in test for test in tests)
+            example = with_calls(without_contracts(block))
+            stands = any(example in test for test in IN_TESTS)
             judge(file, first, stands, 'stands in no test and no caller')
+
+
+IN_TESTS = [with_calls(source) for path, source in SQUEEZED.items()
+            if any(f'{crate}/src' in str(path) for crate in TESTS)]
 
 
 def is_there(page, name):

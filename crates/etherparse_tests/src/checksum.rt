@@ -2,7 +2,7 @@
 //! lengths where another way to sum begins; worked values; what a sum prints. More worked values
 //! are in the sample that `conformance` replays.
 
-use crate::shared::{random_bytes, sum_word_by_word};
+use crate::shared::{assert_clones, assert_equal, fill_without_pattern, sum_word_by_word};
 use etherparse::checksum::{
     Sum16BitWords, u32_16bit_word, u64_16bit_word, update_4bytes_with_no_zero,
     update_16bytes_with_no_zero,
@@ -11,7 +11,7 @@ use std::process::Abort;
 use std::test::Fail;
 
 // A start, the bytes that are added to it, and the complement of the sum.
-static CASES: [(u16, &[u8], u16); 7] = [
+static CASES: [(u16, &[u8], u16); 14] = [
     (0x1234, &[], 0xedcb),
     (0, &[0x12, 0x34], 0xcbed),
     (0, &[0xf0, 0x0f], 0xf00f),
@@ -33,30 +33,59 @@ static CASES: [(u16, &[u8], u16); 7] = [
         ],
         0xebea,
     ),
-];
-
-static ASCENDING: [u8; 15] = [
-    0x11, 0x12, 0x13, 0x14, 0x15, 0x16, 0x17, 0x18, 0x19, 0x1a, 0x1b, 0x1c, 0x1d, 0x1e, 0x1f,
-];
-
-// How many of these bytes are added to a start of 1, and the complement of the sum.
-static OF_ASCENDING: [(usize, u16); 7] = [
-    (15, 0x573e),
-    (14, 0x575d),
-    (13, 0x755d),
-    (12, 0x757a),
-    (11, 0x917a),
-    (10, 0x9195),
-    (9, 0xab95),
+    (
+        1,
+        &[
+            0x11, 0x12, 0x13, 0x14, 0x15, 0x16, 0x17, 0x18, 0x19, 0x1a, 0x1b, 0x1c, 0x1d, 0x1e,
+            0x1f,
+        ],
+        0x573e,
+    ),
+    (
+        1,
+        &[
+            0x11, 0x12, 0x13, 0x14, 0x15, 0x16, 0x17, 0x18, 0x19, 0x1a, 0x1b, 0x1c, 0x1d, 0x1e,
+        ],
+        0x575d,
+    ),
+    (
+        1,
+        &[
+            0x11, 0x12, 0x13, 0x14, 0x15, 0x16, 0x17, 0x18, 0x19, 0x1a, 0x1b, 0x1c, 0x1d,
+        ],
+        0x755d,
+    ),
+    (
+        1,
+        &[
+            0x11, 0x12, 0x13, 0x14, 0x15, 0x16, 0x17, 0x18, 0x19, 0x1a, 0x1b, 0x1c,
+        ],
+        0x757a,
+    ),
+    (
+        1,
+        &[
+            0x11, 0x12, 0x13, 0x14, 0x15, 0x16, 0x17, 0x18, 0x19, 0x1a, 0x1b,
+        ],
+        0x917a,
+    ),
+    (
+        1,
+        &[0x11, 0x12, 0x13, 0x14, 0x15, 0x16, 0x17, 0x18, 0x19, 0x1a],
+        0x9195,
+    ),
+    (
+        1,
+        &[0x11, 0x12, 0x13, 0x14, 0x15, 0x16, 0x17, 0x18, 0x19],
+        0xab95,
+    ),
 ];
 
 #[test]
 fn a_slice_has_one_complement_in_all_sums(rt: HostRuntime) {
     for (start, slice, complement) in &CASES {
-        assert_eq!(rt;
-            complements_of(u64::from(*start), u32::from(*start), slice),
-            [*complement; 5]
-        );
+        let complements = complements_of(u64::from(*start), u32::from(*start), slice);
+        assert_equal(&rt, complements, [*complement; 5]);
     }
 }
 
@@ -67,29 +96,18 @@ fn one_add_to_a_new_sum_has_the_complement_of_its_words(rt: HostRuntime) {
         0x11, 0x12, 0x13, 0x14, 0x15, 0x16, 0x17, 0x18, 0x19, 0x1a, 0x1b, 0x1c, 0x1d, 0x1e, 0x1f,
         0x10,
     ];
-    let sums = [
-        (Sum16BitWords::new(), 0xffff),
-        (Sum16BitWords::new().add_slice(&[0x12, 0x34]), 0xcbed),
-        (Sum16BitWords::new().add_2bytes([0xf0, 0x0f]), 0xf00f),
-        (
-            Sum16BitWords::new().add_4bytes([0x12, 0x34, 0x56, 0x78]),
-            0x5397,
-        ),
-        (Sum16BitWords::new().add_8bytes(eight), 0x2040),
-        (Sum16BitWords::new().add_16bytes(sixteen), 0x473f),
-    ];
-    for (sum, complement) in &sums {
-        assert_eq!(rt; sum.ones_complement(), *complement);
-    }
-}
-
-#[test]
-fn the_front_of_a_slice_has_one_complement_in_all_sums(rt: HostRuntime) -> Result<(), Fail> {
-    for (len, complement) in &OF_ASCENDING {
-        let slice = ASCENDING.get(..*len).ok_or("too few")?;
-        assert_eq!(rt; complements_of(1, 1, slice), [*complement; 5]);
-    }
-    Ok(())
+    let none = Sum16BitWords::new();
+    let of_slice = Sum16BitWords::new().add_slice(&[0x12, 0x34]);
+    let of_2bytes = Sum16BitWords::new().add_2bytes([0xf0, 0x0f]);
+    let of_4bytes = Sum16BitWords::new().add_4bytes([0x12, 0x34, 0x56, 0x78]);
+    let of_8bytes = Sum16BitWords::new().add_8bytes(eight);
+    let of_16bytes = Sum16BitWords::new().add_16bytes(sixteen);
+    assert_equal(&rt, none.ones_complement(), 0xffff);
+    assert_equal(&rt, of_slice.ones_complement(), 0xcbed);
+    assert_equal(&rt, of_2bytes.ones_complement(), 0xf00f);
+    assert_equal(&rt, of_4bytes.ones_complement(), 0x5397);
+    assert_equal(&rt, of_8bytes.ones_complement(), 0x2040);
+    assert_equal(&rt, of_16bytes.ones_complement(), 0x473f);
 }
 
 // The complement of a start and a slice, by each way to sum them in 64 bits and in 32.
@@ -118,50 +136,49 @@ fn assert_sums_as_words(rt: &impl Abort, slice: &[u8]) {
         (u64::MAX, u32::MAX),
     ] {
         let complements = complements_of(start, start_of_32, slice);
-        assert_eq!(rt; complements, [!sum_word_by_word(start, slice); 5]);
+        assert_equal(rt, complements, [!sum_word_by_word(start, slice); 5]);
     }
 }
 
 #[test]
-fn a_short_slice_sums_as_its_words_do(rt: HostRuntime) -> Result<(), Fail> {
-    let bytes = random_bytes(rt.alloc(), 146)?;
+fn a_short_slice_sums_as_its_words_do(rt: HostRuntime) {
+    let mut bytes = [0; 146];
+    fill_without_pattern(&mut bytes, 1);
     for offset in 0..16 {
         for len in 0..=130 {
-            assert_sums_as_words(&rt, bytes.get(offset..offset + len).ok_or("too few")?);
+            assert_sums_as_words(&rt, &bytes[offset..offset + len]);
         }
     }
-    Ok(())
 }
 
 #[test]
-fn a_slice_sums_as_its_words_do(rt: HostRuntime) -> Result<(), Fail> {
-    let bytes = random_bytes(rt.alloc(), 1480)?;
+fn a_slice_sums_as_its_words_do(rt: HostRuntime) {
+    let mut bytes = [0; 1480];
+    fill_without_pattern(&mut bytes, 1);
     for len in 1270..1480 {
-        assert_sums_as_words(&rt, bytes.get(..len).ok_or("too few")?);
+        assert_sums_as_words(&rt, &bytes[..len]);
     }
-    Ok(())
 }
 
 #[test]
-fn a_slice_of_any_length_and_place_sums_as_its_words_do(rt: HostRuntime) -> Result<(), Fail> {
-    let bytes = random_bytes(rt.alloc(), 4112)?;
-    assert_sums_as_words(&rt, bytes.get(..4096).ok_or("too few")?);
+fn a_slice_of_any_length_and_place_sums_as_its_words_do(rt: HostRuntime) {
+    let mut bytes = [0; 4112];
+    fill_without_pattern(&mut bytes, 1);
+    assert_sums_as_words(&rt, bytes.get(..4096).expect(&rt, "bytes"));
     for drawn in bytes.chunks(4) {
         if let [low, high, offset, ..] = drawn {
             let len = usize::from(u16::from_le_bytes([*low, *high % 16]));
             let offset = usize::from(*offset % 16);
-            assert_sums_as_words(&rt, bytes.get(offset..offset + len).ok_or("too few")?);
+            let slice = bytes.get(offset..offset + len).expect(&rt, "bytes");
+            assert_sums_as_words(&rt, slice);
         }
     }
-    Ok(())
 }
 
 #[test]
-fn a_long_slice_of_large_bytes_sums_as_its_words_do(rt: HostRuntime) -> Result<(), Fail> {
-    for byte in [0xff, 0xfe] {
-        assert_sums_as_words(&rt, &vec![in rt.alloc(); byte; 200_000]?);
-    }
-    Ok(())
+fn a_long_slice_of_large_bytes_sums_as_its_words_do(rt: HostRuntime) {
+    assert_sums_as_words(&rt, &[0xff; 200_000]);
+    assert_sums_as_words(&rt, &[0xfe; 200_000]);
 }
 
 #[test]
@@ -171,9 +188,8 @@ fn a_sum_is_kept_in_64_bits(rt: HostRuntime) -> Result<(), Fail> {
         sum = sum.add_4bytes([255; 4]);
     }
     let at_once = Sum16BitWords::default().add_8bytes([252, 255, 255, 255, 3, 0, 0, 0]);
-    assert!(rt; sum.clone()? == at_once);
-    let text = format!(in rt.alloc(); "{sum:?}")?;
-    assert_eq!(rt; text.as_str(), "Sum16BitWords { sum: 17179869180 }");
+    assert_equal(&rt, sum.clone()?, at_once);
+    assert_clones(&rt, rt.alloc(), &sum, "Sum16BitWords { sum: 17179869180 }");
     Ok(())
 }
 
@@ -193,5 +209,5 @@ fn no_checksum_stays_none_and_any_other_is_not_zero(rt: HostRuntime) {
         update_16bytes_with_no_zero(0, old, new),
         update_16bytes_with_no_zero(0xdd2f, old, old),
     ];
-    assert_eq!(rt; [of_4bytes, of_16bytes], [[0xffff, 0, 0xdd2f]; 2]);
+    assert_equal(&rt, [of_4bytes, of_16bytes], [[0xffff, 0, 0xdd2f]; 2]);
 }

@@ -1,10 +1,9 @@
 //! That both headers have each field where the standards lay it out: by what `{:?}` prints for a
 //! header that was read, and by the bytes that are written for it.
 
-use crate::shared::{IPV6_ASCENDING, WITH_OPTIONS, assert_clones, assert_hashes};
+use crate::shared::{IPV6_ASCENDING, WITH_OPTIONS, assert_clones, assert_equal, assert_hashes};
 use arrayvec::ArrayVec;
 use etherparse::{Ipv4Header, Ipv6Header};
-use std::test::Fail;
 
 // A header whose fields all differ, with no options and the reserved bit 1; it is written with 0.
 const WITH_RESERVED_BIT: [u8; 20] = [
@@ -41,15 +40,14 @@ static IPV4: [(&[u8], &[u8], &str); 2] = [
 ];
 
 #[test]
-fn each_ipv4_field_is_read_and_written(rt: HostRuntime) -> Result<(), Fail> {
+fn each_ipv4_field_is_read_and_written(rt: HostRuntime) {
     for (bytes, written, text) in &IPV4 {
         let (header, rest) = Ipv4Header::from_slice(bytes).expect(&rt, "a header");
         let answer: ArrayVec<u8, 60> = header.to_bytes();
-        assert_eq!(rt; (answer.as_slice(), rest.len()), (*written, 0));
-        assert_hashes(&rt, &header)?;
-        assert_clones(&rt, rt.alloc(), &header, text)?;
+        assert_equal(&rt, (answer.as_slice(), rest.len()), (*written, 0));
+        assert_hashes(&rt, &header);
+        assert_clones(&rt, rt.alloc(), &header, text);
     }
-    Ok(())
 }
 
 // The bytes of a header, which are written for it too, and what `{:?}` prints.
@@ -72,12 +70,11 @@ static IPV6: [([u8; 40], &str); 2] = [
 ];
 
 #[test]
-fn each_ipv6_field_is_read_and_written(rt: HostRuntime) -> Result<(), Fail> {
+fn each_ipv6_field_is_read_and_written(rt: HostRuntime) {
     for (bytes, text) in &IPV6 {
         let (header, rest) = Ipv6Header::from_slice(bytes).expect(&rt, "a header");
         let answer: [u8; 40] = header.to_bytes();
-        assert_eq!(rt; (answer, rest.len()), (*bytes, 0));
-        assert_clones(&rt, rt.alloc(), &header, text)?;
+        assert_equal(&rt, (answer, rest.len()), (*bytes, 0));
+        assert_clones(&rt, rt.alloc(), &header, text);
     }
-    Ok(())
 }

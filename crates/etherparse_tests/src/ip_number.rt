@@ -1,3 +1,4 @@
+use crate::shared::assert_equal;
 use etherparse::{IpNumber, ip_number};
 
 // The number of each constant of `IpNumber`, the number of the module's constant with the same
@@ -245,9 +246,9 @@ static SHORT_NAMES: [(u8, u8); 9] = [
 #[test]
 fn each_constant_has_its_number(rt: HostRuntime) {
     for (number, of_module, expected) in &NUMBERS {
-        assert_eq!(rt; (number, of_module), (expected, expected));
+        assert_equal(&rt, (*number, *of_module), (*expected, *expected));
     }
     for (number, expected) in &SHORT_NAMES {
-        assert_eq!(rt; number, expected);
+        assert_equal(&rt, *number, *expected);
     }
 }

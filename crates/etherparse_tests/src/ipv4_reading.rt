@@ -1,23 +1,16 @@
 //! The reading of IPv4 headers: each first byte at each length from 0 to 60, by a table.
 
-use crate::shared::{Outcome, Row, assert_counts, outcome_of, too_short};
+use crate::shared::{Outcome, Row, assert_equal, count, outcome_of, too_short};
 use etherparse::err::Layer;
 use etherparse::err::ipv4::{HeaderError, HeaderSliceError};
 use etherparse::{Ipv4Header, Ipv4HeaderSlice};
 use std::process::Abort;
-use std::test::Fail;
-
-// That the reader returns the header and what follows it.
-fn assert_reads(rt: &impl Abort, slice: &[u8], header: &Ipv4Header, rest: &[u8]) {
-    let (actual, actual_rest) = Ipv4Header::from_slice(slice).expect(rt, "a header in front");
-    assert_eq!(rt; (&actual, actual_rest), (header, rest));
-}
 
 // That the view and the reader refuse the slice with the same error.
 fn assert_refuses(rt: &impl Abort, slice: &[u8], expected: &HeaderSliceError) {
     let of_view = Ipv4HeaderSlice::from_slice(slice).expect_err(rt, "no view");
     let of_reader = Ipv4Header::from_slice(slice).expect_err(rt, "no header");
-    assert_eq!(rt; (&of_view, &of_reader), (expected, expected));
+    assert_equal(rt, (&of_view, &of_reader), (expected, expected));
 }
 
 // The reading of a slice by its length and its first byte (RFC 791 section 3.1).
@@ -62,50 +55,35 @@ fn refusal(outcome: Outcome, needed: usize, len: usize, first: u8) -> HeaderSlic
     }
 }
 
-// That a slice of bytes 0xa5 after the first begins with a header of this length, which is written
-// back with the reserved bit 0.
-fn assert_reads_and_writes(rt: &impl Abort, slice: &[u8], header_len: usize) {
+// That a slice begins with a header of this length, for which these bytes are written.
+fn assert_reads_and_writes(rt: &impl Abort, slice: &[u8], header_len: usize, written: &[u8]) {
     let view = Ipv4HeaderSlice::from_slice(slice).expect(rt, "a view in front");
-    let front = view.slice();
+    assert_equal(rt, Some(view.slice()), slice.get(..header_len));
     let header = view.to_header();
-    let rest = slice.get(header_len..).expect(rt, "bytes after the header");
-    assert_reads(rt, slice, &header, rest);
     let bytes = header.to_bytes();
-    let written = bytes.as_slice();
-    let parts = (written.get(..6), written.get(6), written.get(7..));
-    assert_eq!(rt;
-        (Some(front), parts),
-        (
-            slice.get(..header_len),
-            (front.get(..6), Some(&0x25), front.get(7..))
-        )
-    );
+    assert_equal(rt, Some(bytes.as_slice()), written.get(..header_len));
+    let (read, rest) = Ipv4Header::from_slice(slice).expect(rt, "a header in front");
+    assert_equal(rt, (&read, Some(rest)), (&header, slice.get(header_len..)));
 }
 
 #[test]
-fn each_first_byte_is_read_or_refused_at_each_length(rt: HostRuntime) -> Result<(), Fail> {
-    let mut outcomes = Vec::new(rt.alloc());
+fn each_first_byte_is_read_or_refused_at_each_length(rt: HostRuntime) {
+    let mut counts = [0; 5];
     for first in 0..=255u8 {
         let mut bytes = [0xa5; 60];
         bytes[0] = first;
+        // The reserved bit is written as 0.
+        let mut written = bytes;
+        written[6] = 0x25;
         for len in 0..=60 {
             let slice = &bytes[..len];
-            let (outcome, needed) = outcome_of(&READING, len, first).ok_or("no row")?;
+            let (outcome, needed) = outcome_of(&READING, len, first).expect(&rt, "a row");
             match outcome {
-                Outcome::Header => assert_reads_and_writes(&rt, slice, needed),
+                Outcome::Header => assert_reads_and_writes(&rt, slice, needed, &written),
                 _ => assert_refuses(&rt, slice, &refusal(outcome, needed, len, first)),
             }
-            outcomes.push(outcome)?;
+            count(&mut counts, outcome);
         }
     }
-    let counts = [
-        (Outcome::TooShort, 5_120),
-        (Outcome::OtherVersion, 9_840),
-        (Outcome::SmallIhl, 205),
-        (Outcome::ShorterThanIhl, 220),
-        (Outcome::Header, 231),
-    ];
-    assert_eq!(rt; outcomes.len(), 15_616);
-    assert_counts(&rt, &outcomes, &counts);
-    Ok(())
+    assert_equal(&rt, counts, [5_120, 9_840, 205, 220, 231]);
 }

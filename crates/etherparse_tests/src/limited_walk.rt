@@ -1,3 +1,4 @@
+use crate::shared::assert_equal;
 use etherparse::err::ipv6::ChainError;
 use etherparse::err::{Layer, LenError};
 use etherparse::{IpNumber, Ipv6Header, LenSource};
@@ -43,13 +44,13 @@ fn incomplete(offset: usize) -> ChainError {
 // That a number and what follows it are returned.
 fn assert_walks(rt: &impl Abort, slice: &[u8], first: u8, limit: usize, number: u8, rest: &[u8]) {
     let answer = Ipv6Header::skip_header_extensions_up_to(slice, IpNumber(first), limit);
-    assert_eq!(rt; (limit, answer), (limit, Ok((IpNumber(number), rest))));
+    assert_equal(rt, (limit, answer), (limit, Ok((IpNumber(number), rest))));
 }
 
 // That the walk is refused.
 fn assert_refuses(rt: &impl Abort, slice: &[u8], limit: usize, expected: ChainError) {
     let answer = Ipv6Header::skip_header_extensions_up_to(slice, IpNumber(0), limit);
-    assert_eq!(rt; (limit, answer), (limit, Err(expected)));
+    assert_equal(rt, (limit, answer), (limit, Err(expected)));
 }
 
 #[test]
@@ -74,10 +75,9 @@ fn a_limit_of_no_header_keeps_the_slice(rt: HostRuntime) {
 #[test]
 fn the_limit_counts_the_headers_that_are_skipped(rt: HostRuntime) {
     let mut bytes = [0; 65];
-    for (i, number) in CHAIN.iter().enumerate().skip(1) {
-        bytes[8 * (i - 1)] = *number;
-    }
-    [bytes[17], bytes[56], bytes[64]] = [255, 6, 9];
+    [bytes[0], bytes[8], bytes[16], bytes[24]] = [43, 44, 51, 60];
+    [bytes[32], bytes[40], bytes[48], bytes[56]] = [135, 139, 140, 6];
+    [bytes[17], bytes[64]] = [255, 9];
     for (limit, number) in CHAIN.iter().enumerate() {
         assert_refuses(&rt, &bytes, limit, too_many(limit, *number, 8 * limit));
     }
@@ -91,22 +91,20 @@ fn a_limit_above_an_eighth_of_the_length_changes_nothing(rt: HostRuntime) {
     let zeros = [0; 64];
     for len in 0..=64 {
         let slice = &zeros[..len];
-        let plain = Ipv6Header::skip_all_header_extensions_in_slice(slice, IpNumber(0));
-        if let Err(refusal) = plain {
-            assert_refuses(&rt, slice, len / 8 + 1, ChainError::Len(refusal));
-        } else {
-            panic!(rt; "no header is refused");
-        }
+        let refusal = Ipv6Header::skip_all_header_extensions_in_slice(
+            slice,
+            IpNumber(0),
+        ).expect_err(&rt, "a header is refused");
+        assert_refuses(&rt, slice, len / 8 + 1, ChainError::Len(refusal));
     }
 }
 
 #[test]
 fn an_error_is_told_further_on(rt: HostRuntime) {
     let zeros = [0; 264];
-    let answer = Ipv6Header::skip_header_extensions_up_to(&zeros, IpNumber(0), 32);
-    if let Err(refusal) = answer {
-        assert_eq!(rt; refusal.add_slice_offset(40), too_many(32, 0, 296));
-    } else {
-        panic!(rt; "nothing is refused");
-    }
+    let refusal = Ipv6Header::skip_header_extensions_up_to(&zeros, IpNumber(0), 32).expect_err(
+        &rt,
+        "a header too many",
+    );
+    assert_equal(&rt, refusal.add_slice_offset(40), too_many(32, 0, 296));
 }
