@@ -5,18 +5,11 @@
 # crate, the results for a sample of the packets are compared with the crate's too; an empty REFERENCE is none.
 set -eu
 here=$(CDPATH= cd -- "$(dirname -- "$0")" && pwd)
-library=$here/..
+. "$here/../../etherparse_c/fuzz/library.sh"
 reference=${1:-}
 count=${2:-10000000}
 seed=${3:-0}
-out=$library/out/fuzz
-mkdir -p "$out"
-(cd "$library" && rt lib) > "$out/lib.txt" 2>&1 || {
-  cat "$out/lib.txt" >&2
-  exit 1
-}
-gcc -std=c11 -O2 -g -Wall -Wextra -Werror -fsanitize=address,undefined -fno-sanitize-recover=all -I "$library/include" \
-  -o "$out/fuzz" "$here/fuzz.c" "$here/inputs.c" "$here/packets.c" "$here/reference.c" "$here/reference_packets.c" "$library/out/libetherparse_c.a"
+build fuzz "$here/fuzz.c" "$here/inputs.c" "$here/packets.c" "$here/reference.c" "$here/reference_packets.c" "$library/out/libetherparse_c.a"
 "$out/fuzz" "$count" 86400 500 "$out/cases.txt" "$out/answers.txt" "$seed"
 [ -n "$reference" ] || exit 0
 "$reference" < "$out/cases.txt" > "$out/expected.txt"

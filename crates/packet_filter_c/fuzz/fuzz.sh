@@ -5,25 +5,14 @@
 # words say of the frame (meaning.c). Frames and texts end at a page that faults. Without libpcap and its header it does the latter alone.
 set -eu
 here=$(CDPATH= cd -- "$(dirname -- "$0")" && pwd)
-library=$here/..
-frames=$library/../etherparse_c
-out=$library/out/fuzz
-mkdir -p "$out"
-(cd "$library" && rt lib) > "$out/lib.txt" 2>&1 || {
-  cat "$out/lib.txt" >&2
-  exit 1
-}
-build() {
-  gcc -std=c11 -O2 -g -Wall -Wextra -Werror -fsanitize=address,undefined -fno-sanitize-recover=all -I "$library/include" \
-    -I "$frames/include" -I "$frames/fuzz" -o "$@"
-}
+. "$here/../../etherparse_c/fuzz/library.sh"
 count=${1:-100000}
 if echo '#include <pcap/pcap.h>' | gcc -E - > "$out/header.txt" 2>&1; then
-  build "$out/fuzz" "$here/fuzz.c" "$library/out/libpacket_filter_c.a" -lpcap
+  build fuzz "$here/fuzz.c" "$library/out/libpacket_filter_c.a" -lpcap
   "$out/fuzz" "$count" "${2:-0}"
 else
   echo "left out: libpcap's header is not there"
 fi
-build "$out/meaning" "$here/meaning.c" "$frames/fuzz/inputs.c" "$frames/fuzz/reference.c" "$frames/fuzz/reference_packets.c" \
+build meaning "$here/meaning.c" "$frames/fuzz/inputs.c" "$frames/fuzz/reference.c" "$frames/fuzz/reference_packets.c" \
   "$library/out/libpacket_filter_c.a"
 "$out/meaning" "$((10 * count))" 86400 "${2:-0}"
