@@ -10,57 +10,19 @@ use std::fmt;
 
 /// The cases `FIELD.new V` and `FIELD.try V`: a field from its number.
 pub fn answer(field: &str, name: &str, arguments: &mut Arguments, answer: &mut String) -> Written {
-    match field {
-        "dscp" => {
-            let number = arguments.number();
-            let made = [IpDscp::try_new(number), IpDscp::try_from(number)];
-            write_made(name, &made, arguments, answer)
-        }
-        "frag" => {
-            let number = arguments.number();
-            let made = [
-                IpFragOffset::try_new(number),
-                IpFragOffset::try_from(number),
-            ];
-            write_made(name, &made, arguments, answer)
-        }
-        "flow" => {
-            let number = arguments.number();
-            let made = [
-                Ipv6FlowLabel::try_new(number),
-                Ipv6FlowLabel::try_from(number),
-            ];
-            write_made(name, &made, arguments, answer)
-        }
-        "ecn" => {
-            let number = arguments.number();
-            let made = [IpEcn::try_new(number), IpEcn::try_from(number)];
-            write_made(name, &made, arguments, answer)
-        }
-        "vlan_id" => {
-            let number = arguments.number();
-            let made = [VlanId::try_new(number), VlanId::try_from(number)];
-            write_made(name, &made, arguments, answer)
-        }
-        "vlan_pcp" => {
-            let number = arguments.number();
-            let made = [VlanPcp::try_new(number), VlanPcp::try_from(number)];
-            write_made(name, &made, arguments, answer)
-        }
-        _ => arguments.refused(),
-    }
-}
-
-// What the call that a case names has made: `new` or `try`.
-fn write_made<T: Shown>(
-    name: &str,
-    made: &[T; 2],
-    arguments: &mut Arguments,
-    answer: &mut String,
-) -> Written {
-    match name {
-        "new" => write_shown(&made[0], answer),
-        "try" => write_shown(&made[1], answer),
+    match (field, name) {
+        ("dscp", "new") => write_shown(&IpDscp::try_new(arguments.number()), answer),
+        ("dscp", "try") => write_shown(&IpDscp::try_from(arguments.number::<u8>()), answer),
+        ("frag", "new") => write_shown(&IpFragOffset::try_new(arguments.number()), answer),
+        ("frag", "try") => write_shown(&IpFragOffset::try_from(arguments.number::<u16>()), answer),
+        ("flow", "new") => write_shown(&Ipv6FlowLabel::try_new(arguments.number()), answer),
+        ("flow", "try") => write_shown(&Ipv6FlowLabel::try_from(arguments.number::<u32>()), answer),
+        ("ecn", "new") => write_shown(&IpEcn::try_new(arguments.number()), answer),
+        ("ecn", "try") => write_shown(&IpEcn::try_from(arguments.number::<u8>()), answer),
+        ("vlan_id", "new") => write_shown(&VlanId::try_new(arguments.number()), answer),
+        ("vlan_id", "try") => write_shown(&VlanId::try_from(arguments.number::<u16>()), answer),
+        ("vlan_pcp", "new") => write_shown(&VlanPcp::try_new(arguments.number()), answer),
+        ("vlan_pcp", "try") => write_shown(&VlanPcp::try_from(arguments.number::<u8>()), answer),
         _ => arguments.refused(),
     }
 }

@@ -3,57 +3,94 @@
 ghost use Rattle.std.specs.Prelude.{◌+◌, ◌^◌, ◌<◌};
 ghost use Rattle.std.specs.Bool.{OnTrue};
 
-use crate::arguments::Arguments;
-use crate::shown::{Written, write_shown};
+use crate::arguments::{Argument, Arguments};
+use crate::shown::{Shown, Written, write_shown};
 use etherparse::err::{LenError, ipv4, ipv6};
 
 /// The cases `off.NAME OFFSET ERROR`: each makes an error from its arguments and adds the offset to
 /// its place. If the sum does not fit, the case is a bad one.
 pub fn answer(name: &str, arguments: &mut Arguments, answer: &mut String) -> Written {
-    let offset = arguments.number();
     match name {
-        "len" => {
-            let error: LenError = arguments.read();
-            if has_room(offset, error.layer_start_offset) {
-                return write_shown(&error.add_offset(offset), answer);
-            }
-        }
-        "v4" => {
-            let error: ipv4::HeaderSliceError = arguments.read();
-            let place = match &error {
-                ipv4::HeaderSliceError::Len(e) => e.layer_start_offset,
-                ipv4::HeaderSliceError::Content(_) => 0,
-            };
-            if has_room(offset, place) {
-                return write_shown(&error.add_slice_offset(offset), answer);
-            }
-        }
-        "v6" => {
-            let error: ipv6::HeaderSliceError = arguments.read();
-            let place = match &error {
-                ipv6::HeaderSliceError::Len(e) => e.layer_start_offset,
-                ipv6::HeaderSliceError::Content(_) => 0,
-            };
-            if has_room(offset, place) {
-                return write_shown(&error.add_slice_offset(offset), answer);
-            }
-        }
-        "chain" => {
-            let error: ipv6::ChainError = arguments.read();
-            let place = match &error {
-                ipv6::ChainError::Len(e) => e.layer_start_offset,
-                ipv6::ChainError::TooMany {
-                    layer_start_offset,
-                    ..
-                } => *layer_start_offset,
-            };
-            if has_room(offset, place) {
-                return write_shown(&error.add_slice_offset(offset), answer);
-            }
-        }
-        _ => {}
+        "len" => write_moved::<LenError>(arguments, answer),
+        "v4" => write_moved::<ipv4::HeaderSliceError>(arguments, answer),
+        "v6" => write_moved::<ipv6::HeaderSliceError>(arguments, answer),
+        "chain" => write_moved::<ipv6::ChainError>(arguments, answer),
+        _ => arguments.refused(),
     }
-    arguments.refused()
+}
+
+// Reads an offset and an error, and writes the error with the offset added to its place.
+fn write_moved<E: Argument + Placed + Shown>(
+    arguments: &mut Arguments,
+    answer: &mut String,
+) -> Written {
+    let offset = arguments.number();
+    let error: E = arguments.read();
+    match error.moved(offset) {
+        Some(moved) => write_shown(&moved, answer),
+        None => arguments.refused(),
+    }
+}
+
+// An error that can tell a place in a packet.
+trait Placed: Drop + Sized {
+    // The error with an offset added to its place; `None` if the sum does not fit.
+    fn moved(self, offset: usize) -> Option<Self>;
+}
+
+impl Placed for LenError {
+    fn moved(self, offset: usize) -> Option<LenError> {
+        if has_room(offset, self.layer_start_offset) {
+            Some(self.add_offset(offset))
+        } else {
+            None
+        }
+    }
+}
+
+impl Placed for ipv4::HeaderSliceError {
+    fn moved(self, offset: usize) -> Option<ipv4::HeaderSliceError> {
+        let place = match &self {
+            ipv4::HeaderSliceError::Len(e) => e.layer_start_offset,
+            ipv4::HeaderSliceError::Content(_) => 0,
+        };
+        if has_room(offset, place) {
+            Some(self.add_slice_offset(offset))
+        } else {
+            None
+        }
+    }
+}
+
+impl Placed for ipv6::HeaderSliceError {
+    fn moved(self, offset: usize) -> Option<ipv6::HeaderSliceError> {
+        let place = match &self {
+            ipv6::HeaderSliceError::Len(e) => e.layer_start_offset,
+            ipv6::HeaderSliceError::Content(_) => 0,
+        };
+        if has_room(offset, place) {
+            Some(self.add_slice_offset(offset))
+        } else {
+            None
+        }
+    }
+}
+
+impl Placed for ipv6::ChainError {
+    fn moved(self, offset: usize) -> Option<ipv6::ChainError> {
+        let place = match &self {
+            ipv6::ChainError::Len(e) => e.layer_start_offset,
+            ipv6::ChainError::TooMany {
+                layer_start_offset,
+                ..
+            } => *layer_start_offset,
+        };
+        if has_room(offset, place) {
+            Some(self.add_slice_offset(offset))
+        } else {
+            None
+        }
+    }
 }
 
 // Whether the place of an error fits after the offset is added.

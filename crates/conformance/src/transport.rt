@@ -20,23 +20,17 @@ pub fn answer_udp(name: &str, arguments: &mut Arguments, answer: &mut String) ->
         }
         "v4" => {
             let (source, destination) = (arguments.array(), arguments.array());
-            match UdpHeader::from_slice(&arguments.bytes()) {
-                Ok((header, payload)) => {
-                    let sum = header.calc_checksum_ipv4_raw(source, destination, payload);
-                    write_shown(&sum, answer)
-                }
-                Err(e) => write_shown(&e, answer),
-            }
+            let sum = UdpHeader::from_slice(&arguments.bytes()).map(|(header, payload)| {
+                header.calc_checksum_ipv4_raw(source, destination, payload)
+            });
+            write_sum(&sum, answer)
         }
         "v6" => {
             let (source, destination) = (arguments.array(), arguments.array());
-            match UdpHeader::from_slice(&arguments.bytes()) {
-                Ok((header, payload)) => {
-                    let sum = header.calc_checksum_ipv6_raw(source, destination, payload);
-                    write_shown(&sum, answer)
-                }
-                Err(e) => write_shown(&e, answer),
-            }
+            let sum = UdpHeader::from_slice(&arguments.bytes()).map(|(header, payload)| {
+                header.calc_checksum_ipv6_raw(source, destination, payload)
+            });
+            write_sum(&sum, answer)
         }
         _ => arguments.refused(),
     }
@@ -51,25 +45,27 @@ pub fn answer_tcp(name: &str, arguments: &mut Arguments, answer: &mut String) ->
         "elements" => answer_elements(arguments, answer),
         "v4" => {
             let (source, destination) = (arguments.array(), arguments.array());
-            match TcpHeader::from_slice(&arguments.bytes()) {
-                Ok((header, payload)) => {
-                    let sum = header.calc_checksum_ipv4_raw(source, destination, payload);
-                    write_shown(&sum, answer)
-                }
-                Err(e) => write_shown(&e, answer),
-            }
+            let sum = TcpHeader::from_slice(&arguments.bytes()).map(|(header, payload)| {
+                header.calc_checksum_ipv4_raw(source, destination, payload)
+            });
+            write_sum(&sum, answer)
         }
         "v6" => {
             let (source, destination) = (arguments.array(), arguments.array());
-            match TcpHeader::from_slice(&arguments.bytes()) {
-                Ok((header, payload)) => {
-                    let sum = header.calc_checksum_ipv6_raw(source, destination, payload);
-                    write_shown(&sum, answer)
-                }
-                Err(e) => write_shown(&e, answer),
-            }
+            let sum = TcpHeader::from_slice(&arguments.bytes()).map(|(header, payload)| {
+                header.calc_checksum_ipv6_raw(source, destination, payload)
+            });
+            write_sum(&sum, answer)
         }
         _ => arguments.refused(),
+    }
+}
+
+// The checksum of what was read at the front of some bytes.
+fn write_sum<S: Shown, E: Shown>(sum: &Result<S, E>, answer: &mut String) -> Written {
+    match sum {
+        Ok(sum) => write_shown(sum, answer),
+        Err(e) => write_shown(e, answer),
     }
 }
 
