@@ -55,22 +55,18 @@ pub fn ipv6_fragment_parts(
             Ok(skipped) => skipped,
             Err(e) => return Err(e.add_offset(at)),
         };
-        match deciding(rest, number) {
-            Some((fragment, payload)) => {
-                return Ok(Some(Ipv6FragmentParts {
-                    before: &body[..last],
-                    last: &body[last..at],
-                    fragment,
-                    payload,
-                }));
-            }
-            None => {
-                number = next;
-                last = at;
-                at = body.len() - after.len();
-                rest = after;
-            }
+        if let Some((fragment, payload)) = deciding(rest, number) {
+            return Ok(Some(Ipv6FragmentParts {
+                before: &body[..last],
+                last: &body[last..at],
+                fragment,
+                payload,
+            }));
         }
+        number = next;
+        last = at;
+        at = body.len() - after.len();
+        rest = after;
     }
 }
 

@@ -33,7 +33,7 @@ headers-preserved c =
     let fits = (c.in-Ok.ensures.accepted skippable).0 refl in
     let same : (c.in-Ok.skipped.0 ≡ slice_index c.headers.rest.now 0) × (c.in-Ok.skipped.1.now ≡ drop k c.headers.rest.now) =
     IfOk-at_ok (λ x. (x.0 ≡ slice_index c.headers.rest.now 0) × (x.1 ≡ drop k c.headers.rest.now)) (sym (c.in-Ok.ensures.skipped skippable fits)) (refl, refl) in
-    rw (same.0, same.1) (walked_more w skippable fits (c.in-None.ensures.none c.args.body.now c.args.first w.passes) (length c.args.body.now - length (drop k c.headers.rest.now))
+    rw (same.0, same.1) (walked_more w skippable fits (c.in_default.ensures.none c.args.body.now c.args.first w.passes) (length c.args.body.now - length (drop k c.headers.rest.now))
     (omega (arith, length-drop k c.headers.rest.now, ap length w.is, length-drop c.headers.at c.args.body.now)))
 
 pub deciding-requires-clause-skippable : goal.deciding-requires-clause-skippable
