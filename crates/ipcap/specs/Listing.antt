@@ -1,6 +1,6 @@
 -- What is written of the blocks of a capture, in their order.
-use Rattle.std.specs.Prelude.{ℕ, ◌≡◌, ◌≢◌, ◌+◌, ◌-◌, ◌<◌, ◌≤◌, ◌⊎◌, Bool, true, false, List, [], ◌++◌}
-use Rattle.std.specs.Prelude.{MatchOption, None, Option, Some, drop, length, take}
+use Rattle.std.specs.Prelude.{ℕ, ◌≡◌, ◌≢◌, ◌+◌, ◌-◌, ◌<◌, ◌≤◌, ◌⊎◌, Bool, true, false}
+use Rattle.std.specs.Prelude.{List, [], ◌++◌, MatchOption, None, Option, Some, drop, length, take}
 use Rattle.std.specs.Bool.{then_some}
 use Rattle.std.specs.Option.{is_none}
 use Rattle.packet.specs.Link.{link_type_of}
@@ -63,8 +63,8 @@ pub record TellsPacket (request : Request) (head : PacketHead) (frame : List ℕ
   pub reads : ReadsChosen request (seen_as head frame whole).head (seen_as head frame whole).frame
       found
 
--- what is told of a block that says this, if it is not too long; and what it does to what is counted
--- and to what has come of datagrams
+-- what is told of a block that says this, if it is not too long; and what it does to what is
+-- counted and to what has come of datagrams
 abbrev pub ToldOf : Request → Said → Totals → Memory → Totals → Memory → Told → Type 0
 ToldOf request (said.packet head frame) before old after new (packet is_reassembled same found) =
     TellsPacket request head frame before old after new is_reassembled same found

@@ -82,8 +82,8 @@ abbrev pub front_of : Request → Capture → List ℕ → List ℕ
 front_of request capture input = kept_if (copies request.mode) (take (header_len capture) input)
 
 -- the outcome for a capture with these blocks, of which something stands before them
-pub record IsListing (request : Request) (memory : Memory) (capture : Capture) (front blocks : List ℕ)
-    (outcome : Outcome) : Type 0 where
+pub record IsListing (request : Request) (memory : Memory) (capture : Capture)
+    (front blocks : List ℕ) (outcome : Outcome) : Type 0 where
   pub text : List ℕ
   pub totals : Totals
   pub end : Option End

@@ -58,15 +58,16 @@ counted_packet_of is_long head None totals = record totals {
   skipped = totals.skipped + from_bool is_long;
 }
 
--- what is told of a block: of a packet whether it is put together, its head, and its reading if it is
--- listed; of another block nothing
+-- what is told of a block: of a packet whether it is put together, its head, and its reading if it
+-- is listed; of another block nothing
 pub data Told : Type 0 where
   packet : Bool → PacketHead → Option Reading → Told
   no_packet : Told
 
 -- with one more block, of a packet or not
 abbrev pub counted_block : Bool → Told → Totals → Totals
-counted_block is_long (packet is_reassembled head found) totals = counted_packet_of is_long head found totals
+counted_block is_long (packet is_reassembled head found) totals =
+    counted_packet_of is_long head found totals
 counted_block is_long no_packet totals = totals
 
 -- the same with its bytes, as far as 64 bits can count them

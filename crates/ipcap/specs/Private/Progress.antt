@@ -1,6 +1,6 @@
 -- How much of a capture has been listed.
-use Rattle.std.specs.Prelude.{ℕ, ◌≡◌, ◌≢◌, ◌<◌, ◌≤◌, ◌⊎◌, List, [], ◌++◌, Option, Some, None, length}
-use Rattle.std.specs.Prelude.{Bool, ◌&&◌, ◌∷◌, drop, false, true}
+use Rattle.std.specs.Prelude.{ℕ, ◌≡◌, ◌≢◌, ◌<◌, ◌≤◌, ◌⊎◌, List, [], ◌++◌, Option, Some, None}
+use Rattle.std.specs.Prelude.{Bool, ◌&&◌, ◌∷◌, drop, false, length, true}
 use Rattle.std.specs.Option.{is_none}
 use Rattle.std.specs.Io.KnownBytes.{IsAtEnd}
 use Rattle.packet_capture.specs.Any.{RefusesBlock, Said}
