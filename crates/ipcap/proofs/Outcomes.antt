@@ -18,7 +18,7 @@ use Rattle.ipcap.specs.Private.Ended.{FailsListing, LacksFront, WritesListing}
 use Rattle.ipcap.specs.Private.Progress.{Because, Breaks, Ends, IsTold, WantsMore}
 use Rattle.ipcap.specs.Reassembled.{Memory}
 use Rattle.ipcap.specs.Request.{copies}
-use Rattle.ipcap.specs.Streams.{CannotRead, Gets, GetsFront, Prints, PrintsFront, Reports, Takes, kept_if, pending, unlisted, unread}
+use Rattle.ipcap.specs.Streams.{CannotRead, Gets, GetsFront, NoReadFails, Prints, PrintsFront, Reports, Takes, kept_if, pending, unlisted, unread}
 use Rattle.ipcap.specs.Totals.{HasRoom, first_totals}
 use Rattle.ipcap.specs.declared.failure.Failure.{Failure}
 use Rattle.ipcap.specs.declared.failure.Failure.TheVariants as failure
@@ -108,13 +108,30 @@ cause_then P Q N F D P' D' failure.Read f g c = (f c.0, c.1, g c.2)
 cause_then P Q N F D P' D' failure.Write f g c = c
 cause_then P Q N F D P' D' failure.Count f g c = (c.0, g c.1)
 
+-- no read fails, if none does in two parts
+unfailed_then : {R : Type 0} (has_failed : R → Type 0) (a b d c : Input R) → NoReadFails has_failed a b → d.source ≡ b.source → NoReadFails has_failed d c → NoReadFails has_failed a c
+unfailed_then has_failed a b d c first same later = λ x. first (subst has_failed same (later x))
+
+write_is : ¬ (failure.Write ≡ failure.Read)
+write_is e = grind arith
+
+count_is : ¬ (failure.Count ≡ failure.Read)
+count_is e = grind arith
+
+-- a read failed only if more was wanted
+wanted_of : (P Q full wants fine : Type 0) (e : Failure) (rest left : List ℕ) → Because P Q full e wants rest left → (¬ (e ≡ failure.Read) → fine) → fine ⊎ (wants × (rest ≡ []))
+wanted_of P Q full wants fine failure.Read rest left b other = inr (b.0, b.1)
+wanted_of P Q full wants fine failure.Write rest left b other = inl (other write_is)
+wanted_of P Q full wants fine failure.Count rest left b other = inl (other count_is)
+
 -- ---- a listing
 
 module _ {R W V : Type 0} (remaining : R → Option (List ℕ)) (contents : W → Option (List ℕ)) (also : V → Option (List ℕ)) (P : R → Type 0) (Q : W → Type 0) (Q' : V → Type 0) (request : Request) (memory : Memory) where
   module _ (capture : Capture) (a c : Input R) (o m n : Output W) (p : Output V) where
     -- some records are told, and a write failed
-    pub broken : (e : Failure) → Breaks remaining contents request P Q (first_place memory capture) e a c o m → Prints contents m n [] → Q n.sink → FailsListing remaining contents P Q request memory capture failure.Write a c o n p p
-    broken e b handed failed = record {
+    pub broken : (e : Failure) → Breaks remaining contents request P Q (first_place memory capture) e a c o m → Prints contents m n [] → Q n.sink → (¬ (e ≡ failure.Read) → NoReadFails P a c)
+        → FailsListing remaining contents P Q request memory capture failure.Write a c o n p p
+    broken e b handed failed other = record {
       got = b.got;
       reads = b.reads;
       front = b.tells.front;
@@ -129,6 +146,7 @@ module _ {R W V : Type 0} (remaining : R → Option (List ℕ)) (contents : W �
       parts = append_assoc b.tells.printed b.tells.left (listed request (b.tells.printed ++ b.tells.left) b.tells.last b.tells.end).closing;
       prints = prints_then contents o m n b.tells.printed b.tells.prints handed;
       errors = refl;
+      wanted = wanted_of _ _ _ (WantsMore request b.tells.last b.tells.end) (NoReadFails P a c) e b.tells.rest b.tells.left b.tells.cause other;
       cause = failed;
     }
 
@@ -139,8 +157,9 @@ module _ {R W V : Type 0} (remaining : R → Option (List ℕ)) (contents : W �
     cause_of failure.Count wants full rest printed left b other wrote all = (b.0, (rw (b.1, append-nil printed) wrote, all))
 
     -- or a read failed or a count was full
-    pub broken_off : (e : Failure) → ¬ (e ≡ failure.Write) → Breaks remaining contents request P Q (first_place memory capture) e a c o m → Prints contents m n [] → pending n ≡ [] → FailsListing remaining contents P Q request memory capture e a c o n p p
-    broken_off e other b handed all =
+    pub broken_off : (e : Failure) → ¬ (e ≡ failure.Write) → Breaks remaining contents request P Q (first_place memory capture) e a c o m → Prints contents m n [] → pending n ≡ [] → (¬ (e ≡ failure.Read) → NoReadFails P a c)
+        → FailsListing remaining contents P Q request memory capture e a c o n p p
+    broken_off e other b handed all unfailed =
         let wrote = prints_then contents o m n b.tells.printed b.tells.prints handed in
         record {
           got = b.got;
@@ -157,14 +176,15 @@ module _ {R W V : Type 0} (remaining : R → Option (List ℕ)) (contents : W �
           parts = append_assoc b.tells.printed b.tells.left (listed request (b.tells.printed ++ b.tells.left) b.tells.last b.tells.end).closing;
           prints = wrote;
           errors = refl;
+          wanted = wanted_of _ _ _ (WantsMore request b.tells.last b.tells.end) (NoReadFails P a c) e b.tells.rest b.tells.left b.tells.cause unfailed;
           cause = cause_of e (WantsMore request b.tells.last b.tells.end) (¬ HasRoom b.tells.last) b.tells.rest b.tells.printed b.tells.left b.tells.cause other wrote all;
         }
 
     -- all is told
     module _ (totals : Totals) (end : Option End) (b : Ends remaining contents request (first_place memory capture) totals end a c o m) where
       -- and then a write failed
-      pub not_closed : PrintsFront contents m n (listed request [] totals end).closing → Q n.sink → FailsListing remaining contents P Q request memory capture failure.Write a c o n p p
-      not_closed k failed = record {
+      pub not_closed : PrintsFront contents m n (listed request [] totals end).closing → Q n.sink → NoReadFails P a c → FailsListing remaining contents P Q request memory capture failure.Write a c o n p p
+      not_closed k failed unfailed = record {
         got = b.got;
         reads = b.reads;
         front = unread a ++ b.got;
@@ -179,6 +199,7 @@ module _ {R W V : Type 0} (remaining : R → Option (List ℕ)) (contents : W �
         parts = ap (λ s. b.told.text ++ s) k.whole ∙ sym (append_assoc b.told.text k.front k.rest);
         prints = prints_both contents o m n b.told.text k.front b.told.prints k.prints;
         errors = refl;
+        wanted = inl unfailed;
         cause = failed;
       }
 
@@ -215,9 +236,10 @@ module _ {R W V : Type 0} (remaining : R → Option (List ℕ)) (contents : W �
       reads = t.reads;
       rest = [];
       outcome = refused (capture_error_line (capture.CutOff few.0));
-      is_outcome = inr (refl, record { error = capture.CutOff few.0; front = subst (λ s. ReadsFront s (Err (capture.CutOff few.0))) (sym t.takes) few.1; outcome_of = refl });
+      is_outcome = inr (refl, record { error = few.0; front = subst (λ s. ReadsFront s (Err (capture.CutOff few.0))) (sym t.takes) few.1; outcome_of = refl });
       output = record { front = []; rest = []; whole = refl; gets = Appends-nil (contents o.sink) };
       errors = refl;
+      wanted = inr (tt, refl);
       cause = ((failed, tt), refl, Appends-nil (contents o.sink));
     }
 
@@ -270,8 +292,8 @@ module _ {R W V : Type 0} (remaining : R → Option (List ℕ)) (contents : W �
 
       module _ (d : Input R) (o m : Output W) (p : Output V) (fresh : pending o ≡ []) where
         -- what stands before the blocks is not written
-        pub not_begun : Prints contents o m [] → Q m.sink → Fails remaining contents P Q request memory failure.Write a b o m p p
-        not_begun kept_out failed = record {
+        pub not_begun : Prints contents o m [] → Q m.sink → NoReadFails P a b → Fails remaining contents P Q request memory failure.Write a b o m p p
+        not_begun kept_out failed unfailed = record {
           got = t.got;
           reads = t.reads;
           rest = drop (header_len found) (unread b);
@@ -279,6 +301,7 @@ module _ {R W V : Type 0} (remaining : R → Option (List ℕ)) (contents : W �
           is_outcome = inl (listed_to (unread a ++ t.got) [] [] (drop (header_len found) (unread b)) [] (first_totals (is_some memory)) None (t.takes ∙ sym (append-nil (unread b))) (append-nil (drop (header_len found) (unread b))) ends);
           output = printed_front contents o m [] _ fresh kept_out;
           errors = refl;
+          wanted = inl unfailed;
           cause = failed;
         }
 
@@ -307,9 +330,10 @@ module _ {R W V : Type 0} (remaining : R → Option (List ℕ)) (contents : W �
           open_at totals (Some (CutOff e)) text wants = tt
           open_at totals (Some _) text wants = absurd wants
 
-          pub listing_fails_by : (r : Result Status Failure) → IfErr r (λ e. FailsListing remaining contents P Q request memory found e d c m n p q) → IfErr r (λ e. Fails remaining contents P Q request memory e a c o n p q)
-          listing_fails_by (Ok s) f = tt
-          listing_fails_by (Err e) f = record {
+          pub listing_fails_by : NoReadFails P a b → d.source ≡ b.source → (r : Result Status Failure) → IfErr r (λ e. FailsListing remaining contents P Q request memory found e d c m n p q)
+              → IfErr r (λ e. Fails remaining contents P Q request memory e a c o n p q)
+          listing_fails_by unfailed same (Ok s) f = tt
+          listing_fails_by unfailed same (Err e) f = record {
             got = takes.got ++ f.got;
             reads = reads_both remaining a d c takes.got f.got takes.reads f.reads;
             rest = f.rest;
@@ -317,5 +341,9 @@ module _ {R W V : Type 0} (remaining : R → Option (List ℕ)) (contents : W �
             is_outcome = inl (listed_to _ f.got f.front f.rest f.text f.totals f.end (read_is f.got) (ap (λ v. v ++ f.got) (sym rest_is) ∙ f.whole) f.lists);
             output = rw (parts kept f.text (listed request f.text f.totals f.end).closing f.printed f.unprinted f.parts) (printed_front contents o n (kept ++ f.printed) f.unprinted fresh (prints_both contents o m n kept f.printed begun f.prints));
             errors = f.errors;
+            wanted = elim f.wanted [
+              | inl later ↦ inl (unfailed_then P a b d c unfailed same later)
+              | inr wants ↦ inr (open_at f.totals f.end (kept ++ f.text) wants.0, wants.1)
+            ];
             cause = cause_then _ _ _ _ _ _ _ e (λ x. (x.0, open_at f.totals f.end (kept ++ f.text) x.1)) (λ x. printed_all contents o n (kept ++ f.text) fresh (prints_both contents o m n kept f.text begun x.0) x.1) f.cause;
           }

@@ -7,6 +7,8 @@ use Rattle.packet_capture.specs.Any.{ReadsFront}
 use Rattle.packet_capture.specs.declared.any.Capture.{Capture}
 use Rattle.packet_capture.specs.declared.any.Capture.TheVariants.{Pcap, Pcapng}
 use Rattle.packet_capture.specs.declared.capture.CaptureError.{CaptureError}
+use Rattle.packet_capture.specs.declared.capture.CaptureError.TheVariants as capture
+use Rattle.packet_capture.specs.declared.capture.CutOff as cut
 use Rattle.packet_capture.specs.declared.capture.FileHeader.{FileHeader}
 use Rattle.ipcap.specs.Ends.{end_text}
 use Rattle.ipcap.specs.Lines.{capture_error_line, closing_text, link_type_line}
@@ -14,7 +16,8 @@ use Rattle.ipcap.specs.Lines.{report_text}
 use Rattle.ipcap.specs.Listing.{Lists}
 use Rattle.ipcap.specs.Reassembled.{Memory}
 use Rattle.ipcap.specs.Request.{copies, has_enough}
-use Rattle.ipcap.specs.Streams.{CannotRead, Gets, GetsFront, Reads, Reports, kept_if, unread}
+use Rattle.ipcap.specs.Streams.{CannotRead, Gets, GetsFront, NoReadFails, Reads, Reports, kept_if}
+use Rattle.ipcap.specs.Streams.{unread}
 use Rattle.ipcap.specs.Totals.{HasRoom, first_totals, nothing_counted}
 use Rattle.ipcap.specs.declared.failure.Failure.{Failure}
 use Rattle.ipcap.specs.declared.failure.Failure.TheVariants as failure
@@ -151,6 +154,12 @@ pub record IsListedTo (request : Request) (memory : Memory) (read rest : List �
   pub is : IsCapture read capture (blocks ++ rest)
   pub lists : IsListing request memory capture (front_of request capture read) blocks outcome
 
+-- What was read is no capture yet: there are too few bytes.
+pub record IsNoCaptureYet (read : List ℕ) (outcome : Outcome) : Type 0 where
+  pub error : cut.CutOff
+  pub front : ReadsFront read (Err (capture.CutOff error))
+  pub outcome_of : outcome ≡ refused (capture_error_line (capture.CutOff error))
+
 -- more has to be read: fewer packets are listed than were asked for; or the last block is cut off;
 -- or what was read is no capture yet
 abbrev pub WantsMoreAt : Bool → Status → Type 0
@@ -173,7 +182,8 @@ IsCause read_failed nothing_left write_failed is_full is_written failure.Count =
     is_full × is_written
 
 -- A run that fails got these bytes from the source. All that was read is listed but for a rest. The
--- sink got a front of what it gets if the blocks end before that. Standard error got nothing.
+-- sink got a front of what it gets if the blocks end before that. Standard error got nothing. If a
+-- read has failed, more was wanted, and nothing was left to list.
 pub record Fails {R W E : Type 0} (remaining : R → Option (List ℕ))
     (contents : W → Option (List ℕ)) (read_failed : R → Type 0) (write_failed : W → Type 0)
     (request : Request) (memory : Memory) (e : Failure) (input left : Input R) (old new : Output W)
@@ -183,9 +193,10 @@ pub record Fails {R W E : Type 0} (remaining : R → Option (List ℕ))
   pub rest : List ℕ
   pub outcome : Outcome
   pub is_outcome : IsListedTo request memory (unread input ++ got) rest outcome
-      ⊎ ((rest ≡ []) × IsNoCapture (unread input ++ got) outcome)
+      ⊎ ((rest ≡ []) × IsNoCaptureYet (unread input ++ got) outcome)
   pub output : GetsFront contents old new (outcome.blocks ++ outcome.closing)
   pub errors : new_errors ≡ old_errors
+  pub wanted : NoReadFails read_failed input left ⊎ (IsOpen request outcome × (rest ≡ []))
   pub cause : IsCause (CannotRead read_failed left × IsOpen request outcome) (rest ≡ [])
       (write_failed new.sink) (¬ HasRoom outcome.totals)
       (Gets contents old new outcome.blocks) e

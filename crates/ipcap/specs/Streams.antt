@@ -30,6 +30,10 @@ pub record Takes {R : Type 0} (remaining : R → Option (List ℕ)) (old new : I
 abbrev pub CannotRead : {R : Type 0} → (R → Type 0) → Input R → Type 0
 CannotRead has_failed input = has_failed input.source ⊎ (input.count ≡ 2 ^ 64 - 1)
 
+-- No read has failed since. A call that ensures this passes over no read that fails.
+abbrev pub NoReadFails : {R : Type 0} → (R → Type 0) → Input R → Input R → Type 0
+NoReadFails has_failed old new = has_failed new.source → has_failed old.source
+
 -- the text that the sink has not yet got
 abbrev pub pending : {W : Type 0} → Output W → List ℕ
 pending output = drop output.passed output.text.items

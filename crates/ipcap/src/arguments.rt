@@ -12,6 +12,8 @@ use std::alloc::{AllocError, Global};
 /// The most bytes in an expression.
 pub const TEXT_ROOM: usize = 4096;
 
+const _: () = prove!(TEXT_ROOM == 4096);
+
 /// The text of an expression.
 pub type Text = ArrayVec<u8, TEXT_ROOM>;
 

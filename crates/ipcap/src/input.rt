@@ -22,10 +22,10 @@ pub struct Input<R> {
 }
 
 impl<R: Source> Input<R> {
-    ghost use Rattle.std.specs.Prelude.{◌≡◌, [], IfErr, IfOk, IsFalse, IsTrue, OnErr};
+    ghost use Rattle.std.specs.Prelude.{◌≡◌, ◌≢◌, [], IfErr, IfOk, IsFalse, IsTrue, OnErr, OnOk};
     ghost use Rattle.std.specs.Prelude.{drop, length, take};
     ghost use Rattle.std.specs.Io.KnownBytes.{IsAtEnd};
-    ghost use Rattle.ipcap.specs.Streams.{CannotRead, Takes, unread};
+    ghost use Rattle.ipcap.specs.Streams.{CannotRead, NoReadFails, Takes, unread};
 
     /// Nothing is read yet.
     pub fn new(source: R) -> Input<R>
@@ -54,6 +54,7 @@ impl<R: Source> Input<R> {
         requires there { len ≤ length (unread self.old) }
         ensures takes { Takes R.remaining self.old self.new (take len (unread self.old)) }
         ensures rest { unread self.new ≡ drop len (unread self.old) }
+        ensures source { self.new.source ≡ self.old.source }
     {
         let end = self.len;
         self.bytes.copy_within(len..end, 0);
@@ -69,6 +70,7 @@ impl<R: Source> Input<R> {
         ensures same { IfOk result (λ more. IsFalse more → unread self.new ≡ unread self.old) }
         ensures failed { IfErr result (λ e. (e ≡ Failure.Read) × CannotRead R.has_failed self.new) }
         ensures unread { OnErr result (unread self.new ≡ unread self.old) }
+        ensures unfailed { OnOk result (NoReadFails R.has_failed self.old self.new) }
     {
         let start = self.len;
         let left = u64::MAX - self.count;

@@ -1,6 +1,6 @@
 //! What is written of the blocks, in their order.
 
-ghost use Rattle.std.specs.Prelude.{◌≡◌, ◌≤◌, ◌<◌, ◌-◌, [], IfErr, IfOk};
+ghost use Rattle.std.specs.Prelude.{◌≡◌, ◌≢◌, ◌≤◌, ◌<◌, ◌-◌, [], IfErr, IfOk};
 ghost use Rattle.std.specs.Prelude.{◌++◌, Bool, OnErr, OnOk, Some, drop, false, length, take, true};
 ghost use Rattle.std.specs.Io.KnownBytes.{IsAtEnd};
 ghost use Rattle.packet_capture.specs.Any.{RefusesBlock, said};
@@ -12,7 +12,7 @@ ghost use Rattle.ipcap.specs.Private.Progress.{Tells, TellsBlock, TellsFrame, Te
 ghost use Rattle.ipcap.specs.Private.Progress.{IsShort, TellsFrontOf, TellsSaid, Turns, keeps};
 ghost use Rattle.ipcap.specs.Reading.{max_len};
 ghost use Rattle.ipcap.specs.Request.{has_enough};
-ghost use Rattle.ipcap.specs.Streams.{CannotRead, Prints, unread};
+ghost use Rattle.ipcap.specs.Streams.{CannotRead, NoReadFails, Prints, unread};
 ghost use Rattle.ipcap.specs.Totals.{HasRoom, no_packet, packet};
 
 use crate::completing::{completed, head_of_whole};
@@ -68,6 +68,9 @@ fn skip<R: Source, W: Sink>(
     ensures lacks { IfErr result (λ e. Lacks R.remaining W.contents
         (CannotRead R.has_failed input.new) (W.has_failed output.new.sink) keeps len e
         input.old input.new output.old output.new) }
+    ensures unfailed { OnOk result (NoReadFails R.has_failed input.old input.new) }
+    ensures unfailed_else { IfErr result (λ e. e ≢ Failure.Read →
+        NoReadFails R.has_failed input.old input.new) }
 {
     let mut left = len;
     let mut last = [0; 4];
@@ -388,6 +391,9 @@ impl Request {
             place.new turn input.old input.new output.old output.new) }
         ensures failed { IfErr result (λ e. Breaks R.remaining W.contents self.now
             R.has_failed W.has_failed place.old e input.old input.new output.old output.new) }
+        ensures unfailed { OnOk result (NoReadFails R.has_failed input.old input.new) }
+        ensures unfailed_else { IfErr result (λ e. e ≢ Failure.Read →
+            NoReadFails R.has_failed input.old input.new) }
     {
         let front = match place.capture.block_front(input.unread()) {
             Ok(front) => front,
@@ -427,6 +433,9 @@ impl Request {
             place.new turn input.old input.new output.old output.new) }
         ensures failed { IfErr result (λ e. Breaks R.remaining W.contents self.now
             R.has_failed W.has_failed place.old e input.old input.new output.old output.new) }
+        ensures unfailed { OnOk result (NoReadFails R.has_failed input.old input.new) }
+        ensures unfailed_else { IfErr result (λ e. e ≢ Failure.Read →
+            NoReadFails R.has_failed input.old input.new) }
     {
         let end = match stop {
             Stop::Enough => return Ok(Turn::Ends(None)),
@@ -459,6 +468,9 @@ impl Request {
             place.new.totals end input.old input.new output.old output.new) }
         ensures failed { IfErr result (λ e. Breaks R.remaining W.contents self.now
             R.has_failed W.has_failed place.old e input.old input.new output.old output.new) }
+        ensures unfailed { OnOk result (NoReadFails R.has_failed input.old input.new) }
+        ensures unfailed_else { IfErr result (λ e. e ≢ Failure.Read →
+            NoReadFails R.has_failed input.old input.new) }
     {
         'turns: loop {
             let bytes = input.unread();

@@ -7,7 +7,7 @@ ghost use Rattle.ipcap.specs.Output.{Fails, HasReadFrames, IsOutcome, Writes, he
 ghost use Rattle.ipcap.specs.Output.{status_at};
 ghost use Rattle.ipcap.specs.Private.Ended.{FailsListing, HasUnreadFrames, LacksFront};
 ghost use Rattle.ipcap.specs.Private.Ended.{WritesListing};
-ghost use Rattle.ipcap.specs.Streams.{CannotRead, Takes, pending, unlisted, unread};
+ghost use Rattle.ipcap.specs.Streams.{CannotRead, NoReadFails, Takes, pending, unlisted, unread};
 
 use crate::failure::Failure;
 use crate::input::Input;
@@ -30,11 +30,11 @@ use packet_capture::capture::{CaptureError, FileHeader};
 /// With an expression those packets are listed whose frame it is true of; the lines have the
 /// numbers that the packets have in the capture, and the closing line says how many of how many it
 /// is true of. The run ends with the capture, or at a block that is refused, or once as many are
-/// listed as were asked for. The closing line goes to `errors`; that of a quiet run to `output`, and
-/// there, if it is asked for, how many are listed. If the input is no capture, or in the classic
-/// format one of a link type that is not read, or its last block is cut off, or one is refused,
-/// `errors` gets a line on that. Whether `errors` takes its lines changes nothing else. It allocates
-/// no memory.
+/// listed as were asked for, and then reads no more. The closing line goes to `errors`; that of a
+/// quiet run to `output`, and there, if it is asked for, how many are listed. If the input is no
+/// capture, or in the classic format one of a link type that is not read, or its last block is cut
+/// off, or one is refused, `errors` gets a line on that. Whether `errors` takes its lines changes
+/// nothing else. It allocates no memory.
 ///
 /// # Errors
 ///
@@ -53,6 +53,7 @@ pub fn run<R: Source, W: Sink, E: Sink>(
         output.old output.new errors.old errors.new)) }
     ensures failed { IfErr result (λ e. Fails R.remaining W.contents R.has_failed W.has_failed
         request.now memory.entry e input.old input.new output.old output.new errors.old errors.new) }
+    ensures unfailed { OnOk result (NoReadFails R.has_failed input.old input.new) }
 {
     fill_to_front(input)?;
     let front = input.unread();
@@ -110,6 +111,7 @@ fn fill_to_front<R: Source>(input: &mut Input<R>) -> Result<(), Failure>
         ⊎ IsAtEnd (R.remaining input.new.source)) }
     ensures failed { IfErr result (λ e. (e ≡ Failure.Read) × CannotRead R.has_failed input.new
         × LacksFront (unread input.new)) }
+    ensures unfailed { OnOk result (NoReadFails R.has_failed input.old input.new) }
 {
     'reads: while lacks_front(input.unread()) {
         if !input.fill()? {
@@ -144,6 +146,7 @@ fn list_blocks<R: Source, W: Sink, E: Sink>(
     ensures failed { IfErr result (λ e. FailsListing R.remaining W.contents
         R.has_failed W.has_failed request.now memory.entry capture e
         input.old input.new output.old output.new errors.old errors.new) }
+    ensures unfailed { OnOk result (NoReadFails R.has_failed input.old input.new) }
 {
     let reassembles = memory.is_some();
     let mut place = Place {

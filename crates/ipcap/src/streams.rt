@@ -31,7 +31,8 @@ pub trait Source {
     fn read(&mut self, buf: &mut [u8]) -> io::Result<usize>
         ensures bound { ReadsAtMost result buf.new }
         ensures bytes { ReadConsumes (remaining self.old) (remaining self.new) result buf.new }
-        ensures failed { OnErr result (has_failed self.new) };
+        ensures failed { OnErr result (has_failed self.new) }
+        ensures unfailed { OnOk result (has_failed self.new → has_failed self.old) };
 }
 
 /// What a run writes to.

@@ -1,5 +1,5 @@
 -- How a listing ends.
-use Rattle.std.specs.Prelude.{ℕ, ◌≡◌, List, [], ◌++◌, Err, None, Option}
+use Rattle.std.specs.Prelude.{ℕ, ◌≡◌, ◌⊎◌, List, [], ◌++◌, Err, None, Option}
 use Rattle.packet.specs.Link.{link_type_of}
 use Rattle.packet_capture.specs.Any.{ReadsFront}
 use Rattle.packet_capture.specs.declared.any.Capture.{Capture}
@@ -11,7 +11,7 @@ use Rattle.ipcap.specs.Listing.{Lists}
 use Rattle.ipcap.specs.Output.{IsCause, first_place, listed, number_of, status_at}
 use Rattle.ipcap.specs.Private.Progress.{WantsMore}
 use Rattle.ipcap.specs.Reassembled.{Memory}
-use Rattle.ipcap.specs.Streams.{CannotRead, Prints, Reads, Reports, pending, unread}
+use Rattle.ipcap.specs.Streams.{CannotRead, NoReadFails, Prints, Reads, Reports, pending, unread}
 use Rattle.ipcap.specs.Totals.{HasRoom}
 use Rattle.ipcap.specs.declared.failure.Failure.{Failure}
 use Rattle.ipcap.specs.declared.input.Input.{Input}
@@ -66,6 +66,7 @@ pub record FailsListing {R W E : Type 0} (remaining : R → Option (List ℕ))
   pub parts : text ++ (listed request text totals end).closing ≡ printed ++ unprinted
   pub prints : Prints contents old new printed
   pub errors : new_errors ≡ old_errors
+  pub wanted : NoReadFails read_failed input left ⊎ (WantsMore request totals end × (rest ≡ []))
   pub cause : IsCause (CannotRead read_failed left × WantsMore request totals end) (rest ≡ [])
       (write_failed new.sink) (¬ HasRoom totals)
       (Prints contents old new text × (pending new ≡ [])) e

@@ -1,4 +1,4 @@
-use Rattle.std.proofs.Common.{ℕ, ◌≡◌, ◌∷◌, ◌+◌, sym, ◌∙◌, ◌<◌, ◌≤◌, ◌-◌, List, [], ◌++◌, length, take, drop, min, arith, ap, append-nil, append_assoc, length-append, length-drop, length-take-le, refl, take-append-drop}
+use Rattle.std.proofs.Common.{ℕ, ◌≡◌, ◌∷◌, ◌+◌, sym, ◌∙◌, ◌<◌, ◌≤◌, ◌-◌, List, [], ◌++◌, length, take, drop, min, arith, ap, append-nil, append_assoc, length-append, length-drop, length-take-le, refl, subst, take-append-drop}
 use Rattle.std.proofs.lemmas.List.{drop-append-le, drop-drop, nil_from_length}
 use Rattle.std.proofs.lemmas.Result.{err_from_is_err_and}
 use Rattle.ipcap.specs.Private.Progress.{last_four}
@@ -29,7 +29,7 @@ last_then s t four five e f =
     f ∙ (ap (λ x. drop (length t) (x ++ t)) e ∙ (ap (drop (length t)) split ∙ both))
 
 pub turns-init : goal.turns-init
-turns-init g c = record { within = omega arith; taken = []; takes = takes_nothing _ _; many = omega arith; last = refl; prints = rw (kept_nothing c.args.keeps) (prints_nothing _ _) }
+turns-init g c = record { within = omega arith; taken = []; takes = takes_nothing _ _; many = omega arith; last = refl; prints = rw (kept_nothing c.args.keeps) (prints_nothing _ _); unfailed = λ x. x }
 
 pub turns-preserved : goal.turns-preserved
 turns-preserved g c =
@@ -41,6 +41,7 @@ turns-preserved g c =
       many = many_more c.args.len c.turns.left _ c.unread-bytes.result.now was.taken (unread c.turns.input) was.many was.within c.unread-bytes.ensures.value c.min-passed.ensures;
       last = last_then was.taken (take c.min-passed.result (unread c.turns.input)) c.turns.last _ was.last (rw c.unread-bytes.ensures.value at c.last_four-last.ensures.value);
       prints = rw (kept_both c.args.keeps was.taken (take c.min-passed.result (unread c.turns.input))) (prints_both _ _ _ _ _ _ was.prints (rw c.unread-bytes.ensures.value at c.in_ok-copy_if.ensures.prints));
+      unfailed = λ x. was.unfailed (subst g.R.Source.has_failed c.pass.ensures.source (c.in_ok-fill.ensures.unfailed x));
     }
 
 pub returns-then-left-eq0-clause-skips : goal.returns-then-left-eq0-clause-skips

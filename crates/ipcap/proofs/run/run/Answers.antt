@@ -6,6 +6,8 @@ use Rattle.packet_capture.specs.declared.any.Capture.{Capture}
 use Rattle.ipcap.specs.Output.{HasReadFrames, IsCapture, header_len}
 use Rattle.ipcap.proofs.Fronts.{blocks_are}
 use Rattle.ipcap.proofs.Outcomes.{header_broken, listing_fails_by, lists_by, no_capture, not_begun, other_frames, refuses}
+use Rattle.ipcap.proofs.Runs.{on_ok}
+use Rattle.ipcap.specs.Streams.{NoReadFails}
 use Rattle.ipcap.proofs.run.run.Goals as goal
 
 reads_at : (input front : List ℕ) (capture : Capture) (blocks : List ℕ) → front ≡ input → ReadsFront front (Ok (capture, blocks)) → ReadsFront input (Ok (capture, blocks))
@@ -40,7 +42,7 @@ returns-in_err-copy_if-clause-failed g c =
     let failed = c.in_err-copy_if.ensures in
     let p = err_from_is_err_and c.from_residual-in_err-copy_if.result c.from_residual-in_err-copy_if.ensures.1 in
     rw (p.1, p.2, failed.failed.0) (not_begun g.R.Source.remaining g.W.Sink.contents g.E.Sink.contents g.R.Source.has_failed g.W.Sink.has_failed g.E.Sink.has_failed c.args.request.now c.args.memory _ _ c.in_ok-fill_to_front.ensures.takes
-    c.in-Ok.capture (is_capture _ _ _ _ c.unread-front.ensures.value c.in-Ok.ensures.reads c.in-None.ensures.none) c.args.input.now _ _ _ c.requires.fresh.0 failed.kept failed.failed.1)
+    c.in-Ok.capture (is_capture _ _ _ _ c.unread-front.ensures.value c.in-Ok.ensures.reads c.in-None.ensures.none) c.args.input.now _ _ _ c.requires.fresh.0 failed.kept failed.failed.1 c.in_ok-fill_to_front.ensures.unfailed)
 
 pub returns-clause-output : goal.returns-clause-output
 returns-clause-output g c =
@@ -52,4 +54,10 @@ pub returns-clause-failed : goal.returns-clause-failed
 returns-clause-failed g c =
     listing_fails_by g.R.Source.remaining g.W.Sink.contents g.E.Sink.contents g.R.Source.has_failed g.W.Sink.has_failed g.E.Sink.has_failed c.args.request.now c.args.memory _ _ c.in_ok-fill_to_front.ensures.takes
     c.in-Ok.capture (is_capture _ _ _ _ c.unread-front.ensures.value c.in-Ok.ensures.reads c.in-None.ensures.none) c.pass.new.self c.args.output.now c.copy_if.new.self c.args.errors.now c.requires.fresh.0 (rw c.header_len-len.ensures.value at c.pass.ensures.takes) (rw c.header_len-len.ensures.value at c.pass.ensures.rest)
-    (rw (c.copies.ensures.value, c.unread-front.ensures.value, c.header_len-len.ensures.value) at c.in_ok-copy_if.ensures.prints) c.list_blocks.new.input c.list_blocks.new.output c.list_blocks.new.errors _ c.list_blocks.ensures.failed
+    (rw (c.copies.ensures.value, c.unread-front.ensures.value, c.header_len-len.ensures.value) at c.in_ok-copy_if.ensures.prints) c.list_blocks.new.input c.list_blocks.new.output c.list_blocks.new.errors c.in_ok-fill_to_front.ensures.unfailed c.pass.ensures.source _ c.list_blocks.ensures.failed
+
+pub returns-clause-unfailed : goal.returns-clause-unfailed
+returns-clause-unfailed g c =
+    let then : NoReadFails g.R.Source.has_failed c.pass.new.self c.list_blocks.new.input → NoReadFails g.R.Source.has_failed c.args.input.now c.list_blocks.new.input =
+    λ later x. c.in_ok-fill_to_front.ensures.unfailed (subst g.R.Source.has_failed c.pass.ensures.source (later x)) in
+    on_ok _ then c.list_blocks.ensures.unfailed

@@ -1,4 +1,4 @@
-use Rattle.std.proofs.Common.{◌≡◌, ◌-◌, ◌+◌, ◌++◌, [], take, drop, ap, sym, ◌∙◌, arith, append-nil, length-drop, length-take-le, take-append-drop, take_at}
+use Rattle.std.proofs.Common.{◌≡◌, ◌-◌, ◌+◌, ◌++◌, [], take, drop, ap, sym, ◌∙◌, arith, append-nil, length-drop, length-take-le, refl, take-append-drop, take_at}
 use Rattle.std.proofs.KnownBytes.{Consumes-nil}
 use Rattle.std.proofs.lemmas.List.{drop-take}
 use Rattle.ipcap.specs.Streams.{unread}
@@ -19,4 +19,5 @@ returns g c =
         takes = append-nil (unread w) ∙ sym (take-append-drop c.args.len (unread w)) ∙ ap (λ r. take c.args.len (unread w) ++ r) (sym rest);
       };
       rest = rest;
+      source = refl;
     }

@@ -1,11 +1,11 @@
-use Rattle.std.proofs.Common.{[]}
+use Rattle.std.proofs.Common.{[], subst}
 use Rattle.std.proofs.lemmas.Result.{err_from_is_err_and}
 use Rattle.ipcap.proofs.Runs.{breaks_then, front_breaks, takes_both, takes_nothing, tells_both, tells_nothing, turns_then}
 use Rattle.ipcap.specs.declared.listing.Turn.TheVariants as turn
 use Rattle.ipcap.proofs.request.Request.list.Goals as goal
 
 pub turns-init : goal.turns-init
-turns-init g c = record { taken = []; takes = takes_nothing _ _; tells = tells_nothing _ _ _ _ }
+turns-init g c = record { taken = []; takes = takes_nothing _ _; tells = tells_nothing _ _ _ _; unfailed = λ x. x }
 
 pub turns-preserved : goal.turns-preserved
 turns-preserved g c =
@@ -13,7 +13,12 @@ turns-preserved g c =
     let takes = takes_both _ _ _ _ _ _ was.takes (rw c.unread-bytes.ensures.value at c.pass.ensures.takes) in
     let tells = tells_both _ _ _ _ _ _ _ _ _ _ was.tells (rw c.unread-bytes.ensures.value at c.in_ok-rest.ensures.told) in
     let k = rw c.in_default.is at c.in_ok-end.ensures.turns in
-    record { taken = _; takes = takes_both _ _ _ _ _ _ takes k.takes; tells = tells_both _ _ _ _ _ _ _ _ _ _ tells k.tells }
+    record {
+      taken = _;
+      takes = takes_both _ _ _ _ _ _ takes k.takes;
+      tells = tells_both _ _ _ _ _ _ _ _ _ _ tells k.tells;
+      unfailed = λ x. was.unfailed (subst g.R.Source.has_failed c.pass.ensures.source (c.in_ok-end.ensures.unfailed x));
+    }
 
 pub returns-in_err-rest-clause-failed : goal.returns-in_err-rest-clause-failed
 returns-in_err-rest-clause-failed g c =
