@@ -1,5 +1,7 @@
-//! The examples in the doc comments of `packet_builder`, line by line as they stand there.
+//! The examples in the doc comments of `packet_builder`, line by line, with `assert_equal` for
+//! equations that they assert.
 
+use crate::shared::assert_equal;
 use etherparse_transport::TcpOptionElement;
 use packet_builder::PacketBuilder;
 use std::test::Fail;
@@ -12,7 +14,7 @@ fn packet_builder(rt: HostRuntime) -> Result<(), Fail> {
         .udp(21, 1234);
     let mut memory = [0; 64];
     let len = builder.write_to_slice(&mut memory, &[1, 2, 3, 4, 5, 6, 7, 8])?;
-    assert!(rt; len == 50);
+    assert_equal(&rt, len, 50);
     Ok(())
 }
 
@@ -41,6 +43,6 @@ fn tcp_options(rt: HostRuntime) -> Result<(), Fail> {
             TcpOptionElement::MaximumSegmentSize(1460),
             TcpOptionElement::WindowScale(7),
         ])?;
-    assert!(rt; builder.size(0) == 48);
+    assert_equal(&rt, builder.size(0), 48);
     Ok(())
 }

@@ -1,6 +1,7 @@
-//! The examples in the doc comments of `etherparse_icmp`, line by line as they stand there, and
-//! worked messages. Their bytes are those that Scapy makes of the same fields.
+//! The examples in the doc comments of `etherparse_icmp`, line by line, with `assert_equal` for
+//! equations that they assert, and worked messages. Their bytes are those that Scapy makes of the same fields.
 
+use crate::shared::assert_equal;
 use etherparse::LenSource;
 use etherparse::err::{Layer, LenError};
 use etherparse_icmp::icmpv4::{
@@ -8,6 +9,7 @@ use etherparse_icmp::icmpv4::{
     TimestampMessage,
 };
 use etherparse_icmp::{IcmpEchoHeader, Icmpv4Header, Icmpv4Type, Icmpv6Header, Icmpv6Type};
+use std::process::Abort;
 use std::test::Fail;
 
 #[test]
@@ -16,22 +18,30 @@ fn icmpv4_headers(rt: HostRuntime) -> Result<(), Fail> {
     let bytes = [8, 0, 0x21, 4, 0x12, 0x34, 0, 1, b'a', b'b', b'c', b'd'];
     let (header, payload) = Icmpv4Header::from_slice(&bytes)?;
     let echo = IcmpEchoHeader { id: 0x1234, seq: 1 };
-    assert!(rt; header.icmp_type == Icmpv4Type::EchoRequest(echo));
+    assert_equal(&rt, header.icmp_type, Icmpv4Type::EchoRequest(echo));
     assert!(rt; header.checksum == 0x2104 && payload == b"abcd".as_slice());
-    assert!(rt; header.to_bytes().as_slice() == &bytes[..8]);
+    assert_equal(&rt, header.to_bytes().as_slice(), &bytes[..8]);
 
     let reply = Icmpv4Type::EchoReply(IcmpEchoHeader { id: 0x1234, seq: 1 });
     let header = Icmpv4Header::with_checksum(reply, b"abcd");
-    assert!(rt; header.to_bytes().as_slice() == [0, 0, 0x29, 4, 0x12, 0x34, 0, 1].as_slice());
+    assert_equal(
+        &rt,
+        header.to_bytes().as_slice(),
+        [0, 0, 0x29, 4, 0x12, 0x34, 0, 1].as_slice(),
+    );
 
     let request = Icmpv4Type::EchoRequest(IcmpEchoHeader { id: 0x1234, seq: 1 });
-    assert!(rt; request.calc_checksum(b"abcd") == 0x2104);
+    assert_equal(&rt, request.calc_checksum(b"abcd"), 0x2104);
 
     let request = [8, 0, 0x21, 4, 0x12, 0x34, 0, 1, b'a', b'b', b'c', b'd'];
     let (header, payload) = Icmpv4Header::from_slice(&request)?;
     if let Icmpv4Type::EchoRequest(echo) = header.icmp_type {
         let reply = Icmpv4Header::with_checksum(Icmpv4Type::EchoReply(echo), payload);
-        assert!(rt; reply.to_bytes().as_slice() == [0, 0, 0x29, 4, 0x12, 0x34, 0, 1].as_slice());
+        assert_equal(
+            &rt,
+            reply.to_bytes().as_slice(),
+            [0, 0, 0x29, 4, 0x12, 0x34, 0, 1].as_slice(),
+        );
     }
     Ok(())
 }
@@ -42,20 +52,28 @@ fn icmpv6_headers(rt: HostRuntime) -> Result<(), Fail> {
     let bytes = [128, 0, 0x4d, 0x48, 0x12, 0x34, 0, 1, b'a', b'b', b'c', b'd'];
     let (header, payload) = Icmpv6Header::from_slice(&bytes)?;
     let echo = IcmpEchoHeader { id: 0x1234, seq: 1 };
-    assert!(rt; header.icmp_type == Icmpv6Type::EchoRequest(echo));
+    assert_equal(&rt, header.icmp_type, Icmpv6Type::EchoRequest(echo));
     assert!(rt; header.checksum == 0x4d48 && payload == b"abcd".as_slice());
-    assert!(rt; header.to_bytes().as_slice() == &bytes[..8]);
+    assert_equal(&rt, header.to_bytes().as_slice(), &bytes[..8]);
 
     let source = [0x20, 0x01, 0x0d, 0xb8, 0, 0, 0, 0, 0, 0, 0, 0, 0, 0, 0, 1];
     let destination = [0x20, 0x01, 0x0d, 0xb8, 0, 0, 0, 0, 0, 0, 0, 0, 0, 0, 0, 2];
     let request = Icmpv6Type::EchoRequest(IcmpEchoHeader { id: 0x1234, seq: 1 });
     let header = Icmpv6Header::with_checksum(request, source, destination, b"abcd")?;
-    assert!(rt; header.to_bytes() == [128, 0, 0x4d, 0x48, 0x12, 0x34, 0, 1]);
+    assert_equal(
+        &rt,
+        header.to_bytes(),
+        [128, 0, 0x4d, 0x48, 0x12, 0x34, 0, 1],
+    );
 
     let source = [0x20, 0x01, 0x0d, 0xb8, 0, 0, 0, 0, 0, 0, 0, 0, 0, 0, 0, 1];
     let destination = [0x20, 0x01, 0x0d, 0xb8, 0, 0, 0, 0, 0, 0, 0, 0, 0, 0, 0, 2];
     let too_big = Icmpv6Type::PacketTooBig { mtu: 1280 };
-    assert!(rt; too_big.calc_checksum(source, destination, b"abcd")? == 0xd87d);
+    assert_equal(
+        &rt,
+        too_big.calc_checksum(source, destination, b"abcd")?,
+        0xd87d,
+    );
     Ok(())
 }
 
@@ -64,12 +82,16 @@ fn codes_of_icmpv4(rt: HostRuntime) -> Result<(), Fail> {
     let header = DestUnreachableHeader::from_values(4, 1400);
     let needed = DestUnreachableHeader::FragmentationNeeded { next_hop_mtu: 1400 };
     assert!(rt; header == Some(needed) && needed.code_u8() == 4);
-    assert!(rt; DestUnreachableHeader::from_values(3, 0) == Some(DestUnreachableHeader::Port));
+    assert_equal(
+        &rt,
+        DestUnreachableHeader::from_values(3, 0),
+        Some(DestUnreachableHeader::Port),
+    );
     assert!(rt; DestUnreachableHeader::from_values(16, 0).is_none());
 
     let code = RedirectCode::from_u8(1);
-    assert!(rt; code == Some(RedirectCode::RedirectForHost));
-    assert!(rt; RedirectCode::RedirectForHost.code_u8() == 1);
+    assert_equal(&rt, code, Some(RedirectCode::RedirectForHost));
+    assert_equal(&rt, RedirectCode::RedirectForHost.code_u8(), 1);
     assert!(rt; RedirectCode::from_u8(4).is_none());
 
     // Packets to the host are to go to 192.0.2.1.
@@ -79,18 +101,18 @@ fn codes_of_icmpv4(rt: HostRuntime) -> Result<(), Fail> {
         code: RedirectCode::RedirectForHost,
         gateway_internet_address: [192, 0, 2, 1],
     };
-    assert!(rt; header.icmp_type == Icmpv4Type::Redirect(redirect));
+    assert_equal(&rt, header.icmp_type, Icmpv4Type::Redirect(redirect));
 
     let code = TimeExceededCode::from_u8(0);
-    assert!(rt; code == Some(TimeExceededCode::TtlExceededInTransit));
-    assert!(rt; TimeExceededCode::TtlExceededInTransit.code_u8() == 0);
+    assert_equal(&rt, code, Some(TimeExceededCode::TtlExceededInTransit));
+    assert_equal(&rt, TimeExceededCode::TtlExceededInTransit.code_u8(), 0);
     assert!(rt; TimeExceededCode::from_u8(2).is_none());
 
     let header = ParameterProblemHeader::from_values(0, 20);
     let problem = ParameterProblemHeader::PointerIndicatesError(20);
     assert!(rt; header == Some(problem) && problem.code_u8() == 0);
     let length = ParameterProblemHeader::from_values(2, 0);
-    assert!(rt; length == Some(ParameterProblemHeader::BadLength));
+    assert_equal(&rt, length, Some(ParameterProblemHeader::BadLength));
     assert!(rt; ParameterProblemHeader::from_values(3, 0).is_none());
 
     let bytes = [
@@ -105,13 +127,13 @@ fn codes_of_icmpv4(rt: HostRuntime) -> Result<(), Fail> {
         transmit_timestamp: 3,
     };
     assert!(rt; header.icmp_type == Icmpv4Type::TimestampRequest(message) && rest.is_empty());
-    assert!(rt; header.icmp_type.calc_checksum(&[]) == 0xe0c4);
+    assert_equal(&rt, header.icmp_type.calc_checksum(&[]), 0xe0c4);
     Ok(())
 }
 
 // The messages that Scapy makes, each with the payload `abcd`, but that of a timestamp reply.
 #[test]
-fn worked_messages(rt: HostRuntime) -> Result<(), Fail> {
+fn worked_messages(rt: HostRuntime) {
     let needed = DestUnreachableHeader::FragmentationNeeded { next_hop_mtu: 1400 };
     let messages = [
         (
@@ -133,85 +155,87 @@ fn worked_messages(rt: HostRuntime) -> Result<(), Fail> {
     ];
     for (icmp_type, bytes) in messages {
         let header = Icmpv4Header::with_checksum(icmp_type, b"abcd");
-        assert!(rt; header.to_bytes().as_slice() == bytes.as_slice());
-        assert!(rt; Icmpv4Header::from_slice(&bytes)?.0 == header);
+        assert_equal(&rt, header.to_bytes().as_slice(), bytes.as_slice());
+        let rest = [].as_slice();
+        assert_equal(&rt, Icmpv4Header::from_slice(&bytes), Ok((header, rest)));
     }
-    Ok(())
 }
 
 // Bytes that are not used are read whatever they are, and written as 0: the length of RFC 4884.
 #[test]
-fn unused_bytes_are_cleared(rt: HostRuntime) -> Result<(), Fail> {
+fn unused_bytes_are_cleared(rt: HostRuntime) {
     let bytes = [11, 0, 0xf4, 0xee, 0, 17, 0, 0];
-    let (header, _) = Icmpv4Header::from_slice(&bytes)?;
-    let exceeded = Icmpv4Type::TimeExceeded(TimeExceededCode::TtlExceededInTransit);
-    assert!(rt; header.icmp_type == exceeded);
-    assert!(rt; header.to_bytes().as_slice() == [11, 0, 0xf4, 0xee, 0, 0, 0, 0].as_slice());
-    Ok(())
+    let header = Icmpv4Header {
+        icmp_type: Icmpv4Type::TimeExceeded(TimeExceededCode::TtlExceededInTransit),
+        checksum: 0xf4ee,
+    };
+    let written = header.to_bytes();
+    let cleared = [11, 0, 0xf4, 0xee, 0, 0, 0, 0].as_slice();
+    assert_equal(&rt, written.as_slice(), cleared);
+    let rest = [].as_slice();
+    assert_equal(&rt, Icmpv4Header::from_slice(&bytes), Ok((header, rest)));
 }
 
 // A neighbor solicitation, before its target's address.
 #[test]
-fn neighbors_are_asked_for(rt: HostRuntime) -> Result<(), Fail> {
+fn neighbors_are_asked_for(rt: HostRuntime) {
     let bytes = [135, 0, 0xef, 0x7c, 0, 0, 0, 0, 0x20, 1];
-    let (header, rest) = Icmpv6Header::from_slice(&bytes)?;
-    assert!(rt; header.icmp_type == Icmpv6Type::NeighborSolicitation);
-    assert!(rt; header.to_bytes().as_slice() == &bytes[..8] && rest == [0x20, 1].as_slice());
-    Ok(())
+    let header = Icmpv6Header {
+        icmp_type: Icmpv6Type::NeighborSolicitation,
+        checksum: 0xef7c,
+    };
+    assert_equal(&rt, header.to_bytes().as_slice(), &bytes[..8]);
+    let rest = [0x20, 1].as_slice();
+    assert_equal(&rt, Icmpv6Header::from_slice(&bytes), Ok((header, rest)));
 }
 
 // Multicast listener reports have no name here, nor has code 1 of an echo request.
 #[test]
-fn other_messages_are_unknown(rt: HostRuntime) -> Result<(), Fail> {
-    let (header, rest) = Icmpv6Header::from_slice(&[143, 0, 0x10, 0x20, 0, 0, 0, 1, 4, 0])?;
-    let report = Icmpv6Type::Unknown {
-        type_u8: 143,
-        code_u8: 0,
-        bytes5to8: [0, 0, 0, 1],
+fn other_messages_are_unknown(rt: HostRuntime) {
+    let bytes = [143, 0, 0x10, 0x20, 0, 0, 0, 1, 4, 0];
+    let report = Icmpv6Header {
+        icmp_type: Icmpv6Type::Unknown {
+            type_u8: 143,
+            code_u8: 0,
+            bytes5to8: [0, 0, 0, 1],
+        },
+        checksum: 0x1020,
     };
-    assert!(rt; header.icmp_type == report && rest == [4, 0].as_slice());
+    let rest = [4, 0].as_slice();
+    assert_equal(&rt, Icmpv6Header::from_slice(&bytes), Ok((report, rest)));
     let bytes = [8, 1, 0, 0, 1, 2, 3, 4];
-    let (header, _) = Icmpv4Header::from_slice(&bytes)?;
-    let other = Icmpv4Type::Unknown {
-        type_u8: 8,
-        code_u8: 1,
-        bytes5to8: [1, 2, 3, 4],
+    let other = Icmpv4Header {
+        icmp_type: Icmpv4Type::Unknown {
+            type_u8: 8,
+            code_u8: 1,
+            bytes5to8: [1, 2, 3, 4],
+        },
+        checksum: 0,
     };
-    assert!(rt; header.icmp_type == other && header.to_bytes().as_slice() == bytes.as_slice());
-    Ok(())
+    assert_equal(&rt, other.to_bytes().as_slice(), bytes.as_slice());
+    let rest = [].as_slice();
+    assert_equal(&rt, Icmpv4Header::from_slice(&bytes), Ok((other, rest)));
 }
 
-// Whether the answer is this refusal of a slice.
-fn is_refused(
-    answer: Result<(Icmpv4Header, &[u8]), LenError>,
-    layer: Layer,
-    required_len: usize,
-    len: usize,
-) -> bool {
-    match answer {
-        Ok(_) => false,
-        Err(e) => {
-            e == LenError {
-                required_len,
-                len,
-                len_source: LenSource::Slice,
-                layer,
-                layer_start_offset: 0,
-            }
-        }
-    }
+// Asserts that a slice is refused for its length.
+fn assert_refused(rt: &impl Abort, slice: &[u8], layer: Layer, required_len: usize) {
+    let too_short = LenError {
+        required_len,
+        len: slice.len(),
+        len_source: LenSource::Slice,
+        layer,
+        layer_start_offset: 0,
+    };
+    assert_equal(rt, Icmpv4Header::from_slice(slice), Err(too_short));
 }
 
 #[test]
 fn short_messages_are_refused(rt: HostRuntime) {
-    let short = Icmpv4Header::from_slice(&[8, 0, 0, 0, 0, 0, 0]);
-    assert!(rt; is_refused(short, Layer::Icmpv4, 8, 7));
+    assert_refused(&rt, &[8, 0, 0, 0, 0, 0, 0], Layer::Icmpv4, 8);
     let request = [13, 0, 0, 0, 0, 0, 0, 0, 0];
-    let short = Icmpv4Header::from_slice(&request);
-    assert!(rt; is_refused(short, Layer::Icmpv4Timestamp, 20, 9));
+    assert_refused(&rt, &request, Layer::Icmpv4Timestamp, 20);
     let reply = [14, 0, 0, 0, 0, 0, 0, 0];
-    let short = Icmpv4Header::from_slice(&reply);
-    assert!(rt; is_refused(short, Layer::Icmpv4TimestampReply, 20, 8));
+    assert_refused(&rt, &reply, Layer::Icmpv4TimestampReply, 20);
     // Another code is no timestamp message.
     assert!(rt; Icmpv4Header::from_slice(&[13, 1, 0, 0, 0, 0, 0, 0]).is_ok());
     assert!(rt; Icmpv6Header::from_slice(&[128, 0, 0, 0, 0, 0, 0]).is_err());

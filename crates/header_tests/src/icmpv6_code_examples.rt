@@ -1,5 +1,7 @@
-//! The examples in the doc comments of `etherparse_icmp::icmpv6`, line by line as they stand there.
+//! The examples in the doc comments of `etherparse_icmp::icmpv6`, line by line, with `assert_equal`
+//! for each equation that they assert.
 
+use crate::shared::assert_equal;
 use etherparse_icmp::icmpv6::{
     DestUnreachableCode, ParameterProblemCode, ParameterProblemHeader, TimeExceededCode,
 };
@@ -9,18 +11,26 @@ use std::test::Fail;
 #[test]
 fn codes_of_icmpv6(rt: HostRuntime) -> Result<(), Fail> {
     let code = DestUnreachableCode::from_u8(4);
-    assert!(rt; code == Some(DestUnreachableCode::Port));
-    assert!(rt; DestUnreachableCode::Port.code_u8() == 4);
+    assert_equal(&rt, code, Some(DestUnreachableCode::Port));
+    assert_equal(&rt, DestUnreachableCode::Port.code_u8(), 4);
     assert!(rt; DestUnreachableCode::from_u8(7).is_none());
 
     let code = TimeExceededCode::from_u8(0);
-    assert!(rt; code == Some(TimeExceededCode::HopLimitExceeded));
-    assert!(rt; TimeExceededCode::HopLimitExceeded.code_u8() == 0);
+    assert_equal(&rt, code, Some(TimeExceededCode::HopLimitExceeded));
+    assert_equal(&rt, TimeExceededCode::HopLimitExceeded.code_u8(), 0);
     assert!(rt; TimeExceededCode::from_u8(2).is_none());
 
     let code = ParameterProblemCode::from_u8(1);
-    assert!(rt; code == Some(ParameterProblemCode::UnrecognizedNextHeader));
-    assert!(rt; ParameterProblemCode::UnrecognizedNextHeader.code_u8() == 1);
+    assert_equal(
+        &rt,
+        code,
+        Some(ParameterProblemCode::UnrecognizedNextHeader),
+    );
+    assert_equal(
+        &rt,
+        ParameterProblemCode::UnrecognizedNextHeader.code_u8(),
+        1,
+    );
     assert!(rt; ParameterProblemCode::from_u8(11).is_none());
 
     // An unrecognized next header, at byte 40 of a packet that began with `abcd`.
@@ -28,6 +38,6 @@ fn codes_of_icmpv6(rt: HostRuntime) -> Result<(), Fail> {
     let (header, _) = Icmpv6Header::from_slice(&bytes)?;
     let code = ParameterProblemCode::UnrecognizedNextHeader;
     let problem = ParameterProblemHeader { code, pointer: 40 };
-    assert!(rt; header.icmp_type == Icmpv6Type::ParameterProblem(problem));
+    assert_equal(&rt, header.icmp_type, Icmpv6Type::ParameterProblem(problem));
     Ok(())
 }

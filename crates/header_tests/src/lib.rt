@@ -18,4 +18,6 @@ mod link_examples;
 #[cfg(test)]
 mod net_examples;
 #[cfg(test)]
+mod shared;
+#[cfg(test)]
 mod transport_examples;

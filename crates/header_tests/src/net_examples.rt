@@ -1,5 +1,7 @@
-//! The examples in the doc comments of `etherparse_net`, line by line as they stand there.
+//! The examples in the doc comments of `etherparse_net`, line by line, with `assert_equal` for
+//! equations that they assert.
 
+use crate::shared::assert_equal;
 use arrayvec::ArrayVec;
 use etherparse::IpNumber;
 use etherparse_net::err::{ExtPayloadLenError, IcvLenError, OptionWriteError};
@@ -16,14 +18,14 @@ fn fragment_headers(rt: HostRuntime) -> Result<(), Fail> {
     // What is reserved in bytes 1 and 3 is not kept.
     let slice = [17, 255, 0, 0x0f, 1, 2, 3, 4];
     let (header, _) = Ipv6FragmentHeader::from_slice(&slice)?;
-    assert!(rt; header.to_bytes() == [17, 0, 0, 9, 1, 2, 3, 4]);
+    assert_equal(&rt, header.to_bytes(), [17, 0, 0, 9, 1, 2, 3, 4]);
 
     // A fragment that is not the first, and not the last.
     let slice = [17, 0, 0, 9, 1, 2, 3, 4, 5, 6, 7, 8];
     let view = Ipv6FragmentHeaderSlice::from_slice(&slice)?;
     assert!(rt; view.next_header() == IpNumber::UDP && view.more_fragments());
-    assert!(rt; view.fragment_offset().byte_offset() == 8);
-    assert!(rt; view.identification() == 0x01020304);
+    assert_equal(&rt, view.fragment_offset().byte_offset(), 8);
+    assert_equal(&rt, view.identification(), 0x01020304);
     Ok(())
 }
 
@@ -31,43 +33,47 @@ fn fragment_headers(rt: HostRuntime) -> Result<(), Fail> {
 fn authentication_headers(rt: HostRuntime) -> Result<(), Fail> {
     // A value of 96 bits, as HMAC-SHA-1-96 has (RFC 2404).
     let icv = IpAuthIcv::try_from([7; 12].as_slice())?;
-    assert!(rt; icv.as_slice() == [7; 12].as_slice());
+    assert_equal(&rt, icv.as_slice(), [7; 12].as_slice());
     let refused = IpAuthIcv::try_from([7; 13].as_slice());
-    assert!(rt; refused == Err(IcvLenError::Unaligned(13)));
+    assert_equal(&rt, refused, Err(IcvLenError::Unaligned(13)));
 
     let header = IpAuthHeader::new(IpNumber::TCP, 256, 1, &[9, 8, 7, 6])?;
     let bytes = header.to_bytes();
-    assert!(rt; bytes.as_slice() == [6, 2, 0, 0, 0, 0, 1, 0, 0, 0, 0, 1, 9, 8, 7, 6].as_slice());
+    assert_equal(
+        &rt,
+        bytes.as_slice(),
+        [6, 2, 0, 0, 0, 0, 1, 0, 0, 0, 0, 1, 9, 8, 7, 6].as_slice(),
+    );
     let (read, _) = IpAuthHeader::from_slice(bytes.as_slice())?;
-    assert!(rt; read == header);
+    assert_equal(&rt, read, header);
 
     let slice = [6, 2, 0, 0, 0, 0, 1, 0, 0, 0, 0, 1, 9, 8, 7, 6, 0x12];
     let view = IpAuthHeaderSlice::from_slice(&slice)?;
-    assert!(rt; view.next_header() == IpNumber::TCP);
-    assert!(rt; (view.spi(), view.sequence_number()) == (256, 1));
-    assert!(rt; view.raw_icv() == [9, 8, 7, 6].as_slice());
+    assert_equal(&rt, view.next_header(), IpNumber::TCP);
+    assert_equal(&rt, (view.spi(), view.sequence_number()), (256, 1));
+    assert_equal(&rt, view.raw_icv(), [9, 8, 7, 6].as_slice());
     Ok(())
 }
 
 #[test]
 fn raw_headers(rt: HostRuntime) -> Result<(), Fail> {
     let payload = Ipv6ExtPayload::try_from([5, 2, 0, 0, 1, 0].as_slice())?;
-    assert!(rt; payload.as_slice() == [5, 2, 0, 0, 1, 0].as_slice());
+    assert_equal(&rt, payload.as_slice(), [5, 2, 0, 0, 1, 0].as_slice());
     let refused = Ipv6ExtPayload::try_from([0; 8].as_slice());
-    assert!(rt; refused == Err(ExtPayloadLenError::Unaligned(8)));
+    assert_equal(&rt, refused, Err(ExtPayloadLenError::Unaligned(8)));
 
     // Hop-by-hop options with a router alert (RFC 2711).
     let header = Ipv6RawExtHeader::new_raw(IpNumber::IPV6_ICMP, &[5, 2, 0, 0, 1, 0])?;
     let bytes = header.to_bytes();
-    assert!(rt; bytes.as_slice() == [58, 0, 5, 2, 0, 0, 1, 0].as_slice());
+    assert_equal(&rt, bytes.as_slice(), [58, 0, 5, 2, 0, 0, 1, 0].as_slice());
     let (read, _) = Ipv6RawExtHeader::from_slice(bytes.as_slice())?;
-    assert!(rt; read == header);
+    assert_equal(&rt, read, header);
 
     // Hop-by-hop options with a router alert (RFC 2711), and the start of what follows.
     let slice = [58, 0, 5, 2, 0, 0, 1, 0, 131, 0];
     let view = Ipv6RawExtHeaderSlice::from_slice(&slice)?;
-    assert!(rt; view.next_header() == IpNumber::IPV6_ICMP);
-    assert!(rt; view.payload() == [5, 2, 0, 0, 1, 0].as_slice());
+    assert_equal(&rt, view.next_header(), IpNumber::IPV6_ICMP);
+    assert_equal(&rt, view.payload(), [5, 2, 0, 0, 1, 0].as_slice());
     Ok(())
 }
 
@@ -86,7 +92,7 @@ fn chains(rt: HostRuntime) -> Result<(), Fail> {
     };
     assert!(rt; options.slice().len() == 8 && fragment.identification() == 7);
     assert!(rt; headers.next().is_none() && headers.next_header == IpNumber::UDP);
-    assert!(rt; headers.rest == [4, 0, 0, 53].as_slice());
+    assert_equal(&rt, headers.rest, [4, 0, 0, 53].as_slice());
     Ok(())
 }
 
@@ -97,8 +103,8 @@ fn ipv6_options(rt: HostRuntime) -> Result<(), Fail> {
         return Err(Fail::from("no option"));
     };
     assert!(rt; option.option_type() == 5 && !option.may_change());
-    assert!(rt; option.unknown_action() == Ipv6OptionAction::Skip);
-    assert!(rt; option.data() == [0, 0].as_slice());
+    assert_equal(&rt, option.unknown_action(), Ipv6OptionAction::Skip);
+    assert_equal(&rt, option.data(), [0, 0].as_slice());
 
     // A router alert (RFC 2711), and a PadN of two bytes.
     let header = Ipv6RawExtHeaderSlice::from_slice(&[58, 0, 5, 2, 0, 0, 1, 0])?;
@@ -116,9 +122,9 @@ fn ipv6_options(rt: HostRuntime) -> Result<(), Fail> {
     let mut options: ArrayVec<u8, 6> = ArrayVec::new();
     append_ipv6_option(&mut options, 5, &[0, 0])?;
     append_ipv6_option(&mut options, 1, &[])?;
-    assert!(rt; options.as_slice() == [5, 2, 0, 0, 1, 0].as_slice());
+    assert_equal(&rt, options.as_slice(), [5, 2, 0, 0, 1, 0].as_slice());
     let refused = append_ipv6_option(&mut options, 0, &[]);
-    assert!(rt; refused == Err(OptionWriteError::NotEnoughSpace(7)));
+    assert_equal(&rt, refused, Err(OptionWriteError::NotEnoughSpace(7)));
     Ok(())
 }
 
@@ -130,15 +136,15 @@ fn loops(rt: HostRuntime) -> Result<(), Fail> {
     for option in header.options() {
         last = Some(option?.option_type());
     }
-    assert!(rt; last == Some(0x1e));
+    assert_equal(&rt, last, Some(0x1e));
 
     // A Pad1, a PadN and an option for experiments (RFC 4727).
     let count = Ipv6OptionsIterator::count_of(&[0, 1, 0, 0x1e, 1, 7]);
-    assert!(rt; count == Ok(3));
+    assert_equal(&rt, count, Ok(3));
 
     // No operation, a router alert (RFC 2113), and the end of the list.
     let count = Ipv4OptionsIterator::count_of(&[1, 148, 4, 0, 0, 0, 0, 0]);
-    assert!(rt; count == Ok(2));
+    assert_equal(&rt, count, Ok(2));
     Ok(())
 }
 
@@ -149,8 +155,8 @@ fn ipv4_options(rt: HostRuntime) -> Result<(), Fail> {
         return Err(Fail::from("no option"));
     };
     assert!(rt; option.option_type() == 148 && option.is_copied());
-    assert!(rt; (option.class(), option.number()) == (0, 20));
-    assert!(rt; option.data() == [0, 0].as_slice());
+    assert_equal(&rt, (option.class(), option.number()), (0, 20));
+    assert_equal(&rt, option.data(), [0, 0].as_slice());
 
     // No operation, a router alert (RFC 2113), and the end of the list.
     let mut options = Ipv4OptionsIterator::new(&[1, 148, 4, 0, 0, 0, 0, 0]);

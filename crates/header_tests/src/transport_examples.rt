@@ -1,6 +1,7 @@
 //! The examples in the doc comments of `etherparse_transport` that are not in `packet_examples`, line
-//! by line as they stand there.
+//! by line, with `assert_equal` for each equation that they assert.
 
+use crate::shared::assert_equal;
 use etherparse::{IpNumber, Ipv4Header, Ipv4HeaderSlice, Ipv6Header};
 use etherparse_transport::{
     TcpHeader, TcpHeaderSlice, TcpOptionElement, TcpOptionWriteError, TcpOptions, UdpHeader,
@@ -17,8 +18,12 @@ fn options_of_a_view(rt: HostRuntime) -> Result<(), Fail> {
         0xb4,
     ];
     let mut iterator = TcpHeaderSlice::from_slice(&segment)?.options_iterator();
-    assert!(rt; iterator.next() == Some(Ok(TcpOptionElement::MaximumSegmentSize(1460))));
-    assert!(rt; iterator.next() == None);
+    assert_equal(
+        &rt,
+        iterator.next(),
+        Some(Ok(TcpOptionElement::MaximumSegmentSize(1460))),
+    );
+    assert_equal(&rt, iterator.next(), None);
     Ok(())
 }
 
@@ -32,7 +37,11 @@ fn tcp_checksum_of_a_view(rt: HostRuntime) -> Result<(), Fail> {
     ];
     let ip = Ipv4HeaderSlice::from_slice(&packet)?;
     let tcp = TcpHeaderSlice::from_slice(&packet[20..])?;
-    assert!(rt; tcp.calc_checksum_ipv4(&ip, &packet[40..])? == tcp.checksum());
+    assert_equal(
+        &rt,
+        tcp.calc_checksum_ipv4(&ip, &packet[40..])?,
+        tcp.checksum(),
+    );
     Ok(())
 }
 
@@ -42,7 +51,7 @@ fn tcp_written_and_read(rt: HostRuntime) -> Result<(), Fail> {
     header.syn = true;
     let bytes = header.to_bytes();
     let (read, _) = TcpHeader::from_slice(bytes.as_slice())?;
-    assert!(rt; read == header);
+    assert_equal(&rt, read, header);
     Ok(())
 }
 
@@ -50,7 +59,7 @@ fn tcp_written_and_read(rt: HostRuntime) -> Result<(), Fail> {
 fn tcp_lengths(rt: HostRuntime) -> Result<(), Fail> {
     let mut header = TcpHeader::default();
     header.set_options_raw(&[2, 4, 0x05, 0xb4, 1])?;
-    assert!(rt; (header.data_offset(), header.header_len()) == (7, 28));
+    assert_equal(&rt, (header.data_offset(), header.header_len()), (7, 28));
     Ok(())
 }
 
@@ -58,9 +67,17 @@ fn tcp_lengths(rt: HostRuntime) -> Result<(), Fail> {
 fn tcp_options_set(rt: HostRuntime) -> Result<(), Fail> {
     let mut header = TcpHeader::new(1024, 80, 1, 8192);
     header.set_options(&[TcpOptionElement::MaximumSegmentSize(1460)])?;
-    assert!(rt; header.options.as_slice() == [2, 4, 0x05, 0xb4].as_slice());
+    assert_equal(
+        &rt,
+        header.options.as_slice(),
+        [2, 4, 0x05, 0xb4].as_slice(),
+    );
     let mut iterator = header.options_iterator();
-    assert!(rt; iterator.next() == Some(Ok(TcpOptionElement::MaximumSegmentSize(1460))));
+    assert_equal(
+        &rt,
+        iterator.next(),
+        Some(Ok(TcpOptionElement::MaximumSegmentSize(1460))),
+    );
     Ok(())
 }
 
@@ -72,7 +89,11 @@ fn tcp_read(rt: HostRuntime) -> Result<(), Fail> {
         0xb4,
     ];
     let (header, rest) = TcpHeader::from_slice(&segment)?;
-    assert!(rt; (header.source_port, header.destination_port) == (1024, 80));
+    assert_equal(
+        &rt,
+        (header.source_port, header.destination_port),
+        (1024, 80),
+    );
     assert!(rt; header.syn && !header.ack && header.window_size == 8192);
     assert!(rt; header.options.as_slice() == [2, 4, 0x05, 0xb4].as_slice() && rest.is_empty());
     Ok(())
@@ -85,7 +106,7 @@ fn tcp_checksum_over_ipv4(rt: HostRuntime) -> Result<(), Fail> {
     let mut tcp = TcpHeader::new(1024, 80, 1, 8192);
     tcp.psh = true;
     tcp.checksum = tcp.calc_checksum_ipv4(&ip, b"test")?;
-    assert!(rt; tcp.checksum == 0x2195);
+    assert_equal(&rt, tcp.checksum, 0x2195);
     Ok(())
 }
 
@@ -96,7 +117,7 @@ fn tcp_checksum_over_ipv6(rt: HostRuntime) -> Result<(), Fail> {
     ip.destination = [0x20, 0x01, 0x0d, 0xb8, 0, 0, 0, 0, 0, 0, 0, 0, 0, 0, 0, 2];
     let mut tcp = TcpHeader::new(1024, 80, 1, 8192);
     tcp.psh = true;
-    assert!(rt; tcp.calc_checksum_ipv6(&ip, b"test")? == 0x4839);
+    assert_equal(&rt, tcp.calc_checksum_ipv6(&ip, b"test")?, 0x4839);
     Ok(())
 }
 
@@ -105,9 +126,13 @@ fn tcp_options_as_bytes(rt: HostRuntime) -> Result<(), Fail> {
     // A maximum segment size of 1460 bytes, a no-operation and a window scale of 7: the zero after
     // them fills up the word.
     let options = TcpOptions::try_from_slice(&[2, 4, 0x05, 0xb4, 1, 3, 3])?;
-    assert!(rt; options.as_slice() == [2, 4, 0x05, 0xb4, 1, 3, 3, 0].as_slice());
+    assert_equal(
+        &rt,
+        options.as_slice(),
+        [2, 4, 0x05, 0xb4, 1, 3, 3, 0].as_slice(),
+    );
     let refused = TcpOptions::try_from_slice(&[1; 41]);
-    assert!(rt; refused == Err(TcpOptionWriteError::NotEnoughSpace(41)));
+    assert_equal(&rt, refused, Err(TcpOptionWriteError::NotEnoughSpace(41)));
     Ok(())
 }
 
@@ -118,7 +143,11 @@ fn tcp_options_written(rt: HostRuntime) -> Result<(), Fail> {
         TcpOptionElement::WindowScale(7),
     ];
     let options = TcpOptions::try_from_elements(&elements)?;
-    assert!(rt; options.as_slice() == [2, 4, 0x05, 0xb4, 3, 3, 7, 0].as_slice());
+    assert_equal(
+        &rt,
+        options.as_slice(),
+        [2, 4, 0x05, 0xb4, 3, 3, 7, 0].as_slice(),
+    );
     Ok(())
 }
 
@@ -127,17 +156,25 @@ fn tcp_options_read(rt: HostRuntime) -> Result<(), Fail> {
     // A maximum segment size of 1460 bytes, a no-operation, a window scale of 7, and the end.
     let options = TcpOptions::try_from_slice(&[2, 4, 0x05, 0xb4, 1, 3, 3, 7, 0])?;
     let mut iterator = options.elements_iter();
-    assert!(rt; iterator.next() == Some(Ok(TcpOptionElement::MaximumSegmentSize(1460))));
-    assert!(rt; iterator.next() == Some(Ok(TcpOptionElement::Noop)));
-    assert!(rt; iterator.next() == Some(Ok(TcpOptionElement::WindowScale(7))));
-    assert!(rt; iterator.next() == None);
+    assert_equal(
+        &rt,
+        iterator.next(),
+        Some(Ok(TcpOptionElement::MaximumSegmentSize(1460))),
+    );
+    assert_equal(&rt, iterator.next(), Some(Ok(TcpOptionElement::Noop)));
+    assert_equal(
+        &rt,
+        iterator.next(),
+        Some(Ok(TcpOptionElement::WindowScale(7))),
+    );
+    assert_equal(&rt, iterator.next(), None);
     Ok(())
 }
 
 #[test]
 fn udp_without_checksum(rt: HostRuntime) -> Result<(), Fail> {
     let header = UdpHeader::without_ipv4_checksum(1024, 53, 4)?;
-    assert!(rt; header.to_bytes() == [4, 0, 0, 53, 0, 12, 0, 0]);
+    assert_equal(&rt, header.to_bytes(), [4, 0, 0, 53, 0, 12, 0, 0]);
     assert!(rt; UdpHeader::without_ipv4_checksum(1024, 53, 65528).is_err());
     Ok(())
 }
@@ -147,7 +184,7 @@ fn udp_made_over_ipv4(rt: HostRuntime) -> Result<(), Fail> {
     let (source, destination) = ([192, 168, 0, 1], [192, 168, 0, 199]);
     let ip = Ipv4Header::new(12, 64, IpNumber::UDP, source, destination)?;
     let header = UdpHeader::with_ipv4_checksum(1024, 53, &ip, b"test")?;
-    assert!(rt; header.to_bytes() == [4, 0, 0, 53, 0, 12, 0x91, 0xae]);
+    assert_equal(&rt, header.to_bytes(), [4, 0, 0, 53, 0, 12, 0x91, 0xae]);
     Ok(())
 }
 
@@ -156,7 +193,7 @@ fn udp_checksum_over_ipv4(rt: HostRuntime) -> Result<(), Fail> {
     let (source, destination) = ([192, 168, 0, 1], [192, 168, 0, 199]);
     let ip = Ipv4Header::new(12, 64, IpNumber::UDP, source, destination)?;
     let udp = UdpHeader::without_ipv4_checksum(1024, 53, 4)?;
-    assert!(rt; udp.calc_checksum_ipv4(&ip, b"test")? == 0x91ae);
+    assert_equal(&rt, udp.calc_checksum_ipv4(&ip, b"test")?, 0x91ae);
     Ok(())
 }
 
@@ -166,7 +203,7 @@ fn udp_checksum_over_ipv6(rt: HostRuntime) -> Result<(), Fail> {
     ip.source = [0x20, 0x01, 0x0d, 0xb8, 0, 0, 0, 0, 0, 0, 0, 0, 0, 0, 0, 1];
     ip.destination = [0x20, 0x01, 0x0d, 0xb8, 0, 0, 0, 0, 0, 0, 0, 0, 0, 0, 0, 2];
     let udp = UdpHeader::without_ipv4_checksum(1024, 53, 4)?;
-    assert!(rt; udp.calc_checksum_ipv6(&ip, b"test")? == 0xb852);
+    assert_equal(&rt, udp.calc_checksum_ipv6(&ip, b"test")?, 0xb852);
     Ok(())
 }
 
@@ -174,8 +211,16 @@ fn udp_checksum_over_ipv6(rt: HostRuntime) -> Result<(), Fail> {
 fn views_of_udp(rt: HostRuntime) -> Result<(), Fail> {
     let datagram = [4, 0, 0, 53, 0, 12, 0x91, 0xae, b't', b'e', b's', b't'];
     let view = UdpHeaderSlice::from_slice(&datagram)?;
-    assert!(rt; (view.source_port(), view.destination_port()) == (1024, 53));
-    assert!(rt; (view.length(), view.checksum()) == (12, 0x91ae));
-    assert!(rt; view.to_header() == UdpHeader::from_slice(view.slice())?.0);
+    assert_equal(
+        &rt,
+        (view.source_port(), view.destination_port()),
+        (1024, 53),
+    );
+    assert_equal(&rt, (view.length(), view.checksum()), (12, 0x91ae));
+    assert_equal(
+        &rt,
+        view.to_header(),
+        UdpHeader::from_slice(view.slice())?.0,
+    );
     Ok(())
 }
