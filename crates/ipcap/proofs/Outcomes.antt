@@ -128,10 +128,12 @@ wanted_of P Q full wants fine failure.Count rest left b other = inl (other count
 
 module _ {R W V : Type 0} (remaining : R → Option (List ℕ)) (contents : W → Option (List ℕ)) (also : V → Option (List ℕ)) (P : R → Type 0) (Q : W → Type 0) (Q' : V → Type 0) (request : Request) (memory : Memory) where
   module _ (capture : Capture) (a c : Input R) (o m n : Output W) (p : Output V) where
-    -- some records are told, and a write failed
-    pub broken : (e : Failure) → Breaks remaining contents request P Q (first_place memory capture) e a c o m → Prints contents m n [] → Q n.sink → (¬ (e ≡ failure.Read) → NoReadFails P a c)
-        → FailsListing remaining contents P Q request memory capture failure.Write a c o n p p
-    broken e b handed failed other = record {
+    -- some records are told, and the run fails
+    fails : (e kind : Failure) (b : Breaks remaining contents request P Q (first_place memory capture) e a c o m) → Prints contents m n [] → (¬ (e ≡ failure.Read) → NoReadFails P a c)
+        → IsCause (CannotRead P c × WantsMore request b.tells.last b.tells.end) (b.tells.rest ≡ []) (Q n.sink) (¬ HasRoom b.tells.last)
+        (Prints contents o n (b.tells.printed ++ b.tells.left) × (pending n ≡ [])) kind
+        → FailsListing remaining contents P Q request memory capture kind a c o n p p
+    fails e kind b handed unfailed cause = record {
       got = b.got;
       reads = b.reads;
       front = b.tells.front;
@@ -146,9 +148,14 @@ module _ {R W V : Type 0} (remaining : R → Option (List ℕ)) (contents : W �
       parts = append_assoc b.tells.printed b.tells.left (listed request (b.tells.printed ++ b.tells.left) b.tells.last b.tells.end).closing;
       prints = prints_then contents o m n b.tells.printed b.tells.prints handed;
       errors = refl;
-      wanted = wanted_of _ _ _ (WantsMore request b.tells.last b.tells.end) (NoReadFails P a c) e b.tells.rest b.tells.left b.tells.cause other;
-      cause = failed;
+      wanted = wanted_of _ _ _ (WantsMore request b.tells.last b.tells.end) (NoReadFails P a c) e b.tells.rest b.tells.left b.tells.cause unfailed;
+      cause = cause;
     }
+
+    -- since a write failed
+    pub broken : (e : Failure) → Breaks remaining contents request P Q (first_place memory capture) e a c o m → Prints contents m n [] → Q n.sink → (¬ (e ≡ failure.Read) → NoReadFails P a c)
+        → FailsListing remaining contents P Q request memory capture failure.Write a c o n p p
+    broken e b handed failed unfailed = fails e failure.Write b handed unfailed failed
 
     cause_of : (e : Failure) (wants full : Type 0) (rest printed left : List ℕ) → Because (CannotRead P c) (Q m.sink) full e wants rest left → ¬ (e ≡ failure.Write) → Prints contents o n printed → pending n ≡ []
         → IsCause (CannotRead P c × wants) (rest ≡ []) (Q n.sink) full (Prints contents o n (printed ++ left) × (pending n ≡ [])) e
@@ -159,26 +166,9 @@ module _ {R W V : Type 0} (remaining : R → Option (List ℕ)) (contents : W �
     -- or a read failed or a count was full
     pub broken_off : (e : Failure) → ¬ (e ≡ failure.Write) → Breaks remaining contents request P Q (first_place memory capture) e a c o m → Prints contents m n [] → pending n ≡ [] → (¬ (e ≡ failure.Read) → NoReadFails P a c)
         → FailsListing remaining contents P Q request memory capture e a c o n p p
-    broken_off e other b handed all unfailed =
-        let wrote = prints_then contents o m n b.tells.printed b.tells.prints handed in
-        record {
-          got = b.got;
-          reads = b.reads;
-          front = b.tells.front;
-          rest = b.tells.rest;
-          whole = b.tells.whole;
-          text = b.tells.printed ++ b.tells.left;
-          totals = b.tells.last;
-          end = b.tells.end;
-          lists = b.tells.lists;
-          printed = b.tells.printed;
-          unprinted = b.tells.left ++ (listed request (b.tells.printed ++ b.tells.left) b.tells.last b.tells.end).closing;
-          parts = append_assoc b.tells.printed b.tells.left (listed request (b.tells.printed ++ b.tells.left) b.tells.last b.tells.end).closing;
-          prints = wrote;
-          errors = refl;
-          wanted = wanted_of _ _ _ (WantsMore request b.tells.last b.tells.end) (NoReadFails P a c) e b.tells.rest b.tells.left b.tells.cause unfailed;
-          cause = cause_of e (WantsMore request b.tells.last b.tells.end) (¬ HasRoom b.tells.last) b.tells.rest b.tells.printed b.tells.left b.tells.cause other wrote all;
-        }
+    broken_off e other b handed all unfailed = fails e e b handed unfailed
+        (cause_of e (WantsMore request b.tells.last b.tells.end) (¬ HasRoom b.tells.last) b.tells.rest b.tells.printed b.tells.left b.tells.cause other
+        (prints_then contents o m n b.tells.printed b.tells.prints handed) all)
 
     -- all is told
     module _ (totals : Totals) (end : Option End) (b : Ends remaining contents request (first_place memory capture) totals end a c o m) where

@@ -22,7 +22,7 @@ pub struct Input<R> {
 }
 
 impl<R: Source> Input<R> {
-    ghost use Rattle.std.specs.Prelude.{◌≡◌, ◌≢◌, [], IfErr, IfOk, IsFalse, IsTrue, OnErr, OnOk};
+    ghost use Rattle.std.specs.Prelude.{◌≡◌, [], IfErr, IfOk, IsFalse, IsTrue, OnErr, OnOk};
     ghost use Rattle.std.specs.Prelude.{drop, length, take};
     ghost use Rattle.std.specs.Io.KnownBytes.{IsAtEnd};
     ghost use Rattle.ipcap.specs.Streams.{CannotRead, NoReadFails, Takes, unread};

@@ -19,13 +19,13 @@ use crate::completing::{completed, head_of_whole};
 use crate::failure::Failure;
 use crate::input::{Input, ROOM};
 use crate::lines::RecordLine;
+use crate::memory::Reassembly;
 use crate::output::Output;
 use crate::place::{End, Place};
 use crate::reading::{Reading, is_cut, max_len, read_numbered};
 use crate::request::{Mode, Request};
 use crate::streams::{Sink, Source};
 use crate::totals::Totals;
-use frame_reassembly::frame_reassembly::FrameReassembly;
 use packet::link::LinkType;
 use packet_capture::any::{Block, PacketHead, next_block};
 use packet_capture::capture::CutOff;
@@ -102,13 +102,11 @@ fn last_four(four: [u8; 4], bytes: &[u8]) -> [u8; 4]
 }
 
 impl Request {
-    // Counts a packet that is listed, in a block of `len` bytes, and writes its line or the bytes of
-    // the block.
+    // Counts a packet that is listed, and writes its line or the bytes of its block.
     #[inline(always)] // A quiet run then makes no value of a reading in memory.
     fn list_packet<W: Sink>(
         &self,
         totals: &mut Totals,
-        len: usize,
         is_reassembled: bool,
         head: &PacketHead,
         bytes: &[u8],
@@ -116,14 +114,14 @@ impl Request {
         output: &mut Output<W>,
     ) -> Result<(), Failure>
         requires fits { length bytes.now ≤ ROOM }
-        ensures told { OnOk result ((is_long : Bool) → TellsBlock W.contents self.now len is_long
-            (packet is_reassembled head.now (Some reading.entry)) totals.old totals.new bytes.now
-            output.old output.new) }
+        ensures told { OnOk result ((is_long : Bool) → TellsBlock W.contents self.now
+            (length bytes.now) is_long (packet is_reassembled head.now (Some reading.entry))
+            totals.old totals.new bytes.now output.old output.new) }
         ensures kept { OnErr result (Prints W.contents output.old output.new []) }
         ensures failed { IfErr result (λ e. Because ⊥ (W.has_failed output.new.sink)
             (¬ HasRoom totals.old) e ⊥ [] []) }
     {
-        if !totals.count(len, head, &reading) {
+        if !totals.count(bytes.len(), head, &reading) {
             return Err(Failure::Count);
         }
         match self.mode {
@@ -175,8 +173,7 @@ impl Request {
     {
         if self.is_chosen(head, frame) {
             let reading = read_numbered(head.link_type, is_cut(head), frame);
-            let len = bytes.len();
-            return self.list_packet(totals, len, is_reassembled, head, bytes, reading, output);
+            return self.list_packet(totals, is_reassembled, head, bytes, reading, output);
         }
         if totals.pass(bytes.len(), false, head) {
             Ok(())
@@ -189,18 +186,18 @@ impl Request {
     fn list_other<W: Sink>(
         &self,
         totals: &mut Totals,
-        len: usize,
         bytes: &[u8],
         output: &mut Output<W>,
     ) -> Result<(), Failure>
         requires fits { length bytes.now ≤ ROOM }
-        ensures told { OnOk result ((is_long : Bool) → TellsBlock W.contents self.now len is_long
-            no_packet totals.old totals.new bytes.now output.old output.new) }
+        ensures told { OnOk result ((is_long : Bool) → TellsBlock W.contents self.now
+            (length bytes.now) is_long no_packet totals.old totals.new bytes.now output.old
+            output.new) }
         ensures kept { OnErr result (Prints W.contents output.old output.new []) }
         ensures failed { IfErr result (λ e. Because ⊥ (W.has_failed output.new.sink)
             (¬ HasRoom totals.old) e ⊥ [] []) }
     {
-        totals.pass_block(len);
+        totals.pass_block(bytes.len());
         output.copy_if(self.copies(), bytes)
     }
 
@@ -209,13 +206,12 @@ impl Request {
     fn list_too_long<W: Sink>(
         &self,
         totals: &mut Totals,
-        len: usize,
         head: &PacketHead,
         bytes: &[u8],
         output: &mut Output<W>,
     ) -> Result<(), Failure>
         requires fits { length bytes.now ≤ ROOM }
-        ensures told { OnOk result (TellsBlock W.contents self.now len true
+        ensures told { OnOk result (TellsBlock W.contents self.now (length bytes.now) true
             (packet false head.now (if_too_long self.now)) totals.old totals.new bytes.now
             output.old output.new) }
         ensures kept { OnErr result (Prints W.contents output.old output.new []) }
@@ -223,9 +219,9 @@ impl Request {
             (¬ HasRoom totals.old) e ⊥ [] []) }
     {
         match &self.filter {
-            None => self.list_packet(totals, len, false, head, bytes, Reading::Skipped, output),
+            None => self.list_packet(totals, false, head, bytes, Reading::Skipped, output),
             Some(_) => {
-                if totals.pass(len, true, head) {
+                if totals.pass(bytes.len(), true, head) {
                     Ok(())
                 } else {
                     Err(Failure::Count)
@@ -235,13 +231,11 @@ impl Request {
     }
 
     // Takes the frame of a packet, and counts and writes the packet that it completes, or else itself.
-    // There is room for the whole frame in `out`.
     #[inline(never)] // A listing without this is then no slower for it.
     fn list_taken<W: Sink>(
         &self,
         totals: &mut Totals,
-        frames: &mut FrameReassembly,
-        out: &mut [u8],
+        memory: &mut Reassembly,
         head: &PacketHead,
         bytes: &[u8],
         frame: &[u8],
@@ -249,20 +243,18 @@ impl Request {
     ) -> Result<(), Failure>
         requires fits { length bytes.now ≤ ROOM }
         requires short { length frame.now ≤ 327680 }
-        requires room { length out.old ≡ 393255 }
-        ensures told { OnOk result (TellsSaid W.contents self.now totals.old (Some frames.old)
-            totals.new (Some frames.new) (said.packet head.now frame.now) bytes.now output.old
+        ensures told { OnOk result (TellsSaid W.contents self.now totals.old (Some memory.old)
+            totals.new (Some memory.new) (said.packet head.now frame.now) bytes.now output.old
             output.new) }
         ensures kept { OnErr result (Prints W.contents output.old output.new []) }
         ensures failed { IfErr result (λ e. Because ⊥ (W.has_failed output.new.sink)
             (¬ HasRoom totals.old) e ⊥ [] []) }
-        ensures same_len { length out.new ≡ 393255 }
     {
-        let Some(len) = completed(totals, frames, head, frame, out) else {
+        let Some(len) = completed(totals, &mut memory.frames, head, frame, memory.out) else {
             return self.list_frame(totals, false, head, bytes, frame, output);
         };
         let head = head_of_whole(head, len);
-        self.list_frame(totals, true, &head, bytes, &out[..len], output)
+        self.list_frame(totals, true, &head, bytes, &memory.out[..len], output)
     }
 
     // Counts a whole block, and writes what is written of it.
@@ -288,12 +280,9 @@ impl Request {
         match block {
             Block::Packet { head, bytes: frame } => match &mut place.memory {
                 None => self.list_frame(totals, false, head, bytes, frame, output),
-                Some(memory) => {
-                    let (frames, out) = (&mut memory.frames, &mut *memory.out);
-                    self.list_taken(totals, frames, out, head, bytes, frame, output)
-                }
+                Some(memory) => self.list_taken(totals, memory, head, bytes, frame, output),
             },
-            Block::Other => self.list_other(totals, bytes.len(), bytes, output),
+            Block::Other => self.list_other(totals, bytes, output),
         }
     }
 
@@ -320,25 +309,23 @@ impl Request {
             if self.has_enough(place.totals.listed) {
                 return Ok((rest, Stop::Enough));
             }
-            match next_block(&mut place.capture, rest) {
-                Ok(Some((block, after))) => {
-                    let whole = &rest[..rest.len() - after.len()];
-                    if whole.len() > most {
-                        // A block of pcapng that is too long is never whole in the buffer.
-                        let Block::Packet { head, .. } = &block else {
-                            unreachable!()
-                        };
-                        let totals = &mut place.totals;
-                        self.list_too_long(totals, whole.len(), head, whole, output)?;
-                    } else {
-                        self.list_block(place, &block, whole, output)?;
-                    }
-                    rest = after;
-                }
+            let (block, after) = match next_block(&mut place.capture, rest) {
+                Ok(Some(next)) => next,
                 Ok(None) => return Ok((rest, Stop::Empty)),
                 Err(BlockError::CutOff(e)) => return Ok((rest, Stop::CutOff(e))),
                 Err(e) => return Ok((rest, Stop::Refused(e))),
+            };
+            let whole = &rest[..rest.len() - after.len()];
+            if whole.len() > most {
+                // A block of pcapng that is too long is never whole in the buffer.
+                let Block::Packet { head, .. } = &block else {
+                    unreachable!()
+                };
+                self.list_too_long(&mut place.totals, head, whole, output)?;
+            } else {
+                self.list_block(place, &block, whole, output)?;
             }
+            rest = after;
         }
     }
 
@@ -368,8 +355,8 @@ impl Request {
             (¬ HasRoom totals.old) e ⊥ [] []) }
     {
         match &front.content {
-            Content::Packet(head) => self.list_too_long(totals, 0, head, &[], output),
-            Content::Other => self.list_other(totals, 0, &[], output),
+            Content::Packet(head) => self.list_too_long(totals, head, &[], output),
+            Content::Other => self.list_other(totals, &[], output),
             Content::Refused(_) | Content::Description => unreachable!(),
         }
     }
