@@ -1,10 +1,10 @@
 //! That every kind of IPv6 address is printed: the examples of RFC 4291 section 2.2 and of RFC 5952
 //! section 4.
 
+use crate::shared::assert_equal;
 use packet_parts::address::Ipv6Text;
 use std::alloc::Global;
 use std::process::Abort;
-use std::test::Fail;
 
 static CASES: [([u16; 8], &str); 9] = [
     ([0; 8], "::"),
@@ -34,16 +34,14 @@ fn octets_of(fields: &[u16; 8]) -> [u8; 16] {
     octets
 }
 
-fn assert_prints(rt: &impl Abort, alloc: Global, octets: [u8; 16], text: &str) -> Result<(), Fail> {
-    let printed = format!(in alloc; "{}", Ipv6Text(octets))?;
-    assert_eq!(rt; printed.as_str(), text);
-    Ok(())
+fn assert_prints(rt: &impl Abort, alloc: Global, octets: [u8; 16], text: &str) {
+    let printed = format!(in alloc; "{}", Ipv6Text(octets)).expect(rt, "a text");
+    assert_equal(rt, printed.as_str(), text);
 }
 
 #[test]
-fn addresses_as_rfc_5952_recommends(rt: HostRuntime) -> Result<(), Fail> {
+fn addresses_as_rfc_5952_recommends(rt: HostRuntime) {
     for (fields, text) in &CASES {
-        assert_prints(&rt, rt.alloc(), octets_of(fields), text)?;
+        assert_prints(&rt, rt.alloc(), octets_of(fields), text);
     }
-    Ok(())
 }

@@ -1,6 +1,7 @@
 //! The examples in the doc comments of `packet_capture` that are about pcapng and about captures of
-//! either format, line by line as they stand there.
+//! either format, line by line, with `assert_equal` for each equation that they assert.
 
+use crate::shared::assert_equal;
 use packet_capture::any::{self, Capture};
 use packet_capture::capture::ByteOrder;
 use packet_capture::file_format::{FileFormat, format_named};
@@ -18,9 +19,9 @@ fn blocks_of_pcapng(rt: HostRuntime) {
     ];
     let mut section = Section::none();
     let expected = Ok(Some((Block::Section, [].as_slice())));
-    assert!(rt; next_block(&mut section, &file) == expected);
-    assert!(rt; section.order == Some(ByteOrder::LittleEndian));
-    assert!(rt; next_block(&mut section, &[]) == Ok(None));
+    assert_equal(&rt, next_block(&mut section, &file), expected);
+    assert_equal(&rt, section.order, Some(ByteOrder::LittleEndian));
+    assert_equal(&rt, next_block(&mut section, &[]), Ok(None));
 }
 
 #[test]
@@ -31,10 +32,10 @@ fn times_and_formats(rt: HostRuntime) {
         ..Interface::default()
     };
     let time = interface.time_of(2_000_003);
-    assert!(rt; (time.seconds, time.nanoseconds) == (3, 3000));
+    assert_equal(&rt, (time.seconds, time.nanoseconds), (3, 3000));
 
-    assert!(rt; format_named(0x1f8b_0800) == Some(FileFormat::Gzip));
-    assert!(rt; format_named(0x4d5a_9000) == None);
+    assert_equal(&rt, format_named(0x1f8b_0800), Some(FileFormat::Gzip));
+    assert_equal(&rt, format_named(0x4d5a_9000), None);
 }
 
 #[test]
@@ -62,6 +63,6 @@ fn either_format(rt: &impl Abort) -> Result<(), Fail> {
         }
         rest = after;
     }
-    assert!(rt; found == Some((101, 1, 3)));
+    assert_equal(&rt, found, Some((101, 1, 3)));
     Ok(())
 }

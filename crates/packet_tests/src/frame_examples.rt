@@ -1,6 +1,7 @@
 //! The examples in the doc comments of `packet` on link headers and on frames that end early, line by
 //! line as they stand there.
 
+use crate::shared::assert_equal;
 use etherparse_link::EtherType;
 use packet::error::SliceError;
 use packet::lax_sliced_packet::LaxSlicedPacket;
@@ -16,12 +17,16 @@ use std::test::Fail;
 fn link_layers(rt: HostRuntime) -> Result<(), Fail> {
     // LINKTYPE_LINUX_SLL2.
     let link_type = LinkType::from_number(276);
-    assert!(rt; link_type == Some(LinkType::LinuxSll2));
-    assert!(rt; LinkType::LinuxSll2.header_len(&[]) == 20);
+    assert_equal(&rt, link_type, Some(LinkType::LinuxSll2));
+    assert_equal(&rt, LinkType::LinuxSll2.header_len(&[]), 20);
     // LINKTYPE_PPP: address, control, and the number of IPv4.
     let link_type = LinkType::from_number(9);
-    assert!(rt; link_type == Some(LinkType::Framed(Framing::Ppp)));
-    assert!(rt; LinkType::Framed(Framing::Ppp).header_len(&[0xff, 3, 0, 0x21]) == 4);
+    assert_equal(&rt, link_type, Some(LinkType::Framed(Framing::Ppp)));
+    assert_equal(
+        &rt,
+        LinkType::Framed(Framing::Ppp).header_len(&[0xff, 3, 0, 0x21]),
+        4,
+    );
 
     // Ethernet, a tag of VLAN 5, and the first bytes of an ARP packet.
     let frame = [
@@ -41,9 +46,9 @@ fn ethernet(rt: HostRuntime) -> Result<(), Fail> {
     let Some(LinkSlice::Ethernet2(header)) = layers.link else {
         return Err(Fail::from("no header"));
     };
-    assert!(rt; header.destination() == [2, 0, 0, 0, 0, 2]);
-    assert!(rt; header.source() == [2, 0, 0, 0, 0, 1]);
-    assert!(rt; header.ether_type() == EtherType::ARP);
+    assert_equal(&rt, header.destination(), [2, 0, 0, 0, 0, 2]);
+    assert_equal(&rt, header.source(), [2, 0, 0, 0, 0, 1]);
+    assert_equal(&rt, header.ether_type(), EtherType::ARP);
     Ok(())
 }
 
@@ -55,10 +60,14 @@ fn a_cooked_capture(rt: HostRuntime) -> Result<(), Fail> {
     let Some(LinkSlice::LinuxSll(header)) = layers.link else {
         return Err(Fail::from("no header"));
     };
-    assert!(rt; (header.packet_type(), header.arp_hardware_type()) == (1, 1));
-    assert!(rt; header.sender_address_valid_length() == 6);
-    assert!(rt; header.sender_address() == [2, 0, 0, 0, 0, 1].as_slice());
-    assert!(rt; header.protocol_type() == EtherType::ARP);
+    assert_equal(
+        &rt,
+        (header.packet_type(), header.arp_hardware_type()),
+        (1, 1),
+    );
+    assert_equal(&rt, header.sender_address_valid_length(), 6);
+    assert_equal(&rt, header.sender_address(), [2, 0, 0, 0, 0, 1].as_slice());
+    assert_equal(&rt, header.protocol_type(), EtherType::ARP);
     Ok(())
 }
 
@@ -73,10 +82,18 @@ fn a_cooked_capture_of_version_2(rt: HostRuntime) -> Result<(), Fail> {
     let Some(LinkSlice::LinuxSll2(header)) = layers.link else {
         return Err(Fail::from("no header"));
     };
-    assert!(rt; header.protocol_type() == EtherType::ARP);
-    assert!(rt; (header.interface_index(), header.arp_hardware_type()) == (3, 1));
-    assert!(rt; (header.packet_type(), header.sender_address_valid_length()) == (1, 6));
-    assert!(rt; header.sender_address() == [2, 0, 0, 0, 0, 1].as_slice());
+    assert_equal(&rt, header.protocol_type(), EtherType::ARP);
+    assert_equal(
+        &rt,
+        (header.interface_index(), header.arp_hardware_type()),
+        (3, 1),
+    );
+    assert_equal(
+        &rt,
+        (header.packet_type(), header.sender_address_valid_length()),
+        (1, 6),
+    );
+    assert_equal(&rt, header.sender_address(), [2, 0, 0, 0, 0, 1].as_slice());
     Ok(())
 }
 
@@ -102,8 +119,12 @@ fn frames_that_end_within_a_tag(rt: HostRuntime) -> Result<(), Fail> {
     let lax = LaxSlicedPacket::from_ethernet(&frame)?;
     assert!(rt; matches!(lax.stop, Some(SliceError::Vlan(_))));
     assert!(rt; matches!(lax.packet.vlan, Some(VlanSlice::SingleVlan(_))));
-    assert!(rt; lax.packet.ether_type == Some(EtherType::VLAN_TAGGED_FRAME));
-    assert!(rt; lax.packet.payload == [1, 2, 3].as_slice());
+    assert_equal(
+        &rt,
+        lax.packet.ether_type,
+        Some(EtherType::VLAN_TAGGED_FRAME),
+    );
+    assert_equal(&rt, lax.packet.payload, [1, 2, 3].as_slice());
 
     // A frame that ends within its tag.
     let lax = LaxSlicedPacket::from_ether_type(EtherType::VLAN_TAGGED_FRAME, &[1, 2, 3]);
@@ -134,12 +155,20 @@ fn cooked_captures_that_end_within_a_packet(rt: HostRuntime) -> Result<(), Fail>
 fn loopback_frames_that_end_within_a_packet(rt: HostRuntime) -> Result<(), Fail> {
     // The family of IPv4, and a packet of which two bytes were captured.
     let lax = LaxSlicedPacket::from_loopback(&[2, 0, 0, 0, 0x45, 0])?;
-    assert!(rt; lax.packet.link == Some(LinkSlice::Loopback { family: 2 }));
+    assert_equal(
+        &rt,
+        lax.packet.link,
+        Some(LinkSlice::Loopback { family: 2 }),
+    );
     assert!(rt; matches!(lax.stop, Some(SliceError::Ip(_))));
 
     // The same in network byte order, as a frame of LINKTYPE_LOOP.
     let lax = LaxSlicedPacket::from_link_type(LinkType::Loop, &[0, 0, 0, 2, 0x45, 0])?;
-    assert!(rt; lax.packet.link == Some(LinkSlice::Loopback { family: 2 }));
+    assert_equal(
+        &rt,
+        lax.packet.link,
+        Some(LinkSlice::Loopback { family: 2 }),
+    );
     assert!(rt; matches!(lax.stop, Some(SliceError::Ip(_))));
     Ok(())
 }
@@ -152,7 +181,11 @@ fn verdicts(rt: HostRuntime) {
         12, 0x91, 0xae, b't', b'e', b's', b't',
     ];
     let lax = LaxSlicedPacket::from_ip(&packet);
-    assert!(rt; lax.verdict() == Some(Verdict::Right));
+    assert_equal(&rt, lax.verdict(), Some(Verdict::Right));
     let lax = LaxSlicedPacket::from_ip(&packet[..31]);
-    assert!(rt; lax.verdict() == Some(Verdict::Absent(Absence::Incomplete)));
+    assert_equal(
+        &rt,
+        lax.verdict(),
+        Some(Verdict::Absent(Absence::Incomplete)),
+    );
 }

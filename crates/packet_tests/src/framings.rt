@@ -1,6 +1,7 @@
 //! Frames of PPP, Cisco's HDLC, frame relay, SLIP and IEEE 802.11: where their packets begin, as
 //! tshark and tcpdump have it, and the examples of `packet_links`.
 
+use crate::shared::assert_equal;
 use packet::link::{LinkSlice, LinkType};
 use packet::link_layers::LinkLayers;
 use packet::sliced_packet::SlicedPacket;
@@ -51,51 +52,61 @@ fn carried(framing: Framing, frame: &[u8]) -> Option<Carried> {
 }
 
 #[test]
-fn examples(rt: HostRuntime) -> Result<(), Fail> {
+fn examples(rt: HostRuntime) {
     // PPP without address and control, and the number of IPv4 in one byte.
     let header = Header {
         len: 1,
         carried: Carried::PppProtocol(0x0021),
     };
-    assert!(rt; Framing::Ppp.header(&[0x21, 0x45, 0]) == Ok(header));
+    assert_equal(&rt, Framing::Ppp.header(&[0x21, 0x45, 0]), Ok(header));
     // With address, control, and one byte of the number.
-    assert!(rt; Framing::Ppp.header(&[0xff, 3, 0]) == Err(4));
+    assert_equal(&rt, Framing::Ppp.header(&[0xff, 3, 0]), Err(4));
 
     // IPv6 and the control protocol of IPv4, by their numbers of PPP.
     assert!(rt; Carried::PppProtocol(0x0057).is_ip());
     assert!(rt; !Carried::PppProtocol(0x8021).is_ip());
 
-    assert!(rt; Carried::EtherType(0x0806).ether_type() == Some(0x0806));
+    assert_equal(&rt, Carried::EtherType(0x0806).ether_type(), Some(0x0806));
     assert!(rt; Carried::Nlpid(0xcc).ether_type().is_none());
-    Ok(())
 }
 
 #[test]
-fn lines_carry_packets(rt: HostRuntime) -> Result<(), Fail> {
+fn lines_carry_packets(rt: HostRuntime) {
     for header in [
         [0xff, 3, 0, 0x21].as_slice(),
         &[0xff, 3, 0x21],
         &[0, 0x21],
         &[0x21],
     ] {
-        assert!(rt; carries_datagram(Framing::Ppp, header));
-        assert!(rt; carries_datagram(Framing::PppHdlc, header));
+        let are_found = [
+            carries_datagram(Framing::Ppp, header),
+            carries_datagram(Framing::PppHdlc, header),
+        ];
+        assert_equal(&rt, (header, are_found), (header, [true; 2]));
     }
     for header in [[0x0f, 0, 8, 0], [0x8f, 0, 8, 0]] {
-        assert!(rt; carries_datagram(Framing::CiscoHdlc, &header));
-        assert!(rt; carries_datagram(Framing::PppHdlc, &header));
+        let are_found = [
+            carries_datagram(Framing::CiscoHdlc, &header),
+            carries_datagram(Framing::PppHdlc, &header),
+        ];
+        assert_equal(&rt, (header, are_found), (header, [true; 2]));
     }
-    assert!(rt; carries_datagram(Framing::Slip, &[1; 16]));
-    assert!(rt; carried(Framing::Ppp, &[0x80, 0x21, 1]) == Some(Carried::PppProtocol(0x8021)));
-    assert!(rt;
-        carried(Framing::CiscoHdlc, &[0x8f, 0, 0x20, 0]) == Some(Carried::EtherType(0x2000))
+    assert_equal(&rt, carries_datagram(Framing::Slip, &[1; 16]), true);
+    assert_equal(
+        &rt,
+        carried(Framing::Ppp, &[0x80, 0x21, 1]),
+        Some(Carried::PppProtocol(0x8021)),
     );
-    assert!(rt; Framing::Slip.header(&[0; 15]) == Err(16));
-    Ok(())
+    assert_equal(
+        &rt,
+        carried(Framing::CiscoHdlc, &[0x8f, 0, 0x20, 0]),
+        Some(Carried::EtherType(0x2000)),
+    );
+    assert_equal(&rt, Framing::Slip.header(&[0; 15]), Err(16));
 }
 
 #[test]
-fn frame_relay_carries_packets(rt: HostRuntime) -> Result<(), Fail> {
+fn frame_relay_carries_packets(rt: HostRuntime) {
     let headers = [
         [0x18, 0x41, 3, 0xcc].as_slice(),
         &[0x18, 0x40, 3, 3, 0xcc],
@@ -109,18 +120,30 @@ fn frame_relay_carries_packets(rt: HostRuntime) -> Result<(), Fail> {
         ],
     ];
     for header in headers {
-        assert!(rt; carries_datagram(Framing::FrameRelay, header));
+        let is_found = carries_datagram(Framing::FrameRelay, header);
+        assert_equal(&rt, (header, is_found), (header, true));
     }
     // A status enquiry, an address of one byte, and one of five.
-    assert!(rt; carried(Framing::FrameRelay, &[0, 1, 3, 8, 0x75]) == Some(Carried::Nlpid(8)));
-    assert!(rt; carried(Framing::FrameRelay, &[1, 3, 0xcc, 0x45]) == Some(Carried::Unknown));
-    assert!(rt; carried(Framing::FrameRelay, &[0, 0, 0, 0, 1]) == Some(Carried::Unknown));
-    assert!(rt; Framing::FrameRelay.header(&[0x18, 0x41, 3, 0]) == Err(5));
-    Ok(())
+    assert_equal(
+        &rt,
+        carried(Framing::FrameRelay, &[0, 1, 3, 8, 0x75]),
+        Some(Carried::Nlpid(8)),
+    );
+    assert_equal(
+        &rt,
+        carried(Framing::FrameRelay, &[1, 3, 0xcc, 0x45]),
+        Some(Carried::Unknown),
+    );
+    assert_equal(
+        &rt,
+        carried(Framing::FrameRelay, &[0, 0, 0, 0, 1]),
+        Some(Carried::Unknown),
+    );
+    assert_equal(&rt, Framing::FrameRelay.header(&[0x18, 0x41, 3, 0]), Err(5));
 }
 
 #[test]
-fn ieee_802_11_carries_packets(rt: HostRuntime) -> Result<(), Fail> {
+fn ieee_802_11_carries_packets(rt: HostRuntime) {
     // Frame control, the bytes after the three addresses, and how many of these there are.
     let cases = [
         (0x08, 0x01, 0),
@@ -137,14 +160,16 @@ fn ieee_802_11_carries_packets(rt: HostRuntime) -> Result<(), Fail> {
         [header[8], header[9]] = [first, second];
         header[32 + more..40 + more].copy_from_slice(&SNAP);
         let all = &header[..40 + more];
-        assert!(rt; carries_datagram(Framing::Ieee80211Radiotap, all));
-        assert!(rt; carries_datagram(Framing::Ieee80211, &all[8..]));
+        let are_found = [
+            carries_datagram(Framing::Ieee80211Radiotap, all),
+            carries_datagram(Framing::Ieee80211, &all[8..]),
+        ];
+        assert_equal(&rt, (all, are_found), (all, [true; 2]));
     }
-    Ok(())
 }
 
 #[test]
-fn padding_is_skipped(rt: HostRuntime) -> Result<(), Fail> {
+fn padding_is_skipped(rt: HostRuntime) {
     // Radiotap whose Flags say that there is padding: alone, after TSFT, and after two words more.
     let cases = [
         [0, 0, 9, 0, 2, 0, 0, 0, 0x20].as_slice(),
@@ -158,13 +183,13 @@ fn padding_is_skipped(rt: HostRuntime) -> Result<(), Fail> {
         header[len..len + 24].copy_from_slice(&ADDRESSES);
         [header[len], header[len + 1]] = [0x88, 2];
         header[len + 28..len + 36].copy_from_slice(&SNAP);
-        assert!(rt; carries_datagram(Framing::Ieee80211Radiotap, &header[..len + 36]));
+        let is_found = carries_datagram(Framing::Ieee80211Radiotap, &header[..len + 36]);
+        assert_equal(&rt, (radiotap, is_found), (radiotap, true));
     }
-    Ok(())
 }
 
 #[test]
-fn ieee_802_11_carries_others(rt: HostRuntime) -> Result<(), Fail> {
+fn ieee_802_11_carries_others(rt: HostRuntime) {
     // Frame control, sequence control, the first byte of QoS control, and what is carried.
     let cases = [
         (0x80, 0, 0, 0, Carried::Management),
@@ -183,10 +208,13 @@ fn ieee_802_11_carries_others(rt: HostRuntime) -> Result<(), Fail> {
         frame[..24].copy_from_slice(&ADDRESSES);
         [frame[0], frame[1], frame[22], frame[24]] = [first, second, sequence, qos];
         [frame[26], frame[27], frame[28]] = [0x42, 0x42, 3];
-        assert!(rt; carried(Framing::Ieee80211, &frame) == Some(wanted));
+        assert_equal(&rt, carried(Framing::Ieee80211, &frame), Some(wanted));
     }
-    assert!(rt; Framing::Ieee80211.header(&ADDRESSES) == Err(27));
-    assert!(rt; Framing::Ieee80211.header(&ADDRESSES[..23]) == Err(24));
-    assert!(rt; Framing::Ieee80211Radiotap.header(&[0, 0, 12, 0, 0, 0, 0, 0]) == Err(12));
-    Ok(())
+    assert_equal(&rt, Framing::Ieee80211.header(&ADDRESSES), Err(27));
+    assert_equal(&rt, Framing::Ieee80211.header(&ADDRESSES[..23]), Err(24));
+    assert_equal(
+        &rt,
+        Framing::Ieee80211Radiotap.header(&[0, 0, 12, 0, 0, 0, 0, 0]),
+        Err(12),
+    );
 }

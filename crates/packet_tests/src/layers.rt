@@ -1,6 +1,7 @@
 //! The crates on top of the library over worked packets: TCP, fragments, slices of packets,
 //! captures, echo replies. Their checksums are summed by hand, word by word.
 
+use crate::shared::assert_equal;
 use etherparse::err::{Layer, LenError};
 use etherparse::{IpFragOffset, IpNumber, Ipv4HeaderSlice, Ipv6HeaderSlice, LenSource};
 use etherparse_net::Ipv6FragmentHeader;
@@ -48,19 +49,21 @@ fn a_tcp_header_is_seen(rt: HostRuntime) {
     let ports = [view.source_port(), view.destination_port()];
     let numbers = [view.sequence_number(), view.acknowledgment_number()];
     let last = [view.window_size(), view.checksum(), view.urgent_pointer()];
-    assert_eq!(rt;
+    assert_equal(
+        &rt,
         (ports, numbers, last),
-        ([1024, 80], [1, 0], [0x2000, 0x0979, 0])
+        ([1024, 80], [1, 0], [0x2000, 0x0979, 0]),
     );
     let flags = [view.syn(), view.ack(), view.fin(), view.rst()];
-    assert_eq!(rt;
+    assert_equal(
+        &rt,
         (
             view.data_offset(),
             view.options().len(),
             view.flags(),
-            flags
+            flags,
         ),
-        (5, 0, 2, [true, false, false, false])
+        (5, 0, 2, [true, false, false, false]),
     );
 }
 
@@ -78,7 +81,7 @@ fn a_tcp_checksum_is_judged_over_both_versions(rt: HostRuntime) {
         ipv6_verdict(FIRST, SECOND, IpNumber::TCP, &SEGMENT),
     ];
     let (right, wrong) = (Verdict::Right, Verdict::Wrong);
-    assert_eq!(rt; judged, [right, wrong, right, wrong]);
+    assert_equal(&rt, judged, [right, wrong, right, wrong]);
 }
 
 // What the fragment header of `IPV6_PACKET` says of its payload.
@@ -101,9 +104,10 @@ fn fragment_header() -> Ipv6FragmentHeader {
 #[test]
 fn a_fragment_has_its_header_and_the_key_of_its_packet(rt: HostRuntime) {
     let rest = [5, 6, 7, 8, 9].as_slice();
-    assert_eq!(rt;
+    assert_equal(
+        &rt,
         Ipv6FragmentHeader::from_slice(&IPV6_PACKET[40..]),
-        Ok((fragment_header(), rest))
+        Ok((fragment_header(), rest)),
     );
     let ipv6 = Ipv6Key {
         source: FIRST,
@@ -112,9 +116,10 @@ fn a_fragment_has_its_header_and_the_key_of_its_packet(rt: HostRuntime) {
     };
     let mut whole = IPV6_PACKET;
     whole[43] = 0;
-    assert_eq!(rt;
+    assert_equal(
+        &rt,
         [ipv6_key(&IPV6_PACKET), ipv6_key(&whole)],
-        [Ok(Some(ipv6)), Ok(None)]
+        [Ok(Some(ipv6)), Ok(None)],
     );
     let ipv4 = Ipv4Key {
         source: [192, 168, 0, 1],
@@ -124,9 +129,10 @@ fn a_fragment_has_its_header_and_the_key_of_its_packet(rt: HostRuntime) {
     };
     let mut fragment = IPV4_PACKET;
     fragment[6] = 0x20;
-    assert_eq!(rt;
+    assert_equal(
+        &rt,
         [ipv4_key(&fragment), ipv4_key(&IPV4_PACKET)],
-        [Ok(Some(ipv4)), Ok(None)]
+        [Ok(Some(ipv4)), Ok(None)],
     );
 }
 
@@ -152,7 +158,7 @@ fn packets_are_cut_at_their_length_field(rt: HostRuntime) -> Result<(), Fail> {
         IpSlice::from_slice(&IPV4_PACKET),
         IpSlice::from_slice(&IPV6_PACKET),
     ];
-    assert_eq!(rt; sliced, [Ok(ipv4), Ok(ipv6)]);
+    assert_equal(&rt, sliced, [Ok(ipv4), Ok(ipv6)]);
     Ok(())
 }
 
@@ -160,9 +166,10 @@ fn packets_are_cut_at_their_length_field(rt: HostRuntime) -> Result<(), Fail> {
 fn a_packet_that_ends_early_has_the_parts_that_are_there(rt: HostRuntime) -> Result<(), Fail> {
     let lax = LaxIpSlice::from_slice(&IPV6_PACKET[..50])?;
     let slice = &lax.slice;
-    assert_eq!(rt;
+    assert_equal(
+        &rt,
         (slice.payload, slice.fragment, slice.is_later_fragment),
-        ([5, 6].as_slice(), Some(IPV6_FRAGMENT), true)
+        ([5, 6].as_slice(), Some(IPV6_FRAGMENT), true),
     );
     let missing = LenError {
         required_len: 52,
@@ -171,7 +178,7 @@ fn a_packet_that_ends_early_has_the_parts_that_are_there(rt: HostRuntime) -> Res
         layer: Layer::Ipv6Packet,
         layer_start_offset: 0,
     };
-    assert_eq!(rt; lax.stop, Some(IpSliceError::Packet(missing)));
+    assert_equal(&rt, lax.stop, Some(IpSliceError::Packet(missing)));
     Ok(())
 }
 
@@ -184,7 +191,7 @@ fn payload_of(packet: &[u8]) -> PayloadOf {
 }
 
 fn assert_has_payload(rt: &impl Abort, packet: &[u8], expected: PayloadOf) {
-    assert_eq!(rt; payload_of(packet), expected);
+    assert_equal(rt, payload_of(packet), expected);
 }
 
 #[test]
@@ -224,7 +231,7 @@ fn a_capture_hands_its_packets_over(rt: HostRuntime) {
         link_type: 101,
     };
     let records = &CAPTURE[24..];
-    assert_eq!(rt; FileHeader::from_slice(&CAPTURE), Ok((header, records)));
+    assert_equal(&rt, FileHeader::from_slice(&CAPTURE), Ok((header, records)));
     let record = Record {
         seconds: 1,
         nanoseconds: 2000,
@@ -233,7 +240,7 @@ fn a_capture_hands_its_packets_over(rt: HostRuntime) {
     };
     let none = [].as_slice();
     let read = [next_record(&header, records), next_record(&header, none)];
-    assert_eq!(rt; read, [Ok(Some((record, none))), Ok(None)]);
+    assert_equal(&rt, read, [Ok(Some((record, none))), Ok(None)]);
 }
 
 #[test]
@@ -247,13 +254,14 @@ fn echo_requests_become_replies(rt: HostRuntime) {
         icmpv6_reply(FIRST, SECOND, &mut over_ipv6),
         icmpv4_reply(&mut all_ones),
     ];
-    assert_eq!(rt;
+    assert_equal(
+        &rt,
         (are_replies, over_ipv4, over_ipv6, all_ones),
         (
             [true; 3],
             [0, 0, 0x8c, 0x68, 0x12, 0x34, 0, 1, 0x61, 0x62],
             [129, 0, 0xaf, 0xae, 0x12, 0x34, 0, 1, 0x61, 0x62],
-            [0, 0, 0, 0, 0xff, 0xff, 0, 0]
-        )
+            [0, 0, 0, 0, 0xff, 0xff, 0, 0],
+        ),
     );
 }

@@ -22,9 +22,12 @@ mod layers;
 mod packet_examples;
 #[cfg(test)]
 mod reassembly;
+#[cfg(test)]
 mod reassembly_examples;
 #[cfg(test)]
 mod rewriting_examples;
+#[cfg(test)]
+mod shared;
 #[cfg(test)]
 mod skipping;
 #[cfg(test)]

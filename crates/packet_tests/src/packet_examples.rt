@@ -1,6 +1,7 @@
 //! The examples in the doc comments of `packet_parts`, `packet_rewriting` and `packet_capture`, line
-//! by line as they stand there.
+//! by line, with `assert_equal` for equations that they assert.
 
+use crate::shared::assert_equal;
 use etherparse::{IpNumber, Ipv4Header, Ipv6Header};
 use etherparse_net::Ipv6FragmentHeader;
 use etherparse_transport::{TcpError, TcpHeaderSlice, UdpHeader};
@@ -30,19 +31,19 @@ fn checksums_over_ipv4(rt: HostRuntime) -> Result<(), Fail> {
     let (source, destination) = ([192, 168, 0, 1], [192, 168, 0, 199]);
     let datagram = [4, 0, 0, 53, 0, 12, 0x91, 0xae, b't', b'e', b's', b't'];
     let mut sum = ipv4_pseudo_header(source, destination, IpNumber::UDP, 12);
-    assert!(rt; sum.add_slice(&datagram).ones_complement() == 0);
+    assert_equal(&rt, sum.add_slice(&datagram).ones_complement(), 0);
 
     let (source, destination) = ([192, 168, 0, 1], [192, 168, 0, 199]);
     let mut payload = [4, 0, 0, 53, 0, 12, 0x91, 0xae, b't', b'e', b's', b't'];
     let verdict = ipv4_verdict(source, destination, IpNumber::UDP, &payload);
-    assert!(rt; verdict == Verdict::Right);
+    assert_equal(&rt, verdict, Verdict::Right);
     payload[11] = b'x';
     let verdict = ipv4_verdict(source, destination, IpNumber::UDP, &payload);
-    assert!(rt; verdict == Verdict::Wrong);
+    assert_equal(&rt, verdict, Verdict::Wrong);
     // The sender has computed none.
     [payload[6], payload[7]] = [0, 0];
     let verdict = ipv4_verdict(source, destination, IpNumber::UDP, &payload);
-    assert!(rt; verdict == Verdict::Absent(Absence::NotComputed));
+    assert_equal(&rt, verdict, Verdict::Absent(Absence::NotComputed));
 
     let (source, destination) = ([192, 168, 0, 1], [192, 168, 0, 199]);
     let ip = Ipv4Header::new(12, 64, IpNumber::UDP, source, destination)?;
@@ -53,7 +54,7 @@ fn checksums_over_ipv4(rt: HostRuntime) -> Result<(), Fail> {
         checksum: 0,
     };
     udp.set_checksum_ipv4(&ip, b"test");
-    assert!(rt; udp.to_bytes() == [4, 0, 0, 53, 0, 12, 0x91, 0xae]);
+    assert_equal(&rt, udp.to_bytes(), [4, 0, 0, 53, 0, 12, 0x91, 0xae]);
     Ok(())
 }
 
@@ -65,18 +66,18 @@ fn checksums_over_ipv6(rt: HostRuntime) {
     destination[15] = 2;
     let datagram = [4, 0, 0, 53, 0, 12, 0xb8, 0x52, b't', b'e', b's', b't'];
     let mut sum = ipv6_pseudo_header(source, destination, IpNumber::UDP, 12);
-    assert!(rt; sum.add_slice(&datagram).ones_complement() == 0);
+    assert_equal(&rt, sum.add_slice(&datagram).ones_complement(), 0);
 
     let source = [0x20, 0x01, 0x0d, 0xb8, 0, 0, 0, 0, 0, 0, 0, 0, 0, 0, 0, 1];
     let mut destination = source;
     destination[15] = 2;
     let mut payload = [4, 0, 0, 53, 0, 12, 0xb8, 0x52, b't', b'e', b's', b't'];
     let verdict = ipv6_verdict(source, destination, IpNumber::UDP, &payload);
-    assert!(rt; verdict == Verdict::Right);
+    assert_equal(&rt, verdict, Verdict::Right);
     // Over IPv6 there has to be a checksum.
     [payload[6], payload[7]] = [0, 0];
     let verdict = ipv6_verdict(source, destination, IpNumber::UDP, &payload);
-    assert!(rt; verdict == Verdict::Wrong);
+    assert_equal(&rt, verdict, Verdict::Wrong);
 
     let mut ip = Ipv6Header::default();
     ip.source = [0x20, 0x01, 0x0d, 0xb8, 0, 0, 0, 0, 0, 0, 0, 0, 0, 0, 0, 1];
@@ -88,26 +89,30 @@ fn checksums_over_ipv6(rt: HostRuntime) {
         checksum: 0,
     };
     udp.set_checksum_ipv6(&ip, b"test");
-    assert!(rt; udp.checksum == 0xb852);
+    assert_equal(&rt, udp.checksum, 0xb852);
 }
 
 #[test]
 fn headers_and_addresses(rt: HostRuntime) -> Result<(), Fail> {
     let address = Ipv6Text([0x20, 0x01, 0x0d, 0xb8, 0, 0, 0, 0, 0, 0, 0, 0, 0, 0, 0, 1]);
     let text = format!(in rt.alloc(); "{address}")?;
-    assert!(rt; text.as_str() == "2001:db8::1");
+    assert_equal(&rt, text.as_str(), "2001:db8::1");
 
     let slice = [4, 0, 0, 53, 0, 12, 0x91, 0xae, b't', b'e', b's', b't'];
     let (header, rest) = UdpHeader::from_slice(&slice)?;
-    assert!(rt; (header.source_port, header.destination_port) == (1024, 53));
-    assert!(rt; rest == b"test".as_slice());
+    assert_equal(
+        &rt,
+        (header.source_port, header.destination_port),
+        (1024, 53),
+    );
+    assert_equal(&rt, rest, b"test".as_slice());
 
     // A fragment that is not the first, and not the last.
     let slice = [17, 0, 0, 9, 1, 2, 3, 4, 5, 6, 7, 8];
     let (header, rest) = Ipv6FragmentHeader::from_slice(&slice)?;
     assert!(rt; header.is_fragmenting_payload() && header.more_fragments);
-    assert!(rt; header.fragment_offset.byte_offset() == 8);
-    assert!(rt; rest == [5, 6, 7, 8].as_slice());
+    assert_equal(&rt, header.fragment_offset.byte_offset(), 8);
+    assert_equal(&rt, rest, [5, 6, 7, 8].as_slice());
     assert!(rt; tcp(&rt).is_ok());
     Ok(())
 }
@@ -118,11 +123,27 @@ fn tcp(rt: &impl Abort) -> Result<(), TcpError> {
         4, 0, 0, 80, 0, 0, 0, 1, 0, 0, 0, 0, 0x50, 0x02, 0x20, 0, 0x09, 0x79, 0, 0,
     ];
     let header = TcpHeaderSlice::from_slice(&segment)?;
-    assert!(rt; (header.source_port(), header.destination_port()) == (1024, 80));
-    assert!(rt; (header.sequence_number(), header.acknowledgment_number()) == (1, 0));
+    assert_equal(
+        &rt,
+        (header.source_port(), header.destination_port()),
+        (1024, 80),
+    );
+    assert_equal(
+        &rt,
+        (header.sequence_number(), header.acknowledgment_number()),
+        (1, 0),
+    );
     assert!(rt; header.syn() && !header.ack() && !header.fin() && !header.rst());
-    assert!(rt; (header.data_offset(), header.flags()) == (5, 0b0000_0010));
-    assert!(rt; (header.window_size(), header.checksum()) == (8192, 0x0979));
+    assert_equal(
+        &rt,
+        (header.data_offset(), header.flags()),
+        (5, 0b0000_0010),
+    );
+    assert_equal(
+        &rt,
+        (header.window_size(), header.checksum()),
+        (8192, 0x0979),
+    );
     assert!(rt; header.urgent_pointer() == 0 && header.options().is_empty());
     Ok(())
 }
@@ -140,11 +161,19 @@ fn slices(rt: &impl Abort) -> Result<(), IpSliceError> {
         12, 0x91, 0xae, b't', b'e', b's', b't', 0, 0,
     ];
     let slice = IpSlice::from_slice(&packet)?;
-    assert!(rt; slice.source() == IpAddr::V4(Ipv4Addr::new(192, 168, 0, 1)));
-    assert!(rt; slice.destination() == IpAddr::V4(Ipv4Addr::new(192, 168, 0, 199)));
+    assert_equal(
+        &rt,
+        slice.source(),
+        IpAddr::V4(Ipv4Addr::new(192, 168, 0, 1)),
+    );
+    assert_equal(
+        &rt,
+        slice.destination(),
+        IpAddr::V4(Ipv4Addr::new(192, 168, 0, 199)),
+    );
     assert!(rt; slice.header_len() == 20 && slice.header.packet_len() == 32);
     assert!(rt; slice.upper == IpNumber::UDP && slice.payload.len() == 12);
-    assert!(rt; slice.verdict() == Verdict::Right);
+    assert_equal(&rt, slice.verdict(), Verdict::Right);
     // A fragment that is not the first, and not the last.
     let packet = [
         0x45, 0, 0, 28, 0x12, 0x34, 0x20, 1, 64, 17, 0, 0, 192, 168, 0, 1, 192, 168, 0, 199, 1, 2,
@@ -168,7 +197,7 @@ fn lax_slices(rt: &impl Abort) -> Result<(), IpSliceError> {
     ];
     let lax = LaxIpSlice::from_slice(&packet)?;
     assert!(rt; lax.slice.payload.len() == 8 && lax.stop.is_some());
-    assert!(rt; lax.verdict() == Verdict::Absent(Absence::Incomplete));
+    assert_equal(&rt, lax.verdict(), Verdict::Absent(Absence::Incomplete));
     // A total length of 0: the payload is all that there is.
     packet[3] = 0;
     let lax = LaxIpSlice::from_slice(&packet)?;
@@ -182,7 +211,7 @@ fn fragments(rt: HostRuntime) {
     let body = [17, 0, 0, 9, 1, 2, 3, 4, 5, 6, 7, 8];
     let after = after_extensions(&body, IpNumber::IPV6_FRAGMENTATION_HEADER);
     assert!(rt; after.number == IpNumber::UDP && after.is_later);
-    assert!(rt; after.rest == [5, 6, 7, 8].as_slice());
+    assert_equal(&rt, after.rest, [5, 6, 7, 8].as_slice());
 
     // Two fragments of one packet, without their payload.
     let first = [
@@ -190,10 +219,10 @@ fn fragments(rt: HostRuntime) {
     ];
     let mut packet = first;
     [packet[6], packet[7]] = [0, 185];
-    assert!(rt; ipv4_key(&packet) == ipv4_key(&first));
+    assert_equal(&rt, ipv4_key(&packet), ipv4_key(&first));
     // A whole packet.
     [packet[6], packet[7]] = [0, 0];
-    assert!(rt; ipv4_key(&packet) == Ok(None));
+    assert_equal(&rt, ipv4_key(&packet), Ok(None));
 
     // Two fragments of one packet, without their payload.
     let mut first = [0; 48];
@@ -201,17 +230,21 @@ fn fragments(rt: HostRuntime) {
     first[40..].copy_from_slice(&[17, 0, 0, 1, 1, 2, 3, 4]);
     let mut packet = first;
     packet[43] = 8;
-    assert!(rt; ipv6_key(&packet) == ipv6_key(&first));
+    assert_equal(&rt, ipv6_key(&packet), ipv6_key(&first));
     // An atomic fragment header: the packet is whole.
     packet[43] = 0;
-    assert!(rt; ipv6_key(&packet) == Ok(None));
+    assert_equal(&rt, ipv6_key(&packet), Ok(None));
 }
 
 #[test]
 fn rewriting(rt: HostRuntime) {
     let mut message = [8, 0, 0x84, 0x68, 0x12, 0x34, 0, 1, b'a', b'b'];
     assert!(rt; icmpv4_reply(&mut message));
-    assert!(rt; message == [0, 0, 0x8c, 0x68, 0x12, 0x34, 0, 1, b'a', b'b']);
+    assert_equal(
+        &rt,
+        message,
+        [0, 0, 0x8c, 0x68, 0x12, 0x34, 0, 1, b'a', b'b'],
+    );
     // A reply gets no reply.
     assert!(rt; !icmpv4_reply(&mut message));
 
@@ -221,7 +254,11 @@ fn rewriting(rt: HostRuntime) {
     destination[15] = 2;
     let mut message = [128, 0, 0xb0, 0xae, 0x12, 0x34, 0, 1, b'a', b'b'];
     assert!(rt; icmpv6_reply(source, destination, &mut message));
-    assert!(rt; message == [129, 0, 0xaf, 0xae, 0x12, 0x34, 0, 1, b'a', b'b']);
+    assert_equal(
+        &rt,
+        message,
+        [129, 0, 0xaf, 0xae, 0x12, 0x34, 0, 1, b'a', b'b'],
+    );
 }
 
 #[test]
@@ -230,17 +267,17 @@ fn translation(rt: HostRuntime) -> Result<(), Fail> {
     let mut header = Ipv4Header::new(12, 64, IpNumber::UDP, source, destination)?;
     header.set_checksum();
     let checksum = translate_udp_source(&mut header, 0x91ae, [198, 51, 100, 7]);
-    assert!(rt; (header.header_checksum, checksum) == (0x4f23, 0x281d));
+    assert_equal(&rt, (header.header_checksum, checksum), (0x4f23, 0x281d));
     let checksum = translate_udp_destination(&mut header, checksum, [10, 0, 0, 2]);
-    assert!(rt; (header.header_checksum, checksum) == (0x0691, 0xdf8a));
+    assert_equal(&rt, (header.header_checksum, checksum), (0x0691, 0xdf8a));
 
     let (source, destination) = ([192, 168, 0, 1], [192, 168, 0, 199]);
     let mut header = Ipv4Header::new(20, 64, IpNumber::TCP, source, destination)?;
     header.set_checksum();
     let checksum = translate_tcp_source(&mut header, 0x0979, [198, 51, 100, 7]);
-    assert!(rt; (header.header_checksum, checksum) == (0x4f26, 0x9fe7));
+    assert_equal(&rt, (header.header_checksum, checksum), (0x4f26, 0x9fe7));
     let checksum = translate_tcp_destination(&mut header, checksum, [10, 0, 0, 2]);
-    assert!(rt; (header.header_checksum, checksum) == (0x0694, 0x5755));
+    assert_equal(&rt, (header.header_checksum, checksum), (0x0694, 0x5755));
     Ok(())
 }
 
@@ -262,7 +299,7 @@ fn captures(rt: HostRuntime) {
         1, 0, 0, 0, 2, 0, 0, 0, 3, 0, 0, 0, 5, 0, 0, 0, b'a', b'b', b'c',
     ];
     let head = header.record_head(&records);
-    assert!(rt; (head.captured_len, head.original_len) == (3, 5));
+    assert_equal(&rt, (head.captured_len, head.original_len), (3, 5));
     let record = Record {
         seconds: 1,
         nanoseconds: 2000,
@@ -270,8 +307,8 @@ fn captures(rt: HostRuntime) {
         bytes: b"abc",
     };
     let expected = Ok(Some((record, [].as_slice())));
-    assert!(rt; next_record(&header, &records) == expected);
-    assert!(rt; next_record(&header, &[]) == Ok(None));
+    assert_equal(&rt, next_record(&header, &records), expected);
+    assert_equal(&rt, next_record(&header, &[]), Ok(None));
 }
 
 fn capture(rt: &impl Abort) -> Result<(), CaptureError> {
@@ -280,8 +317,8 @@ fn capture(rt: &impl Abort) -> Result<(), CaptureError> {
         0xd4, 0xc3, 0xb2, 0xa1, 2, 0, 4, 0, 0, 0, 0, 0, 0, 0, 0, 0, 0xff, 0xff, 0, 0, 101, 0, 0, 0,
     ];
     let (header, records) = FileHeader::from_slice(&file)?;
-    assert!(rt; header.format.resolution == Resolution::Microseconds);
-    assert!(rt; (header.snap_len, header.link_type) == (65535, 101));
+    assert_equal(&rt, header.format.resolution, Resolution::Microseconds);
+    assert_equal(&rt, (header.snap_len, header.link_type), (65535, 101));
     assert!(rt; records.is_empty());
     Ok(())
 }

@@ -1,5 +1,6 @@
 //! Whole packets from a pool, beside those that scapy 2.5.0 cut into fragments.
 
+use crate::shared::assert_equal;
 use packet_reassembly::ip_defrag_buf::IpDefragBuf;
 use packet_reassembly::ip_defrag_headers::IpDefragHeaders;
 use packet_reassembly::ip_defrag_packet::IpDefragPacketError;
@@ -74,19 +75,14 @@ fn put_together(
     pool.add_packet(first, None, None, 0)?;
     pool.add_packet(second, None, None, 0)?;
     pool.add_packet(third, None, None, 0)?;
-    match pool.write_packet(0, out) {
-        Ok(Some(len)) => Ok(len),
-        _ => Ok(0),
-    }
+    Ok(pool.write_packet(0, out).unwrap_or(None).unwrap_or(0))
 }
 
 // The packet that they make.
 fn assert_packet(rt: &impl Abort, first: &[u8], second: &[u8], third: &[u8], packet: &[u8]) {
     let mut out = [0; 65575];
-    match put_together(first, second, third, &mut out) {
-        Ok(len) if len <= out.len() => assert_eq!(rt; &out[..len], packet),
-        _ => assert!(rt; false),
-    }
+    let len = put_together(first, second, third, &mut out).expect(rt, "fragments");
+    assert_equal(rt, out.get(..len), Some(packet));
 }
 
 #[test]
@@ -116,16 +112,17 @@ fn headers_of_1280_bytes_are_kept_and_longer_ones_refused(rt: HostRuntime) {
     (packet[0], packet[4], packet[5], packet[6]) = (0x60, 0x04, 0xe0, 60);
     (packet[40], packet[41]) = (44, 153);
     (packet[1272], packet[1275]) = (17, 1);
-    match put_together(&packet, &packet, &packet, &mut out) {
-        Ok(0) => {}
-        _ => assert!(rt; false),
-    }
+    let kept = put_together(&packet, &packet, &packet, &mut out);
+    assert!(rt; matches!(kept, Ok(0)));
     // 8 bytes of options more.
     (packet[5], packet[41]) = (0xe8, 154);
     (packet[1272], packet[1275]) = (0, 0);
     (packet[1280], packet[1283]) = (17, 1);
-    match put_together(&packet, &packet, &packet, &mut out) {
-        Err(IpDefragPacketError::HeadersTooLong { len: 1288 }) => {}
-        _ => assert!(rt; false),
-    }
+    let refused = put_together(&packet, &packet, &packet, &mut out);
+    assert!(rt;
+        matches!(
+            refused,
+            Err(IpDefragPacketError::HeadersTooLong { len: 1288 })
+        )
+    );
 }

@@ -1,5 +1,7 @@
-//! The examples in the doc comments of `packet_reassembly`, line by line as they stand there.
+//! The examples in the doc comments of `packet_reassembly`, line by line, with `assert_equal` for
+//! equations that they assert.
 
+use crate::shared::assert_equal;
 use etherparse::{IpFragOffset, IpNumber, Ipv4Header, Ipv6Header};
 use packet_reassembly::header_chain::has_whole_chain;
 use packet_reassembly::ip_defrag_buf::IpDefragBuf;
@@ -22,7 +24,7 @@ fn one_datagram(rt: HostRuntime) -> Result<(), Fail> {
     assert!(rt; buf.datagram().is_none());
     buf.add(IpFragOffset::ZERO, true, b"thirteen")?;
     buf.add(IpFragOffset::try_new(1)?, false, b"bytes")?;
-    assert!(rt; buf.datagram() == Some(b"thirteenbytes".as_slice()));
+    assert_equal(&rt, buf.datagram(), Some(b"thirteenbytes".as_slice()));
     // One that overlaps the first and has other bytes.
     buf.add(IpFragOffset::ZERO, true, b"nineteen")?;
     assert!(rt; buf.is_discarded() && buf.datagram().is_none());
@@ -30,7 +32,7 @@ fn one_datagram(rt: HostRuntime) -> Result<(), Fail> {
 }
 
 #[test]
-fn entries_of_a_table(rt: HostRuntime) -> Result<(), Fail> {
+fn entries_of_a_table(rt: HostRuntime) {
     let mut bytes = [0; IpDefragBuf::MAX_LEN];
     let mut units = [0; IpDefragBuf::UNITS];
     let mut buf = IpDefragBuf::new(&mut bytes, &mut units);
@@ -39,7 +41,6 @@ fn entries_of_a_table(rt: HostRuntime) -> Result<(), Fail> {
     // A duplicate: the entries of its units, that of the last one again, and the one after it.
     let (added, entries) = buf.add_counted(IpFragOffset::ZERO, true, b"two units of 8b.");
     assert!(rt; added.is_ok() && entries == 4);
-    Ok(())
 }
 
 #[test]
@@ -52,7 +53,7 @@ fn whole_packets(rt: HostRuntime) -> Result<(), Fail> {
         0x45, 0, 0, 33, 0, 0, 0, 0, 64, 17, 0xf8, 0xb3, 192, 168, 0, 1, 192, 168, 0, 199, b't',
         b'h', b'i', b'r', b't', b'e', b'e', b'n', b'b', b'y', b't', b'e', b's',
     ];
-    assert!(rt; &out[..len] == packet.as_slice());
+    assert_equal(&rt, &out[..len], packet.as_slice());
 
     let mut first = Ipv6Header::default();
     first.next_header = IpNumber::IPV6_HEADER_HOP_BY_HOP;
@@ -62,12 +63,12 @@ fn whole_packets(rt: HostRuntime) -> Result<(), Fail> {
     let len = write_ipv6_packet(first, &[], &last, IpNumber::UDP, b"thirteenbytes", &mut out)?;
     assert!(rt; len == 61 && out[4..7] == [0, 21, 0]);
     assert!(rt; out[40..48] == [17, 0, 1, 4, 0, 0, 0, 0]);
-    assert!(rt; &out[48..len] == b"thirteenbytes".as_slice());
+    assert_equal(&rt, &out[48..len], b"thirteenbytes".as_slice());
     Ok(())
 }
 
 #[test]
-fn header_chains(rt: HostRuntime) -> Result<(), Fail> {
+fn header_chains(rt: HostRuntime) {
     let udp = [4, 0, 0, 53, 0, 12, 0x91, 0xae];
     assert!(rt; has_whole_chain(IpNumber::UDP, &udp));
     assert!(rt; !has_whole_chain(IpNumber::UDP, &udp[..7]));
@@ -78,7 +79,6 @@ fn header_chains(rt: HostRuntime) -> Result<(), Fail> {
             &[17, 1, 1, 4, 0, 0, 0, 0]
         )
     );
-    Ok(())
 }
 
 #[test]
@@ -91,8 +91,8 @@ fn fragments_of_packets(rt: HostRuntime) -> Result<(), Fail> {
     assert!(rt; ip_fragment(&packet)?.is_some());
     if let Some(fragment) = ip_fragment(&packet)? {
         assert!(rt; fragment.offset.value() == 1 && fragment.more_fragments);
-        assert!(rt; fragment.payload == [1, 2, 3, 4, 5, 6, 7, 8].as_slice());
-        assert!(rt; fragment.headers == &packet[..20]);
+        assert_equal(&rt, fragment.payload, [1, 2, 3, 4, 5, 6, 7, 8].as_slice());
+        assert_equal(&rt, fragment.headers, &packet[..20]);
     }
     // A whole packet.
     [packet[6], packet[7]] = [0, 0];
@@ -133,11 +133,15 @@ fn a_pool(rt: HostRuntime) -> Result<(), Fail> {
     let added = pool.add(id, IpFragOffset::ZERO, true, b"thirteen", 0)?;
     assert!(rt; added.state == DatagramState::Incomplete && added.given_up.is_none());
     let added = pool.add(id, IpFragOffset::try_new(1)?, false, b"bytes", 59)?;
-    assert!(rt; added.state == DatagramState::Complete);
-    assert!(rt; pool.slots[added.slot].buf.datagram() == Some(b"thirteenbytes".as_slice()));
+    assert_equal(&rt, added.state, DatagramState::Complete);
+    assert_equal(
+        &rt,
+        pool.slots[added.slot].buf.datagram(),
+        Some(b"thirteenbytes".as_slice()),
+    );
     // Another datagram takes the only slot.
     let added = pool.add(other, IpFragOffset::ZERO, true, b"thirteen", 60)?;
-    assert!(rt; added.given_up == Some(id));
+    assert_equal(&rt, added.given_up, Some(id));
     Ok(())
 }
 
@@ -171,10 +175,14 @@ fn packets_in_a_pool(rt: HostRuntime) -> Result<(), Fail> {
         state: DatagramState::Incomplete,
         given_up: None,
     };
-    assert!(rt; pool.add_packet(&last, None, None, 0)? == Some(added));
+    assert_equal(&rt, pool.add_packet(&last, None, None, 0)?, Some(added));
     added.state = DatagramState::Complete;
-    assert!(rt; pool.add_packet(&first, None, None, 1)? == Some(added));
-    assert!(rt; pool.slots[0].buf.datagram() == Some(b"thirteenbytes".as_slice()));
+    assert_equal(&rt, pool.add_packet(&first, None, None, 1)?, Some(added));
+    assert_equal(
+        &rt,
+        pool.slots[0].buf.datagram(),
+        Some(b"thirteenbytes".as_slice()),
+    );
     // The packet, with the header of the first fragment.
     let mut out = [0; 65575];
     assert!(rt; pool.write_packet(0, &mut out)? == Some(33));
@@ -182,7 +190,7 @@ fn packets_in_a_pool(rt: HostRuntime) -> Result<(), Fail> {
         0x45, 0, 0, 33, 0x12, 0x34, 0, 0, 64, 17, 0xe6, 0x7f, 192, 168, 0, 1, 192, 168, 0, 199,
         b't', b'h', b'i', b'r', b't', b'e', b'e', b'n', b'b', b'y', b't', b'e', b's',
     ];
-    assert!(rt; &out[..33] == packet.as_slice());
+    assert_equal(&rt, &out[..33], packet.as_slice());
 
     // The first fragment of an IPv6 packet, of 8 bytes: a whole UDP header, and a part of one of TCP
     // (RFC 7112).

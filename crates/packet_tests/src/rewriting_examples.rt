@@ -1,6 +1,7 @@
 //! The examples in the doc comments of `packet_rewriting::checksum` and `packet_rewriting::fields`,
-//! line by line as they stand there.
+//! line by line, with `assert_equal` for equations that they assert.
 
+use crate::shared::assert_equal;
 use etherparse::{IpDscp, IpEcn, IpNumber};
 use packet_rewriting::checksum::{calc_checksum_ipv4, calc_checksum_ipv6, set_checksum_ipv4};
 use packet_rewriting::fields::{
@@ -15,9 +16,13 @@ fn checksums(rt: HostRuntime) -> Result<(), Fail> {
     let (source, destination) = ([192, 168, 0, 1], [192, 168, 0, 199]);
     let mut datagram = [4, 0, 0, 53, 0, 12, 0, 0, b't', b'e', b's', b't'];
     let checksum = calc_checksum_ipv4(source, destination, IpNumber::UDP, &datagram)?;
-    assert!(rt; checksum == 0x91ae);
+    assert_equal(&rt, checksum, 0x91ae);
     set_checksum_ipv4(source, destination, IpNumber::UDP, &mut datagram)?;
-    assert!(rt; datagram == [4, 0, 0, 53, 0, 12, 0x91, 0xae, b't', b'e', b's', b't']);
+    assert_equal(
+        &rt,
+        datagram,
+        [4, 0, 0, 53, 0, 12, 0x91, 0xae, b't', b'e', b's', b't'],
+    );
 
     // An echo request from 2001:db8::1 to 2001:db8::2.
     let source = [0x20, 0x01, 0x0d, 0xb8, 0, 0, 0, 0, 0, 0, 0, 0, 0, 0, 0, 1];
@@ -25,7 +30,7 @@ fn checksums(rt: HostRuntime) -> Result<(), Fail> {
     destination[15] = 2;
     let message = [128, 0, 0, 0, 0x12, 0x34, 0, 1, b'a', b'b'];
     let checksum = calc_checksum_ipv6(source, destination, IpNumber::IPV6_ICMP, &message)?;
-    assert!(rt; checksum == 0xb0ae);
+    assert_equal(&rt, checksum, 0xb0ae);
     Ok(())
 }
 
@@ -36,11 +41,11 @@ fn addresses_and_ports(rt: HostRuntime) -> Result<(), Fail> {
         53, 0, 12, 0x91, 0xae, b't', b'e', b's', b't',
     ];
     let reach = set_source_ipv4(&mut packet, [198, 51, 100, 7])?;
-    assert!(rt; reach == Reach::Upper);
+    assert_equal(&rt, reach, Reach::Upper);
     assert!(rt; packet[10..16] == [0x8f, 0x23, 198, 51, 100, 7]);
     assert!(rt; packet[26..28] == [0x28, 0x1d]);
     let reach = set_destination_ipv4(&mut packet, [10, 0, 0, 2])?;
-    assert!(rt; reach == Reach::Upper);
+    assert_equal(&rt, reach, Reach::Upper);
     assert!(rt; packet[10..12] == [0x46, 0x91] && packet[16..20] == [10, 0, 0, 2]);
     assert!(rt; packet[26..28] == [0xdf, 0x8a]);
 

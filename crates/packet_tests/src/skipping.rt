@@ -2,6 +2,7 @@
 //! block says of each content, in the layouts of draft-ietf-opsawg-pcap section 5, and of sections
 //! 4.1 to 4.5 and appendix A of draft-ietf-opsawg-pcapng. No block is there to its end.
 
+use crate::shared::assert_equal;
 use arrayvec::ArrayVec;
 use packet_capture::any::{Capture, PacketHead, Stamp};
 use packet_capture::capture::{ByteOrder, FileHeader, Format, Resolution};
@@ -26,7 +27,11 @@ fn front_in_a_file(rt: &impl Abort) -> Result<(), Fail> {
     ];
     let (capture, bytes) = Capture::from_slice(&file)?;
     let front = capture.block_front(bytes)?;
-    assert!(rt; (front.len, front.content) == (400_000, Content::Description));
+    assert_equal(
+        &rt,
+        (front.len, front.content),
+        (400_000, Content::Description),
+    );
     Ok(())
 }
 
@@ -53,16 +58,16 @@ fn front_of_a_record(rt: HostRuntime) {
         len: 400_016,
         head: None,
     };
-    assert!(rt; capture.front_len() == 16);
-    assert!(rt; capture.block_front(&record) == Ok(front));
+    assert_equal(&rt, capture.front_len(), 16);
+    assert_equal(&rt, capture.block_front(&record), Ok(front));
     // Records do not repeat their length.
-    assert!(rt; front.check_end([0, 0, 0, 0]) == Ok(()));
+    assert_equal(&rt, front.check_end([0, 0, 0, 0]), Ok(()));
 }
 
 #[test]
 fn fronts_of_packets(rt: HostRuntime) {
     let capture = Capture::Pcapng(section());
-    assert!(rt; capture.front_len() == 28);
+    assert_equal(&rt, capture.front_len(), 28);
 
     // 3 * 2^32 + 2 milliseconds after an offset of 7 seconds, on the second interface; the bytes of
     // the packet are all that the block has room for.
@@ -77,7 +82,11 @@ fn fronts_of_packets(rt: HostRuntime) {
         0xa1, 0x20,
     ];
     let block_type = BlockType::Packet(PacketType::Enhanced);
-    assert!(rt; capture.block_front(&block) == front(block_type, 400_032, content));
+    assert_equal(
+        &rt,
+        capture.block_front(&block),
+        front(block_type, 400_032, content),
+    );
 
     // The same, after 65,535 packets that were dropped.
     let block = [
@@ -85,7 +94,11 @@ fn fronts_of_packets(rt: HostRuntime) {
         0, 7, 0xa1, 0x20,
     ];
     let block_type = BlockType::Packet(PacketType::Obsolete);
-    assert!(rt; capture.block_front(&block) == front(block_type, 400_032, content));
+    assert_equal(
+        &rt,
+        capture.block_front(&block),
+        front(block_type, 400_032, content),
+    );
 
     // On the first interface, which keeps 400,000 bytes of a packet.
     let content = Content::Packet(packet(1, Stamp::Unknown));
@@ -94,7 +107,11 @@ fn fronts_of_packets(rt: HostRuntime) {
         14, 15, 16,
     ];
     let block_type = BlockType::Packet(PacketType::Simple);
-    assert!(rt; capture.block_front(&block) == front(block_type, 400_016, content));
+    assert_equal(
+        &rt,
+        capture.block_front(&block),
+        front(block_type, 400_016, content),
+    );
 }
 
 #[test]
@@ -108,7 +125,11 @@ fn fronts_of_refused_packets(rt: HostRuntime) {
         0, 0, 0, 6, 0, 6, 0x1a, 0xa0, 0, 0, 0, 2, 0, 0, 0, 3, 0, 0, 0, 2, 0, 6, 0x1a, 0x80, 0, 7,
         0xa1, 0x20,
     ];
-    assert!(rt; capture.block_front(&block) == front(block_type, 400_032, content));
+    assert_equal(
+        &rt,
+        capture.block_front(&block),
+        front(block_type, 400_032, content),
+    );
 
     // One byte more than 400,032 bytes have room for after 28 and before 4.
     let content = Content::Refused(BlockError::CapturedLength {
@@ -119,7 +140,11 @@ fn fronts_of_refused_packets(rt: HostRuntime) {
         0, 0, 0, 6, 0, 6, 0x1a, 0xa0, 0, 0, 0, 1, 0, 0, 0, 3, 0, 0, 0, 2, 0, 6, 0x1a, 0x81, 0, 7,
         0xa1, 0x20,
     ];
-    assert!(rt; capture.block_front(&block) == front(block_type, 400_032, content));
+    assert_equal(
+        &rt,
+        capture.block_front(&block),
+        front(block_type, 400_032, content),
+    );
 }
 
 #[test]
@@ -140,7 +165,7 @@ fn fronts_without_packets(rt: HostRuntime) {
             total_len: 400_000,
         }),
     };
-    assert!(rt; capture.block_front(&block) == Ok(expected));
+    assert_equal(&rt, capture.block_front(&block), Ok(expected));
 
     // An interface with a comment (option 1) of 65,000 bytes.
     let block = [
@@ -149,7 +174,7 @@ fn fronts_without_packets(rt: HostRuntime) {
     ];
     let block_type = BlockType::InterfaceDescription;
     let expected = front(block_type, 400_000, Content::Description);
-    assert!(rt; capture.block_front(&block) == expected);
+    assert_equal(&rt, capture.block_front(&block), expected);
 
     // A Name Resolution Block, which has the type 4; its first record has the type 1 and 65,000
     // bytes.
@@ -158,7 +183,7 @@ fn fronts_without_packets(rt: HostRuntime) {
         b'a', b'a', b'a', b'a', b'a', b'a', b'a',
     ];
     let expected = front(BlockType::Other(4), 400_000, Content::Other);
-    assert!(rt; capture.block_front(&block) == expected);
+    assert_equal(&rt, capture.block_front(&block), expected);
 
     // A length that is no multiple of 4.
     let block = [
@@ -169,7 +194,7 @@ fn fronts_without_packets(rt: HostRuntime) {
         block_type: BlockType::Other(4),
         total_len: 400_002,
     });
-    assert!(rt; capture.block_front(&block) == expected);
+    assert_equal(&rt, capture.block_front(&block), expected);
 }
 
 #[test]
@@ -184,12 +209,12 @@ fn ends_of_blocks(rt: HostRuntime) {
             total_len: 400_000,
         }),
     };
-    assert!(rt; front.check_end([0x80, 0x1a, 6, 0]) == Ok(()));
+    assert_equal(&rt, front.check_end([0x80, 0x1a, 6, 0]), Ok(()));
     let expected = Err(BlockError::Lengths {
         front: 400_000,
         back: 0x801a_0600,
     });
-    assert!(rt; front.check_end([0, 6, 0x1a, 0x80]) == expected);
+    assert_equal(&rt, front.check_end([0, 6, 0x1a, 0x80]), expected);
 }
 
 // A big-endian section with two interfaces: of Ethernet, 400,000 bytes of a packet are kept; of

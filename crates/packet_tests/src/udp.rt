@@ -1,8 +1,9 @@
 //! UDP over both versions, and address translation, over worked packets: the checksums are summed
 //! by hand, word by word (RFC 768, RFC 8200 section 8.1).
 
+use crate::shared::assert_equal;
 use etherparse::err::ipv4::HeaderSliceError;
-use etherparse::err::{Layer, LenError, ValueTooBigError};
+use etherparse::err::{Layer, LenError};
 use etherparse::{IpNumber, Ipv4Header, Ipv6Header, LenSource};
 use etherparse_transport::UdpHeader;
 use packet_parts::checksum::{Absence, Verdict, ipv4_verdict, ipv6_verdict};
@@ -11,7 +12,6 @@ use packet_rewriting::translation::{
     translate_tcp_destination, translate_tcp_source, translate_udp_destination,
     translate_udp_source,
 };
-use std::test::Fail;
 
 // The header of a datagram of 12 bytes, with this checksum.
 fn header(checksum: u16) -> UdpHeader {
@@ -23,12 +23,16 @@ fn header(checksum: u16) -> UdpHeader {
     }
 }
 
-fn over_ipv4() -> Result<Ipv4Header, ValueTooBigError<u16>> {
-    let (source, destination) = ([192, 168, 0, 1], [192, 168, 0, 199]);
-    let made = Ipv4Header::new(12, 64, IpNumber::UDP, source, destination);
-    let mut header = made?;
+// From 192.168.0.1 to 192.168.0.199.
+fn over_ipv4() -> Ipv4Header {
+    let mut header = Ipv4Header::default();
+    header.total_len = 32;
+    header.time_to_live = 64;
+    header.protocol = IpNumber::UDP;
+    header.source = [192, 168, 0, 1];
+    header.destination = [192, 168, 0, 199];
     header.header_checksum = header.calc_header_checksum();
-    Ok(header)
+    header
 }
 
 // From 2001:db8::1 to 2001:db8::2.
@@ -43,8 +47,12 @@ fn over_ipv6() -> Ipv6Header {
 fn eight_bytes_are_read_and_written(rt: HostRuntime) {
     let bytes = [4, 0, 0, 53, 0, 12, 0x91, 0xae, b't', b'e'];
     let expected = (header(0x91ae), b"te".as_slice());
-    assert_eq!(rt; UdpHeader::from_slice(&bytes), Ok(expected));
-    assert_eq!(rt; header(0x91ae).to_bytes(), [4, 0, 0, 53, 0, 12, 0x91, 0xae]);
+    assert_equal(&rt, UdpHeader::from_slice(&bytes), Ok(expected));
+    assert_equal(
+        &rt,
+        header(0x91ae).to_bytes(),
+        [4, 0, 0, 53, 0, 12, 0x91, 0xae],
+    );
 }
 
 // The caller of `docs/LAYER.md`, line by line as it stands there.
@@ -81,7 +89,7 @@ fn the_udp_header_of_a_packet_is_found_or_refused_with_its_place(rt: HostRuntime
         udp_header(&fragment),
     ];
     let refused = Err(HeaderSliceError::Len(cut_short));
-    assert_eq!(rt; found, [Ok(Some(header(0x91ae))), refused, Ok(None)]);
+    assert_equal(&rt, found, [Ok(Some(header(0x91ae))), refused, Ok(None)]);
 }
 
 // The bytes of a datagram with this header.
@@ -106,8 +114,8 @@ fn judged_over_ipv6(ip: &Ipv6Header, udp: &UdpHeader, data: &[u8; 4]) -> Verdict
 const NOT_COMPUTED: Verdict = Verdict::Absent(Absence::NotComputed);
 
 #[test]
-fn a_checksum_is_made_and_judged(rt: HostRuntime) -> Result<(), Fail> {
-    let (ipv4, ipv6) = (over_ipv4()?, over_ipv6());
+fn a_checksum_is_made_and_judged(rt: HostRuntime) {
+    let (ipv4, ipv6) = (over_ipv4(), over_ipv6());
     let mut udp = header(0);
     let without = [
         judged_over_ipv4(&ipv4, &udp, b"test"),
@@ -126,15 +134,15 @@ fn a_checksum_is_made_and_judged(rt: HostRuntime) -> Result<(), Fail> {
         judged_over_ipv6(&ipv6, &udp, b"text"),
     );
     let (right, wrong) = (Verdict::Right, Verdict::Wrong);
-    assert_eq!(rt;
+    assert_equal(
+        &rt,
         (without, made, made_over_ipv6),
         (
             [NOT_COMPUTED, wrong],
             (0x91ae, right, wrong),
-            (0xb852, right, wrong)
-        )
+            (0xb852, right, wrong),
+        ),
     );
-    Ok(())
 }
 
 // A datagram of 12 bytes over IPv6, and one byte after it in the packet.
@@ -164,21 +172,21 @@ fn the_datagram_of_a_packet_is_judged_as_long_as_it_says(rt: HostRuntime) {
     ];
     let (right, wrong) = (Verdict::Right, Verdict::Wrong);
     let incomplete = Verdict::Absent(Absence::Incomplete);
-    assert_eq!(rt;
+    assert_equal(
+        &rt,
         found,
-        [Ok(right), Ok(wrong), Ok(incomplete), Ok(incomplete)]
+        [Ok(right), Ok(wrong), Ok(incomplete), Ok(incomplete)],
     );
 }
 
 #[test]
-fn a_translated_address_keeps_both_checksums_right(rt: HostRuntime) -> Result<(), Fail> {
-    let mut ip = over_ipv4()?;
+fn a_translated_address_keeps_both_checksums_right(rt: HostRuntime) {
+    let mut ip = over_ipv4();
     let first = translate_udp_source(&mut ip, 0x91ae, [10, 0, 0, 1]);
     let is_first_right = are_both_right(&ip, first);
     let second = translate_udp_destination(&mut ip, first, [10, 0, 0, 2]);
     let are_right = [is_first_right, are_both_right(&ip, second)];
-    assert_eq!(rt; (first, are_right), (0x4857, [true; 2]));
-    Ok(())
+    assert_equal(&rt, (first, are_right), (0x4857, [true; 2]));
 }
 
 // Whether the checksum of the header and this one of the datagram over it are right.
@@ -188,8 +196,8 @@ fn are_both_right(ip: &Ipv4Header, checksum: u16) -> bool {
 }
 
 #[test]
-fn no_checksum_stays_none_and_one_of_tcp_may_become_zero(rt: HostRuntime) -> Result<(), Fail> {
-    let mut ip = over_ipv4()?;
+fn no_checksum_stays_none_and_one_of_tcp_may_become_zero(rt: HostRuntime) {
+    let mut ip = over_ipv4();
     ip.set_source([10, 0, 0, 1]);
     ip.set_destination([10, 0, 0, 2]);
     let checksums = [
@@ -199,9 +207,9 @@ fn no_checksum_stays_none_and_one_of_tcp_may_become_zero(rt: HostRuntime) -> Res
     ];
     let seen = (checksums, ip.source, ip.destination, ip.header_checksum);
     let computed = ip.calc_header_checksum();
-    assert_eq!(rt;
+    assert_equal(
+        &rt,
         seen,
-        ([0, 0xfffe, 0], [1, 2, 3, 5], [10, 0, 0, 1], computed)
+        ([0, 0xfffe, 0], [1, 2, 3, 5], [10, 0, 0, 1], computed),
     );
-    Ok(())
 }

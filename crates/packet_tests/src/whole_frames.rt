@@ -1,5 +1,6 @@
 //! The examples in the doc comments of `frame_reassembly`, line by line as they stand there.
 
+use crate::shared::assert_equal;
 use frame_reassembly::datagrams::Datagrams;
 use frame_reassembly::frame_reassembly::FrameReassembly;
 use packet::link::LinkType;
@@ -10,14 +11,13 @@ use std::process::Abort;
 use std::test::Fail;
 
 #[test]
-fn counts(rt: HostRuntime) -> Result<(), Fail> {
+fn counts(rt: HostRuntime) {
     let datagrams = Datagrams {
         begun: 5,
         put_together: 3,
         discarded: 1,
     };
-    assert!(rt; datagrams.left_over() == 1);
-    Ok(())
+    assert_equal(&rt, datagrams.left_over(), 1);
 }
 
 #[test]
