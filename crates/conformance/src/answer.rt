@@ -37,17 +37,29 @@ fn answer_case(arguments: &mut Arguments, answer: &mut String) -> Written {
         "c32" => sums::answer_u32(name, arguments, answer),
         "c64" => sums::answer_u64(name, arguments, answer),
         "sum" => sums::answer_steps(name, arguments, answer),
+        "link" => link::answer(name, arguments, answer),
+        "ext" => extensions::answer(name, arguments, answer),
+        "udp" => transport::answer_udp(name, arguments, answer),
+        "tcp" => transport::answer_tcp(name, arguments, answer),
+        "icmp" => icmp::answer(name, arguments, answer),
+        _ => answer_other(group, name, arguments, answer),
+    }
+}
+
+// A case of a group that has no header, of a field, or of no group.
+fn answer_other(
+    group: &str,
+    name: &str,
+    arguments: &mut Arguments,
+    answer: &mut String,
+) -> Written {
+    match group {
         "opt" => options::answer(name, arguments, answer),
         "const" => constants::answer_const(name, arguments, answer),
         "default" => constants::answer_default(name, arguments, answer),
         "text" => texts::answer(name, arguments, answer),
         "off" => offsets::answer(name, arguments, answer),
         "eq" => equality::answer(name, arguments, answer),
-        "link" => link::answer(name, arguments, answer),
-        "ext" => extensions::answer(name, arguments, answer),
-        "udp" => transport::answer_udp(name, arguments, answer),
-        "tcp" => transport::answer_tcp(name, arguments, answer),
-        "icmp" => icmp::answer(name, arguments, answer),
         _ => match name {
             "" => answer_alone(group, arguments, answer),
             "cmp" => comparison::answer(group, arguments, answer),

@@ -6,28 +6,35 @@ use etherparse::err::{LenError, SliceWriteSpaceError, ValueTooBigError, ipv4, ip
 
 /// The cases `eq.NAME`, each with the two errors on both sides of a `/`.
 pub fn answer(name: &str, arguments: &mut Arguments, answer: &mut String) -> Written {
-    let is_equal = match name {
-        "len" => are_equal::<LenError>(arguments),
-        "swse" => are_equal::<SliceWriteSpaceError>(arguments),
-        "v4" => are_equal::<ipv4::HeaderSliceError>(arguments),
-        "v6" => are_equal::<ipv6::HeaderSliceError>(arguments),
-        "chain" => are_equal::<ipv6::ChainError>(arguments),
-        "too_big" => match arguments.word() {
-            "u8" => are_equal::<ValueTooBigError<u8>>(arguments),
-            "u16" => are_equal::<ValueTooBigError<u16>>(arguments),
-            "u32" => are_equal::<ValueTooBigError<u32>>(arguments),
-            "usize" => are_equal::<ValueTooBigError<usize>>(arguments),
-            _ => return arguments.refused(),
-        },
-        _ => return arguments.refused(),
-    };
-    write_equality(is_equal, answer)
+    match name {
+        "len" => answer_two::<LenError>(arguments, answer),
+        "swse" => answer_two::<SliceWriteSpaceError>(arguments, answer),
+        "v4" => answer_two::<ipv4::HeaderSliceError>(arguments, answer),
+        "v6" => answer_two::<ipv6::HeaderSliceError>(arguments, answer),
+        "chain" => answer_two::<ipv6::ChainError>(arguments, answer),
+        "too_big" => answer_too_big(arguments, answer),
+        _ => arguments.refused(),
+    }
 }
 
-fn are_equal<T: Argument + PartialEq + Drop>(arguments: &mut Arguments) -> bool {
+// Two errors of the width that the first argument names.
+fn answer_too_big(arguments: &mut Arguments, answer: &mut String) -> Written {
+    match arguments.word() {
+        "u8" => answer_two::<ValueTooBigError<u8>>(arguments, answer),
+        "u16" => answer_two::<ValueTooBigError<u16>>(arguments, answer),
+        "u32" => answer_two::<ValueTooBigError<u32>>(arguments, answer),
+        "usize" => answer_two::<ValueTooBigError<usize>>(arguments, answer),
+        _ => arguments.refused(),
+    }
+}
+
+fn answer_two<T: Argument + PartialEq + Drop>(
+    arguments: &mut Arguments,
+    answer: &mut String,
+) -> Written {
     let first: T = arguments.read();
     if arguments.word() != "/" {
         arguments.refuse();
     }
-    first == arguments.read::<T>()
+    write_equality(first == arguments.read::<T>(), answer)
 }

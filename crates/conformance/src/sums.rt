@@ -1,57 +1,88 @@
 //! Sums of words of sixteen bits, in both widths.
 
 use crate::arguments::Arguments;
-use crate::shown::{Written, write_equality, write_named};
+use crate::shown::{Written, write_equality};
 use etherparse::checksum::{u32_16bit_word, u64_16bit_word, update_2bytes};
 use std::alloc::{AllocError, Global};
 
 /// The cases `c32.NAME`: sums in 32 bits.
 pub fn answer_u32(name: &str, arguments: &mut Arguments, answer: &mut String) -> Written {
-    let sum = match name {
-        "slices" => {
-            let pieces = arguments.pieces()?;
-            u32_16bit_word::add_slices(&borrowed(arguments.alloc, &pieces)?)
+    match name {
+        "add2" => {
+            let sum = u32_16bit_word::add_2bytes(arguments.number(), arguments.array());
+            write!(answer, "sum={sum}")
         }
-        "add2" => u32_16bit_word::add_2bytes(arguments.number(), arguments.array()),
-        "add4" => u32_16bit_word::add_4bytes(arguments.number(), arguments.array()),
-        "fold" => arguments.number(),
-        "slice" => u32_16bit_word::add_slice(arguments.number(), &arguments.bytes()),
-        _ => return arguments.refused(),
-    };
-    if name.starts_with("add") {
-        return write_named(&[("sum", sum)], answer);
+        "add4" => {
+            let sum = u32_16bit_word::add_4bytes(arguments.number(), arguments.array());
+            write!(answer, "sum={sum}")
+        }
+        "fold" => write_fold_u32(arguments.number(), answer),
+        "slice" => {
+            let sum = u32_16bit_word::add_slice(arguments.number(), &arguments.bytes());
+            write_fold_u32(sum, answer)
+        }
+        "slices" => {
+            let sum = slices_u32(arguments)?;
+            write_fold_u32(sum, answer)
+        }
+        _ => arguments.refused(),
     }
+}
+
+// The sum of the pieces that are left.
+fn slices_u32(arguments: &mut Arguments) -> Result<u32, AllocError> {
+    let pieces = arguments.pieces()?;
+    let slices = borrowed(arguments.alloc, &pieces)?;
+    Ok(u32_16bit_word::add_slices(&slices))
+}
+
+// Both complements of a sum in 32 bits.
+fn write_fold_u32(sum: u32, answer: &mut String) -> Written {
     let complement = u32_16bit_word::ones_complement(sum);
-    write_fold(
-        complement,
-        u32_16bit_word::ones_complement_with_no_zero(sum),
-        answer,
-    )
+    let with_no_zero = u32_16bit_word::ones_complement_with_no_zero(sum);
+    write_fold(complement, with_no_zero, answer)
 }
 
 /// The cases `c64.NAME`: sums in 64 bits.
 pub fn answer_u64(name: &str, arguments: &mut Arguments, answer: &mut String) -> Written {
-    let sum = match name {
-        "slices" => {
-            let pieces = arguments.pieces()?;
-            u64_16bit_word::add_slices(&borrowed(arguments.alloc, &pieces)?)
+    match name {
+        "add2" => {
+            let sum = u64_16bit_word::add_2bytes(arguments.number(), arguments.array());
+            write!(answer, "sum={sum}")
         }
-        "add2" => u64_16bit_word::add_2bytes(arguments.number(), arguments.array()),
-        "add4" => u64_16bit_word::add_4bytes(arguments.number(), arguments.array()),
-        "add8" => u64_16bit_word::add_8bytes(arguments.number(), arguments.array()),
-        "fold" => arguments.number(),
-        "slice" => u64_16bit_word::add_slice(arguments.number(), &arguments.bytes()),
-        _ => return arguments.refused(),
-    };
-    if name.starts_with("add") {
-        return write_named(&[("sum", sum)], answer);
+        "add4" => {
+            let sum = u64_16bit_word::add_4bytes(arguments.number(), arguments.array());
+            write!(answer, "sum={sum}")
+        }
+        "add8" => {
+            let sum = u64_16bit_word::add_8bytes(arguments.number(), arguments.array());
+            write!(answer, "sum={sum}")
+        }
+        "fold" => write_fold_u64(arguments.number(), answer),
+        "slice" => {
+            let sum = u64_16bit_word::add_slice(arguments.number(), &arguments.bytes());
+            write_fold_u64(sum, answer)
+        }
+        "slices" => {
+            let sum = slices_u64(arguments)?;
+            write_fold_u64(sum, answer)
+        }
+        _ => arguments.refused(),
     }
+}
+
+// The sum of the pieces that are left.
+fn slices_u64(arguments: &mut Arguments) -> Result<u64, AllocError> {
+    let pieces = arguments.pieces()?;
+    let slices = borrowed(arguments.alloc, &pieces)?;
+    Ok(u64_16bit_word::add_slices(&slices))
+}
+
+// Both complements of a sum in 64 bits.
+fn write_fold_u64(sum: u64, answer: &mut String) -> Written {
     let complement = u64_16bit_word::ones_complement(sum);
-    write_fold(
-        complement,
-        u64_16bit_word::ones_complement_with_no_zero(sum),
-        answer,
-    )
+    let with_no_zero = u64_16bit_word::ones_complement_with_no_zero(sum);
+    write_fold(complement, with_no_zero, answer)
 }
 
 /// `sum STEP ..` and `sum.eq STEP .. / STEP ..`: sums that are built step by step.

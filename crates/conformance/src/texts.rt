@@ -1,15 +1,16 @@
 //! The texts of the errors.
 
-use crate::arguments::Arguments;
+use crate::arguments::{Argument, Arguments};
 use crate::shown::{Written, write_text};
 use etherparse::err::ip::IpDscpUnknownValueError;
 use etherparse::err::{LenError, SliceWriteSpaceError, ValueTooBigError, ipv4, ipv6};
+use std::fmt::Display;
 
 /// The cases `text.NAME`: each makes an error from its arguments and prints it.
 pub fn answer(name: &str, arguments: &mut Arguments, answer: &mut String) -> Written {
     match name {
-        "len" => write_text(&arguments.read::<LenError>(), answer),
-        "swse" => write_text(&arguments.read::<SliceWriteSpaceError>(), answer),
+        "len" => answer_text::<LenError>(arguments, answer),
+        "swse" => answer_text::<SliceWriteSpaceError>(arguments, answer),
         "too_big" => answer_too_big(arguments, answer),
         "unknown" => {
             let value = arguments.number();
@@ -19,12 +20,12 @@ pub fn answer(name: &str, arguments: &mut Arguments, answer: &mut String) -> Wri
             let bad_len = arguments.number();
             write_text(&ipv4::BadOptionsLen { bad_len }, answer)
         }
-        "v4" => write_text(&arguments.read::<ipv4::HeaderSliceError>(), answer),
+        "v4" => answer_text::<ipv4::HeaderSliceError>(arguments, answer),
         "v4.version" => write_text(&arguments.ipv4_content("version"), answer),
         "v4.ihl" => write_text(&arguments.ipv4_content("ihl"), answer),
-        "v6" => write_text(&arguments.read::<ipv6::HeaderSliceError>(), answer),
+        "v6" => answer_text::<ipv6::HeaderSliceError>(arguments, answer),
         "v6.version" => write_text(&arguments.ipv6_content("version"), answer),
-        "chain" => write_text(&arguments.read::<ipv6::ChainError>(), answer),
+        "chain" => answer_text::<ipv6::ChainError>(arguments, answer),
         _ => arguments.refused(),
     }
 }
@@ -32,10 +33,19 @@ pub fn answer(name: &str, arguments: &mut Arguments, answer: &mut String) -> Wri
 // The text of a `ValueTooBigError` of the width that the first argument names.
 fn answer_too_big(arguments: &mut Arguments, answer: &mut String) -> Written {
     match arguments.word() {
-        "u8" => write_text(&arguments.read::<ValueTooBigError<u8>>(), answer),
-        "u16" => write_text(&arguments.read::<ValueTooBigError<u16>>(), answer),
-        "u32" => write_text(&arguments.read::<ValueTooBigError<u32>>(), answer),
-        "usize" => write_text(&arguments.read::<ValueTooBigError<usize>>(), answer),
+        "u8" => answer_text::<ValueTooBigError<u8>>(arguments, answer),
+        "u16" => answer_text::<ValueTooBigError<u16>>(arguments, answer),
+        "u32" => answer_text::<ValueTooBigError<u32>>(arguments, answer),
+        "usize" => answer_text::<ValueTooBigError<usize>>(arguments, answer),
         _ => arguments.refused(),
     }
+}
+
+// The text of an error that the arguments make.
+fn answer_text<E: Argument + Display + Drop>(
+    arguments: &mut Arguments,
+    answer: &mut String,
+) -> Written {
+    let error: E = arguments.read();
+    write_text(&error, answer)
 }
