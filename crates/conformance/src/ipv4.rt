@@ -2,7 +2,7 @@
 
 use crate::arguments::Arguments;
 use crate::shown::{
-    Bytes, Named, Show, Shown, Written, write_change, write_equality, write_set, write_shown,
+    Bytes, Show, Shown, Written, write_change, write_equality, write_set, write_shown,
 };
 use etherparse::{IpDscp, IpEcn, IpFragOffset, IpNumber, Ipv4Header, Ipv4HeaderSlice};
 use std::fmt;
@@ -40,44 +40,62 @@ pub fn answer(name: &str, arguments: &mut Arguments, answer: &mut String) -> Wri
 // A header or a view of the front of a slice.
 fn answer_slice(name: &str, arguments: &mut Arguments, answer: &mut String) -> Written {
     let bytes = arguments.bytes();
+    if name == "view_eq" {
+        return match are_views_equal(&bytes, &arguments.bytes()) {
+            Some(is_equal) => write_equality(is_equal, answer),
+            None => arguments.refused(),
+        };
+    }
+    write_slice(name, &bytes, arguments, answer)
+}
+
+// What is read at the front of some bytes.
+fn write_slice(
+    name: &str,
+    bytes: &[u8],
+    arguments: &mut Arguments,
+    answer: &mut String,
+) -> Written {
     match name {
-        "view" => write_shown(&Ipv4HeaderSlice::from_slice(&bytes), answer),
-        "view_header" => {
-            let view = Ipv4HeaderSlice::from_slice(&bytes);
-            write_shown(&view.map(|view| view.to_header()), answer)
-        }
-        "view_eq" => match (
-            Ipv4HeaderSlice::from_slice(&bytes),
-            Ipv4HeaderSlice::from_slice(&arguments.bytes()),
-        ) {
-            (Ok(first), Ok(second)) => write_equality(first == second, answer),
-            _ => arguments.refused(),
-        },
-        "head" => write_shown(&Ipv4Header::from_slice(&bytes), answer),
-        "read" => write_shown(&Ipv4Header::read_from_slice(&bytes), answer),
+        "view" => write_shown(&Ipv4HeaderSlice::from_slice(bytes), answer),
+        "view_header" => write_view_header(bytes, answer),
+        "head" => write_shown(&Ipv4Header::from_slice(bytes), answer),
+        "read" => write_shown(&Ipv4Header::read_from_slice(bytes), answer),
         _ => arguments.refused(),
     }
 }
 
+// The header that a view makes.
+fn write_view_header(bytes: &[u8], answer: &mut String) -> Written {
+    match Ipv4HeaderSlice::from_slice(bytes) {
+        Ok(view) => write!(answer, "ok {}", Show(&view.to_header())),
+        Err(e) => write_shown(&e, answer),
+    }
+}
+
+// Whether the views of two slices are equal; `None` if one has none.
+fn are_views_equal(first: &[u8], second: &[u8]) -> Option<bool> {
+    let first = Ipv4HeaderSlice::from_slice(first).ok()?;
+    let second = Ipv4HeaderSlice::from_slice(second).ok()?;
+    Some(first == second)
+}
+
 // What a header says about itself beyond its fields.
 fn write_info(header: &Ipv4Header, answer: &mut String) -> Written {
-    let numbers = [
-        ("ihl", usize::from(header.ihl())),
-        ("header_len", header.header_len()),
-        ("max_payload_len", usize::from(header.max_payload_len())),
-    ];
-    let (fragmenting, checksum) = (
-        header.is_fragmenting_payload(),
-        header.calc_header_checksum(),
-    );
-    let (options, bytes) = (Bytes(header.options()), header.to_bytes());
+    let (ihl, header_len, max_len) = (header.ihl(), header.header_len(), header.max_payload_len());
     write!(
         answer,
-        "{} fragmenting={fragmenting} calc={checksum} options={options} bytes={} payload_len={}",
-        Named(&numbers),
-        Bytes(bytes.as_slice()),
-        Show(&header.payload_len())
-    )
+        "ihl={ihl} header_len={header_len} max_payload_len={max_len}"
+    )?;
+    let fragmenting = header.is_fragmenting_payload();
+    let (checksum, options) = (header.calc_header_checksum(), Bytes(header.options()));
+    write!(
+        answer,
+        " fragmenting={fragmenting} calc={checksum} options={options}"
+    )?;
+    let (bytes, payload_len) = (header.to_bytes(), header.payload_len());
+    let bytes = Bytes(bytes.as_slice());
+    write!(answer, " bytes={bytes} payload_len={}", Show(&payload_len))
 }
 
 // A header for a payload.
@@ -110,34 +128,41 @@ struct Ipv4Fields<'a> {
 
 impl Display for Ipv4Fields<'_> {
     fn fmt<W: fmt::Write>(&self, f: &mut fmt::Formatter<W>) -> fmt::Result {
-        let first = [
-            ("dscp", u16::from(self.dscp.value())),
-            ("ecn", u16::from(self.ecn.value())),
-            ("total_len", self.total_len),
-            ("identification", self.identification),
-        ];
-        let flags = [
-            ("dont_fragment", self.dont_fragment),
-            ("more_fragments", self.more_fragments),
-        ];
-        let next = [
-            ("fragment_offset", self.fragment_offset.value()),
-            ("time_to_live", u16::from(self.time_to_live)),
-            ("protocol", u16::from(self.protocol.0)),
-            ("header_checksum", self.header_checksum),
-        ];
-        let last = [
-            ("source", Bytes(&self.source)),
-            ("destination", Bytes(&self.destination)),
-            ("options", Bytes(self.options)),
-        ];
+        self.fmt_front(f)?;
+        self.fmt_middle(f)?;
+        let (source, destination) = (Bytes(&self.source), Bytes(&self.destination));
+        let options = Bytes(self.options);
         write!(
             f,
-            "{} {} {} {}",
-            Named(&first),
-            Named(&flags),
-            Named(&next),
-            Named(&last)
+            " source={source} destination={destination} options={options}"
+        )
+    }
+}
+
+impl Ipv4Fields<'_> {
+    // What stands before the flags.
+    fn fmt_front<W: fmt::Write>(&self, f: &mut fmt::Formatter<W>) -> fmt::Result {
+        let (dscp, ecn) = (self.dscp.value(), self.ecn.value());
+        let (total_len, identification) = (self.total_len, self.identification);
+        write!(
+            f,
+            "dscp={dscp} ecn={ecn} total_len={total_len} identification={identification}"
+        )
+    }
+
+    // From the flags to the checksum.
+    fn fmt_middle<W: fmt::Write>(&self, f: &mut fmt::Formatter<W>) -> fmt::Result {
+        let (dont_fragment, more_fragments) = (self.dont_fragment, self.more_fragments);
+        let fragment_offset = self.fragment_offset.value();
+        write!(
+            f,
+            " dont_fragment={dont_fragment} more_fragments={more_fragments} fragment_offset={fragment_offset}"
+        )?;
+        let (time_to_live, protocol) = (self.time_to_live, self.protocol.0);
+        let checksum = self.header_checksum;
+        write!(
+            f,
+            " time_to_live={time_to_live} protocol={protocol} header_checksum={checksum}"
         )
     }
 }

@@ -2,7 +2,7 @@
 
 use crate::arguments::Arguments;
 use crate::shown::{
-    Bytes, Named, Show, Shown, Written, write_change, write_equality, write_set, write_shown,
+    Bytes, Show, Shown, Written, write_change, write_equality, write_set, write_shown,
 };
 use etherparse::{Ipv6Header, Ipv6HeaderSlice};
 use std::fmt;
@@ -39,23 +39,44 @@ pub fn answer(name: &str, arguments: &mut Arguments, answer: &mut String) -> Wri
 // A header or a view of the front of a slice.
 fn answer_slice(name: &str, arguments: &mut Arguments, answer: &mut String) -> Written {
     let bytes = arguments.bytes();
+    if name == "view_eq" {
+        return match are_views_equal(&bytes, &arguments.bytes()) {
+            Some(is_equal) => write_equality(is_equal, answer),
+            None => arguments.refused(),
+        };
+    }
+    write_slice(name, &bytes, arguments, answer)
+}
+
+// What is read at the front of some bytes.
+fn write_slice(
+    name: &str,
+    bytes: &[u8],
+    arguments: &mut Arguments,
+    answer: &mut String,
+) -> Written {
     match name {
-        "view" => write_shown(&Ipv6HeaderSlice::from_slice(&bytes), answer),
-        "view_header" => {
-            let view = Ipv6HeaderSlice::from_slice(&bytes);
-            write_shown(&view.map(|view| view.to_header()), answer)
-        }
-        "view_eq" => match (
-            Ipv6HeaderSlice::from_slice(&bytes),
-            Ipv6HeaderSlice::from_slice(&arguments.bytes()),
-        ) {
-            (Ok(first), Ok(second)) => write_equality(first == second, answer),
-            _ => arguments.refused(),
-        },
-        "head" => write_shown(&Ipv6Header::from_slice(&bytes), answer),
-        "read" => write_shown(&Ipv6Header::read_from_slice(&bytes), answer),
+        "view" => write_shown(&Ipv6HeaderSlice::from_slice(bytes), answer),
+        "view_header" => write_view_header(bytes, answer),
+        "head" => write_shown(&Ipv6Header::from_slice(bytes), answer),
+        "read" => write_shown(&Ipv6Header::read_from_slice(bytes), answer),
         _ => arguments.refused(),
     }
+}
+
+// The header that a view makes.
+fn write_view_header(bytes: &[u8], answer: &mut String) -> Written {
+    match Ipv6HeaderSlice::from_slice(bytes) {
+        Ok(view) => write!(answer, "ok {}", Show(&view.to_header())),
+        Err(e) => write_shown(&e, answer),
+    }
+}
+
+// Whether the views of two slices are equal; `None` if one has none.
+fn are_views_equal(first: &[u8], second: &[u8]) -> Option<bool> {
+    let first = Ipv6HeaderSlice::from_slice(first).ok()?;
+    let second = Ipv6HeaderSlice::from_slice(second).ok()?;
+    Some(first == second)
 }
 
 // What a header says about itself beyond its fields, and its bytes.
@@ -70,47 +91,58 @@ fn write_info(header: &Ipv6Header, answer: &mut String) -> Written {
 
 impl Shown for Ipv6Header {
     fn show<W: fmt::Write>(&self, f: &mut fmt::Formatter<W>) -> fmt::Result {
-        let numbers = [
-            ("traffic_class", u32::from(self.traffic_class)),
-            ("flow_label", self.flow_label.value()),
-            ("payload_length", u32::from(self.payload_length)),
-            ("next_header", u32::from(self.next_header.0)),
-            ("hop_limit", u32::from(self.hop_limit)),
-        ];
-        let addresses = [
-            ("source", Bytes(&self.source)),
-            ("destination", Bytes(&self.destination)),
-        ];
-        write!(f, "{} {}", Named(&numbers), Named(&addresses))
+        let (traffic_class, flow_label) = (self.traffic_class, self.flow_label.value());
+        let (payload_length, next_header) = (self.payload_length, self.next_header.0);
+        write!(
+            f,
+            "traffic_class={traffic_class} flow_label={flow_label} payload_length={payload_length} next_header={next_header}"
+        )?;
+        let (source, destination) = (Bytes(&self.source), Bytes(&self.destination));
+        let hop_limit = self.hop_limit;
+        write!(
+            f,
+            " hop_limit={hop_limit} source={source} destination={destination}"
+        )
     }
 }
 
 /// What the getters of a view return.
 impl Shown for Ipv6HeaderSlice<'_> {
     fn show<W: fmt::Write>(&self, f: &mut fmt::Formatter<W>) -> fmt::Result {
-        let numbers = [
-            ("version", u32::from(self.version())),
-            ("traffic_class", u32::from(self.traffic_class())),
-            ("dscp", u32::from(self.dscp().value())),
-            ("ecn", u32::from(self.ecn().value())),
-            ("flow_label", self.flow_label().value()),
-            ("payload_length", u32::from(self.payload_length())),
-            ("next_header", u32::from(self.next_header().0)),
-            ("hop_limit", u32::from(self.hop_limit())),
-        ];
+        show_numbers(self, f)?;
         let (source, destination) = (self.source(), self.destination());
-        let addresses = [
-            ("source", Bytes(&source)),
-            ("destination", Bytes(&destination)),
-        ];
-        let (slice, header_len) = (Bytes(self.slice()), self.header_len());
+        let (source, destination) = (Bytes(&source), Bytes(&destination));
+        let header_len = self.header_len();
         write!(
             f,
-            "slice={slice} {} {} header_len={header_len}",
-            Named(&numbers),
-            Named(&addresses)
+            " source={source} destination={destination} header_len={header_len}"
         )
     }
+}
+
+// The slice of a view and the numbers in it.
+fn show_numbers<W: fmt::Write>(view: &Ipv6HeaderSlice, f: &mut fmt::Formatter<W>) -> fmt::Result {
+    let (slice, version, traffic_class) = (
+        Bytes(view.slice()),
+        view.version(),
+        view.traffic_class(),
+    );
+    write!(
+        f,
+        "slice={slice} version={version} traffic_class={traffic_class}"
+    )?;
+    let (dscp, ecn, flow_label) = (
+        view.dscp().value(),
+        view.ecn().value(),
+        view.flow_label().value(),
+    );
+    write!(f, " dscp={dscp} ecn={ecn} flow_label={flow_label}")?;
+    let (payload_length, next_header) = (view.payload_length(), view.next_header().0);
+    let hop_limit = view.hop_limit();
+    write!(
+        f,
+        " payload_length={payload_length} next_header={next_header} hop_limit={hop_limit}"
+    )
 }
 
 /// A header, what follows it, and its bytes again.
