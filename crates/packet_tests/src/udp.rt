@@ -12,6 +12,7 @@ use packet_rewriting::translation::{
     translate_tcp_destination, translate_tcp_source, translate_udp_destination,
     translate_udp_source,
 };
+use std::process::Abort;
 
 // The header of a datagram of 12 bytes, with this checksum.
 fn header(checksum: u16) -> UdpHeader {
@@ -23,14 +24,10 @@ fn header(checksum: u16) -> UdpHeader {
     }
 }
 
-// From 192.168.0.1 to 192.168.0.199.
-fn over_ipv4() -> Ipv4Header {
-    let mut header = Ipv4Header::default();
-    header.total_len = 32;
-    header.time_to_live = 64;
-    header.protocol = IpNumber::UDP;
-    header.source = [192, 168, 0, 1];
-    header.destination = [192, 168, 0, 199];
+fn over_ipv4(rt: &impl Abort) -> Ipv4Header {
+    let (source, destination) = ([192, 168, 0, 1], [192, 168, 0, 199]);
+    let made = Ipv4Header::new(12, 64, IpNumber::UDP, source, destination);
+    let mut header = made.expect(rt, "a short payload");
     header.header_checksum = header.calc_header_checksum();
     header
 }
@@ -115,7 +112,7 @@ const NOT_COMPUTED: Verdict = Verdict::Absent(Absence::NotComputed);
 
 #[test]
 fn a_checksum_is_made_and_judged(rt: HostRuntime) {
-    let (ipv4, ipv6) = (over_ipv4(), over_ipv6());
+    let (ipv4, ipv6) = (over_ipv4(&rt), over_ipv6());
     let mut udp = header(0);
     let without = [
         judged_over_ipv4(&ipv4, &udp, b"test"),
@@ -181,7 +178,7 @@ fn the_datagram_of_a_packet_is_judged_as_long_as_it_says(rt: HostRuntime) {
 
 #[test]
 fn a_translated_address_keeps_both_checksums_right(rt: HostRuntime) {
-    let mut ip = over_ipv4();
+    let mut ip = over_ipv4(&rt);
     let first = translate_udp_source(&mut ip, 0x91ae, [10, 0, 0, 1]);
     let is_first_right = are_both_right(&ip, first);
     let second = translate_udp_destination(&mut ip, first, [10, 0, 0, 2]);
@@ -197,7 +194,7 @@ fn are_both_right(ip: &Ipv4Header, checksum: u16) -> bool {
 
 #[test]
 fn no_checksum_stays_none_and_one_of_tcp_may_become_zero(rt: HostRuntime) {
-    let mut ip = over_ipv4();
+    let mut ip = over_ipv4(&rt);
     ip.set_source([10, 0, 0, 1]);
     ip.set_destination([10, 0, 0, 2]);
     let checksums = [
