@@ -24,6 +24,7 @@ fn header(checksum: u16) -> UdpHeader {
     }
 }
 
+// From 192.168.0.1 to 192.168.0.199.
 fn over_ipv4(rt: &impl Abort) -> Ipv4Header {
     let (source, destination) = ([192, 168, 0, 1], [192, 168, 0, 199]);
     let made = Ipv4Header::new(12, 64, IpNumber::UDP, source, destination);

@@ -84,7 +84,7 @@ fn expect_from(rt: &impl Abort, mut source: Source, calls: u64, (status, text): 
     let mut written = Text::new();
     let ended = run(&mut source, &mut written);
     let seen = (ended, written.as_slice(), source.calls, source.is_misused);
-    assert_eq!(rt; seen, (status, text, calls, false));
+    assert_equal(rt, seen, (status, text, calls, false));
 }
 
 // An input and its output, how a run ends, at most how many bytes a call gives, and how many reads
@@ -148,10 +148,10 @@ fn expect_each_read_ends_it(
 
 // The reads fail in three ways.
 #[test]
-fn a_read_that_fails_ends_the_run(rt: HostRuntime) -> Result<(), Fail> {
+fn a_read_that_fails_ends_the_run(rt: HostRuntime) {
     for ((parts, text), status, at_most, reads) in &READS {
-        let input = joined(parts, rt.alloc())?;
-        let text = text.concat(rt.alloc())?;
+        let input = joined(parts, rt.alloc()).expect(&rt, "memory");
+        let text = text.concat(rt.alloc()).expect(&rt, "memory");
         for kind in [
             ErrorKind::Other,
             ErrorKind::Interrupted,
@@ -161,7 +161,6 @@ fn a_read_that_fails_ends_the_run(rt: HostRuntime) -> Result<(), Fail> {
             expect_each_read_ends_it(&rt, input.as_slice(), *at_most, *reads, kind, whole);
         }
     }
-    Ok(())
 }
 
 #[test]
@@ -169,10 +168,8 @@ fn input_without_an_end_is_too_long(rt: HostRuntime) {
     for byte in [b'0', b' '] {
         let mut written = Text::new();
         let ended = run(&mut io::repeat(byte), &mut written);
-        assert_eq!(rt;
-            (ended, written.as_slice()),
-            (Status::BadInput, TOO_LONG.as_bytes())
-        );
+        let expected = (Status::BadInput, TOO_LONG.as_bytes());
+        assert_equal(&rt, (ended, written.as_slice()), expected);
     }
 }
 
@@ -201,13 +198,13 @@ fn expect_each_write_ends_it(
         let seen = (ended, sink.taken.as_slice());
         let before = at_most.saturating_mul(fails_at - 1);
         if text.len() <= before {
-            assert_eq!(rt; (seen, sink.calls), (whole, fails_at - 1));
+            assert_equal(rt, (seen, sink.calls), (whole, fails_at - 1));
             return;
         }
         let is_tried_again = seen == whole && kind == ErrorKind::Interrupted;
         if !is_tried_again {
             let cut = (Status::Failed, &text[..before]);
-            assert_eq!(rt; (seen, sink.calls), (cut, fails_at));
+            assert_equal(rt, (seen, sink.calls), (cut, fails_at));
         }
     }
     panic!(rt; "no run met no failure");
@@ -227,10 +224,10 @@ static WRITES: [(Row, Status); 8] = [
 // They fail in three ways, over writers that take one byte, a few, and all that they are given: for
 // the last, the output is one write.
 #[test]
-fn a_write_that_fails_ends_the_run(rt: HostRuntime) -> Result<(), Fail> {
+fn a_write_that_fails_ends_the_run(rt: HostRuntime) {
     for ((parts, text), status) in &WRITES {
-        let input = joined(parts, rt.alloc())?;
-        let text = text.concat(rt.alloc())?;
+        let input = joined(parts, rt.alloc()).expect(&rt, "memory");
+        let text = text.concat(rt.alloc()).expect(&rt, "memory");
         for kind in [
             ErrorKind::Other,
             ErrorKind::Interrupted,
@@ -242,5 +239,4 @@ fn a_write_that_fails_ends_the_run(rt: HostRuntime) -> Result<(), Fail> {
             }
         }
     }
-    Ok(())
 }

@@ -6,19 +6,17 @@ use etherparse::err::ipv6::ChainError;
 use etherparse::err::{Layer, LenError};
 
 #[test]
-fn there_is_room_for_the_greatest_number_of_bytes_after_an_ipv4_header(
-    rt: HostRuntime,
-) -> Result<(), Fail> {
+fn there_is_room_for_the_greatest_number_of_bytes_after_an_ipv4_header(rt: HostRuntime) {
     let mut bytes = [0xff; 60];
     bytes[0] = 0x4f;
     bytes[6] = 0x1f;
     bytes[10] = 0x90;
     bytes[11] = 0x01;
     let mut text = Text::new();
-    write_ipv4(&mut text, &Ipv4HeaderSlice::from_slice(&bytes)?, usize::MAX)?;
+    let view = Ipv4HeaderSlice::from_slice(&bytes).expect(&rt, "a header");
+    write_ipv4(&mut text, &view, usize::MAX).expect(&rt, "room");
     let last = text.as_slice().strip_prefix(LONGEST_IPV4_FIELDS.as_bytes());
-    assert_eq!(rt; last, Some(b"rest 18446744073709551615\n".as_slice()));
-    Ok(())
+    assert_equal(&rt, last, Some(b"rest 18446744073709551615\n".as_slice()));
 }
 
 // An error with the greatest numbers.
@@ -66,15 +64,13 @@ fn longest_errors() -> [(ChainError, &'static str); 3] {
 }
 
 #[test]
-fn there_is_room_for_the_fields_of_an_ipv6_header_and_any_error(
-    rt: HostRuntime,
-) -> Result<(), Fail> {
+fn there_is_room_for_the_fields_of_an_ipv6_header_and_any_error(rt: HostRuntime) {
     for (error, line) in longest_errors() {
         let mut text = Text::new();
-        text.write_all(LONGEST_IPV6_FIELDS.as_bytes())?;
-        write_error(&mut text, error)?;
+        text.write_all(LONGEST_IPV6_FIELDS.as_bytes())
+            .expect(&rt, "room");
+        write_error(&mut text, error).expect(&rt, "room");
         let last = text.as_slice().get(LONGEST_IPV6_FIELDS.len()..);
-        assert_eq!(rt; last, Some(line.as_bytes()));
+        assert_equal(&rt, last, Some(line.as_bytes()));
     }
-    Ok(())
 }
