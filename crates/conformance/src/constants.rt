@@ -1,7 +1,7 @@
 //! The named constants, the variants in their order, and the defaults.
 
 use crate::arguments::Arguments;
-use crate::shown::{Bytes, Written, write_named, write_shown};
+use crate::shown::{Bytes, Named, Written, write_named, write_shown};
 use crate::tables::{
     CODE_POINTS, IP_NUMBER_NAMES, IP_NUMBERS, KNOWN_CODE_POINTS, LAYERS, VALUE_TYPES,
 };
@@ -26,56 +26,38 @@ pub fn answer_const(name: &str, arguments: &mut Arguments, answer: &mut String) 
 }
 
 fn write_fields(answer: &mut String) -> Written {
-    let (zero, max_u8, max) = (IpDscp::ZERO.value(), IpDscp::MAX_U8, IpDscp::MAX.value());
-    write!(
-        answer,
-        "IpDscp::ZERO={zero} IpDscp::MAX_U8={max_u8} IpDscp::MAX={max}"
-    )?;
-    let (zero, max_u16) = (IpFragOffset::ZERO.value(), IpFragOffset::MAX_U16);
-    write!(
-        answer,
-        " IpFragOffset::ZERO={zero} IpFragOffset::MAX_U16={max_u16}"
-    )?;
-    let (zero, max_u32) = (Ipv6FlowLabel::ZERO.value(), Ipv6FlowLabel::MAX_U32);
-    write!(
-        answer,
-        " Ipv6FlowLabel::ZERO={zero} Ipv6FlowLabel::MAX_U32={max_u32}"
-    )?;
-    write_ecn(answer)?;
-    write!(answer, " Ipv4Options::MAX_LEN={}", Ipv4Options::MAX_LEN)
-}
-
-fn write_ecn(answer: &mut String) -> Written {
-    let (zero, one) = (IpEcn::ZERO.value(), IpEcn::ONE.value());
-    write!(answer, " IpEcn::ZERO={zero} IpEcn::ONE={one}")?;
-    let (two, three, trhee) = (
-        IpEcn::TWO.value(),
-        IpEcn::THREE.value(),
-        IpEcn::TRHEE.value(),
-    );
-    write!(
-        answer,
-        " IpEcn::TWO={two} IpEcn::THREE={three} IpEcn::TRHEE={trhee}"
-    )?;
-    write!(answer, " IpEcn::MAX_U8={}", IpEcn::MAX_U8)
+    let fields = [
+        ("IpDscp::ZERO", u32::from(IpDscp::ZERO.value())),
+        ("IpDscp::MAX_U8", u32::from(IpDscp::MAX_U8)),
+        ("IpDscp::MAX", u32::from(IpDscp::MAX.value())),
+        ("IpFragOffset::ZERO", u32::from(IpFragOffset::ZERO.value())),
+        ("IpFragOffset::MAX_U16", u32::from(IpFragOffset::MAX_U16)),
+        ("Ipv6FlowLabel::ZERO", Ipv6FlowLabel::ZERO.value()),
+        ("Ipv6FlowLabel::MAX_U32", Ipv6FlowLabel::MAX_U32),
+        ("IpEcn::ZERO", u32::from(IpEcn::ZERO.value())),
+        ("IpEcn::ONE", u32::from(IpEcn::ONE.value())),
+        ("IpEcn::TWO", u32::from(IpEcn::TWO.value())),
+        ("IpEcn::THREE", u32::from(IpEcn::THREE.value())),
+        ("IpEcn::TRHEE", u32::from(IpEcn::TRHEE.value())),
+        ("IpEcn::MAX_U8", u32::from(IpEcn::MAX_U8)),
+        ("Ipv4Options::MAX_LEN", u32::from(Ipv4Options::MAX_LEN)),
+    ];
+    write_named(&fields, answer)
 }
 
 fn write_headers(answer: &mut String) -> Written {
-    let (min, min_u16) = (Ipv4Header::MIN_LEN, Ipv4Header::MIN_LEN_U16);
-    write!(
-        answer,
-        "Ipv4Header::MIN_LEN={min} Ipv4Header::MIN_LEN_U16={min_u16}"
-    )?;
-    let (size, max) = (Ipv4Header::SERIALIZED_SIZE, Ipv4Header::MAX_LEN);
-    write!(
-        answer,
-        " Ipv4Header::SERIALIZED_SIZE={size} Ipv4Header::MAX_LEN={max}"
-    )?;
-    let (len, size) = (Ipv6Header::LEN, Ipv6Header::SERIALIZED_SIZE);
-    write!(
-        answer,
-        " Ipv6Header::LEN={len} Ipv6Header::SERIALIZED_SIZE={size}"
-    )
+    let lengths = [
+        ("Ipv4Header::MIN_LEN", Ipv4Header::MIN_LEN),
+        (
+            "Ipv4Header::MIN_LEN_U16",
+            usize::from(Ipv4Header::MIN_LEN_U16),
+        ),
+        ("Ipv4Header::SERIALIZED_SIZE", Ipv4Header::SERIALIZED_SIZE),
+        ("Ipv4Header::MAX_LEN", Ipv4Header::MAX_LEN),
+        ("Ipv6Header::LEN", Ipv6Header::LEN),
+        ("Ipv6Header::SERIALIZED_SIZE", Ipv6Header::SERIALIZED_SIZE),
+    ];
+    write_named(&lengths, answer)
 }
 
 fn write_code_points(answer: &mut String) -> Written {
@@ -112,13 +94,18 @@ pub fn answer_default(name: &str, arguments: &mut Arguments, answer: &mut String
 }
 
 fn write_default_fields(answer: &mut String) -> Written {
-    let (dscp, frag) = (IpDscp::default().value(), IpFragOffset::default().value());
-    let (flow, ecn) = (Ipv6FlowLabel::default().value(), IpEcn::default().value());
-    write!(answer, "dscp={dscp} frag={frag} flow={flow} ecn={ecn}")?;
-    let (number, options) = (IpNumber::default().0, Ipv4Options::default());
+    let fields = [
+        ("dscp", u32::from(IpDscp::default().value())),
+        ("frag", u32::from(IpFragOffset::default().value())),
+        ("flow", Ipv6FlowLabel::default().value()),
+        ("ecn", u32::from(IpEcn::default().value())),
+        ("ipnum", u32::from(IpNumber::default().0)),
+    ];
+    let options = Ipv4Options::default();
     write!(
         answer,
-        " ipnum={number} options={}",
+        "{} options={}",
+        Named(&fields),
         Bytes(options.as_slice())
     )
 }

@@ -1,7 +1,7 @@
 //! Extension headers and options of IP, by `etherparse_net`.
 
 use crate::arguments::Arguments;
-use crate::shown::{Bytes, Show, Shown, Written, write_header, write_shown};
+use crate::shown::{Bytes, Named, Show, Shown, Written, write_header, write_shown};
 use arrayvec::ArrayVec;
 use etherparse::IpNumber;
 use etherparse_net::err::{
@@ -147,24 +147,26 @@ fn answer_chain(arguments: &mut Arguments, answer: &mut String) -> Written {
 
 impl Shown for IpAuthHeader {
     fn show<W: fmt::Write>(&self, f: &mut fmt::Formatter<W>) -> fmt::Result {
-        let (next_header, spi, number) = (self.next_header.0, self.spi, self.sequence_number);
-        write!(
-            f,
-            "next_header={next_header} spi={spi} sequence_number={number}"
-        )?;
-        write!(f, " icv={}", Bytes(self.raw_icv()))
+        let numbers = [
+            ("next_header", u32::from(self.next_header.0)),
+            ("spi", self.spi),
+            ("sequence_number", self.sequence_number),
+        ];
+        let icv = Bytes(self.raw_icv());
+        write!(f, "{} icv={icv}", Named(&numbers))
     }
 }
 
 /// What the getters of a view return.
 impl Shown for IpAuthHeaderSlice<'_> {
     fn show<W: fmt::Write>(&self, f: &mut fmt::Formatter<W>) -> fmt::Result {
-        let (next_header, spi, number) = (self.next_header().0, self.spi(), self.sequence_number());
-        write!(
-            f,
-            "next_header={next_header} spi={spi} sequence_number={number}"
-        )?;
-        write!(f, " icv={}", Bytes(self.raw_icv()))
+        let numbers = [
+            ("next_header", u32::from(self.next_header().0)),
+            ("spi", self.spi()),
+            ("sequence_number", self.sequence_number()),
+        ];
+        let icv = Bytes(self.raw_icv());
+        write!(f, "{} icv={icv}", Named(&numbers))
     }
 }
 
@@ -179,12 +181,15 @@ impl Shown for ip_auth::HeaderSliceError {
 
 impl Shown for Ipv6FragmentHeader {
     fn show<W: fmt::Write>(&self, f: &mut fmt::Formatter<W>) -> fmt::Result {
-        let (next_header, offset) = (self.next_header.0, self.fragment_offset.value());
-        write!(f, "next_header={next_header} fragment_offset={offset}")?;
+        let numbers = [
+            ("next_header", u16::from(self.next_header.0)),
+            ("fragment_offset", self.fragment_offset.value()),
+        ];
         let (more_fragments, identification) = (self.more_fragments, self.identification);
         write!(
             f,
-            " more_fragments={more_fragments} identification={identification}"
+            "{} more_fragments={more_fragments} identification={identification}",
+            Named(&numbers)
         )
     }
 }
@@ -226,22 +231,28 @@ impl Shown for Ipv6ExtensionSlice<'_> {
 
 impl Shown for Ipv4OptionSlice<'_> {
     fn show<W: fmt::Write>(&self, f: &mut fmt::Formatter<W>) -> fmt::Result {
-        let (option_type, class, number) = (self.option_type(), self.class(), self.number());
-        write!(f, "type={option_type} class={class} number={number}")?;
+        let numbers = [
+            ("type", self.option_type()),
+            ("class", self.class()),
+            ("number", self.number()),
+        ];
         let (is_copied, contents) = (self.is_copied(), Bytes(self.data()));
-        write!(f, " copied={is_copied} data={contents}")
+        write!(f, "{} copied={is_copied} data={contents}", Named(&numbers))
     }
 }
 
 impl Shown for Ipv6OptionSlice<'_> {
     fn show<W: fmt::Write>(&self, f: &mut fmt::Formatter<W>) -> fmt::Result {
         let (number, action) = (self.option_type(), self.unknown_action());
-        write!(f, "type={number} action={action:?}")?;
-        let (may_change, is_padding) = (self.may_change(), self.is_padding());
+        let flags = [
+            ("may_change", self.may_change()),
+            ("padding", self.is_padding()),
+        ];
         let contents = Bytes(self.data());
         write!(
             f,
-            " may_change={may_change} padding={is_padding} data={contents}"
+            "type={number} action={action:?} {} data={contents}",
+            Named(&flags)
         )
     }
 }

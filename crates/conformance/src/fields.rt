@@ -3,64 +3,29 @@
 
 use crate::arguments::Arguments;
 use crate::shown::{Shown, Written, write_shown};
-use etherparse::err::ValueTooBigError;
 use etherparse::err::ip::IpDscpUnknownValueError;
 use etherparse::{IpDscp, IpDscpKnown, IpEcn, IpFragOffset, IpNumber, Ipv6FlowLabel, Ipv6Header};
 use etherparse_link::{VlanId, VlanPcp};
 use std::fmt;
-use std::str::FromStr;
 
 /// The cases `FIELD.new V` and `FIELD.try V`: a field from its number.
 pub fn answer(field: &str, name: &str, arguments: &mut Arguments, answer: &mut String) -> Written {
-    match field {
-        "dscp" => answer_field::<u8, IpDscp>(name, arguments, answer),
-        "frag" => answer_field::<u16, IpFragOffset>(name, arguments, answer),
-        "flow" => answer_field::<u32, Ipv6FlowLabel>(name, arguments, answer),
-        "ecn" => answer_field::<u8, IpEcn>(name, arguments, answer),
-        "vlan_id" => answer_field::<u16, VlanId>(name, arguments, answer),
-        "vlan_pcp" => answer_field::<u8, VlanPcp>(name, arguments, answer),
+    match (field, name) {
+        ("dscp", "new") => write_shown(&IpDscp::try_new(arguments.number()), answer),
+        ("dscp", "try") => write_shown(&IpDscp::try_from(arguments.number::<u8>()), answer),
+        ("frag", "new") => write_shown(&IpFragOffset::try_new(arguments.number()), answer),
+        ("frag", "try") => write_shown(&IpFragOffset::try_from(arguments.number::<u16>()), answer),
+        ("flow", "new") => write_shown(&Ipv6FlowLabel::try_new(arguments.number()), answer),
+        ("flow", "try") => write_shown(&Ipv6FlowLabel::try_from(arguments.number::<u32>()), answer),
+        ("ecn", "new") => write_shown(&IpEcn::try_new(arguments.number()), answer),
+        ("ecn", "try") => write_shown(&IpEcn::try_from(arguments.number::<u8>()), answer),
+        ("vlan_id", "new") => write_shown(&VlanId::try_new(arguments.number()), answer),
+        ("vlan_id", "try") => write_shown(&VlanId::try_from(arguments.number::<u16>()), answer),
+        ("vlan_pcp", "new") => write_shown(&VlanPcp::try_new(arguments.number()), answer),
+        ("vlan_pcp", "try") => write_shown(&VlanPcp::try_from(arguments.number::<u8>()), answer),
         _ => arguments.refused(),
     }
 }
-
-// The two cases of one field.
-fn answer_field<N, T>(name: &str, arguments: &mut Arguments, answer: &mut String) -> Written
-where
-    N: FromStr + Default,
-    N::Err: Drop,
-    T: Bounded<N> + TryFrom<N> + Shown + Drop,
-    T::Error: Shown + Drop,
-    T::Refusal: Shown + Drop,
-{
-    match name {
-        "new" => write_shown(&T::try_new(arguments.number()), answer),
-        "try" => write_shown(&T::try_from(arguments.number()), answer),
-        _ => arguments.refused(),
-    }
-}
-
-// A field that has fewer values than the type of its number.
-trait Bounded<N>: Sized {
-    // What a number out of range gives.
-    type Refusal;
-
-    // The field with this number.
-    fn try_new(number: N) -> Result<Self, Self::Refusal>;
-}
-
-macro_rules! bounded {
-    ($($field:ident: $number:ty),*) => {
-        $(impl Bounded<$number> for $field {
-            type Refusal = ValueTooBigError<$number>;
-
-            fn try_new(number: $number) -> Result<$field, ValueTooBigError<$number>> {
-                $field::try_new(number)
-            }
-        })*
-    };
-}
-
-bounded! { IpDscp: u8, IpFragOffset: u16, Ipv6FlowLabel: u32, IpEcn: u8, VlanId: u16, VlanPcp: u8 }
 
 impl Shown for IpDscp {
     fn show<W: fmt::Write>(&self, f: &mut fmt::Formatter<W>) -> fmt::Result {

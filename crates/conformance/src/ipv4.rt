@@ -2,7 +2,7 @@
 
 use crate::arguments::Arguments;
 use crate::shown::{
-    Bytes, Show, Shown, Written, write_change, write_equality, write_set, write_shown,
+    Bytes, Named, Show, Shown, Written, write_change, write_equality, write_set, write_shown,
 };
 use etherparse::{IpDscp, IpEcn, IpFragOffset, IpNumber, Ipv4Header, Ipv4HeaderSlice};
 use std::fmt;
@@ -82,20 +82,23 @@ fn are_views_equal(first: &[u8], second: &[u8]) -> Option<bool> {
 
 // What a header says about itself beyond its fields.
 fn write_info(header: &Ipv4Header, answer: &mut String) -> Written {
-    let (ihl, header_len, max_len) = (header.ihl(), header.header_len(), header.max_payload_len());
+    let numbers = [
+        ("ihl", usize::from(header.ihl())),
+        ("header_len", header.header_len()),
+        ("max_payload_len", usize::from(header.max_payload_len())),
+    ];
+    let (fragmenting, checksum) = (
+        header.is_fragmenting_payload(),
+        header.calc_header_checksum(),
+    );
+    let (options, bytes) = (Bytes(header.options()), header.to_bytes());
     write!(
         answer,
-        "ihl={ihl} header_len={header_len} max_payload_len={max_len}"
-    )?;
-    let fragmenting = header.is_fragmenting_payload();
-    let (checksum, options) = (header.calc_header_checksum(), Bytes(header.options()));
-    write!(
-        answer,
-        " fragmenting={fragmenting} calc={checksum} options={options}"
-    )?;
-    let (bytes, payload_len) = (header.to_bytes(), header.payload_len());
-    let bytes = Bytes(bytes.as_slice());
-    write!(answer, " bytes={bytes} payload_len={}", Show(&payload_len))
+        "{} fragmenting={fragmenting} calc={checksum} options={options} bytes={} payload_len={}",
+        Named(&numbers),
+        Bytes(bytes.as_slice()),
+        Show(&header.payload_len())
+    )
 }
 
 // A header for a payload.
@@ -128,41 +131,34 @@ struct Ipv4Fields<'a> {
 
 impl Display for Ipv4Fields<'_> {
     fn fmt<W: fmt::Write>(&self, f: &mut fmt::Formatter<W>) -> fmt::Result {
-        self.fmt_front(f)?;
-        self.fmt_middle(f)?;
-        let (source, destination) = (Bytes(&self.source), Bytes(&self.destination));
-        let options = Bytes(self.options);
+        let first = [
+            ("dscp", u16::from(self.dscp.value())),
+            ("ecn", u16::from(self.ecn.value())),
+            ("total_len", self.total_len),
+            ("identification", self.identification),
+        ];
+        let flags = [
+            ("dont_fragment", self.dont_fragment),
+            ("more_fragments", self.more_fragments),
+        ];
+        let next = [
+            ("fragment_offset", self.fragment_offset.value()),
+            ("time_to_live", u16::from(self.time_to_live)),
+            ("protocol", u16::from(self.protocol.0)),
+            ("header_checksum", self.header_checksum),
+        ];
+        let last = [
+            ("source", Bytes(&self.source)),
+            ("destination", Bytes(&self.destination)),
+            ("options", Bytes(self.options)),
+        ];
         write!(
             f,
-            " source={source} destination={destination} options={options}"
-        )
-    }
-}
-
-impl Ipv4Fields<'_> {
-    // What stands before the flags.
-    fn fmt_front<W: fmt::Write>(&self, f: &mut fmt::Formatter<W>) -> fmt::Result {
-        let (dscp, ecn) = (self.dscp.value(), self.ecn.value());
-        let (total_len, identification) = (self.total_len, self.identification);
-        write!(
-            f,
-            "dscp={dscp} ecn={ecn} total_len={total_len} identification={identification}"
-        )
-    }
-
-    // From the flags to the checksum.
-    fn fmt_middle<W: fmt::Write>(&self, f: &mut fmt::Formatter<W>) -> fmt::Result {
-        let (dont_fragment, more_fragments) = (self.dont_fragment, self.more_fragments);
-        let fragment_offset = self.fragment_offset.value();
-        write!(
-            f,
-            " dont_fragment={dont_fragment} more_fragments={more_fragments} fragment_offset={fragment_offset}"
-        )?;
-        let (time_to_live, protocol) = (self.time_to_live, self.protocol.0);
-        let checksum = self.header_checksum;
-        write!(
-            f,
-            " time_to_live={time_to_live} protocol={protocol} header_checksum={checksum}"
+            "{} {} {} {}",
+            Named(&first),
+            Named(&flags),
+            Named(&next),
+            Named(&last)
         )
     }
 }

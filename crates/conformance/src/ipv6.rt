@@ -2,7 +2,7 @@
 
 use crate::arguments::Arguments;
 use crate::shown::{
-    Bytes, Show, Shown, Written, write_change, write_equality, write_set, write_shown,
+    Bytes, Named, Show, Shown, Written, write_change, write_equality, write_set, write_shown,
 };
 use etherparse::{Ipv6Header, Ipv6HeaderSlice};
 use std::fmt;
@@ -91,58 +91,47 @@ fn write_info(header: &Ipv6Header, answer: &mut String) -> Written {
 
 impl Shown for Ipv6Header {
     fn show<W: fmt::Write>(&self, f: &mut fmt::Formatter<W>) -> fmt::Result {
-        let (traffic_class, flow_label) = (self.traffic_class, self.flow_label.value());
-        let (payload_length, next_header) = (self.payload_length, self.next_header.0);
-        write!(
-            f,
-            "traffic_class={traffic_class} flow_label={flow_label} payload_length={payload_length} next_header={next_header}"
-        )?;
-        let (source, destination) = (Bytes(&self.source), Bytes(&self.destination));
-        let hop_limit = self.hop_limit;
-        write!(
-            f,
-            " hop_limit={hop_limit} source={source} destination={destination}"
-        )
+        let numbers = [
+            ("traffic_class", u32::from(self.traffic_class)),
+            ("flow_label", self.flow_label.value()),
+            ("payload_length", u32::from(self.payload_length)),
+            ("next_header", u32::from(self.next_header.0)),
+            ("hop_limit", u32::from(self.hop_limit)),
+        ];
+        let addresses = [
+            ("source", Bytes(&self.source)),
+            ("destination", Bytes(&self.destination)),
+        ];
+        write!(f, "{} {}", Named(&numbers), Named(&addresses))
     }
 }
 
 /// What the getters of a view return.
 impl Shown for Ipv6HeaderSlice<'_> {
     fn show<W: fmt::Write>(&self, f: &mut fmt::Formatter<W>) -> fmt::Result {
-        show_numbers(self, f)?;
+        let numbers = [
+            ("version", u32::from(self.version())),
+            ("traffic_class", u32::from(self.traffic_class())),
+            ("dscp", u32::from(self.dscp().value())),
+            ("ecn", u32::from(self.ecn().value())),
+            ("flow_label", self.flow_label().value()),
+            ("payload_length", u32::from(self.payload_length())),
+            ("next_header", u32::from(self.next_header().0)),
+            ("hop_limit", u32::from(self.hop_limit())),
+        ];
         let (source, destination) = (self.source(), self.destination());
-        let (source, destination) = (Bytes(&source), Bytes(&destination));
-        let header_len = self.header_len();
+        let addresses = [
+            ("source", Bytes(&source)),
+            ("destination", Bytes(&destination)),
+        ];
+        let (slice, header_len) = (Bytes(self.slice()), self.header_len());
         write!(
             f,
-            " source={source} destination={destination} header_len={header_len}"
+            "slice={slice} {} {} header_len={header_len}",
+            Named(&numbers),
+            Named(&addresses)
         )
     }
-}
-
-// The slice of a view and the numbers in it.
-fn show_numbers<W: fmt::Write>(view: &Ipv6HeaderSlice, f: &mut fmt::Formatter<W>) -> fmt::Result {
-    let (slice, version, traffic_class) = (
-        Bytes(view.slice()),
-        view.version(),
-        view.traffic_class(),
-    );
-    write!(
-        f,
-        "slice={slice} version={version} traffic_class={traffic_class}"
-    )?;
-    let (dscp, ecn, flow_label) = (
-        view.dscp().value(),
-        view.ecn().value(),
-        view.flow_label().value(),
-    );
-    write!(f, " dscp={dscp} ecn={ecn} flow_label={flow_label}")?;
-    let (payload_length, next_header) = (view.payload_length(), view.next_header().0);
-    let hop_limit = view.hop_limit();
-    write!(
-        f,
-        " payload_length={payload_length} next_header={next_header} hop_limit={hop_limit}"
-    )
 }
 
 /// A header, what follows it, and its bytes again.

@@ -1,7 +1,7 @@
 //! Link headers and ARP packets, by `etherparse_link`.
 
 use crate::arguments::Arguments;
-use crate::shown::{Bytes, Show, Shown, Written, write_header, write_shown};
+use crate::shown::{Bytes, Named, Show, Shown, Written, write_header, write_shown};
 use etherparse_link::err::arp::{ArpEthIpv4FromError, ArpNewError};
 use etherparse_link::err::double_vlan;
 use etherparse_link::{
@@ -149,86 +149,71 @@ impl Shown for double_vlan::HeaderSliceError {
 
 impl Shown for LinuxSllHeader {
     fn show<W: fmt::Write>(&self, f: &mut fmt::Formatter<W>) -> fmt::Result {
-        let (packet_type, arp_hrd_type) = (self.packet_type.0, self.arp_hrd_type.0);
-        write!(f, "packet_type={packet_type} arp_hrd_type={arp_hrd_type}")?;
-        let (len, protocol_type) = (self.sender_address_valid_length, self.protocol_type.0);
+        let numbers = [
+            ("packet_type", self.packet_type.0),
+            ("arp_hrd_type", self.arp_hrd_type.0),
+            (
+                "sender_address_valid_length",
+                self.sender_address_valid_length,
+            ),
+            ("protocol_type", self.protocol_type.0),
+        ];
         let sender_address = Bytes(&self.sender_address);
-        write!(
-            f,
-            " sender_address_valid_length={len} protocol_type={protocol_type} sender_address={sender_address}"
-        )
+        write!(f, "{} sender_address={sender_address}", Named(&numbers))
     }
 }
 
 impl Shown for LinuxSll2Header {
     fn show<W: fmt::Write>(&self, f: &mut fmt::Formatter<W>) -> fmt::Result {
-        let (protocol_type, interface_index) = (self.protocol_type.0, self.interface_index);
-        let (arp_hrd_type, packet_type) = (self.arp_hrd_type.0, self.packet_type);
-        write!(
-            f,
-            "protocol_type={protocol_type} interface_index={interface_index} arp_hrd_type={arp_hrd_type}"
-        )?;
-        let (len, address) = (
-            self.sender_address_valid_length,
-            Bytes(&self.sender_address),
-        );
-        write!(
-            f,
-            " packet_type={packet_type} sender_address_valid_length={len} sender_address={address}"
-        )
+        let numbers = [
+            ("protocol_type", u32::from(self.protocol_type.0)),
+            ("interface_index", self.interface_index),
+            ("arp_hrd_type", u32::from(self.arp_hrd_type.0)),
+            ("packet_type", u32::from(self.packet_type)),
+            (
+                "sender_address_valid_length",
+                u32::from(self.sender_address_valid_length),
+            ),
+        ];
+        let sender_address = Bytes(&self.sender_address);
+        write!(f, "{} sender_address={sender_address}", Named(&numbers))
     }
 }
 
 impl Shown for ArpPacket {
     fn show<W: fmt::Write>(&self, f: &mut fmt::Formatter<W>) -> fmt::Result {
-        let (hw_addr_type, proto_addr_type) = (self.hw_addr_type.0, self.proto_addr_type.0);
-        write!(
-            f,
-            "hw_addr_type={hw_addr_type} proto_addr_type={proto_addr_type}"
-        )?;
-        let (hw_size, protocol_size) = (self.hw_addr_size(), self.protocol_addr_size());
-        let operation = self.operation.0;
-        write!(
-            f,
-            " hw_addr_size={hw_size} protocol_addr_size={protocol_size} operation={operation}"
-        )?;
-        show_addresses(self, f)
+        let numbers = [
+            ("hw_addr_type", self.hw_addr_type.0),
+            ("proto_addr_type", self.proto_addr_type.0),
+            ("hw_addr_size", u16::from(self.hw_addr_size())),
+            ("protocol_addr_size", u16::from(self.protocol_addr_size())),
+            ("operation", self.operation.0),
+        ];
+        let addresses = [
+            ("sender_hw_addr", Bytes(self.sender_hw_addr())),
+            ("sender_protocol_addr", Bytes(self.sender_protocol_addr())),
+            ("target_hw_addr", Bytes(self.target_hw_addr())),
+            ("target_protocol_addr", Bytes(self.target_protocol_addr())),
+        ];
+        write!(f, "{} {}", Named(&numbers), Named(&addresses))
     }
-}
-
-fn show_addresses<W: fmt::Write>(packet: &ArpPacket, f: &mut fmt::Formatter<W>) -> fmt::Result {
-    let hw_addr = Bytes(packet.sender_hw_addr());
-    let protocol_addr = Bytes(packet.sender_protocol_addr());
-    write!(
-        f,
-        " sender_hw_addr={hw_addr} sender_protocol_addr={protocol_addr}"
-    )?;
-    let hw_addr = Bytes(packet.target_hw_addr());
-    let protocol_addr = Bytes(packet.target_protocol_addr());
-    write!(
-        f,
-        " target_hw_addr={hw_addr} target_protocol_addr={protocol_addr}"
-    )
 }
 
 /// The packet, and its bytes.
 impl Shown for ArpEthIpv4Packet {
     fn show<W: fmt::Write>(&self, f: &mut fmt::Formatter<W>) -> fmt::Result {
-        let (operation, mac, ipv4) = (
-            self.operation.0,
-            Bytes(&self.sender_mac),
-            Bytes(&self.sender_ipv4),
-        );
+        let operation = self.operation.0;
+        let addresses = [
+            ("sender_mac", Bytes(&self.sender_mac)),
+            ("sender_ipv4", Bytes(&self.sender_ipv4)),
+            ("target_mac", Bytes(&self.target_mac)),
+            ("target_ipv4", Bytes(&self.target_ipv4)),
+        ];
         write!(
             f,
-            "operation={operation} sender_mac={mac} sender_ipv4={ipv4}"
-        )?;
-        let (mac, ipv4) = (Bytes(&self.target_mac), Bytes(&self.target_ipv4));
-        let bytes = self.to_bytes();
-        write!(
-            f,
-            " target_mac={mac} target_ipv4={ipv4} bytes={}",
-            Bytes(&bytes)
+            "operation={operation} {} bytes={}",
+            Named(&addresses),
+            Bytes(&self.to_bytes())
         )
     }
 }

@@ -1,7 +1,7 @@
 //! Packets of either version, taken apart by `packet_parts` and rewritten by `packet_rewriting`.
 
 use crate::arguments::Arguments;
-use crate::shown::{Bytes, Show, Shown, Written, write_shown};
+use crate::shown::{Bytes, Named, Show, Shown, Written, write_shown};
 use etherparse::err::ipv6::HeaderSliceError;
 use etherparse::{IpNumber, Ipv4Header, Ipv6Header};
 use etherparse_net::Ipv6FragmentHeader;
@@ -194,42 +194,26 @@ fn write_tcp(slice: &IpSlice, answer: &mut String) -> Written {
 
 impl Shown for TcpHeaderSlice<'_> {
     fn show<W: fmt::Write>(&self, f: &mut fmt::Formatter<W>) -> fmt::Result {
-        show_ports(self, f)?;
-        show_numbers(self, f)?;
-        show_flags(self, f)?;
-        write!(f, " options={}", Bytes(self.options()))
+        let numbers = [
+            ("source_port", u32::from(self.source_port())),
+            ("destination_port", u32::from(self.destination_port())),
+            ("sequence_number", self.sequence_number()),
+            ("acknowledgment_number", self.acknowledgment_number()),
+            ("data_offset", u32::from(self.data_offset())),
+            ("flags", u32::from(self.flags())),
+            ("window_size", u32::from(self.window_size())),
+            ("checksum", u32::from(self.checksum())),
+            ("urgent_pointer", u32::from(self.urgent_pointer())),
+        ];
+        let flags = [
+            ("fin", self.fin()),
+            ("syn", self.syn()),
+            ("rst", self.rst()),
+            ("ack", self.ack()),
+        ];
+        let options = Bytes(self.options());
+        write!(f, "{} {} options={options}", Named(&numbers), Named(&flags))
     }
-}
-
-fn show_ports<W: fmt::Write>(view: &TcpHeaderSlice, f: &mut fmt::Formatter<W>) -> fmt::Result {
-    let (source_port, destination_port) = (view.source_port(), view.destination_port());
-    let (sequence_number, acknowledgment_number) = (
-        view.sequence_number(),
-        view.acknowledgment_number(),
-    );
-    write!(
-        f,
-        "source_port={source_port} destination_port={destination_port}"
-    )?;
-    write!(
-        f,
-        " sequence_number={sequence_number} acknowledgment_number={acknowledgment_number}"
-    )
-}
-
-fn show_numbers<W: fmt::Write>(view: &TcpHeaderSlice, f: &mut fmt::Formatter<W>) -> fmt::Result {
-    let (data_offset, flags, window_size) = (view.data_offset(), view.flags(), view.window_size());
-    write!(
-        f,
-        " data_offset={data_offset} flags={flags} window_size={window_size}"
-    )?;
-    let (checksum, urgent_pointer) = (view.checksum(), view.urgent_pointer());
-    write!(f, " checksum={checksum} urgent_pointer={urgent_pointer}")
-}
-
-fn show_flags<W: fmt::Write>(view: &TcpHeaderSlice, f: &mut fmt::Formatter<W>) -> fmt::Result {
-    let (fin, syn, rst, ack) = (view.fin(), view.syn(), view.rst(), view.ack());
-    write!(f, " fin={fin} syn={syn} rst={rst} ack={ack}")
 }
 
 // The header of an IPv4 packet and the checksum of UDP or TCP, with other addresses.
@@ -239,15 +223,19 @@ fn write_translated(slice: &IpSlice, checksum: u16, answer: &mut String) -> Writ
     };
     let mut header = view.to_header();
     let checksum = translated(&mut header, checksum);
-    let header_checksum = header.header_checksum;
-    let (source, destination) = (Bytes(&header.source), Bytes(&header.destination));
+    let checksums = [
+        ("header_checksum", header.header_checksum),
+        ("checksum", checksum),
+    ];
+    let addresses = [
+        ("source", Bytes(&header.source)),
+        ("destination", Bytes(&header.destination)),
+    ];
     write!(
         answer,
-        " ; translated source={source} destination={destination}"
-    )?;
-    write!(
-        answer,
-        " header_checksum={header_checksum} checksum={checksum}"
+        " ; translated {} {}",
+        Named(&addresses),
+        Named(&checksums)
     )
 }
 

@@ -1,7 +1,7 @@
 //! UDP and TCP, by `etherparse_transport`.
 
 use crate::arguments::{Argument, Arguments};
-use crate::shown::{Bytes, Show, Shown, Written, write_header, write_shown};
+use crate::shown::{Bytes, Named, Show, Shown, Written, write_header, write_shown};
 use etherparse_transport::{
     TcpError, TcpHeader, TcpOptionElement, TcpOptionReadError, TcpOptionWriteError, TcpOptions,
     TcpOptionsIterator, UdpHeader,
@@ -162,33 +162,30 @@ fn block(arguments: &mut Arguments) -> Option<(u32, u32)> {
 
 impl Shown for TcpHeader {
     fn show<W: fmt::Write>(&self, f: &mut fmt::Formatter<W>) -> fmt::Result {
-        show_numbers(self, f)?;
-        show_flags(self, f)?;
-        write!(f, " options={}", Bytes(self.options.as_slice()))
+        let numbers = [
+            ("source_port", u32::from(self.source_port)),
+            ("destination_port", u32::from(self.destination_port)),
+            ("sequence_number", self.sequence_number),
+            ("acknowledgment_number", self.acknowledgment_number),
+            ("data_offset", u32::from(self.data_offset())),
+            ("window_size", u32::from(self.window_size)),
+            ("checksum", u32::from(self.checksum)),
+            ("urgent_pointer", u32::from(self.urgent_pointer)),
+        ];
+        let flags = [
+            ("ns", self.ns),
+            ("cwr", self.cwr),
+            ("ece", self.ece),
+            ("urg", self.urg),
+            ("ack", self.ack),
+            ("psh", self.psh),
+            ("rst", self.rst),
+            ("syn", self.syn),
+            ("fin", self.fin),
+        ];
+        let options = Bytes(self.options.as_slice());
+        write!(f, "{} {} options={options}", Named(&numbers), Named(&flags))
     }
-}
-
-fn show_numbers<W: fmt::Write>(header: &TcpHeader, f: &mut fmt::Formatter<W>) -> fmt::Result {
-    let (source_port, destination_port) = (header.source_port, header.destination_port);
-    let (sequence_number, data_offset) = (header.sequence_number, header.data_offset());
-    write!(
-        f,
-        "source_port={source_port} destination_port={destination_port} sequence_number={sequence_number}"
-    )?;
-    let (acknowledgment_number, window_size) = (header.acknowledgment_number, header.window_size);
-    write!(
-        f,
-        " acknowledgment_number={acknowledgment_number} data_offset={data_offset} window_size={window_size}"
-    )?;
-    let (checksum, urgent_pointer) = (header.checksum, header.urgent_pointer);
-    write!(f, " checksum={checksum} urgent_pointer={urgent_pointer}")
-}
-
-fn show_flags<W: fmt::Write>(header: &TcpHeader, f: &mut fmt::Formatter<W>) -> fmt::Result {
-    let (ns, cwr, ece, urg) = (header.ns, header.cwr, header.ece, header.urg);
-    write!(f, " ns={ns} cwr={cwr} ece={ece} urg={urg}")?;
-    let (ack, psh, rst, syn, fin) = (header.ack, header.psh, header.rst, header.syn, header.fin);
-    write!(f, " ack={ack} psh={psh} rst={rst} syn={syn} fin={fin}")
 }
 
 impl Shown for TcpError {
