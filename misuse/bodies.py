@@ -1,11 +1,10 @@
 #!/usr/bin/env python3
 """bodies.py [CRATE ..]: tries the wrong bodies of the folders of misuse/bodies; for crates that are named, those of `more` too.
 
-Each is tried on a copy of its crate, over the libraries that `rt ci` has just proved: a check of the function whose contract
-speaks of it, and of those that it calls, has to prove them without the body, and to refuse that function with it. One check
-tries the bodies of different functions together: a function is proved by its own body and the contracts of others. README.md
-says how a body is written. As many crates are tried at a time as there are processors, up to four. The last line is 'N passed,
-M failed'.
+Each is tried on a copy of its crate, which `rt ci` has just proved: a check of the function whose contract speaks of it, and of
+those that it calls, has to refuse that function and to prove the others. One check tries the bodies of different functions
+together: a function is proved by its own body and the contracts of others. README.md says how a body is written. As many crates
+are tried at a time as there are processors, up to four. The last line is 'N passed, M failed'.
 """
 import concurrent.futures
 import os
@@ -29,20 +28,19 @@ NAMES = re.compile(r'(note: )?(\./)?proofs/.*(has no field|is not in scope|has n
 
 
 def read(body):
-    """the functions that a body is tried at, those that it adds among them, and its edits: a file, a text, and that in its place"""
-    functions, added, edits, file = [], [], [], None
+    """the functions that a body is tried at, and its edits: a file, the text that stands once in it, and that in its place"""
+    functions, edits, file = [], [], None
     for line in body.read_text().splitlines():
         word, _, rest = line.partition(': ')
-        if word in ('fn', 'adds'):
+        if word == 'fn':
             functions.append(rest)
-            added += [rest] if word == 'adds' else []
         elif word == 'file':
             file = rest
         elif word == 'old':
             edits.append([file, rest, None])
         elif word == 'new':
             edits[-1][2] = rest
-    return functions, added, edits
+    return functions, edits
 
 
 def words(crate):
@@ -67,13 +65,10 @@ def check(crate, room, kept, functions):
                           cwd=room, text=True, stdout=subprocess.PIPE, stderr=subprocess.STDOUT)
 
 
-def linked(one, other):
-    """Copies a file, or links what was proved, which a check replaces and never changes."""
-    return os.link(one, other) if one.endswith('.oantt') else shutil.copy2(one, other)
-
-
 def changed(text, old):
     """Returns the name of the function whose body has this text, and the line at which the body begins; nothing if no body has it."""
+    if old not in text:
+        return None
     first = text[: text.index(old)].count('\n')
     lines = text.split('\n')
     for at in range(first, -1, -1):
@@ -90,7 +85,7 @@ def groups(crate, bodies):
     """Returns the bodies in groups. Those of one are in different functions, so that none has a part in what another comes to."""
     apart, alone = [], []
     for body in bodies:
-        functions, _, edits = read(body)
+        functions, edits = read(body)
         bodies_of = {(file, changed((CRATES / crate / file).read_text(), old)) for file, old, new in edits}
         _, found = min(bodies_of, key=str)
         if len(bodies_of) > 1 or found is None or [found[0]] != [it.split('::')[-1] for it in functions]:
@@ -107,7 +102,7 @@ def told(crate, function, lines):
     """Returns what the checker said of a function: of its proofs, and before its verdict."""
     verdicts = [at for at, line in enumerate(lines) if line.startswith('fn ')]
     end = next((at for at in verdicts if lines[at].startswith(f'fn {crate}::{function}: ')), 0)
-    begin = max((at for at in verdicts if at < end), default=end)
+    begin = max((at for at in verdicts if at < end), default=-1)
     own = re.compile(rf'(note: )?(\./)?proofs/{function.replace("::", "/")}/')
     return [line for at, line in enumerate(lines) if PLACE.match(line) and (own.match(line) or begin < at < end)]
 
@@ -116,21 +111,22 @@ def why_failed(crate, bodies, whole, kept):
     """Returns for each of these bodies, which are tried together, why it is not refused as it has to be, or nothing."""
     with tempfile.TemporaryDirectory(dir=os.path.dirname(whole)) as room:
         shutil.copytree(whole, f'{room}/crate')
-        shutil.copytree(kept, f'{room}/kept', copy_function=linked)
         for body in bodies:
-            for file, old, new in read(body)[2]:
+            for file, old, new in read(body)[1]:
                 file = pathlib.Path(room, 'crate', file)
                 file.write_text(file.read_text().replace(old, new))
-        ran = check(crate, f'{room}/crate', f'{room}/kept', {it for body in bodies for it in read(body)[0]})
+        tried = {it for body in bodies for it in read(body)[0]}
+        ran = check(crate, f'{room}/crate', kept, tried)
     lines = ran.stdout.splitlines() or ['nothing']
+    refused = set(re.findall(rf'^fn {crate}::(\S+): (?:not proved|no proof)', ran.stdout, re.MULTILINE))
     found = {}
     for body in bodies:
-        refused = [it for it in read(body)[0] if re.search(rf'^fn {crate}::{it}: (not proved|no proof)', ran.stdout, re.MULTILINE)]
-        said = [line for it in refused for line in told(crate, it, lines)]
-        if ran.returncode == 0 or ran.returncode == 1 and not refused:
+        own = refused & set(read(body)[0])
+        said = [line for it in own for line in told(crate, it, lines)]
+        if ran.returncode == 0 or ran.returncode == 1 and not own:
             found[body] = 'it is proved'
-        elif ran.returncode != 1 or any(re.search(r'\berror\[', line) for line in lines):
-            found[body] = 'no verdict: ' + ' | '.join(lines[-4:])
+        elif ran.returncode != 1 or refused - tried or any(re.search(r'\berror\[', line) for line in lines):
+            found[body] = 'no verdict: ' + ' | '.join([*sorted(refused - tried), *lines[-4:]])
         elif all(NAMES.match(line) for line in said):
             found[body] = f'no contract refuses it, but a proof that names what it took away: {(said or ["nothing is told"])[0]}'
         else:
@@ -148,14 +144,13 @@ def tried(crate, bodies):
         os.mkdir(kept)
         found = {}
         for body in bodies:
-            for file, old, new in read(body)[2]:
-                if (count := pathlib.Path(whole, file).read_text().count(old)) != 1:
-                    found[body] = f'{old} stands {count} times in {file}'
-        right = [body for body in bodies if body not in found]
-        ran = check(crate, whole, kept, {it for functions, added, _ in map(read, right) for it in functions if it not in added})
-        if ran.returncode:
-            return ['without it the check says: ' + ' | '.join(ran.stdout.splitlines()[-4:])] * len(bodies)
-        for group in groups(crate, right):
+            texts = {}
+            for file, old, new in read(body)[1]:
+                text = texts.get(file) or pathlib.Path(whole, file).read_text()
+                if text.count(old) != 1:
+                    found[body] = f'{old} stands {text.count(old)} times in {file}'
+                texts[file] = text.replace(old, new)
+        for group in groups(crate, [body for body in bodies if body not in found]):
             came = why_failed(crate, group, whole, kept)
             for body, why in came.items():
                 # (it may be the fault of another)
