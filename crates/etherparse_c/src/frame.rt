@@ -14,7 +14,6 @@ use crate::store::put_whole;
 use etherparse_link::EtherType;
 use packet::lax_sliced_packet::{LaxSlicedPacket, frame_layers, layers_after};
 use packet::link::LinkType;
-use std::mem;
 
 /// The layers of a frame, as far as they can be read. The link type is a number of the registry of
 /// tcpdump.org. If `checksums` is true, the checksums of the IP packet are judged.
@@ -216,8 +215,25 @@ fn refuse_stopped(answer: &mut Packet)
     ensures refused { answer.old.stop.kind ≢ 0 → answer.new ≡ refused_packet answer.old.stop }
 {
     if answer.stop.kind != 0 {
-        let stop = mem::take(&mut answer.stop);
-        *answer = refused(stop);
+        // Each field by itself: as a whole it would be copied by `memcpy` of the C library.
+        let Error {
+            kind,
+            number,
+            layer,
+            required_len,
+            len,
+            layer_start_offset,
+            limit,
+        } = answer.stop;
+        *answer = refused(Error {
+            kind,
+            number,
+            layer,
+            required_len,
+            len,
+            layer_start_offset,
+            limit,
+        });
     }
 }
 
