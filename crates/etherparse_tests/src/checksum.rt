@@ -11,7 +11,7 @@ use std::process::Abort;
 use std::test::Fail;
 
 // A start, the bytes that are added to it, and the complement of the sum.
-static CASES: [(u16, &[u8], u16); 14] = [
+static CASES: [(u16, &[u8], u16); 7] = [
     (0x1234, &[], 0xedcb),
     (0, &[0x12, 0x34], 0xcbed),
     (0, &[0xf0, 0x0f], 0xf00f),
@@ -33,52 +33,21 @@ static CASES: [(u16, &[u8], u16); 14] = [
         ],
         0xebea,
     ),
-    (
-        1,
-        &[
-            0x11, 0x12, 0x13, 0x14, 0x15, 0x16, 0x17, 0x18, 0x19, 0x1a, 0x1b, 0x1c, 0x1d, 0x1e,
-            0x1f,
-        ],
-        0x573e,
-    ),
-    (
-        1,
-        &[
-            0x11, 0x12, 0x13, 0x14, 0x15, 0x16, 0x17, 0x18, 0x19, 0x1a, 0x1b, 0x1c, 0x1d, 0x1e,
-        ],
-        0x575d,
-    ),
-    (
-        1,
-        &[
-            0x11, 0x12, 0x13, 0x14, 0x15, 0x16, 0x17, 0x18, 0x19, 0x1a, 0x1b, 0x1c, 0x1d,
-        ],
-        0x755d,
-    ),
-    (
-        1,
-        &[
-            0x11, 0x12, 0x13, 0x14, 0x15, 0x16, 0x17, 0x18, 0x19, 0x1a, 0x1b, 0x1c,
-        ],
-        0x757a,
-    ),
-    (
-        1,
-        &[
-            0x11, 0x12, 0x13, 0x14, 0x15, 0x16, 0x17, 0x18, 0x19, 0x1a, 0x1b,
-        ],
-        0x917a,
-    ),
-    (
-        1,
-        &[0x11, 0x12, 0x13, 0x14, 0x15, 0x16, 0x17, 0x18, 0x19, 0x1a],
-        0x9195,
-    ),
-    (
-        1,
-        &[0x11, 0x12, 0x13, 0x14, 0x15, 0x16, 0x17, 0x18, 0x19],
-        0xab95,
-    ),
+];
+
+static ASCENDING: [u8; 15] = [
+    0x11, 0x12, 0x13, 0x14, 0x15, 0x16, 0x17, 0x18, 0x19, 0x1a, 0x1b, 0x1c, 0x1d, 0x1e, 0x1f,
+];
+
+// How many of these bytes are added to a start of 1, and the complement of the sum.
+static OF_ASCENDING: [(usize, u16); 7] = [
+    (15, 0x573e),
+    (14, 0x575d),
+    (13, 0x755d),
+    (12, 0x757a),
+    (11, 0x917a),
+    (10, 0x9195),
+    (9, 0xab95),
 ];
 
 #[test]
@@ -108,6 +77,15 @@ fn one_add_to_a_new_sum_has_the_complement_of_its_words(rt: HostRuntime) {
     assert_equal(&rt, of_4bytes.ones_complement(), 0x5397);
     assert_equal(&rt, of_8bytes.ones_complement(), 0x2040);
     assert_equal(&rt, of_16bytes.ones_complement(), 0x473f);
+}
+
+#[test]
+fn the_front_of_a_slice_has_one_complement_in_all_sums(rt: HostRuntime) -> Result<(), Fail> {
+    for (len, complement) in &OF_ASCENDING {
+        let slice = ASCENDING.get(..*len).ok_or("too few")?;
+        assert_equal(&rt, complements_of(1, 1, slice), [*complement; 5]);
+    }
+    Ok(())
 }
 
 // The complement of a start and a slice, by each way to sum them in 64 bits and in 32.
