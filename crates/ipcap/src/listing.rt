@@ -103,7 +103,7 @@ fn last_four(four: [u8; 4], bytes: &[u8]) -> [u8; 4]
 
 impl Request {
     // Counts a packet that is listed, and writes its line or the bytes of its block.
-    #[inline(always)] // A quiet run then makes no value of a reading in memory.
+    #[inline(always)] // The caller makes the reading in place.
     fn list_packet<W: Sink>(
         &self,
         totals: &mut Totals,
@@ -152,6 +152,29 @@ impl Request {
         }
     }
 
+    // Counts a packet that is listed, and writes its line.
+    #[inline(never)] // What the line needs is then in no way of the packets without one.
+    fn list_line<W: Sink>(
+        &self,
+        totals: &mut Totals,
+        is_reassembled: bool,
+        head: &PacketHead,
+        bytes: &[u8],
+        frame: &[u8],
+        output: &mut Output<W>,
+    ) -> Result<(), Failure>
+        requires fits { length bytes.now ≤ ROOM }
+        requires chosen { IsChosen self.now head.now frame.now true }
+        ensures told { OnOk result (TellsFrame W.contents self.now is_reassembled totals.old totals.new
+            head.now bytes.now frame.now output.old output.new) }
+        ensures kept { OnErr result (Prints W.contents output.old output.new []) }
+        ensures failed { IfErr result (λ e. Because ⊥ (W.has_failed output.new.sink)
+            (¬ HasRoom totals.old) e ⊥ [] []) }
+    {
+        let reading = read_numbered(head.link_type, is_cut(head), frame);
+        self.list_packet(totals, is_reassembled, head, bytes, reading, output)
+    }
+
     // Counts a packet, and writes its line or the bytes of its block if it is listed. The
     // expression is asked first, since most of what a line says takes longer.
     #[inline(never)] // One copy of all that a frame takes is faster than three.
@@ -171,15 +194,21 @@ impl Request {
         ensures failed { IfErr result (λ e. Because ⊥ (W.has_failed output.new.sink)
             (¬ HasRoom totals.old) e ⊥ [] []) }
     {
-        if self.is_chosen(head, frame) {
-            let reading = read_numbered(head.link_type, is_cut(head), frame);
-            return self.list_packet(totals, is_reassembled, head, bytes, reading, output);
+        if !self.is_chosen(head, frame) {
+            return if totals.pass(bytes.len(), false, head) {
+                Ok(())
+            } else {
+                Err(Failure::Count)
+            };
         }
-        if totals.pass(bytes.len(), false, head) {
-            Ok(())
-        } else {
-            Err(Failure::Count)
+        if let Mode::Lines = self.mode {
+            return self.list_line(totals, is_reassembled, head, bytes, frame, output);
         }
+        let reading = read_numbered(head.link_type, is_cut(head), frame);
+        if !totals.count(bytes.len(), head, &reading) {
+            return Err(Failure::Count);
+        }
+        output.copy_if(self.copies(), bytes)
     }
 
     // Counts a block without a packet, and writes its bytes if packets are written.

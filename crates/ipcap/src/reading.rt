@@ -64,7 +64,7 @@ pub fn max_len(capture: &Capture) -> usize
 
 /// The same as [`read_frame`] of the link type with a number. Of one that is not read, a frame
 /// carries nothing that is.
-#[inline(always)]
+#[inline(always)] // A caller that only counts makes no more of it than it needs.
 pub fn read_numbered(number: u16, is_cut: bool, frame: &[u8]) -> Reading
     ensures reads { ReadsNumbered number is_cut frame.now result }
 {
@@ -76,6 +76,7 @@ pub fn read_numbered(number: u16, is_cut: bool, frame: &[u8]) -> Reading
 
 /// What a frame of a link type is found to carry. If the capture cut the frame, its packet can be
 /// shorter than its length field says.
+#[inline(always)] // Likewise.
 pub fn read_frame(link_type: LinkType, is_cut: bool, frame: &[u8]) -> Reading
     ensures reads { ReadsFrame link_type is_cut frame.now result }
 {
@@ -108,6 +109,7 @@ pub fn read_frame(link_type: LinkType, is_cut: bool, frame: &[u8]) -> Reading
 }
 
 // What is shown of a packet, or why it is refused.
+#[inline(always)] // Likewise.
 fn read_packet(is_cut: bool, packet: &[u8]) -> Reading
     ensures reads { ReadsPacket is_cut packet.now result }
 {

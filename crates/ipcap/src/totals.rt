@@ -60,6 +60,7 @@ impl Totals {
 
     /// Counts one more packet that is listed, in a block of `len` bytes. If a count of packets would
     /// exceed 2^64 - 1, nothing is counted, and the answer is `false`.
+    #[inline(always)] // A reading that is only counted is then never in memory.
     pub fn count(&mut self, len: usize, head: &PacketHead, reading: &Reading) -> bool
         ensures counted { IsTrue result → (is_long is_reassembled : Bool) → self.new
             ≡ counted len is_long (packet is_reassembled head.now (Some reading.now)) self.old }
