@@ -6,7 +6,7 @@ ghost use Rattle.packet_builder.specs.Steps.{ipv4_header, ipv6_header};
 
 use crate::build_slice_write_error::BuildSliceWriteError;
 use crate::writing::{put, put_ip, put_link_headers};
-use etherparse::err::ValueTooBigError;
+use etherparse::err::{ValueTooBigError, ValueType};
 use etherparse::{IpNumber, Ipv4Header, Ipv6Header};
 use etherparse_link::{EtherType, Ethernet2Header, LinuxSllHeader, SingleVlanHeader};
 
@@ -55,12 +55,12 @@ pub struct Headers {
 }
 
 impl Headers {
-    ghost use Rattle.std.specs.Prelude.{◌≡◌, ◌+◌, ◌++◌, ◌≤◌, ◌<◌, ◌^◌, ◌↔◌, IfErr, IfOk, IsOk};
-    ghost use Rattle.std.specs.Prelude.{OnErr, length};
-    ghost use Rattle.packet_builder.specs.BuiltPacket.{BeginsWithHeaders, headers_len};
+    ghost use Rattle.std.specs.Prelude.{◌≡◌, ◌++◌, ◌≤◌, ◌↔◌, IfErr, IsOk, length};
+    ghost use Rattle.packet_builder.specs.BuiltPacket.{FitsInto, HasHeaders, RefusesToWrite, headers_len};
     ghost use Rattle.packet_builder.specs.Writing.{WritesFront};
 
     /// The length of the headers, in bytes.
+    #[inline(always)]
     pub fn len(&self) -> usize
         ensures value { result ≡ headers_len self.now }
         ensures within { result ≤ 84 }
@@ -72,75 +72,101 @@ impl Headers {
         link_headers_len(&self.link, &self.vlan) + ip
     }
 
-    // Writes the headers, what follows the IP header, and the payload at the front of a slice.
+    // Whether a packet with this many bytes after its IP header can be written in this room.
+    #[inline(always)]
+    pub(crate) fn check(&self, len: usize, room: usize) -> Result<(), BuildSliceWriteError>
+        ensures accepted { IsOk result ↔ FitsInto self.now len room }
+        ensures refused { IfErr result (RefusesToWrite self.now len room) }
+    {
+        let max_allowed = self.ip.max_len_after();
+        if len > max_allowed {
+            return Err(BuildSliceWriteError::PayloadLen(ValueTooBigError {
+                actual: len,
+                max_allowed,
+                value_type: self.ip.len_type(),
+            }));
+        }
+        let required_len = self.len() + len;
+        if room < required_len {
+            return Err(BuildSliceWriteError::Space(required_len));
+        }
+        Ok(())
+    }
+
+    // Writes the headers, and after them the parts of a protocol: a transport header and a payload.
     // Returns the length of all.
+    #[inline(always)]
     pub(crate) fn write(
-        &self,
+        self,
+        protocol: IpNumber,
         transport: &[u8],
         payload: &[u8],
         out: &mut [u8],
-    ) -> Result<usize, BuildSliceWriteError>
-        requires fits { length transport.now ≤ 60 }
-        ensures accepted { IsOk result ↔
-            (headers_len self.now + length (transport.now ++ payload.now) ≤ length out.old) }
-        ensures refused { IfErr result (λ e. e ≡ BuildSliceWriteError.Space
-            (headers_len self.now + length (transport.now ++ payload.now))) }
-        ensures writes { IfOk result (λ end.
-            WritesFront (BeginsWithHeaders self.now (transport.now ++ payload.now))
-            end out.old out.new) }
-        ensures unchanged { OnErr result (out.new ≡ out.old) }
+    ) -> usize
+        requires fits { FitsInto self (length (transport.now ++ payload.now)) (length out.old) }
+        ensures writes { WritesFront (HasHeaders self protocol (transport.now ++ payload.now))
+            result out.old out.new }
     {
-        let required_len = self.len() + transport.len() + payload.len();
-        if out.len() < required_len {
-            return Err(BuildSliceWriteError::Space(required_len));
-        }
-        let ether_type = ether_type_of(&self.ip);
-        let at = put_link_headers(&self.link, &self.vlan, ether_type, out);
-        let at = put_ip(&self.ip, at, out);
+        let Headers { link, vlan, ip } = self;
+        let at = put_link_headers(&link, &vlan, ether_type_of(&ip), out);
+        let ip = ip.before(protocol, transport.len() + payload.len());
+        let at = put_ip(&ip, at, out);
         let at = put(transport, at, out);
-        Ok(put(payload, at, out))
+        put(payload, at, out)
     }
 }
 
 impl IpHeader {
-    ghost use Rattle.std.specs.Prelude.{◌≡◌, ◌≤◌, ◌↔◌, IfErr, IfOk, IsOk};
+    ghost use Rattle.std.specs.Prelude.{◌≡◌, ◌≤◌};
     ghost use Rattle.packet_builder.specs.BuiltPacket.{IsIpBefore, len_type, max_len_after};
 
-    // The header before this many bytes of a protocol.
-    pub(crate) fn before(
-        self,
-        protocol: IpNumber,
-        len: usize,
-    ) -> Result<IpHeader, ValueTooBigError<usize>>
-        ensures accepted { IsOk result ↔ (len ≤ max_len_after self) }
-        ensures refused { IfErr result (λ e. e ≡ record {
-          actual = len;
-          max_allowed = max_len_after self;
-          value_type = len_type self;
-        }) }
-        ensures made { IfOk result (IsIpBefore self protocol len) }
+    // How many bytes can follow the header.
+    #[inline(always)]
+    fn max_len_after(&self) -> usize
+        ensures value { result ≡ max_len_after self.now }
+        ensures within { result ≤ 65535 }
     {
         match self {
-            IpHeader::Ipv4(mut header) => match header.set_payload_len(len) {
-                Ok(()) => {
-                    header.protocol = protocol;
-                    header.set_checksum();
-                    Ok(IpHeader::Ipv4(header))
-                }
-                Err(e) => Err(e),
-            },
-            IpHeader::Ipv6(mut header) => match header.set_payload_length(len) {
-                Ok(()) => {
-                    header.next_header = protocol;
-                    Ok(IpHeader::Ipv6(header))
-                }
-                Err(e) => Err(e),
-            },
+            IpHeader::Ipv4(header) => usize::from(header.max_payload_len()),
+            IpHeader::Ipv6(_) => usize::from(u16::MAX),
+        }
+    }
+
+    // The name of that length.
+    #[inline(always)]
+    fn len_type(&self) -> ValueType
+        ensures value { result ≡ len_type self.now }
+    {
+        match self {
+            IpHeader::Ipv4(_) => ValueType::Ipv4PayloadLength,
+            IpHeader::Ipv6(_) => ValueType::Ipv6PayloadLength,
+        }
+    }
+
+    // The header before this many bytes of a protocol.
+    #[inline(always)]
+    fn before(self, protocol: IpNumber, len: usize) -> IpHeader
+        requires counts { len ≤ max_len_after self }
+        ensures made { IsIpBefore self protocol len result }
+    {
+        match self {
+            IpHeader::Ipv4(mut header) => {
+                header.total_len = (header.header_len() + len) as u16;
+                header.protocol = protocol;
+                header.header_checksum = header.calc_header_checksum();
+                IpHeader::Ipv4(header)
+            }
+            IpHeader::Ipv6(mut header) => {
+                header.payload_length = len as u16;
+                header.next_header = protocol;
+                IpHeader::Ipv6(header)
+            }
         }
     }
 }
 
 // An IPv4 header without options, between these addresses.
+#[inline(always)]
 pub(crate) fn ipv4_header(source: [u8; 4], destination: [u8; 4], time_to_live: u8) -> IpHeader
     ensures value { result ≡ ipv4_header source destination time_to_live }
 {
@@ -153,6 +179,7 @@ pub(crate) fn ipv4_header(source: [u8; 4], destination: [u8; 4], time_to_live: u
 }
 
 // An IPv6 header between these addresses.
+#[inline(always)]
 pub(crate) fn ipv6_header(source: [u8; 16], destination: [u8; 16], hop_limit: u8) -> IpHeader
     ensures value { result ≡ ipv6_header source destination hop_limit }
 {
@@ -165,6 +192,7 @@ pub(crate) fn ipv6_header(source: [u8; 16], destination: [u8; 16], hop_limit: u8
 }
 
 // The EtherType of an IP packet with this header.
+#[inline(always)]
 fn ether_type_of(ip: &IpHeader) -> EtherType
     ensures value { result ≡ ether_type_of ip.now }
 {
@@ -175,6 +203,7 @@ fn ether_type_of(ip: &IpHeader) -> EtherType
 }
 
 // The length of a link header and tags, in bytes.
+#[inline(always)]
 pub(crate) fn link_headers_len(link: &Option<LinkHeader>, vlan: &Option<VlanHeader>) -> usize
     ensures value { result ≡ link_len link.now + tags_len vlan.now }
     ensures within { result ≤ 24 }

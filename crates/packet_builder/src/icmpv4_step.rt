@@ -24,6 +24,7 @@ impl Icmpv4Step {
 
     /// The length of the packet with a payload of this length, in bytes. The payload has to be below
     /// 2^63 bytes.
+    #[inline(always)]
     pub fn size(&self, payload_size: usize) -> usize
         requires fits { payload_size < 2 ^ 63 }
         ensures value { result ≡
@@ -53,14 +54,8 @@ impl Icmpv4Step {
         ensures unchanged { OnErr result (slice.new ≡ slice.old) }
     {
         let Icmpv4Step { headers, icmp_type } = self;
-        let Headers { link, vlan, ip } = headers;
-        let ip = match ip.before(IpNumber::ICMP, icmp_type.header_len() + payload.len()) {
-            Ok(ip) => ip,
-            Err(e) => return Err(BuildSliceWriteError::PayloadLen(e)),
-        };
-        let headers = Headers { link, vlan, ip };
-        let header = Icmpv4Header::with_checksum(icmp_type, payload);
-        let bytes = header.to_bytes();
-        headers.write(bytes.as_slice(), payload, slice)
+        headers.check(icmp_type.header_len() + payload.len(), slice.len())?;
+        let icmp = Icmpv4Header::with_checksum(icmp_type, payload).to_bytes();
+        Ok(headers.write(IpNumber::ICMP, icmp.as_slice(), payload, slice))
     }
 }

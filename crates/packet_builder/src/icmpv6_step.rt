@@ -27,6 +27,7 @@ impl Icmpv6Step {
 
     /// The length of the packet with a payload of this length, in bytes. The payload has to be below
     /// 2^63 bytes.
+    #[inline(always)]
     pub fn size(&self, payload_size: usize) -> usize
         requires fits { payload_size < 2 ^ 63 }
         ensures value { result ≡ headers_len self.now.headers + (8 + payload_size) }
@@ -56,18 +57,13 @@ impl Icmpv6Step {
         ensures unchanged { OnErr result (slice.new ≡ slice.old) }
     {
         let Icmpv6Step { headers, icmp_type } = self;
-        let Headers { link, vlan, ip } = headers;
-        let (source, destination) = match &ip {
+        let (source, destination) = match &headers.ip {
             IpHeader::Ipv4(_) => return Err(BuildSliceWriteError::Icmpv6InIpv4),
             IpHeader::Ipv6(ip) => (ip.source, ip.destination),
         };
-        let ip = match ip.before(IpNumber::IPV6_ICMP, Icmpv6Header::LEN + payload.len()) {
-            Ok(ip) => ip,
-            Err(e) => return Err(BuildSliceWriteError::PayloadLen(e)),
-        };
-        let headers = Headers { link, vlan, ip };
-        let header = header_between(source, destination, icmp_type, payload);
-        headers.write(&header.to_bytes(), payload, slice)
+        headers.check(Icmpv6Header::LEN + payload.len(), slice.len())?;
+        let icmp = header_between(source, destination, icmp_type, payload).to_bytes();
+        Ok(headers.write(IpNumber::IPV6_ICMP, &icmp, payload, slice))
     }
 }
 

@@ -28,6 +28,7 @@ impl IpStep {
     ghost use Rattle.packet_builder.specs.Writing.{WritesFront};
 
     /// Adds a UDP header between these ports.
+    #[inline(always)]
     pub fn udp(self, source_port: u16, destination_port: u16) -> UdpStep
         ensures made { result ≡ record {
           headers = self.headers;
@@ -43,6 +44,7 @@ impl IpStep {
     }
 
     /// Adds a TCP header between these ports, without options.
+    #[inline(always)]
     pub fn tcp(
         self,
         source_port: u16,
@@ -64,6 +66,7 @@ impl IpStep {
     }
 
     /// Adds this TCP header. Its checksum is set when the packet is written.
+    #[inline(always)]
     pub fn tcp_header(self, tcp: TcpHeader) -> TcpStep
         ensures made { result ≡ record { headers = self.headers; tcp = tcp } }
     {
@@ -75,6 +78,7 @@ impl IpStep {
 
     /// Adds the header of a message of ICMP, over IPv4 or IPv6. Its checksum is computed when the
     /// packet is written.
+    #[inline(always)]
     pub fn icmpv4(self, icmp_type: Icmpv4Type) -> Icmpv4Step
         ensures made { result ≡ record { headers = self.headers; icmp_type = icmp_type } }
     {
@@ -86,6 +90,7 @@ impl IpStep {
 
     /// Adds the header of a message of ICMP with this type, this code, and these bytes after the
     /// checksum.
+    #[inline(always)]
     pub fn icmpv4_raw(self, type_u8: u8, code_u8: u8, bytes5to8: [u8; 4]) -> Icmpv4Step
         ensures made { result ≡ record {
           headers = self.headers;
@@ -109,6 +114,7 @@ impl IpStep {
     /// let len = request.write_to_slice(&mut memory, b"abcd")?;
     /// assert!(rt; len == 32 && &memory[20..24] == [8, 0, 51, 54].as_slice());
     /// ```
+    #[inline(always)]
     pub fn icmpv4_echo_request(self, id: u16, seq: u16) -> Icmpv4Step
         ensures made { result ≡ record {
           headers = self.headers;
@@ -119,6 +125,7 @@ impl IpStep {
     }
 
     /// Adds the header of a reply to such a request.
+    #[inline(always)]
     pub fn icmpv4_echo_reply(self, id: u16, seq: u16) -> Icmpv4Step
         ensures made { result ≡ record {
           headers = self.headers;
@@ -130,6 +137,7 @@ impl IpStep {
 
     /// Adds the header of a message of ICMPv6, over IPv6: over IPv4 the packet is not written. Its
     /// checksum is computed when the packet is written.
+    #[inline(always)]
     pub fn icmpv6(self, icmp_type: Icmpv6Type) -> Icmpv6Step
         ensures made { result ≡ record { headers = self.headers; icmp_type = icmp_type } }
     {
@@ -141,6 +149,7 @@ impl IpStep {
 
     /// Adds the header of a message of ICMPv6 with this type, this code, and these bytes after the
     /// checksum, over IPv6.
+    #[inline(always)]
     pub fn icmpv6_raw(self, type_u8: u8, code_u8: u8, bytes5to8: [u8; 4]) -> Icmpv6Step
         ensures made { result ≡ record {
           headers = self.headers;
@@ -167,6 +176,7 @@ impl IpStep {
     /// let len = request.write_to_slice(&mut memory, b"odd")?;
     /// assert!(rt; len == 51 && &memory[40..44] == [128, 0, 80, 221].as_slice());
     /// ```
+    #[inline(always)]
     pub fn icmpv6_echo_request(self, id: u16, seq: u16) -> Icmpv6Step
         ensures made { result ≡ record {
           headers = self.headers;
@@ -177,6 +187,7 @@ impl IpStep {
     }
 
     /// Adds the header of a reply to such a request, over IPv6.
+    #[inline(always)]
     pub fn icmpv6_echo_reply(self, id: u16, seq: u16) -> Icmpv6Step
         ensures made { result ≡ record {
           headers = self.headers;
@@ -187,6 +198,7 @@ impl IpStep {
     }
 
     // A packet with this IP header after a link header and tags, if there are any.
+    #[inline(always)]
     pub(crate) fn after(link: Option<LinkHeader>, vlan: Option<VlanHeader>, ip: IpHeader) -> IpStep
         ensures made { result ≡ ip_step link vlan ip }
     {
@@ -197,6 +209,7 @@ impl IpStep {
 
     /// The length of the packet with a payload of this length after the IP header, in bytes. The
     /// payload has to be below 2^63 bytes.
+    #[inline(always)]
     pub fn size(&self, payload_size: usize) -> usize
         requires fits { payload_size < 2 ^ 63 }
         ensures value { result ≡ headers_len self.now.headers + payload_size }
@@ -225,12 +238,7 @@ impl IpStep {
             (RefusesToWrite self.headers (length payload.now) (length slice.old)) }
         ensures unchanged { OnErr result (slice.new ≡ slice.old) }
     {
-        let Headers { link, vlan, ip } = self.headers;
-        let ip = match ip.before(protocol, payload.len()) {
-            Ok(ip) => ip,
-            Err(e) => return Err(BuildSliceWriteError::PayloadLen(e)),
-        };
-        let headers = Headers { link, vlan, ip };
-        headers.write(&[], payload, slice)
+        self.headers.check(payload.len(), slice.len())?;
+        Ok(self.headers.write(protocol, &[], payload, slice))
     }
 }

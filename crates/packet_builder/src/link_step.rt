@@ -21,6 +21,7 @@ impl LinkStep {
     ghost use Rattle.packet_builder.specs.Steps.{ip_step, ipv4_header, ipv6_header, tag_of};
 
     /// Adds a tag of a VLAN, with priority 0.
+    #[inline(always)]
     pub fn single_vlan(self, vlan_id: VlanId) -> VlanStep
         ensures made { result ≡ record { link = self.link; vlan = VlanHeader.Single (tag_of vlan_id) } }
     {
@@ -29,6 +30,7 @@ impl LinkStep {
 
     /// Adds the tags of two VLANs, with priority 0: first that of a service, then that of a
     /// customer.
+    #[inline(always)]
     pub fn double_vlan(self, outer: VlanId, inner: VlanId) -> VlanStep
         ensures made { result ≡ record {
           link = self.link;
@@ -42,6 +44,7 @@ impl LinkStep {
     }
 
     /// Adds these tags.
+    #[inline(always)]
     pub fn vlan(self, vlan: VlanHeader) -> VlanStep
         ensures made { result ≡ record { link = self.link; vlan = vlan } }
     {
@@ -52,6 +55,7 @@ impl LinkStep {
     }
 
     /// Adds an IPv4 header without options, between these addresses.
+    #[inline(always)]
     pub fn ipv4(self, source: [u8; 4], destination: [u8; 4], time_to_live: u8) -> IpStep
         ensures made { result ≡
             ip_step (Some self.link) None (ipv4_header source destination time_to_live) }
@@ -60,6 +64,7 @@ impl LinkStep {
     }
 
     /// Adds an IPv6 header between these addresses.
+    #[inline(always)]
     pub fn ipv6(self, source: [u8; 16], destination: [u8; 16], hop_limit: u8) -> IpStep
         ensures made { result ≡
             ip_step (Some self.link) None (ipv6_header source destination hop_limit) }
@@ -68,6 +73,7 @@ impl LinkStep {
     }
 
     /// Adds an ARP packet, which ends the packet.
+    #[inline(always)]
     pub fn arp(self, arp: ArpPacket) -> ArpStep
         ensures made { result ≡ record { link = self.link; vlan = None; arp = arp } }
     {
@@ -79,6 +85,7 @@ impl LinkStep {
     }
 
     /// Adds this IP header.
+    #[inline(always)]
     pub fn ip(self, ip: IpHeader) -> IpStep
         ensures made { result ≡ ip_step (Some self.link) None ip }
     {
@@ -87,6 +94,7 @@ impl LinkStep {
 }
 
 // A tag of a VLAN with priority 0, whose EtherType is set later.
+#[inline(always)]
 fn tag_of(vlan_id: VlanId) -> SingleVlanHeader
     ensures value { result ≡ tag_of vlan_id }
 {

@@ -28,6 +28,7 @@ impl PacketBuilder {
     ghost use Rattle.packet_builder.specs.Steps.{ipv6_header, linux_sll_step};
 
     /// A packet that begins with an Ethernet header between these addresses.
+    #[inline(always)]
     pub fn ethernet2(source: [u8; 6], destination: [u8; 6]) -> LinkStep
         ensures made { result ≡ ethernet2_step source destination }
     {
@@ -41,6 +42,7 @@ impl PacketBuilder {
     }
 
     /// A packet that begins with the header of a Linux cooked capture.
+    #[inline(always)]
     pub fn linux_sll(header: LinuxSllHeader) -> LinkStep
         ensures made { result ≡ linux_sll_step header }
     {
@@ -50,6 +52,7 @@ impl PacketBuilder {
     }
 
     /// A packet that begins with an IPv4 header without options, between these addresses.
+    #[inline(always)]
     pub fn ipv4(source: [u8; 4], destination: [u8; 4], time_to_live: u8) -> IpStep
         ensures made { result ≡ ip_step None None (ipv4_header source destination time_to_live) }
     {
@@ -57,6 +60,7 @@ impl PacketBuilder {
     }
 
     /// A packet that begins with an IPv6 header between these addresses.
+    #[inline(always)]
     pub fn ipv6(source: [u8; 16], destination: [u8; 16], hop_limit: u8) -> IpStep
         ensures made { result ≡ ip_step None None (ipv6_header source destination hop_limit) }
     {
@@ -65,6 +69,7 @@ impl PacketBuilder {
 
     /// A packet that begins with this IP header, whose length, number of what follows, and checksum
     /// are set when the packet is written.
+    #[inline(always)]
     pub fn ip(ip: IpHeader) -> IpStep
         ensures made { result ≡ ip_step None None ip }
     {

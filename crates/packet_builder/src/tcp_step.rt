@@ -30,6 +30,7 @@ impl TcpStep {
     ghost use Rattle.packet_builder.specs.Writing.{WritesFront};
 
     /// Sets the flag NS: the nonce sum (RFC 3540).
+    #[inline(always)]
     pub fn ns(mut self) -> TcpStep
         ensures made { result ≡ record self { tcp = record self.tcp { ns = true } } }
     {
@@ -38,6 +39,7 @@ impl TcpStep {
     }
 
     /// Sets the flag FIN: that the sender has no more data.
+    #[inline(always)]
     pub fn fin(mut self) -> TcpStep
         ensures made { result ≡ record self { tcp = record self.tcp { fin = true } } }
     {
@@ -46,6 +48,7 @@ impl TcpStep {
     }
 
     /// Sets the flag SYN: that sequence numbers are synchronized.
+    #[inline(always)]
     pub fn syn(mut self) -> TcpStep
         ensures made { result ≡ record self { tcp = record self.tcp { syn = true } } }
     {
@@ -54,6 +57,7 @@ impl TcpStep {
     }
 
     /// Sets the flag RST: that the connection is reset.
+    #[inline(always)]
     pub fn rst(mut self) -> TcpStep
         ensures made { result ≡ record self { tcp = record self.tcp { rst = true } } }
     {
@@ -62,6 +66,7 @@ impl TcpStep {
     }
 
     /// Sets the flag PSH: that the data is to be pushed to the receiving user.
+    #[inline(always)]
     pub fn psh(mut self) -> TcpStep
         ensures made { result ≡ record self { tcp = record self.tcp { psh = true } } }
     {
@@ -70,6 +75,7 @@ impl TcpStep {
     }
 
     /// Sets the flag ECE: that congestion was experienced (RFC 3168).
+    #[inline(always)]
     pub fn ece(mut self) -> TcpStep
         ensures made { result ≡ record self { tcp = record self.tcp { ece = true } } }
     {
@@ -78,6 +84,7 @@ impl TcpStep {
     }
 
     /// Sets the flag CWR: that the congestion window was reduced (RFC 3168).
+    #[inline(always)]
     pub fn cwr(mut self) -> TcpStep
         ensures made { result ≡ record self { tcp = record self.tcp { cwr = true } } }
     {
@@ -86,6 +93,7 @@ impl TcpStep {
     }
 
     /// Sets the flag ACK and the number that the sender expects next.
+    #[inline(always)]
     pub fn ack(mut self, acknowledgment_number: u32) -> TcpStep
         ensures made { result ≡ record self {
           tcp = record self.tcp {
@@ -100,6 +108,7 @@ impl TcpStep {
     }
 
     /// Sets the flag URG and where urgent data ends.
+    #[inline(always)]
     pub fn urg(mut self, urgent_pointer: u16) -> TcpStep
         ensures made { result ≡ record self {
           tcp = record self.tcp {
@@ -169,6 +178,7 @@ impl TcpStep {
 
     /// The length of the packet with a payload of this length, in bytes. The payload has to be below
     /// 2^63 bytes.
+    #[inline(always)]
     pub fn size(&self, payload_size: usize) -> usize
         requires fits { payload_size < 2 ^ 63 }
         ensures value { result ≡
@@ -198,19 +208,14 @@ impl TcpStep {
         ensures unchanged { OnErr result (slice.new ≡ slice.old) }
     {
         let TcpStep { headers, tcp } = self;
-        let Headers { link, vlan, ip } = headers;
-        let ip = match ip.before(IpNumber::TCP, tcp.header_len() + payload.len()) {
-            Ok(ip) => ip,
-            Err(e) => return Err(BuildSliceWriteError::PayloadLen(e)),
-        };
-        let tcp = header_over(&ip, tcp, payload);
-        let headers = Headers { link, vlan, ip };
-        let bytes = tcp.to_bytes();
-        headers.write(bytes.as_slice(), payload, slice)
+        headers.check(tcp.header_len() + payload.len(), slice.len())?;
+        let tcp = header_over(&headers.ip, tcp, payload).to_bytes();
+        Ok(headers.write(IpNumber::TCP, tcp.as_slice(), payload, slice))
     }
 }
 
 // The header of a segment over this IP header.
+#[inline(always)]
 fn header_over(ip: &IpHeader, tcp: TcpHeader, payload: &[u8]) -> TcpHeader
     requires fits { tcp_header_len tcp + length payload.now ≤ 65535 }
     ensures made { IsTcpBefore ip.now tcp payload.now result }

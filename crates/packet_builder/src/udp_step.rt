@@ -27,6 +27,7 @@ impl UdpStep {
 
     /// The length of the packet with a payload of this length, in bytes. The payload has to be below
     /// 2^63 bytes.
+    #[inline(always)]
     pub fn size(&self, payload_size: usize) -> usize
         requires fits { payload_size < 2 ^ 63 }
         ensures value { result ≡ headers_len self.now.headers + (8 + payload_size) }
@@ -54,18 +55,16 @@ impl UdpStep {
             (RefusesToWrite self.headers (8 + length payload.now) (length slice.old)) }
         ensures unchanged { OnErr result (slice.new ≡ slice.old) }
     {
-        let Headers { link, vlan, ip } = self.headers;
-        let ip = match ip.before(IpNumber::UDP, UdpHeader::LEN + payload.len()) {
-            Ok(ip) => ip,
-            Err(e) => return Err(BuildSliceWriteError::PayloadLen(e)),
-        };
-        let udp = header_over(&ip, self.source_port, self.destination_port, payload);
-        let headers = Headers { link, vlan, ip };
-        headers.write(&udp.to_bytes(), payload, slice)
+        let len = UdpHeader::LEN + payload.len();
+        self.headers.check(len, slice.len())?;
+        let ip = &self.headers.ip;
+        let udp = header_over(ip, self.source_port, self.destination_port, payload).to_bytes();
+        Ok(self.headers.write(IpNumber::UDP, &udp, payload, slice))
     }
 }
 
 // The header of a datagram over this IP header.
+#[inline(always)]
 fn header_over(ip: &IpHeader, source_port: u16, destination_port: u16, payload: &[u8]) -> UdpHeader
     requires fits { 8 + length payload.now < 2 ^ 16 }
     ensures made { IsUdpBefore ip.now source_port destination_port payload.now result }

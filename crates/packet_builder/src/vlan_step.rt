@@ -19,6 +19,7 @@ impl VlanStep {
     ghost use Rattle.packet_builder.specs.Steps.{ip_step, ipv4_header, ipv6_header};
 
     /// Adds an IPv4 header without options, between these addresses.
+    #[inline(always)]
     pub fn ipv4(self, source: [u8; 4], destination: [u8; 4], time_to_live: u8) -> IpStep
         ensures made { result ≡
             ip_step (Some self.link) (Some self.vlan) (ipv4_header source destination time_to_live) }
@@ -27,6 +28,7 @@ impl VlanStep {
     }
 
     /// Adds an IPv6 header between these addresses.
+    #[inline(always)]
     pub fn ipv6(self, source: [u8; 16], destination: [u8; 16], hop_limit: u8) -> IpStep
         ensures made { result ≡
             ip_step (Some self.link) (Some self.vlan) (ipv6_header source destination hop_limit) }
@@ -35,6 +37,7 @@ impl VlanStep {
     }
 
     /// Adds an ARP packet, which ends the packet.
+    #[inline(always)]
     pub fn arp(self, arp: ArpPacket) -> ArpStep
         ensures made { result ≡ record { link = self.link; vlan = Some self.vlan; arp = arp } }
     {
@@ -46,6 +49,7 @@ impl VlanStep {
     }
 
     /// Adds this IP header.
+    #[inline(always)]
     pub fn ip(self, ip: IpHeader) -> IpStep
         ensures made { result ≡ ip_step (Some self.link) (Some self.vlan) ip }
     {

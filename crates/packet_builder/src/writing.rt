@@ -2,15 +2,18 @@
 //! after its part.
 
 ghost use Rattle.std.specs.Prelude.{◌≡◌, ◌+◌, ◌≤◌, length};
+ghost use Rattle.etherparse.specs.Ipv4Header.{IsIpv4LayoutWith, ipv4_header_len};
 ghost use Rattle.packet_builder.specs.BuiltPacket.{AreTags, IsIp, IsLink, IsTag, ip_len, link_len};
 ghost use Rattle.packet_builder.specs.BuiltPacket.{AreLinkHeaders, AreTwoTags};
 ghost use Rattle.packet_builder.specs.BuiltPacket.{first_ether_type, tags_len};
 ghost use Rattle.packet_builder.specs.Writing.{WritesPart};
 
 use crate::headers::{IpHeader, LinkHeader, VlanHeader};
+use etherparse::Ipv4Header;
 use etherparse_link::{EtherType, Ethernet2Header, LinuxSllHeader, SingleVlanHeader};
 
 // These bytes.
+#[inline(always)]
 pub(crate) fn put(part: &[u8], at: usize, out: &mut [u8]) -> usize
     requires room { at + length part.now ≤ length out.old }
     ensures end { result ≡ at + length part.now }
@@ -22,6 +25,7 @@ pub(crate) fn put(part: &[u8], at: usize, out: &mut [u8]) -> usize
 }
 
 // A link header and tags before what has this EtherType, at the front.
+#[inline(always)]
 pub(crate) fn put_link_headers(
     link: &Option<LinkHeader>,
     vlan: &Option<VlanHeader>,
@@ -39,6 +43,7 @@ pub(crate) fn put_link_headers(
 }
 
 // The EtherType that stands before these tags, before a packet of an EtherType.
+#[inline(always)]
 fn first_ether_type(vlan: &Option<VlanHeader>, ether_type: EtherType) -> EtherType
     ensures value { result ≡ first_ether_type vlan.now ether_type }
 {
@@ -50,6 +55,7 @@ fn first_ether_type(vlan: &Option<VlanHeader>, ether_type: EtherType) -> EtherTy
 }
 
 // A link header that has this EtherType.
+#[inline(always)]
 fn put_link(link: &Option<LinkHeader>, ether_type: EtherType, at: usize, out: &mut [u8]) -> usize
     requires room { at + link_len link.now ≤ length out.old }
     ensures end { result ≡ at + link_len link.now }
@@ -75,6 +81,7 @@ fn put_link(link: &Option<LinkHeader>, ether_type: EtherType, at: usize, out: &m
 }
 
 // VLAN tags before what has this EtherType.
+#[inline(always)]
 fn put_tags(vlan: &Option<VlanHeader>, ether_type: EtherType, at: usize, out: &mut [u8]) -> usize
     requires room { at + tags_len vlan.now ≤ length out.old }
     ensures end { result ≡ at + tags_len vlan.now }
@@ -90,6 +97,7 @@ fn put_tags(vlan: &Option<VlanHeader>, ether_type: EtherType, at: usize, out: &m
 }
 
 // Two tags before what has this EtherType.
+#[inline(always)]
 fn put_two_tags(
     outer: &SingleVlanHeader,
     inner: &SingleVlanHeader,
@@ -107,6 +115,7 @@ fn put_two_tags(
 }
 
 // A tag before what has this EtherType.
+#[inline(always)]
 fn put_tag(tag: &SingleVlanHeader, ether_type: EtherType, at: usize, out: &mut [u8]) -> usize
     requires room { at + 4 ≤ length out.old }
     ensures end { result ≡ at + 4 }
@@ -117,13 +126,28 @@ fn put_tag(tag: &SingleVlanHeader, ether_type: EtherType, at: usize, out: &mut [
 }
 
 // An IP header.
+#[inline(always)]
 pub(crate) fn put_ip(ip: &IpHeader, at: usize, out: &mut [u8]) -> usize
     requires room { at + ip_len ip.now ≤ length out.old }
     ensures end { result ≡ at + ip_len ip.now }
     ensures writes { WritesPart (IsIp ip.now) at result out.old out.new }
 {
     match ip {
-        IpHeader::Ipv4(header) => put(&header.to_bytes(), at, out),
+        IpHeader::Ipv4(header) => put_ipv4(header, at, out),
         IpHeader::Ipv6(header) => put(&header.to_bytes(), at, out),
     }
+}
+
+// An IPv4 header. Most have no options: the compiler then knows the length, and stores the bytes
+// without a copy in between.
+#[inline(always)]
+fn put_ipv4(header: &Ipv4Header, at: usize, out: &mut [u8]) -> usize
+    requires room { at + ipv4_header_len header.now ≤ length out.old }
+    ensures end { result ≡ at + ipv4_header_len header.now }
+    ensures writes { WritesPart (IsIpv4LayoutWith header.now 0) at result out.old out.new }
+{
+    if header.options.is_empty() {
+        return put(&header.to_bytes()[..Ipv4Header::MIN_LEN], at, out);
+    }
+    put(&header.to_bytes(), at, out)
 }
