@@ -1,5 +1,5 @@
 -- Parts that are written one after the other.
-use Rattle.std.proofs.Common.{ℕ, ◌≡◌, ◌+◌, ◌-◌, ◌≤◌, ◌∙◌, Err, IfOk, List, Ok, Result, ◌++◌, ap, arith, drop, length, sym, take}
+use Rattle.std.proofs.Common.{ℕ, ◌≡◌, ◌+◌, ◌-◌, ◌≤◌, ◌∙◌, List, ◌++◌, ap, arith, drop, length, sym, take}
 use Rattle.std.proofs.lemmas.List.{append_assoc, drop-drop}
 use Rattle.packet_builder.specs.Writing.{WritesFront, WritesPart}
 
@@ -30,7 +30,5 @@ from_front {Q = Q} end old new w within such = record {
 }
 
 -- what is written is also something else
-pub weaker : {E : Type 0} {P Q : List ℕ → Type 0} (r : Result ℕ E) (old new : List ℕ) → IfOk r (λ end. WritesFront P end old new)
-    → ((p : List ℕ) → P p → Q p) → IfOk r (λ end. WritesFront Q end old new)
-weaker (Ok end) old new w such = record { front = such (take end new) w.front; within = w.within; after = w.after }
-weaker (Err e) old new w such = tt
+pub weaker : {P Q : List ℕ → Type 0} (end : ℕ) (old new : List ℕ) → WritesFront P end old new → ((p : List ℕ) → P p → Q p) → WritesFront Q end old new
+weaker end old new w such = record { front = such (take end new) w.front; within = w.within; after = w.after }

@@ -137,6 +137,11 @@ pub record HasHeaders (headers : Headers) (protocol : ℕ) (upper packet : List 
   pub is_ip : IsIpBefore headers.ip protocol (length upper) ip
   pub begins : BeginsWithHeaders (record headers { ip = ip }) upper packet
 
+-- the bytes with which a packet begins that has these headers and so many bytes of a protocol
+abbrev pub AreHeadersBefore : Headers → ℕ → ℕ → List ℕ → Type 0
+AreHeadersBefore headers protocol len bytes = (upper : List ℕ) → length upper ≡ len
+    → HasHeaders headers protocol upper (bytes ++ upper)
+
 -- the checksum of a UDP header and a payload between the addresses of an IP header
 abbrev pub IsUdpChecksumOver : IpHeader → UdpHeader → List ℕ → ℕ → Type 0
 IsUdpChecksumOver (ip.Ipv4 header) = IsUdpChecksumIpv4 header.source header.destination

@@ -5,7 +5,7 @@ ghost use Rattle.packet_builder.specs.BuiltPacket.{ether_type_of, link_len, tags
 ghost use Rattle.packet_builder.specs.Steps.{ipv4_header, ipv6_header};
 
 use crate::build_slice_write_error::BuildSliceWriteError;
-use crate::writing::{put, put_ip, put_link_headers};
+use crate::writing::{put_ip, put_link_headers};
 use etherparse::err::{ValueTooBigError, ValueType};
 use etherparse::{IpNumber, Ipv4Header, Ipv6Header};
 use etherparse_link::{EtherType, Ethernet2Header, LinuxSllHeader, SingleVlanHeader};
@@ -55,9 +55,10 @@ pub struct Headers {
 }
 
 impl Headers {
-    ghost use Rattle.std.specs.Prelude.{◌≡◌, ◌++◌, ◌≤◌, ◌↔◌, IfErr, IsOk, length};
-    ghost use Rattle.packet_builder.specs.BuiltPacket.{FitsInto, HasHeaders, RefusesToWrite, headers_len};
-    ghost use Rattle.packet_builder.specs.Writing.{WritesFront};
+    ghost use Rattle.std.specs.Prelude.{◌≡◌, ◌≤◌, ◌↔◌, IfErr, IfOk, IsOk, OnErr, OnOk, length};
+    ghost use Rattle.packet_builder.specs.BuiltPacket.{AreHeadersBefore, FitsInto, IsIpBefore};
+    ghost use Rattle.packet_builder.specs.BuiltPacket.{RefusesToWrite, headers_len};
+    ghost use Rattle.packet_builder.specs.Writing.{WritesPart};
 
     /// The length of the headers, in bytes.
     #[inline(always)]
@@ -72,9 +73,32 @@ impl Headers {
         link_headers_len(&self.link, &self.vlan) + ip
     }
 
+    // Writes the headers before this many bytes of a protocol, at the front of memory that has room
+    // for the whole packet. Returns their length. The IP header is now the one that is written.
+    #[inline(always)]
+    pub(crate) fn put(
+        &mut self,
+        protocol: IpNumber,
+        len: usize,
+        out: &mut [u8],
+    ) -> Result<usize, BuildSliceWriteError>
+        ensures accepted { IsOk result ↔ FitsInto self.old len (length out.old) }
+        ensures refused { IfErr result (RefusesToWrite self.old len (length out.old)) }
+        ensures unchanged { OnErr result (out.new ≡ out.old) }
+        ensures made { OnOk result (IsIpBefore self.old.ip protocol len self.new.ip) }
+        ensures end { IfOk result (λ at. at ≡ headers_len self.old) }
+        ensures writes { IfOk result (λ at.
+            WritesPart (AreHeadersBefore self.old protocol len) 0 at out.old out.new) }
+    {
+        self.check(len, out.len())?;
+        let at = put_link_headers(&self.link, &self.vlan, ether_type_of(&self.ip), out);
+        self.ip.set_before(protocol, len);
+        Ok(put_ip(&self.ip, at, out))
+    }
+
     // Whether a packet with this many bytes after its IP header can be written in this room.
     #[inline(always)]
-    pub(crate) fn check(&self, len: usize, room: usize) -> Result<(), BuildSliceWriteError>
+    fn check(&self, len: usize, room: usize) -> Result<(), BuildSliceWriteError>
         ensures accepted { IsOk result ↔ FitsInto self.now len room }
         ensures refused { IfErr result (RefusesToWrite self.now len room) }
     {
@@ -91,28 +115,6 @@ impl Headers {
             return Err(BuildSliceWriteError::Space(required_len));
         }
         Ok(())
-    }
-
-    // Writes the headers, and after them the parts of a protocol: a transport header and a payload.
-    // Returns the length of all.
-    #[inline(always)]
-    pub(crate) fn write(
-        self,
-        protocol: IpNumber,
-        transport: &[u8],
-        payload: &[u8],
-        out: &mut [u8],
-    ) -> usize
-        requires fits { FitsInto self (length (transport.now ++ payload.now)) (length out.old) }
-        ensures writes { WritesFront (HasHeaders self protocol (transport.now ++ payload.now))
-            result out.old out.new }
-    {
-        let Headers { link, vlan, ip } = self;
-        let at = put_link_headers(&link, &vlan, ether_type_of(&ip), out);
-        let ip = ip.before(protocol, transport.len() + payload.len());
-        let at = put_ip(&ip, at, out);
-        let at = put(transport, at, out);
-        put(payload, at, out)
     }
 }
 
@@ -143,23 +145,21 @@ impl IpHeader {
         }
     }
 
-    // The header before this many bytes of a protocol.
+    // Makes it the header before this many bytes of a protocol.
     #[inline(always)]
-    fn before(self, protocol: IpNumber, len: usize) -> IpHeader
-        requires counts { len ≤ max_len_after self }
-        ensures made { IsIpBefore self protocol len result }
+    fn set_before(&mut self, protocol: IpNumber, len: usize)
+        requires counts { len ≤ max_len_after self.old }
+        ensures made { IsIpBefore self.old protocol len self.new }
     {
         match self {
-            IpHeader::Ipv4(mut header) => {
+            IpHeader::Ipv4(header) => {
                 header.total_len = (header.header_len() + len) as u16;
                 header.protocol = protocol;
                 header.header_checksum = header.calc_header_checksum();
-                IpHeader::Ipv4(header)
             }
-            IpHeader::Ipv6(mut header) => {
+            IpHeader::Ipv6(header) => {
                 header.payload_length = len as u16;
                 header.next_header = protocol;
-                IpHeader::Ipv6(header)
             }
         }
     }

@@ -2,6 +2,7 @@
 
 use crate::build_slice_write_error::BuildSliceWriteError;
 use crate::headers::Headers;
+use crate::writing::put_upper;
 use etherparse::IpNumber;
 use etherparse_icmp::{Icmpv4Header, Icmpv4Type};
 
@@ -53,9 +54,16 @@ impl Icmpv4Step {
             (icmpv4_len self.icmp_type + length payload.now) (length slice.old)) }
         ensures unchanged { OnErr result (slice.new ≡ slice.old) }
     {
-        let Icmpv4Step { headers, icmp_type } = self;
-        headers.check(icmp_type.header_len() + payload.len(), slice.len())?;
+        let Icmpv4Step {
+            mut headers,
+            icmp_type,
+        } = self;
+        let at = headers.put(
+            IpNumber::ICMP,
+            icmp_type.header_len() + payload.len(),
+            slice,
+        )?;
         let icmp = Icmpv4Header::with_checksum(icmp_type, payload).to_bytes();
-        Ok(headers.write(IpNumber::ICMP, icmp.as_slice(), payload, slice))
+        Ok(put_upper(icmp.as_slice(), payload, at, slice))
     }
 }

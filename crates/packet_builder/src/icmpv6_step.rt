@@ -5,6 +5,7 @@ ghost use Rattle.etherparse_icmp.specs.Icmpv6Checksum.{IsIcmpv6Checksum};
 
 use crate::build_slice_write_error::BuildSliceWriteError;
 use crate::headers::{Headers, IpHeader};
+use crate::writing::put_upper;
 use etherparse::IpNumber;
 use etherparse_icmp::{Icmpv6Header, Icmpv6Type};
 
@@ -56,14 +57,21 @@ impl Icmpv6Step {
             (RefusesIcmpv6 self.headers (8 + length payload.now) (length slice.old)) }
         ensures unchanged { OnErr result (slice.new ≡ slice.old) }
     {
-        let Icmpv6Step { headers, icmp_type } = self;
+        let Icmpv6Step {
+            mut headers,
+            icmp_type,
+        } = self;
         let (source, destination) = match &headers.ip {
             IpHeader::Ipv4(_) => return Err(BuildSliceWriteError::Icmpv6InIpv4),
             IpHeader::Ipv6(ip) => (ip.source, ip.destination),
         };
-        headers.check(Icmpv6Header::LEN + payload.len(), slice.len())?;
-        let icmp = header_between(source, destination, icmp_type, payload).to_bytes();
-        Ok(headers.write(IpNumber::IPV6_ICMP, &icmp, payload, slice))
+        let at = headers.put(
+            IpNumber::IPV6_ICMP,
+            Icmpv6Header::LEN + payload.len(),
+            slice,
+        )?;
+        let icmp = header_between(source, destination, icmp_type, payload);
+        Ok(put_upper(&icmp.to_bytes(), payload, at, slice))
     }
 }
 

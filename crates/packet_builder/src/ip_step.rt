@@ -6,6 +6,7 @@ use crate::icmpv4_step::Icmpv4Step;
 use crate::icmpv6_step::Icmpv6Step;
 use crate::tcp_step::TcpStep;
 use crate::udp_step::UdpStep;
+use crate::writing::put;
 use etherparse::IpNumber;
 use etherparse_icmp::{IcmpEchoHeader, Icmpv4Type, Icmpv6Type};
 use etherparse_transport::TcpHeader;
@@ -238,7 +239,8 @@ impl IpStep {
             (RefusesToWrite self.headers (length payload.now) (length slice.old)) }
         ensures unchanged { OnErr result (slice.new ≡ slice.old) }
     {
-        self.headers.check(payload.len(), slice.len())?;
-        Ok(self.headers.write(protocol, &[], payload, slice))
+        let mut headers = self.headers;
+        let at = headers.put(protocol, payload.len(), slice)?;
+        Ok(put(payload, at, slice))
     }
 }

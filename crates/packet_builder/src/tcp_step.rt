@@ -6,6 +6,7 @@ ghost use Rattle.packet_builder.specs.BuiltPacket.{IsTcpBefore};
 
 use crate::build_slice_write_error::BuildSliceWriteError;
 use crate::headers::{Headers, IpHeader};
+use crate::writing::put_upper;
 use etherparse::IpNumber;
 use etherparse_transport::{TcpHeader, TcpOptionElement, TcpOptionWriteError};
 
@@ -207,10 +208,10 @@ impl TcpStep {
             (tcp_header_len self.tcp + length payload.now) (length slice.old)) }
         ensures unchanged { OnErr result (slice.new ≡ slice.old) }
     {
-        let TcpStep { headers, tcp } = self;
-        headers.check(tcp.header_len() + payload.len(), slice.len())?;
+        let TcpStep { mut headers, tcp } = self;
+        let at = headers.put(IpNumber::TCP, tcp.header_len() + payload.len(), slice)?;
         let tcp = header_over(&headers.ip, tcp, payload).to_bytes();
-        Ok(headers.write(IpNumber::TCP, tcp.as_slice(), payload, slice))
+        Ok(put_upper(tcp.as_slice(), payload, at, slice))
     }
 }
 

@@ -5,6 +5,7 @@ ghost use Rattle.packet_builder.specs.BuiltPacket.{IsUdpBefore};
 
 use crate::build_slice_write_error::BuildSliceWriteError;
 use crate::headers::{Headers, IpHeader};
+use crate::writing::put_upper;
 use etherparse::IpNumber;
 use etherparse_transport::UdpHeader;
 
@@ -55,11 +56,15 @@ impl UdpStep {
             (RefusesToWrite self.headers (8 + length payload.now) (length slice.old)) }
         ensures unchanged { OnErr result (slice.new ≡ slice.old) }
     {
-        let len = UdpHeader::LEN + payload.len();
-        self.headers.check(len, slice.len())?;
-        let ip = &self.headers.ip;
-        let udp = header_over(ip, self.source_port, self.destination_port, payload).to_bytes();
-        Ok(self.headers.write(IpNumber::UDP, &udp, payload, slice))
+        let mut headers = self.headers;
+        let at = headers.put(IpNumber::UDP, UdpHeader::LEN + payload.len(), slice)?;
+        let udp = header_over(
+            &headers.ip,
+            self.source_port,
+            self.destination_port,
+            payload,
+        );
+        Ok(put_upper(&udp.to_bytes(), payload, at, slice))
     }
 }
 

@@ -1,7 +1,7 @@
 //! The parts of a packet, written into memory one after the other. Each function returns the place
 //! after its part.
 
-ghost use Rattle.std.specs.Prelude.{◌≡◌, ◌+◌, ◌≤◌, length};
+ghost use Rattle.std.specs.Prelude.{◌≡◌, ◌+◌, ◌++◌, ◌≤◌, length};
 ghost use Rattle.etherparse.specs.Ipv4Header.{IsIpv4LayoutWith, ipv4_header_len};
 ghost use Rattle.packet_builder.specs.BuiltPacket.{AreTags, IsIp, IsLink, IsTag, ip_len, link_len};
 ghost use Rattle.packet_builder.specs.BuiltPacket.{AreLinkHeaders, AreTwoTags};
@@ -22,6 +22,18 @@ pub(crate) fn put(part: &[u8], at: usize, out: &mut [u8]) -> usize
     let end = at + part.len();
     out[at..end].copy_from_slice(part);
     end
+}
+
+// A transport header and a payload.
+#[inline(always)]
+pub(crate) fn put_upper(transport: &[u8], payload: &[u8], at: usize, out: &mut [u8]) -> usize
+    requires room { at + length (transport.now ++ payload.now) ≤ length out.old }
+    ensures end { result ≡ at + length (transport.now ++ payload.now) }
+    ensures writes { WritesPart (λ bytes. bytes ≡ transport.now ++ payload.now)
+        at result out.old out.new }
+{
+    let at = put(transport, at, out);
+    put(payload, at, out)
 }
 
 // A link header and tags before what has this EtherType, at the front.

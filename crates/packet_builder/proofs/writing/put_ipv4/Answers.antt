@@ -1,4 +1,4 @@
-use Rattle.std.proofs.Common.{◌≡◌, ◌≤◌, ap, arith, length, refl}
+use Rattle.std.proofs.Common.{◌≤◌, ap, arith, length, refl}
 use Rattle.std.proofs.lemmas.List.{length-take-le}
 use Rattle.packet_builder.proofs.writing.put_ipv4.Goals as goal
 
