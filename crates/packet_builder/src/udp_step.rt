@@ -43,6 +43,7 @@ impl UdpStep {
     ///
     /// `PayloadLen` if the IP header cannot count the bytes after it; otherwise `Space` if the slice
     /// is too short. Nothing is written.
+    #[inline(always)]
     pub fn write_to_slice(
         self,
         slice: &mut [u8],

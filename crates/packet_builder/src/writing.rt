@@ -161,5 +161,16 @@ fn put_ipv4(header: &Ipv4Header, at: usize, out: &mut [u8]) -> usize
     if header.options.is_empty() {
         return put(&header.to_bytes()[..Ipv4Header::MIN_LEN], at, out);
     }
+    put_ipv4_with_options(header.clone().unwrap(), at, out)
+}
+
+// The same of a header with options. It is not inlined, so that a header without them stays in
+// registers.
+#[inline(never)]
+fn put_ipv4_with_options(header: Ipv4Header, at: usize, out: &mut [u8]) -> usize
+    requires room { at + ipv4_header_len header ≤ length out.old }
+    ensures end { result ≡ at + ipv4_header_len header }
+    ensures writes { WritesPart (IsIpv4LayoutWith header 0) at result out.old out.new }
+{
     put(&header.to_bytes(), at, out)
 }
