@@ -23,6 +23,8 @@ KIT = pathlib.Path(shutil.which('rt')).resolve().parents[1]
 BODY = re.compile(r' *(\{|((pub(\(crate\))?|const|unsafe|extern "C") )*fn .*\{|\) (-> .* )?\{)$')
 FUNCTION = re.compile(r'\bfn (\w+)')
 PLACE = re.compile(r'note: \S+:\d+:\d+:|\S+:\d+:\d+: error')
+# A function that the checker did not prove, unless that is only since it calls such a function: it may call another body of its group.
+REFUSED = r'^fn %s::(\S+): (?:not proved|no proof)(?!: it calls [^;]*$)'
 # What the checker says where a proof names what the body took away: such a refusal tells nothing of the contract.
 NAMES = re.compile(r'(note: )?(\./)?proofs/.*(has no field|is not in scope|has no `|was not admitted)')
 
@@ -118,7 +120,7 @@ def why_failed(crate, bodies, whole, kept):
         tried = {it for body in bodies for it in read(body)[0]}
         ran = check(crate, f'{room}/crate', kept, tried)
     lines = ran.stdout.splitlines() or ['nothing']
-    refused = set(re.findall(rf'^fn {crate}::(\S+): (?:not proved|no proof)', ran.stdout, re.MULTILINE))
+    refused = set(re.findall(REFUSED % crate, ran.stdout, re.MULTILINE))
     found = {}
     for body in bodies:
         own = refused & set(read(body)[0])
