@@ -88,9 +88,13 @@ def groups(crate, bodies):
     apart, alone = [], []
     for body in bodies:
         functions, edits = read(body)
-        bodies_of = {(file, changed((CRATES / crate / file).read_text(), old)) for file, old, new in edits}
+        texts = {file: (CRATES / crate / file).read_text() for file, old, new in edits}
+        bodies_of = {(file, changed(texts[file], old)) for file, old, new in edits}
         _, found = min(bodies_of, key=str)
-        if len(bodies_of) > 1 or found is None or [found[0]] != [it.split('::')[-1] for it in functions]:
+        names = [it.split('::')[-1] for it in functions]
+        # (one that only adds a function changes no other)
+        adds = all(new.endswith(old) and not re.search(rf'\bfn {it}\b', texts[file]) for file, old, new in edits for it in names)
+        if not adds and (len(bodies_of) > 1 or found is None or [found[0]] != names):
             alone.append([body])
             continue
         group = next((it for it in apart if functions not in [read(other)[0] for other in it]), None)
