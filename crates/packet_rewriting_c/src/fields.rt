@@ -21,6 +21,7 @@ pub extern "C" fn etherparse_set_source_ipv4(packet: &mut [u8], source: &[u8; 4]
     ensures refused { result.error ≢ 0 →
         IsRefused (RefusesAddress 4 packet.old) rewrite_kind result.error }
     ensures unchanged { result.error ≢ 0 → packet.new ≡ packet.old }
+    ensures nothing { result.error ≢ 0 → result.reach ≡ 0 }
 {
     match set_source_ipv4(packet, *source) {
         Ok(reach) => ReachAnswer {
@@ -45,6 +46,7 @@ pub extern "C" fn etherparse_set_destination_ipv4(
     ensures refused { result.error ≢ 0 →
         IsRefused (RefusesAddress 4 packet.old) rewrite_kind result.error }
     ensures unchanged { result.error ≢ 0 → packet.new ≡ packet.old }
+    ensures nothing { result.error ≢ 0 → result.reach ≡ 0 }
 {
     match set_destination_ipv4(packet, *destination) {
         Ok(reach) => ReachAnswer {
@@ -66,6 +68,7 @@ pub extern "C" fn etherparse_set_source_ipv6(packet: &mut [u8], source: &[u8; 16
     ensures refused { result.error ≢ 0 →
         IsRefused (RefusesAddress 6 packet.old) rewrite_kind result.error }
     ensures unchanged { result.error ≢ 0 → packet.new ≡ packet.old }
+    ensures nothing { result.error ≢ 0 → result.reach ≡ 0 }
 {
     match set_source_ipv6(packet, *source) {
         Ok(reach) => ReachAnswer {
@@ -90,6 +93,7 @@ pub extern "C" fn etherparse_set_destination_ipv6(
     ensures refused { result.error ≢ 0 →
         IsRefused (RefusesAddress 6 packet.old) rewrite_kind result.error }
     ensures unchanged { result.error ≢ 0 → packet.new ≡ packet.old }
+    ensures nothing { result.error ≢ 0 → result.reach ≡ 0 }
 {
     match set_destination_ipv6(packet, *destination) {
         Ok(reach) => ReachAnswer {
