@@ -184,7 +184,7 @@ help_and_version() {
         code=$?
         for line in "Usage: $build [OPTIONS] [FILE] [EXPRESSION]..." '  -r <FILE>' '  -w <FILE>' \
             '  -c <N>' '      --count' '      --quiet' '  -n' '      --utc' '      --reassemble' '  -h, --help' '  -V, --version' \
-            'Link types: ' 'A line has these words:' '  ipcap trace.pcap '; do
+            'Link types: ' 'A line has these words:' '  ipcap trace.pcap ' '`checksum wrong`'; do
             if ! grep -q -F -e "$line" "$room/output"; then
                 fail "$word" "it does not say '$line'"
             else

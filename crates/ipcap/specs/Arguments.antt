@@ -1,13 +1,22 @@
 -- The words of the command line.
-use Rattle.std.specs.Prelude.{ℕ, ◌<◌, ◌⊎◌, ◌++◌, ◌∷◌, Bool, IsTrue, List, if◌then◌else◌, length}
-use Rattle.std.specs.Prelude.{take}
-use Rattle.std.specs.List.{list_all}
+use Rattle.std.specs.Prelude.{ℕ, ◌≡◌, ◌<◌, ◌^◌, ◌⊎◌, ◌++◌, ◌∷◌, Bool, IsTrue, List, [], codes, false}
+use Rattle.std.specs.Prelude.{None, Option, Some, if◌then◌else◌, length, map, option_map, take, true}
+use Rattle.std.specs.Prelude.{unwrap_or}
+use Rattle.std.specs.Borrow.{Bor}
+use Rattle.std.specs.List.{cons_option, list_all}
+use Rattle.std.specs.Option.{is_some}
+use Rattle.std.specs.Str.{bytes_eq}
+use Rattle.std.specs.Str.Parse.{IsNumeral, digits_value, without_leading_plus}
+use Rattle.clap.specs.Words.{found_of, first_value, matched_of, one_text, raw_values}
+use Rattle.clap.specs.declared.parser.matches.ArgMatches.{ArgMatches}
 use Rattle.packet_filter.specs.Language.{IsText, Refuses}
 use Rattle.packet_filter.specs.Meaning.{Expression}
 use Rattle.packet_filter.specs.Text.{is_space}
 use Rattle.packet_filter.specs.declared.expected.Expected.{Expected}
 use Rattle.packet_filter.specs.declared.reading.FilterError.{FilterError}
 use Rattle.packet_filter.specs.declared.reading.FilterError.TheVariants.{Unexpected}
+use Rattle.ipcap.specs.declared.request.Mode.{Mode}
+use Rattle.ipcap.specs.declared.request.Mode.TheVariants.{Count, Lines, Packets, Quiet}
 
 -- at this place the first word of an argument begins: only blanks stand before it
 abbrev pub IsFirst : List ℕ → ℕ → Type 0
@@ -33,3 +42,83 @@ BeginsExpression word = ((e : Expression) × IsText word e)
 -- a word after the words before it: a blank parts it from them
 abbrev pub joined : Bool → List ℕ → List ℕ → List ℕ
 joined has_begun text word = if has_begun then text ++ 32 ∷ word else text ++ word
+
+-- words with a blank before each; before the first one only if a word stands before it
+abbrev pub words_after : Bool → List (List ℕ) → List ℕ
+words_after has_begun [] = []
+words_after true (word ∷ words) = 32 ∷ word ++ words_after true words
+words_after false (word ∷ words) = word ++ words_after true words
+
+-- the texts that references point to
+abbrev pub texts_of : List (Bor (List ℕ)) → List (List ℕ)
+texts_of words = map (λ word. word.now) words
+
+-- an option without a value is given
+abbrev pub IsGiven : ArgMatches → List ℕ → Type 0
+IsGiven matches id = one_text (found_of matches) id ≡ Some (codes "true")
+
+-- it is not
+abbrev pub IsLeftOut : ArgMatches → List ℕ → Type 0
+IsLeftOut matches id = (one_text (found_of matches) id ≡ Some (codes "false"))
+    ⊎ (one_text (found_of matches) id ≡ None)
+
+-- an option with a value is given
+abbrev pub has_value : ArgMatches → List ℕ → Bool
+has_value matches id = is_some (matched_of (found_of matches) id)
+
+-- What is written: packets, if a file is given for them; or else how many there are, if that is
+-- asked for; or else the closing line alone; or else lines.
+pub record IsModeOf (matches : ArgMatches) (mode : Mode) : Type 0 where
+  pub packets : has_value matches (codes "write") ≡ true → mode ≡ Packets
+  pub count : has_value matches (codes "write") ≡ false → IsGiven matches (codes "count")
+      → mode ≡ Count
+  pub quiet : has_value matches (codes "write") ≡ false → IsLeftOut matches (codes "count")
+      → IsGiven matches (codes "quiet") → mode ≡ Quiet
+  pub lines : has_value matches (codes "write") ≡ false → IsLeftOut matches (codes "count")
+      → IsLeftOut matches (codes "quiet") → mode ≡ Lines
+
+-- the limit that a text says in decimal; none without a text
+abbrev pub IsLimit : Option (List ℕ) → Option ℕ → Type 0
+IsLimit None limit = limit ≡ None
+IsLimit (Some text) limit = IsNumeral 10 (without_leading_plus text)
+    → digits_value 10 (without_leading_plus text) < 2 ^ 64
+    → limit ≡ Some (digits_value 10 (without_leading_plus text))
+
+-- the text that a reference points to, if there is one
+abbrev pub text_of : Option (Bor (List ℕ)) → Option (List ℕ)
+text_of word = option_map (λ word. word.now) word
+
+-- `-` and no name stand for a standard stream
+abbrev pub is_standard : Option (List ℕ) → Bool
+is_standard None = true
+is_standard (Some name) = bytes_eq name (codes "-")
+
+-- Which file is read, by the value of `-r` and the first word that is no option, and which word the
+-- expression begins with: that word names the file if `-r` names none and no expression can begin
+-- with it.
+abbrev pub NamesInput : Option (List ℕ) → Option (List ℕ) → Option (List ℕ) → Option (List ℕ)
+    → Type 0
+NamesInput (Some name) first input word = (input ≡ Some name) × (word ≡ first)
+NamesInput None None input word = (input ≡ None) × (word ≡ None)
+NamesInput None (Some first) input word = (NamesFile first × (input ≡ Some first) × (word ≡ None))
+    ⊎ (BeginsExpression first × (input ≡ None) × (word ≡ Some first))
+
+-- the words after the first one
+abbrev pub other_words : ArgMatches → List (List ℕ)
+other_words matches =
+    unwrap_or (option_map raw_values (matched_of (found_of matches) (codes "EXPRESSION"))) []
+
+-- the file that is read, and the text of the expression
+pub record ReadsWords (matches : ArgMatches) (input : Option (List ℕ)) (text : List ℕ)
+    : Type 0 where
+  pub first : Option (List ℕ)
+  pub names : NamesInput (first_value (found_of matches) (codes "read"))
+      (first_value (found_of matches) (codes "FILE")) input first
+  pub is_text : text ≡ words_after false (cons_option first (other_words matches))
+
+-- the expression has more bytes than there is room for
+pub record HasLongText (matches : ArgMatches) : Type 0 where
+  pub input : Option (List ℕ)
+  pub text : List ℕ
+  pub reads : ReadsWords matches input text
+  pub long : 4096 < length text

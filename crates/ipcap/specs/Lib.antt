@@ -2,8 +2,10 @@ pub mod Arguments
 pub mod Dates
 pub mod Digits
 pub mod Ends
+pub mod Files
 pub mod Lines
 pub mod Listing
+pub mod Options
 pub mod Output
 pub mod Private
 pub mod Reading

@@ -1,7 +1,12 @@
 //! The command line: options, the file that is read, and the words of an expression.
 
-ghost use Rattle.std.specs.Prelude.{◌≡◌, ◌≤◌, ◌↔◌, IfOk, IsFalse, IsOk, IsTrue, OnOk, length, true};
-ghost use Rattle.ipcap.specs.Arguments.{BeginsExpression, NamesFile, joined};
+ghost use Rattle.std.specs.Prelude.{◌≡◌, ◌<◌, ◌≤◌, ◌++◌, ◌↔◌, IfOk, IsFalse, IsOk, IsTrue, OnErr, OnOk};
+ghost use Rattle.std.specs.Prelude.{codes, length, true};
+ghost use Rattle.clap.specs.Words.{app_of, first_value, found_of, one_text};
+ghost use Rattle.ipcap.specs.Arguments.{BeginsExpression, HasLongText, IsGiven, IsLeftOut, IsLimit};
+ghost use Rattle.ipcap.specs.Arguments.{IsModeOf, NamesFile, NamesInput, ReadsWords, joined};
+ghost use Rattle.ipcap.specs.Arguments.{text_of, texts_of, words_after};
+ghost use Rattle.ipcap.specs.Options.{app_with, exclusions, exclusions_of, options};
 
 use crate::request::{Mode, is_space};
 use arrayvec::ArrayVec;
@@ -44,7 +49,8 @@ pub struct TooLong;
 const AFTER_HELP: &str = "\
 FILE is read, a capture in the classic format or in pcapng; `-` and none are standard input. It is
 the first word that is no option, unless an expression can begin with it (then `-r FILE` names the
-file). EXPRESSION chooses packets, in the words of pcap-filter(7): `tcp port 80 or udp port 53`.
+file). EXPRESSION chooses packets, in the words of pcap-filter(7): `tcp port 80 or udp port 53`; and
+by `fragment`, `first fragment` or `checksum wrong`.
 
 Link types: 0 (BSD loopback), 1 (Ethernet), 8 (SLIP), 9 and 50 (PPP), 12, 14, 101, 228 and 229
 (raw IP), 104 (Cisco HDLC), 105 and 127 (802.11), 107 (frame relay), 108 (OpenBSD loopback), 113
@@ -66,7 +72,10 @@ Exit status: 0 done, 1 the capture is cut off or a block of it is refused, 2 it 
 read or a write failed.";
 
 /// The options and the words that there are.
-pub fn command<'a>(alloc: Global) -> Result<Command<'a>, AllocError> {
+pub fn command<'a>(alloc: Global) -> Result<Command<'a>, AllocError>
+    ensures options { IfOk result (λ command. app_of command ≡ app_with options) }
+    ensures exclude { IfOk result (λ command. exclusions_of command ≡ exclusions) }
+{
     let read = Arg::new(alloc, "read").short('r').value_name("FILE");
     let write = Arg::new(alloc, "write").short('w').value_name("FILE");
     let limit = Arg::new(alloc, "limit").short('c').value_name("N");
@@ -125,33 +134,47 @@ pub fn command<'a>(alloc: Global) -> Result<Command<'a>, AllocError> {
 
 impl<'a> Arguments<'a> {
     /// What the matches of a command line say.
-    pub fn from_matches(matches: &ArgMatches<'a>) -> Result<Arguments<'a>, TooLong> {
-        let mut arguments = Arguments {
+    pub fn from_matches(matches: &ArgMatches<'a>) -> Result<Arguments<'a>, TooLong>
+        ensures mode { IfOk result (λ a. IsModeOf matches.now a.mode) }
+        ensures utc { IfOk result (λ a. (IsGiven matches.now (codes "utc") → IsTrue a.is_utc)
+            × (IsLeftOut matches.now (codes "utc") → IsFalse a.is_utc)) }
+        ensures reassembles { IfOk result (λ a.
+            (IsGiven matches.now (codes "reassemble") → IsTrue a.reassembles)
+            × (IsLeftOut matches.now (codes "reassemble") → IsFalse a.reassembles)) }
+        ensures limit { IfOk result (λ a.
+            IsLimit (one_text (found_of matches.now) (codes "limit")) a.limit) }
+        ensures output { IfOk result (λ a.
+            text_of a.output ≡ first_value (found_of matches.now) (codes "write")) }
+        ensures input { IfOk result (λ a. ReadsWords matches.now (text_of a.input) a.text.items) }
+        ensures long { OnErr result (HasLongText matches.now) }
+    {
+        let (input, first) = file_or_word(matches.get_str("read"), matches.get_str("FILE"));
+        let mut text = Text::new();
+        let has_begun = match first {
+            Some(word) => join(&mut text, false, word.as_bytes())?,
+            None => false,
+        };
+        join_all(
+            &mut text,
+            has_begun,
+            matches.get_strs("EXPRESSION").unwrap_or(&[]),
+        )?;
+        Ok(Arguments {
             mode: mode_of(matches),
             is_utc: matches.get_flag("utc"),
             reassembles: matches.get_flag("reassemble"),
             limit: matches.get_one::<u64>("limit"),
-            input: matches.get_str("read"),
+            input,
             output: matches.get_str("write"),
-            text: Text::new(),
-        };
-        let first = matches.get_str("FILE");
-        let file = first.filter(|word| arguments.input.is_none() && names_file(word.as_bytes()));
-        let mut has_begun = false;
-        if file.is_some() {
-            arguments.input = file;
-        } else if let Some(word) = first {
-            has_begun = join(&mut arguments.text, false, word.as_bytes())?;
-        }
-        for word in matches.get_strs("EXPRESSION").unwrap_or(&[]) {
-            has_begun = join(&mut arguments.text, has_begun, word.as_bytes())?;
-        }
-        Ok(arguments)
+            text,
+        })
     }
 }
 
 // What is written of the records that are listed.
-fn mode_of(matches: &ArgMatches) -> Mode {
+fn mode_of(matches: &ArgMatches) -> Mode
+    ensures mode { IsModeOf matches.now result }
+{
     if matches.contains_id("write") {
         Mode::Packets
     } else if matches.get_flag("count") {
@@ -160,6 +183,24 @@ fn mode_of(matches: &ArgMatches) -> Mode {
         Mode::Quiet
     } else {
         Mode::Lines
+    }
+}
+
+// The file that is read, and the word that the expression begins with.
+fn file_or_word<'a>(
+    named: Option<&'a str>,
+    first: Option<&'a str>,
+) -> (Option<&'a str>, Option<&'a str>)
+    ensures names { NamesInput (text_of named.entry) (text_of first.entry) (text_of result.0)
+        (text_of result.1) }
+{
+    if named.is_some() {
+        return (named, first);
+    }
+    match first {
+        Some(word) if names_file(word.as_bytes()) => (first, None),
+        Some(_) => (None, first),
+        None => (None, None),
     }
 }
 
@@ -174,6 +215,20 @@ fn names_file(word: &[u8]) -> bool
         }
         _ => false,
     }
+}
+
+// Adds words to a text, after a blank each, but for the first one if no word stands before it.
+fn join_all(text: &mut Text, has_begun: bool, words: &[&str]) -> Result<(), TooLong>
+    ensures joins { OnOk result (text.new.items
+        ≡ text.old.items ++ words_after has_begun (texts_of words.now)) }
+    ensures long { OnErr result (TEXT_ROOM < length (text.old.items
+        ++ words_after has_begun (texts_of words.now))) }
+{
+    let mut has_begun = has_begun;
+    for word in words {
+        has_begun = join(text, has_begun, word.as_bytes())?;
+    }
+    Ok(())
 }
 
 // Adds a word to a text, after a blank unless it is the first; whether there is room for it.

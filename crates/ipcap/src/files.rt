@@ -1,5 +1,9 @@
 //! What is read from and written to: a file, or a standard stream.
 
+ghost use Rattle.std.specs.Prelude.{◌≡◌, IfOk, IsOk, IsTrue};
+ghost use Rattle.ipcap.specs.Arguments.{is_standard, text_of};
+ghost use Rattle.ipcap.specs.Files.{reads_standard, writes_standard};
+
 use std::fs::File;
 use std::io;
 use std::io::{Read, Stdin, Stdout, Write};
@@ -19,7 +23,11 @@ impl Reader {
     /// # Errors
     ///
     /// The system's reason why the file cannot be opened.
-    pub fn open(rt: &HostRuntime, name: Option<&str>) -> io::Result<Reader> {
+    pub fn open(rt: &HostRuntime, name: Option<&str>) -> io::Result<Reader>
+        ensures standard { IsTrue (is_standard (text_of name.entry)) → IsOk result }
+        ensures stream { IfOk result (λ reader.
+            reads_standard reader ≡ is_standard (text_of name.entry)) }
+    {
         match name {
             None | Some("-") => Ok(Reader::Standard(rt.stdin())),
             Some(name) => Ok(Reader::File(File::open(rt, name)?)),
@@ -51,7 +59,11 @@ impl Writer {
     /// # Errors
     ///
     /// The system's reason why the file cannot be made.
-    pub fn create(rt: &HostRuntime, name: Option<&str>) -> io::Result<Writer> {
+    pub fn create(rt: &HostRuntime, name: Option<&str>) -> io::Result<Writer>
+        ensures standard { IsTrue (is_standard (text_of name.entry)) → IsOk result }
+        ensures stream { IfOk result (λ writer.
+            writes_standard writer ≡ is_standard (text_of name.entry)) }
+    {
         match name {
             None | Some("-") => Ok(Writer::Standard(rt.stdout())),
             Some(name) => Ok(Writer::File(File::create(rt, name)?)),

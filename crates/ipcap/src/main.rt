@@ -43,6 +43,8 @@ const REFUSED: u8 = 2;
 // The exit status if a read or a write failed.
 const FAILED: u8 = 3;
 
+const _: () = prove!(REFUSED == 2 && FAILED == 3);
+
 fn main(rt: HostRuntime) -> ExitCode {
     let code = match start(&rt) {
         Ok(code) => code,

@@ -1,0 +1,50 @@
+-- The options that there are, as the crate `clap` has them.
+use Rattle.std.specs.Prelude.{ℕ, List, [], ◌∷◌, Some, codes, false, map, true}
+use Rattle.clap.specs.Lexer.{usize_max}
+use Rattle.clap.specs.Simple.{new_shape}
+use Rattle.clap.specs.Words.{App, Rule, args_of, new_app, new_rule}
+use Rattle.clap.specs.declared.builder.action.ArgAction.TheVariants.{Append, SetTrue}
+use Rattle.clap.specs.declared.builder.action.ArgAction.TheVariants as action
+use Rattle.clap.specs.declared.builder.command.Command.{Command}
+use Rattle.clap.specs.declared.builder.value_parser.ValueParser.TheVariants.{Unsigned}
+use Rattle.ipcap.specs.Arguments.{texts_of}
+
+-- an option without a value, by its long name
+abbrev pub flag : List ℕ → Rule
+flag name = record (new_rule name) { long = Some name; action = Some SetTrue }
+
+-- an option with a value, by its letter
+abbrev pub option_with_value : List ℕ → ℕ → Rule
+option_with_value id letter = record (new_rule id) { short = Some letter; value_names = 1 }
+
+-- one that excludes others
+abbrev pub excluding : Rule → Rule
+excluding rule = record rule { is_free = false }
+
+-- the options, and the words that are none: one, and any number after it
+abbrev pub options : List Rule
+options = option_with_value (codes "read") 114 ∷ option_with_value (codes "write") 119
+    ∷ record (option_with_value (codes "limit") 99) {
+      parser = Some (Unsigned 1 18446744073709551615);
+    }
+    ∷ excluding (flag (codes "count")) ∷ excluding (flag (codes "quiet"))
+    ∷ record (new_rule (codes "numbers")) { short = Some 110; action = Some action.Count }
+    ∷ flag (codes "utc") ∷ excluding (flag (codes "reassemble")) ∷ new_rule (codes "FILE")
+    ∷ record (new_rule (codes "EXPRESSION")) {
+      action = Some Append;
+      range = Some (record { start_inclusive = 0; end_inclusive = usize_max });
+    }
+    ∷ []
+
+abbrev pub app_with : List Rule → App
+app_with rules = record (new_app (codes "ipcap")) {
+  top = record (new_shape (codes "ipcap")) { rules = rules; has_version = true };
+}
+
+-- which others each of them excludes
+abbrev pub exclusions_of : Command → List (List (List ℕ))
+exclusions_of command = map (λ arg. texts_of arg.conflicts.items) (args_of command)
+
+abbrev pub exclusions : List (List (List ℕ))
+exclusions = [] ∷ [] ∷ [] ∷ (codes "write" ∷ []) ∷ (codes "count" ∷ codes "write" ∷ []) ∷ [] ∷ []
+    ∷ (codes "write" ∷ []) ∷ [] ∷ [] ∷ []
