@@ -1,4 +1,4 @@
-use Rattle.std.proofs.Common.{rules as known, tests, arith, length, ◌==◌, ◌≡◌, ◌∙◌, ◌&&◌, ap, ap₂, refl, codes, true, false, not, ℕ, Bool, List, [], ◌∷◌, ◌++◌, Option, Some, None, Bor, map}
+use Rattle.std.proofs.Common.{rules as known, tests, arith, length, ◌==◌, ◌≡◌, ◌∙◌, ap, ap₂, refl, codes, true, false, ℕ, List, [], ◌∷◌, ◌++◌, Option, Some, None, Bor, map}
 use Rattle.std.proofs.lemmas.Bool.{ne_eqb}
 use Rattle.std.proofs.lemmas.List.{map-append}
 use Rattle.std.proofs.lemmas.Result.{IfOk-weaker}
@@ -11,10 +11,7 @@ use Rattle.std.specs.Option.{IsSomeAnd}
 use Rattle.clap.specs.Walk.{is_simple_arg}
 use Rattle.clap.specs.declared.builder.command.Command.{Command}
 use Rattle.clap.specs.declared.builder.command.Command.TheOpen.{Command-F}
-use Rattle.clap.specs.declared.builder.command.Command.TheViews.{out-Command}
-use Rattle.clap.specs.Words.{App, Rule, app_of, args_of, new_app, new_rule, rule_of, with_rule}
-use Rattle.clap.specs.Texts.{items_of}
-use Rattle.clap.specs.declared.builder.action.ArgAction.{ArgAction}
+use Rattle.clap.specs.Words.{App, Rule, app_of, args_of, new_rule, rule_of, with_rule}
 use Rattle.clap.specs.declared.builder.action.ArgAction.TheVariants.{Append, SetTrue}
 use Rattle.clap.specs.declared.builder.action.ArgAction.TheVariants as action
 use Rattle.clap.specs.declared.builder.arg.Arg.{Arg}
@@ -22,7 +19,7 @@ use Rattle.clap.specs.declared.builder.texts.Texts.TheVariants.{One}
 use Rattle.clap.specs.declared.builder.value_parser.ValueParser.{ValueParser}
 use Rattle.clap.specs.declared.builder.value_parser.ValueParser.TheVariants.{Unsigned}
 use Rattle.ipcap.specs.Arguments.{texts_of}
-use Rattle.ipcap.specs.Options.{app_with, excluding, exclusions_of, flag, option_with_value, options}
+use Rattle.ipcap.specs.Options.{app_with, excluding, exclusions_of, flag, option_with_value}
 use Rattle.ipcap.proofs.arguments.command.Goals as goal
 
 -- an option with a value

@@ -1,7 +1,7 @@
-use Rattle.std.proofs.Common.{rules, refl, ◌≡◌, ◌≤◌, ◌<◌, ◌++◌, ℕ, List, Some, arith, length, length-append, false, true}
+use Rattle.std.proofs.Common.{rules, refl, ◌≡◌, ◌≤◌, Some, arith, length, length-append, false, true}
 use Rattle.std.specs.List.{cons_option}
 use Rattle.std.proofs.lemmas.Result.{err_from_is_err_and}
-use Rattle.ipcap.specs.Arguments.{HasLongText, NamesInput, ReadsWords, other_words, text_of, words_after}
+use Rattle.ipcap.specs.Arguments.{other_words, text_of, words_after}
 use Rattle.ipcap.proofs.arguments.Arguments.from_matches.Goals as goal
 
 false_is : ¬ (false ≡ true)
