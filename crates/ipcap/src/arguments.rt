@@ -41,7 +41,7 @@ pub struct Arguments<'a> {
     pub text: Text,
 }
 
-/// The expression has more bytes than there is room for.
+/// The expression has more than 4096 bytes.
 #[derive(Clone, Copy)]
 pub struct TooLong;
 
@@ -72,6 +72,10 @@ Exit status: 0 done, 1 the capture is cut off or a block of it is refused, 2 it 
 read or a write failed.";
 
 /// The options and the words that there are.
+///
+/// # Errors
+///
+/// An `AllocError` if there is no memory for them.
 pub fn command<'a>(alloc: Global) -> Result<Command<'a>, AllocError>
     ensures options { IfOk result (λ command. app_of command ≡ app_with options) }
     ensures exclude { IfOk result (λ command. exclusions_of command ≡ exclusions) }
@@ -134,6 +138,10 @@ pub fn command<'a>(alloc: Global) -> Result<Command<'a>, AllocError>
 
 impl<'a> Arguments<'a> {
     /// What the matches of a command line say.
+    ///
+    /// # Errors
+    ///
+    /// `TooLong` if the expression has more than 4096 bytes.
     pub fn from_matches(matches: &ArgMatches<'a>) -> Result<Arguments<'a>, TooLong>
         ensures mode { IfOk result (λ a. IsModeOf matches.now a.mode) }
         ensures utc { IfOk result (λ a. (IsGiven matches.now (codes "utc") → IsTrue a.is_utc)
