@@ -1,8 +1,9 @@
 //! What a run reads from and writes to, and whether one of their calls has failed.
 
 ghost use Rattle.std.specs.Prelude.{◌≡◌, ◌<◌, ◌⊎◌, ℕ, List, [], IfOk, IfSome, Option, OnErr, OnOk};
-ghost use Rattle.std.specs.Prelude.{IsSome, None, length};
+ghost use Rattle.std.specs.Prelude.{IfErr, IsSome, None, Some, length};
 ghost use Rattle.std.specs.Io.{ReadsAtMost, WritesAtMost};
+ghost use Rattle.std.specs.declared.io.Error.{Error};
 ghost use Rattle.std.specs.Io.KnownBytes.{Keeps, ReadConsumes, WriteAppends};
 
 use arrayvec::ArrayString;
@@ -27,11 +28,15 @@ pub trait Source {
     // A read has failed.
     ghost has_failed: { Self → Type 0 };
 
+    // Why the last read that failed did so.
+    ghost why_failed: { Self → Option Error };
+
     /// Reads once, as `Read::read` does.
     fn read(&mut self, buf: &mut [u8]) -> io::Result<usize>
         ensures bound { ReadsAtMost result buf.new }
         ensures bytes { ReadConsumes (remaining self.old) (remaining self.new) result buf.new }
         ensures failed { OnErr result (has_failed self.new) }
+        ensures why { IfErr result (λ e. why_failed self.new ≡ Some e) }
         ensures unfailed { OnOk result (has_failed self.new → has_failed self.old) };
 }
 
@@ -43,19 +48,24 @@ pub trait Sink {
     // A write has failed, or `write!` could not write a line to an empty `Line`.
     ghost has_failed: { Self → Type 0 };
 
+    // Why the last of these calls that failed did so.
+    ghost why_failed: { Self → Option Error };
+
     /// Writes once, as `Write::write` does, but takes at least one byte if there are any.
     fn write(&mut self, bytes: &[u8]) -> io::Result<usize>
         ensures bound { WritesAtMost result bytes.now }
         ensures bytes { WriteAppends (contents self.old) (contents self.new) result bytes.now }
         ensures some { IfOk result (λ n. 0 < length bytes.now → 0 < n) }
-        ensures failed { OnErr result (has_failed self.new) };
+        ensures failed { OnErr result (has_failed self.new) }
+        ensures why { IfErr result (λ e. why_failed self.new ≡ Some e) };
 
     /// Writes a text to an empty line, as `write!` does. What the sink holds stays as it is.
     fn format<D: Display + Drop>(&mut self, text: D, line: &mut Line) -> io::Result<()>
         requires empty { line.old.bytes ≡ [] }
         ensures text { OnOk result (IfSome (D.output text) (λ bytes. line.new.bytes ≡ bytes)) }
         ensures kept { Keeps (contents self.old) (contents self.new) }
-        ensures failed { OnErr result (has_failed self.new) };
+        ensures failed { OnErr result (has_failed self.new) }
+        ensures why { IfErr result (λ e. why_failed self.new ≡ Some e) };
 }
 
 /// A reader or a writer, and why one of its calls has failed.
@@ -89,6 +99,8 @@ impl<R: Read> Source for Watched<R> {
 
     ghost has_failed = { λ watched. IsSome watched.failure };
 
+    ghost why_failed = { λ watched. watched.failure };
+
     fn read(&mut self, buf: &mut [u8]) -> io::Result<usize> {
         match self.inner.read(buf) {
             Ok(n) => Ok(n),
@@ -104,6 +116,8 @@ impl<W: Write> Sink for Watched<W> {
     ghost contents = { λ watched. W.contents watched.inner };
 
     ghost has_failed = { λ watched. IsSome watched.failure };
+
+    ghost why_failed = { λ watched. watched.failure };
 
     // A write that a signal interrupts is tried again, as in `write_all`.
     fn write(&mut self, bytes: &[u8]) -> io::Result<usize> {
