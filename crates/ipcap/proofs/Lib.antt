@@ -1,6 +1,7 @@
 mod Calendar
 mod Frames
 mod Fronts
+mod Options
 mod Outcomes
 mod Runs
 mod Taken

@@ -1,5 +1,5 @@
 -- The options that there are, as the crate `clap` has them.
-use Rattle.std.specs.Prelude.{ℕ, List, [], ◌∷◌, Some, codes, false, map, true}
+use Rattle.std.specs.Prelude.{ℕ, List, [], ◌∷◌, ◌++◌, Some, codes, false, map, true}
 use Rattle.clap.specs.Lexer.{usize_max}
 use Rattle.clap.specs.Simple.{new_shape}
 use Rattle.clap.specs.Words.{App, Rule, args_of, new_app, new_rule}
@@ -21,15 +21,19 @@ option_with_value id letter = record (new_rule id) { short = Some letter; value_
 abbrev pub excluding : Rule → Rule
 excluding rule = record rule { is_free = false }
 
--- the options, and the words that are none: one, and any number after it
-abbrev pub options : List Rule
-options = option_with_value (codes "read") 114 ∷ option_with_value (codes "write") 119
+-- the options without a value
+unfoldable pub flags : List Rule
+flags = excluding (flag (codes "count")) ∷ excluding (flag (codes "quiet"))
+    ∷ record (new_rule (codes "numbers")) { short = Some 110; action = Some action.Count }
+    ∷ flag (codes "utc") ∷ excluding (flag (codes "reassemble")) ∷ []
+
+-- all options, and the words that are none: one, and any number after it
+unfoldable pub options : List Rule
+options = (option_with_value (codes "read") 114 ∷ option_with_value (codes "write") 119
     ∷ record (option_with_value (codes "limit") 99) {
       parser = Some (Unsigned 1 18446744073709551615);
     }
-    ∷ excluding (flag (codes "count")) ∷ excluding (flag (codes "quiet"))
-    ∷ record (new_rule (codes "numbers")) { short = Some 110; action = Some action.Count }
-    ∷ flag (codes "utc") ∷ excluding (flag (codes "reassemble")) ∷ new_rule (codes "FILE")
+    ∷ []) ++ flags ++ new_rule (codes "FILE")
     ∷ record (new_rule (codes "EXPRESSION")) {
       action = Some Append;
       range = Some (record { start_inclusive = 0; end_inclusive = usize_max });
@@ -45,6 +49,9 @@ app_with rules = record (new_app (codes "ipcap")) {
 abbrev pub exclusions_of : Command → List (List (List ℕ))
 exclusions_of command = map (λ arg. texts_of arg.conflicts.items) (args_of command)
 
-abbrev pub exclusions : List (List (List ℕ))
-exclusions = [] ∷ [] ∷ [] ∷ (codes "write" ∷ []) ∷ (codes "count" ∷ codes "write" ∷ []) ∷ [] ∷ []
-    ∷ (codes "write" ∷ []) ∷ [] ∷ [] ∷ []
+unfoldable pub exclusions_of_flags : List (List (List ℕ))
+exclusions_of_flags = (codes "write" ∷ []) ∷ (codes "count" ∷ codes "write" ∷ []) ∷ [] ∷ []
+    ∷ (codes "write" ∷ []) ∷ []
+
+unfoldable pub exclusions : List (List (List ℕ))
+exclusions = ([] ∷ [] ∷ [] ∷ []) ++ exclusions_of_flags ++ [] ∷ [] ∷ []

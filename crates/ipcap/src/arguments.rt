@@ -1,12 +1,13 @@
 //! The command line: options, the file that is read, and the words of an expression.
 
 ghost use Rattle.std.specs.Prelude.{◌≡◌, ◌<◌, ◌≤◌, ◌++◌, ◌↔◌, IfOk, IsFalse, IsOk, IsTrue, OnErr, OnOk};
-ghost use Rattle.std.specs.Prelude.{codes, length, true};
-ghost use Rattle.clap.specs.Words.{app_of, first_value, found_of, one_text};
+ghost use Rattle.std.specs.Prelude.{List, [], codes, false, length, true};
+ghost use Rattle.clap.specs.Words.{Rule, app_of, first_value, found_of, one_text, rule_of};
 ghost use Rattle.ipcap.specs.Arguments.{BeginsExpression, HasLongText, IsGiven, IsLeftOut, IsLimit};
 ghost use Rattle.ipcap.specs.Arguments.{IsModeOf, NamesFile, NamesInput, ReadsWords, joined};
 ghost use Rattle.ipcap.specs.Arguments.{text_of, texts_of, words_after};
-ghost use Rattle.ipcap.specs.Options.{app_with, exclusions, exclusions_of, options};
+ghost use Rattle.ipcap.specs.Options.{app_with, exclusions, exclusions_of, exclusions_of_flags, flag};
+ghost use Rattle.ipcap.specs.Options.{flags, option_with_value, options};
 
 use crate::request::{Mode, is_space};
 use arrayvec::ArrayVec;
@@ -80,60 +81,105 @@ pub fn command<'a>(alloc: Global) -> Result<Command<'a>, AllocError>
     ensures options { IfOk result (λ command. app_of command ≡ app_with options) }
     ensures exclude { IfOk result (λ command. exclusions_of command ≡ exclusions) }
 {
-    let read = Arg::new(alloc, "read").short('r').value_name("FILE");
-    let write = Arg::new(alloc, "write").short('w').value_name("FILE");
-    let limit = Arg::new(alloc, "limit").short('c').value_name("N");
-    let count = Arg::new(alloc, "count").long("count");
-    let quiet = Arg::new(alloc, "quiet").long("quiet");
-    let numbers = Arg::new(alloc, "numbers").short('n');
-    Command::new(alloc, "ipcap")
+    let command = Command::new(alloc, "ipcap")
         .version("0.1.0")
         .about("Lists the packets of a capture.")
         .after_help(AFTER_HELP)
-        .arg(read.help("Read FILE; `-` is standard input"))?
-        .arg(write.help("Write the packets to FILE; `-` is standard output"))?
-        .arg(
-            limit
-                .value_parser(value_parser!(u64).range(1..))
-                .help("Stop after N packets that are listed"),
-        )?
-        .arg(
-            count
-                .action(ArgAction::SetTrue)
-                .conflicts_with("write")?
-                .help("Print how many packets match, and nothing else"),
-        )?
-        .arg(
-            quiet
-                .action(ArgAction::SetTrue)
-                .conflicts_with("count")?
-                .conflicts_with("write")?
-                .help("Print the closing line alone, to standard output"),
-        )?
-        .arg(
-            numbers
-                .action(ArgAction::Count)
-                .help("Changes nothing: addresses and ports are always numbers"),
-        )?
-        .arg(
-            Arg::new(alloc, "utc")
-                .long("utc")
-                .action(ArgAction::SetTrue)
-                .help("Print times as dates in UTC"),
-        )?
-        .arg(
-            Arg::new(alloc, "reassemble")
-                .long("reassemble")
-                .action(ArgAction::SetTrue)
-                .conflicts_with("write")?
-                .help("Put packets together of their fragments"),
-        )?
+        .arg(with_value(
+            alloc,
+            "read",
+            'r',
+            "FILE",
+            "Read FILE; `-` is standard input",
+        ))?
+        .arg(with_value(
+            alloc,
+            "write",
+            'w',
+            "FILE",
+            "Write the packets to FILE; `-` is standard output",
+        ))?
+        .arg(with_value(
+            alloc,
+            "limit",
+            'c',
+            "N",
+            "Stop after N packets that are listed",
+        )
+        .value_parser(value_parser!(u64).range(1..)))?;
+    with_flags(alloc, command)?
         .arg(Arg::new(alloc, "FILE"))?
         .arg(
             Arg::new(alloc, "EXPRESSION")
                 .action(ArgAction::Append)
                 .num_args(0..),
         )
+}
+
+// A command with the options without a value, too.
+fn with_flags<'a>(alloc: Global, command: Command<'a>) -> Result<Command<'a>, AllocError>
+    ensures options { IfOk result (λ after. (rules : List Rule) →
+        app_of command.entry ≡ app_with rules → app_of after ≡ app_with (rules ++ flags)) }
+    ensures exclude { IfOk result (λ after.
+        exclusions_of after ≡ exclusions_of command.entry ++ exclusions_of_flags) }
+{
+    command
+        .arg(flag(
+            alloc,
+            "count",
+            "Print how many packets match, and nothing else",
+        )
+        .conflicts_with("write")?)?
+        .arg(
+            flag(
+                alloc,
+                "quiet",
+                "Print the closing line alone, to standard output",
+            )
+            .conflicts_with("count")?
+            .conflicts_with("write")?,
+        )?
+        .arg(
+            Arg::new(alloc, "numbers")
+                .short('n')
+                .action(ArgAction::Count)
+                .help("Changes nothing: addresses and ports are always numbers"),
+        )?
+        .arg(flag(alloc, "utc", "Print times as dates in UTC"))?
+        .arg(flag(
+            alloc,
+            "reassemble",
+            "Put packets together of their fragments",
+        )
+        .conflicts_with("write")?)
+}
+
+// An option with a value, by its letter.
+fn with_value<'a>(
+    alloc: Global,
+    id: &'a str,
+    letter: char,
+    value: &'a str,
+    help: &'a str,
+) -> Arg<'a>
+    ensures rule { rule_of result ≡ option_with_value id.now letter }
+    ensures alone { result.conflicts.items ≡ [] }
+{
+    Arg::new(alloc, id)
+        .short(letter)
+        .value_name(value)
+        .help(help)
+}
+
+// An option without a value, by its long name.
+fn flag<'a>(alloc: Global, name: &'a str, help: &'a str) -> Arg<'a>
+    ensures rule { rule_of result ≡ flag name.now }
+    ensures alone { (result.conflicts.items ≡ []) × (result.exclusive ≡ false) }
+{
+    Arg::new(alloc, name)
+        .long(name)
+        .action(ArgAction::SetTrue)
+        .help(help)
 }
 
 impl<'a> Arguments<'a> {
