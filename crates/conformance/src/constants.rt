@@ -15,7 +15,7 @@ pub fn answer_const(name: &str, arguments: &mut Arguments, answer: &mut String) 
     match name {
         "fields" => write_fields(answer),
         "headers" => write_headers(answer),
-        "dscp" => write_code_points(answer),
+        "dscp" => write_named(&CODE_POINTS, answer),
         "known" => write_known_code_points(answer),
         "ipnum" => write_named(&IP_NUMBERS, answer),
         "ip_number" => write_named(&IP_NUMBER_NAMES, answer),
@@ -58,10 +58,6 @@ fn write_headers(answer: &mut String) -> Written {
         ("Ipv6Header::SERIALIZED_SIZE", Ipv6Header::SERIALIZED_SIZE),
     ];
     write_named(&lengths, answer)
-}
-
-fn write_code_points(answer: &mut String) -> Written {
-    write_named(&CODE_POINTS, answer)
 }
 
 fn write_known_code_points(answer: &mut String) -> Written {

@@ -1,7 +1,9 @@
 //! Extension headers and options of IP, by `etherparse_net`.
 
 use crate::arguments::Arguments;
-use crate::shown::{Bytes, Named, Show, Shown, Written, write_header, write_shown};
+use crate::shown::{
+    Bytes, Named, Plain, Show, Shown, Written, show_after, write_header, write_shown,
+};
 use arrayvec::ArrayVec;
 use etherparse::IpNumber;
 use etherparse_net::err::{
@@ -213,14 +215,12 @@ impl Shown for Ipv6RawExtHeaderSlice<'_> {
 impl Shown for Ipv6ExtensionSlice<'_> {
     fn show<W: fmt::Write>(&self, f: &mut fmt::Formatter<W>) -> fmt::Result {
         match self {
-            Ipv6ExtensionSlice::HopByHop(view) => write!(f, "hop_by_hop {}", Show(view)),
-            Ipv6ExtensionSlice::Routing(view) => write!(f, "routing {}", Show(view)),
-            Ipv6ExtensionSlice::Fragment(view) => {
-                write!(f, "fragment {}", Show(&view.to_header()))
-            }
-            Ipv6ExtensionSlice::Authentication(view) => write!(f, "authentication {}", Show(view)),
+            Ipv6ExtensionSlice::HopByHop(view) => show_after(f, "hop_by_hop ", view),
+            Ipv6ExtensionSlice::Routing(view) => show_after(f, "routing ", view),
+            Ipv6ExtensionSlice::Fragment(view) => show_after(f, "fragment ", &view.to_header()),
+            Ipv6ExtensionSlice::Authentication(view) => show_after(f, "authentication ", view),
             Ipv6ExtensionSlice::DestinationOptions(view) => {
-                write!(f, "destination_options {}", Show(view))
+                show_after(f, "destination_options ", view)
             }
             Ipv6ExtensionSlice::Other(number, view) => {
                 write!(f, "other number={} {}", number.0, Show(view))
@@ -257,32 +257,22 @@ impl Shown for Ipv6OptionSlice<'_> {
     }
 }
 
-impl Shown for Ipv4OptionError {
-    fn show<W: fmt::Write>(&self, f: &mut fmt::Formatter<W>) -> fmt::Result {
-        write!(f, "err {self:?}")
-    }
+impl Plain for Ipv4OptionError {
+    const WORDS: &'static str = "err ";
 }
 
-impl Shown for IncompleteOption {
-    fn show<W: fmt::Write>(&self, f: &mut fmt::Formatter<W>) -> fmt::Result {
-        write!(f, "err {self:?}")
-    }
+impl Plain for IncompleteOption {
+    const WORDS: &'static str = "err ";
 }
 
-impl Shown for OptionWriteError {
-    fn show<W: fmt::Write>(&self, f: &mut fmt::Formatter<W>) -> fmt::Result {
-        write!(f, "err {self:?}")
-    }
+impl Plain for OptionWriteError {
+    const WORDS: &'static str = "err ";
 }
 
-impl Shown for IcvLenError {
-    fn show<W: fmt::Write>(&self, f: &mut fmt::Formatter<W>) -> fmt::Result {
-        write!(f, "err {self:?}")
-    }
+impl Plain for IcvLenError {
+    const WORDS: &'static str = "err ";
 }
 
-impl Shown for ExtPayloadLenError {
-    fn show<W: fmt::Write>(&self, f: &mut fmt::Formatter<W>) -> fmt::Result {
-        write!(f, "err {self:?}")
-    }
+impl Plain for ExtPayloadLenError {
+    const WORDS: &'static str = "err ";
 }

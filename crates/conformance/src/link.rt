@@ -1,7 +1,7 @@
 //! Link headers and ARP packets, by `etherparse_link`.
 
 use crate::arguments::Arguments;
-use crate::shown::{Bytes, Named, Show, Shown, Written, write_header, write_shown};
+use crate::shown::{Bytes, Named, Plain, Show, Shown, Written, write_header, write_shown};
 use etherparse_link::err::arp::{ArpEthIpv4FromError, ArpNewError};
 use etherparse_link::err::double_vlan;
 use etherparse_link::{
@@ -218,14 +218,10 @@ impl Shown for ArpEthIpv4Packet {
     }
 }
 
-impl Shown for ArpEthIpv4FromError {
-    fn show<W: fmt::Write>(&self, f: &mut fmt::Formatter<W>) -> fmt::Result {
-        write!(f, "err {self:?}")
-    }
+impl Plain for ArpEthIpv4FromError {
+    const WORDS: &'static str = "err ";
 }
 
-impl Shown for ArpNewError {
-    fn show<W: fmt::Write>(&self, f: &mut fmt::Formatter<W>) -> fmt::Result {
-        write!(f, "err {self:?}")
-    }
+impl Plain for ArpNewError {
+    const WORDS: &'static str = "err ";
 }

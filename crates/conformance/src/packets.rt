@@ -1,7 +1,7 @@
 //! Packets of either version, taken apart by `packet_parts` and rewritten by `packet_rewriting`.
 
 use crate::arguments::Arguments;
-use crate::shown::{Bytes, Named, Show, Shown, Written, write_shown};
+use crate::shown::{Bytes, Named, Show, Shown, Written, show_after, write_shown};
 use etherparse::err::ipv6::HeaderSliceError;
 use etherparse::{IpNumber, Ipv4Header, Ipv6Header};
 use etherparse_net::Ipv6FragmentHeader;
@@ -77,21 +77,12 @@ impl Shown for IpSliceError {
             IpSliceError::UnexpectedVersion { version_number } => {
                 write!(f, "err version number={version_number}")
             }
-            IpSliceError::Ipv4Header(e) => show_part(f, "header", e),
-            IpSliceError::Ipv6Header(e) => show_part(f, "header", e),
-            IpSliceError::Packet(e) => show_part(f, "packet", e),
-            IpSliceError::Extensions(e) => show_part(f, "extensions", e),
+            IpSliceError::Ipv4Header(e) => show_after(f, "header=", e),
+            IpSliceError::Ipv6Header(e) => show_after(f, "header=", e),
+            IpSliceError::Packet(e) => show_after(f, "packet=", e),
+            IpSliceError::Extensions(e) => show_after(f, "extensions=", e),
         }
     }
-}
-
-// What is wrong with a part of a packet.
-fn show_part<E: Shown, W: fmt::Write>(
-    f: &mut fmt::Formatter<W>,
-    part: &str,
-    error: &E,
-) -> fmt::Result {
-    write!(f, "{part}={}", Show(error))
 }
 
 impl Shown for IpSlice<'_> {

@@ -67,6 +67,18 @@ pub trait Shown {
     fn show<W: fmt::Write>(&self, f: &mut fmt::Formatter<W>) -> fmt::Result;
 }
 
+/// A value whose `Debug` is what answers have, after some words.
+pub trait Plain: Debug {
+    /// What stands before it.
+    const WORDS: &'static str;
+}
+
+impl<T: Plain> Shown for T {
+    fn show<W: fmt::Write>(&self, f: &mut fmt::Formatter<W>) -> fmt::Result {
+        write!(f, "{}{self:?}", T::WORDS)
+    }
+}
+
 /// A value as an answer has it.
 #[derive(Drop)]
 pub struct Show<'a, T>(pub &'a T);
@@ -84,6 +96,15 @@ impl<T: Shown, E: Shown> Shown for Result<T, E> {
             Err(e) => e.show(f),
         }
     }
+}
+
+/// Shows a value after some words.
+pub fn show_after<T: Shown, W: fmt::Write>(
+    f: &mut fmt::Formatter<W>,
+    words: &str,
+    value: &T,
+) -> fmt::Result {
+    write!(f, "{words}{}", Show(value))
 }
 
 /// Bytes in lower-case hex digits, `-` for none.
@@ -151,16 +172,12 @@ impl Display for Comparison {
     }
 }
 
-impl Shown for u16 {
-    fn show<W: fmt::Write>(&self, f: &mut fmt::Formatter<W>) -> fmt::Result {
-        write!(f, "{self}")
-    }
+impl Plain for u16 {
+    const WORDS: &'static str = "";
 }
 
-impl Shown for usize {
-    fn show<W: fmt::Write>(&self, f: &mut fmt::Formatter<W>) -> fmt::Result {
-        write!(f, "{self}")
-    }
+impl Plain for usize {
+    const WORDS: &'static str = "";
 }
 
 impl Shown for LenError {

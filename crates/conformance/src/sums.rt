@@ -87,16 +87,16 @@ fn write_fold_u64(sum: u64, answer: &mut String) -> Written {
 
 /// `sum STEP ..` and `sum.eq STEP .. / STEP ..`: sums that are built step by step.
 pub fn answer_steps(name: &str, arguments: &mut Arguments, answer: &mut String) -> Written {
-    let sums = arguments.sums()?;
-    match (name, sums.as_slice()) {
-        ("", [sum]) => {
+    match name {
+        "" => {
+            let sum = arguments.sum(false);
             write_fold(
                 sum.ones_complement(),
                 sum.to_ones_complement_with_no_zero(),
                 answer,
             )
         }
-        ("eq", [first, second]) => write_equality(first == second, answer),
+        "eq" => write_equality(arguments.sum(true) == arguments.sum(false), answer),
         _ => arguments.refused(),
     }
 }

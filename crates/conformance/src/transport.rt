@@ -1,7 +1,7 @@
 //! UDP and TCP, by `etherparse_transport`.
 
 use crate::arguments::{Argument, Arguments};
-use crate::shown::{Bytes, Named, Show, Shown, Written, write_header, write_shown};
+use crate::shown::{Bytes, Named, Plain, Show, Shown, Written, write_header, write_shown};
 use etherparse_transport::{
     TcpError, TcpHeader, TcpOptionElement, TcpOptionReadError, TcpOptionWriteError, TcpOptions,
     TcpOptionsIterator, UdpHeader,
@@ -203,20 +203,14 @@ impl Shown for TcpOptions {
     }
 }
 
-impl Shown for TcpOptionElement {
-    fn show<W: fmt::Write>(&self, f: &mut fmt::Formatter<W>) -> fmt::Result {
-        write!(f, "{self:?}")
-    }
+impl Plain for TcpOptionElement {
+    const WORDS: &'static str = "";
 }
 
-impl Shown for TcpOptionReadError {
-    fn show<W: fmt::Write>(&self, f: &mut fmt::Formatter<W>) -> fmt::Result {
-        write!(f, "err {self:?}")
-    }
+impl Plain for TcpOptionReadError {
+    const WORDS: &'static str = "err ";
 }
 
-impl Shown for TcpOptionWriteError {
-    fn show<W: fmt::Write>(&self, f: &mut fmt::Formatter<W>) -> fmt::Result {
-        write!(f, "err {self:?}")
-    }
+impl Plain for TcpOptionWriteError {
+    const WORDS: &'static str = "err ";
 }

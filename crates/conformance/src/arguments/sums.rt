@@ -1,7 +1,6 @@
 use super::Arguments;
 use etherparse::checksum::Sum16BitWords;
 use std::alloc::AllocError;
-use std::mem;
 
 impl<'a> Arguments<'a> {
     /// The bytes of each word that is left, for any number of words.
@@ -15,21 +14,24 @@ impl<'a> Arguments<'a> {
         Ok(pieces)
     }
 
-    /// The sum of the steps that are left; more than one sum if `/` stands between steps.
-    pub fn sums(&mut self) -> Result<Vec<Sum16BitWords>, AllocError> {
-        let mut sums = Vec::new(self.alloc);
+    /// The sum of the steps that are left, or of those before a `/` if another sum has to follow.
+    pub fn sum(&mut self, another_follows: bool) -> Sum16BitWords {
         let mut sum = Sum16BitWords::new();
-        if let Some(rest) = self.rest.take() {
-            for word in rest.split(' ') {
-                if word == "/" {
-                    sums.push(mem::take(&mut sum))?;
-                } else {
-                    sum = self.added(sum, word);
+        let mut at_slash = false;
+        for _ in 0..u64::MAX {
+            match self.next_word() {
+                Some("/") => {
+                    at_slash = true;
+                    break;
                 }
+                Some(step) => sum = self.added(sum, step),
+                None => break,
             }
         }
-        sums.push(sum)?;
-        Ok(sums)
+        if at_slash != another_follows {
+            self.refuse();
+        }
+        sum
     }
 
     // The sum with the bytes of a step: how many there are or `s` for a slice, a colon, the bytes.
@@ -37,6 +39,13 @@ impl<'a> Arguments<'a> {
         let (count, digits) = step.split_once(':').unwrap_or(("", ""));
         match count {
             "s" => sum.add_slice(&self.decoded(digits)),
+            _ => self.added_array(sum, count, digits),
+        }
+    }
+
+    // The sum with as many bytes as a count says.
+    fn added_array(&mut self, mut sum: Sum16BitWords, count: &str, digits: &str) -> Sum16BitWords {
+        match count {
             "2" => sum.add_2bytes(self.decoded_array(digits)),
             "4" => sum.add_4bytes(self.decoded_array(digits)),
             "8" => sum.add_8bytes(self.decoded_array(digits)),
