@@ -2,7 +2,7 @@
 
 use crate::arguments::Arguments;
 use crate::shown::{
-    Bytes, Named, Plain, Show, Shown, Written, show_after, write_header, write_shown,
+    Bytes, Named, Plain, Show, Shown, Written, show_after, write_header, write_one, write_shown,
 };
 use arrayvec::ArrayVec;
 use etherparse::IpNumber;
@@ -94,7 +94,7 @@ fn write_ipv4_options(bytes: &[u8], answer: &mut String) -> Written {
     let mut options = Ipv4OptionsIterator::new(bytes);
     for _ in 0..u64::MAX {
         match options.next_option() {
-            Some(option) => write!(answer, "{} ; ", Show(&option))?,
+            Some(option) => write_one(&option, answer)?,
             None => break,
         }
     }
@@ -107,7 +107,7 @@ fn write_ipv6_options(bytes: &[u8], answer: &mut String) -> Written {
     let mut options = Ipv6OptionsIterator::new(bytes);
     for _ in 0..u64::MAX {
         match options.next_option() {
-            Some(option) => write!(answer, "{} ; ", Show(&option))?,
+            Some(option) => write_one(&option, answer)?,
             None => break,
         }
     }
@@ -122,7 +122,7 @@ fn answer_append(arguments: &mut Arguments, answer: &mut String) -> Written {
         let option_type = arguments.number();
         match append_ipv6_option(&mut options, option_type, &arguments.bytes()) {
             Ok(()) => answer.push_str("ok ; ")?,
-            Err(e) => write!(answer, "{} ; ", Show(&e))?,
+            Err(e) => write_one(&e, answer)?,
         }
     }
     write!(answer, "{}", Bytes(options.as_slice()))
@@ -135,7 +135,7 @@ fn answer_chain(arguments: &mut Arguments, answer: &mut String) -> Written {
     let mut headers = Ipv6ExtensionSliceIter::new(first, &bytes);
     for _ in 0..u64::MAX {
         match headers.next_slice() {
-            Some(header) => write!(answer, "{} ; ", Show(&header))?,
+            Some(header) => write_one(&header, answer)?,
             None => break,
         }
     }

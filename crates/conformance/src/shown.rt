@@ -23,6 +23,11 @@ pub fn write_shown<T: Shown>(value: &T, answer: &mut String) -> Written {
     write!(answer, "{}", Show(value))
 }
 
+/// Writes a value that others follow.
+pub fn write_one<T: Shown>(value: &T, answer: &mut String) -> Written {
+    write!(answer, "{} ; ", Show(value))
+}
+
 /// Writes values by their names, and nothing else.
 pub fn write_named<T: Display>(values: &[(&str, T)], answer: &mut String) -> Written {
     write!(answer, "{}", Named(values))

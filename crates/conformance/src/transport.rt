@@ -1,7 +1,9 @@
 //! UDP and TCP, by `etherparse_transport`.
 
 use crate::arguments::{Argument, Arguments};
-use crate::shown::{Bytes, Named, Plain, Show, Shown, Written, write_header, write_shown};
+use crate::shown::{
+    Bytes, Named, Plain, Show, Shown, Written, write_header, write_one, write_shown,
+};
 use etherparse_transport::{
     TcpError, TcpHeader, TcpOptionElement, TcpOptionReadError, TcpOptionWriteError, TcpOptions,
     TcpOptionsIterator, UdpHeader,
@@ -113,7 +115,7 @@ fn write_options(bytes: &[u8], answer: &mut String) -> Written {
     let mut options = TcpOptionsIterator::from_slice(bytes);
     for _ in 0..u64::MAX {
         match options.next() {
-            Some(option) => write!(answer, "{} ; ", Show(&option))?,
+            Some(option) => write_one(&option, answer)?,
             None => break,
         }
     }

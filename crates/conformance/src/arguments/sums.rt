@@ -6,9 +6,10 @@ impl<'a> Arguments<'a> {
     /// The bytes of each word that is left, for any number of words.
     pub fn pieces(&mut self) -> Result<Vec<Vec<u8>>, AllocError> {
         let mut pieces = Vec::new(self.alloc);
-        if let Some(rest) = self.rest.take() {
-            for word in rest.split(' ') {
-                pieces.push(self.decoded(word))?;
+        for _ in 0..u64::MAX {
+            match self.next_word() {
+                Some(word) => pieces.push(self.decoded(word))?,
+                None => break,
             }
         }
         Ok(pieces)
