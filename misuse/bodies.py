@@ -3,7 +3,7 @@
 
 Each is tried on a copy of its crate, which `rt ci` has just proved: a check of the function whose contract speaks of it, and of
 those that it calls, has to refuse that function and to prove the others. One check tries the bodies of different functions
-together: a function is proved by its own body and the contracts of others. README.md says how a body is written. As many crates
+together: a function is refused by its own body and the contracts of others. README.md says how a body is written. As many crates
 are tried at a time as there are processors, up to four. The last line is 'N passed, M failed'.
 """
 import concurrent.futures
