@@ -1,5 +1,5 @@
 -- Options, and what they exclude.
-use Rattle.std.proofs.Common.{rules as known, tests, arith, length, ◌==◌, ◌≡◌, ◌∙◌, ap, ap₂, append_assoc, codes, refl, true, false, ℕ, List, [], ◌∷◌, ◌++◌, Option, Some, None, Bor, map}
+use Rattle.std.proofs.Common.{rules as known, tests, arith, length, ◌==◌, ◌≡◌, ◌∙◌, ap, ap₂, append_assoc, refl, true, false, ℕ, List, [], ◌∷◌, ◌++◌, Bor, map}
 use Rattle.std.proofs.lemmas.Bool.{ne_eqb}
 use Rattle.std.proofs.lemmas.List.{map-append}
 use Rattle.clap.specs.Adds.{AddsConflicts}

@@ -1,9 +1,9 @@
-use Rattle.std.proofs.Common.{◌≡◌, ◌∙◌, ap, codes, refl, List, [], ◌∷◌, Some}
+use Rattle.std.proofs.Common.{◌≡◌, ◌∙◌, ap, codes, refl, Some}
 use Rattle.std.proofs.lemmas.Result.{IfOk-weaker}
 use Rattle.clap.specs.declared.builder.arg.Arg.{Arg}
 use Rattle.clap.specs.declared.builder.action.ArgAction.TheVariants as action
 use Rattle.clap.specs.Words.{Rule, new_rule, rule_of}
-use Rattle.ipcap.specs.Options.{app_with, excluding, exclusions_of, exclusions_of_flags, flag, flags}
+use Rattle.ipcap.specs.Options.{app_with, exclusions_of, exclusions_of_flags, flag, flags}
 use Rattle.ipcap.proofs.Options.{and_one, excluded, excludes_more, excludes_one, five_more, one_more, with_one_more}
 use Rattle.ipcap.proofs.arguments.with_flags.Goals as goal
 
