@@ -138,6 +138,8 @@ impl<'a, 'b> FrameReassembly<'a, 'b> {
     }
 }
 
+const _: () = prove!(FrameReassembly::SLOTS == 32 && FrameReassembly::MAX_PACKET_LEN == 65575);
+
 // The IP packet in a frame; `None` if there is none.
 fn packet_in(link_type: LinkType, frame: &[u8]) -> Option<Carried>
     ensures found { IfSome result (λ c. (tags : List (List ℕ))
