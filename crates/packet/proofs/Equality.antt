@@ -42,22 +42,33 @@ abbrev pub SameLinkLayers : LinkLayers → LinkLayers → Type 0
 SameLinkLayers a b = (option_map link_parts a.link ≡ option_map link_parts b.link) × (tags_of a.vlan ≡ tags_of b.vlan) × (a.ether_type ≡ b.ether_type)
     × (a.payload.now ≡ b.payload.now) × (a.stop ≡ b.stop)
 
+-- an error of a length, as that of a tag is compared
+abbrev tag_error_eq : LenError → LenError → Bool
+tag_error_eq e f = (error_derived.ghosts).eq (error.Vlan e) (error.Vlan f)
+
+len_eq : (e f : LenError) → IsTrue (tag_error_eq e f) ↔ (e ≡ f)
+len_eq e f = search (rules, nat_tests)
+
+not_true : false ≡ true → ⊥
+not_true e = cc
+
 ip_error_eq : (e f : IpSliceError) → IsTrue ((ip_error_derived.ghosts).eq e f) ↔ (e ≡ f)
 ip_error_eq (ip_error.UnexpectedVersion v) (ip_error.UnexpectedVersion w) = search (rules, nat_tests)
 ip_error_eq (ip_error.Ipv4Header e) (ip_error.Ipv4Header f) = grind (arith, nat_tests)
 ip_error_eq (ip_error.Ipv6Header e) (ip_error.Ipv6Header f) = grind (arith, nat_tests)
-ip_error_eq (ip_error.Packet e) (ip_error.Packet f) = search (rules, nat_tests)
-ip_error_eq (ip_error.Extensions e) (ip_error.Extensions f) = search (rules, nat_tests)
-ip_error_eq _ _ = search rules
+ip_error_eq (ip_error.Packet e) (ip_error.Packet f) = (λ h. ap ip_error.Packet ((len_eq e f).0 h), λ h. (len_eq e f).1 cc)
+ip_error_eq (ip_error.Extensions e) (ip_error.Extensions f) = (λ h. ap ip_error.Extensions ((len_eq e f).0 h), λ h. (len_eq e f).1 cc)
+ip_error_eq ip_error.Empty ip_error.Empty = (λ h. refl, λ h. refl)
+ip_error_eq _ _ = (λ h. absurd (not_true h), λ same. cc)
 
 pub error_eq : (a b : SliceError) → IsTrue ((error_derived.ghosts).eq a b) ↔ (a ≡ b)
 error_eq (error.Link e) (error.Link f) = search (rules, nat_tests)
-error_eq (error.Vlan e) (error.Vlan f) = search (rules, nat_tests)
+error_eq (error.Vlan e) (error.Vlan f) = (λ h. ap error.Vlan ((len_eq e f).0 h), λ h. (len_eq e f).1 cc)
 error_eq (error.Ip e) (error.Ip f) = (λ h. ap error.Ip ((ip_error_eq e f).0 h), λ h. (ip_error_eq e f).1 cc)
-error_eq (error.Udp e) (error.Udp f) = search (rules, nat_tests)
+error_eq (error.Udp e) (error.Udp f) = (λ h. ap error.Udp ((len_eq e f).0 h), λ h. (len_eq e f).1 cc)
 error_eq (error.Tcp e) (error.Tcp f) = search (rules, nat_tests)
-error_eq (error.Icmp e) (error.Icmp f) = search (rules, nat_tests)
-error_eq _ _ = search rules
+error_eq (error.Icmp e) (error.Icmp f) = (λ h. ap error.Icmp ((len_eq e f).0 h), λ h. (len_eq e f).1 cc)
+error_eq _ _ = (λ h. absurd (not_true h), λ same. cc)
 
 -- what may be there is equal if both are not there, or both are and equal
 optional : {A B : Type 0} (eq : A → A → Bool) (said : A → B) → ((x y : A) → IsTrue (eq x y) ↔ (said x ≡ said y)) → (a b : Option A)
@@ -132,13 +143,6 @@ pub lax_eq : (a b : LaxSlicedPacket) → IsTrue ((lax_derived.ghosts).eq a b) �
 lax_eq a b =
     let all = both _ _ (packet_eq a.packet b.packet) (stop_eq a.stop b.stop) in
     (λ h. let same = all.0 h in cc, λ h. all.1 (ap (λ l. l.0) h, ap (λ l. l.1) h))
-
--- an error of a length, as that of a tag is compared
-abbrev tag_error_eq : LenError → LenError → Bool
-tag_error_eq e f = (error_derived.ghosts).eq (error.Vlan e) (error.Vlan f)
-
-len_eq : (e f : LenError) → IsTrue (tag_error_eq e f) ↔ (e ≡ f)
-len_eq e f = search (rules, nat_tests)
 
 tag_stop_eq : (a b : Option LenError) → IsTrue (option_eq tag_error_eq a b) ↔ (a ≡ b)
 tag_stop_eq None None = search rules
