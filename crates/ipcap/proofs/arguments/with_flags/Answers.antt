@@ -16,11 +16,11 @@ returns-clause-options c =
     ap rule_of c.help.ensures ∙ (ap rule_of c.action.ensures ∙ (ap (λ (a : Arg). rule_of (record a { action = Some action.Count })) c.short.ensures ∙ ap (λ (r : Rule). record r { short = Some 110; action = Some action.Count }) c.new.ensures.rule)) in
     let reassemble = (excludes_one c.flag-4.result _ _ (flag (codes "reassemble")) c.flag-4.ensures.rule c.flag-4.ensures.alone c.in_ok-conflicts_with-4.ensures).0 in
     IfOk-weaker c.arg-5.result _ _ (λ after added rules start.
-      let a1 = with_one_more _ _ _ rules _ c.in_ok-arg.ensures start count refl in
-      let a2 = with_one_more _ _ _ _ _ c.in_ok-arg-2.ensures a1 quiet refl in
-      let a3 = with_one_more _ _ _ _ _ c.in_ok-arg-3.ensures a2 numbers refl in
-      let a4 = with_one_more _ _ _ _ _ c.in_ok-arg-4.ensures a3 c.flag-3.ensures.rule refl in
-      with_one_more _ after _ _ _ added a4 reassemble refl ∙ ap app_with (five_more rules _ _ _ _ _)) c.arg-5.ensures
+    let a1 = with_one_more _ _ _ rules _ c.in_ok-arg.ensures start count refl in
+    let a2 = with_one_more _ _ _ _ _ c.in_ok-arg-2.ensures a1 quiet refl in
+    let a3 = with_one_more _ _ _ _ _ c.in_ok-arg-3.ensures a2 numbers refl in
+    let a4 = with_one_more _ _ _ _ _ c.in_ok-arg-4.ensures a3 c.flag-3.ensures.rule refl in
+    with_one_more _ after _ _ _ added a4 reassemble refl ∙ ap app_with (five_more rules _ _ _ _ _)) c.arg-5.ensures
 
 pub returns-clause-exclude : goal.returns-clause-exclude
 unfolding exclusions_of_flags
