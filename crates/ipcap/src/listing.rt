@@ -153,7 +153,7 @@ impl Request {
     }
 
     // Counts a packet that is listed, and writes its line.
-    #[inline(never)] // What the line needs is then in no way of the packets without one.
+    #[inline(never)] // Packets without a line then do not pay for what one needs.
     fn list_line<W: Sink>(
         &self,
         totals: &mut Totals,
