@@ -4,3 +4,4 @@
 
 pub mod datagrams;
 pub mod frame_reassembly;
+mod laws;

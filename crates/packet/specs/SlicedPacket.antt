@@ -4,6 +4,8 @@ use Rattle.std.specs.Prelude.{IsSomeAnd, List, length, Option, Some, None, Resul
 use Rattle.std.specs.Prelude.{option_map}
 use Rattle.std.specs.Result.{result_map_both}
 use Rattle.etherparse.specs.declared.err.LenError.{LenError}
+use Rattle.etherparse_link.specs.ArpPacketSlice.{ViewsArp}
+use Rattle.etherparse_link.specs.declared.arp_packet_slice.ArpPacketSlice.{ArpPacketSlice}
 use Rattle.packet_links.specs.Header.{is_ip}
 use Rattle.packet_parts.specs.Checksum.{IsVerdict}
 use Rattle.packet_parts.specs.IpSlice.{IpParts, ip_parts}
@@ -173,3 +175,10 @@ abbrev pub IsVerdictOn : Option IpSlice → Option SliceError → Option Verdict
 IsVerdictOn None stop verdict = verdict ≡ None
 IsVerdictOn (Some slice) (Some (error.Ip e)) verdict = verdict ≡ Some (Absent Incomplete)
 IsVerdictOn (Some slice) stop verdict = IsSomeAnd verdict (IsVerdict slice)
+
+-- the packet carries ARP (RFC 826), and this is what is seen of the ARP packet at the front of its
+-- payload, or why that is incomplete
+pub record CarriesArp (packet : SlicedPacket) (reading : Result ArpPacketSlice LenError)
+    : Type 0 where
+  pub ether_type : packet.ether_type ≡ Some 0x0806
+  pub views : ViewsArp packet.payload.now (result_map_both (λ view. view.slice.now) (λ e. e) reading)

@@ -8,7 +8,8 @@ use crate::lax_sliced_packet::{LaxSlicedPacket, frame_layers, layers_after};
 use crate::link::{LinkSlice, LinkType};
 use crate::transport::{TransportSlice, ports_in};
 use crate::vlan::VlanSlice;
-use etherparse_link::EtherType;
+use etherparse::err::LenError;
+use etherparse_link::{ArpPacketSlice, EtherType};
 use packet_parts::ip_slice::IpSlice;
 
 /// The layers of a frame.
@@ -35,7 +36,8 @@ pub struct SlicedPacket<'a> {
 
 impl<'a> SlicedPacket<'a> {
     ghost use Rattle.std.specs.Prelude.{ℕ, IfNone, IfSome, IsSomeAnd, None, Some};
-    ghost use Rattle.packet.specs.SlicedPacket.{IsReadingAfter, IsReadingOf};
+    ghost use Rattle.std.specs.Prelude.{◌≢◌};
+    ghost use Rattle.packet.specs.SlicedPacket.{CarriesArp, IsReadingAfter, IsReadingOf};
     ghost use Rattle.packet.specs.Transport.{HasPorts};
 
     /// The layers of an Ethernet frame (IEEE 802.3 section 3.1.1).
@@ -240,6 +242,39 @@ impl<'a> SlicedPacket<'a> {
         match &self.net {
             Some(ip) => ports_in(ip),
             None => None,
+        }
+    }
+
+    /// The ARP packet at the front of `payload` (RFC 826); `None` if `ether_type` is not that of
+    /// ARP. What follows it in `payload` is padding.
+    ///
+    /// # Errors
+    ///
+    /// Inside the `Some`, that of [`ArpPacketSlice::from_slice`] if `payload` does not have all of
+    /// the ARP packet; its place counts from the start of `payload`. A frame is not refused for
+    /// that: its layers are there all the same.
+    ///
+    /// # Example
+    ///
+    /// ```
+    /// // Who has 192.168.0.2? Tell 192.168.0.1.
+    /// let arp = [
+    ///     0, 1, 8, 0, 6, 4, 0, 1, 2, 0, 0, 0, 0, 1, 192, 168, 0, 1, 0, 0, 0, 0, 0, 0, 192, 168, 0, 2,
+    /// ];
+    /// let packet = SlicedPacket::from_ether_type(EtherType::ARP, &arp)?;
+    /// let operation = packet.arp().map(|view| view.map(|arp| arp.operation()));
+    /// assert!(rt; operation == Some(Ok(ArpOperation::REQUEST)));
+    /// // All of it but its last byte.
+    /// let packet = SlicedPacket::from_ether_type(EtherType::ARP, &arp[..27])?;
+    /// assert!(rt; matches!(packet.arp(), Some(Err(e)) if e.required_len == 28 && e.len == 27));
+    /// ```
+    pub fn arp(&self) -> Option<Result<ArpPacketSlice<'a>, LenError>>
+        ensures views { IfSome result (CarriesArp self.now) }
+        ensures none { IfNone result (self.now.ether_type ≢ Some 0x0806) }
+    {
+        match self.ether_type {
+            Some(EtherType::ARP) => Some(ArpPacketSlice::from_slice(self.payload)),
+            _ => None,
         }
     }
 }

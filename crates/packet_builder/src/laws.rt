@@ -1,8 +1,9 @@
 //! What follows from the definitions: a packet that was built, taken apart, has the parts that it
-//! was built of. And what the derived `clone` says, as the clause of one small function for each
-//! type. Nothing calls them: they are there to be proved.
+//! was built of. And what the derived `==` of the error and the derived `clone` say, as the clause of
+//! one small function for each type. Nothing calls them: they are there to be proved.
 
-ghost use Rattle.std.specs.Prelude.{ℕ, ◌≡◌, ◌++◌, IsFalse, IsOkAnd, IsTrue, List, Ok, Result, Some};
+ghost use Rattle.std.specs.Prelude.{ℕ, ◌≡◌, ◌↔◌, ◌++◌, IsFalse, IsOkAnd, IsTrue, List, Ok};
+ghost use Rattle.std.specs.Prelude.{Result, Some};
 ghost use Rattle.etherparse_icmp.specs.declared.icmpv4_type.Icmpv4Type.{Icmpv4Type as Icmpv4};
 ghost use Rattle.etherparse_icmp.specs.declared.icmpv6_type.Icmpv6Type.{Icmpv6Type as Icmpv6};
 ghost use Rattle.etherparse_transport.specs.declared.tcp_header.TcpHeader.{TcpHeader as Tcp};
@@ -65,6 +66,12 @@ pub fn built_packet_law()
         IsOkAnd answer (λ packet.
         layers_of packet ≡ layers_after (link_parts_for (Some link) front) rest) }
 {}
+
+fn build_slice_write_error_equality(a: &BuildSliceWriteError, b: &BuildSliceWriteError) -> bool
+    ensures same_value { IsTrue result ↔ (a.now ≡ b.now) }
+{
+    a == b
+}
 
 // A clone is equal, and cloning never fails.
 fn arp_step_clone(step: &ArpStep) -> Result<ArpStep, AllocError>

@@ -1,3 +1,4 @@
+pub mod Equality
 pub mod ExtensionEnds
 mod FragmentHeaders
 pub mod IpPackets

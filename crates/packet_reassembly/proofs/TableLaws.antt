@@ -107,6 +107,14 @@ Contains_from_held bytes units extent k begins =
     let is : slice_index all k ≡ k = get_or-range_with_len 0 (length units) k 0 within ∙ omega arith in
     rw is at (kept_by (λ j. slice_index units j == 1) (held_at bytes units extent) all k (omega (arith, length-range_with_len 0 (length units))) (rw is (eq-eqb (slice_index units k) 1 begins)))
 
+-- a fragment that is new is not held
+pub new_not_held : (bytes units payload : List ℕ) (extent : Extent) (range : IpFragRange) → IsRange range → IsNew units extent range → ¬ Contains (held bytes units extent) (fragment_of range payload)
+new_not_held bytes units payload extent range right is_new has =
+    let h = held_from_Contains bytes units extent (fragment_of range payload) has in
+    let start : 8 * h.at ≡ range.start = ap (λ f. f.start) h.is in
+    let none = is_new.clear h.at (omega arith) (omega (arith, right.some)) in
+    omega (arith, h.begins, none)
+
 -- an empty table holds nothing
 no_member : (xs : List Fragment) → ((f : Fragment) → ¬ Contains xs f) → xs ≡ []
 no_member [] without = refl

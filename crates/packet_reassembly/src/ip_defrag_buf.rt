@@ -104,8 +104,10 @@ impl<'a> IpDefragBuf<'a> {
     /// The result of [`IpDefragBuf::add`], and how many entries of the table were read or written:
     /// at most two for each 8 bytes of the fragment and one more, whatever has come before. An
     /// entry is a byte. For a new fragment that is kept it is exactly that: each is read once and
-    /// written once, and the first is written again. Apart from this the payload is compared or
-    /// copied at most once.
+    /// written once, and the first is written again. For a duplicate it is one for each 8 bytes and
+    /// two more, and for a fragment that conflicts with another at most that. None is read if the
+    /// datagram was discarded before, or if the fragment is refused. Apart from this the payload is
+    /// compared or copied at most once.
     ///
     /// # Errors
     ///
@@ -138,6 +140,14 @@ impl<'a> IpDefragBuf<'a> {
             self.old ≡ Some old → self.new ≡ Some new →
             ¬ Contains old (fragment offset more_fragments payload.now) →
             result.1 ≡ 2 * units_of (fragment offset more_fragments payload.now) + 1) }
+        ensures entries_of_duplicate { OnOk result.0 ((old new : List F) →
+            self.old ≡ Some old → self.new ≡ Some new →
+            Contains old (fragment offset more_fragments payload.now) →
+            result.1 ≡ units_of (fragment offset more_fragments payload.now) + 2) }
+        ensures entries_of_conflict { OnOk result.0 (self.new ≡ None →
+            result.1 ≤ units_of (fragment offset more_fragments payload.now) + 2) }
+        ensures no_entries_once_discarded { self.old ≡ None → result.1 ≡ 0 }
+        ensures no_entries_if_refused { OnErr result.0 (result.1 ≡ 0) }
         ensures few_entries { result.1 ≤ 2 * units_of (fragment offset more_fragments payload.now) + 1 }
     {
         let range = match range_of(offset, more_fragments, payload) {

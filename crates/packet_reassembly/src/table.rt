@@ -3,7 +3,7 @@
 ghost use Rattle.std.specs.Prelude.{ℕ, ◌≡◌, ◌*◌, ◌+◌, ◌-◌, ◌<◌, ◌≤◌, ◌%◌, ◌/◌, ◌≢◌, Some, length};
 ghost use Rattle.std.specs.Prelude.{◌↔◌, ◌⊎◌, IsTrue, IsFalse, slice_index, slice_range, true, false};
 ghost use Rattle.packet_reassembly.specs.Fragment.{Takes};
-ghost use Rattle.packet_reassembly.specs.declared.table.Arrival.TheVariants.{New};
+ghost use Rattle.packet_reassembly.specs.declared.table.Arrival.TheVariants.{New, Same};
 ghost use Rattle.packet_reassembly.specs.Table.{AreKept, Arrives, Begins, Fits, HasCome, IsMarked};
 ghost use Rattle.packet_reassembly.specs.Table.{IsInside, IsRange, IsTable, fragment_of, held};
 ghost use Rattle.packet_reassembly.specs.Table.{has_more as more_after, range_at, units_at};
@@ -148,6 +148,7 @@ pub fn arrival_of(
     requires fits { Fits range payload.now }
     ensures arrives { Arrives bytes.now units.now extent range payload.now result.0 }
     ensures all { result.0 ≡ New → result.1 ≡ units_at range }
+    ensures same { result.0 ≡ Same → result.1 ≡ units_at range + 2 }
     ensures few { result.1 ≤ units_at range + 2 }
 {
     if goes_past(extent, range) {

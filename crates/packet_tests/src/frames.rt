@@ -5,7 +5,7 @@ use crate::shared::assert_equal;
 use etherparse::LenSource;
 use etherparse::err::ipv4::HeaderSliceError;
 use etherparse::err::{Layer, LenError};
-use etherparse_link::{EtherType, SingleVlanHeaderSlice};
+use etherparse_link::{ArpOperation, EtherType, SingleVlanHeaderSlice};
 use etherparse_transport::TcpError;
 use packet::error::SliceError;
 use packet::lax_sliced_packet::LaxSlicedPacket;
@@ -112,6 +112,24 @@ fn ports_of_a_cut_packet(rt: HostRuntime) {
     assert!(rt; lax.stop.is_some());
     assert!(rt; lax.packet.transport.is_none());
     assert_equal(&rt, lax.packet.ports(), Some((1024, 80)));
+}
+
+#[test]
+fn an_arp_packet(rt: HostRuntime) -> Result<(), Fail> {
+    // Who has 192.168.0.2? Tell 192.168.0.1.
+    let arp = [
+        0, 1, 8, 0, 6, 4, 0, 1, 2, 0, 0, 0, 0, 1, 192, 168, 0, 1, 0, 0, 0, 0, 0, 0, 192, 168, 0, 2,
+    ];
+    let packet = SlicedPacket::from_ether_type(EtherType::ARP, &arp)?;
+    let operation = packet.arp().map(|view| view.map(|arp| arp.operation()));
+    assert_equal(&rt, operation, Some(Ok(ArpOperation::REQUEST)));
+    // All of it but its last byte.
+    let packet = SlicedPacket::from_ether_type(EtherType::ARP, &arp[..27])?;
+    assert!(rt; matches!(packet.arp(), Some(Err(e)) if e.required_len == 28 && e.len == 27));
+    // Another protocol.
+    let packet = SlicedPacket::from_ether_type(EtherType::IPV4, &DATAGRAM)?;
+    assert!(rt; packet.arp().is_none());
+    Ok(())
 }
 
 // A datagram over IPv4, of 30 bytes: from port 1024 to port 53.
