@@ -1,7 +1,8 @@
-//! What the derived `==`, `cmp` and `clone` say, each as the clause of one small function. Nothing
-//! calls them: they are there to be proved.
+//! What the derived `==`, `cmp`, `hash` and `clone` say, each as the clause of one small function.
+//! Nothing calls them: they are there to be proved.
 
-ghost use Rattle.std.specs.Prelude.{◌≡◌, ◌↔◌, IsTrue, Ok};
+ghost use Rattle.std.specs.Prelude.{◌≡◌, ◌↔◌, IsTrue, Ok, fold};
+ghost use Rattle.std.specs.Hash as fed;
 ghost use Rattle.std.specs.Ordering.{nat_cmp};
 
 use crate::err::arp::{ArpEthIpv4FromError, ArpHwAddrError, ArpNewError, ArpProtoAddrError};
@@ -14,6 +15,7 @@ use crate::{
 };
 use std::alloc::AllocError;
 use std::cmp::Ordering;
+use std::hash::{Hash, Hasher};
 
 fn arp_eth_ipv4_packet_equality(a: &ArpEthIpv4Packet, b: &ArpEthIpv4Packet) -> bool
     ensures same_value { IsTrue result ↔ (a.now ≡ b.now) }
@@ -131,6 +133,32 @@ fn single_vlan_header_clone(header: &SingleVlanHeader) -> Result<SingleVlanHeade
     header.clone()
 }
 
+fn arp_hardware_id_clone(number: &ArpHardwareId) -> Result<ArpHardwareId, AllocError>
+    ensures same_value { result ≡ Ok number.now }
+{
+    number.clone()
+}
+
+fn arp_operation_clone(number: &ArpOperation) -> Result<ArpOperation, AllocError>
+    ensures same_value { result ≡ Ok number.now }
+{
+    number.clone()
+}
+
+fn ether_type_clone(number: &EtherType) -> Result<EtherType, AllocError>
+    ensures same_value { result ≡ Ok number.now }
+{
+    number.clone()
+}
+
+fn linux_sll_packet_type_clone(
+    number: &LinuxSllPacketType,
+) -> Result<LinuxSllPacketType, AllocError>
+    ensures same_value { result ≡ Ok number.now }
+{
+    number.clone()
+}
+
 fn vlan_id_clone(number: &VlanId) -> Result<VlanId, AllocError>
     ensures same_value { result ≡ Ok number.now }
 {
@@ -141,6 +169,76 @@ fn vlan_pcp_clone(number: &VlanPcp) -> Result<VlanPcp, AllocError>
     ensures same_value { result ≡ Ok number.now }
 {
     number.clone()
+}
+
+fn arp_packet_view_clone<'a>(view: &ArpPacketSlice<'a>) -> Result<ArpPacketSlice<'a>, AllocError>
+    ensures same_value { result ≡ Ok view.now }
+{
+    view.clone()
+}
+
+fn ethernet2_view_clone<'a>(
+    view: &Ethernet2HeaderSlice<'a>,
+) -> Result<Ethernet2HeaderSlice<'a>, AllocError>
+    ensures same_value { result ≡ Ok view.now }
+{
+    view.clone()
+}
+
+fn linux_sll_view_clone<'a>(
+    view: &LinuxSllHeaderSlice<'a>,
+) -> Result<LinuxSllHeaderSlice<'a>, AllocError>
+    ensures same_value { result ≡ Ok view.now }
+{
+    view.clone()
+}
+
+fn linux_sll2_view_clone<'a>(
+    view: &LinuxSll2HeaderSlice<'a>,
+) -> Result<LinuxSll2HeaderSlice<'a>, AllocError>
+    ensures same_value { result ≡ Ok view.now }
+{
+    view.clone()
+}
+
+fn single_vlan_view_clone<'a>(
+    view: &SingleVlanHeaderSlice<'a>,
+) -> Result<SingleVlanHeaderSlice<'a>, AllocError>
+    ensures same_value { result ≡ Ok view.now }
+{
+    view.clone()
+}
+
+fn arp_eth_ipv4_from_error_clone(
+    error: &ArpEthIpv4FromError,
+) -> Result<ArpEthIpv4FromError, AllocError>
+    ensures same_value { result ≡ Ok error.now }
+{
+    error.clone()
+}
+
+fn arp_hw_addr_error_clone(error: &ArpHwAddrError) -> Result<ArpHwAddrError, AllocError>
+    ensures same_value { result ≡ Ok error.now }
+{
+    error.clone()
+}
+
+fn arp_proto_addr_error_clone(error: &ArpProtoAddrError) -> Result<ArpProtoAddrError, AllocError>
+    ensures same_value { result ≡ Ok error.now }
+{
+    error.clone()
+}
+
+fn arp_new_error_clone(error: &ArpNewError) -> Result<ArpNewError, AllocError>
+    ensures same_value { result ≡ Ok error.now }
+{
+    error.clone()
+}
+
+fn double_vlan_header_error_clone(error: &HeaderError) -> Result<HeaderError, AllocError>
+    ensures same_value { result ≡ Ok error.now }
+{
+    error.clone()
 }
 
 fn double_vlan_header_slice_error_clone(
@@ -186,6 +284,43 @@ fn vlan_pcp_order(a: &VlanPcp, b: &VlanPcp) -> Ordering
     ensures by_number { result ≡ nat_cmp a.now b.now }
 {
     a.cmp(b)
+}
+
+// Numbers are hashed as the numbers.
+fn arp_hardware_id_hash<H: Hasher>(number: &ArpHardwareId, state: &mut H)
+    ensures by_number { state.new ≡ fold H.write state.old (fed.u16 number.now) }
+{
+    number.hash(state);
+}
+
+fn arp_operation_hash<H: Hasher>(number: &ArpOperation, state: &mut H)
+    ensures by_number { state.new ≡ fold H.write state.old (fed.u16 number.now) }
+{
+    number.hash(state);
+}
+
+fn ether_type_hash<H: Hasher>(number: &EtherType, state: &mut H)
+    ensures by_number { state.new ≡ fold H.write state.old (fed.u16 number.now) }
+{
+    number.hash(state);
+}
+
+fn linux_sll_packet_type_hash<H: Hasher>(number: &LinuxSllPacketType, state: &mut H)
+    ensures by_number { state.new ≡ fold H.write state.old (fed.u16 number.now) }
+{
+    number.hash(state);
+}
+
+fn vlan_id_hash<H: Hasher>(number: &VlanId, state: &mut H)
+    ensures by_number { state.new ≡ fold H.write state.old (fed.u16 number.now) }
+{
+    number.hash(state);
+}
+
+fn vlan_pcp_hash<H: Hasher>(number: &VlanPcp, state: &mut H)
+    ensures by_number { state.new ≡ fold H.write state.old (fed.u8 number.now) }
+{
+    number.hash(state);
 }
 
 fn double_vlan_header_error_equality(a: &HeaderError, b: &HeaderError) -> bool

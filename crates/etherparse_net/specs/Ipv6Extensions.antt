@@ -20,6 +20,23 @@ extension_bytes (extension.Authentication view) = view.slice.now
 extension_bytes (extension.DestinationOptions view) = view.slice.now
 extension_bytes (extension.Other number view) = view.slice.now
 
+-- what a view shows by its kind, apart from where it lies in memory
+pub data ExtensionParts : Type 0 where
+  HopByHopBytes : List ℕ → ExtensionParts
+  RoutingBytes : List ℕ → ExtensionParts
+  FragmentBytes : List ℕ → ExtensionParts
+  AuthenticationBytes : List ℕ → ExtensionParts
+  DestinationOptionsBytes : List ℕ → ExtensionParts
+  OtherBytes : ℕ → List ℕ → ExtensionParts
+
+abbrev pub extension_parts : Ipv6ExtensionSlice → ExtensionParts
+extension_parts (extension.HopByHop view) = HopByHopBytes view.slice.now
+extension_parts (extension.Routing view) = RoutingBytes view.slice.now
+extension_parts (extension.Fragment view) = FragmentBytes view.slice.now
+extension_parts (extension.Authentication view) = AuthenticationBytes view.slice.now
+extension_parts (extension.DestinationOptions view) = DestinationOptionsBytes view.slice.now
+extension_parts (extension.Other number view) = OtherBytes number view.slice.now
+
 -- The view is of the kind that a number stands for. Of no kind of its own are mobility (135), host
 -- identity (139) and shim6 headers (140), and an authentication header (51) whose payload length is
 -- 0: it is skipped with 8 bytes, but has no room for its fields.

@@ -1,17 +1,21 @@
-//! What the derived `==` and `clone` say, each as the clause of one small function.
+//! What the derived `==`, `clone` and `hash` say, each as the clause of one small function.
 //! Nothing calls them: they are there to be proved.
 
-ghost use Rattle.std.specs.Prelude.{◌≡◌, ◌↔◌, IfOk, IsOk, IsTrue, Ok};
+ghost use Rattle.std.specs.Prelude.{◌≡◌, ◌↔◌, ◌++◌, IfOk, IsOk, IsTrue, Ok, fold};
+ghost use Rattle.std.specs.Hash as fed;
+ghost use Rattle.etherparse_net.specs.Ipv6Extensions.{extension_parts};
 
 use crate::err::ip_auth::{HeaderError, HeaderSliceError};
 use crate::err::{
     ExtPayloadLenError, IcvLenError, IncompleteOption, Ipv4OptionError, OptionWriteError,
 };
 use crate::{
-    IpAuthHeader, IpAuthHeaderSlice, Ipv4OptionSlice, Ipv6FragmentHeader, Ipv6FragmentHeaderSlice,
-    Ipv6OptionSlice, Ipv6RawExtHeader, Ipv6RawExtHeaderSlice,
+    IpAuthHeader, IpAuthHeaderSlice, Ipv4OptionSlice, Ipv4OptionsIterator, Ipv6ExtensionSlice,
+    Ipv6ExtensionSliceIter, Ipv6FragmentHeader, Ipv6FragmentHeaderSlice, Ipv6OptionAction,
+    Ipv6OptionSlice, Ipv6OptionsIterator, Ipv6RawExtHeader, Ipv6RawExtHeaderSlice,
 };
 use std::alloc::AllocError;
+use std::hash::{Hash, Hasher};
 
 fn ipv6_fragment_header_equality(a: &Ipv6FragmentHeader, b: &Ipv6FragmentHeader) -> bool
     ensures same_value { IsTrue result ↔ (a.now ≡ b.now) }
@@ -49,6 +53,18 @@ fn ip_auth_header_copy(header: &IpAuthHeader) -> Result<IpAuthHeader, AllocError
     header.clone()
 }
 
+fn ipv6_option_action_equality(a: &Ipv6OptionAction, b: &Ipv6OptionAction) -> bool
+    ensures same_value { IsTrue result ↔ (a.now ≡ b.now) }
+{
+    a == b
+}
+
+fn ipv6_option_action_copy(action: &Ipv6OptionAction) -> Result<Ipv6OptionAction, AllocError>
+    ensures same_value { result ≡ Ok action.now }
+{
+    action.clone()
+}
+
 // Views are equal if they show the same bytes.
 fn ipv6_fragment_view_equality(a: &Ipv6FragmentHeaderSlice, b: &Ipv6FragmentHeaderSlice) -> bool
     ensures same_bytes { IsTrue result ↔ (a.now.slice.now ≡ b.now.slice.now) }
@@ -76,6 +92,35 @@ fn ipv4_option_equality(a: &Ipv4OptionSlice, b: &Ipv4OptionSlice) -> bool
 
 fn ipv6_option_equality(a: &Ipv6OptionSlice, b: &Ipv6OptionSlice) -> bool
     ensures same_bytes { IsTrue result ↔ (a.now.slice.now ≡ b.now.slice.now) }
+{
+    a == b
+}
+
+// Those of any extension header also have to be of one kind.
+fn ipv6_extension_equality(a: &Ipv6ExtensionSlice, b: &Ipv6ExtensionSlice) -> bool
+    ensures same_parts { IsTrue result ↔ (extension_parts a.now ≡ extension_parts b.now) }
+{
+    a == b
+}
+
+// Iterators are equal if they are at one place in the same bytes.
+fn ipv4_options_iterator_equality(a: &Ipv4OptionsIterator, b: &Ipv4OptionsIterator) -> bool
+    ensures same_place { IsTrue result ↔
+        (a.now.options.now ≡ b.now.options.now) × (a.now.offset ≡ b.now.offset) }
+{
+    a == b
+}
+
+fn ipv6_options_iterator_equality(a: &Ipv6OptionsIterator, b: &Ipv6OptionsIterator) -> bool
+    ensures same_place { IsTrue result ↔
+        (a.now.options.now ≡ b.now.options.now) × (a.now.offset ≡ b.now.offset) }
+{
+    a == b
+}
+
+fn ipv6_extension_iterator_equality(a: &Ipv6ExtensionSliceIter, b: &Ipv6ExtensionSliceIter) -> bool
+    ensures same_place { IsTrue result ↔ (a.now.next_header ≡ b.now.next_header)
+        × (a.now.rest.now ≡ b.now.rest.now) × (a.now.offset ≡ b.now.offset) }
 {
     a == b
 }
@@ -118,6 +163,31 @@ fn ipv6_option_copy<'a>(view: &Ipv6OptionSlice<'a>) -> Result<Ipv6OptionSlice<'a
     ensures never_fails { IsOk result }
 {
     view.clone()
+}
+
+fn ipv6_extension_copy<'a>(
+    view: &Ipv6ExtensionSlice<'a>,
+) -> Result<Ipv6ExtensionSlice<'a>, AllocError>
+    ensures same_value { result ≡ Ok view.now }
+{
+    // The borrow checker does not cover `view.clone()` here.
+    Clone::clone(view)
+}
+
+// A header is hashed by all its fields.
+fn ipv6_raw_ext_header_hash<H: Hasher>(header: &Ipv6RawExtHeader, state: &mut H)
+    ensures by_fields { state.new ≡ fold H.write state.old
+        (fed.u8 header.now.next_header ++ fed.slice fed.u8 header.now.payload) }
+{
+    header.hash(state);
+}
+
+fn ip_auth_header_hash<H: Hasher>(header: &IpAuthHeader, state: &mut H)
+    ensures by_fields { state.new ≡ fold H.write state.old (fed.u8 header.now.next_header
+        ++ (fed.u32 header.now.spi ++ (fed.u32 header.now.sequence_number
+        ++ fed.slice fed.u8 header.now.icv))) }
+{
+    header.hash(state);
 }
 
 // Errors are equal if all that they say is.
