@@ -1,4 +1,5 @@
 pub mod Capture
+pub mod Compare
 pub mod Datagram
 pub mod Filter
 pub mod Forward
@@ -7,5 +8,6 @@ pub mod Monitor
 pub mod Options
 pub mod Payload
 pub mod Queue
+pub mod Send
 pub mod Tunnel
 pub mod UpperLayer

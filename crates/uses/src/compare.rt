@@ -1,10 +1,11 @@
 //! A monitor: what was seen is compared, ordered, kept and described.
 
-ghost use Rattle.std.specs.Prelude.{◌≡◌, ◌<◌, ◌↔◌, IfOk, IsTrue, Ok};
+ghost use Rattle.std.specs.Prelude.{◌≡◌, ◌<◌, ◌↔◌, IfErr, IfOk, IsTrue, Ok};
 ghost use Rattle.std.specs.String.{string_bytes};
 ghost use Rattle.etherparse.specs.Ipv4Errors.{ipv4_header_slice_error_text};
 ghost use Rattle.etherparse.specs.Ipv4Header.{OfIpv4Header};
 ghost use Rattle.etherparse.specs.Layer.{layer_index};
+ghost use Rattle.uses.specs.Compare.{ComparesIpv4, RefusesOneIpv4};
 
 use etherparse::err::{Layer, LenError, ValueTooBigError, ipv4, ipv6};
 use etherparse::{IpDscp, Ipv4Header, Ipv4HeaderSlice, Ipv6Header, Ipv6HeaderSlice};
@@ -53,9 +54,11 @@ pub fn is_same_ipv6_header(sent: &Ipv6Header, received: &Ipv6Header) -> bool
 }
 
 /// Whether two packets begin with one header, such as those of two copies of a capture: the same
-/// bytes are always read as the same header.
+/// bytes are always read as the same header. If the first has none, the error is about that.
 pub fn have_same_ipv4_header(first: &[u8], other: &[u8]) -> Result<bool, ipv4::HeaderSliceError>
     ensures same { first.now ≡ other.now → IfOk result IsTrue }
+    ensures compared { IfOk result (ComparesIpv4 first.now other.now) }
+    ensures refused { IfErr result (RefusesOneIpv4 first.now other.now) }
 {
     let (header, _) = Ipv4Header::from_slice(first)?;
     let (again, _) = Ipv4Header::from_slice(other)?;

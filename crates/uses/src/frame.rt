@@ -1,6 +1,6 @@
 //! Ethernet frames.
 
-ghost use Rattle.std.specs.Prelude.{◌≡◌, ◌<◌, IfSome, IsSomeAnd, Option, length};
+ghost use Rattle.std.specs.Prelude.{ℕ, ◌≡◌, ◌<◌, ◌⊎◌, IfNone, IfSome, IsSomeAnd, Option, length};
 ghost use Rattle.packet.specs.SlicedPacket.{IsFrame};
 ghost use Rattle.packet.specs.Transport.{HasPorts};
 ghost use Rattle.packet.specs.declared.error.SliceError.{SliceError};
@@ -16,6 +16,10 @@ pub fn ports(frame: &[u8]) -> Option<(u16, u16)>
     ensures found { IfSome result (λ ports. (packet : Packet) × (stop : Option SliceError)
         × IsFrame LinkType.Ethernet2 frame.now packet stop
         × IsSomeAnd packet.net (λ ip. HasPorts ip ports)) }
+    ensures none { IfNone result ((length frame.now < 14)
+        ⊎ ((packet : Packet) × (stop : Option SliceError)
+        × IsFrame LinkType.Ethernet2 frame.now packet stop
+        × IfSome packet.net (λ ip. (ports : ℕ × ℕ) → ¬ HasPorts ip ports))) }
 {
     match LaxSlicedPacket::from_ethernet(frame) {
         Ok(lax) => lax.packet.ports(),

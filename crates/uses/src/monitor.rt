@@ -1,8 +1,8 @@
 //! A monitor that looks into whole packets: fragments are put together first.
 
-ghost use Rattle.std.specs.Prelude.{◌<◌, ◌≤◌, length};
+ghost use Rattle.std.specs.Prelude.{◌≡◌, ◌<◌, ◌≤◌, length};
 ghost use Rattle.packet_reassembly.specs.Pool.{HaveFirstHeaders};
-ghost use Rattle.uses.specs.Monitor.{IsSeen};
+ghost use Rattle.uses.specs.Monitor.{HasPoolAfter, IsSeen, WritesSeen};
 
 use packet_reassembly::ip_defrag_pool::{DatagramState, IpDefragPool};
 
@@ -25,6 +25,10 @@ pub fn watch(pool: &mut IpDefragPool, packet: &[u8], now: u64, out: &mut [u8]) -
     requires room { 65575 ≤ length out.old }
     ensures seen { IsSeen pool.old.slots.now packet.now pool.old.timeout now out.new result }
     ensures headers { HaveFirstHeaders pool.new.slots.now }
+    ensures pool { HasPoolAfter pool.old.slots.now packet.now pool.old.timeout now
+        pool.new.slots.now }
+    ensures timeout { pool.new.timeout ≡ pool.old.timeout }
+    ensures written { WritesSeen result out.old out.new }
 {
     let added = match pool.add_packet(packet, None, None, now) {
         Ok(Some(added)) => added,
