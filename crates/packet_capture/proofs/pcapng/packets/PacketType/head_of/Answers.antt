@@ -34,11 +34,13 @@ has_packet type order interfaces total_len block interface start head described 
     }
 
 pub returns-in_default : goal.returns-in_default
-returns-in_default c = record { reads = record {
-  number = c.interface_id-id.ensures.value;
-  among = refl;
-  none = slice_get_past c.args.interfaces.now _ c.in_default.ensures.lookup.3;
-} }
+returns-in_default c = record {
+  reads = record {
+    number = c.interface_id-id.ensures.value;
+    among = refl;
+    none = slice_get_past c.args.interfaces.now _ c.in_default.ensures.lookup.3;
+  };
+}
 
 pub returns-then-head-room : goal.returns-then-head-room
 returns-then-head-room c =
