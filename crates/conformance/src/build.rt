@@ -1,51 +1,55 @@
 //! Packets that are built, by `packet_builder`.
 
-use crate::arguments::{Argument, Arguments};
-use crate::shown::{Bytes, Show, Shown, Written};
+use crate::case::{Argument, Case};
+use crate::shown::{Answer, Shown};
 use etherparse::IpNumber;
 use etherparse_link::{
     ArpHardwareId, EtherType, LinuxSllHeader, LinuxSllPacketType, SingleVlanHeader,
 };
 use etherparse_transport::TcpHeader;
 use packet_builder::{BuildSliceWriteError, IpHeader, IpStep, LinkStep, PacketBuilder, VlanHeader};
-use std::fmt;
+use std::alloc::AllocError;
 
 /// `build ROOM LINK TAGS IP UPPER B`: a packet of these headers and this payload, written into so
 /// many bytes of memory.
-pub fn answer(arguments: &mut Arguments, answer: &mut String) -> Written {
-    let room: u16 = arguments.number();
-    let mut memory = vec![in arguments.alloc; 0; usize::from(room)]?;
-    let link: Option<LinkStep> = arguments.read();
-    let tags: Option<VlanHeader> = arguments.read();
-    let ip: IpHeader = arguments.read();
+pub fn answer(case: &mut Case) {
+    let room: u16 = case.number();
+    match vec![in case.alloc; 0; usize::from(room)] {
+        Ok(mut memory) => write_packet(&mut memory, case),
+        Err(AllocError) => case.answer.is_out_of_memory = true,
+    }
+}
+
+// Writes a packet into some memory.
+fn write_packet(memory: &mut [u8], case: &mut Case) {
+    let link: Option<LinkStep> = case.read();
+    let tags: Option<VlanHeader> = case.read();
+    let ip: IpHeader = case.read();
     let step = ip_step(link, tags, ip);
-    let (size, written) = match arguments.word() {
+    let (size, written) = match case.word() {
         "udp" => {
-            let step = step.udp(arguments.number(), arguments.number());
-            let payload = arguments.bytes();
+            let step = step.udp(case.number(), case.number());
+            let payload = case.bytes();
             let size = step.size(payload.len());
-            (size, step.write_to_slice(&mut memory, &payload))
+            (size, step.write_to_slice(memory, &payload))
         }
         "tcp" => {
-            let step = step.tcp_header(arguments.read());
-            let payload = arguments.bytes();
+            let step = step.tcp_header(case.read());
+            let payload = case.bytes();
             let size = step.size(payload.len());
-            (size, step.write_to_slice(&mut memory, &payload))
+            (size, step.write_to_slice(memory, &payload))
         }
         "ip" => {
-            let protocol = IpNumber(arguments.number());
-            let payload = arguments.bytes();
+            let protocol = IpNumber(case.number());
+            let payload = case.bytes();
             let size = step.size(payload.len());
-            (size, step.write_to_slice(&mut memory, protocol, &payload))
+            (size, step.write_to_slice(memory, protocol, &payload))
         }
-        _ => return arguments.refused(),
+        _ => return case.refuse(),
     };
-    write!(
-        answer,
-        "size={size} {} memory={}",
-        Show(&written),
-        Bytes(&memory)
-    )
+    case.answer.put("size=", &size);
+    case.answer.shown(" ", &written);
+    case.answer.bytes(" memory=", memory);
 }
 
 // A packet with these headers.
@@ -59,19 +63,19 @@ fn ip_step(link: Option<LinkStep>, tags: Option<VlanHeader>, ip: IpHeader) -> Ip
 
 /// `none`, `ethernet2 SOURCE DESTINATION`, or `sll` and the fields but that of what follows
 impl Argument for Option<LinkStep> {
-    fn read(arguments: &mut Arguments) -> Option<LinkStep> {
-        match arguments.word() {
-            "ethernet2" => Some(PacketBuilder::ethernet2(arguments.array(), arguments.array())),
+    fn read(case: &mut Case) -> Option<LinkStep> {
+        match case.word() {
+            "ethernet2" => Some(PacketBuilder::ethernet2(case.array(), case.array())),
             "sll" => Some(PacketBuilder::linux_sll(LinuxSllHeader {
-                packet_type: LinuxSllPacketType(arguments.number()),
-                arp_hrd_type: ArpHardwareId(arguments.number()),
-                sender_address_valid_length: arguments.number(),
-                sender_address: arguments.array(),
+                packet_type: LinuxSllPacketType(case.number()),
+                arp_hrd_type: ArpHardwareId(case.number()),
+                sender_address_valid_length: case.number(),
+                sender_address: case.array(),
                 protocol_type: EtherType(0),
             })),
             "none" => None,
             _ => {
-                arguments.refuse();
+                case.refuse();
                 None
             }
         }
@@ -80,16 +84,16 @@ impl Argument for Option<LinkStep> {
 
 /// `none`, `single TAG` or `double TAG TAG`
 impl Argument for Option<VlanHeader> {
-    fn read(arguments: &mut Arguments) -> Option<VlanHeader> {
-        match arguments.word() {
-            "single" => Some(VlanHeader::Single(arguments.read())),
+    fn read(case: &mut Case) -> Option<VlanHeader> {
+        match case.word() {
+            "single" => Some(VlanHeader::Single(case.read())),
             "double" => Some(VlanHeader::Double {
-                outer: arguments.read(),
-                inner: arguments.read(),
+                outer: case.read(),
+                inner: case.read(),
             }),
             "none" => None,
             _ => {
-                arguments.refuse();
+                case.refuse();
                 None
             }
         }
@@ -98,11 +102,11 @@ impl Argument for Option<VlanHeader> {
 
 /// `PCP DEI VLAN_ID`
 impl Argument for SingleVlanHeader {
-    fn read(arguments: &mut Arguments) -> SingleVlanHeader {
+    fn read(case: &mut Case) -> SingleVlanHeader {
         SingleVlanHeader {
-            pcp: arguments.field::<u8, _>(),
-            drop_eligible_indicator: arguments.flag(),
-            vlan_id: arguments.field::<u16, _>(),
+            pcp: case.field::<u8, _>(),
+            drop_eligible_indicator: case.flag(),
+            vlan_id: case.field::<u16, _>(),
             ether_type: EtherType(0),
         }
     }
@@ -110,13 +114,13 @@ impl Argument for SingleVlanHeader {
 
 /// `4` or `6`, and the fields
 impl Argument for IpHeader {
-    fn read(arguments: &mut Arguments) -> IpHeader {
-        match arguments.word() {
-            "4" => IpHeader::Ipv4(arguments.read()),
-            "6" => IpHeader::Ipv6(arguments.read()),
+    fn read(case: &mut Case) -> IpHeader {
+        match case.word() {
+            "4" => IpHeader::Ipv4(case.read()),
+            "6" => IpHeader::Ipv6(case.read()),
             _ => {
-                arguments.refuse();
-                IpHeader::Ipv6(arguments.read())
+                case.refuse();
+                IpHeader::Ipv6(case.read())
             }
         }
     }
@@ -124,11 +128,11 @@ impl Argument for IpHeader {
 
 /// The bytes of a header
 impl Argument for TcpHeader {
-    fn read(arguments: &mut Arguments) -> TcpHeader {
-        match TcpHeader::from_slice(&arguments.bytes()) {
+    fn read(case: &mut Case) -> TcpHeader {
+        match TcpHeader::from_slice(&case.bytes()) {
             Ok((header, _)) => header,
             Err(_) => {
-                arguments.refuse();
+                case.refuse();
                 TcpHeader::default()
             }
         }
@@ -136,13 +140,11 @@ impl Argument for TcpHeader {
 }
 
 impl Shown for BuildSliceWriteError {
-    fn show<W: fmt::Write>(&self, f: &mut fmt::Formatter<W>) -> fmt::Result {
+    fn show(&self, answer: &mut Answer) {
         match self {
-            BuildSliceWriteError::PayloadLen(e) => e.show(f),
-            BuildSliceWriteError::Icmpv6InIpv4 => f.write_str("err icmpv6_in_ipv4"),
-            BuildSliceWriteError::Space(required_len) => {
-                write!(f, "err space required={required_len}")
-            }
+            BuildSliceWriteError::PayloadLen(e) => e.show(answer),
+            BuildSliceWriteError::Icmpv6InIpv4 => answer.words("err icmpv6_in_ipv4"),
+            BuildSliceWriteError::Space(required) => answer.put("err space required=", required),
         }
     }
 }

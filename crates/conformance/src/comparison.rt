@@ -1,47 +1,53 @@
 //! The order of two values, and whether they are equal.
 
-use crate::arguments::Arguments;
-use crate::shown::{Comparison, Written, write_text};
+use crate::case::{Argument, Case, write_shown};
+use crate::shown::Comparison;
 use etherparse::err::{Layer, ValueType};
-use etherparse::{IpDscp, IpDscpKnown, IpEcn, IpFragOffset, IpNumber, Ipv6FlowLabel};
+use etherparse::{IpDscp, IpDscpKnown, IpEcn, IpFragOffset, IpNumber, Ipv4Options, Ipv6FlowLabel};
 use std::str::FromStr;
 
 /// The cases `KIND.cmp A B`, and `field.cmp FIELD A B`.
-pub fn answer(kind: &str, arguments: &mut Arguments, answer: &mut String) -> Written {
+pub fn answer(kind: &str, case: &mut Case) {
     let comparison = match kind {
-        "layer" => Comparison::of(&arguments.read::<Layer>(), &arguments.read()),
-        "value_type" => Comparison::of(&arguments.read::<ValueType>(), &arguments.read()),
-        "known" => Comparison::of(&arguments.read::<IpDscpKnown>(), &arguments.read()),
-        "field" => compared_fields(arguments),
-        _ => return arguments.refused(),
+        "layer" => compared::<Layer>(case),
+        "value_type" => compared::<ValueType>(case),
+        "known" => compared::<IpDscpKnown>(case),
+        "opt" => compared::<Ipv4Options>(case),
+        "field" => compared_fields(case),
+        _ => return case.refuse(),
     };
-    write_text(&comparison, answer)
+    write_shown(&comparison, case);
+}
+
+// Two values that have words of their own.
+fn compared<T: Argument + Ord + Drop>(case: &mut Case) -> Comparison {
+    Comparison::of(&case.read::<T>(), &case.read())
 }
 
 // Two values of the field that the first argument names.
-fn compared_fields(arguments: &mut Arguments) -> Comparison {
-    match arguments.word() {
-        "dscp" => compared::<u8, IpDscp>(arguments),
-        "frag" => compared::<u16, IpFragOffset>(arguments),
-        "flow" => compared::<u32, Ipv6FlowLabel>(arguments),
-        "ecn" => compared::<u8, IpEcn>(arguments),
+fn compared_fields(case: &mut Case) -> Comparison {
+    match case.word() {
+        "dscp" => compared_numbers::<u8, IpDscp>(case),
+        "frag" => compared_numbers::<u16, IpFragOffset>(case),
+        "flow" => compared_numbers::<u32, Ipv6FlowLabel>(case),
+        "ecn" => compared_numbers::<u8, IpEcn>(case),
         kind => {
             if kind != "ipnum" {
-                arguments.refuse();
+                case.refuse();
             }
-            Comparison::of(&IpNumber(arguments.number()), &IpNumber(arguments.number()))
+            Comparison::of(&IpNumber(case.number()), &IpNumber(case.number()))
         }
     }
 }
 
 // Two values of a field in range, by their numbers.
-fn compared<N, T>(arguments: &mut Arguments) -> Comparison
+fn compared_numbers<N, T>(case: &mut Case) -> Comparison
 where
     N: FromStr + Default,
     N::Err: Drop,
     T: TryFrom<N> + Default + Ord + Drop,
     T::Error: Drop,
 {
-    let (first, second): (T, T) = (arguments.field::<N, T>(), arguments.field::<N, T>());
+    let (first, second): (T, T) = (case.field::<N, T>(), case.field::<N, T>());
     Comparison::of(&first, &second)
 }

@@ -1,107 +1,120 @@
 //! The named constants, the variants in their order, and the defaults.
 
-use crate::arguments::Arguments;
-use crate::shown::{Bytes, Named, Written, write_named, write_shown};
-use crate::tables::{
-    CODE_POINTS, IP_NUMBER_NAMES, IP_NUMBERS, KNOWN_CODE_POINTS, LAYERS, VALUE_TYPES,
-};
+use crate::case::{Case, write_shown};
+use crate::shown::Answer;
+use crate::tables::{IP_NUMBER_NAMES, IP_NUMBERS, KNOWN_CODE_POINTS, LAYERS, VALUE_TYPES};
 use etherparse::{
     IpDscp, IpEcn, IpFragOffset, IpNumber, Ipv4Header, Ipv4Options, Ipv6FlowLabel, Ipv6Header,
 };
 use std::fmt::Debug;
 
 /// The cases `const.NAME`, which have no arguments.
-pub fn answer_const(name: &str, arguments: &mut Arguments, answer: &mut String) -> Written {
+pub fn answer_const(name: &str, case: &mut Case) {
     match name {
-        "fields" => write_fields(answer),
-        "headers" => write_headers(answer),
-        "dscp" => write_named(&CODE_POINTS, answer),
-        "known" => write_known_code_points(answer),
-        "ipnum" => write_named(&IP_NUMBERS, answer),
-        "ip_number" => write_named(&IP_NUMBER_NAMES, answer),
-        "layers" => write_names(&LAYERS, answer),
-        "value_types" => write_names(&VALUE_TYPES, answer),
-        _ => arguments.refused(),
+        "fields" => write_fields(&mut case.answer),
+        "headers" => write_headers(&mut case.answer),
+        "dscp" => write_code_points(&mut case.answer),
+        "known" => write_known_code_points(&mut case.answer),
+        "ipnum" => case.answer.named(&IP_NUMBERS),
+        "ip_number" => case.answer.named(&IP_NUMBER_NAMES),
+        "layers" => write_names(&LAYERS, &mut case.answer),
+        "value_types" => write_names(&VALUE_TYPES, &mut case.answer),
+        _ => case.refuse(),
     }
 }
 
-fn write_fields(answer: &mut String) -> Written {
-    let fields = [
-        ("IpDscp::ZERO", u32::from(IpDscp::ZERO.value())),
-        ("IpDscp::MAX_U8", u32::from(IpDscp::MAX_U8)),
-        ("IpDscp::MAX", u32::from(IpDscp::MAX.value())),
-        ("IpFragOffset::ZERO", u32::from(IpFragOffset::ZERO.value())),
-        ("IpFragOffset::MAX_U16", u32::from(IpFragOffset::MAX_U16)),
-        ("Ipv6FlowLabel::ZERO", Ipv6FlowLabel::ZERO.value()),
-        ("Ipv6FlowLabel::MAX_U32", Ipv6FlowLabel::MAX_U32),
-        ("IpEcn::ZERO", u32::from(IpEcn::ZERO.value())),
-        ("IpEcn::ONE", u32::from(IpEcn::ONE.value())),
-        ("IpEcn::TWO", u32::from(IpEcn::TWO.value())),
-        ("IpEcn::THREE", u32::from(IpEcn::THREE.value())),
-        ("IpEcn::TRHEE", u32::from(IpEcn::TRHEE.value())),
-        ("IpEcn::MAX_U8", u32::from(IpEcn::MAX_U8)),
-        ("Ipv4Options::MAX_LEN", u32::from(Ipv4Options::MAX_LEN)),
-    ];
-    write_named(&fields, answer)
+fn write_fields(answer: &mut Answer) {
+    answer.put("IpDscp::ZERO=", &IpDscp::ZERO.value());
+    answer.put(" IpDscp::MAX_U8=", &IpDscp::MAX_U8);
+    answer.put(" IpDscp::MAX=", &IpDscp::MAX.value());
+    answer.put(" IpFragOffset::ZERO=", &IpFragOffset::ZERO.value());
+    answer.put(" IpFragOffset::MAX_U16=", &IpFragOffset::MAX_U16);
+    answer.put(" Ipv6FlowLabel::ZERO=", &Ipv6FlowLabel::ZERO.value());
+    answer.put(" Ipv6FlowLabel::MAX_U32=", &Ipv6FlowLabel::MAX_U32);
+    answer.put(" IpEcn::ZERO=", &IpEcn::ZERO.value());
+    answer.put(" IpEcn::ONE=", &IpEcn::ONE.value());
+    answer.put(" IpEcn::TWO=", &IpEcn::TWO.value());
+    answer.put(" IpEcn::THREE=", &IpEcn::THREE.value());
+    answer.put(" IpEcn::TRHEE=", &IpEcn::TRHEE.value());
+    answer.put(" IpEcn::MAX_U8=", &IpEcn::MAX_U8);
+    answer.put(" Ipv4Options::MAX_LEN=", &Ipv4Options::MAX_LEN);
 }
 
-fn write_headers(answer: &mut String) -> Written {
-    let lengths = [
-        ("Ipv4Header::MIN_LEN", Ipv4Header::MIN_LEN),
-        (
-            "Ipv4Header::MIN_LEN_U16",
-            usize::from(Ipv4Header::MIN_LEN_U16),
-        ),
-        ("Ipv4Header::SERIALIZED_SIZE", Ipv4Header::SERIALIZED_SIZE),
-        ("Ipv4Header::MAX_LEN", Ipv4Header::MAX_LEN),
-        ("Ipv6Header::LEN", Ipv6Header::LEN),
-        ("Ipv6Header::SERIALIZED_SIZE", Ipv6Header::SERIALIZED_SIZE),
-    ];
-    write_named(&lengths, answer)
+fn write_headers(answer: &mut Answer) {
+    answer.put("Ipv4Header::MIN_LEN=", &Ipv4Header::MIN_LEN);
+    answer.put(" Ipv4Header::MIN_LEN_U16=", &Ipv4Header::MIN_LEN_U16);
+    answer.put(
+        " Ipv4Header::SERIALIZED_SIZE=",
+        &Ipv4Header::SERIALIZED_SIZE,
+    );
+    answer.put(" Ipv4Header::MAX_LEN=", &Ipv4Header::MAX_LEN);
+    answer.put(" Ipv6Header::LEN=", &Ipv6Header::LEN);
+    answer.put(
+        " Ipv6Header::SERIALIZED_SIZE=",
+        &Ipv6Header::SERIALIZED_SIZE,
+    );
 }
 
-fn write_known_code_points(answer: &mut String) -> Written {
+// The differentiated services code points that have names, by their numbers.
+fn write_code_points(answer: &mut Answer) {
+    answer.put("CS0=", &IpDscp::CS0);
+    answer.put(" LOWER_EFFORT=", &IpDscp::LOWER_EFFORT);
+    answer.put(" CS1=", &IpDscp::CS1);
+    answer.put(" AF11=", &IpDscp::AF11);
+    answer.put(" AF12=", &IpDscp::AF12);
+    answer.put(" AF13=", &IpDscp::AF13);
+    answer.put(" CS2=", &IpDscp::CS2);
+    answer.put(" AF21=", &IpDscp::AF21);
+    answer.put(" AF22=", &IpDscp::AF22);
+    answer.put(" AF23=", &IpDscp::AF23);
+    answer.put(" CS3=", &IpDscp::CS3);
+    answer.put(" AF31=", &IpDscp::AF31);
+    answer.put(" AF32=", &IpDscp::AF32);
+    answer.put(" AF33=", &IpDscp::AF33);
+    answer.put(" CS4=", &IpDscp::CS4);
+    answer.put(" AF41=", &IpDscp::AF41);
+    answer.put(" AF42=", &IpDscp::AF42);
+    answer.put(" AF43=", &IpDscp::AF43);
+    answer.put(" CS5=", &IpDscp::CS5);
+    answer.put(" VOICE_ADMIT=", &IpDscp::VOICE_ADMIT);
+    answer.put(" EF=", &IpDscp::EF);
+    answer.put(" CS6=", &IpDscp::CS6);
+    answer.put(" CS7=", &IpDscp::CS7);
+}
+
+fn write_known_code_points(answer: &mut Answer) {
     let mut gap = "";
     for (_, known) in &KNOWN_CODE_POINTS {
-        write!(answer, "{gap}{known:?}={}", u8::from(*known))?;
+        answer.debug(gap, known);
+        answer.put("=", &u8::from(*known));
         gap = " ";
     }
-    Ok(())
 }
 
 // The values of a table, in its order, by the names that their `Debug` has for them.
-fn write_names<T: Debug>(table: &[(&str, T)], answer: &mut String) -> Written {
+fn write_names<T: Debug>(table: &[(&str, T)], answer: &mut Answer) {
     let mut gap = "";
     for (_, value) in table {
-        write!(answer, "{gap}{value:?}")?;
+        answer.debug(gap, value);
         gap = " ";
     }
-    Ok(())
 }
 
 /// The cases `default.NAME`, which have no arguments.
-pub fn answer_default(name: &str, arguments: &mut Arguments, answer: &mut String) -> Written {
+pub fn answer_default(name: &str, case: &mut Case) {
     match name {
-        "fields" => write_default_fields(answer),
-        "v4" => write_shown(&Ipv4Header::default(), answer),
-        "v6" => write_shown(&Ipv6Header::default(), answer),
-        _ => arguments.refused(),
+        "fields" => write_default_fields(&mut case.answer),
+        "v4" => write_shown(&Ipv4Header::default(), case),
+        "v6" => write_shown(&Ipv6Header::default(), case),
+        _ => case.refuse(),
     }
 }
 
-fn write_default_fields(answer: &mut String) -> Written {
-    let fields = [
-        ("dscp", u32::from(IpDscp::default().value())),
-        ("frag", u32::from(IpFragOffset::default().value())),
-        ("flow", Ipv6FlowLabel::default().value()),
-        ("ecn", u32::from(IpEcn::default().value())),
-        ("ipnum", u32::from(IpNumber::default().0)),
-    ];
-    let options = Ipv4Options::default();
-    write!(
-        answer,
-        "{} options={}",
-        Named(&fields),
-        Bytes(options.as_slice())
-    )
+fn write_default_fields(answer: &mut Answer) {
+    answer.put("dscp=", &IpDscp::default().value());
+    answer.put(" frag=", &IpFragOffset::default().value());
+    answer.put(" flow=", &Ipv6FlowLabel::default().value());
+    answer.put(" ecn=", &IpEcn::default().value());
+    answer.put(" ipnum=", &IpNumber::default().0);
+    answer.bytes(" options=", Ipv4Options::default().as_slice());
 }

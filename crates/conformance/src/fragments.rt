@@ -2,50 +2,52 @@
 
 ghost use Rattle.std.specs.Prelude.{◌≡◌, IfOk, length};
 
-use crate::arguments::Arguments;
-use crate::shown::{Bytes, Shown, Written, write_shown};
+use crate::case::{Case, write_shown};
+use crate::shown::{Answer, Shown};
 use etherparse::IpFragOffset;
 use packet_reassembly::ip_defrag_buf::IpDefragBuf;
 use packet_reassembly::ip_defrag_error::IpDefragError;
 use std::alloc::{AllocError, Global};
-use std::fmt;
 
 /// `fragments COUNT [OFFSET MORE PAYLOAD]..`: what is known of a datagram after each of its
 /// fragments, and its bytes.
-pub fn answer(arguments: &mut Arguments, answer: &mut String) -> Written {
-    let mut bytes = zeros(arguments.alloc, IpDefragBuf::MAX_LEN)?;
-    let mut units = zeros(arguments.alloc, IpDefragBuf::UNITS)?;
-    let mut buf = IpDefragBuf::new(bytes.as_mut_slice(), units.as_mut_slice());
-    add_all(&mut buf, arguments, answer)?;
-    write_datagram(&buf, answer)
+pub fn answer(case: &mut Case) {
+    let done = write_fragments(case);
+    case.answer.note(&done);
 }
 
-// Adds the fragments, and writes what is known after each.
-fn add_all(buf: &mut IpDefragBuf, arguments: &mut Arguments, answer: &mut String) -> Written {
-    for _ in 0..arguments.number::<u16>() {
-        add_next(buf, arguments, answer)?;
-        answer.push_str(" ; ")?;
-    }
+// The answer, if there is memory for the datagram.
+fn write_fragments(case: &mut Case) -> Result<(), AllocError> {
+    let mut bytes = zeros(case.alloc, IpDefragBuf::MAX_LEN)?;
+    let mut units = zeros(case.alloc, IpDefragBuf::UNITS)?;
+    let mut buf = IpDefragBuf::new(bytes.as_mut_slice(), units.as_mut_slice());
+    add_all(&mut buf, case);
+    write_datagram(&buf, &mut case.answer);
     Ok(())
 }
 
+// Adds the fragments, and writes what is known after each.
+fn add_all(buf: &mut IpDefragBuf, case: &mut Case) {
+    for _ in 0..case.number::<u16>() {
+        add_next(buf, case);
+        case.answer.words(" ; ");
+    }
+}
+
 // Adds the next fragment, and writes what is known then.
-fn add_next(buf: &mut IpDefragBuf, arguments: &mut Arguments, answer: &mut String) -> Written {
-    let offset = arguments.field::<u16, IpFragOffset>();
-    let more_fragments = arguments.flag();
-    let payload = arguments.bytes();
+fn add_next(buf: &mut IpDefragBuf, case: &mut Case) {
+    let offset = case.field::<u16, IpFragOffset>();
+    let more_fragments = case.flag();
+    let payload = case.bytes();
     match buf.add(offset, more_fragments, &payload) {
-        Ok(()) => answer.push_str(state_of(buf)),
-        Err(e) => write_shown(&e, answer),
+        Ok(()) => case.answer.words(state_of(buf)),
+        Err(e) => write_shown(&e, case),
     }
 }
 
 // Writes the bytes of the datagram, if it is whole.
-fn write_datagram(buf: &IpDefragBuf, answer: &mut String) -> Written {
-    match buf.datagram() {
-        Some(datagram) => write!(answer, "{}", Bytes(datagram)),
-        None => answer.push_str("-"),
-    }
+fn write_datagram(buf: &IpDefragBuf, answer: &mut Answer) {
+    answer.bytes("", buf.datagram().unwrap_or(&[]));
 }
 
 // What is known of a datagram.
@@ -67,17 +69,20 @@ fn zeros(alloc: Global, len: usize) -> Result<Vec<u8>, AllocError>
 }
 
 impl Shown for IpDefragError {
-    fn show<W: fmt::Write>(&self, f: &mut fmt::Formatter<W>) -> fmt::Result {
+    fn show(&self, answer: &mut Answer) {
         match self {
-            IpDefragError::Empty { .. } => f.write_str("err empty"),
+            IpDefragError::Empty { .. } => answer.words("err empty"),
             IpDefragError::UnalignedFragmentPayloadLen { payload_len, .. } => {
-                write!(f, "err unaligned len={payload_len}")
+                answer.put("err unaligned len=", payload_len)
             }
             IpDefragError::SegmentTooBig {
                 payload_len,
                 max,
                 ..
-            } => write!(f, "err too_big len={payload_len} max={max}"),
+            } => {
+                answer.put("err too_big len=", payload_len);
+                answer.put(" max=", max);
+            }
         }
     }
 }

@@ -1,230 +1,133 @@
 //! IPv4 headers and their views.
 
-use crate::arguments::Arguments;
-use crate::shown::{
-    Bytes, Named, Show, Shown, Written, write_change, write_equality, write_set, write_shown,
-};
-use etherparse::{IpDscp, IpEcn, IpFragOffset, IpNumber, Ipv4Header, Ipv4HeaderSlice};
-use std::fmt;
-use std::fmt::Display;
+use crate::case::{Case, write_change, write_equality, write_shown};
+use crate::shown::{Answer, Found, Shown};
+use etherparse::{IpNumber, Ipv4Header, Ipv4HeaderSlice};
 
 /// The cases `v4.NAME`.
-pub fn answer(name: &str, arguments: &mut Arguments, answer: &mut String) -> Written {
+pub fn answer(name: &str, case: &mut Case) {
     match name {
-        "info" => write_info(&arguments.read(), answer),
-        "new" => answer_new(arguments, answer),
-        "eq" => write_equality(
-            arguments.read::<Ipv4Header>() == arguments.read::<Ipv4Header>(),
-            answer,
-        ),
+        "info" => write_info(&case.read(), &mut case.answer),
+        "new" => answer_new(case),
+        "eq" => write_equality(case.read::<Ipv4Header>() == case.read::<Ipv4Header>(), case),
         "set_payload_len" => {
-            let payload_len: usize = arguments.number();
-            let mut header: Ipv4Header = arguments.read();
-            write_change(&header.set_payload_len(payload_len), &header, answer)
+            let payload_len: usize = case.number();
+            let mut header: Ipv4Header = case.read();
+            write_change(&header.set_payload_len(payload_len), &header, case);
         }
         "set_options" => {
-            let options = arguments.bytes();
-            let mut header: Ipv4Header = arguments.read();
-            write_change(&header.set_options(&options), &header, answer)
+            let options = case.bytes();
+            let mut header: Ipv4Header = case.read();
+            write_change(&header.set_options(&options), &header, case);
         }
         "set_ttl" => {
-            let time_to_live = arguments.number();
-            let mut header: Ipv4Header = arguments.read();
+            let time_to_live = case.number();
+            let mut header: Ipv4Header = case.read();
             header.set_time_to_live(time_to_live);
-            write_set(&header, answer)
+            case.answer.shown("ok ; ", &header);
         }
-        _ => answer_slice(name, arguments, answer),
+        _ => write_slice(name, &case.bytes(), case),
     }
-}
-
-// A header or a view of the front of a slice.
-fn answer_slice(name: &str, arguments: &mut Arguments, answer: &mut String) -> Written {
-    let bytes = arguments.bytes();
-    if name == "view_eq" {
-        return match are_views_equal(&bytes, &arguments.bytes()) {
-            Some(is_equal) => write_equality(is_equal, answer),
-            None => arguments.refused(),
-        };
-    }
-    write_slice(name, &bytes, arguments, answer)
 }
 
 // What is read at the front of some bytes.
-fn write_slice(
-    name: &str,
-    bytes: &[u8],
-    arguments: &mut Arguments,
-    answer: &mut String,
-) -> Written {
+fn write_slice(name: &str, bytes: &[u8], case: &mut Case) {
     match name {
-        "view" => write_shown(&Ipv4HeaderSlice::from_slice(bytes), answer),
-        "view_header" => write_view_header(bytes, answer),
-        "head" => write_shown(&Ipv4Header::from_slice(bytes), answer),
-        "read" => write_shown(&Ipv4Header::read_from_slice(bytes), answer),
-        _ => arguments.refused(),
+        "view" => write_shown(&Ipv4HeaderSlice::from_slice(bytes), case),
+        "view_header" => write_view_header(bytes, case),
+        "view_eq" => write_view_equality(bytes, &case.bytes(), case),
+        "head" => write_shown(&Ipv4Header::from_slice(bytes), case),
+        "read" => write_shown(&Ipv4Header::read_from_slice(bytes), case),
+        _ => case.refuse(),
     }
 }
 
 // The header that a view makes.
-fn write_view_header(bytes: &[u8], answer: &mut String) -> Written {
+fn write_view_header(bytes: &[u8], case: &mut Case) {
     match Ipv4HeaderSlice::from_slice(bytes) {
-        Ok(view) => write!(answer, "ok {}", Show(&view.to_header())),
-        Err(e) => write_shown(&e, answer),
+        Ok(view) => case.answer.shown("ok ", &view.to_header()),
+        Err(e) => write_shown(&e, case),
     }
 }
 
-// Whether the views of two slices are equal; `None` if one has none.
-fn are_views_equal(first: &[u8], second: &[u8]) -> Option<bool> {
-    let first = Ipv4HeaderSlice::from_slice(first).ok()?;
-    let second = Ipv4HeaderSlice::from_slice(second).ok()?;
-    Some(first == second)
+// Whether the views of two slices are equal. If one has none, the case is a bad one.
+fn write_view_equality(first: &[u8], second: &[u8], case: &mut Case) {
+    match (
+        Ipv4HeaderSlice::from_slice(first),
+        Ipv4HeaderSlice::from_slice(second),
+    ) {
+        (Ok(first), Ok(second)) => write_equality(first == second, case),
+        _ => case.refuse(),
+    }
 }
 
 // What a header says about itself beyond its fields.
-fn write_info(header: &Ipv4Header, answer: &mut String) -> Written {
-    let numbers = [
-        ("ihl", usize::from(header.ihl())),
-        ("header_len", header.header_len()),
-        ("max_payload_len", usize::from(header.max_payload_len())),
-    ];
-    let (fragmenting, checksum) = (
-        header.is_fragmenting_payload(),
-        header.calc_header_checksum(),
-    );
-    let (options, bytes) = (Bytes(header.options()), header.to_bytes());
-    write!(
-        answer,
-        "{} fragmenting={fragmenting} calc={checksum} options={options} bytes={} payload_len={}",
-        Named(&numbers),
-        Bytes(bytes.as_slice()),
-        Show(&header.payload_len())
-    )
+fn write_info(header: &Ipv4Header, answer: &mut Answer) {
+    answer.put("ihl=", &header.ihl());
+    answer.put(" header_len=", &header.header_len());
+    answer.put(" max_payload_len=", &header.max_payload_len());
+    answer.put(" fragmenting=", &header.is_fragmenting_payload());
+    answer.put(" calc=", &header.calc_header_checksum());
+    answer.bytes(" options=", header.options());
+    answer.bytes(" bytes=", header.to_bytes().as_slice());
+    answer.shown(" payload_len=", &header.payload_len());
 }
 
 // A header for a payload.
-fn answer_new(arguments: &mut Arguments, answer: &mut String) -> Written {
-    let payload_len = arguments.number();
-    let time_to_live = arguments.number();
-    let protocol = IpNumber(arguments.number());
-    let (source, destination) = (arguments.array(), arguments.array());
+fn answer_new(case: &mut Case) {
+    let payload_len = case.number();
+    let time_to_live = case.number();
+    let protocol = IpNumber(case.number());
+    let (source, destination) = (case.array(), case.array());
     let made = Ipv4Header::new(payload_len, time_to_live, protocol, source, destination);
-    write_shown(&made, answer)
-}
-
-/// The fields of an IPv4 header, as the header has them or as a view shows them.
-#[derive(Drop)]
-struct Ipv4Fields<'a> {
-    dscp: IpDscp,
-    ecn: IpEcn,
-    total_len: u16,
-    identification: u16,
-    dont_fragment: bool,
-    more_fragments: bool,
-    fragment_offset: IpFragOffset,
-    time_to_live: u8,
-    protocol: IpNumber,
-    header_checksum: u16,
-    source: [u8; 4],
-    destination: [u8; 4],
-    options: &'a [u8],
-}
-
-impl Display for Ipv4Fields<'_> {
-    fn fmt<W: fmt::Write>(&self, f: &mut fmt::Formatter<W>) -> fmt::Result {
-        let first = [
-            ("dscp", u16::from(self.dscp.value())),
-            ("ecn", u16::from(self.ecn.value())),
-            ("total_len", self.total_len),
-            ("identification", self.identification),
-        ];
-        let flags = [
-            ("dont_fragment", self.dont_fragment),
-            ("more_fragments", self.more_fragments),
-        ];
-        let next = [
-            ("fragment_offset", self.fragment_offset.value()),
-            ("time_to_live", u16::from(self.time_to_live)),
-            ("protocol", u16::from(self.protocol.0)),
-            ("header_checksum", self.header_checksum),
-        ];
-        let last = [
-            ("source", Bytes(&self.source)),
-            ("destination", Bytes(&self.destination)),
-            ("options", Bytes(self.options)),
-        ];
-        write!(
-            f,
-            "{} {} {} {}",
-            Named(&first),
-            Named(&flags),
-            Named(&next),
-            Named(&last)
-        )
-    }
+    write_shown(&made, case);
 }
 
 impl Shown for Ipv4Header {
-    fn show<W: fmt::Write>(&self, f: &mut fmt::Formatter<W>) -> fmt::Result {
-        let fields = Ipv4Fields {
-            dscp: self.dscp,
-            ecn: self.ecn,
-            total_len: self.total_len,
-            identification: self.identification,
-            dont_fragment: self.dont_fragment,
-            more_fragments: self.more_fragments,
-            fragment_offset: self.fragment_offset,
-            time_to_live: self.time_to_live,
-            protocol: self.protocol,
-            header_checksum: self.header_checksum,
-            source: self.source,
-            destination: self.destination,
-            options: self.options(),
-        };
-        fields.fmt(f)
+    fn show(&self, answer: &mut Answer) {
+        answer.put("dscp=", &self.dscp.value());
+        answer.put(" ecn=", &self.ecn.value());
+        answer.put(" total_len=", &self.total_len);
+        answer.put(" identification=", &self.identification);
+        answer.put(" dont_fragment=", &self.dont_fragment);
+        answer.put(" more_fragments=", &self.more_fragments);
+        answer.put(" fragment_offset=", &self.fragment_offset.value());
+        answer.put(" time_to_live=", &self.time_to_live);
+        answer.put(" protocol=", &self.protocol.0);
+        answer.put(" header_checksum=", &self.header_checksum);
+        answer.bytes(" source=", &self.source);
+        answer.bytes(" destination=", &self.destination);
+        answer.bytes(" options=", self.options());
     }
 }
 
 /// What the getters of a view return.
 impl Shown for Ipv4HeaderSlice<'_> {
-    fn show<W: fmt::Write>(&self, f: &mut fmt::Formatter<W>) -> fmt::Result {
-        let fields = Ipv4Fields {
-            dscp: self.dcp(),
-            ecn: self.ecn(),
-            total_len: self.total_len(),
-            identification: self.identification(),
-            dont_fragment: self.dont_fragment(),
-            more_fragments: self.more_fragments(),
-            fragment_offset: self.fragments_offset(),
-            time_to_live: self.ttl(),
-            protocol: self.protocol(),
-            header_checksum: self.header_checksum(),
-            source: self.source(),
-            destination: self.destination(),
-            options: self.options(),
-        };
-        write!(
-            f,
-            "slice={} version={} ihl={} {fields} fragmenting={} payload_len={}",
-            Bytes(self.slice()),
-            self.version(),
-            self.ihl(),
-            self.is_fragmenting_payload(),
-            Show(&self.payload_len())
-        )
+    fn show(&self, answer: &mut Answer) {
+        answer.bytes("slice=", self.slice());
+        answer.put(" version=", &self.version());
+        answer.put(" ihl=", &self.ihl());
+        answer.put(" dscp=", &self.dcp().value());
+        answer.put(" ecn=", &self.ecn().value());
+        answer.put(" total_len=", &self.total_len());
+        answer.put(" identification=", &self.identification());
+        answer.put(" dont_fragment=", &self.dont_fragment());
+        answer.put(" more_fragments=", &self.more_fragments());
+        answer.put(" fragment_offset=", &self.fragments_offset().value());
+        answer.put(" time_to_live=", &self.ttl());
+        answer.put(" protocol=", &self.protocol().0);
+        answer.put(" header_checksum=", &self.header_checksum());
+        answer.bytes(" source=", &self.source());
+        answer.bytes(" destination=", &self.destination());
+        answer.bytes(" options=", self.options());
+        answer.put(" fragmenting=", &self.is_fragmenting_payload());
+        answer.shown(" payload_len=", &self.payload_len());
     }
 }
 
-/// A header, what follows it, and its bytes again.
-impl Shown for (Ipv4Header, &[u8]) {
-    fn show<W: fmt::Write>(&self, f: &mut fmt::Formatter<W>) -> fmt::Result {
-        let (header, rest) = self;
-        let bytes = header.to_bytes();
-        write!(
-            f,
-            "{} rest={} bytes={}",
-            Show(header),
-            Bytes(rest),
-            Bytes(bytes.as_slice())
-        )
+impl Shown for Found<'_, Ipv4Header> {
+    fn show(&self, answer: &mut Answer) {
+        self.0.show(answer);
+        answer.rest_and_bytes(self.1, self.0.to_bytes().as_slice());
     }
 }

@@ -1,149 +1,107 @@
 //! IPv6 headers and their views.
 
-use crate::arguments::Arguments;
-use crate::shown::{
-    Bytes, Named, Show, Shown, Written, write_change, write_equality, write_set, write_shown,
-};
+use crate::case::{Case, write_change, write_equality, write_shown};
+use crate::shown::{Answer, Found, Shown};
 use etherparse::{Ipv6Header, Ipv6HeaderSlice};
-use std::fmt;
 
 /// The cases `v6.NAME`.
-pub fn answer(name: &str, arguments: &mut Arguments, answer: &mut String) -> Written {
+pub fn answer(name: &str, case: &mut Case) {
     match name {
-        "info" => write_info(&arguments.read(), answer),
-        "eq" => write_equality(
-            arguments.read::<Ipv6Header>() == arguments.read::<Ipv6Header>(),
-            answer,
-        ),
+        "info" => write_info(&case.read(), &mut case.answer),
+        "eq" => write_equality(case.read::<Ipv6Header>() == case.read::<Ipv6Header>(), case),
         "set_payload_length" => {
-            let size: usize = arguments.number();
-            let mut header: Ipv6Header = arguments.read();
-            write_change(&header.set_payload_length(size), &header, answer)
+            let size: usize = case.number();
+            let mut header: Ipv6Header = case.read();
+            write_change(&header.set_payload_length(size), &header, case);
         }
         "set_ecn" => {
-            let ecn = arguments.field::<u8, _>();
-            let mut header: Ipv6Header = arguments.read();
+            let ecn = case.field::<u8, _>();
+            let mut header: Ipv6Header = case.read();
             header.set_ecn(ecn);
-            write_set(&header, answer)
+            case.answer.shown("ok ; ", &header);
         }
         "set_dscp" => {
-            let dscp = arguments.field::<u8, _>();
-            let mut header: Ipv6Header = arguments.read();
+            let dscp = case.field::<u8, _>();
+            let mut header: Ipv6Header = case.read();
             header.set_dscp(dscp);
-            write_set(&header, answer)
+            case.answer.shown("ok ; ", &header);
         }
-        _ => answer_slice(name, arguments, answer),
+        _ => write_slice(name, &case.bytes(), case),
     }
-}
-
-// A header or a view of the front of a slice.
-fn answer_slice(name: &str, arguments: &mut Arguments, answer: &mut String) -> Written {
-    let bytes = arguments.bytes();
-    if name == "view_eq" {
-        return match are_views_equal(&bytes, &arguments.bytes()) {
-            Some(is_equal) => write_equality(is_equal, answer),
-            None => arguments.refused(),
-        };
-    }
-    write_slice(name, &bytes, arguments, answer)
 }
 
 // What is read at the front of some bytes.
-fn write_slice(
-    name: &str,
-    bytes: &[u8],
-    arguments: &mut Arguments,
-    answer: &mut String,
-) -> Written {
+fn write_slice(name: &str, bytes: &[u8], case: &mut Case) {
     match name {
-        "view" => write_shown(&Ipv6HeaderSlice::from_slice(bytes), answer),
-        "view_header" => write_view_header(bytes, answer),
-        "head" => write_shown(&Ipv6Header::from_slice(bytes), answer),
-        "read" => write_shown(&Ipv6Header::read_from_slice(bytes), answer),
-        _ => arguments.refused(),
+        "view" => write_shown(&Ipv6HeaderSlice::from_slice(bytes), case),
+        "view_header" => write_view_header(bytes, case),
+        "view_eq" => write_view_equality(bytes, &case.bytes(), case),
+        "head" => write_shown(&Ipv6Header::from_slice(bytes), case),
+        "read" => write_shown(&Ipv6Header::read_from_slice(bytes), case),
+        _ => case.refuse(),
     }
 }
 
 // The header that a view makes.
-fn write_view_header(bytes: &[u8], answer: &mut String) -> Written {
+fn write_view_header(bytes: &[u8], case: &mut Case) {
     match Ipv6HeaderSlice::from_slice(bytes) {
-        Ok(view) => write!(answer, "ok {}", Show(&view.to_header())),
-        Err(e) => write_shown(&e, answer),
+        Ok(view) => case.answer.shown("ok ", &view.to_header()),
+        Err(e) => write_shown(&e, case),
     }
 }
 
-// Whether the views of two slices are equal; `None` if one has none.
-fn are_views_equal(first: &[u8], second: &[u8]) -> Option<bool> {
-    let first = Ipv6HeaderSlice::from_slice(first).ok()?;
-    let second = Ipv6HeaderSlice::from_slice(second).ok()?;
-    Some(first == second)
+// Whether the views of two slices are equal. If one has none, the case is a bad one.
+fn write_view_equality(first: &[u8], second: &[u8], case: &mut Case) {
+    match (
+        Ipv6HeaderSlice::from_slice(first),
+        Ipv6HeaderSlice::from_slice(second),
+    ) {
+        (Ok(first), Ok(second)) => write_equality(first == second, case),
+        _ => case.refuse(),
+    }
 }
 
 // What a header says about itself beyond its fields, and its bytes.
-fn write_info(header: &Ipv6Header, answer: &mut String) -> Written {
-    let (dscp, ecn, header_len) = (header.dscp(), header.ecn(), header.header_len());
-    write!(
-        answer,
-        "dscp={dscp} ecn={ecn} header_len={header_len} bytes={}",
-        Bytes(&header.to_bytes())
-    )
+fn write_info(header: &Ipv6Header, answer: &mut Answer) {
+    answer.put("dscp=", &header.dscp());
+    answer.put(" ecn=", &header.ecn());
+    answer.put(" header_len=", &header.header_len());
+    answer.bytes(" bytes=", &header.to_bytes());
 }
 
 impl Shown for Ipv6Header {
-    fn show<W: fmt::Write>(&self, f: &mut fmt::Formatter<W>) -> fmt::Result {
-        let numbers = [
-            ("traffic_class", u32::from(self.traffic_class)),
-            ("flow_label", self.flow_label.value()),
-            ("payload_length", u32::from(self.payload_length)),
-            ("next_header", u32::from(self.next_header.0)),
-            ("hop_limit", u32::from(self.hop_limit)),
-        ];
-        let addresses = [
-            ("source", Bytes(&self.source)),
-            ("destination", Bytes(&self.destination)),
-        ];
-        write!(f, "{} {}", Named(&numbers), Named(&addresses))
+    fn show(&self, answer: &mut Answer) {
+        answer.put("traffic_class=", &self.traffic_class);
+        answer.put(" flow_label=", &self.flow_label.value());
+        answer.put(" payload_length=", &self.payload_length);
+        answer.put(" next_header=", &self.next_header.0);
+        answer.put(" hop_limit=", &self.hop_limit);
+        answer.bytes(" source=", &self.source);
+        answer.bytes(" destination=", &self.destination);
     }
 }
 
 /// What the getters of a view return.
 impl Shown for Ipv6HeaderSlice<'_> {
-    fn show<W: fmt::Write>(&self, f: &mut fmt::Formatter<W>) -> fmt::Result {
-        let numbers = [
-            ("version", u32::from(self.version())),
-            ("traffic_class", u32::from(self.traffic_class())),
-            ("dscp", u32::from(self.dscp().value())),
-            ("ecn", u32::from(self.ecn().value())),
-            ("flow_label", self.flow_label().value()),
-            ("payload_length", u32::from(self.payload_length())),
-            ("next_header", u32::from(self.next_header().0)),
-            ("hop_limit", u32::from(self.hop_limit())),
-        ];
-        let (source, destination) = (self.source(), self.destination());
-        let addresses = [
-            ("source", Bytes(&source)),
-            ("destination", Bytes(&destination)),
-        ];
-        let (slice, header_len) = (Bytes(self.slice()), self.header_len());
-        write!(
-            f,
-            "slice={slice} {} {} header_len={header_len}",
-            Named(&numbers),
-            Named(&addresses)
-        )
+    fn show(&self, answer: &mut Answer) {
+        answer.bytes("slice=", self.slice());
+        answer.put(" version=", &self.version());
+        answer.put(" traffic_class=", &self.traffic_class());
+        answer.put(" dscp=", &self.dscp().value());
+        answer.put(" ecn=", &self.ecn().value());
+        answer.put(" flow_label=", &self.flow_label().value());
+        answer.put(" payload_length=", &self.payload_length());
+        answer.put(" next_header=", &self.next_header().0);
+        answer.put(" hop_limit=", &self.hop_limit());
+        answer.bytes(" source=", &self.source());
+        answer.bytes(" destination=", &self.destination());
+        answer.put(" header_len=", &self.header_len());
     }
 }
 
-/// A header, what follows it, and its bytes again.
-impl Shown for (Ipv6Header, &[u8]) {
-    fn show<W: fmt::Write>(&self, f: &mut fmt::Formatter<W>) -> fmt::Result {
-        let (header, rest) = self;
-        write!(
-            f,
-            "{} rest={} bytes={}",
-            Show(header),
-            Bytes(rest),
-            Bytes(&header.to_bytes())
-        )
+impl Shown for Found<'_, Ipv6Header> {
+    fn show(&self, answer: &mut Answer) {
+        self.0.show(answer);
+        answer.rest_and_bytes(self.1, &self.0.to_bytes());
     }
 }

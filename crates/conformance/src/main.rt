@@ -3,11 +3,11 @@
 #![tactic(auto)]
 
 mod answer;
-mod arguments;
 mod build;
+mod case;
 mod comparison;
 mod constants;
-mod equality;
+mod errors;
 mod extensions;
 mod fields;
 mod filters;
@@ -23,7 +23,6 @@ mod replay;
 mod shown;
 mod sums;
 mod tables;
-mod texts;
 mod transport;
 mod walks;
 

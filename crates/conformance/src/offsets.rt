@@ -3,32 +3,29 @@
 ghost use Rattle.std.specs.Prelude.{◌+◌, ◌^◌, ◌<◌};
 ghost use Rattle.std.specs.Bool.{OnTrue};
 
-use crate::arguments::{Argument, Arguments};
-use crate::shown::{Shown, Written, write_shown};
+use crate::case::{Argument, Case, write_shown};
+use crate::shown::Shown;
 use etherparse::err::{LenError, ipv4, ipv6};
 
 /// The cases `off.NAME OFFSET ERROR`: each makes an error from its arguments and adds the offset to
 /// its place. If the sum does not fit, the case is a bad one.
-pub fn answer(name: &str, arguments: &mut Arguments, answer: &mut String) -> Written {
+pub fn answer(name: &str, case: &mut Case) {
     match name {
-        "len" => write_moved::<LenError>(arguments, answer),
-        "v4" => write_moved::<ipv4::HeaderSliceError>(arguments, answer),
-        "v6" => write_moved::<ipv6::HeaderSliceError>(arguments, answer),
-        "chain" => write_moved::<ipv6::ChainError>(arguments, answer),
-        _ => arguments.refused(),
+        "len" => write_moved::<LenError>(case),
+        "v4" => write_moved::<ipv4::HeaderSliceError>(case),
+        "v6" => write_moved::<ipv6::HeaderSliceError>(case),
+        "chain" => write_moved::<ipv6::ChainError>(case),
+        _ => case.refuse(),
     }
 }
 
 // Reads an offset and an error, and writes the error with the offset added to its place.
-fn write_moved<E: Argument + Placed + Shown>(
-    arguments: &mut Arguments,
-    answer: &mut String,
-) -> Written {
-    let offset = arguments.number();
-    let error: E = arguments.read();
+fn write_moved<E: Argument + Placed + Shown>(case: &mut Case) {
+    let offset = case.number();
+    let error: E = case.read();
     match error.moved(offset) {
-        Some(moved) => write_shown(&moved, answer),
-        None => arguments.refused(),
+        Some(moved) => write_shown(&moved, case),
+        None => case.refuse(),
     }
 }
 

@@ -1,40 +1,34 @@
 //! The options of an IPv4 header.
 
-use crate::arguments::Arguments;
-use crate::shown::{Bytes, Comparison, Show, Shown, Written, write_shown, write_text};
+use crate::case::{Case, write_shown};
+use crate::comparison;
+use crate::shown::{Answer, Shown};
 use etherparse::Ipv4Options;
-use std::fmt;
 
 /// `opt B` and the cases `opt.NAME`.
-pub fn answer(name: &str, arguments: &mut Arguments, answer: &mut String) -> Written {
+pub fn answer(name: &str, case: &mut Case) {
     match name {
-        "" => {
-            let bytes = arguments.bytes();
-            write_shown(&Ipv4Options::try_from(bytes.as_slice()), answer)
-        }
-        "arr" => match from_array(&arguments.bytes()) {
-            Some(options) => write!(answer, "ok {}", Show(&options)),
-            None => arguments.refused(),
+        "" => write_shown(&Ipv4Options::try_from(case.bytes().as_slice()), case),
+        "arr" => match from_array(&case.bytes()) {
+            Some(options) => case.answer.shown("ok ", &options),
+            None => case.refuse(),
         },
-        "set" => answer_set(arguments, answer),
-        "cmp" => {
-            let comparison = Comparison::of(&arguments.read::<Ipv4Options>(), &arguments.read());
-            write_text(&comparison, answer)
-        }
-        _ => arguments.refused(),
+        "set" => answer_set(case),
+        "cmp" => comparison::answer("opt", case),
+        _ => case.refuse(),
     }
 }
 
 // Options with one byte written.
-fn answer_set(arguments: &mut Arguments, answer: &mut String) -> Written {
-    let mut options: Ipv4Options = arguments.read();
-    let index: usize = arguments.number();
-    let value: u8 = arguments.number();
+fn answer_set(case: &mut Case) {
+    let mut options: Ipv4Options = case.read();
+    let index: usize = case.number();
+    let value: u8 = case.number();
     match options.as_mut_slice().get_mut(index) {
         Some(byte) => *byte = value,
-        None => arguments.refuse(),
+        None => case.refuse(),
     }
-    write!(answer, "ok {}", Show(&options))
+    case.answer.shown("ok ", &options);
 }
 
 // The options of an array as long as these bytes, for the lengths that have a conversion.
@@ -65,12 +59,10 @@ fn front<const N: usize>(bytes: &[u8]) -> [u8; N] {
 }
 
 impl Shown for Ipv4Options {
-    fn show<W: fmt::Write>(&self, f: &mut fmt::Formatter<W>) -> fmt::Result {
-        let (len, len_u8) = (self.len(), self.len_u8());
-        let (is_empty, slice) = (self.is_empty(), Bytes(self.as_slice()));
-        write!(
-            f,
-            "len={len} len_u8={len_u8} empty={is_empty} slice={slice}"
-        )
+    fn show(&self, answer: &mut Answer) {
+        answer.put("len=", &self.len());
+        answer.put(" len_u8=", &self.len_u8());
+        answer.put(" empty=", &self.is_empty());
+        answer.bytes(" slice=", self.as_slice());
     }
 }

@@ -1,11 +1,11 @@
 //! Packets of either version, taken apart by `packet_parts` and rewritten by `packet_rewriting`.
 
-use crate::arguments::Arguments;
-use crate::shown::{Bytes, Named, Show, Shown, Written, show_after, write_shown};
+use crate::case::{Case, write_shown};
+use crate::shown::{Answer, Shown};
 use etherparse::err::ipv6::HeaderSliceError;
 use etherparse::{IpNumber, Ipv4Header, Ipv6Header};
 use etherparse_net::Ipv6FragmentHeader;
-use etherparse_transport::{TcpError, TcpHeaderSlice, UdpHeader};
+use etherparse_transport::{TcpHeaderSlice, UdpHeader};
 use packet_parts::checksum::{Absence, Verdict};
 use packet_parts::fragment_key::{Ipv4Key, Ipv6Key, ipv4_key, ipv6_key};
 use packet_parts::ip_slice::{IpHeaderSlice, IpSlice, IpSliceError};
@@ -14,8 +14,7 @@ use packet_rewriting::translation::{
     translate_tcp_destination, translate_tcp_source, translate_udp_destination,
     translate_udp_source,
 };
-use std::alloc::Global;
-use std::fmt;
+use std::alloc::AllocError;
 
 // The addresses that translation gives to packets: 198.51.100.7 and 203.0.113.9 (RFC 5737).
 const SOURCE: [u8; 4] = [198, 51, 100, 7];
@@ -24,141 +23,123 @@ const DESTINATION: [u8; 4] = [203, 0, 113, 9];
 
 /// `packet B`: the parts of a packet; what its upper layer holds, if it is no fragment; its key, if
 /// it is one.
-pub fn answer(arguments: &mut Arguments, answer: &mut String) -> Written {
-    let bytes = arguments.bytes();
-    write_parts(&bytes, arguments.alloc, answer)?;
-    write_keys(&bytes, answer)
+pub fn answer(case: &mut Case) {
+    let bytes = case.bytes();
+    write_parts(&bytes, case);
+    write_keys(&bytes, &mut case.answer);
 }
 
 // The parts of a packet, and what its upper layer holds, if it is no fragment.
-fn write_parts(bytes: &[u8], alloc: Global, answer: &mut String) -> Written {
+fn write_parts(bytes: &[u8], case: &mut Case) {
     let sliced = IpSlice::from_slice(bytes);
-    write_shown(&sliced, answer)?;
+    write_shown(&sliced, case);
     match &sliced {
-        Ok(slice) if slice.fragment.is_none() => write_upper(slice, alloc, answer),
-        _ => Ok(()),
+        Ok(slice) if slice.fragment.is_none() => write_upper(slice, case),
+        _ => (),
     }
 }
 
 // The key of a packet that is a fragment, and its first fragment header.
-fn write_keys(bytes: &[u8], answer: &mut String) -> Written {
+fn write_keys(bytes: &[u8], answer: &mut Answer) {
     match bytes.first() {
-        Some(first) if *first >> 4 == 4 => write_found("key", &ipv4_key(bytes), answer),
+        Some(first) if *first >> 4 == 4 => write_key(&ipv4_key(bytes), answer),
         Some(first) if *first >> 4 == 6 => {
-            write_found("fragment_header", &first_fragment_header(bytes), answer)?;
-            write_found("key", &ipv6_key(bytes), answer)
+            write_fragment_header(bytes, answer);
+            write_key(&ipv6_key(bytes), answer);
         }
-        _ => Ok(()),
+        _ => (),
     }
 }
 
-// What a packet has under a name, if it has it.
-fn write_found<T: Shown, E: Shown>(
-    name: &str,
-    found: &Result<Option<T>, E>,
-    answer: &mut String,
-) -> Written {
-    match found {
-        Ok(Some(value)) => write_part(name, " ", value, answer),
-        Ok(None) => write!(answer, " ; {name}=none"),
-        Err(e) => write_part(name, "=", e, answer),
+// The key of a packet, if it is a fragment.
+fn write_key<K: Shown, E: Shown>(key: &Result<Option<K>, E>, answer: &mut Answer) {
+    match key {
+        Ok(Some(key)) => answer.shown(" ; key ", key),
+        Ok(None) => answer.words(" ; key=none"),
+        Err(e) => answer.shown(" ; key=", e),
     }
 }
 
-// A part of a packet, or what is wrong with it, after its name.
-fn write_part<T: Shown>(name: &str, gap: &str, part: &T, answer: &mut String) -> Written {
-    write!(answer, " ; {name}{gap}{}", Show(part))
+// The first fragment header of a packet, if it has one.
+fn write_fragment_header(bytes: &[u8], answer: &mut Answer) {
+    match first_fragment_header(bytes) {
+        Ok(Some((header, rest))) => {
+            answer.shown(" ; fragment_header ", &header);
+            answer.bytes(" rest=", rest);
+        }
+        Ok(None) => answer.words(" ; fragment_header=none"),
+        Err(e) => answer.shown(" ; fragment_header=", &e),
+    }
 }
 
 impl Shown for IpSliceError {
-    fn show<W: fmt::Write>(&self, f: &mut fmt::Formatter<W>) -> fmt::Result {
+    fn show(&self, answer: &mut Answer) {
         match self {
-            IpSliceError::Empty => f.write_str("err empty"),
+            IpSliceError::Empty => answer.words("err empty"),
             IpSliceError::UnexpectedVersion { version_number } => {
-                write!(f, "err version number={version_number}")
+                answer.put("err version number=", version_number)
             }
-            IpSliceError::Ipv4Header(e) => show_after(f, "header=", e),
-            IpSliceError::Ipv6Header(e) => show_after(f, "header=", e),
-            IpSliceError::Packet(e) => show_after(f, "packet=", e),
-            IpSliceError::Extensions(e) => show_after(f, "extensions=", e),
+            IpSliceError::Ipv4Header(e) => answer.shown("header=", e),
+            IpSliceError::Ipv6Header(e) => answer.shown("header=", e),
+            IpSliceError::Packet(e) => answer.shown("packet=", e),
+            IpSliceError::Extensions(e) => answer.shown("extensions=", e),
         }
     }
 }
 
 impl Shown for IpSlice<'_> {
-    fn show<W: fmt::Write>(&self, f: &mut fmt::Formatter<W>) -> fmt::Result {
-        let headers = match &self.header {
-            IpHeaderSlice::Ipv4(view) => view.to_header().show(f),
+    fn show(&self, answer: &mut Answer) {
+        match &self.header {
+            IpHeaderSlice::Ipv4(view) => view.to_header().show(answer),
             IpHeaderSlice::Ipv6(view) => {
-                let (header, extensions) = (view.to_header(), Bytes(self.extensions));
-                write!(f, "{} extensions={extensions}", Show(&header))
+                view.to_header().show(answer);
+                answer.bytes(" extensions=", self.extensions);
             }
-        };
-        headers?;
-        let (upper, payload) = (self.upper.0, Bytes(self.payload));
-        let is_fragment = self.fragment.is_some();
-        write!(f, " upper={upper} payload={payload} fragment={is_fragment}")
+        }
+        answer.put(" upper=", &self.upper.0);
+        answer.bytes(" payload=", self.payload);
+        answer.put(" fragment=", &self.fragment.is_some());
     }
 }
 
 // What the payload of a packet that is no fragment holds.
-fn write_upper(slice: &IpSlice, alloc: Global, answer: &mut String) -> Written {
+fn write_upper(slice: &IpSlice, case: &mut Case) {
     match (&slice.header, slice.upper) {
-        (_, IpNumber::UDP) => write_udp(slice, answer),
-        (_, IpNumber::TCP) => write_tcp(slice, answer),
+        (_, IpNumber::UDP) => write_udp(slice, &mut case.answer),
+        (_, IpNumber::TCP) => write_tcp(slice, &mut case.answer),
         (IpHeaderSlice::Ipv4(_), IpNumber::ICMP) | (IpHeaderSlice::Ipv6(_), IpNumber::IPV6_ICMP) =>
-            write_echo(slice, alloc, answer),
-        _ => Ok(()),
+            write_echo(slice, case),
+        _ => (),
     }
 }
 
 // A UDP header, and the checksum of its datagram.
-fn write_udp(slice: &IpSlice, answer: &mut String) -> Written {
+fn write_udp(slice: &IpSlice, answer: &mut Answer) {
     match UdpHeader::from_slice(slice.payload) {
         Ok((mut udp, rest)) => {
             let checksum = udp.checksum;
-            write_part("udp", " ", &udp, answer)?;
-            write_udp_checksum(slice, &mut udp, rest, answer)?;
-            write_translated(slice, checksum, answer)
+            answer.shown(" ; udp ", &udp);
+            write_udp_checksum(slice, &mut udp, rest, answer);
+            write_translated(slice, checksum, answer);
         }
-        Err(e) => write_part("udp", "=", &e, answer),
-    }
-}
-
-impl Shown for UdpHeader {
-    fn show<W: fmt::Write>(&self, f: &mut fmt::Formatter<W>) -> fmt::Result {
-        let UdpHeader {
-            source_port,
-            destination_port,
-            length,
-            checksum,
-        } = self;
-        write!(
-            f,
-            "source_port={source_port} destination_port={destination_port} length={length} checksum={checksum}"
-        )
+        Err(e) => answer.shown(" ; udp=", &e),
     }
 }
 
 // Whether the checksum of a datagram is correct, and its header with a newly computed one, if the
 // payload has as many bytes as the length says.
-fn write_udp_checksum(
-    slice: &IpSlice,
-    udp: &mut UdpHeader,
-    rest: &[u8],
-    answer: &mut String,
-) -> Written {
+fn write_udp_checksum(slice: &IpSlice, udp: &mut UdpHeader, rest: &[u8], answer: &mut Answer) {
     let len = usize::from(udp.length);
     if len < 8 || rest.len() < len - 8 {
-        return Ok(());
+        return;
     }
     let data = &rest[..len - 8];
     match &slice.header {
         IpHeaderSlice::Ipv4(view) => udp.set_checksum_ipv4(&view.to_header(), data),
         IpHeaderSlice::Ipv6(view) => udp.set_checksum_ipv6(&view.to_header(), data),
     }
-    let is_right = is_right(slice);
-    write!(answer, " right={is_right} made={}", Bytes(&udp.to_bytes()))
+    answer.put(" right=", &is_right(slice));
+    answer.bytes(" made=", &udp.to_bytes());
 }
 
 // Whether a receiver finds no fault with the checksum: it is correct, or there is none.
@@ -170,64 +151,47 @@ fn is_right(slice: &IpSlice) -> bool {
 }
 
 // A TCP header, and the checksum of its segment.
-fn write_tcp(slice: &IpSlice, answer: &mut String) -> Written {
+fn write_tcp(slice: &IpSlice, answer: &mut Answer) {
     match TcpHeaderSlice::from_slice(slice.payload) {
         Ok(view) => {
-            write!(answer, " ; tcp {} right={}", Show(&view), is_right(slice))?;
-            write_translated(slice, view.checksum(), answer)
+            answer.shown(" ; tcp ", &view);
+            answer.put(" right=", &is_right(slice));
+            write_translated(slice, view.checksum(), answer);
         }
-        Err(TcpError::Len(e)) => write_part("tcp", "=", &e, answer),
-        Err(TcpError::DataOffset(offset)) => {
-            write!(answer, " ; tcp=err data_offset offset={offset}")
-        }
+        Err(e) => answer.shown(" ; tcp=", &e),
     }
 }
 
 impl Shown for TcpHeaderSlice<'_> {
-    fn show<W: fmt::Write>(&self, f: &mut fmt::Formatter<W>) -> fmt::Result {
-        let numbers = [
-            ("source_port", u32::from(self.source_port())),
-            ("destination_port", u32::from(self.destination_port())),
-            ("sequence_number", self.sequence_number()),
-            ("acknowledgment_number", self.acknowledgment_number()),
-            ("data_offset", u32::from(self.data_offset())),
-            ("flags", u32::from(self.flags())),
-            ("window_size", u32::from(self.window_size())),
-            ("checksum", u32::from(self.checksum())),
-            ("urgent_pointer", u32::from(self.urgent_pointer())),
-        ];
-        let flags = [
-            ("fin", self.fin()),
-            ("syn", self.syn()),
-            ("rst", self.rst()),
-            ("ack", self.ack()),
-        ];
-        let options = Bytes(self.options());
-        write!(f, "{} {} options={options}", Named(&numbers), Named(&flags))
+    fn show(&self, answer: &mut Answer) {
+        answer.put("source_port=", &self.source_port());
+        answer.put(" destination_port=", &self.destination_port());
+        answer.put(" sequence_number=", &self.sequence_number());
+        answer.put(" acknowledgment_number=", &self.acknowledgment_number());
+        answer.put(" data_offset=", &self.data_offset());
+        answer.put(" flags=", &self.flags());
+        answer.put(" window_size=", &self.window_size());
+        answer.put(" checksum=", &self.checksum());
+        answer.put(" urgent_pointer=", &self.urgent_pointer());
+        answer.put(" fin=", &self.fin());
+        answer.put(" syn=", &self.syn());
+        answer.put(" rst=", &self.rst());
+        answer.put(" ack=", &self.ack());
+        answer.bytes(" options=", self.options());
     }
 }
 
 // The header of an IPv4 packet and the checksum of UDP or TCP, with other addresses.
-fn write_translated(slice: &IpSlice, checksum: u16, answer: &mut String) -> Written {
+fn write_translated(slice: &IpSlice, checksum: u16, answer: &mut Answer) {
     let IpHeaderSlice::Ipv4(view) = &slice.header else {
-        return Ok(());
+        return;
     };
     let mut header = view.to_header();
     let checksum = translated(&mut header, checksum);
-    let checksums = [
-        ("header_checksum", header.header_checksum),
-        ("checksum", checksum),
-    ];
-    let addresses = [
-        ("source", Bytes(&header.source)),
-        ("destination", Bytes(&header.destination)),
-    ];
-    write!(
-        answer,
-        " ; translated {} {}",
-        Named(&addresses),
-        Named(&checksums)
-    )
+    answer.bytes(" ; translated source=", &header.source);
+    answer.bytes(" destination=", &header.destination);
+    answer.put(" header_checksum=", &header.header_checksum);
+    answer.put(" checksum=", &checksum);
 }
 
 fn translated(header: &mut Ipv4Header, checksum: u16) -> u16 {
@@ -241,44 +205,41 @@ fn translated(header: &mut Ipv4Header, checksum: u16) -> u16 {
 
 // The reply to an echo request, or the message as it was. The reply goes to the sender of the
 // request.
-fn write_echo(slice: &IpSlice, alloc: Global, answer: &mut String) -> Written {
-    let mut message = slice.payload.to_vec(alloc)?;
-    let is_reply = match &slice.header {
-        IpHeaderSlice::Ipv4(_) => icmpv4_reply(message.as_mut_slice()),
-        IpHeaderSlice::Ipv6(view) => {
-            icmpv6_reply(view.destination(), view.source(), message.as_mut_slice())
+fn write_echo(slice: &IpSlice, case: &mut Case) {
+    match slice.payload.to_vec(case.alloc) {
+        Ok(mut message) => {
+            let is_reply = reply(&slice.header, &mut message);
+            case.answer.put(" ; reply=", &is_reply);
+            case.answer.bytes(" message=", &message);
         }
-    };
-    write!(
-        answer,
-        " ; reply={is_reply} message={}",
-        Bytes(message.as_slice())
-    )
+        Err(AllocError) => case.answer.is_out_of_memory = true,
+    }
+}
+
+// Whether a message is an echo request, which then becomes the reply.
+fn reply(header: &IpHeaderSlice, message: &mut [u8]) -> bool {
+    match header {
+        IpHeaderSlice::Ipv4(_) => icmpv4_reply(message),
+        IpHeaderSlice::Ipv6(view) => icmpv6_reply(view.destination(), view.source(), message),
+    }
 }
 
 // The key that the fragments of a packet of version 4 share.
 impl Shown for Ipv4Key {
-    fn show<W: fmt::Write>(&self, f: &mut fmt::Formatter<W>) -> fmt::Result {
-        write!(
-            f,
-            "source={} destination={} protocol={} identification={}",
-            Bytes(&self.source),
-            Bytes(&self.destination),
-            self.protocol.0,
-            self.identification
-        )
+    fn show(&self, answer: &mut Answer) {
+        answer.bytes("source=", &self.source);
+        answer.bytes(" destination=", &self.destination);
+        answer.put(" protocol=", &self.protocol.0);
+        answer.put(" identification=", &self.identification);
     }
 }
 
 // The key that the fragments of a packet of version 6 share.
 impl Shown for Ipv6Key {
-    fn show<W: fmt::Write>(&self, f: &mut fmt::Formatter<W>) -> fmt::Result {
-        let (source, destination) = (Bytes(&self.source), Bytes(&self.destination));
-        let identification = self.identification;
-        write!(
-            f,
-            "source={source} destination={destination} identification={identification}"
-        )
+    fn show(&self, answer: &mut Answer) {
+        answer.bytes("source=", &self.source);
+        answer.bytes(" destination=", &self.destination);
+        answer.put(" identification=", &self.identification);
     }
 }
 
@@ -305,11 +266,5 @@ fn first_fragment_header(
             Ok(skipped) => (number, rest) = skipped,
             Err(e) => return Err(HeaderSliceError::Len(e.add_offset(place))),
         }
-    }
-}
-
-impl Shown for (Ipv6FragmentHeader, &[u8]) {
-    fn show<W: fmt::Write>(&self, f: &mut fmt::Formatter<W>) -> fmt::Result {
-        write!(f, "{} rest={}", Show(&self.0), Bytes(self.1))
     }
 }

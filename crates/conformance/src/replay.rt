@@ -1,4 +1,4 @@
-use crate::answer::answer_line;
+use crate::answer::answer_to;
 use std::alloc::Global;
 use std::io;
 use std::io::{BufRead, Write};
@@ -12,14 +12,13 @@ pub fn replay<R: BufRead, W: Write>(
     writer: &mut W,
 ) -> io::Result<()> {
     let mut line = Vec::new(alloc);
-    let mut answer = String::new(alloc);
     for _ in 0..u64::MAX {
         line.clear();
         if reader.read_until(b'\n', &mut line)? == 0 {
             break;
         }
         let case = line.as_slice();
-        answer_line(alloc, case.strip_suffix(b"\n").unwrap_or(case), &mut answer)?;
+        let mut answer = answer_to(alloc, case.strip_suffix(b"\n").unwrap_or(case))?;
         answer.push('\n')?;
         writer.write_all(answer.as_bytes())?;
     }

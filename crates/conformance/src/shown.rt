@@ -4,142 +4,128 @@ ghost use Rattle.std.specs.Prelude.{◌≡◌};
 
 use etherparse::IpNumber;
 use etherparse::err::{LenError, ValueTooBigError, ipv4, ipv6};
-use std::alloc::AllocError;
+use std::alloc::Global;
 use std::cmp::Ordering;
-use std::fmt;
 use std::fmt::{Debug, Display};
 use std::hash::Hash;
 
-/// What writing an answer gives.
-pub type Written = Result<(), AllocError>;
-
-/// Writes a value, and nothing else.
-pub fn write_text<T: Display>(value: &T, answer: &mut String) -> Written {
-    write!(answer, "{value}")
+/// The answer to a case, as far as it is written.
+///
+/// What is written once there is no memory is lost, and [`Answer::is_out_of_memory`] says so.
+#[derive(Drop)]
+pub struct Answer {
+    /// What is written.
+    pub text: String,
+    /// Whether there was no memory for what a case has or gives.
+    pub is_out_of_memory: bool,
 }
 
-/// Writes a value as an answer has it, and nothing else.
-pub fn write_shown<T: Shown>(value: &T, answer: &mut String) -> Written {
-    write!(answer, "{}", Show(value))
-}
+impl Answer {
+    /// An answer that is yet to be written.
+    pub fn new(alloc: Global) -> Answer {
+        Answer {
+            text: String::new(alloc),
+            is_out_of_memory: false,
+        }
+    }
 
-/// Writes a value that others follow.
-pub fn write_one<T: Shown>(value: &T, answer: &mut String) -> Written {
-    write!(answer, "{} ; ", Show(value))
-}
+    /// Keeps in mind whether there was memory for something.
+    pub fn note<E>(&mut self, done: &Result<(), E>) {
+        self.is_out_of_memory |= done.is_err();
+    }
 
-/// Writes values by their names, and nothing else.
-pub fn write_named<T: Display>(values: &[(&str, T)], answer: &mut String) -> Written {
-    write!(answer, "{}", Named(values))
-}
+    /// Writes words.
+    pub fn words(&mut self, words: &str) {
+        let written = self.text.push_str(words);
+        self.note(&written);
+    }
 
-/// Writes a header, what follows it, and its bytes again.
-pub fn write_header<H: Shown>(
-    header: &H,
-    rest: &[u8],
-    bytes: &[u8],
-    answer: &mut String,
-) -> Written {
-    let (rest, bytes) = (Bytes(rest), Bytes(bytes));
-    write!(answer, "ok {} rest={rest} bytes={bytes}", Show(header))
-}
+    /// Writes a value after some words.
+    pub fn put<T: Display>(&mut self, words: &str, value: &T) {
+        let written = write!(self.text, "{words}{value}");
+        self.note(&written);
+    }
 
-/// Writes whether two values are equal.
-pub fn write_equality(is_equal: bool, answer: &mut String) -> Written {
-    write!(answer, "eq={is_equal}")
-}
+    /// Writes the `Debug` of a value after some words.
+    pub fn debug<T: Debug>(&mut self, words: &str, value: &T) {
+        let written = write!(self.text, "{words}{value:?}");
+        self.note(&written);
+    }
 
-/// Writes the header after a setter that takes every value.
-pub fn write_set<H: Shown>(header: &H, answer: &mut String) -> Written {
-    write!(answer, "ok ; {}", Show(header))
-}
+    /// Writes bytes after some words: in lower-case hex digits, `-` for none.
+    pub fn bytes(&mut self, words: &str, bytes: &[u8]) {
+        self.words(words);
+        if bytes.is_empty() {
+            self.words("-");
+        }
+        for byte in bytes {
+            let written = write!(self.text, "{byte:02x}");
+            self.note(&written);
+        }
+    }
 
-/// Writes what a setter returned, and the header afterwards.
-pub fn write_change<E: Shown, H: Shown>(
-    change: &Result<(), E>,
-    header: &H,
-    answer: &mut String,
-) -> Written {
-    match change {
-        Ok(()) => write_set(header, answer),
-        Err(e) => write!(answer, "{} ; {}", Show(e), Show(header)),
+    /// Writes after some words what the Rust crate has no text for.
+    pub fn shown<T: Shown>(&mut self, words: &str, value: &T) {
+        self.words(words);
+        value.show(self);
+    }
+
+    /// Writes a value that others follow.
+    pub fn one<T: Shown>(&mut self, value: &T) {
+        value.show(self);
+        self.words(" ; ");
+    }
+
+    /// Writes values after their names, with a space between them.
+    pub fn named<T: Display>(&mut self, values: &[(&str, T)]) {
+        let mut gap = "";
+        for (name, value) in values {
+            self.words(gap);
+            self.words(name);
+            self.put("=", value);
+            gap = " ";
+        }
+    }
+
+    /// Writes what follows a header, and the bytes of the header again.
+    pub fn rest_and_bytes(&mut self, rest: &[u8], bytes: &[u8]) {
+        self.bytes(" rest=", rest);
+        self.bytes(" bytes=", bytes);
     }
 }
 
 /// What the Rust crate has no text for, or another one than answers have.
 pub trait Shown {
     /// Writes it as an answer has it.
-    fn show<W: fmt::Write>(&self, f: &mut fmt::Formatter<W>) -> fmt::Result;
+    fn show(&self, answer: &mut Answer);
 }
 
-/// A value whose `Debug` is what answers have, after some words.
-pub trait Plain: Debug {
-    /// What stands before it.
-    const WORDS: &'static str;
-}
+/// An error whose `Debug` is what answers have.
+pub trait PlainError: Debug {}
 
-impl<T: Plain> Shown for T {
-    fn show<W: fmt::Write>(&self, f: &mut fmt::Formatter<W>) -> fmt::Result {
-        write!(f, "{}{self:?}", T::WORDS)
-    }
-}
-
-/// A value as an answer has it.
-#[derive(Drop)]
-pub struct Show<'a, T>(pub &'a T);
-
-impl<T: Shown> Display for Show<'_, T> {
-    fn fmt<W: fmt::Write>(&self, f: &mut fmt::Formatter<W>) -> fmt::Result {
-        self.0.show(f)
+impl<E: PlainError> Shown for E {
+    fn show(&self, answer: &mut Answer) {
+        answer.debug("err ", self);
     }
 }
 
 impl<T: Shown, E: Shown> Shown for Result<T, E> {
-    fn show<W: fmt::Write>(&self, f: &mut fmt::Formatter<W>) -> fmt::Result {
+    fn show(&self, answer: &mut Answer) {
         match self {
-            Ok(value) => write!(f, "ok {}", Show(value)),
-            Err(e) => e.show(f),
+            Ok(value) => answer.shown("ok ", value),
+            Err(e) => e.show(answer),
         }
     }
 }
 
-/// Shows a value after some words.
-pub fn show_after<T: Shown, W: fmt::Write>(
-    f: &mut fmt::Formatter<W>,
-    words: &str,
-    value: &T,
-) -> fmt::Result {
-    write!(f, "{words}{}", Show(value))
-}
+/// A header at the front of some bytes, and the bytes after it.
+pub type Found<'a, H> = (H, &'a [u8]);
 
-/// Bytes in lower-case hex digits, `-` for none.
-#[derive(Drop)]
-pub struct Bytes<'a>(pub &'a [u8]);
-
-impl Display for Bytes<'_> {
-    fn fmt<W: fmt::Write>(&self, f: &mut fmt::Formatter<W>) -> fmt::Result {
-        if self.0.is_empty() {
-            return f.write_str("-");
-        }
-        for byte in self.0 {
-            write!(f, "{byte:02x}")?;
-        }
-        Ok(())
-    }
-}
-
-/// Values by their names, with a space between them.
-#[derive(Drop)]
-pub struct Named<'a, T>(pub &'a [(&'a str, T)]);
-
-impl<T: Display> Display for Named<'_, T> {
-    fn fmt<W: fmt::Write>(&self, f: &mut fmt::Formatter<W>) -> fmt::Result {
-        let mut gap = "";
-        for (name, value) in self.0 {
-            write!(f, "{gap}{name}={value}")?;
-            gap = " ";
-        }
-        Ok(())
+/// A header that was made with no bytes after it.
+pub fn made<'a, H, E>(made: Result<H, E>) -> Result<Found<'a, H>, E> {
+    match made {
+        Ok(header) => Ok((header, &[])),
+        Err(e) => Err(e),
     }
 }
 
@@ -165,107 +151,100 @@ impl Comparison {
     }
 }
 
-impl Display for Comparison {
-    fn fmt<W: fmt::Write>(&self, f: &mut fmt::Formatter<W>) -> fmt::Result {
-        let is_equal = self.is_equal;
+impl Shown for Comparison {
+    fn show(&self, answer: &mut Answer) {
         let order = match self.order {
             Ordering::Less => "lt",
             Ordering::Equal => "eq",
             Ordering::Greater => "gt",
         };
-        write!(f, "{order} eq={is_equal}")
+        answer.words(order);
+        answer.put(" eq=", &self.is_equal);
     }
 }
 
-impl Plain for u16 {
-    const WORDS: &'static str = "";
+impl Shown for u16 {
+    fn show(&self, answer: &mut Answer) {
+        answer.put("", self);
+    }
 }
 
-impl Plain for usize {
-    const WORDS: &'static str = "";
+impl Shown for usize {
+    fn show(&self, answer: &mut Answer) {
+        answer.put("", self);
+    }
 }
 
 impl Shown for LenError {
-    fn show<W: fmt::Write>(&self, f: &mut fmt::Formatter<W>) -> fmt::Result {
-        let LenError {
-            required_len,
-            len,
-            len_source,
-            layer,
-            layer_start_offset,
-        } = self;
-        write!(
-            f,
-            "err len required={required_len} len={len} source={len_source:?} layer={layer:?} offset={layer_start_offset}"
-        )
+    fn show(&self, answer: &mut Answer) {
+        answer.put("err len required=", &self.required_len);
+        answer.put(" len=", &self.len);
+        answer.debug(" source=", &self.len_source);
+        answer.debug(" layer=", &self.layer);
+        answer.put(" offset=", &self.layer_start_offset);
     }
 }
 
 impl<T: Clone + Display + Debug + Eq + Hash> Shown for ValueTooBigError<T> {
-    fn show<W: fmt::Write>(&self, f: &mut fmt::Formatter<W>) -> fmt::Result {
-        let ValueTooBigError {
-            actual,
-            max_allowed,
-            value_type,
-        } = self;
-        write!(
-            f,
-            "err too_big actual={actual} max={max_allowed} type={value_type:?}"
-        )
+    fn show(&self, answer: &mut Answer) {
+        answer.put("err too_big actual=", &self.actual);
+        answer.put(" max=", &self.max_allowed);
+        answer.debug(" type=", &self.value_type);
     }
 }
 
 impl Shown for ipv4::BadOptionsLen {
-    fn show<W: fmt::Write>(&self, f: &mut fmt::Formatter<W>) -> fmt::Result {
-        let bad_len = self.bad_len;
-        write!(f, "err bad_options bad_len={bad_len}")
+    fn show(&self, answer: &mut Answer) {
+        answer.put("err bad_options bad_len=", &self.bad_len);
     }
 }
 
 impl Shown for ipv4::HeaderSliceError {
-    fn show<W: fmt::Write>(&self, f: &mut fmt::Formatter<W>) -> fmt::Result {
+    fn show(&self, answer: &mut Answer) {
         match self {
-            ipv4::HeaderSliceError::Len(e) => e.show(f),
+            ipv4::HeaderSliceError::Len(e) => e.show(answer),
             ipv4::HeaderSliceError::Content(
                 ipv4::HeaderError::UnexpectedVersion { version_number },
-            ) => write!(f, "err version number={version_number}"),
+            ) => answer.put("err version number=", version_number),
             ipv4::HeaderSliceError::Content(
                 ipv4::HeaderError::HeaderLengthSmallerThanHeader { ihl },
-            ) => write!(f, "err ihl ihl={ihl}"),
+            ) => answer.put("err ihl ihl=", ihl),
         }
     }
 }
 
 impl Shown for ipv6::HeaderSliceError {
-    fn show<W: fmt::Write>(&self, f: &mut fmt::Formatter<W>) -> fmt::Result {
+    fn show(&self, answer: &mut Answer) {
         match self {
-            ipv6::HeaderSliceError::Len(e) => e.show(f),
+            ipv6::HeaderSliceError::Len(e) => e.show(answer),
             ipv6::HeaderSliceError::Content(
                 ipv6::HeaderError::UnexpectedVersion { version_number },
-            ) => write!(f, "err version number={version_number}"),
+            ) => answer.put("err version number=", version_number),
         }
     }
 }
 
 impl Shown for ipv6::ChainError {
-    fn show<W: fmt::Write>(&self, f: &mut fmt::Formatter<W>) -> fmt::Result {
+    fn show(&self, answer: &mut Answer) {
         match self {
-            ipv6::ChainError::Len(e) => e.show(f),
+            ipv6::ChainError::Len(e) => e.show(answer),
             ipv6::ChainError::TooMany {
                 limit,
                 next_header,
                 layer_start_offset,
-            } => write!(
-                f,
-                "err too_many limit={limit} next={next_header} offset={layer_start_offset}"
-            ),
+            } => {
+                answer.put("err too_many limit=", limit);
+                answer.put(" next=", next_header);
+                answer.put(" offset=", layer_start_offset);
+            }
         }
     }
 }
 
 /// What a walk past extension headers reached.
 impl Shown for (IpNumber, &[u8]) {
-    fn show<W: fmt::Write>(&self, f: &mut fmt::Formatter<W>) -> fmt::Result {
-        write!(f, "next={} rest={}", self.0.0, Bytes(self.1))
+    fn show(&self, answer: &mut Answer) {
+        answer.put("next=", &self.0.0);
+        answer.bytes(" rest=", self.1);
     }
 }

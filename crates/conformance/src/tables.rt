@@ -1,7 +1,7 @@
 //! The names that cases and answers use, each with what it stands for.
 
 use etherparse::err::{Layer, ValueType};
-use etherparse::{IpDscp, IpDscpKnown, IpNumber, LenSource, ip_number};
+use etherparse::{IpDscpKnown, IpNumber, LenSource, ip_number};
 
 // Names, each with the variant, the constant or the number that has it.
 macro_rules! named {
@@ -28,12 +28,6 @@ pub static VALUE_TYPES: [(&str, ValueType); 16] = named![ValueType:
 pub static LEN_SOURCES: [(&str, LenSource); 7] = named![LenSource:
     Slice, MacsecShortLength, Ipv4HeaderTotalLen, Ipv6HeaderPayloadLen, UdpHeaderLen,
     TcpHeaderLen, ArpAddrLengths
-];
-
-/// The differentiated services code points that have names, by their numbers.
-pub const CODE_POINTS: [(&str, IpDscp); 23] = named![IpDscp:
-    CS0, LOWER_EFFORT, CS1, AF11, AF12, AF13, CS2, AF21, AF22, AF23, CS3, AF31, AF32, AF33, CS4,
-    AF41, AF42, AF43, CS5, VOICE_ADMIT, EF, CS6, CS7
 ];
 
 /// The known code points, in their order.

@@ -1,152 +1,135 @@
 //! UDP and TCP, by `etherparse_transport`.
 
-use crate::arguments::{Argument, Arguments};
-use crate::shown::{
-    Bytes, Named, Plain, Show, Shown, Written, write_header, write_one, write_shown,
-};
+use crate::case::{Argument, Case, write_shown};
+use crate::shown::{Answer, Found, PlainError, Shown};
 use etherparse_transport::{
     TcpError, TcpHeader, TcpOptionElement, TcpOptionReadError, TcpOptionWriteError, TcpOptions,
     TcpOptionsIterator, UdpHeader,
 };
-use std::fmt;
 
 /// The cases `udp.NAME`.
-pub fn answer_udp(name: &str, arguments: &mut Arguments, answer: &mut String) -> Written {
+pub fn answer_udp(name: &str, case: &mut Case) {
     match name {
-        "head" => write_udp(&arguments.bytes(), answer),
+        "head" => write_shown(&UdpHeader::from_slice(&case.bytes()), case),
         "new" => {
-            let (source_port, destination_port) = (arguments.number(), arguments.number());
-            let payload_len = arguments.number();
+            let (source_port, destination_port) = (case.number(), case.number());
+            let payload_len = case.number();
             let made = UdpHeader::without_ipv4_checksum(source_port, destination_port, payload_len);
-            write_shown(&made, answer)
+            write_shown(&made, case);
         }
-        "v4" => answer_udp_ipv4(arguments, answer),
-        "v6" => answer_udp_ipv6(arguments, answer),
-        _ => arguments.refused(),
+        "v4" => answer_udp_ipv4(case),
+        "v6" => answer_udp_ipv6(case),
+        _ => case.refuse(),
     }
 }
 
 /// The cases `tcp.NAME`.
-pub fn answer_tcp(name: &str, arguments: &mut Arguments, answer: &mut String) -> Written {
+pub fn answer_tcp(name: &str, case: &mut Case) {
     match name {
-        "head" => write_tcp(&arguments.bytes(), answer),
-        "options" => write_options(&arguments.bytes(), answer),
-        "raw_options" => write_shown(&TcpOptions::try_from_slice(&arguments.bytes()), answer),
-        "elements" => answer_elements(arguments, answer),
-        "v4" => answer_tcp_ipv4(arguments, answer),
-        "v6" => answer_tcp_ipv6(arguments, answer),
-        _ => arguments.refused(),
+        "head" => write_shown(&TcpHeader::from_slice(&case.bytes()), case),
+        "options" => write_options(&case.bytes(), &mut case.answer),
+        "raw_options" => write_shown(&TcpOptions::try_from_slice(&case.bytes()), case),
+        "elements" => answer_elements(case),
+        "v4" => answer_tcp_ipv4(case),
+        "v6" => answer_tcp_ipv6(case),
+        _ => case.refuse(),
     }
 }
 
 // The checksum of a UDP datagram between two addresses of IPv4.
-fn answer_udp_ipv4(arguments: &mut Arguments, answer: &mut String) -> Written {
-    let (source, destination) = (arguments.array(), arguments.array());
-    let bytes = arguments.bytes();
-    match UdpHeader::from_slice(&bytes) {
+fn answer_udp_ipv4(case: &mut Case) {
+    let (source, destination) = (case.array(), case.array());
+    match UdpHeader::from_slice(&case.bytes()) {
         Ok((header, payload)) => {
-            let sum = header.calc_checksum_ipv4_raw(source, destination, payload);
-            write_shown(&sum, answer)
+            write_shown(
+                &header.calc_checksum_ipv4_raw(source, destination, payload),
+                case,
+            )
         }
-        Err(e) => write_shown(&e, answer),
+        Err(e) => write_shown(&e, case),
     }
 }
 
 // The same of IPv6.
-fn answer_udp_ipv6(arguments: &mut Arguments, answer: &mut String) -> Written {
-    let (source, destination) = (arguments.array(), arguments.array());
-    let bytes = arguments.bytes();
-    match UdpHeader::from_slice(&bytes) {
+fn answer_udp_ipv6(case: &mut Case) {
+    let (source, destination) = (case.array(), case.array());
+    match UdpHeader::from_slice(&case.bytes()) {
         Ok((header, payload)) => {
-            let sum = header.calc_checksum_ipv6_raw(source, destination, payload);
-            write_shown(&sum, answer)
+            write_shown(
+                &header.calc_checksum_ipv6_raw(source, destination, payload),
+                case,
+            )
         }
-        Err(e) => write_shown(&e, answer),
+        Err(e) => write_shown(&e, case),
     }
 }
 
 // The checksum of a TCP segment between two addresses of IPv4.
-fn answer_tcp_ipv4(arguments: &mut Arguments, answer: &mut String) -> Written {
-    let (source, destination) = (arguments.array(), arguments.array());
-    let bytes = arguments.bytes();
-    match TcpHeader::from_slice(&bytes) {
+fn answer_tcp_ipv4(case: &mut Case) {
+    let (source, destination) = (case.array(), case.array());
+    match TcpHeader::from_slice(&case.bytes()) {
         Ok((header, payload)) => {
-            let sum = header.calc_checksum_ipv4_raw(source, destination, payload);
-            write_shown(&sum, answer)
+            write_shown(
+                &header.calc_checksum_ipv4_raw(source, destination, payload),
+                case,
+            )
         }
-        Err(e) => write_shown(&e, answer),
+        Err(e) => write_shown(&e, case),
     }
 }
 
 // The same of IPv6.
-fn answer_tcp_ipv6(arguments: &mut Arguments, answer: &mut String) -> Written {
-    let (source, destination) = (arguments.array(), arguments.array());
-    let bytes = arguments.bytes();
-    match TcpHeader::from_slice(&bytes) {
+fn answer_tcp_ipv6(case: &mut Case) {
+    let (source, destination) = (case.array(), case.array());
+    match TcpHeader::from_slice(&case.bytes()) {
         Ok((header, payload)) => {
-            let sum = header.calc_checksum_ipv6_raw(source, destination, payload);
-            write_shown(&sum, answer)
+            write_shown(
+                &header.calc_checksum_ipv6_raw(source, destination, payload),
+                case,
+            )
         }
-        Err(e) => write_shown(&e, answer),
-    }
-}
-
-// The UDP header at the front of some bytes.
-fn write_udp(bytes: &[u8], answer: &mut String) -> Written {
-    match UdpHeader::from_slice(bytes) {
-        Ok((header, rest)) => write_header(&header, rest, &header.to_bytes(), answer),
-        Err(e) => write_shown(&e, answer),
-    }
-}
-
-// The TCP header at the front of some bytes.
-fn write_tcp(bytes: &[u8], answer: &mut String) -> Written {
-    match TcpHeader::from_slice(bytes) {
-        Ok((header, rest)) => {
-            let written = header.to_bytes();
-            write_header(&header, rest, written.as_slice(), answer)
-        }
-        Err(e) => write_shown(&e, answer),
+        Err(e) => write_shown(&e, case),
     }
 }
 
 // The options of a TCP header, one after another, and what is left after them.
-fn write_options(bytes: &[u8], answer: &mut String) -> Written {
+fn write_options(bytes: &[u8], answer: &mut Answer) {
     let mut options = TcpOptionsIterator::from_slice(bytes);
     for _ in 0..u64::MAX {
         match options.next() {
-            Some(option) => write_one(&option, answer)?,
+            Some(option) => answer.one(&option),
             None => break,
         }
     }
-    write!(answer, "rest={}", Bytes(options.rest()))
+    answer.bytes("rest=", options.rest());
 }
 
 // `tcp.elements COUNT [OPTION]..`: options that are written.
-fn answer_elements(arguments: &mut Arguments, answer: &mut String) -> Written {
-    let mut elements = Vec::new(arguments.alloc);
-    for _ in 0..arguments.number::<u8>() {
-        elements.push(arguments.read::<TcpOptionElement>())?;
+fn answer_elements(case: &mut Case) {
+    let mut elements = Vec::new(case.alloc);
+    for _ in 0..case.number::<u8>() {
+        let pushed = elements.push(case.read::<TcpOptionElement>());
+        case.answer.note(&pushed);
     }
-    write_shown(&TcpOptions::try_from_elements(&elements), answer)
+    write_shown(&TcpOptions::try_from_elements(&elements), case);
 }
 
 /// The name of an option, and its numbers.
 impl Argument for TcpOptionElement {
-    fn read(arguments: &mut Arguments) -> TcpOptionElement {
-        match arguments.word() {
+    fn read(case: &mut Case) -> TcpOptionElement {
+        match case.word() {
             "noop" => TcpOptionElement::Noop,
-            "mss" => TcpOptionElement::MaximumSegmentSize(arguments.number()),
-            "scale" => TcpOptionElement::WindowScale(arguments.number()),
+            "mss" => TcpOptionElement::MaximumSegmentSize(case.number()),
+            "scale" => TcpOptionElement::WindowScale(case.number()),
             "permitted" => TcpOptionElement::SelectiveAcknowledgementPermitted,
             "ack" => {
-                let first = (arguments.number(), arguments.number());
-                let others = [block(arguments), block(arguments), block(arguments)];
+                let first = (case.number(), case.number());
+                let others = [block(case), block(case), block(case)];
                 TcpOptionElement::SelectiveAcknowledgement(first, others)
             }
-            "timestamp" => TcpOptionElement::Timestamp(arguments.number(), arguments.number()),
+            "timestamp" => TcpOptionElement::Timestamp(case.number(), case.number()),
             _ => {
-                arguments.refuse();
+                case.refuse();
                 TcpOptionElement::Noop
             }
         }
@@ -154,65 +137,76 @@ impl Argument for TcpOptionElement {
 }
 
 // Whether there is a block, and its two numbers.
-fn block(arguments: &mut Arguments) -> Option<(u32, u32)> {
-    if arguments.flag() {
-        Some((arguments.number(), arguments.number()))
+fn block(case: &mut Case) -> Option<(u32, u32)> {
+    if case.flag() {
+        Some((case.number(), case.number()))
     } else {
         None
     }
 }
 
-impl Shown for TcpHeader {
-    fn show<W: fmt::Write>(&self, f: &mut fmt::Formatter<W>) -> fmt::Result {
-        let numbers = [
-            ("source_port", u32::from(self.source_port)),
-            ("destination_port", u32::from(self.destination_port)),
-            ("sequence_number", self.sequence_number),
-            ("acknowledgment_number", self.acknowledgment_number),
-            ("data_offset", u32::from(self.data_offset())),
-            ("window_size", u32::from(self.window_size)),
-            ("checksum", u32::from(self.checksum)),
-            ("urgent_pointer", u32::from(self.urgent_pointer)),
-        ];
-        let flags = [
-            ("ns", self.ns),
-            ("cwr", self.cwr),
-            ("ece", self.ece),
-            ("urg", self.urg),
-            ("ack", self.ack),
-            ("psh", self.psh),
-            ("rst", self.rst),
-            ("syn", self.syn),
-            ("fin", self.fin),
-        ];
-        let options = Bytes(self.options.as_slice());
-        write!(f, "{} {} options={options}", Named(&numbers), Named(&flags))
+impl Shown for UdpHeader {
+    fn show(&self, answer: &mut Answer) {
+        answer.put("source_port=", &self.source_port);
+        answer.put(" destination_port=", &self.destination_port);
+        answer.put(" length=", &self.length);
+        answer.put(" checksum=", &self.checksum);
+    }
+}
+
+impl Shown for Found<'_, UdpHeader> {
+    fn show(&self, answer: &mut Answer) {
+        self.0.show(answer);
+        answer.rest_and_bytes(self.1, &self.0.to_bytes());
+    }
+}
+
+impl Shown for Found<'_, TcpHeader> {
+    fn show(&self, answer: &mut Answer) {
+        let (header, rest) = self;
+        answer.put("source_port=", &header.source_port);
+        answer.put(" destination_port=", &header.destination_port);
+        answer.put(" sequence_number=", &header.sequence_number);
+        answer.put(" acknowledgment_number=", &header.acknowledgment_number);
+        answer.put(" data_offset=", &header.data_offset());
+        answer.put(" window_size=", &header.window_size);
+        answer.put(" checksum=", &header.checksum);
+        answer.put(" urgent_pointer=", &header.urgent_pointer);
+        answer.put(" ns=", &header.ns);
+        answer.put(" cwr=", &header.cwr);
+        answer.put(" ece=", &header.ece);
+        answer.put(" urg=", &header.urg);
+        answer.put(" ack=", &header.ack);
+        answer.put(" psh=", &header.psh);
+        answer.put(" rst=", &header.rst);
+        answer.put(" syn=", &header.syn);
+        answer.put(" fin=", &header.fin);
+        answer.bytes(" options=", header.options.as_slice());
+        answer.rest_and_bytes(rest, header.to_bytes().as_slice());
     }
 }
 
 impl Shown for TcpError {
-    fn show<W: fmt::Write>(&self, f: &mut fmt::Formatter<W>) -> fmt::Result {
+    fn show(&self, answer: &mut Answer) {
         match self {
-            TcpError::Len(e) => e.show(f),
-            TcpError::DataOffset(offset) => write!(f, "err data_offset offset={offset}"),
+            TcpError::Len(e) => e.show(answer),
+            TcpError::DataOffset(offset) => answer.put("err data_offset offset=", offset),
         }
     }
 }
 
 impl Shown for TcpOptions {
-    fn show<W: fmt::Write>(&self, f: &mut fmt::Formatter<W>) -> fmt::Result {
-        write!(f, "{}", Bytes(self.as_slice()))
+    fn show(&self, answer: &mut Answer) {
+        answer.bytes("", self.as_slice());
     }
 }
 
-impl Plain for TcpOptionElement {
-    const WORDS: &'static str = "";
+impl Shown for TcpOptionElement {
+    fn show(&self, answer: &mut Answer) {
+        answer.debug("", self);
+    }
 }
 
-impl Plain for TcpOptionReadError {
-    const WORDS: &'static str = "err ";
-}
+impl PlainError for TcpOptionReadError {}
 
-impl Plain for TcpOptionWriteError {
-    const WORDS: &'static str = "err ";
-}
+impl PlainError for TcpOptionWriteError {}

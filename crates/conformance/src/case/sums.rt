@@ -1,18 +1,20 @@
-use super::Arguments;
+use super::Case;
 use etherparse::checksum::Sum16BitWords;
-use std::alloc::AllocError;
 
-impl<'a> Arguments<'a> {
+impl<'a> Case<'a> {
     /// The bytes of each word that is left, for any number of words.
-    pub fn pieces(&mut self) -> Result<Vec<Vec<u8>>, AllocError> {
+    pub fn pieces(&mut self) -> Vec<Vec<u8>> {
         let mut pieces = Vec::new(self.alloc);
         for _ in 0..u64::MAX {
             match self.next_word() {
-                Some(word) => pieces.push(self.decoded(word))?,
+                Some(word) => {
+                    let pushed = pieces.push(self.decoded(word));
+                    self.answer.note(&pushed);
+                }
                 None => break,
             }
         }
-        Ok(pieces)
+        pieces
     }
 
     /// The sum of the steps that are left, or of those before a `/` if another sum has to follow.

@@ -1,4 +1,4 @@
-use super::{Argument, Arguments};
+use super::{Argument, Case};
 use crate::tables::{LAYERS, LEN_SOURCES, VALUE_TYPES};
 use etherparse::LenSource;
 use etherparse::err::{
@@ -9,76 +9,76 @@ use std::hash::Hash;
 use std::str::FromStr;
 
 impl Argument for Layer {
-    fn read(arguments: &mut Arguments) -> Layer {
-        arguments.named(&LAYERS, Layer::LinuxSllHeader)
+    fn read(case: &mut Case) -> Layer {
+        case.named(&LAYERS, Layer::LinuxSllHeader)
     }
 }
 
 impl Argument for ValueType {
-    fn read(arguments: &mut Arguments) -> ValueType {
-        arguments.named(&VALUE_TYPES, ValueType::VlanId)
+    fn read(case: &mut Case) -> ValueType {
+        case.named(&VALUE_TYPES, ValueType::VlanId)
     }
 }
 
 /// `required len LENSOURCE LAYER offset`
 impl Argument for LenError {
-    fn read(arguments: &mut Arguments) -> LenError {
+    fn read(case: &mut Case) -> LenError {
         LenError {
-            required_len: arguments.number(),
-            len: arguments.number(),
-            len_source: arguments.named(&LEN_SOURCES, LenSource::Slice),
-            layer: arguments.read(),
-            layer_start_offset: arguments.number(),
+            required_len: case.number(),
+            len: case.number(),
+            len_source: case.named(&LEN_SOURCES, LenSource::Slice),
+            layer: case.read(),
+            layer_start_offset: case.number(),
         }
     }
 }
 
 /// `required len LAYER offset`
 impl Argument for SliceWriteSpaceError {
-    fn read(arguments: &mut Arguments) -> SliceWriteSpaceError {
+    fn read(case: &mut Case) -> SliceWriteSpaceError {
         SliceWriteSpaceError {
-            required_len: arguments.number(),
-            len: arguments.number(),
-            layer: arguments.read(),
-            layer_start_offset: arguments.number(),
+            required_len: case.number(),
+            len: case.number(),
+            layer: case.read(),
+            layer_start_offset: case.number(),
         }
     }
 }
 
 /// `len` and a `LenError`, `version V` or `ihl I`
 impl Argument for ipv4::HeaderSliceError {
-    fn read(arguments: &mut Arguments) -> ipv4::HeaderSliceError {
-        match arguments.word() {
-            "len" => ipv4::HeaderSliceError::Len(arguments.read()),
-            kind => ipv4::HeaderSliceError::Content(arguments.ipv4_content(kind)),
+    fn read(case: &mut Case) -> ipv4::HeaderSliceError {
+        match case.word() {
+            "len" => ipv4::HeaderSliceError::Len(case.read()),
+            kind => ipv4::HeaderSliceError::Content(case.ipv4_content(kind)),
         }
     }
 }
 
 /// `len` and a `LenError`, or `version V`
 impl Argument for ipv6::HeaderSliceError {
-    fn read(arguments: &mut Arguments) -> ipv6::HeaderSliceError {
-        match arguments.word() {
-            "len" => ipv6::HeaderSliceError::Len(arguments.read()),
-            kind => ipv6::HeaderSliceError::Content(arguments.ipv6_content(kind)),
+    fn read(case: &mut Case) -> ipv6::HeaderSliceError {
+        match case.word() {
+            "len" => ipv6::HeaderSliceError::Len(case.read()),
+            kind => ipv6::HeaderSliceError::Content(case.ipv6_content(kind)),
         }
     }
 }
 
 /// `len` and a `LenError`, or `too_many limit next offset`
 impl Argument for ipv6::ChainError {
-    fn read(arguments: &mut Arguments) -> ipv6::ChainError {
-        let kind = arguments.word();
+    fn read(case: &mut Case) -> ipv6::ChainError {
+        let kind = case.word();
         if kind == "len" {
-            return ipv6::ChainError::Len(arguments.read());
+            return ipv6::ChainError::Len(case.read());
         }
         if kind != "too_many" {
-            arguments.refuse();
+            case.refuse();
         }
         ipv6::ChainError::TooMany {
-            limit: arguments.number(),
-            next_header: arguments.number(),
-            layer_start_offset: arguments.number(),
+            limit: case.number(),
+            next_header: case.number(),
+            layer_start_offset: case.number(),
         }
     }
 }
@@ -89,16 +89,16 @@ where
     T: FromStr + Default + Clone + Display + Debug + Eq + Hash + Drop,
     T::Err: Drop,
 {
-    fn read(arguments: &mut Arguments) -> ValueTooBigError<T> {
+    fn read(case: &mut Case) -> ValueTooBigError<T> {
         ValueTooBigError {
-            actual: arguments.number(),
-            max_allowed: arguments.number(),
-            value_type: arguments.read(),
+            actual: case.number(),
+            max_allowed: case.number(),
+            value_type: case.read(),
         }
     }
 }
 
-impl Arguments<'_> {
+impl Case<'_> {
     /// The IPv4 `HeaderError` of a kind, `version` or `ihl`, by its number.
     pub fn ipv4_content(&mut self, kind: &str) -> ipv4::HeaderError {
         if kind == "ihl" {

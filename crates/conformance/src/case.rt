@@ -6,41 +6,42 @@ mod errors;
 mod headers;
 mod sums;
 
-use crate::shown::Written;
+use crate::shown::{Answer, Shown};
 use hex::{FromHex, FromHexError};
 use std::alloc::Global;
+use std::fmt::Display;
 use std::str::FromStr;
 
 /// What a case has as one word or several.
 pub trait Argument: Sized {
     /// Reads its words.
-    fn read(arguments: &mut Arguments) -> Self;
+    fn read(case: &mut Case) -> Self;
 }
 
-/// The words of a case that are yet to be read, with single spaces between them.
+/// A case: its words that are yet to be read, with single spaces between them, and its answer.
 ///
 /// A word that is missing, or is not what was asked for, makes the case a bad one and reads as some
-/// value. [`Arguments::were_all_good`] says whether the case was good once all its words are read.
+/// value. [`Case::were_all_good`] says whether the case was good once all its words are read.
 #[derive(Drop)]
-pub struct Arguments<'a> {
+pub struct Case<'a> {
     /// The allocator for what is read.
     pub alloc: Global,
     /// The text from the next word on; none if no word is left.
     pub rest: Option<&'a str>,
     /// Whether a word was missing or was not what was asked for.
     pub is_bad: bool,
-    /// Whether there was no memory for the bytes of a word; the case is then a bad one, too.
-    pub is_out_of_memory: bool,
+    /// What is written so far. If there was no memory for the bytes of a word, it says so.
+    pub answer: Answer,
 }
 
-impl<'a> Arguments<'a> {
-    /// All the words of a line.
-    pub fn new(alloc: Global, line: &'a str) -> Arguments<'a> {
-        Arguments {
+impl<'a> Case<'a> {
+    /// All the words of a line, with no answer yet.
+    pub fn new(alloc: Global, line: &'a str) -> Case<'a> {
+        Case {
             alloc,
             rest: Some(line),
             is_bad: false,
-            is_out_of_memory: false,
+            answer: Answer::new(alloc),
         }
     }
 
@@ -72,12 +73,6 @@ impl<'a> Arguments<'a> {
         ensures same_words { self.new.rest ≡ self.old.rest }
     {
         self.is_bad = true;
-    }
-
-    /// Makes the case a bad one, which has no answer.
-    pub fn refused(&mut self) -> Written {
-        self.refuse();
-        Ok(())
     }
 
     /// Whether no word is left, and each was what was asked for.
@@ -151,7 +146,7 @@ impl<'a> Arguments<'a> {
         self.decoded(word)
     }
 
-    /// Exactly `N` bytes, as [`Arguments::bytes`] has them.
+    /// Exactly `N` bytes, as [`Case::bytes`] has them.
     pub fn array<const N: usize>(&mut self) -> [u8; N] {
         let word = self.word();
         self.decoded_array(word)
@@ -163,7 +158,7 @@ impl<'a> Arguments<'a> {
             Ok(bytes) => bytes,
             Err(e) => {
                 self.refuse();
-                self.is_out_of_memory |= e == FromHexError::OutOfMemory;
+                self.answer.is_out_of_memory |= e == FromHexError::OutOfMemory;
                 Vec::new(self.alloc)
             }
         }
@@ -185,8 +180,13 @@ impl<'a> Arguments<'a> {
         if word == "-" {
             return "";
         }
-        if word.is_empty() || word.as_bytes().iter().any(u8::is_ascii_uppercase) {
+        if word.is_empty() {
             self.refuse();
+        }
+        for byte in word.as_bytes() {
+            if byte.is_ascii_uppercase() {
+                self.refuse();
+            }
         }
         word
     }
@@ -202,4 +202,28 @@ impl<'a> Arguments<'a> {
         self.refuse();
         other
     }
+}
+
+/// Answers with a value.
+pub fn write_text<T: Display>(value: &T, case: &mut Case) {
+    case.answer.put("", value);
+}
+
+/// Answers with a value as answers have it.
+pub fn write_shown<T: Shown>(value: &T, case: &mut Case) {
+    value.show(&mut case.answer);
+}
+
+/// Answers with what a setter returned, and the header afterwards.
+pub fn write_change<E: Shown, H: Shown>(change: &Result<(), E>, header: &H, case: &mut Case) {
+    match change {
+        Ok(()) => case.answer.words("ok"),
+        Err(e) => write_shown(e, case),
+    }
+    case.answer.shown(" ; ", header);
+}
+
+/// Answers whether two values are equal.
+pub fn write_equality(is_equal: bool, case: &mut Case) {
+    case.answer.put("eq=", &is_equal);
 }
