@@ -1,5 +1,6 @@
--- The errors of ARP packets: their texts.
+-- The errors of ARP packets: their texts, and what of them is hashed.
 use Rattle.std.specs.Prelude.{ℕ, List, ◌++◌, codes}
+use Rattle.std.specs.Hash as fed
 use Rattle.std.specs.Fmt.{decimal}
 use Rattle.etherparse_link.specs.declared.err.arp.ArpEthIpv4FromError.{ArpEthIpv4FromError}
 use Rattle.etherparse_link.specs.declared.err.arp.ArpEthIpv4FromError.TheVariants as error
@@ -45,3 +46,25 @@ arp_proto_addr_error_text (protocol.LenTooBig len) =
 abbrev pub arp_new_error_text : ArpNewError → List ℕ
 arp_new_error_text (new.HwAddr e) = arp_hw_addr_error_text e
 arp_new_error_text (new.ProtoAddr e) = arp_proto_addr_error_text e
+
+-- What an error holds is hashed after the number of what is wrong.
+abbrev pub arp_eth_ipv4_from_error_writes : ArpEthIpv4FromError → List (List ℕ)
+arp_eth_ipv4_from_error_writes (error.NonMatchingHwType id) = fed.usize 0 ++ fed.u16 id
+arp_eth_ipv4_from_error_writes (error.NonMatchingProtocolType ether_type) =
+    fed.usize 1 ++ fed.u16 ether_type
+arp_eth_ipv4_from_error_writes (error.NonMatchingHwAddrSize size) = fed.usize 2 ++ fed.u8 size
+arp_eth_ipv4_from_error_writes (error.NonMatchingProtoAddrSize size) = fed.usize 3 ++ fed.u8 size
+
+abbrev pub arp_hw_addr_error_writes : ArpHwAddrError → List (List ℕ)
+arp_hw_addr_error_writes (hardware.LenNonMatching sender target) =
+    fed.usize 0 ++ (fed.usize sender ++ fed.usize target)
+arp_hw_addr_error_writes (hardware.LenTooBig len) = fed.usize 1 ++ fed.usize len
+
+abbrev pub arp_proto_addr_error_writes : ArpProtoAddrError → List (List ℕ)
+arp_proto_addr_error_writes (protocol.LenNonMatching sender target) =
+    fed.usize 0 ++ (fed.usize sender ++ fed.usize target)
+arp_proto_addr_error_writes (protocol.LenTooBig len) = fed.usize 1 ++ fed.usize len
+
+abbrev pub arp_new_error_writes : ArpNewError → List (List ℕ)
+arp_new_error_writes (new.HwAddr e) = fed.usize 0 ++ arp_hw_addr_error_writes e
+arp_new_error_writes (new.ProtoAddr e) = fed.usize 1 ++ arp_proto_addr_error_writes e

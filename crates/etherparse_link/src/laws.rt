@@ -4,6 +4,11 @@
 ghost use Rattle.std.specs.Prelude.{◌≡◌, ◌↔◌, IsTrue, Ok, fold};
 ghost use Rattle.std.specs.Hash as fed;
 ghost use Rattle.std.specs.Ordering.{nat_cmp};
+ghost use Rattle.etherparse_link.specs.ArpErrors.{arp_eth_ipv4_from_error_writes};
+ghost use Rattle.etherparse_link.specs.ArpErrors.{arp_hw_addr_error_writes};
+ghost use Rattle.etherparse_link.specs.ArpErrors.{arp_new_error_writes};
+ghost use Rattle.etherparse_link.specs.ArpErrors.{arp_proto_addr_error_writes};
+ghost use Rattle.etherparse_link.specs.DoubleVlanErrors.{header_error_writes};
 
 use crate::err::arp::{ArpEthIpv4FromError, ArpHwAddrError, ArpNewError, ArpProtoAddrError};
 use crate::err::double_vlan::{HeaderError, HeaderSliceError};
@@ -357,4 +362,35 @@ fn arp_new_error_equality(a: &ArpNewError, b: &ArpNewError) -> bool
     ensures same_value { IsTrue result ↔ (a.now ≡ b.now) }
 {
     a == b
+}
+
+// Errors are hashed by all that they say.
+fn arp_eth_ipv4_from_error_hash<H: Hasher>(error: &ArpEthIpv4FromError, state: &mut H)
+    ensures by_value { state.new ≡ fold H.write state.old (arp_eth_ipv4_from_error_writes error.now) }
+{
+    error.hash(state);
+}
+
+fn arp_hw_addr_error_hash<H: Hasher>(error: &ArpHwAddrError, state: &mut H)
+    ensures by_value { state.new ≡ fold H.write state.old (arp_hw_addr_error_writes error.now) }
+{
+    error.hash(state);
+}
+
+fn arp_proto_addr_error_hash<H: Hasher>(error: &ArpProtoAddrError, state: &mut H)
+    ensures by_value { state.new ≡ fold H.write state.old (arp_proto_addr_error_writes error.now) }
+{
+    error.hash(state);
+}
+
+fn arp_new_error_hash<H: Hasher>(error: &ArpNewError, state: &mut H)
+    ensures by_value { state.new ≡ fold H.write state.old (arp_new_error_writes error.now) }
+{
+    error.hash(state);
+}
+
+fn double_vlan_header_error_hash<H: Hasher>(error: &HeaderError, state: &mut H)
+    ensures by_value { state.new ≡ fold H.write state.old (header_error_writes error.now) }
+{
+    error.hash(state);
 }

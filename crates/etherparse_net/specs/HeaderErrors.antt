@@ -1,5 +1,6 @@
--- The errors of extension headers: their texts.
+-- The errors of extension headers: their texts, and what of them is hashed.
 use Rattle.std.specs.Prelude.{ℕ, List, ◌++◌, codes}
+use Rattle.std.specs.Hash as fed
 use Rattle.std.specs.Fmt.{decimal}
 use Rattle.etherparse.specs.LenError.{len_error_text}
 use Rattle.etherparse_net.specs.declared.err.ext_payload_len_error.ExtPayloadLenError as payload
@@ -38,3 +39,13 @@ ext_payload_len_error_text (payload.TheVariants.TooBig len) =
 ext_payload_len_error_text (payload.TheVariants.Unaligned len) =
     codes "IPv6 Extension Header Error: The payload has '" ++ (decimal len
     ++ codes "' byte(s), which is not '6' more than a multiple of '8'.")
+
+-- A length is hashed after the number of what is wrong with it.
+abbrev pub icv_len_error_writes : icv.IcvLenError → List (List ℕ)
+icv_len_error_writes (icv.TheVariants.TooBig len) = fed.usize 0 ++ fed.usize len
+icv_len_error_writes (icv.TheVariants.Unaligned len) = fed.usize 1 ++ fed.usize len
+
+abbrev pub ext_payload_len_error_writes : payload.ExtPayloadLenError → List (List ℕ)
+ext_payload_len_error_writes (payload.TheVariants.TooSmall len) = fed.usize 0 ++ fed.usize len
+ext_payload_len_error_writes (payload.TheVariants.TooBig len) = fed.usize 1 ++ fed.usize len
+ext_payload_len_error_writes (payload.TheVariants.Unaligned len) = fed.usize 2 ++ fed.usize len

@@ -3,7 +3,12 @@
 
 ghost use Rattle.std.specs.Prelude.{◌≡◌, ◌↔◌, ◌++◌, IfOk, IsOk, IsTrue, Ok, fold};
 ghost use Rattle.std.specs.Hash as fed;
+ghost use Rattle.etherparse_net.specs.HeaderErrors.{ext_payload_len_error_writes};
+ghost use Rattle.etherparse_net.specs.HeaderErrors.{icv_len_error_writes};
 ghost use Rattle.etherparse_net.specs.Ipv6Extensions.{extension_parts};
+ghost use Rattle.etherparse_net.specs.OptionErrors.{incomplete_option_writes};
+ghost use Rattle.etherparse_net.specs.OptionErrors.{ipv4_option_error_writes};
+ghost use Rattle.etherparse_net.specs.OptionErrors.{option_write_error_writes};
 
 use crate::err::ip_auth::{HeaderError, HeaderSliceError};
 use crate::err::{
@@ -274,4 +279,42 @@ fn ip_auth_header_slice_error_copy(error: &HeaderSliceError) -> Result<HeaderSli
     ensures same_value { result ≡ Ok error.now }
 {
     error.clone()
+}
+
+// Errors are hashed by all that they say.
+fn ext_payload_len_error_hash<H: Hasher>(error: &ExtPayloadLenError, state: &mut H)
+    ensures by_value { state.new ≡ fold H.write state.old (ext_payload_len_error_writes error.now) }
+{
+    error.hash(state);
+}
+
+fn icv_len_error_hash<H: Hasher>(error: &IcvLenError, state: &mut H)
+    ensures by_value { state.new ≡ fold H.write state.old (icv_len_error_writes error.now) }
+{
+    error.hash(state);
+}
+
+fn incomplete_option_hash<H: Hasher>(error: &IncompleteOption, state: &mut H)
+    ensures by_value { state.new ≡ fold H.write state.old (incomplete_option_writes error.now) }
+{
+    error.hash(state);
+}
+
+fn ipv4_option_error_hash<H: Hasher>(error: &Ipv4OptionError, state: &mut H)
+    ensures by_value { state.new ≡ fold H.write state.old (ipv4_option_error_writes error.now) }
+{
+    error.hash(state);
+}
+
+fn option_write_error_hash<H: Hasher>(error: &OptionWriteError, state: &mut H)
+    ensures by_value { state.new ≡ fold H.write state.old (option_write_error_writes error.now) }
+{
+    error.hash(state);
+}
+
+// There is one authentication header error only: nothing of it is hashed.
+fn ip_auth_header_error_hash<H: Hasher>(error: &HeaderError, state: &mut H)
+    ensures nothing { state.new ≡ state.old }
+{
+    error.hash(state);
 }
