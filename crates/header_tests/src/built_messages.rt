@@ -4,6 +4,7 @@ use crate::shared::{assert_equal, assert_written, vlan_id};
 use etherparse_icmp::icmpv4::DestUnreachableHeader;
 use etherparse_icmp::{Icmpv4Type, Icmpv6Type};
 use packet_builder::{BuildSliceWriteError, IpStep, PacketBuilder};
+use std::process::Abort;
 
 const SOURCE: [u8; 6] = [2, 0, 0, 0, 0, 1];
 
@@ -14,11 +15,13 @@ fn over_ipv4() -> IpStep {
     PacketBuilder::ipv4([10, 0, 0, 1], [10, 0, 0, 2], 64)
 }
 
-// From 2001:db8::1 to 2001:db8::2.
+// 2001:db8::1 and 2001:db8::2, the source and the destination over IPv6.
+const FIRST: [u8; 16] = [0x20, 1, 0x0d, 0xb8, 0, 0, 0, 0, 0, 0, 0, 0, 0, 0, 0, 1];
+
+const SECOND: [u8; 16] = [0x20, 1, 0x0d, 0xb8, 0, 0, 0, 0, 0, 0, 0, 0, 0, 0, 0, 2];
+
 fn over_ipv6() -> IpStep {
-    let source = [0x20, 1, 0x0d, 0xb8, 0, 0, 0, 0, 0, 0, 0, 0, 0, 0, 0, 1];
-    let destination = [0x20, 1, 0x0d, 0xb8, 0, 0, 0, 0, 0, 0, 0, 0, 0, 0, 0, 2];
-    PacketBuilder::ipv6(source, destination, 47)
+    PacketBuilder::ipv6(FIRST, SECOND, 47)
 }
 
 #[test]
@@ -44,7 +47,11 @@ fn messages_of_icmp(rt: HostRuntime) {
         255, 255, 111, 100, 100,
     ];
     assert_written(&rt, written, &memory, &expected);
+}
 
+#[test]
+fn other_messages_of_icmp(rt: HostRuntime) {
+    let mut memory = [0xaa; 47];
     let needed = DestUnreachableHeader::FragmentationNeeded { next_hop_mtu: 1400 };
     let written = over_ipv4()
         .icmpv4(Icmpv4Type::DestinationUnreachable(needed))
@@ -67,14 +74,10 @@ fn messages_of_icmp(rt: HostRuntime) {
 
 #[test]
 fn messages_of_icmpv6(rt: HostRuntime) {
-    let (a, b) = (
-        [0x20, 1, 0x0d, 0xb8, 0, 0, 0, 0, 0, 0, 0, 0, 0, 0, 0, 1],
-        [0x20, 1, 0x0d, 0xb8, 0, 0, 0, 0, 0, 0, 0, 0, 0, 0, 0, 2],
-    );
     let mut memory = [0; 66];
     let builder = PacketBuilder::ethernet2(SOURCE, DESTINATION)
         .single_vlan(vlan_id(&rt, 5))
-        .ipv6(a, b, 255)
+        .ipv6(FIRST, SECOND, 255)
         .icmpv6_echo_reply(1, 2);
     assert_equal(&rt, builder.size(0), 66);
     let written = builder.write_to_slice(&mut memory, &[]);
@@ -86,7 +89,7 @@ fn messages_of_icmpv6(rt: HostRuntime) {
     assert_written(&rt, written, &memory, &expected);
 
     let written = PacketBuilder::ethernet2(SOURCE, DESTINATION)
-        .ipv6(a, b, 64)
+        .ipv6(FIRST, SECOND, 64)
         .icmpv6_echo_request(1, 2)
         .write_to_slice(&mut memory, b"odd");
     let expected = [
@@ -95,22 +98,35 @@ fn messages_of_icmpv6(rt: HostRuntime) {
         128, 0, 80, 221, 0, 1, 0, 2, 111, 100, 100,
     ];
     assert_written(&rt, written, &memory, &expected);
+}
 
+// Asserts that a packet of this length was written, and what stands before its hop limit and after
+// its IPv6 header.
+fn assert_message(
+    rt: &impl Abort,
+    written: Result<usize, BuildSliceWriteError>,
+    memory: &[u8],
+    len: usize,
+    (front, message): (&[u8], &[u8]),
+) {
+    let parts = (written, memory.get(4..8), memory.get(40..len));
+    assert_equal(rt, parts, (Ok(len), Some(front), Some(message)));
+}
+
+#[test]
+fn other_messages_of_icmpv6(rt: HostRuntime) {
+    let mut memory = [0; 66];
     let written = over_ipv6()
         .icmpv6(Icmpv6Type::PacketTooBig { mtu: 1280 })
         .write_to_slice(&mut memory, b"abcd");
-    let front = [0, 12, 58, 47].as_slice();
-    let message = [2, 0, 216, 125, 0, 0, 5, 0, 97, 98, 99, 100].as_slice();
-    let parts = (written, memory.get(4..8), memory.get(40..52));
-    assert_equal(&rt, parts, (Ok(52), Some(front), Some(message)));
+    let message = [2, 0, 216, 125, 0, 0, 5, 0, 97, 98, 99, 100];
+    assert_message(&rt, written, &memory, 52, (&[0, 12, 58, 47], &message));
 
     let written = over_ipv6()
         .icmpv6_raw(200, 3, [1, 2, 3, 4])
         .write_to_slice(&mut memory, b"xyz");
-    let front = [0, 11, 58, 47].as_slice();
-    let message = [200, 3, 229, 193, 1, 2, 3, 4, 120, 121, 122].as_slice();
-    let parts = (written, memory.get(4..8), memory.get(40..51));
-    assert_equal(&rt, parts, (Ok(51), Some(front), Some(message)));
+    let message = [200, 3, 229, 193, 1, 2, 3, 4, 120, 121, 122];
+    assert_message(&rt, written, &memory, 51, (&[0, 11, 58, 47], &message));
 }
 
 // ICMP may follow either header, ICMPv6 that of IPv6 alone.
@@ -120,10 +136,8 @@ fn messages_over_the_other_version(rt: HostRuntime) {
     let written = over_ipv6()
         .icmpv4_echo_request(1, 2)
         .write_to_slice(&mut memory, b"abcd");
-    let front = [0, 12, 1, 47].as_slice();
-    let message = [8, 0, 51, 54, 0, 1, 0, 2, 97, 98, 99, 100].as_slice();
-    let parts = (written, memory.get(4..8), memory.get(40..52));
-    assert_equal(&rt, parts, (Ok(52), Some(front), Some(message)));
+    let message = [8, 0, 51, 54, 0, 1, 0, 2, 97, 98, 99, 100];
+    assert_message(&rt, written, &memory, 52, (&[0, 12, 1, 47], &message));
 
     let mut memory = [7; 52];
     let refused = over_ipv4()

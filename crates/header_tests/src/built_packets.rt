@@ -8,6 +8,7 @@ use etherparse_transport::{TcpOptionElement, TcpOptionWriteError};
 use packet::sliced_packet::SlicedPacket;
 use packet_builder::{BuildSliceWriteError, PacketBuilder};
 use packet_parts::checksum::Verdict;
+use std::process::Abort;
 
 const SOURCE: [u8; 6] = [2, 0, 0, 0, 0, 1];
 
@@ -156,21 +157,24 @@ fn a_segment_over_ethernet(rt: HostRuntime) {
     assert_written(&rt, written, &memory, &expected);
 }
 
-// A request to all in an Ethernet frame, and a reply in a VLAN.
-#[test]
-fn arp_packets(rt: HostRuntime) {
-    let all = [255; 6];
-    let request = ArpPacket::new(
+// From 192.168.0.1 about 192.168.0.2.
+fn arp(rt: &impl Abort, operation: ArpOperation, target: &[u8; 6]) -> ArpPacket {
+    ArpPacket::new(
         ArpHardwareId::ETHERNET,
         EtherType::IPV4,
-        ArpOperation::REQUEST,
+        operation,
         &SOURCE,
         &[192, 168, 0, 1],
-        &[0; 6],
+        target,
         &[192, 168, 0, 2],
     )
-    .expect(&rt, "an ARP packet");
-    let builder = PacketBuilder::ethernet2(SOURCE, all).arp(request);
+    .expect(rt, "an ARP packet")
+}
+
+#[test]
+fn an_arp_request_to_all(rt: HostRuntime) {
+    let request = arp(&rt, ArpOperation::REQUEST, &[0; 6]);
+    let builder = PacketBuilder::ethernet2(SOURCE, [255; 6]).arp(request);
     assert_equal(&rt, builder.size(), 42);
     let mut memory = [0xaa; 43];
     let written = builder.write_to_slice(&mut memory);
@@ -180,18 +184,12 @@ fn arp_packets(rt: HostRuntime) {
         0, 1, 192, 168, 0, 1, 0, 0, 0, 0, 0, 0, 192, 168, 0, 2,
     ];
     assert_written(&rt, written, &memory, &expected);
+}
 
-    let reply = ArpPacket::new(
-        ArpHardwareId::ETHERNET,
-        EtherType::IPV4,
-        ArpOperation::REPLY,
-        &SOURCE,
-        &[192, 168, 0, 1],
-        &DESTINATION,
-        &[192, 168, 0, 2],
-    )
-    .expect(&rt, "an ARP packet");
-    let builder = PacketBuilder::ethernet2(SOURCE, all)
+#[test]
+fn an_arp_reply_in_a_vlan(rt: HostRuntime) {
+    let reply = arp(&rt, ArpOperation::REPLY, &DESTINATION);
+    let builder = PacketBuilder::ethernet2(SOURCE, [255; 6])
         .single_vlan(vlan_id(&rt, 7))
         .arp(reply);
     assert_equal(&rt, builder.size(), 46);

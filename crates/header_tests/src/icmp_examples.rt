@@ -21,7 +21,11 @@ fn icmpv4_headers(rt: HostRuntime) -> Result<(), Fail> {
     assert_equal(&rt, header.icmp_type, Icmpv4Type::EchoRequest(echo));
     assert!(rt; header.checksum == 0x2104 && payload == b"abcd".as_slice());
     assert_equal(&rt, header.to_bytes().as_slice(), &bytes[..8]);
+    Ok(())
+}
 
+#[test]
+fn checksums_of_icmpv4(rt: HostRuntime) {
     let reply = Icmpv4Type::EchoReply(IcmpEchoHeader { id: 0x1234, seq: 1 });
     let header = Icmpv4Header::with_checksum(reply, b"abcd");
     assert_equal(
@@ -32,7 +36,10 @@ fn icmpv4_headers(rt: HostRuntime) -> Result<(), Fail> {
 
     let request = Icmpv4Type::EchoRequest(IcmpEchoHeader { id: 0x1234, seq: 1 });
     assert_equal(&rt, request.calc_checksum(b"abcd"), 0x2104);
+}
 
+#[test]
+fn icmpv4_replies(rt: HostRuntime) -> Result<(), Fail> {
     let request = [8, 0, 0x21, 4, 0x12, 0x34, 0, 1, b'a', b'b', b'c', b'd'];
     let (header, payload) = Icmpv4Header::from_slice(&request)?;
     if let Icmpv4Type::EchoRequest(echo) = header.icmp_type {
@@ -55,7 +62,11 @@ fn icmpv6_headers(rt: HostRuntime) -> Result<(), Fail> {
     assert_equal(&rt, header.icmp_type, Icmpv6Type::EchoRequest(echo));
     assert!(rt; header.checksum == 0x4d48 && payload == b"abcd".as_slice());
     assert_equal(&rt, header.to_bytes().as_slice(), &bytes[..8]);
+    Ok(())
+}
 
+#[test]
+fn checksums_of_icmpv6(rt: HostRuntime) -> Result<(), Fail> {
     let source = [0x20, 0x01, 0x0d, 0xb8, 0, 0, 0, 0, 0, 0, 0, 0, 0, 0, 0, 1];
     let destination = [0x20, 0x01, 0x0d, 0xb8, 0, 0, 0, 0, 0, 0, 0, 0, 0, 0, 0, 2];
     let request = Icmpv6Type::EchoRequest(IcmpEchoHeader { id: 0x1234, seq: 1 });
@@ -78,7 +89,7 @@ fn icmpv6_headers(rt: HostRuntime) -> Result<(), Fail> {
 }
 
 #[test]
-fn codes_of_icmpv4(rt: HostRuntime) -> Result<(), Fail> {
+fn unreachable_destinations(rt: HostRuntime) {
     let header = DestUnreachableHeader::from_values(4, 1400);
     let needed = DestUnreachableHeader::FragmentationNeeded { next_hop_mtu: 1400 };
     assert!(rt; header == Some(needed) && needed.code_u8() == 4);
@@ -88,20 +99,14 @@ fn codes_of_icmpv4(rt: HostRuntime) -> Result<(), Fail> {
         Some(DestUnreachableHeader::Port),
     );
     assert!(rt; DestUnreachableHeader::from_values(16, 0).is_none());
+}
 
+#[test]
+fn codes_of_icmpv4(rt: HostRuntime) {
     let code = RedirectCode::from_u8(1);
     assert_equal(&rt, code, Some(RedirectCode::RedirectForHost));
     assert_equal(&rt, RedirectCode::RedirectForHost.code_u8(), 1);
     assert!(rt; RedirectCode::from_u8(4).is_none());
-
-    // Packets to the host are to go to 192.0.2.1.
-    let bytes = [5, 1, 0x74, 0x36, 192, 0, 2, 1, b'a', b'b', b'c', b'd'];
-    let (header, _) = Icmpv4Header::from_slice(&bytes)?;
-    let redirect = RedirectHeader {
-        code: RedirectCode::RedirectForHost,
-        gateway_internet_address: [192, 0, 2, 1],
-    };
-    assert_equal(&rt, header.icmp_type, Icmpv4Type::Redirect(redirect));
 
     let code = TimeExceededCode::from_u8(0);
     assert_equal(&rt, code, Some(TimeExceededCode::TtlExceededInTransit));
@@ -114,7 +119,23 @@ fn codes_of_icmpv4(rt: HostRuntime) -> Result<(), Fail> {
     let length = ParameterProblemHeader::from_values(2, 0);
     assert_equal(&rt, length, Some(ParameterProblemHeader::BadLength));
     assert!(rt; ParameterProblemHeader::from_values(3, 0).is_none());
+}
 
+#[test]
+fn icmpv4_redirects(rt: HostRuntime) -> Result<(), Fail> {
+    // Packets to the host are to go to 192.0.2.1.
+    let bytes = [5, 1, 0x74, 0x36, 192, 0, 2, 1, b'a', b'b', b'c', b'd'];
+    let (header, _) = Icmpv4Header::from_slice(&bytes)?;
+    let redirect = RedirectHeader {
+        code: RedirectCode::RedirectForHost,
+        gateway_internet_address: [192, 0, 2, 1],
+    };
+    assert_equal(&rt, header.icmp_type, Icmpv4Type::Redirect(redirect));
+    Ok(())
+}
+
+#[test]
+fn icmpv4_timestamps(rt: HostRuntime) -> Result<(), Fail> {
     let bytes = [
         13, 0, 0xe0, 0xc4, 0x12, 0x34, 0, 1, 0, 0, 0, 1, 0, 0, 0, 2, 0, 0, 0, 3,
     ];

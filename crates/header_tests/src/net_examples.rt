@@ -105,7 +105,11 @@ fn ipv6_options(rt: HostRuntime) -> Result<(), Fail> {
     assert!(rt; option.option_type() == 5 && !option.may_change());
     assert_equal(&rt, option.unknown_action(), Ipv6OptionAction::Skip);
     assert_equal(&rt, option.data(), [0, 0].as_slice());
+    Ok(())
+}
 
+#[test]
+fn options_of_a_header(rt: HostRuntime) -> Result<(), Fail> {
     // A router alert (RFC 2711), and a PadN of two bytes.
     let header = Ipv6RawExtHeaderSlice::from_slice(&[58, 0, 5, 2, 0, 0, 1, 0])?;
     let mut options = header.options();
@@ -117,7 +121,11 @@ fn ipv6_options(rt: HostRuntime) -> Result<(), Fail> {
         return Err(Fail::from("no option"));
     };
     assert!(rt; padding.is_padding() && options.next().is_none());
+    Ok(())
+}
 
+#[test]
+fn ipv6_options_written(rt: HostRuntime) -> Result<(), Fail> {
     // A router alert (RFC 2711), and a PadN of two bytes.
     let mut options: ArrayVec<u8, 6> = ArrayVec::new();
     append_ipv6_option(&mut options, 5, &[0, 0])?;
@@ -157,7 +165,11 @@ fn ipv4_options(rt: HostRuntime) -> Result<(), Fail> {
     assert!(rt; option.option_type() == 148 && option.is_copied());
     assert_equal(&rt, (option.class(), option.number()), (0, 20));
     assert_equal(&rt, option.data(), [0, 0].as_slice());
+    Ok(())
+}
 
+#[test]
+fn lists_of_ipv4_options(rt: HostRuntime) -> Result<(), Fail> {
     // No operation, a router alert (RFC 2113), and the end of the list.
     let mut options = Ipv4OptionsIterator::new(&[1, 148, 4, 0, 0, 0, 0, 0]);
     let Some(Ok(first)) = options.next() else {
