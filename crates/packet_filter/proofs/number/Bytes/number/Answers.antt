@@ -81,3 +81,12 @@ returns-in_default-2 c = rw c.in-Four.is (record { value = is_not_there Four c.a
 
 pub returns-in_default-3 : goal.returns-in_default-3
 returns-in_default-3 c = rw c.in-Two.is (record { value = is_not_there Two c.args.place c.args.place c.args.self.now (omega arith) (sym c.byte-first.ensures.value ∙ c.in_default.is-0) })
+
+pub returns-in_default-2-2 : goal.returns-in_default-2-2
+returns-in_default-2-2 c = rw c.in-Four.is (record { value = is_not_there Four c.args.place (c.args.place + 2) c.args.self.now (omega arith) (sym c.byte-in-Four-2.ensures.value ∙ c.in_default-2.is-2) })
+
+pub returns-in_default-2-3 : goal.returns-in_default-2-3
+returns-in_default-2-3 c = rw c.in-Four.is (record { value = is_not_there Four c.args.place (c.args.place + 1) c.args.self.now (omega arith) (sym c.byte-in-Four.ensures.value ∙ c.in_default-2.is-1) })
+
+pub returns-in_default-2-4 : goal.returns-in_default-2-4
+returns-in_default-2-4 c = rw c.in-Four.is (record { value = is_not_there Four c.args.place c.args.place c.args.self.now (omega arith) (sym c.byte-first.ensures.value ∙ c.in_default-2.is-0) })
