@@ -1,4 +1,5 @@
 use Rattle.std.proofs.Common.{ℕ, ◌≡◌, ◌+◌, ◌≤◌, List, ◌++◌, length, take, arith, sym, length-take-le}
+use Rattle.std.proofs.lemmas.Grind.{common_steps}
 use Rattle.std.proofs.Math.Seq.{take-append-add}
 use Rattle.std.proofs.lemmas.List.{take-append-le}
 use borrow.Rule.Slice.PartMut.{put_mid}
@@ -13,3 +14,27 @@ returns-clause-takes g c = record {
   reads = record { gave = c.in-Ok.ensures.bytes.0; count = omega (arith, length-take-le c.in-Ok.n c.read.new.buf c.in-Ok.ensures.bound.0) };
   takes = sym (grown c.args.self.now.len _ c.in-Ok.n c.args.self.now.bytes c.read.new.buf (omega arith) c.in-Ok.ensures.bound.0);
 }
+
+pub returns-clause-end : goal.returns-clause-end
+returns-clause-end g c = grind (arith, common_steps)
+
+pub returns-clause-failed : goal.returns-clause-failed
+returns-clause-failed g c = grind (arith, common_steps)
+
+pub returns-clause-more : goal.returns-clause-more
+returns-clause-more g c = grind (arith, common_steps)
+
+pub returns-clause-same : goal.returns-clause-same
+returns-clause-same g c = grind (arith, common_steps)
+
+pub returns-clause-unfailed : goal.returns-clause-unfailed
+returns-clause-unfailed g c = grind (arith, common_steps)
+
+pub returns-clause-unread : goal.returns-clause-unread
+returns-clause-unread g c = grind (arith, common_steps)
+
+pub returns-in_default : goal.returns-in_default
+returns-in_default g c = record { end = grind (arith, common_steps); failed = grind (arith, common_steps); more = grind (arith, common_steps); same = grind (arith, common_steps); takes = grind (arith, common_steps); unfailed = grind (arith, common_steps); unread = grind (arith, common_steps) }
+
+pub returns-then-most-eq0 : goal.returns-then-most-eq0
+returns-then-most-eq0 g c = record { end = grind (arith, common_steps); failed = grind (arith, common_steps); more = grind (arith, common_steps); same = grind (arith, common_steps); takes = grind (arith, common_steps); unfailed = grind (arith, common_steps); unread = grind (arith, common_steps) }

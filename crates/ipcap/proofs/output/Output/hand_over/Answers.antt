@@ -1,4 +1,5 @@
 use Rattle.std.proofs.Common.{ℕ, ◌≡◌, ◌+◌, List, ◌++◌, drop, take, arith, append_assoc, take-append-drop}
+use Rattle.std.proofs.lemmas.Grind.{common_steps}
 use Rattle.std.proofs.KnownBytes.{Appends-trans}
 use Rattle.std.proofs.lemmas.List.{drop-drop, take_rest}
 use Rattle.ipcap.proofs.output.Output.hand_over.Goals as goal
@@ -17,3 +18,9 @@ writes-preserved g c =
       };
       line = c.writes.invariant.line;
     }
+
+pub returns : goal.returns
+returns g c = record { all = grind (arith, common_steps); failed = grind (arith, common_steps); kept = grind (arith, common_steps); line = grind (arith, common_steps); room = grind (arith, common_steps) }
+
+pub returns-in-Err : goal.returns-in-Err
+returns-in-Err g c = record { all = grind (arith, common_steps); failed = grind (arith, common_steps); kept = grind (arith, common_steps); line = grind (arith, common_steps); room = grind (arith, common_steps) }
