@@ -212,9 +212,8 @@ const TOO_LONG: &str = "error: input is too long\n";
 fn joined(parts: &[(&str, usize)], alloc: Global) -> Result<Vec<u8>, AllocError> {
     let mut input = Vec::new(alloc);
     for (text, times) in parts {
-        for _ in 0..*times {
-            input.extend_from_slice(text.as_bytes())?;
-        }
+        let repeated = text.repeat(alloc, *times)?;
+        input.extend_from_slice(repeated.as_bytes())?;
     }
     Ok(input)
 }

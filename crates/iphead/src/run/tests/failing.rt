@@ -184,30 +184,44 @@ fn expect_each_write_ends_it(
     kind: ErrorKind,
     whole: (Status, &[u8]),
 ) {
-    let text = whole.1;
     for fails_at in 1..1000 {
-        let mut reader = input;
-        let mut sink = Sink {
+        let sink = Sink {
             taken: Text::new(),
             at_most,
             fails_at,
             kind,
             calls: 0,
         };
-        let ended = run(&mut reader, &mut sink);
-        let seen = (ended, sink.taken.as_slice());
-        let before = at_most.saturating_mul(fails_at - 1);
-        if text.len() <= before {
-            assert_equal(rt, (seen, sink.calls), (whole, fails_at - 1));
+        if ends_before_a_failure(rt, input, sink, whole) {
             return;
-        }
-        let is_tried_again = seen == whole && kind == ErrorKind::Interrupted;
-        if !is_tried_again {
-            let cut = (Status::Failed, &text[..before]);
-            assert_equal(rt, (seen, sink.calls), (cut, fails_at));
         }
     }
     panic!(rt; "no run met no failure");
+}
+
+// Runs over a writer, compares the status, what was taken and the number of calls, and returns
+// whether the run ended before the call that fails.
+fn ends_before_a_failure(
+    rt: &impl Abort,
+    input: &[u8],
+    mut sink: Sink,
+    whole: (Status, &[u8]),
+) -> bool {
+    let mut reader = input;
+    let ended = run(&mut reader, &mut sink);
+    let seen = (ended, sink.taken.as_slice());
+    let calls = sink.fails_at.saturating_sub(1);
+    let before = sink.at_most.saturating_mul(calls);
+    if whole.1.len() <= before {
+        assert_equal(rt, (seen, sink.calls), (whole, calls));
+        return true;
+    }
+    let is_tried_again = seen == whole && sink.kind == ErrorKind::Interrupted;
+    if !is_tried_again {
+        let cut = (Status::Failed, &whole.1[..before]);
+        assert_equal(rt, (seen, sink.calls), (cut, sink.fails_at));
+    }
+    false
 }
 
 static WRITES: [(Row, Status); 8] = [
