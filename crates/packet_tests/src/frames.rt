@@ -212,14 +212,16 @@ fn fragments_have_a_transport_header_if_the_first_has_all_of_it(rt: HostRuntime)
     let mut tiny = [0; 24];
     tiny.copy_from_slice(&DATAGRAM[..24]);
     [tiny[3], tiny[6]] = [24, 0x20];
-    let later = LaxSlicedPacket::from_ip(&later);
-    assert_equal(&rt, later.packet.ports(), None);
-    let are_none = [later.stop.is_none(), later.packet.transport.is_none()];
-    assert_equal(&rt, are_none, [true; 2]);
-    let tiny = LaxSlicedPacket::from_ip(&tiny);
-    assert_equal(&rt, tiny.packet.ports(), Some((1024, 53)));
-    let are_none = [tiny.stop.is_none(), tiny.packet.transport.is_none()];
-    assert_equal(&rt, are_none, [true; 2]);
+    assert_has_ports_alone(&rt, &later, None);
+    assert_has_ports_alone(&rt, &tiny, Some((1024, 53)));
+}
+
+// Asserts the ports of a fragment, which has no transport header, and is read to its end.
+fn assert_has_ports_alone(rt: &impl Abort, packet: &[u8], ports: Option<(u16, u16)>) {
+    let lax = LaxSlicedPacket::from_ip(packet);
+    assert_equal(rt, lax.packet.ports(), ports);
+    let are_none = [lax.stop.is_none(), lax.packet.transport.is_none()];
+    assert_equal(rt, are_none, [true; 2]);
 }
 
 // Which header a packet is found to have after that of IP, and what follows a header of UDP.
@@ -287,7 +289,7 @@ fn assert_refused(
 }
 
 #[test]
-fn protocol_types_of_cooked_captures(rt: HostRuntime) -> Result<(), Fail> {
+fn protocol_types_of_cooked_captures(rt: HostRuntime) {
     // The protocol type is 0800 before an IPv4 packet.
     let mut frame = [0; 46];
     [frame[2], frame[14]] = [3, 8];
@@ -304,17 +306,22 @@ fn protocol_types_of_cooked_captures(rt: HostRuntime) -> Result<(), Fail> {
         (35, None),
     ] {
         frame[3] = low;
-        let packet = SlicedPacket::from_linux_sll(&frame)?;
-        assert_equal(&rt, packet.ether_type, ether_type);
-        assert_equal(&rt, packet.net.is_some(), ether_type.is_some());
-        assert_equal(&rt, packet.payload, DATAGRAM.as_slice());
+        assert_has_type(&rt, SlicedPacket::from_linux_sll(&frame), ether_type);
         frame_2[9] = low;
-        let packet = SlicedPacket::from_linux_sll2(&frame_2)?;
-        assert_equal(&rt, packet.ether_type, ether_type);
-        assert_equal(&rt, packet.net.is_some(), ether_type.is_some());
-        assert_equal(&rt, packet.payload, DATAGRAM.as_slice());
+        assert_has_type(&rt, SlicedPacket::from_linux_sll2(&frame_2), ether_type);
     }
-    Ok(())
+}
+
+// Asserts the type of a frame that carries `DATAGRAM`, which is read as a packet if there is a type.
+fn assert_has_type(
+    rt: &impl Abort,
+    sliced: Result<SlicedPacket, SliceError>,
+    ether_type: Option<EtherType>,
+) {
+    let packet = sliced.expect(rt, "a packet");
+    assert_equal(rt, packet.ether_type, ether_type);
+    assert_equal(rt, packet.net.is_some(), ether_type.is_some());
+    assert_equal(rt, packet.payload, DATAGRAM.as_slice());
 }
 
 #[test]

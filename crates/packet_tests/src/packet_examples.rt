@@ -26,13 +26,16 @@ use std::process::Abort;
 use std::test::Fail;
 
 #[test]
-fn checksums_over_ipv4(rt: HostRuntime) -> Result<(), Fail> {
+fn sum_over_ipv4(rt: HostRuntime) {
     // A datagram of 12 bytes and its pseudo-header sum to all ones.
     let (source, destination) = ([192, 168, 0, 1], [192, 168, 0, 199]);
     let datagram = [4, 0, 0, 53, 0, 12, 0x91, 0xae, b't', b'e', b's', b't'];
     let mut sum = ipv4_pseudo_header(source, destination, IpNumber::UDP, 12);
     assert_equal(&rt, sum.add_slice(&datagram).ones_complement(), 0);
+}
 
+#[test]
+fn verdicts_over_ipv4(rt: HostRuntime) {
     let (source, destination) = ([192, 168, 0, 1], [192, 168, 0, 199]);
     let mut payload = [4, 0, 0, 53, 0, 12, 0x91, 0xae, b't', b'e', b's', b't'];
     let verdict = ipv4_verdict(source, destination, IpNumber::UDP, &payload);
@@ -44,7 +47,10 @@ fn checksums_over_ipv4(rt: HostRuntime) -> Result<(), Fail> {
     [payload[6], payload[7]] = [0, 0];
     let verdict = ipv4_verdict(source, destination, IpNumber::UDP, &payload);
     assert_equal(&rt, verdict, Verdict::Absent(Absence::NotComputed));
+}
 
+#[test]
+fn checksum_over_ipv4(rt: HostRuntime) -> Result<(), Fail> {
     let (source, destination) = ([192, 168, 0, 1], [192, 168, 0, 199]);
     let ip = Ipv4Header::new(12, 64, IpNumber::UDP, source, destination)?;
     let mut udp = UdpHeader {
@@ -59,7 +65,7 @@ fn checksums_over_ipv4(rt: HostRuntime) -> Result<(), Fail> {
 }
 
 #[test]
-fn checksums_over_ipv6(rt: HostRuntime) {
+fn sum_over_ipv6(rt: HostRuntime) {
     // A datagram of 12 bytes from 2001:db8::1 to 2001:db8::2, with its pseudo-header.
     let source = [0x20, 0x01, 0x0d, 0xb8, 0, 0, 0, 0, 0, 0, 0, 0, 0, 0, 0, 1];
     let mut destination = source;
@@ -67,7 +73,10 @@ fn checksums_over_ipv6(rt: HostRuntime) {
     let datagram = [4, 0, 0, 53, 0, 12, 0xb8, 0x52, b't', b'e', b's', b't'];
     let mut sum = ipv6_pseudo_header(source, destination, IpNumber::UDP, 12);
     assert_equal(&rt, sum.add_slice(&datagram).ones_complement(), 0);
+}
 
+#[test]
+fn verdicts_over_ipv6(rt: HostRuntime) {
     let source = [0x20, 0x01, 0x0d, 0xb8, 0, 0, 0, 0, 0, 0, 0, 0, 0, 0, 0, 1];
     let mut destination = source;
     destination[15] = 2;
@@ -78,7 +87,10 @@ fn checksums_over_ipv6(rt: HostRuntime) {
     [payload[6], payload[7]] = [0, 0];
     let verdict = ipv6_verdict(source, destination, IpNumber::UDP, &payload);
     assert_equal(&rt, verdict, Verdict::Wrong);
+}
 
+#[test]
+fn checksum_over_ipv6(rt: HostRuntime) {
     let mut ip = Ipv6Header::default();
     ip.source = [0x20, 0x01, 0x0d, 0xb8, 0, 0, 0, 0, 0, 0, 0, 0, 0, 0, 0, 1];
     ip.destination = [0x20, 0x01, 0x0d, 0xb8, 0, 0, 0, 0, 0, 0, 0, 0, 0, 0, 0, 2];
@@ -93,10 +105,16 @@ fn checksums_over_ipv6(rt: HostRuntime) {
 }
 
 #[test]
-fn headers_and_addresses(rt: HostRuntime) -> Result<(), Fail> {
+fn address(rt: HostRuntime) -> Result<(), Fail> {
     let address = Ipv6Text([0x20, 0x01, 0x0d, 0xb8, 0, 0, 0, 0, 0, 0, 0, 0, 0, 0, 0, 1]);
     let text = format!(in rt.alloc(); "{address}")?;
     assert_equal(&rt, text.as_str(), "2001:db8::1");
+    Ok(())
+}
+
+#[test]
+fn headers(rt: HostRuntime) -> Result<(), Fail> {
+    assert!(rt; tcp(&rt).is_ok());
 
     let slice = [4, 0, 0, 53, 0, 12, 0x91, 0xae, b't', b'e', b's', b't'];
     let (header, rest) = UdpHeader::from_slice(&slice)?;
@@ -113,7 +131,6 @@ fn headers_and_addresses(rt: HostRuntime) -> Result<(), Fail> {
     assert!(rt; header.is_fragmenting_payload() && header.more_fragments);
     assert_equal(&rt, header.fragment_offset.byte_offset(), 8);
     assert_equal(&rt, rest, [5, 6, 7, 8].as_slice());
-    assert!(rt; tcp(&rt).is_ok());
     Ok(())
 }
 
@@ -212,7 +229,10 @@ fn fragments(rt: HostRuntime) {
     let after = after_extensions(&body, IpNumber::IPV6_FRAGMENTATION_HEADER);
     assert!(rt; after.number == IpNumber::UDP && after.is_later);
     assert_equal(&rt, after.rest, [5, 6, 7, 8].as_slice());
+}
 
+#[test]
+fn keys_of_ipv4_fragments(rt: HostRuntime) {
     // Two fragments of one packet, without their payload.
     let first = [
         0x45, 0, 0, 20, 0x12, 0x34, 0x20, 0, 64, 17, 0, 0, 192, 168, 0, 1, 192, 168, 0, 199,
@@ -223,7 +243,10 @@ fn fragments(rt: HostRuntime) {
     // A whole packet.
     [packet[6], packet[7]] = [0, 0];
     assert_equal(&rt, ipv4_key(&packet), Ok(None));
+}
 
+#[test]
+fn keys_of_ipv6_fragments(rt: HostRuntime) {
     // Two fragments of one packet, without their payload.
     let mut first = [0; 48];
     [first[0], first[5], first[6], first[7]] = [0x60, 8, 44, 64];
@@ -262,7 +285,7 @@ fn rewriting(rt: HostRuntime) {
 }
 
 #[test]
-fn translation(rt: HostRuntime) -> Result<(), Fail> {
+fn translation_of_udp(rt: HostRuntime) -> Result<(), Fail> {
     let (source, destination) = ([192, 168, 0, 1], [192, 168, 0, 199]);
     let mut header = Ipv4Header::new(12, 64, IpNumber::UDP, source, destination)?;
     header.set_checksum();
@@ -270,7 +293,11 @@ fn translation(rt: HostRuntime) -> Result<(), Fail> {
     assert_equal(&rt, (header.header_checksum, checksum), (0x4f23, 0x281d));
     let checksum = translate_udp_destination(&mut header, checksum, [10, 0, 0, 2]);
     assert_equal(&rt, (header.header_checksum, checksum), (0x0691, 0xdf8a));
+    Ok(())
+}
 
+#[test]
+fn translation_of_tcp(rt: HostRuntime) -> Result<(), Fail> {
     let (source, destination) = ([192, 168, 0, 1], [192, 168, 0, 199]);
     let mut header = Ipv4Header::new(20, 64, IpNumber::TCP, source, destination)?;
     header.set_checksum();

@@ -1,6 +1,8 @@
 //! The examples in the doc comments of `packet_reassembly`, line by line, with `assert_equal` for
 //! equations that they assert.
 
+ghost use Rattle.std.specs.Prelude.{◌<◌, length};
+
 use crate::shared::assert_equal;
 use etherparse::{IpFragOffset, IpNumber, Ipv4Header, Ipv6Header};
 use packet_reassembly::header_chain::has_whole_chain;
@@ -44,7 +46,7 @@ fn entries_of_a_table(rt: HostRuntime) {
 }
 
 #[test]
-fn whole_packets(rt: HostRuntime) -> Result<(), Fail> {
+fn whole_ipv4_packets(rt: HostRuntime) -> Result<(), Fail> {
     let mut first = Ipv4Header::new(8, 64, IpNumber::UDP, [192, 168, 0, 1], [192, 168, 0, 199])?;
     (first.dont_fragment, first.more_fragments) = (false, true);
     let mut out = [0; 65535];
@@ -54,7 +56,11 @@ fn whole_packets(rt: HostRuntime) -> Result<(), Fail> {
         b'h', b'i', b'r', b't', b'e', b'e', b'n', b'b', b'y', b't', b'e', b's',
     ];
     assert_equal(&rt, &out[..len], packet.as_slice());
+    Ok(())
+}
 
+#[test]
+fn whole_ipv6_packets(rt: HostRuntime) -> Result<(), Fail> {
     let mut first = Ipv6Header::default();
     first.next_header = IpNumber::IPV6_HEADER_HOP_BY_HOP;
     // Hop-by-hop options, which name the fragment header.
@@ -191,7 +197,12 @@ fn packets_in_a_pool(rt: HostRuntime) -> Result<(), Fail> {
         b't', b'h', b'i', b'r', b't', b'e', b'e', b'n', b'b', b'y', b't', b'e', b's',
     ];
     assert_equal(&rt, &out[..33], packet.as_slice());
+    first_fragments(&rt, &mut pool)
+}
 
+fn first_fragments(rt: &impl Abort, pool: &mut IpDefragPool) -> Result<(), Fail>
+    requires some { 0 < length pool.old.slots.now }
+{
     // The first fragment of an IPv6 packet, of 8 bytes: a whole UDP header, and a part of one of TCP
     // (RFC 7112).
     let mut packet = [0; 56];

@@ -12,7 +12,7 @@ use std::process::Abort;
 use std::test::Fail;
 
 #[test]
-fn checksums(rt: HostRuntime) -> Result<(), Fail> {
+fn checksums_over_ipv4(rt: HostRuntime) -> Result<(), Fail> {
     let (source, destination) = ([192, 168, 0, 1], [192, 168, 0, 199]);
     let mut datagram = [4, 0, 0, 53, 0, 12, 0, 0, b't', b'e', b's', b't'];
     let checksum = calc_checksum_ipv4(source, destination, IpNumber::UDP, &datagram)?;
@@ -23,7 +23,11 @@ fn checksums(rt: HostRuntime) -> Result<(), Fail> {
         datagram,
         [4, 0, 0, 53, 0, 12, 0x91, 0xae, b't', b'e', b's', b't'],
     );
+    Ok(())
+}
 
+#[test]
+fn checksum_over_ipv6(rt: HostRuntime) -> Result<(), Fail> {
     // An echo request from 2001:db8::1 to 2001:db8::2.
     let source = [0x20, 0x01, 0x0d, 0xb8, 0, 0, 0, 0, 0, 0, 0, 0, 0, 0, 0, 1];
     let mut destination = source;
@@ -35,7 +39,7 @@ fn checksums(rt: HostRuntime) -> Result<(), Fail> {
 }
 
 #[test]
-fn addresses_and_ports(rt: HostRuntime) -> Result<(), Fail> {
+fn ipv4_addresses(rt: HostRuntime) -> Result<(), Fail> {
     let mut packet = [
         0x45, 0, 0, 32, 0, 0, 0, 0, 64, 17, 0xf8, 0xb4, 192, 168, 0, 1, 192, 168, 0, 199, 4, 0, 0,
         53, 0, 12, 0x91, 0xae, b't', b'e', b's', b't',
@@ -48,7 +52,11 @@ fn addresses_and_ports(rt: HostRuntime) -> Result<(), Fail> {
     assert_equal(&rt, reach, Reach::Upper);
     assert!(rt; packet[10..12] == [0x46, 0x91] && packet[16..20] == [10, 0, 0, 2]);
     assert!(rt; packet[26..28] == [0xdf, 0x8a]);
+    Ok(())
+}
 
+#[test]
+fn ports(rt: HostRuntime) -> Result<(), Fail> {
     let mut packet = [
         0x45, 0, 0, 32, 0, 0, 0, 0, 64, 17, 0x46, 0x91, 198, 51, 100, 7, 10, 0, 0, 2, 4, 0, 0, 53,
         0, 12, 0xdf, 0x8a, b't', b'e', b's', b't',

@@ -82,11 +82,7 @@ fn fronts_of_packets(rt: HostRuntime) {
         0xa1, 0x20,
     ];
     let block_type = BlockType::Packet(PacketType::Enhanced);
-    assert_equal(
-        &rt,
-        capture.block_front(&block),
-        front(block_type, 400_032, content),
-    );
+    assert_front(&rt, &block, front(block_type, 400_032, content));
 
     // The same, after 65,535 packets that were dropped.
     let block = [
@@ -94,11 +90,7 @@ fn fronts_of_packets(rt: HostRuntime) {
         0, 7, 0xa1, 0x20,
     ];
     let block_type = BlockType::Packet(PacketType::Obsolete);
-    assert_equal(
-        &rt,
-        capture.block_front(&block),
-        front(block_type, 400_032, content),
-    );
+    assert_front(&rt, &block, front(block_type, 400_032, content));
 
     // On the first interface, which keeps 400,000 bytes of a packet.
     let content = Content::Packet(packet(1, Stamp::Unknown));
@@ -107,16 +99,11 @@ fn fronts_of_packets(rt: HostRuntime) {
         14, 15, 16,
     ];
     let block_type = BlockType::Packet(PacketType::Simple);
-    assert_equal(
-        &rt,
-        capture.block_front(&block),
-        front(block_type, 400_016, content),
-    );
+    assert_front(&rt, &block, front(block_type, 400_016, content));
 }
 
 #[test]
 fn fronts_of_refused_packets(rt: HostRuntime) {
-    let capture = Capture::Pcapng(section());
     let block_type = BlockType::Packet(PacketType::Enhanced);
 
     // Of a third interface.
@@ -125,11 +112,7 @@ fn fronts_of_refused_packets(rt: HostRuntime) {
         0, 0, 0, 6, 0, 6, 0x1a, 0xa0, 0, 0, 0, 2, 0, 0, 0, 3, 0, 0, 0, 2, 0, 6, 0x1a, 0x80, 0, 7,
         0xa1, 0x20,
     ];
-    assert_equal(
-        &rt,
-        capture.block_front(&block),
-        front(block_type, 400_032, content),
-    );
+    assert_front(&rt, &block, front(block_type, 400_032, content));
 
     // One byte more than 400,032 bytes have room for after 28 and before 4.
     let content = Content::Refused(BlockError::CapturedLength {
@@ -140,17 +123,11 @@ fn fronts_of_refused_packets(rt: HostRuntime) {
         0, 0, 0, 6, 0, 6, 0x1a, 0xa0, 0, 0, 0, 1, 0, 0, 0, 3, 0, 0, 0, 2, 0, 6, 0x1a, 0x81, 0, 7,
         0xa1, 0x20,
     ];
-    assert_equal(
-        &rt,
-        capture.block_front(&block),
-        front(block_type, 400_032, content),
-    );
+    assert_front(&rt, &block, front(block_type, 400_032, content));
 }
 
 #[test]
 fn fronts_without_packets(rt: HostRuntime) {
-    let capture = Capture::Pcapng(section());
-
     // A section header in the other byte order.
     let block = [
         0x0a, 0x0d, 0x0d, 0x0a, 0x80, 0x1a, 6, 0, 0x4d, 0x3c, 0x2b, 0x1a, 1, 0, 0, 0, 0xff, 0xff,
@@ -165,7 +142,7 @@ fn fronts_without_packets(rt: HostRuntime) {
             total_len: 400_000,
         }),
     };
-    assert_equal(&rt, capture.block_front(&block), Ok(expected));
+    assert_front(&rt, &block, Ok(expected));
 
     // An interface with a comment (option 1) of 65,000 bytes.
     let block = [
@@ -174,7 +151,7 @@ fn fronts_without_packets(rt: HostRuntime) {
     ];
     let block_type = BlockType::InterfaceDescription;
     let expected = front(block_type, 400_000, Content::Description);
-    assert_equal(&rt, capture.block_front(&block), expected);
+    assert_front(&rt, &block, expected);
 
     // A Name Resolution Block, which has the type 4; its first record has the type 1 and 65,000
     // bytes.
@@ -183,7 +160,7 @@ fn fronts_without_packets(rt: HostRuntime) {
         b'a', b'a', b'a', b'a', b'a', b'a', b'a',
     ];
     let expected = front(BlockType::Other(4), 400_000, Content::Other);
-    assert_equal(&rt, capture.block_front(&block), expected);
+    assert_front(&rt, &block, expected);
 
     // A length that is no multiple of 4.
     let block = [
@@ -194,7 +171,7 @@ fn fronts_without_packets(rt: HostRuntime) {
         block_type: BlockType::Other(4),
         total_len: 400_002,
     });
-    assert_equal(&rt, capture.block_front(&block), expected);
+    assert_front(&rt, &block, expected);
 }
 
 #[test]
@@ -236,6 +213,12 @@ fn section() -> Section {
         order: Some(ByteOrder::BigEndian),
         interfaces,
     }
+}
+
+// Asserts what is read of the front of a block after that section.
+fn assert_front(rt: &impl Abort, block: &[u8; 28], expected: Result<BlockFront, BlockError>) {
+    let capture = Capture::Pcapng(section());
+    assert_equal(rt, capture.block_front(block), expected);
 }
 
 // What the front of a block of that section says.
