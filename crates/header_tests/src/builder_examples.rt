@@ -19,12 +19,16 @@ fn packet_builder(rt: HostRuntime) -> Result<(), Fail> {
 }
 
 #[test]
-fn echo_requests(rt: HostRuntime) -> Result<(), Fail> {
+fn echo_requests_over_ipv4(rt: HostRuntime) -> Result<(), Fail> {
     let request = PacketBuilder::ipv4([10, 0, 0, 1], [10, 0, 0, 2], 64).icmpv4_echo_request(1, 2);
     let mut memory = [0; 32];
     let len = request.write_to_slice(&mut memory, b"abcd")?;
     assert!(rt; len == 32 && &memory[20..24] == [8, 0, 51, 54].as_slice());
+    Ok(())
+}
 
+#[test]
+fn echo_requests_over_ipv6(rt: HostRuntime) -> Result<(), Fail> {
     let source = [0x20, 1, 0x0d, 0xb8, 0, 0, 0, 0, 0, 0, 0, 0, 0, 0, 0, 1];
     let destination = [0x20, 1, 0x0d, 0xb8, 0, 0, 0, 0, 0, 0, 0, 0, 0, 0, 0, 2];
     let request = PacketBuilder::ipv6(source, destination, 64).icmpv6_echo_request(1, 2);

@@ -28,12 +28,17 @@ fn a_datagram_over_ethernet(rt: HostRuntime) {
         192, 168, 1, 1, 192, 168, 1, 2, 0, 21, 4, 210, 0, 16, 103, 127, 1, 2, 3, 4, 5, 6, 7, 8,
     ];
     assert_written(&rt, written, &memory, &expected);
-    let packet = SlicedPacket::from_ethernet(&expected).expect(&rt, "a frame");
-    assert_equal(&rt, packet.ports(), Some((21, 1234)));
+    assert_carries_datagram(&rt, &expected);
+}
+
+// Asserts that a datagram from port 21 to port 1234 is in a frame, and that its checksum is right.
+fn assert_carries_datagram(rt: &impl Abort, frame: &[u8]) {
+    let packet = SlicedPacket::from_ethernet(frame).expect(rt, "a frame");
+    assert_equal(rt, packet.ports(), Some((21, 1234)));
     let Some(ip) = packet.net else {
         panic!(rt; "no packet");
     };
-    assert_equal(&rt, ip.verdict(), Verdict::Right);
+    assert_equal(rt, ip.verdict(), Verdict::Right);
 }
 
 #[test]
