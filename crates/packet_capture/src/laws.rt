@@ -124,10 +124,10 @@ fn record_head_clone(head: &RecordHead) -> Result<RecordHead, AllocError>
     head.clone()
 }
 
-fn record_clone<'a>(record: &Record<'a>) -> Result<Record<'a>, AllocError>
-    ensures same_value { result ≡ Ok record.now }
+fn record_clone<'a>(one: &Record<'a>) -> Result<Record<'a>, AllocError>
+    ensures same_value { result ≡ Ok one.now }
 {
-    record.clone()
+    one.clone()
 }
 
 fn file_format_clone(format: &FileFormat) -> Result<FileFormat, AllocError>
