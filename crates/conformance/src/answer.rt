@@ -71,14 +71,14 @@ fn answer_alone(operation: &str, case: &mut Case) {
         "fragments" => fragments::answer(case),
         "build" => build::answer(case),
         "upd" => sums::answer_update(case),
-        "known" => write_shown(&IpDscpKnown::try_from_ip_dscp(case.field::<u8, _>()), case),
-        "ipnum" => write_shown(&IpNumber(case.number()), case),
+        "known" => write_shown(IpDscpKnown::try_from_ip_dscp(case.field::<u8, _>()), case),
+        "ipnum" => write_shown(IpNumber(case.number()), case),
         "layer" => {
             let layer: Layer = case.read();
             case.answer.words(layer.error_title());
-            case.answer.put(" ; ", &layer);
+            case.answer.put(" ; ", layer);
         }
-        "value_type" => write_text(&case.read::<ValueType>(), case),
+        "value_type" => write_text(case.read::<ValueType>(), case),
         _ => case.refuse(),
     }
 }

@@ -47,7 +47,7 @@ fn write_packet(memory: &mut [u8], case: &mut Case) {
         }
         _ => return case.refuse(),
     };
-    case.answer.put("size=", &size);
+    case.answer.put("size=", size);
     case.answer.shown(" ", &written);
     case.answer.bytes(" memory=", memory);
 }
@@ -144,7 +144,7 @@ impl Shown for BuildSliceWriteError {
         match self {
             BuildSliceWriteError::PayloadLen(e) => e.show(answer),
             BuildSliceWriteError::Icmpv6InIpv4 => answer.words("err icmpv6_in_ipv4"),
-            BuildSliceWriteError::Space(required) => answer.put("err space required=", required),
+            BuildSliceWriteError::Space(required) => answer.put("err space required=", *required),
         }
     }
 }

@@ -205,12 +205,12 @@ impl<'a> Case<'a> {
 }
 
 /// Answers with a value.
-pub fn write_text<T: Display>(value: &T, case: &mut Case) {
+pub fn write_text<T: Display + Drop>(value: T, case: &mut Case) {
     case.answer.put("", value);
 }
 
 /// Answers with a value as answers have it.
-pub fn write_shown<T: Shown>(value: &T, case: &mut Case) {
+pub fn write_shown<T: Shown + Drop>(value: T, case: &mut Case) {
     value.show(&mut case.answer);
 }
 
@@ -218,12 +218,12 @@ pub fn write_shown<T: Shown>(value: &T, case: &mut Case) {
 pub fn write_change<E: Shown, H: Shown>(change: &Result<(), E>, header: &H, case: &mut Case) {
     match change {
         Ok(()) => case.answer.words("ok"),
-        Err(e) => write_shown(e, case),
+        Err(e) => e.show(&mut case.answer),
     }
     case.answer.shown(" ; ", header);
 }
 
 /// Answers whether two values are equal.
 pub fn write_equality(is_equal: bool, case: &mut Case) {
-    case.answer.put("eq=", &is_equal);
+    case.answer.put("eq=", is_equal);
 }

@@ -16,7 +16,7 @@ pub fn answer(kind: &str, case: &mut Case) {
         "field" => compared_fields(case),
         _ => return case.refuse(),
     };
-    write_shown(&comparison, case);
+    write_shown(comparison, case);
 }
 
 // Two values that have words of their own.

@@ -20,9 +20,9 @@ pub fn answer_text(name: &str, case: &mut Case) {
             },
             case,
         ),
-        "v4.version" => write_text(&case.ipv4_content("version"), case),
-        "v4.ihl" => write_text(&case.ipv4_content("ihl"), case),
-        "v6.version" => write_text(&case.ipv6_content("version"), case),
+        "v4.version" => write_text(case.ipv4_content("version"), case),
+        "v4.ihl" => write_text(case.ipv4_content("ihl"), case),
+        "v6.version" => write_text(case.ipv6_content("version"), case),
         _ => answer(true, name, case),
     }
 }
@@ -56,7 +56,7 @@ fn answer_too_big(is_text: bool, case: &mut Case) {
 fn answer_kind<E: Argument + Display + PartialEq + Drop>(is_text: bool, case: &mut Case) {
     let error: E = case.read();
     if is_text {
-        return write_text(&error, case);
+        return write_text(error, case);
     }
     if case.word() != "/" {
         case.refuse();

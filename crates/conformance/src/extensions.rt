@@ -27,9 +27,9 @@ pub fn answer(name: &str, case: &mut Case) {
 // A header at the front of a slice, or the options that a slice has.
 fn write_slice(name: &str, bytes: &[u8], case: &mut Case) {
     match name {
-        "auth" => write_shown(&IpAuthHeader::from_slice(bytes), case),
-        "fragment" => write_shown(&Ipv6FragmentHeader::from_slice(bytes), case),
-        "raw" => write_shown(&Ipv6RawExtHeader::from_slice(bytes), case),
+        "auth" => write_shown(IpAuthHeader::from_slice(bytes), case),
+        "fragment" => write_shown(Ipv6FragmentHeader::from_slice(bytes), case),
+        "raw" => write_shown(Ipv6RawExtHeader::from_slice(bytes), case),
         "options4" => write_ipv4_options(bytes, &mut case.answer),
         "options6" => write_ipv6_options(bytes, &mut case.answer),
         _ => case.refuse(),
@@ -41,14 +41,14 @@ fn answer_auth_new(case: &mut Case) {
     let next_header = IpNumber(case.number());
     let (spi, sequence_number) = (case.number(), case.number());
     let header = IpAuthHeader::new(next_header, spi, sequence_number, &case.bytes());
-    write_shown(&made(header), case);
+    write_shown(made(header), case);
 }
 
 // An extension header of some bytes.
 fn answer_raw_new(case: &mut Case) {
     let next_header = IpNumber(case.number());
     let header = Ipv6RawExtHeader::new_raw(next_header, &case.bytes());
-    write_shown(&made(header), case);
+    write_shown(made(header), case);
 }
 
 // The options of an IPv4 header, one after another, where they end, and how many there are.
@@ -60,7 +60,7 @@ fn write_ipv4_options(bytes: &[u8], answer: &mut Answer) {
             None => break,
         }
     }
-    answer.put("offset=", &options.offset);
+    answer.put("offset=", options.offset);
     answer.shown(" count=", &Ipv4OptionsIterator::count_of(bytes));
 }
 
@@ -73,7 +73,7 @@ fn write_ipv6_options(bytes: &[u8], answer: &mut Answer) {
             None => break,
         }
     }
-    answer.put("offset=", &options.offset);
+    answer.put("offset=", options.offset);
     answer.shown(" count=", &Ipv6OptionsIterator::count_of(bytes));
 }
 
@@ -101,17 +101,17 @@ fn answer_chain(case: &mut Case) {
             None => break,
         }
     }
-    case.answer.put("next_header=", &headers.next_header.0);
+    case.answer.put("next_header=", headers.next_header.0);
     case.answer.bytes(" rest=", headers.rest);
-    case.answer.put(" offset=", &headers.offset);
+    case.answer.put(" offset=", headers.offset);
 }
 
 impl Shown for Found<'_, IpAuthHeader> {
     fn show(&self, answer: &mut Answer) {
         let (header, rest) = self;
-        answer.put("next_header=", &header.next_header.0);
-        answer.put(" spi=", &header.spi);
-        answer.put(" sequence_number=", &header.sequence_number);
+        answer.put("next_header=", header.next_header.0);
+        answer.put(" spi=", header.spi);
+        answer.put(" sequence_number=", header.sequence_number);
         answer.bytes(" icv=", header.raw_icv());
         answer.rest_and_bytes(rest, header.to_bytes().as_slice());
     }
@@ -120,9 +120,9 @@ impl Shown for Found<'_, IpAuthHeader> {
 /// What the getters of a view return.
 impl Shown for IpAuthHeaderSlice<'_> {
     fn show(&self, answer: &mut Answer) {
-        answer.put("next_header=", &self.next_header().0);
-        answer.put(" spi=", &self.spi());
-        answer.put(" sequence_number=", &self.sequence_number());
+        answer.put("next_header=", self.next_header().0);
+        answer.put(" spi=", self.spi());
+        answer.put(" sequence_number=", self.sequence_number());
         answer.bytes(" icv=", self.raw_icv());
     }
 }
@@ -138,10 +138,10 @@ impl Shown for ip_auth::HeaderSliceError {
 
 impl Shown for Ipv6FragmentHeader {
     fn show(&self, answer: &mut Answer) {
-        answer.put("next_header=", &self.next_header.0);
-        answer.put(" fragment_offset=", &self.fragment_offset.value());
-        answer.put(" more_fragments=", &self.more_fragments);
-        answer.put(" identification=", &self.identification);
+        answer.put("next_header=", self.next_header.0);
+        answer.put(" fragment_offset=", self.fragment_offset.value());
+        answer.put(" more_fragments=", self.more_fragments);
+        answer.put(" identification=", self.identification);
     }
 }
 
@@ -155,7 +155,7 @@ impl Shown for Found<'_, Ipv6FragmentHeader> {
 impl Shown for Found<'_, Ipv6RawExtHeader> {
     fn show(&self, answer: &mut Answer) {
         let (header, rest) = self;
-        answer.put("next_header=", &header.next_header.0);
+        answer.put("next_header=", header.next_header.0);
         answer.bytes(" payload=", header.payload());
         answer.rest_and_bytes(rest, header.to_bytes().as_slice());
     }
@@ -164,7 +164,7 @@ impl Shown for Found<'_, Ipv6RawExtHeader> {
 /// What the getters of a view return.
 impl Shown for Ipv6RawExtHeaderSlice<'_> {
     fn show(&self, answer: &mut Answer) {
-        answer.put("next_header=", &self.next_header().0);
+        answer.put("next_header=", self.next_header().0);
         answer.bytes(" payload=", self.payload());
     }
 }
@@ -181,7 +181,7 @@ impl Shown for Ipv6ExtensionSlice<'_> {
                 answer.shown("destination_options ", view)
             }
             Ipv6ExtensionSlice::Other(number, view) => {
-                answer.put("other number=", &number.0);
+                answer.put("other number=", number.0);
                 answer.shown(" ", view);
             }
         }
@@ -190,20 +190,20 @@ impl Shown for Ipv6ExtensionSlice<'_> {
 
 impl Shown for Ipv4OptionSlice<'_> {
     fn show(&self, answer: &mut Answer) {
-        answer.put("type=", &self.option_type());
-        answer.put(" class=", &self.class());
-        answer.put(" number=", &self.number());
-        answer.put(" copied=", &self.is_copied());
+        answer.put("type=", self.option_type());
+        answer.put(" class=", self.class());
+        answer.put(" number=", self.number());
+        answer.put(" copied=", self.is_copied());
         answer.bytes(" data=", self.data());
     }
 }
 
 impl Shown for Ipv6OptionSlice<'_> {
     fn show(&self, answer: &mut Answer) {
-        answer.put("type=", &self.option_type());
+        answer.put("type=", self.option_type());
         answer.debug(" action=", &self.unknown_action());
-        answer.put(" may_change=", &self.may_change());
-        answer.put(" padding=", &self.is_padding());
+        answer.put(" may_change=", self.may_change());
+        answer.put(" padding=", self.is_padding());
         answer.bytes(" data=", self.data());
     }
 }

@@ -21,12 +21,12 @@ pub fn answer(field: &str, name: &str, case: &mut Case) {
 // By the constructor of the field.
 fn answer_new(field: &str, case: &mut Case) {
     match field {
-        "dscp" => write_shown(&IpDscp::try_new(case.number()), case),
-        "frag" => write_shown(&IpFragOffset::try_new(case.number()), case),
-        "flow" => write_shown(&Ipv6FlowLabel::try_new(case.number()), case),
-        "ecn" => write_shown(&IpEcn::try_new(case.number()), case),
-        "vlan_id" => write_shown(&VlanId::try_new(case.number()), case),
-        "vlan_pcp" => write_shown(&VlanPcp::try_new(case.number()), case),
+        "dscp" => write_shown(IpDscp::try_new(case.number()), case),
+        "frag" => write_shown(IpFragOffset::try_new(case.number()), case),
+        "flow" => write_shown(Ipv6FlowLabel::try_new(case.number()), case),
+        "ecn" => write_shown(IpEcn::try_new(case.number()), case),
+        "vlan_id" => write_shown(VlanId::try_new(case.number()), case),
+        "vlan_pcp" => write_shown(VlanPcp::try_new(case.number()), case),
         _ => case.refuse(),
     }
 }
@@ -51,76 +51,80 @@ where
     T: TryFrom<N> + Shown + Drop,
     T::Error: Shown + Drop,
 {
-    write_shown(&T::try_from(case.number()), case);
+    write_shown(T::try_from(case.number()), case);
 }
 
 // The number of a field, by its getter and by conversion, and its text.
-fn write_field<T: Display, N: Display + Drop>(field: &T, value: N, into: N, answer: &mut Answer) {
-    answer.put("value=", &value);
-    answer.put(" into=", &into);
+fn write_field<T, N>(field: T, value: N, into: N, answer: &mut Answer)
+where
+    T: Display + Drop,
+    N: Display + Drop,
+{
+    answer.put("value=", value);
+    answer.put(" into=", into);
     answer.put(" text=", field);
 }
 
 impl Shown for IpDscp {
     fn show(&self, answer: &mut Answer) {
-        write_field(self, self.value(), u8::from(*self), answer);
+        write_field(*self, self.value(), u8::from(*self), answer);
     }
 }
 
 impl Shown for IpFragOffset {
     fn show(&self, answer: &mut Answer) {
-        write_field(self, self.value(), u16::from(*self), answer);
-        answer.put(" bytes=", &self.byte_offset());
+        write_field(*self, self.value(), u16::from(*self), answer);
+        answer.put(" bytes=", self.byte_offset());
     }
 }
 
 impl Shown for Ipv6FlowLabel {
     fn show(&self, answer: &mut Answer) {
-        write_field(self, self.value(), u32::from(*self), answer);
+        write_field(*self, self.value(), u32::from(*self), answer);
     }
 }
 
 impl Shown for IpEcn {
     fn show(&self, answer: &mut Answer) {
-        write_field(self, self.value(), u8::from(*self), answer);
+        write_field(*self, self.value(), u8::from(*self), answer);
         answer.debug(" variant=", self);
     }
 }
 
 impl Shown for VlanId {
     fn show(&self, answer: &mut Answer) {
-        write_field(self, self.value(), u16::from(*self), answer);
+        write_field(*self, self.value(), u16::from(*self), answer);
     }
 }
 
 impl Shown for VlanPcp {
     fn show(&self, answer: &mut Answer) {
-        write_field(self, self.value(), u8::from(*self), answer);
+        write_field(*self, self.value(), u8::from(*self), answer);
     }
 }
 
 impl Shown for IpDscpKnown {
     fn show(&self, answer: &mut Answer) {
         answer.debug("variant=", self);
-        answer.put(" u8=", &u8::from(*self));
-        answer.put(" dscp=", &IpDscp::from(*self));
+        answer.put(" u8=", u8::from(*self));
+        answer.put(" dscp=", IpDscp::from(*self));
     }
 }
 
 impl Shown for IpDscpUnknownValueError {
     fn show(&self, answer: &mut Answer) {
-        answer.put("err unknown value=", &self.value);
+        answer.put("err unknown value=", self.value);
     }
 }
 
 impl Shown for IpNumber {
     fn show(&self, answer: &mut Answer) {
-        answer.put("value=", &self.0);
-        answer.put(" into=", &u8::from(*self));
-        answer.put(" ext=", &self.is_ipv6_ext_header_value());
+        answer.put("value=", self.0);
+        answer.put(" into=", u8::from(*self));
+        answer.put(" ext=", self.is_ipv6_ext_header_value());
         answer.put(
             " skippable=",
-            &Ipv6Header::is_skippable_header_extension(*self),
+            Ipv6Header::is_skippable_header_extension(*self),
         );
     }
 }

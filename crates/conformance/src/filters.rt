@@ -15,10 +15,10 @@ pub fn answer(case: &mut Case) {
     let text = case.bytes();
     match (link_type, Filter::from_text(&text)) {
         (None, _) => case.refuse(),
-        (Some(_), Err(e)) => write_shown(&e, case),
+        (Some(_), Err(e)) => write_shown(e, case),
         (Some(link_type), Ok(filter)) => match LaxSlicedPacket::from_link_type(link_type, &frame) {
-            Ok(lax) => write_text(&filter.matches(&lax, len), case),
-            Err(e) => write_shown(&e, case),
+            Ok(lax) => write_text(filter.matches(&lax, len), case),
+            Err(e) => write_shown(e, case),
         },
     }
 }
@@ -26,9 +26,9 @@ pub fn answer(case: &mut Case) {
 impl Shown for FilterError {
     fn show(&self, answer: &mut Answer) {
         match self {
-            FilterError::Unexpected { place, .. } => answer.put("err unexpected place=", place),
-            FilterError::Mixed { place, .. } => answer.put("err mixed place=", place),
-            FilterError::Unsupported { place } => answer.put("err unsupported place=", place),
+            FilterError::Unexpected { place, .. } => answer.put("err unexpected place=", *place),
+            FilterError::Mixed { place, .. } => answer.put("err mixed place=", *place),
+            FilterError::Unsupported { place } => answer.put("err unsupported place=", *place),
             FilterError::Incomplete { .. } => answer.words("err incomplete"),
             FilterError::TooLong { .. } => answer.words("err too_long"),
         }
@@ -37,7 +37,7 @@ impl Shown for FilterError {
 
 impl Shown for LinkError {
     fn show(&self, answer: &mut Answer) {
-        answer.put("err link required=", &self.required_len);
-        answer.put(" len=", &self.len);
+        answer.put("err link required=", self.required_len);
+        answer.put(" len=", self.len);
     }
 }

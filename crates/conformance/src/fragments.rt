@@ -41,7 +41,7 @@ fn add_next(buf: &mut IpDefragBuf, case: &mut Case) {
     let payload = case.bytes();
     match buf.add(offset, more_fragments, &payload) {
         Ok(()) => case.answer.words(state_of(buf)),
-        Err(e) => write_shown(&e, case),
+        Err(e) => write_shown(e, case),
     }
 }
 
@@ -73,15 +73,15 @@ impl Shown for IpDefragError {
         match self {
             IpDefragError::Empty { .. } => answer.words("err empty"),
             IpDefragError::UnalignedFragmentPayloadLen { payload_len, .. } => {
-                answer.put("err unaligned len=", payload_len)
+                answer.put("err unaligned len=", *payload_len)
             }
             IpDefragError::SegmentTooBig {
                 payload_len,
                 max,
                 ..
             } => {
-                answer.put("err too_big len=", payload_len);
-                answer.put(" max=", max);
+                answer.put("err too_big len=", *payload_len);
+                answer.put(" max=", *max);
             }
         }
     }

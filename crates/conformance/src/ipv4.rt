@@ -33,11 +33,11 @@ pub fn answer(name: &str, case: &mut Case) {
 // What is read at the front of some bytes.
 fn write_slice(name: &str, bytes: &[u8], case: &mut Case) {
     match name {
-        "view" => write_shown(&Ipv4HeaderSlice::from_slice(bytes), case),
+        "view" => write_shown(Ipv4HeaderSlice::from_slice(bytes), case),
         "view_header" => write_view_header(bytes, case),
         "view_eq" => write_view_equality(bytes, &case.bytes(), case),
-        "head" => write_shown(&Ipv4Header::from_slice(bytes), case),
-        "read" => write_shown(&Ipv4Header::read_from_slice(bytes), case),
+        "head" => write_shown(Ipv4Header::from_slice(bytes), case),
+        "read" => write_shown(Ipv4Header::read_from_slice(bytes), case),
         _ => case.refuse(),
     }
 }
@@ -46,7 +46,7 @@ fn write_slice(name: &str, bytes: &[u8], case: &mut Case) {
 fn write_view_header(bytes: &[u8], case: &mut Case) {
     match Ipv4HeaderSlice::from_slice(bytes) {
         Ok(view) => case.answer.shown("ok ", &view.to_header()),
-        Err(e) => write_shown(&e, case),
+        Err(e) => write_shown(e, case),
     }
 }
 
@@ -63,11 +63,11 @@ fn write_view_equality(first: &[u8], second: &[u8], case: &mut Case) {
 
 // What a header says about itself beyond its fields.
 fn write_info(header: &Ipv4Header, answer: &mut Answer) {
-    answer.put("ihl=", &header.ihl());
-    answer.put(" header_len=", &header.header_len());
-    answer.put(" max_payload_len=", &header.max_payload_len());
-    answer.put(" fragmenting=", &header.is_fragmenting_payload());
-    answer.put(" calc=", &header.calc_header_checksum());
+    answer.put("ihl=", header.ihl());
+    answer.put(" header_len=", header.header_len());
+    answer.put(" max_payload_len=", header.max_payload_len());
+    answer.put(" fragmenting=", header.is_fragmenting_payload());
+    answer.put(" calc=", header.calc_header_checksum());
     answer.bytes(" options=", header.options());
     answer.bytes(" bytes=", header.to_bytes().as_slice());
     answer.shown(" payload_len=", &header.payload_len());
@@ -80,21 +80,21 @@ fn answer_new(case: &mut Case) {
     let protocol = IpNumber(case.number());
     let (source, destination) = (case.array(), case.array());
     let made = Ipv4Header::new(payload_len, time_to_live, protocol, source, destination);
-    write_shown(&made, case);
+    write_shown(made, case);
 }
 
 impl Shown for Ipv4Header {
     fn show(&self, answer: &mut Answer) {
-        answer.put("dscp=", &self.dscp.value());
-        answer.put(" ecn=", &self.ecn.value());
-        answer.put(" total_len=", &self.total_len);
-        answer.put(" identification=", &self.identification);
-        answer.put(" dont_fragment=", &self.dont_fragment);
-        answer.put(" more_fragments=", &self.more_fragments);
-        answer.put(" fragment_offset=", &self.fragment_offset.value());
-        answer.put(" time_to_live=", &self.time_to_live);
-        answer.put(" protocol=", &self.protocol.0);
-        answer.put(" header_checksum=", &self.header_checksum);
+        answer.put("dscp=", self.dscp.value());
+        answer.put(" ecn=", self.ecn.value());
+        answer.put(" total_len=", self.total_len);
+        answer.put(" identification=", self.identification);
+        answer.put(" dont_fragment=", self.dont_fragment);
+        answer.put(" more_fragments=", self.more_fragments);
+        answer.put(" fragment_offset=", self.fragment_offset.value());
+        answer.put(" time_to_live=", self.time_to_live);
+        answer.put(" protocol=", self.protocol.0);
+        answer.put(" header_checksum=", self.header_checksum);
         answer.bytes(" source=", &self.source);
         answer.bytes(" destination=", &self.destination);
         answer.bytes(" options=", self.options());
@@ -105,24 +105,28 @@ impl Shown for Ipv4Header {
 impl Shown for Ipv4HeaderSlice<'_> {
     fn show(&self, answer: &mut Answer) {
         answer.bytes("slice=", self.slice());
-        answer.put(" version=", &self.version());
-        answer.put(" ihl=", &self.ihl());
-        answer.put(" dscp=", &self.dcp().value());
-        answer.put(" ecn=", &self.ecn().value());
-        answer.put(" total_len=", &self.total_len());
-        answer.put(" identification=", &self.identification());
-        answer.put(" dont_fragment=", &self.dont_fragment());
-        answer.put(" more_fragments=", &self.more_fragments());
-        answer.put(" fragment_offset=", &self.fragments_offset().value());
-        answer.put(" time_to_live=", &self.ttl());
-        answer.put(" protocol=", &self.protocol().0);
-        answer.put(" header_checksum=", &self.header_checksum());
-        answer.bytes(" source=", &self.source());
-        answer.bytes(" destination=", &self.destination());
-        answer.bytes(" options=", self.options());
-        answer.put(" fragmenting=", &self.is_fragmenting_payload());
-        answer.shown(" payload_len=", &self.payload_len());
+        answer.put(" version=", self.version());
+        answer.put(" ihl=", self.ihl());
+        answer.put(" dscp=", self.dcp().value());
+        answer.put(" ecn=", self.ecn().value());
+        answer.put(" total_len=", self.total_len());
+        answer.put(" identification=", self.identification());
+        answer.put(" dont_fragment=", self.dont_fragment());
+        answer.put(" more_fragments=", self.more_fragments());
+        answer.put(" fragment_offset=", self.fragments_offset().value());
+        write_from_time_to_live(self, answer);
     }
+}
+
+fn write_from_time_to_live(view: &Ipv4HeaderSlice, answer: &mut Answer) {
+    answer.put(" time_to_live=", view.ttl());
+    answer.put(" protocol=", view.protocol().0);
+    answer.put(" header_checksum=", view.header_checksum());
+    answer.bytes(" source=", &view.source());
+    answer.bytes(" destination=", &view.destination());
+    answer.bytes(" options=", view.options());
+    answer.put(" fragmenting=", view.is_fragmenting_payload());
+    answer.shown(" payload_len=", &view.payload_len());
 }
 
 impl Shown for Found<'_, Ipv4Header> {

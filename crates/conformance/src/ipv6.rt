@@ -33,11 +33,11 @@ pub fn answer(name: &str, case: &mut Case) {
 // What is read at the front of some bytes.
 fn write_slice(name: &str, bytes: &[u8], case: &mut Case) {
     match name {
-        "view" => write_shown(&Ipv6HeaderSlice::from_slice(bytes), case),
+        "view" => write_shown(Ipv6HeaderSlice::from_slice(bytes), case),
         "view_header" => write_view_header(bytes, case),
         "view_eq" => write_view_equality(bytes, &case.bytes(), case),
-        "head" => write_shown(&Ipv6Header::from_slice(bytes), case),
-        "read" => write_shown(&Ipv6Header::read_from_slice(bytes), case),
+        "head" => write_shown(Ipv6Header::from_slice(bytes), case),
+        "read" => write_shown(Ipv6Header::read_from_slice(bytes), case),
         _ => case.refuse(),
     }
 }
@@ -46,7 +46,7 @@ fn write_slice(name: &str, bytes: &[u8], case: &mut Case) {
 fn write_view_header(bytes: &[u8], case: &mut Case) {
     match Ipv6HeaderSlice::from_slice(bytes) {
         Ok(view) => case.answer.shown("ok ", &view.to_header()),
-        Err(e) => write_shown(&e, case),
+        Err(e) => write_shown(e, case),
     }
 }
 
@@ -63,19 +63,19 @@ fn write_view_equality(first: &[u8], second: &[u8], case: &mut Case) {
 
 // What a header says about itself beyond its fields, and its bytes.
 fn write_info(header: &Ipv6Header, answer: &mut Answer) {
-    answer.put("dscp=", &header.dscp());
-    answer.put(" ecn=", &header.ecn());
-    answer.put(" header_len=", &header.header_len());
+    answer.put("dscp=", header.dscp());
+    answer.put(" ecn=", header.ecn());
+    answer.put(" header_len=", header.header_len());
     answer.bytes(" bytes=", &header.to_bytes());
 }
 
 impl Shown for Ipv6Header {
     fn show(&self, answer: &mut Answer) {
-        answer.put("traffic_class=", &self.traffic_class);
-        answer.put(" flow_label=", &self.flow_label.value());
-        answer.put(" payload_length=", &self.payload_length);
-        answer.put(" next_header=", &self.next_header.0);
-        answer.put(" hop_limit=", &self.hop_limit);
+        answer.put("traffic_class=", self.traffic_class);
+        answer.put(" flow_label=", self.flow_label.value());
+        answer.put(" payload_length=", self.payload_length);
+        answer.put(" next_header=", self.next_header.0);
+        answer.put(" hop_limit=", self.hop_limit);
         answer.bytes(" source=", &self.source);
         answer.bytes(" destination=", &self.destination);
     }
@@ -85,17 +85,17 @@ impl Shown for Ipv6Header {
 impl Shown for Ipv6HeaderSlice<'_> {
     fn show(&self, answer: &mut Answer) {
         answer.bytes("slice=", self.slice());
-        answer.put(" version=", &self.version());
-        answer.put(" traffic_class=", &self.traffic_class());
-        answer.put(" dscp=", &self.dscp().value());
-        answer.put(" ecn=", &self.ecn().value());
-        answer.put(" flow_label=", &self.flow_label().value());
-        answer.put(" payload_length=", &self.payload_length());
-        answer.put(" next_header=", &self.next_header().0);
-        answer.put(" hop_limit=", &self.hop_limit());
+        answer.put(" version=", self.version());
+        answer.put(" traffic_class=", self.traffic_class());
+        answer.put(" dscp=", self.dscp().value());
+        answer.put(" ecn=", self.ecn().value());
+        answer.put(" flow_label=", self.flow_label().value());
+        answer.put(" payload_length=", self.payload_length());
+        answer.put(" next_header=", self.next_header().0);
+        answer.put(" hop_limit=", self.hop_limit());
         answer.bytes(" source=", &self.source());
         answer.bytes(" destination=", &self.destination());
-        answer.put(" header_len=", &self.header_len());
+        answer.put(" header_len=", self.header_len());
     }
 }
 

@@ -20,11 +20,11 @@ pub fn answer(name: &str, case: &mut Case) {
 // What is read at the front of some bytes.
 fn write_slice(name: &str, bytes: &[u8], case: &mut Case) {
     match name {
-        "ethernet2" => write_shown(&Ethernet2Header::from_slice(bytes), case),
-        "vlan" => write_shown(&SingleVlanHeader::from_slice(bytes), case),
-        "double_vlan" => write_shown(&DoubleVlanHeader::from_slice(bytes), case),
-        "sll" => write_shown(&LinuxSllHeader::from_slice(bytes), case),
-        "sll2" => write_shown(&LinuxSll2Header::from_slice(bytes), case),
+        "ethernet2" => write_shown(Ethernet2Header::from_slice(bytes), case),
+        "vlan" => write_shown(SingleVlanHeader::from_slice(bytes), case),
+        "double_vlan" => write_shown(DoubleVlanHeader::from_slice(bytes), case),
+        "sll" => write_shown(LinuxSllHeader::from_slice(bytes), case),
+        "sll2" => write_shown(LinuxSll2Header::from_slice(bytes), case),
         "arp" => write_arp(bytes, case),
         _ => case.refuse(),
     }
@@ -33,7 +33,7 @@ fn write_slice(name: &str, bytes: &[u8], case: &mut Case) {
 // The ARP packet at the front of some bytes, and the same of Ethernet and IPv4 if it is one.
 fn write_arp(bytes: &[u8], case: &mut Case) {
     let found = ArpPacket::from_slice(bytes);
-    write_shown(&found, case);
+    found.show(&mut case.answer);
     if let Ok((packet, _)) = found {
         case.answer
             .shown(" ; ", &ArpEthIpv4Packet::try_from(packet));
@@ -54,7 +54,7 @@ fn answer_new(case: &mut Case) {
         &case.bytes(),
         &case.bytes(),
     );
-    write_shown(&made(packet), case);
+    write_shown(made(packet), case);
 }
 
 impl Shown for Found<'_, Ethernet2Header> {
@@ -62,17 +62,17 @@ impl Shown for Found<'_, Ethernet2Header> {
         let (header, rest) = self;
         answer.bytes("destination=", &header.destination);
         answer.bytes(" source=", &header.source);
-        answer.put(" ether_type=", &header.ether_type.0);
+        answer.put(" ether_type=", header.ether_type.0);
         answer.rest_and_bytes(rest, &header.to_bytes());
     }
 }
 
 impl Shown for SingleVlanHeader {
     fn show(&self, answer: &mut Answer) {
-        answer.put("pcp=", &self.pcp);
-        answer.put(" drop_eligible_indicator=", &self.drop_eligible_indicator);
-        answer.put(" vlan_id=", &self.vlan_id);
-        answer.put(" ether_type=", &self.ether_type.0);
+        answer.put("pcp=", self.pcp);
+        answer.put(" drop_eligible_indicator=", self.drop_eligible_indicator);
+        answer.put(" vlan_id=", self.vlan_id);
+        answer.put(" ether_type=", self.ether_type.0);
     }
 }
 
@@ -104,13 +104,13 @@ impl Shown for double_vlan::HeaderSliceError {
 impl Shown for Found<'_, LinuxSllHeader> {
     fn show(&self, answer: &mut Answer) {
         let (header, rest) = self;
-        answer.put("packet_type=", &header.packet_type.0);
-        answer.put(" arp_hrd_type=", &header.arp_hrd_type.0);
+        answer.put("packet_type=", header.packet_type.0);
+        answer.put(" arp_hrd_type=", header.arp_hrd_type.0);
         answer.put(
             " sender_address_valid_length=",
-            &header.sender_address_valid_length,
+            header.sender_address_valid_length,
         );
-        answer.put(" protocol_type=", &header.protocol_type.0);
+        answer.put(" protocol_type=", header.protocol_type.0);
         answer.bytes(" sender_address=", &header.sender_address);
         answer.rest_and_bytes(rest, &header.to_bytes());
     }
@@ -119,13 +119,13 @@ impl Shown for Found<'_, LinuxSllHeader> {
 impl Shown for Found<'_, LinuxSll2Header> {
     fn show(&self, answer: &mut Answer) {
         let (header, rest) = self;
-        answer.put("protocol_type=", &header.protocol_type.0);
-        answer.put(" interface_index=", &header.interface_index);
-        answer.put(" arp_hrd_type=", &header.arp_hrd_type.0);
-        answer.put(" packet_type=", &header.packet_type);
+        answer.put("protocol_type=", header.protocol_type.0);
+        answer.put(" interface_index=", header.interface_index);
+        answer.put(" arp_hrd_type=", header.arp_hrd_type.0);
+        answer.put(" packet_type=", header.packet_type);
         answer.put(
             " sender_address_valid_length=",
-            &header.sender_address_valid_length,
+            header.sender_address_valid_length,
         );
         answer.bytes(" sender_address=", &header.sender_address);
         answer.rest_and_bytes(rest, &header.to_bytes());
@@ -135,11 +135,11 @@ impl Shown for Found<'_, LinuxSll2Header> {
 impl Shown for Found<'_, ArpPacket> {
     fn show(&self, answer: &mut Answer) {
         let (packet, rest) = self;
-        answer.put("hw_addr_type=", &packet.hw_addr_type.0);
-        answer.put(" proto_addr_type=", &packet.proto_addr_type.0);
-        answer.put(" hw_addr_size=", &packet.hw_addr_size());
-        answer.put(" protocol_addr_size=", &packet.protocol_addr_size());
-        answer.put(" operation=", &packet.operation.0);
+        answer.put("hw_addr_type=", packet.hw_addr_type.0);
+        answer.put(" proto_addr_type=", packet.proto_addr_type.0);
+        answer.put(" hw_addr_size=", packet.hw_addr_size());
+        answer.put(" protocol_addr_size=", packet.protocol_addr_size());
+        answer.put(" operation=", packet.operation.0);
         answer.bytes(" sender_hw_addr=", packet.sender_hw_addr());
         answer.bytes(" sender_protocol_addr=", packet.sender_protocol_addr());
         answer.bytes(" target_hw_addr=", packet.target_hw_addr());
@@ -151,7 +151,7 @@ impl Shown for Found<'_, ArpPacket> {
 /// The packet, and its bytes.
 impl Shown for ArpEthIpv4Packet {
     fn show(&self, answer: &mut Answer) {
-        answer.put("operation=", &self.operation.0);
+        answer.put("operation=", self.operation.0);
         answer.bytes(" sender_mac=", &self.sender_mac);
         answer.bytes(" sender_ipv4=", &self.sender_ipv4);
         answer.bytes(" target_mac=", &self.target_mac);

@@ -24,7 +24,7 @@ fn write_moved<E: Argument + Placed + Shown>(case: &mut Case) {
     let offset = case.number();
     let error: E = case.read();
     match error.moved(offset) {
-        Some(moved) => write_shown(&moved, case),
+        Some(moved) => write_shown(moved, case),
         None => case.refuse(),
     }
 }

@@ -8,7 +8,7 @@ use etherparse::Ipv4Options;
 /// `opt B` and the cases `opt.NAME`.
 pub fn answer(name: &str, case: &mut Case) {
     match name {
-        "" => write_shown(&Ipv4Options::try_from(case.bytes().as_slice()), case),
+        "" => write_shown(Ipv4Options::try_from(case.bytes().as_slice()), case),
         "arr" => match from_array(&case.bytes()) {
             Some(options) => case.answer.shown("ok ", &options),
             None => case.refuse(),
@@ -60,9 +60,9 @@ fn front<const N: usize>(bytes: &[u8]) -> [u8; N] {
 
 impl Shown for Ipv4Options {
     fn show(&self, answer: &mut Answer) {
-        answer.put("len=", &self.len());
-        answer.put(" len_u8=", &self.len_u8());
-        answer.put(" empty=", &self.is_empty());
+        answer.put("len=", self.len());
+        answer.put(" len_u8=", self.len_u8());
+        answer.put(" empty=", self.is_empty());
         answer.bytes(" slice=", self.as_slice());
     }
 }

@@ -1,6 +1,6 @@
 //! Packets of either version, taken apart by `packet_parts` and rewritten by `packet_rewriting`.
 
-use crate::case::{Case, write_shown};
+use crate::case::Case;
 use crate::shown::{Answer, Shown};
 use etherparse::err::ipv6::HeaderSliceError;
 use etherparse::{IpNumber, Ipv4Header, Ipv6Header};
@@ -32,7 +32,7 @@ pub fn answer(case: &mut Case) {
 // The parts of a packet, and what its upper layer holds, if it is no fragment.
 fn write_parts(bytes: &[u8], case: &mut Case) {
     let sliced = IpSlice::from_slice(bytes);
-    write_shown(&sliced, case);
+    sliced.show(&mut case.answer);
     match &sliced {
         Ok(slice) if slice.fragment.is_none() => write_upper(slice, case),
         _ => (),
@@ -77,7 +77,7 @@ impl Shown for IpSliceError {
         match self {
             IpSliceError::Empty => answer.words("err empty"),
             IpSliceError::UnexpectedVersion { version_number } => {
-                answer.put("err version number=", version_number)
+                answer.put("err version number=", *version_number)
             }
             IpSliceError::Ipv4Header(e) => answer.shown("header=", e),
             IpSliceError::Ipv6Header(e) => answer.shown("header=", e),
@@ -96,9 +96,9 @@ impl Shown for IpSlice<'_> {
                 answer.bytes(" extensions=", self.extensions);
             }
         }
-        answer.put(" upper=", &self.upper.0);
+        answer.put(" upper=", self.upper.0);
         answer.bytes(" payload=", self.payload);
-        answer.put(" fragment=", &self.fragment.is_some());
+        answer.put(" fragment=", self.fragment.is_some());
     }
 }
 
@@ -138,7 +138,7 @@ fn write_udp_checksum(slice: &IpSlice, udp: &mut UdpHeader, rest: &[u8], answer:
         IpHeaderSlice::Ipv4(view) => udp.set_checksum_ipv4(&view.to_header(), data),
         IpHeaderSlice::Ipv6(view) => udp.set_checksum_ipv6(&view.to_header(), data),
     }
-    answer.put(" right=", &is_right(slice));
+    answer.put(" right=", is_right(slice));
     answer.bytes(" made=", &udp.to_bytes());
 }
 
@@ -155,7 +155,7 @@ fn write_tcp(slice: &IpSlice, answer: &mut Answer) {
     match TcpHeaderSlice::from_slice(slice.payload) {
         Ok(view) => {
             answer.shown(" ; tcp ", &view);
-            answer.put(" right=", &is_right(slice));
+            answer.put(" right=", is_right(slice));
             write_translated(slice, view.checksum(), answer);
         }
         Err(e) => answer.shown(" ; tcp=", &e),
@@ -164,19 +164,19 @@ fn write_tcp(slice: &IpSlice, answer: &mut Answer) {
 
 impl Shown for TcpHeaderSlice<'_> {
     fn show(&self, answer: &mut Answer) {
-        answer.put("source_port=", &self.source_port());
-        answer.put(" destination_port=", &self.destination_port());
-        answer.put(" sequence_number=", &self.sequence_number());
-        answer.put(" acknowledgment_number=", &self.acknowledgment_number());
-        answer.put(" data_offset=", &self.data_offset());
-        answer.put(" flags=", &self.flags());
-        answer.put(" window_size=", &self.window_size());
-        answer.put(" checksum=", &self.checksum());
-        answer.put(" urgent_pointer=", &self.urgent_pointer());
-        answer.put(" fin=", &self.fin());
-        answer.put(" syn=", &self.syn());
-        answer.put(" rst=", &self.rst());
-        answer.put(" ack=", &self.ack());
+        answer.put("source_port=", self.source_port());
+        answer.put(" destination_port=", self.destination_port());
+        answer.put(" sequence_number=", self.sequence_number());
+        answer.put(" acknowledgment_number=", self.acknowledgment_number());
+        answer.put(" data_offset=", self.data_offset());
+        answer.put(" flags=", self.flags());
+        answer.put(" window_size=", self.window_size());
+        answer.put(" checksum=", self.checksum());
+        answer.put(" urgent_pointer=", self.urgent_pointer());
+        answer.put(" fin=", self.fin());
+        answer.put(" syn=", self.syn());
+        answer.put(" rst=", self.rst());
+        answer.put(" ack=", self.ack());
         answer.bytes(" options=", self.options());
     }
 }
@@ -190,8 +190,8 @@ fn write_translated(slice: &IpSlice, checksum: u16, answer: &mut Answer) {
     let checksum = translated(&mut header, checksum);
     answer.bytes(" ; translated source=", &header.source);
     answer.bytes(" destination=", &header.destination);
-    answer.put(" header_checksum=", &header.header_checksum);
-    answer.put(" checksum=", &checksum);
+    answer.put(" header_checksum=", header.header_checksum);
+    answer.put(" checksum=", checksum);
 }
 
 fn translated(header: &mut Ipv4Header, checksum: u16) -> u16 {
@@ -209,7 +209,7 @@ fn write_echo(slice: &IpSlice, case: &mut Case) {
     match slice.payload.to_vec(case.alloc) {
         Ok(mut message) => {
             let is_reply = reply(&slice.header, &mut message);
-            case.answer.put(" ; reply=", &is_reply);
+            case.answer.put(" ; reply=", is_reply);
             case.answer.bytes(" message=", &message);
         }
         Err(AllocError) => case.answer.is_out_of_memory = true,
@@ -229,8 +229,8 @@ impl Shown for Ipv4Key {
     fn show(&self, answer: &mut Answer) {
         answer.bytes("source=", &self.source);
         answer.bytes(" destination=", &self.destination);
-        answer.put(" protocol=", &self.protocol.0);
-        answer.put(" identification=", &self.identification);
+        answer.put(" protocol=", self.protocol.0);
+        answer.put(" identification=", self.identification);
     }
 }
 
@@ -239,7 +239,7 @@ impl Shown for Ipv6Key {
     fn show(&self, answer: &mut Answer) {
         answer.bytes("source=", &self.source);
         answer.bytes(" destination=", &self.destination);
-        answer.put(" identification=", &self.identification);
+        answer.put(" identification=", self.identification);
     }
 }
 

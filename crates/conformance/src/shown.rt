@@ -41,7 +41,7 @@ impl Answer {
     }
 
     /// Writes a value after some words.
-    pub fn put<T: Display>(&mut self, words: &str, value: &T) {
+    pub fn put<T: Display + Drop>(&mut self, words: &str, value: T) {
         let written = write!(self.text, "{words}{value}");
         self.note(&written);
     }
@@ -76,13 +76,13 @@ impl Answer {
         self.words(" ; ");
     }
 
-    /// Writes values after their names, with a space between them.
-    pub fn named<T: Display>(&mut self, values: &[(&str, T)]) {
+    /// Writes numbers after their names, with a space between them.
+    pub fn named(&mut self, numbers: &[(&str, u8)]) {
         let mut gap = "";
-        for (name, value) in values {
+        for (name, number) in numbers {
             self.words(gap);
             self.words(name);
-            self.put("=", value);
+            self.put("=", *number);
             gap = " ";
         }
     }
@@ -159,29 +159,29 @@ impl Shown for Comparison {
             Ordering::Greater => "gt",
         };
         answer.words(order);
-        answer.put(" eq=", &self.is_equal);
+        answer.put(" eq=", self.is_equal);
     }
 }
 
 impl Shown for u16 {
     fn show(&self, answer: &mut Answer) {
-        answer.put("", self);
+        answer.put("", *self);
     }
 }
 
 impl Shown for usize {
     fn show(&self, answer: &mut Answer) {
-        answer.put("", self);
+        answer.put("", *self);
     }
 }
 
 impl Shown for LenError {
     fn show(&self, answer: &mut Answer) {
-        answer.put("err len required=", &self.required_len);
-        answer.put(" len=", &self.len);
+        answer.put("err len required=", self.required_len);
+        answer.put(" len=", self.len);
         answer.debug(" source=", &self.len_source);
         answer.debug(" layer=", &self.layer);
-        answer.put(" offset=", &self.layer_start_offset);
+        answer.put(" offset=", self.layer_start_offset);
     }
 }
 
@@ -195,7 +195,7 @@ impl<T: Clone + Display + Debug + Eq + Hash> Shown for ValueTooBigError<T> {
 
 impl Shown for ipv4::BadOptionsLen {
     fn show(&self, answer: &mut Answer) {
-        answer.put("err bad_options bad_len=", &self.bad_len);
+        answer.put("err bad_options bad_len=", self.bad_len);
     }
 }
 
@@ -205,10 +205,10 @@ impl Shown for ipv4::HeaderSliceError {
             ipv4::HeaderSliceError::Len(e) => e.show(answer),
             ipv4::HeaderSliceError::Content(
                 ipv4::HeaderError::UnexpectedVersion { version_number },
-            ) => answer.put("err version number=", version_number),
+            ) => answer.put("err version number=", *version_number),
             ipv4::HeaderSliceError::Content(
                 ipv4::HeaderError::HeaderLengthSmallerThanHeader { ihl },
-            ) => answer.put("err ihl ihl=", ihl),
+            ) => answer.put("err ihl ihl=", *ihl),
         }
     }
 }
@@ -219,7 +219,7 @@ impl Shown for ipv6::HeaderSliceError {
             ipv6::HeaderSliceError::Len(e) => e.show(answer),
             ipv6::HeaderSliceError::Content(
                 ipv6::HeaderError::UnexpectedVersion { version_number },
-            ) => answer.put("err version number=", version_number),
+            ) => answer.put("err version number=", *version_number),
         }
     }
 }
@@ -233,9 +233,9 @@ impl Shown for ipv6::ChainError {
                 next_header,
                 layer_start_offset,
             } => {
-                answer.put("err too_many limit=", limit);
-                answer.put(" next=", next_header);
-                answer.put(" offset=", layer_start_offset);
+                answer.put("err too_many limit=", *limit);
+                answer.put(" next=", *next_header);
+                answer.put(" offset=", *layer_start_offset);
             }
         }
     }
@@ -244,7 +244,7 @@ impl Shown for ipv6::ChainError {
 /// What a walk past extension headers reached.
 impl Shown for (IpNumber, &[u8]) {
     fn show(&self, answer: &mut Answer) {
-        answer.put("next=", &self.0.0);
+        answer.put("next=", self.0.0);
         answer.bytes(" rest=", self.1);
     }
 }

@@ -90,17 +90,17 @@ pub fn answer_steps(name: &str, case: &mut Case) {
 pub fn answer_update(case: &mut Case) {
     let checksum = case.number();
     let (old, new) = (case.array(), case.array());
-    write_text(&update_2bytes(checksum, old, new), case);
+    write_text(update_2bytes(checksum, old, new), case);
 }
 
 fn write_sum<T: Display + Drop>(sum: T, case: &mut Case) {
-    case.answer.put("sum=", &sum);
+    case.answer.put("sum=", sum);
 }
 
 // The complement of a sum, and its form that is never 0.
 fn write_fold(complement: u16, with_no_zero: u16, case: &mut Case) {
-    case.answer.put("oc=", &complement);
-    case.answer.put(" nz=", &with_no_zero);
+    case.answer.put("oc=", complement);
+    case.answer.put(" nz=", with_no_zero);
 }
 
 // The pieces as slices.

@@ -10,12 +10,12 @@ use etherparse_transport::{
 /// The cases `udp.NAME`.
 pub fn answer_udp(name: &str, case: &mut Case) {
     match name {
-        "head" => write_shown(&UdpHeader::from_slice(&case.bytes()), case),
+        "head" => write_shown(UdpHeader::from_slice(&case.bytes()), case),
         "new" => {
             let (source_port, destination_port) = (case.number(), case.number());
             let payload_len = case.number();
             let made = UdpHeader::without_ipv4_checksum(source_port, destination_port, payload_len);
-            write_shown(&made, case);
+            write_shown(made, case);
         }
         "v4" => answer_udp_ipv4(case),
         "v6" => answer_udp_ipv6(case),
@@ -26,9 +26,9 @@ pub fn answer_udp(name: &str, case: &mut Case) {
 /// The cases `tcp.NAME`.
 pub fn answer_tcp(name: &str, case: &mut Case) {
     match name {
-        "head" => write_shown(&TcpHeader::from_slice(&case.bytes()), case),
+        "head" => write_shown(TcpHeader::from_slice(&case.bytes()), case),
         "options" => write_options(&case.bytes(), &mut case.answer),
-        "raw_options" => write_shown(&TcpOptions::try_from_slice(&case.bytes()), case),
+        "raw_options" => write_shown(TcpOptions::try_from_slice(&case.bytes()), case),
         "elements" => answer_elements(case),
         "v4" => answer_tcp_ipv4(case),
         "v6" => answer_tcp_ipv6(case),
@@ -42,11 +42,11 @@ fn answer_udp_ipv4(case: &mut Case) {
     match UdpHeader::from_slice(&case.bytes()) {
         Ok((header, payload)) => {
             write_shown(
-                &header.calc_checksum_ipv4_raw(source, destination, payload),
+                header.calc_checksum_ipv4_raw(source, destination, payload),
                 case,
             )
         }
-        Err(e) => write_shown(&e, case),
+        Err(e) => write_shown(e, case),
     }
 }
 
@@ -56,11 +56,11 @@ fn answer_udp_ipv6(case: &mut Case) {
     match UdpHeader::from_slice(&case.bytes()) {
         Ok((header, payload)) => {
             write_shown(
-                &header.calc_checksum_ipv6_raw(source, destination, payload),
+                header.calc_checksum_ipv6_raw(source, destination, payload),
                 case,
             )
         }
-        Err(e) => write_shown(&e, case),
+        Err(e) => write_shown(e, case),
     }
 }
 
@@ -70,11 +70,11 @@ fn answer_tcp_ipv4(case: &mut Case) {
     match TcpHeader::from_slice(&case.bytes()) {
         Ok((header, payload)) => {
             write_shown(
-                &header.calc_checksum_ipv4_raw(source, destination, payload),
+                header.calc_checksum_ipv4_raw(source, destination, payload),
                 case,
             )
         }
-        Err(e) => write_shown(&e, case),
+        Err(e) => write_shown(e, case),
     }
 }
 
@@ -84,11 +84,11 @@ fn answer_tcp_ipv6(case: &mut Case) {
     match TcpHeader::from_slice(&case.bytes()) {
         Ok((header, payload)) => {
             write_shown(
-                &header.calc_checksum_ipv6_raw(source, destination, payload),
+                header.calc_checksum_ipv6_raw(source, destination, payload),
                 case,
             )
         }
-        Err(e) => write_shown(&e, case),
+        Err(e) => write_shown(e, case),
     }
 }
 
@@ -111,7 +111,7 @@ fn answer_elements(case: &mut Case) {
         let pushed = elements.push(case.read::<TcpOptionElement>());
         case.answer.note(&pushed);
     }
-    write_shown(&TcpOptions::try_from_elements(&elements), case);
+    write_shown(TcpOptions::try_from_elements(&elements), case);
 }
 
 /// The name of an option, and its numbers.
@@ -147,10 +147,10 @@ fn block(case: &mut Case) -> Option<(u32, u32)> {
 
 impl Shown for UdpHeader {
     fn show(&self, answer: &mut Answer) {
-        answer.put("source_port=", &self.source_port);
-        answer.put(" destination_port=", &self.destination_port);
-        answer.put(" length=", &self.length);
-        answer.put(" checksum=", &self.checksum);
+        answer.put("source_port=", self.source_port);
+        answer.put(" destination_port=", self.destination_port);
+        answer.put(" length=", self.length);
+        answer.put(" checksum=", self.checksum);
     }
 }
 
@@ -164,23 +164,23 @@ impl Shown for Found<'_, UdpHeader> {
 impl Shown for Found<'_, TcpHeader> {
     fn show(&self, answer: &mut Answer) {
         let (header, rest) = self;
-        answer.put("source_port=", &header.source_port);
-        answer.put(" destination_port=", &header.destination_port);
-        answer.put(" sequence_number=", &header.sequence_number);
-        answer.put(" acknowledgment_number=", &header.acknowledgment_number);
-        answer.put(" data_offset=", &header.data_offset());
-        answer.put(" window_size=", &header.window_size);
-        answer.put(" checksum=", &header.checksum);
-        answer.put(" urgent_pointer=", &header.urgent_pointer);
-        answer.put(" ns=", &header.ns);
-        answer.put(" cwr=", &header.cwr);
-        answer.put(" ece=", &header.ece);
-        answer.put(" urg=", &header.urg);
-        answer.put(" ack=", &header.ack);
-        answer.put(" psh=", &header.psh);
-        answer.put(" rst=", &header.rst);
-        answer.put(" syn=", &header.syn);
-        answer.put(" fin=", &header.fin);
+        answer.put("source_port=", header.source_port);
+        answer.put(" destination_port=", header.destination_port);
+        answer.put(" sequence_number=", header.sequence_number);
+        answer.put(" acknowledgment_number=", header.acknowledgment_number);
+        answer.put(" data_offset=", header.data_offset());
+        answer.put(" window_size=", header.window_size);
+        answer.put(" checksum=", header.checksum);
+        answer.put(" urgent_pointer=", header.urgent_pointer);
+        answer.put(" ns=", header.ns);
+        answer.put(" cwr=", header.cwr);
+        answer.put(" ece=", header.ece);
+        answer.put(" urg=", header.urg);
+        answer.put(" ack=", header.ack);
+        answer.put(" psh=", header.psh);
+        answer.put(" rst=", header.rst);
+        answer.put(" syn=", header.syn);
+        answer.put(" fin=", header.fin);
         answer.bytes(" options=", header.options.as_slice());
         answer.rest_and_bytes(rest, header.to_bytes().as_slice());
     }
@@ -190,7 +190,7 @@ impl Shown for TcpError {
     fn show(&self, answer: &mut Answer) {
         match self {
             TcpError::Len(e) => e.show(answer),
-            TcpError::DataOffset(offset) => answer.put("err data_offset offset=", offset),
+            TcpError::DataOffset(offset) => answer.put("err data_offset offset=", *offset),
         }
     }
 }

@@ -8,7 +8,7 @@ pub fn answer_skip(case: &mut Case) {
     let bytes = case.bytes();
     let number = IpNumber(case.number());
     write_shown(
-        &Ipv6Header::skip_header_extension_in_slice(&bytes, number),
+        Ipv6Header::skip_header_extension_in_slice(&bytes, number),
         case,
     );
 }
@@ -20,18 +20,18 @@ pub fn answer_walk(name: &str, case: &mut Case) {
     let number = IpNumber(case.number());
     match name {
         "" => write_shown(
-            &Ipv6Header::skip_all_header_extensions_in_slice(&bytes, number),
+            Ipv6Header::skip_all_header_extensions_in_slice(&bytes, number),
             case,
         ),
         "counted" => {
             let (walked, turns) = Ipv6Header::skip_all_header_extensions_counted(&bytes, number);
-            write_shown(&walked, case);
-            case.answer.put(" turns=", &turns);
+            write_shown(walked, case);
+            case.answer.put(" turns=", turns);
         }
         "limit" => {
             let limit = case.number();
             write_shown(
-                &Ipv6Header::skip_header_extensions_up_to(&bytes, number, limit),
+                Ipv6Header::skip_header_extensions_up_to(&bytes, number, limit),
                 case,
             );
         }
