@@ -289,7 +289,7 @@ fn assert_refused(
 }
 
 #[test]
-fn protocol_types_of_cooked_captures(rt: HostRuntime) {
+fn protocol_types_of_cooked_captures(rt: HostRuntime) -> Result<(), Fail> {
     // The protocol type is 0800 before an IPv4 packet.
     let mut frame = [0; 46];
     [frame[2], frame[14]] = [3, 8];
@@ -306,22 +306,17 @@ fn protocol_types_of_cooked_captures(rt: HostRuntime) {
         (35, None),
     ] {
         frame[3] = low;
-        assert_has_type(&rt, SlicedPacket::from_linux_sll(&frame), ether_type);
+        let packet = SlicedPacket::from_linux_sll(&frame)?;
+        assert_equal(&rt, packet.ether_type, ether_type);
+        assert_equal(&rt, packet.net.is_some(), ether_type.is_some());
+        assert_equal(&rt, packet.payload, DATAGRAM.as_slice());
         frame_2[9] = low;
-        assert_has_type(&rt, SlicedPacket::from_linux_sll2(&frame_2), ether_type);
+        let packet = SlicedPacket::from_linux_sll2(&frame_2)?;
+        assert_equal(&rt, packet.ether_type, ether_type);
+        assert_equal(&rt, packet.net.is_some(), ether_type.is_some());
+        assert_equal(&rt, packet.payload, DATAGRAM.as_slice());
     }
-}
-
-// Asserts the type of a frame that carries `DATAGRAM`, which is read as a packet if there is a type.
-fn assert_has_type(
-    rt: &impl Abort,
-    sliced: Result<SlicedPacket, SliceError>,
-    ether_type: Option<EtherType>,
-) {
-    let packet = sliced.expect(rt, "a packet");
-    assert_equal(rt, packet.ether_type, ether_type);
-    assert_equal(rt, packet.net.is_some(), ether_type.is_some());
-    assert_equal(rt, packet.payload, DATAGRAM.as_slice());
+    Ok(())
 }
 
 #[test]

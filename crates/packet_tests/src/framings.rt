@@ -71,7 +71,7 @@ fn examples(rt: HostRuntime) {
 }
 
 #[test]
-fn lines_carry_packets(rt: HostRuntime) {
+fn lines_of_ppp_carry_packets(rt: HostRuntime) {
     for header in [
         [0xff, 3, 0, 0x21].as_slice(),
         &[0xff, 3, 0x21],
@@ -84,6 +84,10 @@ fn lines_carry_packets(rt: HostRuntime) {
         ];
         assert_equal(&rt, (header, are_found), (header, [true; 2]));
     }
+}
+
+#[test]
+fn lines_of_cisco_hdlc_carry_packets(rt: HostRuntime) {
     for header in [[0x0f, 0, 8, 0], [0x8f, 0, 8, 0]] {
         let are_found = [
             carries_datagram(Framing::CiscoHdlc, &header),
@@ -91,6 +95,10 @@ fn lines_carry_packets(rt: HostRuntime) {
         ];
         assert_equal(&rt, (header, are_found), (header, [true; 2]));
     }
+}
+
+#[test]
+fn lines_carry_others(rt: HostRuntime) {
     assert_equal(&rt, carries_datagram(Framing::Slip, &[1; 16]), true);
     assert_equal(
         &rt,
@@ -123,6 +131,10 @@ fn frame_relay_carries_packets(rt: HostRuntime) {
         let is_found = carries_datagram(Framing::FrameRelay, header);
         assert_equal(&rt, (header, is_found), (header, true));
     }
+}
+
+#[test]
+fn frame_relay_carries_others(rt: HostRuntime) {
     // A status enquiry, an address of one byte, and one of five.
     assert_equal(
         &rt,
@@ -204,12 +216,22 @@ fn ieee_802_11_carries_others(rt: HostRuntime) {
         (0x88, 2, 0, 0, Carried::Llc(0x42)),
     ];
     for (first, second, sequence, qos, wanted) in cases {
-        let mut frame = [0; 40];
-        frame[..24].copy_from_slice(&ADDRESSES);
-        [frame[0], frame[1], frame[22], frame[24]] = [first, second, sequence, qos];
-        [frame[26], frame[27], frame[28]] = [0x42, 0x42, 3];
+        let frame = frame_with([first, second, sequence, qos]);
         assert_equal(&rt, carried(Framing::Ieee80211, &frame), Some(wanted));
     }
+}
+
+// A frame with these bytes at 0, 1, 22 and 24, and LLC at 26.
+fn frame_with([first, second, sequence, qos]: [u8; 4]) -> [u8; 40] {
+    let mut frame = [0; 40];
+    frame[..24].copy_from_slice(&ADDRESSES);
+    [frame[0], frame[1], frame[22], frame[24]] = [first, second, sequence, qos];
+    [frame[26], frame[27], frame[28]] = [0x42, 0x42, 3];
+    frame
+}
+
+#[test]
+fn short_frames_of_ieee_802_11_are_refused(rt: HostRuntime) {
     assert_equal(&rt, Framing::Ieee80211.header(&ADDRESSES), Err(27));
     assert_equal(&rt, Framing::Ieee80211.header(&ADDRESSES[..23]), Err(24));
     assert_equal(
