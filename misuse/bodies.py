@@ -105,12 +105,15 @@ def groups(crate, bodies):
 
 
 def told(crate, function, lines):
-    """Returns what the checker said of a function: of its proofs, and before its verdict."""
+    """Returns what the checker said of a function: of its proofs, of the lemmas that these stand on, and before its verdict."""
     verdicts = [at for at, line in enumerate(lines) if line.startswith('fn ')]
     end = next((at for at in verdicts if lines[at].startswith(f'fn {crate}::{function}: ')), 0)
     begin = max((at for at in verdicts if at < end), default=-1)
     own = re.compile(rf'(note: )?(\./)?proofs/{function.replace("::", "/")}/')
-    return [line for at, line in enumerate(lines) if PLACE.match(line) and (own.match(line) or begin < at < end)]
+    places = [(at, line) for at, line in enumerate(lines) if PLACE.match(line)]
+    said = [line for at, line in places if own.match(line) or begin < at < end]
+    lemmas = {it for line in said for it in re.findall(r'depends on `(\w+)`', line)}
+    return said + [line for _, line in places if any(f'error: `{it}`: ' in line for it in lemmas)]
 
 
 def why_failed(crate, bodies, whole, kept):
