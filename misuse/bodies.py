@@ -27,6 +27,8 @@ PLACE = re.compile(r'note: \S+:\d+:\d+:|\S+:\d+:\d+: error')
 REFUSED = r'^fn %s::(\S+): (?:not proved|no proof)(?!: it calls [^;]*$)'
 # What the checker says where a proof names what the body took away: such a refusal tells nothing of the contract.
 NAMES = re.compile(r'(note: )?(\./)?proofs/.*(has no field|is not in scope|has no `|was not admitted)')
+# What it says of a lemma that it rejects: that of a contract, if the body is tried alone.
+LEMMA = re.compile(r'(\./)?proofs/\S+:\d+:\d+: error: `\w+`: ')
 
 
 def read(body):
@@ -105,15 +107,12 @@ def groups(crate, bodies):
 
 
 def told(crate, function, lines):
-    """Returns what the checker said of a function: of its proofs, of the lemmas that these stand on, and before its verdict."""
+    """Returns what the checker said of a function: of its proofs, and before its verdict."""
     verdicts = [at for at, line in enumerate(lines) if line.startswith('fn ')]
     end = next((at for at in verdicts if lines[at].startswith(f'fn {crate}::{function}: ')), 0)
     begin = max((at for at in verdicts if at < end), default=-1)
     own = re.compile(rf'(note: )?(\./)?proofs/{function.replace("::", "/")}/')
-    places = [(at, line) for at, line in enumerate(lines) if PLACE.match(line)]
-    said = [line for at, line in places if own.match(line) or begin < at < end]
-    lemmas = {it for line in said for it in re.findall(r'depends on `(\w+)`', line)}
-    return said + [line for _, line in places if any(f'error: `{it}`: ' in line for it in lemmas)]
+    return [line for at, line in enumerate(lines) if PLACE.match(line) and (own.match(line) or begin < at < end)]
 
 
 def why_failed(crate, bodies, whole, kept):
@@ -132,6 +131,7 @@ def why_failed(crate, bodies, whole, kept):
     for body in bodies:
         own = refused & set(read(body)[0])
         said = [line for it in own for line in told(crate, it, lines)]
+        said += [line for line in lines if LEMMA.match(line) and len(bodies) == 1]
         if ran.returncode == 0 or ran.returncode == 1 and not own:
             found[body] = 'it is proved'
         elif ran.returncode != 1 or refused - tried or any(re.search(r'\berror\[', line) for line in lines):
