@@ -1,7 +1,9 @@
 -- What a timestamp message of ICMP says (RFC 792).
 use Rattle.std.specs.Prelude.{ℕ, ◌≡◌, List, slice_range}
 use Rattle.std.specs.Int.{from_be_bytes, w16, w32}
-use Rattle.etherparse_icmp.specs.declared.icmpv4.timestamp_message.TimestampMessage.{TimestampMessage}
+use Rattle.etherparse_icmp.specs.declared.icmpv4.timestamp_message.TimestampMessage.{
+  TimestampMessage,
+}
 
 -- the 16 bytes after the checksum: the identifier, the sequence number, and three times
 pub record HasTimestamps (message : TimestampMessage) (rest : List ℕ) : Type 0 where

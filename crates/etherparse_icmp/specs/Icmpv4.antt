@@ -17,7 +17,9 @@ use Rattle.etherparse_icmp.specs.Icmpv4Codes.{unreachable_cleared}
 use Rattle.etherparse_icmp.specs.declared.icmpv4_header.Icmpv4Header.{Icmpv4Header}
 use Rattle.etherparse_icmp.specs.declared.icmpv4_type.Icmpv4Type.{Icmpv4Type}
 use Rattle.etherparse_icmp.specs.declared.icmpv4_type.Icmpv4Type.TheVariants.{Unknown, EchoReply}
-use Rattle.etherparse_icmp.specs.declared.icmpv4_type.Icmpv4Type.TheVariants.{DestinationUnreachable}
+use Rattle.etherparse_icmp.specs.declared.icmpv4_type.Icmpv4Type.TheVariants.{
+  DestinationUnreachable,
+}
 use Rattle.etherparse_icmp.specs.declared.icmpv4_type.Icmpv4Type.TheVariants.{Redirect, EchoRequest}
 use Rattle.etherparse_icmp.specs.declared.icmpv4_type.Icmpv4Type.TheVariants.{TimeExceeded}
 use Rattle.etherparse_icmp.specs.declared.icmpv4_type.Icmpv4Type.TheVariants.{ParameterProblem}

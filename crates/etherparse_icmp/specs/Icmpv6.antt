@@ -13,7 +13,9 @@ use Rattle.etherparse_icmp.specs.Icmpv6Codes.{time_exceeded_number}
 use Rattle.etherparse_icmp.specs.declared.icmpv6_header.Icmpv6Header.{Icmpv6Header}
 use Rattle.etherparse_icmp.specs.declared.icmpv6_type.Icmpv6Type.{Icmpv6Type}
 use Rattle.etherparse_icmp.specs.declared.icmpv6_type.Icmpv6Type.TheVariants.{Unknown}
-use Rattle.etherparse_icmp.specs.declared.icmpv6_type.Icmpv6Type.TheVariants.{DestinationUnreachable}
+use Rattle.etherparse_icmp.specs.declared.icmpv6_type.Icmpv6Type.TheVariants.{
+  DestinationUnreachable,
+}
 use Rattle.etherparse_icmp.specs.declared.icmpv6_type.Icmpv6Type.TheVariants.{PacketTooBig}
 use Rattle.etherparse_icmp.specs.declared.icmpv6_type.Icmpv6Type.TheVariants.{TimeExceeded}
 use Rattle.etherparse_icmp.specs.declared.icmpv6_type.Icmpv6Type.TheVariants.{ParameterProblem}

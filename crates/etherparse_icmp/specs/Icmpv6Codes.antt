@@ -1,13 +1,19 @@
 -- The numbers of the codes of ICMPv6 (RFC 4443 sections 3.1, 3.3 and 3.4, RFC 7112, RFC 8754, RFC
 -- 8883).
 use Rattle.std.specs.Prelude.{ℕ}
-use Rattle.etherparse_icmp.specs.declared.icmpv6.dest_unreachable_code.DestUnreachableCode.{DestUnreachableCode}
+use Rattle.etherparse_icmp.specs.declared.icmpv6.dest_unreachable_code.DestUnreachableCode.{
+  DestUnreachableCode,
+}
 use Rattle.etherparse_icmp.specs.declared.icmpv6.dest_unreachable_code.DestUnreachableCode.TheVariants
     as unreachable
-use Rattle.etherparse_icmp.specs.declared.icmpv6.parameter_problem_code.ParameterProblemCode.{ParameterProblemCode}
+use Rattle.etherparse_icmp.specs.declared.icmpv6.parameter_problem_code.ParameterProblemCode.{
+  ParameterProblemCode,
+}
 use Rattle.etherparse_icmp.specs.declared.icmpv6.parameter_problem_code.ParameterProblemCode.TheVariants
     as problem
-use Rattle.etherparse_icmp.specs.declared.icmpv6.time_exceeded_code.TimeExceededCode.{TimeExceededCode}
+use Rattle.etherparse_icmp.specs.declared.icmpv6.time_exceeded_code.TimeExceededCode.{
+  TimeExceededCode,
+}
 use Rattle.etherparse_icmp.specs.declared.icmpv6.time_exceeded_code.TimeExceededCode.TheVariants
     as exceeded
 

@@ -9,8 +9,8 @@ abbrev pub transport_checksum : List ℕ → List ℕ → List ℕ → ℕ
 transport_checksum pseudo_header header payload =
     checksum_of (network_order_word_sum (pseudo_header ++ (header ++ payload)))
 
--- header and payload sum to all ones with the pseudo-header: a receiver finds the checksum right, if
--- the length field of UDP counts both
+-- header and payload sum to all ones with the pseudo-header: a receiver finds the checksum right,
+-- if the length field of UDP counts both
 abbrev pub IsFoundRight : List ℕ → List ℕ → List ℕ → Type 0
 IsFoundRight pseudo_header header payload =
     ones_complement_sum (pseudo_header ∷ (header ++ payload) ∷ []) ≡ 65535

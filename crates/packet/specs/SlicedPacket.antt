@@ -181,4 +181,5 @@ IsVerdictOn (Some slice) stop verdict = IsSomeAnd verdict (IsVerdict slice)
 pub record CarriesArp (packet : SlicedPacket) (reading : Result ArpPacketSlice LenError)
     : Type 0 where
   pub ether_type : packet.ether_type ≡ Some 0x0806
-  pub views : ViewsArp packet.payload.now (result_map_both (λ view. view.slice.now) (λ e. e) reading)
+  pub views : ViewsArp packet.payload.now
+      (result_map_both (λ view. view.slice.now) (λ e. e) reading)

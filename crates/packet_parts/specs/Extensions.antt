@@ -8,7 +8,9 @@ use Rattle.etherparse.specs.ExtensionHeaders.{IsSkippable}
 use Rattle.etherparse.specs.Reading.{BeginsWith}
 use Rattle.etherparse.specs.declared.err.LenError.{LenError}
 use Rattle.etherparse_net.specs.Ipv6FragmentHeader.{IsFragmentLayout, is_part}
-use Rattle.etherparse_net.specs.declared.ipv6_fragment_header.Ipv6FragmentHeader.{Ipv6FragmentHeader}
+use Rattle.etherparse_net.specs.declared.ipv6_fragment_header.Ipv6FragmentHeader.{
+  Ipv6FragmentHeader,
+}
 
 -- A fragment header decides unless it is atomic: a packet with an atomic one is processed as
 -- without it (RFC 8200 section 4.5, RFC 6946).
@@ -25,7 +27,8 @@ pub data Passes (s : List ℕ) (first : ℕ) : Option Ipv6FragmentHeader → ℕ
       → Passes s first decided number rest → IsSkippable number → number ≢ 44
       → required_len_of number rest ≤ length rest
       → Passes s first decided (slice_index rest 0) (drop (required_len_of number rest) rest)
-  after_fragment : {decided : Option Ipv6FragmentHeader} {at rest : List ℕ} {next : Ipv6FragmentHeader}
+  after_fragment : {decided : Option Ipv6FragmentHeader} {at rest : List ℕ}
+      {next : Ipv6FragmentHeader}
       → Passes s first decided 44 at → BeginsWith IsFragmentLayout at next rest
       → next.fragment_offset ≡ 0
       → Passes s first (option_or decided (deciding next)) next.next_header rest

@@ -12,7 +12,9 @@ use Rattle.etherparse.specs.declared.err.ipv6.HeaderSliceError.TheVariants.{Len,
 use Rattle.etherparse.specs.declared.net.ipv4_header.Ipv4Header.{Ipv4Header}
 use Rattle.etherparse.specs.declared.net.ipv6_header.Ipv6Header.{Ipv6Header}
 use Rattle.packet_parts.specs.Extensions.{EndsAs}
-use Rattle.etherparse_net.specs.declared.ipv6_fragment_header.Ipv6FragmentHeader.{Ipv6FragmentHeader}
+use Rattle.etherparse_net.specs.declared.ipv6_fragment_header.Ipv6FragmentHeader.{
+  Ipv6FragmentHeader,
+}
 use Rattle.packet_parts.specs.declared.fragment_key.Ipv4Key.{Ipv4Key}
 use Rattle.packet_parts.specs.declared.fragment_key.Ipv6Key.{Ipv6Key}
 

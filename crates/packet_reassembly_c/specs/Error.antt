@@ -5,7 +5,8 @@ use Rattle.packet_reassembly.specs.declared.ip_defrag_error.IpDefragError.TheVar
 use Rattle.packet_reassembly.specs.declared.ip_defrag_packet.IpDefragPacketError.{
   IpDefragPacketError,
 }
-use Rattle.packet_reassembly.specs.declared.ip_defrag_packet.IpDefragPacketError.TheVariants as packet
+use Rattle.packet_reassembly.specs.declared.ip_defrag_packet.IpDefragPacketError.TheVariants
+    as packet
 use Rattle.packet_reassembly_c.specs.declared.error.DefragError.{DefragError}
 
 -- no error
