@@ -6,9 +6,10 @@ ghost use Rattle.std.specs.Hash as fed;
 ghost use Rattle.packet_parts.specs.IpSlice.{ip_parts};
 
 use crate::address::Ipv6Text;
-use crate::checksum::Verdict;
+use crate::checksum::{Absence, Verdict};
+use crate::fragment::Fragment;
 use crate::fragment_key::{Ipv4Key, Ipv6Key};
-use crate::ip_slice::LaxIpSlice;
+use crate::ip_slice::{IpHeaderSlice, LaxIpSlice};
 use std::alloc::AllocError;
 use std::hash::{Hash, Hasher};
 
@@ -45,6 +46,24 @@ fn lax_ip_slice_equality(a: &LaxIpSlice, b: &LaxIpSlice) -> bool
 }
 
 // A clone is equal, and cloning never fails.
+fn absence_clone(absence: &Absence) -> Result<Absence, AllocError>
+    ensures same_value { result ≡ Ok absence.now }
+{
+    absence.clone()
+}
+
+fn fragment_clone(fragment: &Fragment) -> Result<Fragment, AllocError>
+    ensures same_value { result ≡ Ok fragment.now }
+{
+    fragment.clone()
+}
+
+fn ip_header_slice_clone<'a>(header: &IpHeaderSlice<'a>) -> Result<IpHeaderSlice<'a>, AllocError>
+    ensures same_value { result ≡ Ok header.now }
+{
+    header.clone()
+}
+
 fn ipv4_key_clone(key: &Ipv4Key) -> Result<Ipv4Key, AllocError>
     ensures same_value { result ≡ Ok key.now }
 {
