@@ -210,6 +210,8 @@ impl<'a> IpDefragBuf<'a> {
     }
 }
 
+const _: () = prove!(IpDefragBuf::MAX_LEN == 65535 && IpDefragBuf::UNITS == 8192);
+
 /// The range of a fragment, if a datagram can have it.
 pub(crate) fn range_of(
     offset: IpFragOffset,

@@ -157,6 +157,8 @@ impl<'a, 'b> IpDefragPool<'a, 'b> {
     }
 }
 
+const _: () = prove!(IpDefragPool::TIMEOUT_SECONDS == 60);
+
 // Takes the slot at an index from its datagram.
 fn release_at(slots: &mut [IpDefragSlot], k: usize)
     requires within { k < length slots.old }

@@ -1,10 +1,12 @@
 //! Laws of what the types derive. Nothing calls these functions; they are there to be proved.
 
-ghost use Rattle.std.specs.Prelude.{◌≡◌, ◌↔◌, IsTrue};
+ghost use Rattle.std.specs.Prelude.{◌≡◌, ◌↔◌, IsTrue, Ok};
 
 use crate::ip_defrag_error::IpDefragError;
 use crate::ip_defrag_pool::{Added, DatagramState};
-use crate::ip_frag_id::IpFragId;
+use crate::ip_frag_id::{IpFragId, IpFragVersionSpecId};
+use crate::reassemble::IpFragment;
+use std::alloc::AllocError;
 
 /// Errors are equal exactly if all that they say is.
 pub fn ip_defrag_error_equality(one: &IpDefragError, other: &IpDefragError) -> bool
@@ -33,4 +35,48 @@ pub fn added_equality(one: &Added, other: &Added) -> bool
     ensures same_value { IsTrue result ↔ (one.now ≡ other.now) }
 {
     one == other
+}
+
+/// The clone of an error is equal to it, and cloning never fails; so with those below.
+pub fn ip_defrag_error_clone(error: &IpDefragError) -> Result<IpDefragError, AllocError>
+    ensures same_value { result ≡ Ok error.now }
+{
+    error.clone()
+}
+
+/// The clone of an id.
+pub fn ip_frag_id_clone(id: &IpFragId) -> Result<IpFragId, AllocError>
+    ensures same_value { result ≡ Ok id.now }
+{
+    id.clone()
+}
+
+/// The clone of the fields of a packet.
+pub fn ip_frag_version_spec_id_clone(
+    fields: &IpFragVersionSpecId,
+) -> Result<IpFragVersionSpecId, AllocError>
+    ensures same_value { result ≡ Ok fields.now }
+{
+    fields.clone()
+}
+
+/// The clone of a state.
+pub fn datagram_state_clone(state: &DatagramState) -> Result<DatagramState, AllocError>
+    ensures same_value { result ≡ Ok state.now }
+{
+    state.clone()
+}
+
+/// The clone of what became of a fragment.
+pub fn added_clone(added: &Added) -> Result<Added, AllocError>
+    ensures same_value { result ≡ Ok added.now }
+{
+    added.clone()
+}
+
+/// The clone of a fragment.
+pub fn ip_fragment_clone<'a>(fragment: &IpFragment<'a>) -> Result<IpFragment<'a>, AllocError>
+    ensures same_value { result ≡ Ok fragment.now }
+{
+    Clone::clone(fragment)
 }
