@@ -1,7 +1,7 @@
 -- Fields of an IP packet that are changed where they stand, with the checksums that cover them
 -- (RFC 1624, RFC 3022).
 use Rattle.std.specs.Prelude.{ℕ, ◌≡◌, ◌≢◌, ◌==◌, ◌||◌, ◌+◌, ◌*◌, ◌/◌, ◌%◌, ◌^◌, ◌<◌, ◌≤◌, ◌⊎◌}
-use Rattle.std.specs.Prelude.{Bool, List, [], ◌∷◌, ◌++◌}
+use Rattle.std.specs.Prelude.{Bool, List, [], ◌∷◌, ◌++◌, None, Option, Some}
 use Rattle.std.specs.Prelude.{codes, false, if◌then◌else◌, length, slice_index, slice_range, true}
 use Rattle.std.specs.Int.{to_be_bytes, w16}
 use Rattle.etherparse.specs.HeaderChecksum.{BecomesPacketOf, with_field_and_checksum, with_part}
@@ -324,3 +324,8 @@ rewrite_error_text error.LaterFragment =
     codes "Rewrite Error: The packet is a later fragment, which has no ports."
 rewrite_error_text error.OtherProtocol =
     codes "Rewrite Error: The protocol of the packet has no ports."
+
+-- the same under any width, precision or flag; of a packet's own error nothing is said
+abbrev pub text_in_any_style : RewriteError → Option (List ℕ)
+text_in_any_style (error.Ip e) = None
+text_in_any_style other = Some (rewrite_error_text other)

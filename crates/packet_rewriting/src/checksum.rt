@@ -37,6 +37,9 @@ pub enum ChecksumError {
 impl fmt::Display for ChecksumError {
     ghost output = { λ error. Some (checksum_error_text error) };
 
+    // A width, a precision or a flag changes nothing.
+    ghost styled_output = { λ error _. Some (checksum_error_text error) };
+
     fn fmt<W: fmt::Write>(&self, f: &mut fmt::Formatter<W>) -> fmt::Result {
         match self {
             ChecksumError::OtherProtocol => {

@@ -20,7 +20,8 @@ ghost use Rattle.packet_rewriting.specs.Fields.{HasOtherEcn, MarksIpv4, MarksIpv
 ghost use Rattle.packet_rewriting.specs.Fields.{RefusesAddress, RefusesMark, RefusesPort};
 ghost use Rattle.packet_rewriting.specs.Fields.{UpdatesPayload, UpdatesUpper, covers_addresses};
 ghost use Rattle.packet_rewriting.specs.Fields.{has_ports, least_len, rewrite_error_text};
-ghost use Rattle.packet_rewriting.specs.Fields.{updated_upper, with_port, word_at};
+ghost use Rattle.packet_rewriting.specs.Fields.{text_in_any_style, updated_upper, with_port};
+ghost use Rattle.packet_rewriting.specs.Fields.{word_at};
 ghost use Rattle.packet_rewriting.specs.UpperChecksum.{checksum_field, checksum_place};
 ghost use Rattle.packet_rewriting.specs.declared.fields.Reach.TheVariants as reaching;
 
@@ -51,6 +52,9 @@ pub enum RewriteError {
 
 impl fmt::Display for RewriteError {
     ghost output = { λ error. Some (rewrite_error_text error) };
+
+    // A width, a precision or a flag changes nothing; of `Ip` that is not said.
+    ghost styled_output = { λ error _. text_in_any_style error };
 
     fn fmt<W: fmt::Write>(&self, f: &mut fmt::Formatter<W>) -> fmt::Result {
         match self {
