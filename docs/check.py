@@ -6,7 +6,7 @@
 - Code in Rattle stands in a source file, contracts aside, or else proves in a crate of its own;
   a line in antt stands in a proof or a definition; other code stands in a file of its language or
   compiles.
-- An example in a doc comment stands in a test of `etherparse_tests`, `header_tests` or `packet_tests`,
+- An example in a doc comment stands in a test of `etherparse_tests` or `packet_tests`,
   or in a caller of `uses`; there `assert_equal(&rt, a, b)` may stand for `assert!(rt; a == b)`
   and for `assert_eq!(rt; a, b)`.
 - A file that a page names is there, and each command names files that are there; a command that
@@ -40,7 +40,7 @@ SPECS = {file: file.read_text() for file in FILES if file.suffix == '.antt'}
 LIBRARY = ('etherparse_base', 'etherparse_fields', 'etherparse', 'etherparse_net', 'packet_parts',
            'etherparse_transport', 'etherparse_icmp', 'etherparse_link', 'packet_links', 'packet',
            'packet_rewriting', 'packet_capture', 'packet_reassembly')
-TESTS = ('etherparse_tests', 'header_tests', 'packet_tests', 'uses')
+TESTS = ('etherparse_tests', 'packet_tests', 'uses')
 PATH = re.compile(r'[\w.{},/-]+\.(?:md|rt|antt|sh|py|edit|txt|c|h|rs|toml)$')
 FIGURE = re.compile(r'(?<![\w.])\d+(?:\.\d+)? (?:ns|nanoseconds?|seconds?|minutes?|GB|MB)\b')
 RUN = re.compile(r'\| rt (run|try)\b')

@@ -1,10 +1,10 @@
 #!/bin/sh
-# batch.sh: times the library of filters for C over the frames and expressions of run.sh, beside libpcap's bpf_filter: all frames in one
+# batch.sh: times the filters for C over the frames and expressions of run.sh, beside libpcap's bpf_filter: all frames in one
 # call, and frame by frame. It needs `rt`, `cc`, python3 and libpcap with its header; with valgrind it counts instructions a frame too.
 set -eu
 here=$(CDPATH= cd -- "$(dirname -- "$0")" && pwd)
 out=$here/../out/filter
-library=$here/../../crates/packet_filter_c
+library=$here/../../crates/etherparse_c
 mkdir -p "$out"
 (cd "$library" && rt lib) > "$out/library.txt" 2>&1 || {
   cat "$out/library.txt" >&2
@@ -12,7 +12,7 @@ mkdir -p "$out"
 }
 cc -O2 -o "$out/peer" "$here/filters.c" -lpcap
 "$out/peer" frames > "$out/frames"
-cc -O2 -I "$library/include" -I "$library/../etherparse_c/include" -o "$out/batch" "$here/batch.c" "$library/out/libpacket_filter_c.a" -lpcap
+cc -O2 -I "$library/include" -o "$out/batch" "$here/batch.c" "$library/out/libetherparse_c.a" -lpcap
 python3 - "$here" <<'PY' > "$out/expressions.txt"
 import sys
 sys.path.insert(0, sys.argv[1])

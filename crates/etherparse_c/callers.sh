@@ -1,11 +1,10 @@
 #!/usr/bin/env bash
-# callers.sh [--after-ci]: builds the static libraries for C, this one and those of the crates beside
-# it, and callers of them in C, C++ and Rust, and runs these, as many at a time as there are
-# processors. For each library: what it needs and what it exports; worked values through its header
-# file; its examples in each dialect of each compiler, whose output has to be that of the file beside
-# the example. For all together: the commands of the page in a fresh folder, each way to link, and the
-# safe Rust crate. With --after-ci it takes the crates below as `rt ci` has just proved them, and
-# proves the libraries alone. It names each compiler that is missing and leaves it out. The last line
+# callers.sh [--after-ci]: builds the static library for C, and callers of it in C, C++ and Rust, and
+# runs these, as many at a time as there are processors: what it needs and what it exports; worked
+# values through each header file; the examples in each dialect of each compiler, whose output has to
+# be that of the file beside the example; the commands of the page in a fresh folder, each way to link,
+# and the safe Rust crate. With --after-ci it takes the crates below as `rt ci` has just proved them,
+# and proves the library alone. It names each compiler that is missing and leaves it out. The last line
 # is 'N passed, M failed, K left out'.
 set -euo pipefail
 here=$(cd "$(dirname "$0")" && pwd)
@@ -16,7 +15,7 @@ mkdir -p "$out"
 processors=$(nproc)
 tries=0
 left_out=0
-mapfile -t libraries < <("$here/libraries.sh")
+library=etherparse_c
 
 # Runs a command under a name in a folder of its own, `$room`, beside others. What it says comes when
 # all have ended, if it fails.
@@ -41,18 +40,18 @@ leave_out() {
 
 has() { command -v "$1" > /dev/null; }
 
-# Builds a library on top of the proved crates that `rt ci` left. They have no stamp, so `rt lib` would
+# Builds the library on top of the proved crates that `rt ci` left. They have no stamp, so `rt lib` would
 # prove them once more. Of a static library `rt ci` leaves nothing that a build can take, so it is proved
-# here too; what was proved is kept for the next time, if no other run of this script uses that. A library
+# here too; what was proved is kept for the next time, if no other run of this script uses that. A crate
 # that crates.txt does not list is the kit's.
 build_after_ci() {
-  local kit below library=$1 words=() kept=${XDG_CACHE_HOME:-${HOME-}/.cache}/etherparse_c/$1
+  local kit below words=() kept=${XDG_CACHE_HOME:-${HOME-}/.cache}/$library
   kit=$(dirname "$(dirname "$(readlink -f "$(command -v rt)")")")
   for below in std $(sed -n "s/^$library .*: *//p" "$crates/../crates.txt"); do
     words+=(--extern "$below=$(find "$kit/rlibs" "$crates/$below/out/rlib" -maxdepth 1 -name "$below.rlib" 2> /dev/null)")
   done
   words+=(-L "dependency=$kit/rlibs")
-  for below in $("$here/libraries.sh" "$library"); do words+=(-L "dependency=$crates/$below/out/rlib"); done
+  for below in $("$here/below.sh"); do words+=(-L "dependency=$crates/$below/out/rlib"); done
   words+=(--antt-project "$kit/rattle/logic/antt-project.json" --logic-built "$kit/logic_built" --jobs 1)
   words+=(--links "$library=" --crate-type staticlib --toolchain "$kit/toolchain" --backend llvm)
   mkdir -p "$kept" && exec 9> "$kept.lock" && flock --nonblock 9 && words+=(--incremental "$kept")
@@ -60,21 +59,14 @@ build_after_ci() {
     "$kit/bin/rattle" build --crate-name "$library" src/lib.rt "${words[@]}" -o "out/lib$library.a")
 }
 
-build_alone() { (cd "$crates/$1" && rt lib); }
+build_alone() { (cd "$here" && rt lib); }
 
-# What a library needs of the C library: of memcpy, memmove, memset and memcmp, which compilers call by
-# themselves. One that is not named here needs nothing, and neither do all together, where musl is there.
-declare -A needs=(
-  [packet_filter_c]='memcpy memset'
-  [packet_reassembly_c]='memcpy memmove memset'
-)
-
-# Whether a library needs that and nothing else, and exports its calls alone.
+# Whether the library as `rt` builds it needs these functions of the C library, which compilers call by
+# themselves, and nothing else, and exports its calls alone.
 stands_alone() {
-  local archive=$crates/$1/out/lib$1.a
-  nm --undefined-only "$archive" | awk '$1 == "U" { print $2 }' | sort -u > "$room/needed.txt"
-  nm --defined-only --extern-only "$archive" | grep -E ' [A-Z] ' > "$room/exported.txt"
-  echo "${needs[$1]:-}" | tr ' ' '\n' | sed '/^$/d' | diff - "$room/needed.txt" &&
+  nm --undefined-only "$built" | awk '$1 == "U" { print $2 }' | sort -u > "$room/needed.txt"
+  nm --defined-only --extern-only "$built" | grep -E ' [A-Z] ' > "$room/exported.txt"
+  printf '%s\n' memcpy memmove memset | diff - "$room/needed.txt" &&
     ! grep -v ' T etherparse_' "$room/exported.txt"
 }
 
@@ -90,30 +82,32 @@ prints() {
   runs "$@" > "$room/printed.txt" && diff "$expected" "$room/printed.txt"
 }
 
-# Compiles the worked values of all libraries to one program, which is to be linked: in a folder, by a
+# Compiles the worked values of all header files to one program, which is to be linked: in a folder, by a
 # command.
 compile_all() {
-  local library folder=$1
+  local name folder=$1
   shift
   mkdir "$folder"
   {
-    printf 'int cases_of_%s(void);\n' "${libraries[@]}"
+    printf 'int %s_cases(void);\n' "${headers[@]}"
     echo 'int main(void) { return 0'
-    printf ' | cases_of_%s()\n' "${libraries[@]}"
+    printf ' | %s_cases()\n' "${headers[@]}"
     echo '; }'
   } > "$folder/main.c"
   "$@" -c "$folder/main.c" -o "$folder/main.o" || return 1
-  for library in "${libraries[@]}"; do
-    "$@" "${strict[@]}" -std=c11 -Dmain="cases_of_$library" -c "$crates/$library/tests/cases.c" -o "$folder/$library.o" || return 1
+  for name in "${headers[@]}"; do
+    "$@" "${strict[@]}" -std=c11 -Dmain="${name}_cases" -c "$here/tests/$name.c" -o "$folder/$name.o" || return 1
   done
 }
 
 links_static() { echo 'int main(void) { return 0; }' | "$1" -xc -static -o "$out/static" - 2> /dev/null; }
 
-# The libraries, and one archive of them with all header files.
+# The library, and its archive with all header files.
 builder=build_alone
 [[ ${1:-} == --after-ci ]] && builder=build_after_ci
-for library in "${libraries[@]}"; do try "$library is built" "$builder" "$library"; done
+built=$here/out/lib$library.a
+headers=(etherparse filter reassembly rewriting)
+try "$library is built" "$builder"
 wait
 make -C "$here" archive > "$out/archive.txt" 2>&1 || { cat "$out"/*/line.txt "$out/archive.txt"; exit 1; }
 archive=$here/out/lib/libetherparse_c.a
@@ -121,10 +115,9 @@ strict=(-O2 -Wall -Wextra -Wpedantic -Wconversion -Wshadow -Werror -I "$here/out
 
 # Each way to link, by a compiler.
 linked() {
-  local compiler=$1 library all=$out/$1 alone=()
-  for library in "${libraries[@]}"; do alone+=("$crates/$library/out/lib$library.a"); done
+  local compiler=$1 all=$out/$1
   try "$compiler, all in one program" runs "$compiler" "$all"/*.o "$archive"
-  try "$compiler, all in one program, of one archive each" runs "$compiler" "$all"/*.o "${alone[@]}"
+  try "$compiler, all in one program, of the archive that rt leaves" runs "$compiler" "$all"/*.o "$built"
   try "$compiler, named twice" runs "$compiler" "$all"/*.o "$archive" "$archive"
   try "$compiler, shared" runs "$compiler" "$all"/*.o "$out/libetherparse_c.so" "-Wl,-rpath,$out"
   if [[ $compiler == gcc ]] || has ld.lld; then
@@ -141,8 +134,8 @@ linked() {
 
 for compiler in gcc clang; do
   has "$compiler" || continue
-  try "$compiler, worked values of all libraries" compile_all "$out/$compiler" "$compiler"
-  try "$compiler -flto, worked values of all libraries" compile_all "$out/$compiler-flto" "$compiler" -flto
+  try "$compiler, worked values of all header files" compile_all "$out/$compiler" "$compiler"
+  try "$compiler -flto, worked values of all header files" compile_all "$out/$compiler-flto" "$compiler" -flto
 done
 wait
 for compiler in gcc clang; do
@@ -153,7 +146,7 @@ for compiler in gcc clang; do
 done
 # A program without a C library, and one whose own memcpy, memmove and memset no call may reach.
 if [[ -n $(make -s -C "$here" musl) ]]; then
-  has nm && try "all libraries together need nothing" needs_nothing "$archive"
+  has nm && try "the archive needs nothing" needs_nothing "$archive"
   for compiler in gcc clang; do
     has "$compiler" || continue
     for own in -UOWN -DOWN; do
@@ -181,42 +174,40 @@ else
   leave_out "a copy of bindings/rust: cargo or pkg-config is not there"
 fi
 
-# The examples and the worked values of each library. An example without expected output ends with 0
-# if it is right.
-for library in "${libraries[@]}"; do
-  if has nm; then
-    try "$library stands alone" stands_alone "$library"
-  else
-    leave_out "what $library needs and exports: nm is not there"
-  fi
+# The worked values, and the examples. An example without expected output ends with 0 if it is right.
+if has nm; then
+  try "$library stands alone" stands_alone
+else
+  leave_out "what $library needs and exports: nm is not there"
+fi
+for compiler in gcc clang; do
+  has "$compiler" || continue
+  for name in "${headers[@]}"; do
+    try "$compiler, worked values of $name" runs "$compiler" -std=c11 "${strict[@]}" "$here/tests/$name.c" "$archive"
+  done
+done
+for source in "$here"/examples/*.c; do
+  example=${source%.c}
+  name=$(basename "$example")
   for compiler in gcc clang; do
     has "$compiler" || continue
-    try "$compiler, worked values of $library" runs "$compiler" -std=c11 "${strict[@]}" \
-      "$crates/$library/tests/cases.c" "$archive"
+    [[ -e $example.txt ]] || { try "$compiler, $name" runs "$compiler" -std=c11 "${strict[@]}" "$source" "$archive"; continue; }
+    for dialect in c99 c11 c17; do
+      try "$compiler, $dialect, $name" prints "$example.txt" "$compiler" "-std=$dialect" "${strict[@]}" "$source" "$archive"
+    done
   done
-  for source in "$crates/$library"/examples/*.c; do
-    example=${source%.c}
-    name=$library/$(basename "$example")
-    for compiler in gcc clang; do
-      has "$compiler" || continue
-      [[ -e $example.txt ]] || { try "$compiler, $name" runs "$compiler" -std=c11 "${strict[@]}" "$source" "$archive"; continue; }
-      for dialect in c99 c11 c17; do
-        try "$compiler, $dialect, $name" prints "$example.txt" "$compiler" "-std=$dialect" "${strict[@]}" "$source" "$archive"
-      done
+  [[ -e $example.txt ]] || continue
+  for compiler in g++ clang++; do
+    has "$compiler" || continue
+    for dialect in c++11 c++14 c++17 c++20; do
+      try "$compiler, $dialect, $name" prints "$example.txt" "$compiler" "-std=$dialect" "${strict[@]}" \
+        -xc++ "$source" -xnone "$archive"
     done
-    [[ -e $example.txt ]] || continue
-    for compiler in g++ clang++; do
-      has "$compiler" || continue
-      for dialect in c++11 c++14 c++17 c++20; do
-        try "$compiler, $dialect, $name" prints "$example.txt" "$compiler" "-std=$dialect" "${strict[@]}" \
-          -xc++ "$source" -xnone "$archive"
-      done
-    done
-    has rustc || continue
-    for edition in 2021 2024; do
-      try "rustc, edition $edition, $name" prints "$example.txt" rustc --edition "$edition" -O -D warnings "$example.rs" \
-        -L "$here/out/lib" -l static=etherparse_c
-    done
+  done
+  has rustc || continue
+  for edition in 2021 2024; do
+    try "rustc, edition $edition, $name" prints "$example.txt" rustc --edition "$edition" -O -D warnings "$example.rs" \
+      -L "$here/out/lib" -l static=etherparse_c
   done
 done
 for compiler in g++ clang++ rustc; do has "$compiler" || leave_out "$compiler is not there"; done

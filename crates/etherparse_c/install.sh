@@ -1,6 +1,6 @@
 #!/usr/bin/env bash
 # install.sh: runs the commands of README.md, "Install, and a program of ten lines", one after the
-# other in a fresh folder that has the libraries as `rt lib` built them, and installs below a folder of
+# other in a fresh folder that has the library as `rt lib` built it, and installs below a folder of
 # its own. Then it checks when `make` runs `rt`, and for which level. It prints what fails, and ends
 # with 1.
 set -euo pipefail
@@ -8,15 +8,11 @@ here=$(cd "$(dirname "$0")" && pwd)
 fresh=$here/out/install
 rm -rf "$fresh"
 trap 'rm -rf "$fresh"' EXIT # `rt` takes no links in out/.
-mapfile -t libraries < <("$here/libraries.sh")
 mkdir -p "$fresh/bin" "$fresh/crates"
 cp "$here"/../../crates.txt "$fresh"
-for below in $("$here/libraries.sh" "${libraries[@]}"); do mkdir -p "$fresh/crates/$below"; done
-for library in "${libraries[@]}"; do
-  mkdir "$fresh/crates/$library/out"
-  cp -r "$here/../$library/include" "$fresh/crates/$library"
-done
-cp "$here"/{Makefile,README.md,exports.map,libraries.sh,*.pc.in} "$fresh/crates/etherparse_c"
+for below in $("$here/below.sh"); do mkdir -p "$fresh/crates/$below"; done
+mkdir "$fresh/crates/etherparse_c/out"
+cp -r "$here"/{Makefile,README.md,exports.map,below.sh,*.pc.in,include} "$fresh/crates/etherparse_c"
 cd "$fresh/crates/etherparse_c"
 
 fails() { echo "install.sh: $1"; exit 1; }
@@ -24,9 +20,8 @@ fails() { echo "install.sh: $1"; exit 1; }
 # An `rt` that builds nothing: it puts the proved library where `rt lib` would, and notes its words.
 cat > "$fresh/bin/rt" <<END
 #!/bin/sh
-library=\$(basename "\$PWD")
 echo "\$*" >> "$fresh/asked.txt"
-cp "$here/../\$library/out/lib\$library.a" out/
+cp "$here/out/libetherparse_c.a" out/
 END
 printf '#!/bin/sh\nexec "$@"\n' > "$fresh/bin/sudo"
 chmod +x "$fresh/bin/rt" "$fresh/bin/sudo"
@@ -43,10 +38,10 @@ done
 export PATH=$fresh/bin:$others
 export MAKEFLAGS="PREFIX=$fresh/usr"
 export PKG_CONFIG_PATH=$fresh/usr/lib/pkgconfig
-# Whether `rt` was asked these words for each library, one word list after the other.
+# Whether `rt` was asked these words, one word list after the other.
 asked() {
-  local what=$1 words library
-  for words in "${@:2}"; do for library in "${libraries[@]}"; do echo "$words"; done; done > "$fresh/wanted.txt"
+  local what=$1
+  printf '%s\n' "${@:2}" > "$fresh/wanted.txt"
   cmp -s "$fresh/wanted.txt" "$fresh/asked.txt" || fails "$what: rt was asked: $(cat "$fresh/asked.txt")"
 }
 level() { [[ $(pkg-config --variable=cpu etherparse) == "$1" ]] || fails "$2: installed for $(pkg-config --variable=cpu etherparse)"; }
@@ -63,11 +58,11 @@ level x86-64-v2 'the commands of the page'
 # A program of the static library needs no folder of ours when it starts.
 gcc program.c $(pkg-config --cflags --libs etherparse)
 ! ldd a.out | grep -q etherparse || fails "the program wants the shared object"
-# What is installed links the worked values of each library, both ways.
-for library in "${libraries[@]}"; do
+# What is installed links the worked values of each header file, both ways.
+for name in etherparse filter reassembly rewriting; do
   for module in etherparse etherparse-shared; do
-    gcc "$here/../$library/tests/cases.c" $(pkg-config --cflags --libs "$module") -o cases &&
-      LD_LIBRARY_PATH=$fresh/usr/lib ./cases > said.txt || { cat said.txt; fails "$module, $library"; }
+    gcc "$here/tests/$name.c" $(pkg-config --cflags --libs "$module") -o cases &&
+      LD_LIBRARY_PATH=$fresh/usr/lib ./cases > said.txt || { cat said.txt; fails "$module, $name"; }
   done
 done
 

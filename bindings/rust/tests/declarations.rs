@@ -15,17 +15,17 @@ const FILES: [(&str, &str, &str); 4] = [
         include_str!("../src/ffi.rs"),
     ),
     (
-        "packet_filter_c/include/etherparse_filter.h",
+        "etherparse_c/include/etherparse_filter.h",
         "ETHERPARSE_FILTER_",
         include_str!("../src/ffi/filter.rs"),
     ),
     (
-        "packet_reassembly_c/include/etherparse_reassembly.h",
+        "etherparse_c/include/etherparse_reassembly.h",
         "ETHERPARSE_DEFRAG_",
         include_str!("../src/ffi/reassembly.rs"),
     ),
     (
-        "packet_rewriting_c/include/etherparse_rewriting.h",
+        "etherparse_c/include/etherparse_rewriting.h",
         "ETHERPARSE_REWRITING_",
         include_str!("../src/ffi/rewriting.rs"),
     ),

@@ -1,1 +1,5 @@
 pub mod Batch
+mod Places
+mod Stored
+mod Whole
+mod Within

@@ -1,2 +1,17 @@
+pub mod Answer
 pub mod Batch
+pub mod DefragAdded
+pub mod DefragAnswer
+pub mod DefragError
+pub mod DefragSlots
+pub mod DefragText
+pub mod Error
+pub mod ErrorText
+pub mod FilterMatching
+pub mod FilterReading
+pub mod FilterRefusal
+pub mod Layers
+pub mod Private
+pub mod Rewriting
+pub mod RewritingText
 pub mod Text

@@ -2,7 +2,7 @@
 use Rattle.std.proofs.Common.{ℕ, ◌≡◌, ◌+◌, List, Ok, Err, Result, sym, ap, ◌∙◌, arith, length}
 use Rattle.std.proofs.lemmas.Grind.{common_steps}
 use Rattle.etherparse.specs.Reading.{HasFront, Reads, Views}
-use Rattle.etherparse_c.specs.Answer.{GivesAnswer}
+use Rattle.c_answers.specs.Answer.{GivesAnswer}
 
 -- C gets the one answer that is allowed
 pub answered : {A C : Type 0} {Allows : A → Type 0} {in_c : A → C} {result : C} (a : A) → Allows a

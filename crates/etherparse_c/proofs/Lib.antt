@@ -1,6 +1,5 @@
-mod Places
-mod Stored
-mod Whole
-mod Within
 mod Answered
+mod DefragSteps
 mod Fields
+mod FilterSteps
+mod Given

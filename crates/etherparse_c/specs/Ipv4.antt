@@ -6,7 +6,7 @@ use Rattle.etherparse.specs.Ipv4Header.{IsIpv4LayoutWith, default_ipv4_header, i
 use Rattle.etherparse.specs.Ipv4Header.{ipv4_ihl, ipv4_max_payload_len, ipv4_payload_len}
 use Rattle.etherparse.specs.Ipv4Options.{IsOptionsLen}
 use Rattle.etherparse.specs.declared.net.ipv4_header.Ipv4Header.{Ipv4Header}
-use Rattle.etherparse_c.specs.Error.{len_error_in_c, no_error}
+use Rattle.c_answers.specs.Error.{len_error_in_c, no_error}
 use Rattle.etherparse_c.specs.declared.ipv4_header.Ipv4Fields.{Ipv4Fields}
 use Rattle.etherparse_c.specs.declared.ipv4_header.Ipv4LengthsAnswer.{Ipv4LengthsAnswer}
 use Rattle.etherparse_c.specs.declared.ipv4_view.Ipv4ViewFields.{Ipv4ViewFields}

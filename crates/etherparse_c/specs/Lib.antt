@@ -1,7 +1,5 @@
-pub mod Answer
-pub mod Error
-pub mod ErrorText
+pub mod DefragMemory
 pub mod Ipv4
 pub mod Ipv6
-pub mod Layers
-pub mod Private
+pub mod LendsBuf
+pub mod LendsPool

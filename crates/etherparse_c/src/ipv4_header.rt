@@ -8,13 +8,13 @@ ghost use Rattle.etherparse.specs.Ipv4Options.{IsOptionsLen};
 ghost use Rattle.etherparse.specs.WordSums.{updated_checksum};
 ghost use Rattle.etherparse.specs.declared.err.ValueType.TheVariants.{Ipv4PayloadLength};
 ghost use Rattle.etherparse.specs.declared.net.ipv4_header.Ipv4Header.{Ipv4Header as Header};
-ghost use Rattle.etherparse_c.specs.Answer.{GivesAnswer, answer_in_c, bytes_in_c};
-ghost use Rattle.etherparse_c.specs.Error.{ipv4_error_in_c, no_error, value_in_c};
+ghost use Rattle.c_answers.specs.Answer.{GivesAnswer, answer_in_c, bytes_in_c};
+ghost use Rattle.c_answers.specs.Error.{ipv4_error_in_c, no_error, value_in_c};
 ghost use Rattle.etherparse_c.specs.Ipv4.{AreIpv4Lengths, AreWithinBounds, AreWrittenForIpv4};
 ghost use Rattle.etherparse_c.specs.Ipv4.{StandForIpv4, ipv4_fields_of, zero_ipv4_header};
 
-use crate::answer::{BAD_OPTIONS_LEN, Error, IPV4_PAYLOAD_LENGTH, Rest, VALUE_TOO_BIG};
 use crate::room::{filled, filled_by_words};
+use c_answers::error::{BAD_OPTIONS_LEN, Error, IPV4_PAYLOAD_LENGTH, Rest, VALUE_TOO_BIG};
 use etherparse::{IpDscp, IpEcn, IpFragOffset, IpNumber, Ipv4Header, Ipv4Options};
 
 /// The fields of an IPv4 header, as C has them.

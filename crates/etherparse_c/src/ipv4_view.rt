@@ -2,11 +2,11 @@
 
 ghost use Rattle.std.specs.Prelude.{◌≡◌};
 ghost use Rattle.etherparse.specs.Ipv4Header.{OfIpv4Header, ReadsIpv4};
-ghost use Rattle.etherparse_c.specs.Answer.{GivesAnswer, answer_in_c};
-ghost use Rattle.etherparse_c.specs.Error.{ipv4_error_in_c};
+ghost use Rattle.c_answers.specs.Answer.{GivesAnswer, answer_in_c};
+ghost use Rattle.c_answers.specs.Error.{ipv4_error_in_c};
 ghost use Rattle.etherparse_c.specs.Ipv4.{ipv4_view_of, zero_ipv4_header};
 
-use crate::answer::{Error, Rest};
+use c_answers::error::{Error, Rest};
 use etherparse::Ipv4HeaderSlice;
 
 /// What the getters of a view return.

@@ -2,11 +2,11 @@
 
 ghost use Rattle.std.specs.Prelude.{◌≡◌, ◌^◌, ◌<◌, [], MatchOption};
 ghost use Rattle.etherparse.specs.Ipv6Header.{ReadsIpv6, default_ipv6_header};
-ghost use Rattle.etherparse_c.specs.Answer.{GivesAnswer, answer_in_c, bytes_in_c};
-ghost use Rattle.etherparse_c.specs.Error.{ipv6_error_in_c};
+ghost use Rattle.c_answers.specs.Answer.{GivesAnswer, answer_in_c, bytes_in_c};
+ghost use Rattle.c_answers.specs.Error.{ipv6_error_in_c};
 ghost use Rattle.etherparse_c.specs.Ipv6.{AreWrittenForIpv6, ipv6_fields_of, zero_ipv6_header};
 
-use crate::answer::{Error, Rest};
+use c_answers::error::{Error, Rest};
 use etherparse::{IpNumber, Ipv6FlowLabel, Ipv6Header};
 
 /// The fields of an IPv6 header, as C has them.

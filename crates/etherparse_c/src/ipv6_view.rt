@@ -2,11 +2,11 @@
 
 ghost use Rattle.std.specs.Prelude.{◌≡◌};
 ghost use Rattle.etherparse.specs.Ipv6Header.{OfIpv6Header, ReadsIpv6};
-ghost use Rattle.etherparse_c.specs.Answer.{GivesAnswer, answer_in_c};
-ghost use Rattle.etherparse_c.specs.Error.{ipv6_error_in_c};
+ghost use Rattle.c_answers.specs.Answer.{GivesAnswer, answer_in_c};
+ghost use Rattle.c_answers.specs.Error.{ipv6_error_in_c};
 ghost use Rattle.etherparse_c.specs.Ipv6.{ipv6_view_of, zero_ipv6_header};
 
-use crate::answer::{Error, Rest};
+use c_answers::error::{Error, Rest};
 use etherparse::Ipv6HeaderSlice;
 
 /// What the getters of a view return.

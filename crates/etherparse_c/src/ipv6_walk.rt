@@ -5,10 +5,10 @@ ghost use Rattle.std.specs.Prelude.{if◌then◌else◌};
 ghost use Rattle.etherparse.specs.ExtensionHeaderChain.{Walks, WalksUpTo};
 ghost use Rattle.etherparse.specs.ExtensionHeaderChain.{incomplete_header_error, required_len_of};
 ghost use Rattle.etherparse.specs.ExtensionHeaders.{IsSkippable};
-ghost use Rattle.etherparse_c.specs.Answer.{GivesAnswer, answer_in_c, rest_of};
-ghost use Rattle.etherparse_c.specs.Error.{chain_error_in_c, len_error_in_c, no_error};
+ghost use Rattle.c_answers.specs.Answer.{GivesAnswer, answer_in_c, rest_of};
+ghost use Rattle.c_answers.specs.Error.{chain_error_in_c, len_error_in_c, no_error};
 
-use crate::answer::{Error, Rest};
+use c_answers::error::{Error, Rest};
 use etherparse::{IpNumber, Ipv6Header};
 
 /// Where a walk past extension headers, or one skip, ended.

@@ -2,6 +2,8 @@
 
 use etherparse::LenSource;
 use etherparse::err::{Layer, LenError};
+use etherparse_link::VlanId;
+use packet_builder::BuildSliceWriteError;
 use std::alloc::Global;
 use std::fmt::Debug;
 use std::hash::{DefaultHasher, Hash, Hasher};
@@ -24,6 +26,22 @@ pub(crate) const IPV6_ASCENDING: [u8; 40] = [
 /// times as long as that of a call of this function.
 pub(crate) fn assert_equal<T: Debug + Drop + PartialEq>(rt: &impl Abort, value: T, expected: T) {
     assert_eq!(rt; value, expected);
+}
+
+/// Asserts that these bytes are what was written to the front of a slice.
+pub(crate) fn assert_written(
+    rt: &impl Abort,
+    written: Result<usize, BuildSliceWriteError>,
+    slice: &[u8],
+    expected: &[u8],
+) {
+    let len = written.expect(rt, "room for the packet");
+    assert_equal(rt, slice.get(..len), Some(expected));
+}
+
+/// The identifier of a VLAN with this number.
+pub(crate) fn vlan_id(rt: &impl Abort, number: u16) -> VlanId {
+    VlanId::try_new(number).expect(rt, "an identifier")
 }
 
 /// The error of a slice that is too short for what begins in it.

@@ -5,8 +5,8 @@ use Rattle.std.specs.Prelude.{slice_range}
 use Rattle.etherparse.specs.Ipv4Header.{ReadsIpv4}
 use Rattle.etherparse.specs.declared.net.ipv4_header.Ipv4Header.{Ipv4Header}
 use Rattle.etherparse_c.proofs.Answered.{answered}
-use Rattle.etherparse_c.specs.Answer.{rest_of}
-use Rattle.etherparse_c.specs.declared.answer.Rest.{Rest}
+use Rattle.c_answers.specs.Answer.{rest_of}
+use Rattle.c_answers.specs.declared.error.Rest.{Rest}
 use Rattle.etherparse_c.proofs.ipv4_header.etherparse_ipv4_read.Goals as goal
 
 -- a slice is the first 20 bytes of the header that was read, its options and the rest

@@ -1,8 +1,8 @@
 use Rattle.std.proofs.Common.{ℕ, ◌≡◌, ◌<◌, ◌≤◌, ◌∙◌, ap, if◌then◌else◌, inl, inr, le-leb, length, nat_le}
 use Rattle.std.proofs.lemmas.Bool.{cases_lt, lt-leb}
 use Rattle.etherparse.specs.ExtensionHeaderChain.{required_len_of}
-use Rattle.etherparse_c.specs.Answer.{answer_in_c}
-use Rattle.etherparse_c.specs.Error.{len_error_in_c}
+use Rattle.c_answers.specs.Answer.{answer_in_c}
+use Rattle.c_answers.specs.Error.{len_error_in_c}
 use Rattle.etherparse_c.specs.declared.ipv6_walk.Ipv6WalkAnswer.{Ipv6WalkAnswer}
 use Rattle.etherparse_c.proofs.ipv6_walk.etherparse_ipv6_skip.Goals as goal
 

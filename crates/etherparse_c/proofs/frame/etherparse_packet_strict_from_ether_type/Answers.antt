@@ -1,8 +1,0 @@
-use Rattle.std.proofs.Common.{Some, length}
-use Rattle.etherparse_c.proofs.Whole.{whole_bytes}
-use Rattle.etherparse_c.proofs.frame.etherparse_packet_strict_from_ether_type.Goals as goal
-
-pub returns : goal.returns
-returns c = record {
-  reads = whole_bytes (Some c.args.ether_type) c.args.bytes.now (length c.args.bytes.now) c.args.checksums _ _ c.etherparse_packet_lax_from_ether_type.ensures.reads (c.refuse_stopped.ensures.whole, c.refuse_stopped.ensures.refused);
-}

@@ -1,5 +1,0 @@
-use Rattle.etherparse_c.proofs.Within.{of_frame}
-use Rattle.etherparse_c.proofs.frame.put_lax.Goals as goal
-
-pub packet_of-requires-clause-within : goal.packet_of-requires-clause-within
-packet_of-requires-clause-within c = of_frame c.args.link_type c.args.frame.now _ _ c.in-Ok.ensures.reads.reads

@@ -1,4 +1,0 @@
-use Rattle.etherparse_c.proofs.text.put_link_len.Goals as goal
-
-pub returns : goal.returns
-returns c = record { gives = rw (c.digits.ensures.text, c.digits-2.ensures.text) at c.put.ensures.gives }

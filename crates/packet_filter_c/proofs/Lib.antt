@@ -1,2 +1,0 @@
-mod Given
-mod Steps

@@ -1,3 +1,0 @@
-pub mod Matching
-pub mod Reading
-pub mod Refusal

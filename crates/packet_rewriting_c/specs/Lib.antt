@@ -1,2 +1,0 @@
-pub mod Answer
-pub mod Text
