@@ -4,7 +4,9 @@ use Rattle.std.specs.Prelude.{List, [], ◌∷◌, ◌++◌, length, slice_index
 use Rattle.std.specs.Prelude.{Option, Some, None, Result, if◌then◌else◌}
 use Rattle.std.specs.Int.{from_be_bytes, to_be_bytes, w16, w32}
 use Rattle.etherparse.specs.Bytes.{IsBytes}
+use Rattle.etherparse.specs.HeaderChecksum.{with_part}
 use Rattle.etherparse.specs.Reading.{Reads}
+use Rattle.etherparse.specs.WordSums.{checksum_of, network_order_word_sum}
 use Rattle.uses.specs.declared.gre.GreCause.{GreCause}
 use Rattle.uses.specs.declared.gre.GreCause.TheVariants as cause
 use Rattle.uses.specs.declared.gre.GreError.{GreError}
@@ -91,3 +93,8 @@ abbrev pub gre_bytes : GreHeader → List ℕ
 gre_bytes h = (128 * flag_of h.checksum + 32 * flag_of h.key + 16 * flag_of h.sequence_number) ∷ 0
     ∷ (to_be_bytes w16 h.protocol_type
     ++ (checksum_bytes h.checksum ++ (field_bytes h.key ++ field_bytes h.sequence_number)))
+
+-- The checksum of a packet: the complement of the ones-complement sum of the words of the header
+-- and the payload, with 0 for the checksum itself (RFC 2784 section 2.5, RFC 1071 section 1).
+abbrev pub gre_checksum_of : List ℕ → ℕ
+gre_checksum_of packet = checksum_of (network_order_word_sum (with_part 4 (0 ∷ 0 ∷ []) packet))

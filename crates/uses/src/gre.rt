@@ -1,12 +1,12 @@
 //! The GRE header (RFC 2784, RFC 2890), whose length its flags tell.
 
-ghost use Rattle.std.specs.Prelude.{ℕ, ◌≡◌, ◌≢◌, ◌<◌, ◌≤◌, ◌+◌, ◌^◌, ◌∷◌, ◌++◌};
+ghost use Rattle.std.specs.Prelude.{ℕ, ◌≡◌, ◌≢◌, ◌<◌, ◌≤◌, ◌+◌, ◌^◌, [], ◌∷◌, ◌++◌};
 ghost use Rattle.std.specs.Prelude.{IfErr, IfOk, IfSome, length, slice_index, slice_range};
 ghost use Rattle.std.specs.Int.{from_be_bytes, to_be_bytes, w16};
 ghost use Rattle.etherparse.specs.Bytes.{IsBytes};
 ghost use Rattle.etherparse.specs.WordSums.{SumsToAllOnes};
 ghost use Rattle.uses.specs.Gre.{IsGreLayout, IsUnsupported, RefusesAs, flag_at, gre_len_of};
-ghost use Rattle.uses.specs.Gre.{checksum_bytes, field_bytes, if_set, word_at};
+ghost use Rattle.uses.specs.Gre.{checksum_bytes, field_bytes, gre_checksum_of, if_set, word_at};
 
 use arrayvec::ArrayVec;
 use etherparse::checksum::Sum16BitWords;
@@ -95,9 +95,12 @@ impl GreHeader {
     }
 }
 
-/// Stores the checksum of a GRE header and its payload, in bytes 4 and 5 (RFC 2784 section 2.5).
+/// Stores the checksum of a GRE header and its payload, in bytes 4 and 5 (RFC 2784 section 2.5). One
+/// that is 0 is stored as 0, unlike in UDP.
 pub fn store_checksum(packet: &mut [u8])
     requires there { 6 ≤ length packet.old }
+    ensures stored { from_be_bytes w16 (slice_index packet.new 4 ∷ slice_index packet.new 5 ∷ [])
+        ≡ gre_checksum_of packet.old }
     ensures all_ones { SumsToAllOnes packet.new }
     ensures len { length packet.new ≡ length packet.old }
     ensures others { (i : ℕ) → i ≢ 4 → i ≢ 5 →
