@@ -9,7 +9,7 @@ use crate::writing::{put, put_link_headers};
 use etherparse_link::{ArpPacket, EtherType};
 
 /// A packet that is built and ends with an ARP packet (RFC 826).
-#[derive(Clone, Debug, PartialEq, Eq, Drop)]
+#[derive(Clone, Debug, Drop)]
 pub struct ArpStep {
     /// The link header. Its EtherType is set when the packet is written.
     pub link: LinkHeader,

@@ -44,7 +44,7 @@ pub enum IpHeader {
 }
 
 /// All headers before the transport header.
-#[derive(Clone, Debug, PartialEq, Eq, Drop)]
+#[derive(Clone, Debug, Drop)]
 pub struct Headers {
     /// The link header, if there is one.
     pub link: Option<LinkHeader>,

@@ -7,7 +7,7 @@ use etherparse::IpNumber;
 use etherparse_icmp::{Icmpv4Header, Icmpv4Type};
 
 /// A packet that is built, after the header of a message of ICMP (RFC 792).
-#[derive(Clone, Debug, PartialEq, Eq, Drop)]
+#[derive(Clone, Debug, Drop)]
 pub struct Icmpv4Step {
     /// All headers before that of ICMP.
     pub headers: Headers,

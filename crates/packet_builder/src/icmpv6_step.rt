@@ -11,7 +11,7 @@ use etherparse_icmp::{Icmpv6Header, Icmpv6Type};
 
 /// A packet that is built, after the header of a message of ICMPv6 (RFC 4443 section 2.1). It is
 /// written over IPv6 alone.
-#[derive(Clone, Debug, PartialEq, Eq, Drop)]
+#[derive(Clone, Debug, Drop)]
 pub struct Icmpv6Step {
     /// All headers before that of ICMPv6.
     pub headers: Headers,

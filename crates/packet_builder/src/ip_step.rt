@@ -12,7 +12,7 @@ use etherparse_icmp::{IcmpEchoHeader, Icmpv4Type, Icmpv6Type};
 use etherparse_transport::TcpHeader;
 
 /// A packet that is built, after its IP header.
-#[derive(Clone, Debug, PartialEq, Eq, Drop)]
+#[derive(Clone, Debug, Drop)]
 pub struct IpStep {
     /// All headers so far.
     pub headers: Headers,

@@ -1,6 +1,6 @@
 //! What follows from the definitions: a packet that was built, taken apart, has the parts that it
-//! was built of. And what the derived `==` of the error and the derived `clone` say, as the clause of
-//! one small function for each type. Nothing calls them: they are there to be proved.
+//! was built of. And what the derived `==` and `clone` say, as the clause of one small function for
+//! each type. Nothing calls them: they are there to be proved.
 
 ghost use Rattle.std.specs.Prelude.{ℕ, ◌≡◌, ◌↔◌, ◌++◌, IsFalse, IsOkAnd, IsTrue, List, Ok};
 ghost use Rattle.std.specs.Prelude.{Result, Some};
@@ -68,6 +68,24 @@ pub fn built_packet_law()
 {}
 
 fn build_slice_write_error_equality(a: &BuildSliceWriteError, b: &BuildSliceWriteError) -> bool
+    ensures same_value { IsTrue result ↔ (a.now ≡ b.now) }
+{
+    a == b
+}
+
+fn ip_header_equality(a: &IpHeader, b: &IpHeader) -> bool
+    ensures same_value { IsTrue result ↔ (a.now ≡ b.now) }
+{
+    a == b
+}
+
+fn link_header_equality(a: &LinkHeader, b: &LinkHeader) -> bool
+    ensures same_value { IsTrue result ↔ (a.now ≡ b.now) }
+{
+    a == b
+}
+
+fn vlan_header_equality(a: &VlanHeader, b: &VlanHeader) -> bool
     ensures same_value { IsTrue result ↔ (a.now ≡ b.now) }
 {
     a == b

@@ -10,7 +10,7 @@ use crate::vlan_step::VlanStep;
 use etherparse_link::{ArpPacket, EtherType, SingleVlanHeader, VlanId, VlanPcp};
 
 /// A packet that is built, after its link header.
-#[derive(Clone, Copy, Debug, PartialEq, Eq)]
+#[derive(Clone, Copy, Debug)]
 pub struct LinkStep {
     /// The link header. Its EtherType is set when the packet is written.
     pub link: LinkHeader,

@@ -11,7 +11,7 @@ use etherparse::IpNumber;
 use etherparse_transport::{TcpHeader, TcpOptionElement, TcpOptionWriteError};
 
 /// A packet that is built, after its TCP header.
-#[derive(Clone, Debug, PartialEq, Eq, Drop)]
+#[derive(Clone, Debug, Drop)]
 pub struct TcpStep {
     /// All headers before that of TCP.
     pub headers: Headers,

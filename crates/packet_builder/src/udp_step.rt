@@ -10,7 +10,7 @@ use etherparse::IpNumber;
 use etherparse_transport::UdpHeader;
 
 /// A packet that is built, after its UDP header.
-#[derive(Clone, Debug, PartialEq, Eq, Drop)]
+#[derive(Clone, Debug, Drop)]
 pub struct UdpStep {
     /// All headers before that of UDP.
     pub headers: Headers,

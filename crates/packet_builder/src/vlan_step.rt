@@ -6,7 +6,7 @@ use crate::ip_step::IpStep;
 use etherparse_link::ArpPacket;
 
 /// A packet that is built, after its VLAN tags.
-#[derive(Clone, Copy, Debug, PartialEq, Eq)]
+#[derive(Clone, Copy, Debug)]
 pub struct VlanStep {
     /// The link header.
     pub link: LinkHeader,
