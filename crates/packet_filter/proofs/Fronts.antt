@@ -1,12 +1,12 @@
 -- Reading words from the first on.
-use Rattle.std.proofs.Common.{◌≡◌, ◌||◌, Bool, ℕ, ◌+◌, ◌-◌, ◌<◌, ◌≤◌, List, [], ◌∷◌, ◌++◌, Option, Some, None, refl, sym, ap, ◌∙◌, subst, append_assoc, length, length-append, arith}
+use Rattle.std.proofs.Common.{◌≡◌, ◌||◌, Bool, IsTrue, ℕ, ◌+◌, ◌-◌, ◌<◌, ◌≤◌, List, [], ◌∷◌, ◌++◌, Option, Some, None, refl, sym, ap, ◌∙◌, subst, append_assoc, length, length-append, arith}
 use Rattle.std.specs.Option.{unwrap_or}
 use Rattle.std.proofs.lemmas.List.{append-nil}
 use Rattle.packet_filter.specs.Meaning.{Expression, one, negation, compound}
 use Rattle.packet_filter.specs.Program.{and_then, built, Computes, expression_of, top_of}
 use Rattle.packet_filter.specs.Grammar.{IsExpression}
 use Rattle.packet_filter.specs.Language.{AreSpelled, CanFollow, CanGoOn, IsIncomplete, IsSentence, IsText, IsUnexpected, NothingElse, Refuses, operator_word, other}
-use Rattle.packet_filter.specs.Expected.{leaves_out, leaves_out_at_end, names}
+use Rattle.packet_filter.specs.Expected.{has_to_follow, leaves_out, leaves_out_at_end, names}
 use Rattle.packet_filter.specs.Private.Machine.{State, expected_of, finish, level_of, outcome, qualifiers_doing, refusal, settled, size_of, step_of, start}
 use Rattle.packet_filter.specs.Text.{BeginsWithWord, Spells, words_of}
 use Rattle.packet_filter.specs.declared.expected.Expected.{Expected}
@@ -22,7 +22,7 @@ use Rattle.packet_filter.proofs.Follows.{stands_can_go_on}
 use Rattle.packet_filter.proofs.Sound.{Stands, stands_on, stands_first, read_at_end}
 use Rattle.packet_filter.proofs.Runs.{then_some}
 use Rattle.packet_filter.proofs.Others.{Only, end_only, only, refused_only}
-use Rattle.packet_filter.proofs.Refusals.{Other, end_offers, other_operator, other_word, word_follows}
+use Rattle.packet_filter.proofs.Refusals.{Other, end_offers, other_operator, other_word, settled_follows, word_follows}
 use Rattle.packet_filter.proofs.Spelled.{one_token, spelled_apart, spelled_once, spelled_together}
 
 -- the program of an expression puts it on the stack
@@ -234,6 +234,7 @@ incomplete s next text rest count r few h e left =
       no_others = subst (λ v. NothingElse v (λ w. names (expected_of next) w || leaves_out_at_end (expected_of next) w)) (sym all)
           (subst (λ (n : State). NothingElse r.before (λ w. names (expected_of n) w || leaves_out_at_end (expected_of n) w)) (sym left)
           (nothing_else s text rest count r (λ w. names (expected_of (settled s)) w || leaves_out_at_end (expected_of (settled s)) w) (λ w. end_only s.doing w s.waiting s.steps)));
+      follows = subst (λ (n : State). IsTrue (has_to_follow (expected_of n))) (sym left) (settled_follows s.doing s.waiting s.steps r.tokens r.stands e);
     }
 
 -- a text of the language that is not too long is not refused

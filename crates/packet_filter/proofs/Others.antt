@@ -1,5 +1,5 @@
 -- No word can stand that an error neither names nor leaves out.
-use Rattle.std.proofs.Common.{◌≡◌, ℕ, Bool, true, false, ◌||◌, ◌&&◌, cond, List, [], ◌∷◌, ◌++◌, Option, Some, None, refl, sym, ap, ◌∙◌, subst}
+use Rattle.std.proofs.Common.{◌≡◌, ℕ, Bool, true, false, ◌||◌, cond, List, [], ◌∷◌, ◌++◌, Option, Some, None, refl, sym, ap, ◌∙◌, subst}
 use Rattle.std.specs.Prelude.{IsTrue, is_some, nat_le, option_map}
 use Rattle.std.specs.Option.{unwrap_or}
 use Rattle.packet_filter.specs.Expected.{is_after_ip, is_after_network, is_after_transport, is_after_vlan, is_going_on, is_joint, is_next, is_open_bracket, leaves_out, leaves_out_at_end, names}

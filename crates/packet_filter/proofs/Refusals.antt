@@ -1,6 +1,6 @@
 -- What can stand where a word was refused.
 use Rattle.std.proofs.Common.{lit≤, ◌≡◌, ℕ, ◌+◌, ◌*◌, ◌^◌, true, false, List, [], ◌∷◌, ◌++◌, Option, Some, None, refl, sym, ap, ◌∙◌, subst, inl, inr}
-use Rattle.std.specs.Prelude.{All, codes}
+use Rattle.std.specs.Prelude.{All, IsTrue, codes}
 use Rattle.std.specs.List.{AllByRecursion}
 use Rattle.std.proofs.lemmas.List.Elements.{All-from_recursion, recursion_from_All}
 use Rattle.std.specs.Fmt.{digits}
@@ -10,12 +10,12 @@ use Rattle.std.specs.Net.Grammar.{IsGroup}
 use Rattle.std.specs.Net.Text.{dotted_text}
 use Rattle.std.specs.declared.net.ip_addr.IpAddr.TheVariants as Ip
 use Rattle.packet_filter.specs.Addresses.{IsAddress}
-use Rattle.packet_filter.specs.Expected.{examples}
+use Rattle.packet_filter.specs.Expected.{examples, has_to_follow, possible}
 use Rattle.packet_filter.specs.Grammar.{alone, first_head, fits, value_of}
 use Rattle.packet_filter.specs.Language.{AreSpelled, CanFollow, CanGoOn, operator_word, other}
 use Rattle.packet_filter.specs.Names.{name_of}
 use Rattle.packet_filter.specs.Program.{and_then}
-use Rattle.packet_filter.specs.Private.Machine.{State, after, complete, completed, expected_after, expected_of, expected_value, expected_within, found, head_of_net, is_open, level_of, on_progress, outcome, primitive_of_net, qualifiers_doing, qualifiers_of, settled, settled_at, settled_doing, step_of, step_progress, version_of, whole}
+use Rattle.packet_filter.specs.Private.Machine.{State, after, complete, completed, expected_after, expected_of, expected_value, expected_within, finish_at, finish_doing, finish_state, found, head_of_net, is_open, level_of, on_progress, outcome, primitive_of_net, qualifiers_doing, qualifiers_of, settled, settled_at, settled_doing, step_of, step_progress, version_of, whole}
 use Rattle.packet_filter.specs.Text.{Spells, words_of}
 use Rattle.packet_filter.specs.Values.{named_value_of}
 use Rattle.packet_filter.specs.declared.address.Address.TheVariants.{V4, V6}
@@ -53,7 +53,7 @@ use Rattle.packet_filter.specs.declared.token.Token.TheVariants as token
 use Rattle.packet_filter.proofs.Complete.{Takes, amid, ether_takes, expects, has_net, has_read, head_takes, network_takes, not_operator, not_some, after_complete, some_same, value_alone}
 use Rattle.packet_filter.proofs.Follows.{all_bits, closed_up, closing, closings, ones_4, open_in, stands_can_go_on}
 use Rattle.packet_filter.proofs.Runs.{then_some}
-use Rattle.packet_filter.proofs.Sound.{Amid, Opens, Stands, StandsAt, net_stands, stands_on, whole_stands}
+use Rattle.packet_filter.proofs.Sound.{Amid, Following, Opens, Stands, StandsAt, net_stands, stands_on, whole_stands}
 use Rattle.packet_filter.proofs.Spelled.{spelled_together}
 
 -- ---- words that a state takes
@@ -77,9 +77,9 @@ record Taken (s : State) (word : List ℕ) : Type 0 where
 can : {s : State} {word : List ℕ} (t : Token) → Spells word t → IsTaken (step_of s t) → Taken s word
 can t h k = record { token = t; says = h; taken = k }
 
--- each of the words that an error names
+-- each of the words that an error names, and `not` before a value
 abbrev Offers : State → Expected → Type 0
-Offers s e = AllByRecursion (Taken s) (examples e)
+Offers s e = AllByRecursion (Taken s) (possible e)
 
 no_some : {A : Type 0} (o : Option A) (x : A) → o ≡ None → o ≡ Some x → ⊥
 no_some o x e f = cc
@@ -179,30 +179,35 @@ values_named head.EtherProto = (val (token.Number 0x0806) refl _ refl, (val (tok
 all_values : (h : Head) → All (Valued h) (examples (expected_value h))
 all_values h = All-from_recursion (Valued h) (examples (expected_value h)) (values_named h)
 
+with_not : (h : Head) (s : State) → IsTaken (step_of s token.Not) → AllByRecursion (Taken s) (examples (expected_value h)) → Offers s (expected_value h)
+unfolding name_of
+with_not (head.Host n d) s t x = (can token.Not refl t, x)
+with_not _ s t x = (can token.Not refl t, x)
+
 -- a value alone
 alone_offers : (h : Head) (ws : List Waiting) (out : List Step) (ts : List Token) → Opens ws h true ts out → Offers (expects h true ws out) (expected_value h)
-alone_offers h ws out ts o = recursion_from_All (Taken (expects h true ws out)) (examples (expected_value h)) (λ k d i.
+alone_offers h ws out ts o = with_not h _ tt (recursion_from_All (Taken (expects h true ws out)) (examples (expected_value h)) (λ k d i.
     let v = all_values h k d i in
     let c = closed_up ws h h true ts out (out ++ step.Test v.primitive ∷ []) o in
     let n = then_some (step_of (expects h true ws out) v.token) (outcome (closings (open_in ws))) c.steps (value_alone true v.token h v.primitive v.is ws out (closings (open_in ws)) (closing (open_in ws)) ∙ c.ends) in
-    can v.token v.says (is_taken _ n.0 n.1))
+    can v.token v.says (is_taken _ n.0 n.1)))
 
 -- a value of a head that has begun
-value_offers : (q : Partial) (h : Head) (ws : List Waiting) (out : List Step) (ts : List Token) → Takes q h → Amid q ws out ts → Offers (amid q ws out) (expected_value h)
-value_offers q h ws out ts t m = recursion_from_All (Taken (amid q ws out)) (examples (expected_value h)) (λ k d i.
+value_offers : (q : Partial) (h : Head) (ws : List Waiting) (out : List Step) (ts : List Token) → Takes q h → IsTaken (step_of (amid q ws out) token.Not) → Amid q ws out ts → Offers (amid q ws out) (expected_value h)
+value_offers q h ws out ts t x m = with_not h _ x (recursion_from_All (Taken (amid q ws out)) (examples (expected_value h)) (λ k d i.
     let v = all_values h k d i in
     let c = closed_up ws m.head h false m.before out (out ++ step.Test v.primitive ∷ []) m.opens in
     let n = then_some (step_of (amid q ws out) v.token) (outcome (closings (open_in ws))) c.steps (t.value v.token v.primitive v.is ws out (closings (open_in ws)) (closing (open_in ws)) ∙ c.ends) in
-    can v.token v.says (is_taken _ n.0 n.1))
+    can v.token v.says (is_taken _ n.0 n.1)))
 
 -- ---- primitives that have begun
 
 direction_offers : (s : Scope) (d : Direction) (ws : List Waiting) (out : List Step) (ts : List Token) → Amid (partial.Directed s d) ws out ts → Offers (amid (partial.Directed s d) ws out) (expected_after s)
 unfolding name_of named_value_of
-direction_offers scope.Any d ws out ts m = (can token.Host refl tt, (can token.Net refl tt, (can token.Port refl tt, (can token.PortRange refl tt, (can _ says_host_4 tt, tt)))))
-direction_offers (scope.Network n) d ws out ts m = value_offers _ (head.Host (Some n) (Some d)) ws out ts (network_takes n d) m
+direction_offers scope.Any d ws out ts m = (can token.Not refl tt, (can token.Host refl tt, (can token.Net refl tt, (can token.Port refl tt, (can token.PortRange refl tt, (can _ says_host_4 tt, tt))))))
+direction_offers (scope.Network n) d ws out ts m = value_offers _ (head.Host (Some n) (Some d)) ws out ts (network_takes n d) tt m
 direction_offers (scope.Transport t) d ws out ts m = (can token.Port refl tt, (can token.PortRange refl tt, tt))
-direction_offers scope.Ether d ws out ts m = value_offers _ (head.Ether (Some d)) ws out ts (ether_takes d) m
+direction_offers scope.Ether d ws out ts m = value_offers _ (head.Ether (Some d)) ws out ts (ether_takes d) tt m
 
 constant_offers : (u : Use) (ws : List Waiting) (out : List Step) → Offers (amid (partial.Constant u) ws out) expected.Number
 unfolding name_of named_value_of
@@ -220,7 +225,7 @@ within_offers (partial.Word w) ws out ts e m = absurd (no_some _ _ e m.begun.1)
 within_offers partial.Ether ws out ts e m = (can token.Source refl tt, (can token.Destination refl tt, (can token.Host refl tt, (can token.Proto refl tt, (can token.Broadcast refl tt, (can token.Multicast refl tt, (can token.OpenBracket refl tt, tt)))))))
 within_offers (partial.Directed s d) ws out ts e m = direction_offers s d ws out ts m
 within_offers (partial.Joined s o) ws out ts e m = (can token.Destination refl tt, tt)
-within_offers (partial.Value h) ws out ts e m = value_offers _ h ws out ts (head_takes h) m
+within_offers (partial.Value h) ws out ts e m = value_offers _ h ws out ts (head_takes h) tt m
 within_offers partial.Less ws out ts e m = (can (token.Number 64) refl tt, tt)
 within_offers partial.Greater ws out ts e m = (can (token.Number 64) refl tt, tt)
 within_offers partial.First ws out ts e m = (can token.Fragment refl tt, tt)
@@ -364,11 +369,45 @@ taken_goes s before ts word x y c =
     record { more = g.more; expression = g.expression; sentence = record { tokens = (ts ++ c.token ∷ []) ++ g.tokens; spelled = spelled_together (before ++ word ∷ []) (words_of g.more) (ts ++ c.token ∷ []) g.tokens (spelled_together before (word ∷ []) ts (c.token ∷ []) y (c.says, tt)) g.spelled; is = g.is } }
 
 offered : (s : State) (e : Expected) (before : List (List ℕ)) (ts : List Token) → Stands s ts → AreSpelled before ts → Offers s e → CanFollow before e
-offered s e before ts x y h = λ k d i. taken_goes s before ts _ x y (All-from_recursion (Taken s) (examples e) h k d i)
+offered s e before ts x y h = λ k d i. taken_goes s before ts _ x y (All-from_recursion (Taken s) (possible e) h k d i)
 
 -- where a text ends
 pub end_offers : (s : State) (before : List (List ℕ)) (ts : List Token) → Stands s ts → AreSpelled before ts → CanFollow before (expected_of (settled s))
 end_offers s before ts x y = offered _ _ before ts (settled_stands s.doing s.waiting s.steps ts x) y (settled_offers s.doing s.waiting s.steps ts x)
+
+-- what has to follow there
+value_follows : (h : Head) → IsTrue (has_to_follow (expected_value h))
+value_follows (head.Host n d) = refl
+value_follows _ = refl
+
+within_follows : (p : Partial) → IsTrue (has_to_follow (expected_within p))
+within_follows (partial.Directed scope.Any d) = refl
+within_follows (partial.Directed _ d) = refl
+within_follows (partial.Value h) = value_follows h
+within_follows _ = refl
+
+operator_follows : (c : Option Joiner) (h : Head) (ws : List Waiting) (out : List Step) (ts : List Token) → Following c h ws out ts → finish_at (Operator c h) ws out ≡ None → IsTrue (is_open ws)
+operator_follows c h [] out ts x e = cc
+operator_follows c h (waiting.Open g v ∷ ws) out ts x e = refl
+operator_follows c h (_ ∷ ws) out ts x e = absurd x.base
+
+complete_follows : (h : Head) (ws : List Waiting) (out : List Step) (ts : List Token) → Stands (complete h ws out) ts → finish_state (complete h ws out) ≡ None → IsTrue (has_to_follow (expected_of (complete h ws out)))
+complete_follows h [] out ts x e = cc
+complete_follows h (waiting.Open g v ∷ ws) out ts x e = refl
+complete_follows h (waiting.Not ∷ ws) out ts x e = complete_follows h ws (out ++ step.Not ∷ []) ts x e
+complete_follows h (waiting.Head ∷ ws) out ts x e = complete_follows h ws out ts x e
+complete_follows h (waiting.Operator o ∷ ws) out ts x e = operator_follows (Some o) h ws (out ++ step.Operator o ∷ []) ts x e
+
+whole_follows : (a : Option Primitive) (p : Partial) (ws : List Waiting) (out : List Step) (ts : List Token) → whole p ≡ a → Amid p ws out ts → and_then (completed a ws out) finish_state ≡ None → IsTrue (has_to_follow (expected_of (settled_at a p ws out)))
+whole_follows (Some a) p ws out ts f m e = complete_follows first_head ws (out ++ step.Test a ∷ []) ts (whole_stands p a ws out ts f m) e
+whole_follows None p ws out ts f m e = within_follows p
+
+pub settled_follows : (d : Doing) (ws : List Waiting) (out : List Step) (ts : List Token) → StandsAt d ws out ts → finish_doing d ws out ≡ None → IsTrue (has_to_follow (expected_of (settled_doing d ws out)))
+settled_follows (Operand h true) ws out ts x e = value_follows h
+settled_follows (Within p) ws out ts x e = whole_follows (whole p) p ws out ts refl x e
+settled_follows (Net a) ws out ts x e = complete_follows (head_of_net a) ws (out ++ step.Test (primitive_of_net a) ∷ []) ts (net_stands a ws out ts x) e
+settled_follows (Operator c h) ws out ts x e = operator_follows c h ws out ts x e
+settled_follows _ ws out ts x e = refl
 
 qualified : (d : Doing) (e : Expected) (ws : List Waiting) (out : List Step) → qualifiers_doing d ≡ Some e → Offers (record { doing = d; waiting = ws; steps = out }) e
 qualified (Within p) e ws out f = word_offers p e ws out f

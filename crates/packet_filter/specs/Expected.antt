@@ -1,6 +1,6 @@
 -- What can stand at a place of a text, as an error names it.
 use Rattle.std.specs.Prelude.{ℕ, Bool, true, false, Option, Some, None, List, [], ◌∷◌, codes}
-use Rattle.std.specs.Prelude.{is_some, nat_le, option_map}
+use Rattle.std.specs.Prelude.{if◌then◌else◌, is_some, nat_le, option_map}
 use Rattle.packet_filter.specs.Grammar.{ipv4_of, loads_at, value_of}
 use Rattle.packet_filter.specs.declared.expected.Expected.{Expected}
 use Rattle.packet_filter.specs.declared.expected.Expected.TheVariants as expected
@@ -371,3 +371,20 @@ is_going_on _ = false
 abbrev pub leaves_out_at_end : Expected → Token → Bool
 leaves_out_at_end (expected.Operator before closes) w = is_going_on w
 leaves_out_at_end e w = leaves_out e w
+
+-- ---- what tells it from others
+
+-- words that can stand there: the examples, and `not` before a value
+abbrev pub possible : Expected → List (List ℕ)
+possible e = if leaves_out e token.Not then codes "not" ∷ examples e else examples e
+
+-- What has to follow at the end of a text that is no expression. It is not what a primitive goes on
+-- with that is complete, and an operator only if `)` is missing, too.
+abbrev pub has_to_follow : Expected → Bool
+has_to_follow (expected.Operator before closes) = closes
+has_to_follow expected.AfterIp = false
+has_to_follow expected.AfterNetwork = false
+has_to_follow expected.AfterTransport = false
+has_to_follow expected.AfterVlan = false
+has_to_follow expected.AfterAddress = false
+has_to_follow _ = true

@@ -1,8 +1,8 @@
 -- The texts that are expressions, and why others are none.
 use Rattle.std.specs.Prelude.{ℕ, ◌≡◌, ◌<◌, ◌≤◌, ◌||◌, Bool, IsTrue, List, [], ◌∷◌, ◌++◌, All}
 use Rattle.std.specs.Prelude.{Option, Some, None, codes, decimal, length}
-use Rattle.packet_filter.specs.Expected.{examples, expected_text, leaves_out, leaves_out_at_end}
-use Rattle.packet_filter.specs.Expected.{names}
+use Rattle.packet_filter.specs.Expected.{expected_text, has_to_follow, leaves_out}
+use Rattle.packet_filter.specs.Expected.{leaves_out_at_end, names, possible}
 use Rattle.packet_filter.specs.Grammar.{IsExpression}
 use Rattle.packet_filter.specs.Meaning.{Expression}
 use Rattle.packet_filter.specs.Text.{Spells, words_of}
@@ -51,9 +51,9 @@ pub record IsUnexpected (text : List ℕ) (place : ℕ) : Type 0 where
   pub can : CanGoOn before
   pub cannot : ¬ CanGoOn (before ++ word ∷ [])
 
--- each word that the error names can stand after these
+-- each word that the error has as an example can stand after these; so can `not` before a value
 abbrev pub CanFollow : List (List ℕ) → Expected → Type 0
-CanFollow words expected = All (λ word. CanGoOn (words ++ word ∷ [])) (examples expected)
+CanFollow words expected = All (λ word. CanGoOn (words ++ word ∷ [])) (possible expected)
 
 -- each word that can stand after these is such a word
 abbrev pub NothingElse : List (List ℕ) → (Token → Bool) → Type 0
@@ -94,7 +94,7 @@ pub record HasUnexpected (text : List ℕ) (place : ℕ) (expected : Expected) :
   pub not_mixed : (o : Operator) → ¬ IsMixed at.before at.word o
 
 -- The words are no expression, but can go on, with all that the error has as examples, and with
--- nothing that it neither names nor leaves out.
+-- nothing that it neither names nor leaves out; and what it names has to follow.
 pub record IsIncomplete (text : List ℕ) (expected : Expected) : Type 0 where
   pub few : length (words_of text) ≤ 64
   pub can : CanGoOn (words_of text)
@@ -102,6 +102,7 @@ pub record IsIncomplete (text : List ℕ) (expected : Expected) : Type 0 where
   pub examples_can : CanFollow (words_of text) expected
   pub no_others : NothingElse (words_of text)
       (λ t. names expected t || leaves_out_at_end expected t)
+  pub follows : IsTrue (has_to_follow expected)
 
 -- At this place in the text, in bytes, stands a word after 64 others, which can go on.
 pub record IsTooLong (text : List ℕ) (place : ℕ) : Type 0 where
