@@ -1,21 +1,13 @@
-use Rattle.std.proofs.Common.{◌≡◌, ap, rules, tests}
+use Rattle.std.proofs.Common.{◌≡◌, rules, tests}
 use Rattle.std.specs.Prelude.{◌↔◌, IsTrue}
-use Rattle.etherparse.specs.declared.net.ipv4_header.Ipv4Header.{Ipv4Header}
-use Rattle.etherparse.specs.declared.net.ipv6_header.Ipv6Header.{Ipv6Header}
 use Rattle.packet_builder.specs.contracts.headers.IpHeaderPartialEq.TheImpl as derived
 use Rattle.packet_builder.specs.declared.headers.IpHeader.{IpHeader}
 use Rattle.packet_builder.specs.declared.headers.IpHeader.TheVariants as ip
 use Rattle.packet_builder.proofs.laws.ip_header_equality.Goals as goal
 
-ipv4 : (a b : Ipv4Header) → IsTrue ((derived.ghosts).eq (ip.Ipv4 a) (ip.Ipv4 b)) ↔ (a ≡ b)
-ipv4 a b = search (tests, rules)
-
-ipv6 : (a b : Ipv6Header) → IsTrue ((derived.ghosts).eq (ip.Ipv6 a) (ip.Ipv6 b)) ↔ (a ≡ b)
-ipv6 a b = search (tests, rules)
-
 same : (a b : IpHeader) → IsTrue ((derived.ghosts).eq a b) ↔ (a ≡ b)
-same (ip.Ipv4 a) (ip.Ipv4 b) = (λ h. ap ip.Ipv4 ((ipv4 a b).0 h), λ h. (ipv4 a b).1 cc)
-same (ip.Ipv6 a) (ip.Ipv6 b) = (λ h. ap ip.Ipv6 ((ipv6 a b).0 h), λ h. (ipv6 a b).1 cc)
+same (ip.Ipv4 a) (ip.Ipv4 b) = search (tests, rules)
+same (ip.Ipv6 a) (ip.Ipv6 b) = search (tests, rules)
 same _ _ = search rules
 
 pub returns : goal.returns
