@@ -6,10 +6,10 @@ use Rattle.clap.specs.Adds.{AddsConflicts}
 use Rattle.clap.specs.Built.{AddsArg}
 use Rattle.clap.specs.Walk.{is_simple_arg}
 use Rattle.clap.specs.declared.builder.command.Command.{Command}
-use Rattle.clap.specs.Words.{Rule, app_of, args_of, rule_of, with_rule}
+use Rattle.clap.specs.Words.{Rule, app_of, args_of, is_simple, rule_of, with_rule}
 use Rattle.clap.specs.declared.builder.arg.Arg.{Arg}
 use Rattle.ipcap.specs.Arguments.{texts_of}
-use Rattle.ipcap.specs.Options.{app_with, excluding, exclusions_of}
+use Rattle.ipcap.specs.Options.{app_with, excluding, exclusions_of, flags, options}
 
 -- one that excludes another
 pub excludes : (old new : Arg) (other first : Bor (List ℕ)) (more : List (Bor (List ℕ))) → AddsConflicts old new (other ∷ []) → old.conflicts.items ++ other ∷ [] ≡ first ∷ more
@@ -57,3 +57,8 @@ five_more before a b c d e = simp append_assoc refl
 
 pub two_more : {X : Type 0} (before more : List X) (a b : X) → ((before ++ more) ++ a ∷ []) ++ b ∷ [] ≡ before ++ (more ++ a ∷ b ∷ [])
 two_more before more a b = simp append_assoc refl
+
+-- what `clap` says of simple commands it says of this one
+pub is_simple-options : is_simple (app_with options) ≡ true
+unfolding options flags
+is_simple-options = refl

@@ -1,6 +1,6 @@
 -- The words of the command line.
 use Rattle.std.specs.Prelude.{ℕ, ◌≡◌, ◌<◌, ◌^◌, ◌⊎◌, ◌++◌, ◌∷◌, Bool, IsTrue, List, [], codes}
-use Rattle.std.specs.Prelude.{None, Option, Some, false, if◌then◌else◌, length, map, option_map}
+use Rattle.std.specs.Prelude.{IsFalse, None, Option, Some, false, if◌then◌else◌, length, map, option_map}
 use Rattle.std.specs.Prelude.{take, true, unwrap_or}
 use Rattle.std.specs.Borrow.{Bor}
 use Rattle.std.specs.List.{cons_option, list_all}
@@ -15,6 +15,7 @@ use Rattle.packet_filter.specs.Text.{is_space}
 use Rattle.packet_filter.specs.declared.expected.Expected.{Expected}
 use Rattle.packet_filter.specs.declared.reading.FilterError.{FilterError}
 use Rattle.packet_filter.specs.declared.reading.FilterError.TheVariants.{Unexpected}
+use Rattle.ipcap.specs.declared.arguments.Arguments.{Arguments}
 use Rattle.ipcap.specs.declared.request.Mode.{Mode}
 use Rattle.ipcap.specs.declared.request.Mode.TheVariants.{Count, Lines, Packets, Quiet}
 
@@ -61,6 +62,10 @@ IsGiven matches id = one_text (found_of matches) id ≡ Some (codes "true")
 abbrev pub IsLeftOut : ArgMatches → List ℕ → Type 0
 IsLeftOut matches id = (one_text (found_of matches) id ≡ Some (codes "false"))
     ⊎ (one_text (found_of matches) id ≡ None)
+
+-- whether it is
+abbrev pub IsFlag : ArgMatches → List ℕ → Bool → Type 0
+IsFlag matches id is = (IsGiven matches id → IsTrue is) × (IsLeftOut matches id → IsFalse is)
 
 -- an option with a value is given
 abbrev pub has_value : ArgMatches → List ℕ → Bool
@@ -122,3 +127,12 @@ pub record HasLongText (matches : ArgMatches) : Type 0 where
   pub text : List ℕ
   pub reads : ReadsWords matches input text
   pub long : 4096 < length text
+
+-- what the arguments are that a command line gives
+pub record IsArguments (matches : ArgMatches) (arguments : Arguments) : Type 0 where
+  pub mode : IsModeOf matches arguments.mode
+  pub utc : IsFlag matches (codes "utc") arguments.is_utc
+  pub reassembles : IsFlag matches (codes "reassemble") arguments.reassembles
+  pub limit : IsLimit (one_text (found_of matches) (codes "limit")) arguments.limit
+  pub output : text_of arguments.output ≡ first_value (found_of matches) (codes "write")
+  pub input : ReadsWords matches (text_of arguments.input) arguments.text.items

@@ -8,6 +8,7 @@ pub mod Listing
 pub mod Options
 pub mod Output
 pub mod Private
+pub mod Program
 pub mod Reading
 pub mod Reassembled
 pub mod Refusal

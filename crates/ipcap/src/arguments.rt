@@ -3,7 +3,7 @@
 ghost use Rattle.std.specs.Prelude.{◌≡◌, ◌<◌, ◌≤◌, ◌++◌, ◌↔◌, IfOk, IsFalse, IsOk, IsTrue, OnErr, OnOk};
 ghost use Rattle.std.specs.Prelude.{List, [], codes, false, length, true};
 ghost use Rattle.clap.specs.Words.{Rule, app_of, first_value, found_of, one_text, rule_of};
-ghost use Rattle.ipcap.specs.Arguments.{BeginsExpression, HasLongText, IsGiven, IsLeftOut, IsLimit};
+ghost use Rattle.ipcap.specs.Arguments.{BeginsExpression, HasLongText, IsFlag, IsLimit};
 ghost use Rattle.ipcap.specs.Arguments.{IsModeOf, NamesFile, NamesInput, ReadsWords, joined};
 ghost use Rattle.ipcap.specs.Arguments.{text_of, texts_of, words_after};
 ghost use Rattle.ipcap.specs.Options.{app_with, exclusions, exclusions_of, exclusions_of_flags, flag};
@@ -190,11 +190,9 @@ impl<'a> Arguments<'a> {
     /// `TooLong` if the expression has more than 4096 bytes.
     pub fn from_matches(matches: &ArgMatches<'a>) -> Result<Arguments<'a>, TooLong>
         ensures mode { IfOk result (λ a. IsModeOf matches.now a.mode) }
-        ensures utc { IfOk result (λ a. (IsGiven matches.now (codes "utc") → IsTrue a.is_utc)
-            × (IsLeftOut matches.now (codes "utc") → IsFalse a.is_utc)) }
+        ensures utc { IfOk result (λ a. IsFlag matches.now (codes "utc") a.is_utc) }
         ensures reassembles { IfOk result (λ a.
-            (IsGiven matches.now (codes "reassemble") → IsTrue a.reassembles)
-            × (IsLeftOut matches.now (codes "reassemble") → IsFalse a.reassembles)) }
+            IsFlag matches.now (codes "reassemble") a.reassembles) }
         ensures limit { IfOk result (λ a.
             IsLimit (one_text (found_of matches.now) (codes "limit")) a.limit) }
         ensures output { IfOk result (λ a.

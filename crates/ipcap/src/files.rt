@@ -2,28 +2,29 @@
 
 ghost use Rattle.std.specs.Prelude.{◌≡◌, IfOk, IsOk, IsTrue};
 ghost use Rattle.ipcap.specs.Arguments.{is_standard, text_of};
-ghost use Rattle.ipcap.specs.Files.{reads_standard, writes_standard};
+ghost use Rattle.ipcap.specs.Files.{of_reader, of_writer, reads_standard, writes_standard};
 
 use std::fs::File;
 use std::io;
 use std::io::{Read, Stdin, Stdout, Write};
 
-/// What a capture is read from.
+/// What a capture is read from. A contract can name what it gives, for other types than those of
+/// standard input and a file.
 #[derive(Drop)]
-pub enum Reader {
+pub enum Reader<S, F> {
     /// Standard input.
-    Standard(Stdin),
+    Standard(S),
     /// A file.
-    File(File),
+    File(F),
 }
 
-impl Reader {
+impl Reader<Stdin, File> {
     /// Opens the file with this name. `-` and no name are standard input.
     ///
     /// # Errors
     ///
     /// The system's reason why the file cannot be opened.
-    pub fn open(rt: &HostRuntime, name: Option<&str>) -> io::Result<Reader>
+    pub fn open(rt: &HostRuntime, name: Option<&str>) -> io::Result<Reader<Stdin, File>>
         ensures standard { IsTrue (is_standard (text_of name.entry)) → IsOk result }
         ensures stream { IfOk result (λ reader.
             reads_standard reader ≡ is_standard (text_of name.entry)) }
@@ -35,7 +36,9 @@ impl Reader {
     }
 }
 
-impl Read for Reader {
+impl<S: Read, F: Read> Read for Reader<S, F> {
+    ghost remaining = { λ reader. of_reader S.remaining F.remaining reader };
+
     fn read(&mut self, buf: &mut [u8]) -> io::Result<usize> {
         match self {
             Reader::Standard(stdin) => stdin.read(buf),
@@ -44,22 +47,22 @@ impl Read for Reader {
     }
 }
 
-/// What lines and packets are written to.
+/// What lines and packets are written to. A contract can name what it has, likewise.
 #[derive(Drop)]
-pub enum Writer {
+pub enum Writer<S, F> {
     /// Standard output.
-    Standard(Stdout),
+    Standard(S),
     /// A file.
-    File(File),
+    File(F),
 }
 
-impl Writer {
+impl Writer<Stdout, File> {
     /// Makes the file with this name, or empties it. `-` and no name are standard output.
     ///
     /// # Errors
     ///
     /// The system's reason why the file cannot be made.
-    pub fn create(rt: &HostRuntime, name: Option<&str>) -> io::Result<Writer>
+    pub fn create(rt: &HostRuntime, name: Option<&str>) -> io::Result<Writer<Stdout, File>>
         ensures standard { IsTrue (is_standard (text_of name.entry)) → IsOk result }
         ensures stream { IfOk result (λ writer.
             writes_standard writer ≡ is_standard (text_of name.entry)) }
@@ -71,7 +74,9 @@ impl Writer {
     }
 }
 
-impl Write for Writer {
+impl<S: Write, F: Write> Write for Writer<S, F> {
+    ghost contents = { λ writer. of_writer S.contents F.contents writer };
+
     fn write(&mut self, buf: &[u8]) -> io::Result<usize> {
         match self {
             Writer::Standard(stdout) => stdout.write(buf),

@@ -1,10 +1,8 @@
 //! What a run is asked for.
 
-ghost use Rattle.std.specs.Prelude.{◌≡◌, IfErr, IfOk, IsFalse, IsTrue, MatchOption};
-ghost use Rattle.std.specs.List.{list_all};
-ghost use Rattle.packet_filter.specs.Language.{IsText, Refuses};
-ghost use Rattle.packet_filter.specs.Program.{expression_of};
+ghost use Rattle.std.specs.Prelude.{◌≡◌, IfErr, IfOk};
 ghost use Rattle.packet_filter.specs.Text.{is_space};
+ghost use Rattle.ipcap.specs.Request.{IsFilter, IsNoFilter};
 
 use packet_filter::{Filter, FilterError};
 
@@ -58,10 +56,8 @@ impl Request {
 
 /// The filter that a text is; `None` if it has no word.
 pub fn read_filter(text: &[u8]) -> Result<Option<Filter>, FilterError>
-    ensures read { IfOk result (λ filter. MatchOption filter (IsTrue (list_all is_space text.now))
-        (λ filter. IsText text.now (expression_of filter))) }
-    ensures refused { IfErr result (λ e. Refuses text.now e
-        × IsFalse (list_all is_space text.now)) }
+    ensures read { IfOk result (IsFilter text.now) }
+    ensures refused { IfErr result (IsNoFilter text.now) }
 {
     if text.iter().all(|byte| is_space(*byte)) {
         return Ok(None);

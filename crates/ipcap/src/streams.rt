@@ -1,8 +1,9 @@
 //! What a run reads from and writes to, and whether one of their calls has failed.
 
 ghost use Rattle.std.specs.Prelude.{◌≡◌, ◌<◌, ◌⊎◌, ℕ, List, [], IfOk, IfSome, Option, OnErr, OnOk};
-ghost use Rattle.std.specs.Prelude.{IfErr, IsSome, None, Some, length};
+ghost use Rattle.std.specs.Prelude.{◌≢◌, IfErr, IsSome, None, Some, length};
 ghost use Rattle.std.specs.Io.{ReadsAtMost, WritesAtMost};
+ghost use Rattle.std.specs.IoError.{error_kind};
 ghost use Rattle.std.specs.declared.io.Error.{Error};
 ghost use Rattle.std.specs.Io.KnownBytes.{Keeps, ReadConsumes, WriteAppends};
 
@@ -38,6 +39,10 @@ pub trait Source {
         ensures failed { OnErr result (has_failed self.new) }
         ensures why { IfErr result (λ e. why_failed self.new ≡ Some e) }
         ensures unfailed { OnOk result (has_failed self.new → has_failed self.old) };
+
+    /// Why the last read that failed did so; `None` if none has failed.
+    fn failure(&self) -> Option<io::Error>
+        ensures { result ≡ why_failed self.now };
 }
 
 /// What a run writes to.
@@ -51,11 +56,13 @@ pub trait Sink {
     // Why the last of these calls that failed did so.
     ghost why_failed: { Self → Option Error };
 
-    /// Writes once, as `Write::write` does, but takes at least one byte if there are any.
+    /// Writes once, as `Write::write` does, but takes at least one byte if there are any, and tries
+    /// again if a signal interrupts it.
     fn write(&mut self, bytes: &[u8]) -> io::Result<usize>
         ensures bound { WritesAtMost result bytes.now }
         ensures bytes { WriteAppends (contents self.old) (contents self.new) result bytes.now }
         ensures some { IfOk result (λ n. 0 < length bytes.now → 0 < n) }
+        ensures retried { IfErr result (λ e. error_kind e ≢ ErrorKind.Interrupted) }
         ensures failed { OnErr result (has_failed self.new) }
         ensures why { IfErr result (λ e. why_failed self.new ≡ Some e) };
 
@@ -66,6 +73,10 @@ pub trait Sink {
         ensures kept { Keeps (contents self.old) (contents self.new) }
         ensures failed { OnErr result (has_failed self.new) }
         ensures why { IfErr result (λ e. why_failed self.new ≡ Some e) };
+
+    /// Why the last of these calls that failed did so; `None` if none has failed.
+    fn failure(&self) -> Option<io::Error>
+        ensures { result ≡ why_failed self.now };
 }
 
 /// A reader or a writer, and why one of its calls has failed.
@@ -85,13 +96,6 @@ impl<T> Watched<T> {
             failure: None,
         }
     }
-
-    /// Why its last call that failed did so; `None` if none has failed.
-    pub fn failure(&self) -> Option<io::Error>
-        ensures value { result ≡ self.now.failure }
-    {
-        self.failure
-    }
 }
 
 impl<R: Read> Source for Watched<R> {
@@ -109,6 +113,10 @@ impl<R: Read> Source for Watched<R> {
                 Err(e)
             }
         }
+    }
+
+    fn failure(&self) -> Option<io::Error> {
+        self.failure
     }
 }
 
@@ -146,5 +154,9 @@ impl<W: Write> Sink for Watched<W> {
                 Err(e)
             }
         }
+    }
+
+    fn failure(&self) -> Option<io::Error> {
+        self.failure
     }
 }

@@ -1,5 +1,4 @@
-use Rattle.std.proofs.Common.{ℕ, ◌≡◌, ◌-◌, ◌++◌, ◌≤◌, List, [], ap, false, refl, sym, ◌∙◌, arith, append_assoc, drop, length, length-append, take, take-append-drop}
-use Rattle.std.proofs.Math.Seq.{drop-append_seam, take-append_seam}
+use Rattle.std.proofs.Common.{◌≡◌, ◌-◌, ◌++◌, ◌≤◌, [], ap, false, refl, sym, ◌∙◌, arith, append_assoc, length, length-append, take, take-append-drop}
 use Rattle.std.proofs.lemmas.Result.{err_from_is_err_and}
 use Rattle.packet_capture.specs.Any.{BeginsWith, said}
 use Rattle.packet_capture.proofs.AnyFronts.{begins_with-front}
@@ -10,13 +9,6 @@ use Rattle.ipcap.specs.declared.place.Place.{Place}
 use Rattle.ipcap.proofs.Frames.{frame_short}
 use Rattle.ipcap.proofs.Runs.{front_after, front_of_nothing, long_record, rest_of, same_head, same_most, tells_both, tells_nothing, told_long, told_one}
 use Rattle.ipcap.proofs.request.Request.list_front.Goals as goal
-
--- what was taken is the data but for its rest
-taken_is : (u t r : List ℕ) → u ≡ t ++ r → t ≡ take (length u - length r) u
-taken_is u t r e = let len : length u - length r ≡ length t = omega (arith, ap length e, length-append t r) in rw (len, e) (sym (take-append_seam t r))
-
-rest_is : (u t r : List ℕ) → u ≡ t ++ r → r ≡ drop (length u - length r) u
-rest_is u t r e = let len : length u - length r ≡ length t = omega (arith, ap length e, length-append t r) in rw (len, e) (sym (drop-append_seam t r))
 
 pub fronts-init : goal.fronts-init
 fronts-init g c = record { most = c.max_len-most.ensures.value; taken = []; whole = refl; tells = tells_nothing _ _ _ _ }
