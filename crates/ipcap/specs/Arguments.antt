@@ -1,7 +1,7 @@
 -- The words of the command line.
 use Rattle.std.specs.Prelude.{ℕ, ◌≡◌, ◌<◌, ◌^◌, ◌⊎◌, ◌++◌, ◌∷◌, Bool, IsTrue, List, [], codes}
-use Rattle.std.specs.Prelude.{IsFalse, None, Option, Some, false, if◌then◌else◌, length, map, option_map}
-use Rattle.std.specs.Prelude.{take, true, unwrap_or}
+use Rattle.std.specs.Prelude.{None, Option, Some, false, if◌then◌else◌, length, map, option_map}
+use Rattle.std.specs.Prelude.{IsFalse, take, true, unwrap_or}
 use Rattle.std.specs.Borrow.{Bor}
 use Rattle.std.specs.List.{cons_option, list_all}
 use Rattle.std.specs.Option.{is_some}
