@@ -115,14 +115,18 @@ def contracts(file, text):
     return found
 
 
+# Where a definition begins, also in a module with parameters, whose definitions are indented.
+BETWEEN = re.compile(r'\n(?=(?:\w+ )?pub | +(?:abbrev pub|pub record|pub data) )')
+
+
 def definitions():
     """the parts of each definition in `specs`, and the words in it"""
     found = {}
     for file, text in SPECS.items():
-        for block in re.split(r'\n(?=(?:\w+ )?pub )', text) if 'specs' in file.parts else ():
-            if head := re.match(r'(?:\w+ )?pub (?:record |data )?([\w-]+)', block):
+        for block in BETWEEN.split(text) if 'specs' in file.parts else ():
+            if head := re.match(r' *(?:\w+ )?pub (?:record |data )?([\w-]+)', block):
                 parts, words = found.setdefault(head.group(1), (set(), set()))
-                parts.update(re.findall(r'^  (?:pub )?(\w+) :', block, re.M))
+                parts.update(re.findall(r'^ +(?:pub )?(\w+) :', block, re.M))
                 words.update(re.findall(r'[\w-]+', block))
     return found
 
