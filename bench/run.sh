@@ -37,7 +37,7 @@ done
 # The proved library, and the loops in Rattle: in a repository of their own, since no proof of the library needs the loops. What
 # was proved here before is taken over, and kept for the next time.
 room=$out/room
-crates='etherparse_base etherparse_fields etherparse etherparse_net packet_parts etherparse_transport etherparse_link packet_links packet etherparse_c'
+crates=$("$here/../crates/etherparse_c/below.sh")
 for crate in $crates; do
   mkdir -p "$room/crates/$crate"
   for part in src specs proofs; do
