@@ -2,24 +2,8 @@
  * numbers, walks and texts. What a call returns is a clause in src/; this tests the way through the header file. */
 
 #include "etherparse.h"
+#include "compare.h"
 
-#include <stdio.h>
-#include <string.h>
-
-static int right = 0;
-static int wrong = 0;
-
-static void compare(int line, const char *call, uint64_t found, uint64_t expected)
-{
-    if (found == expected) {
-        right++;
-    } else {
-        wrong++;
-        printf("etherparse.c:%d: %s is %llu, and not %llu\n", line, call, (unsigned long long)found, (unsigned long long)expected);
-    }
-}
-
-#define EXPECT(call, expected) compare(__LINE__, #call, (uint64_t)(call), expected)
 #define EXPECT_BYTES(found, expected, len) compare(__LINE__, #found, memcmp(found, expected, len) == 0, 1)
 
 /* The kind of an error, its number, the two lengths, the place and the limit. */

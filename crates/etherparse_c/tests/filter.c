@@ -3,24 +3,7 @@
  * and on such ones libpcap 1.10.3 chooses the same for the same expressions. Places of refusals are counted in the text. */
 
 #include "etherparse_filter.h"
-
-#include <stdio.h>
-#include <string.h>
-
-static int right = 0;
-static int wrong = 0;
-
-static void compare(int line, const char *call, uint64_t found, uint64_t expected)
-{
-    if (found == expected) {
-        right++;
-    } else {
-        wrong++;
-        printf("filter.c:%d: %s is %llu, and not %llu\n", line, call, (unsigned long long)found, (unsigned long long)expected);
-    }
-}
-
-#define EXPECT(call, expected) compare(__LINE__, #call, (uint64_t)(call), expected)
+#include "compare.h"
 
 enum { COUNT = 5 };
 

@@ -3,24 +3,8 @@
  * call returns is a clause in src/; this tests the way through the header file. */
 
 #include "etherparse_reassembly.h"
+#include "compare.h"
 
-#include <stdio.h>
-#include <string.h>
-
-static int right = 0;
-static int wrong = 0;
-
-static void compare(int line, const char *call, uint64_t found, uint64_t expected)
-{
-    if (found == expected) {
-        right++;
-    } else {
-        wrong++;
-        printf("reassembly.c:%d: %s is %llu, and not %llu\n", line, call, (unsigned long long)found, (unsigned long long)expected);
-    }
-}
-
-#define EXPECT(call, expected) compare(__LINE__, #call, (uint64_t)(call), expected)
 #define EXPECT_BYTES(found, expected, len) compare(__LINE__, #found, memcmp(found, expected, len) == 0, 1)
 
 /* The kind of an error, its offset and its length. */

@@ -2,24 +2,8 @@
  * RFC 1071; what a call returns is a clause in src/, and this tests the way through the header file. */
 
 #include "etherparse_rewriting.h"
+#include "compare.h"
 
-#include <stdio.h>
-#include <string.h>
-
-static int right = 0;
-static int wrong = 0;
-
-static void compare(int line, const char *call, uint64_t found, uint64_t expected)
-{
-    if (found == expected) {
-        right++;
-    } else {
-        wrong++;
-        printf("rewriting.c:%d: %s is %llu, and not %llu\n", line, call, (unsigned long long)found, (unsigned long long)expected);
-    }
-}
-
-#define EXPECT(call, expected) compare(__LINE__, #call, (uint64_t)(call), expected)
 #define EXPECT_BYTES(found, digits) expect_bytes(__LINE__, found, sizeof(found), digits)
 
 /* The bytes that hex digits spell; returns how many. */
