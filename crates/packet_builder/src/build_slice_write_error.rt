@@ -1,7 +1,7 @@
 //! Why a packet is not written.
 
 ghost use Rattle.std.specs.Prelude.{Some};
-ghost use Rattle.packet_builder.specs.ErrorText.{write_error_text};
+ghost use Rattle.packet_builder.specs.ErrorText.{text_in_any_style, write_error_text};
 
 use etherparse::err::ValueTooBigError;
 use std::fmt;
@@ -20,11 +20,14 @@ pub enum BuildSliceWriteError {
 impl fmt::Display for BuildSliceWriteError {
     ghost output = { λ error. Some (write_error_text error) };
 
+    // A width, a precision or a flag changes nothing; of a text with a number that is not said.
+    ghost styled_output = { λ error _. text_in_any_style error };
+
     fn fmt<W: fmt::Write>(&self, f: &mut fmt::Formatter<W>) -> fmt::Result {
         match self {
             BuildSliceWriteError::PayloadLen(e) => fmt::Display::fmt(e, f),
             BuildSliceWriteError::Icmpv6InIpv4 => {
-                write!(f, "A message of ICMPv6 cannot follow an IPv4 header.")
+                f.write_str("A message of ICMPv6 cannot follow an IPv4 header.")
             }
             BuildSliceWriteError::Space(required_len) => {
                 let required_len = *required_len;
