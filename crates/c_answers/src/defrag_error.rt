@@ -26,7 +26,7 @@ pub const PACKET_TOO_LONG: u32 = 8;
 
 /// Why a call refused. Each number that a kind does not have is 0.
 #[repr(C)]
-#[derive(Drop, Default)]
+#[derive(Drop)]
 pub struct DefragError {
     /// 0 if nothing was refused.
     pub kind: u32,

@@ -52,7 +52,7 @@ fn choose_each_of(
 {
     let count = frames.len().min(answers.len());
     for i in 0..count {
-        let frame = frames[i];
+        let frame = &frames[i];
         answers[i] = filter.matches_frame(link_type, frame.bytes, frame.original_len);
     }
     count

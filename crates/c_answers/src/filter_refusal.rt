@@ -28,7 +28,7 @@ const TOO_LONG: u32 = 5;
 
 /// Why a text is no filter, as numbers; each number that its kind does not have is 0.
 #[repr(C)]
-#[derive(Clone, Copy)]
+#[derive(Drop)]
 pub struct FilterRefusal {
     /// Where the word begins that the refusal is about, in bytes from the start of the text; of kind
     /// 4 the end of the text.

@@ -70,7 +70,7 @@ pub fn strict_from_ether_type(ether_type: u16, bytes: &[u8], checksums: bool, an
 
 /// A frame of a list.
 #[repr(C)]
-#[derive(Clone, Copy)]
+#[derive(Drop)]
 pub struct Frame<'a> {
     /// What there is of it.
     pub bytes: &'a [u8],

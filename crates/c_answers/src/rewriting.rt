@@ -37,7 +37,7 @@ pub const VALUE_TOO_BIG: u32 = 12;
 
 /// A checksum, or why there is none.
 #[repr(C)]
-#[derive(Default, Drop)]
+#[derive(Drop)]
 pub struct ChecksumAnswer {
     /// The number of the error, or 0.
     pub error: u32,
@@ -47,7 +47,7 @@ pub struct ChecksumAnswer {
 
 /// How far the change of an address reaches, or why nothing is changed.
 #[repr(C)]
-#[derive(Default, Drop)]
+#[derive(Drop)]
 pub struct ReachAnswer {
     /// The number of the error, or 0.
     pub error: u32,
