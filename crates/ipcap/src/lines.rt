@@ -52,31 +52,32 @@ fn keyword(number: u8) -> Option<&'static str>
     ensures value { MatchOption result (keyword_of number ≡ None)
         (λ keyword. keyword_of number ≡ Some keyword.now) }
 {
-    match number {
-        1 => Some("ICMP"),
-        2 => Some("IGMP"),
-        4 => Some("IPv4"),
-        6 => Some("TCP"),
-        17 => Some("UDP"),
-        41 => Some("IPv6"),
-        46 => Some("RSVP"),
-        47 => Some("GRE"),
-        50 => Some("ESP"),
-        51 => Some("AH"),
-        58 => Some("IPv6-ICMP"),
-        59 => Some("IPv6-NoNxt"),
-        88 => Some("EIGRP"),
-        89 => Some("OSPFIGP"),
-        94 => Some("IPIP"),
-        103 => Some("PIM"),
-        108 => Some("IPComp"),
-        112 => Some("VRRP"),
-        115 => Some("L2TP"),
-        132 => Some("SCTP"),
-        136 => Some("UDPLite"),
-        137 => Some("MPLS-in-IP"),
-        _ => None,
-    }
+    let keyword = match number {
+        1 => "ICMP",
+        2 => "IGMP",
+        4 => "IPv4",
+        6 => "TCP",
+        17 => "UDP",
+        41 => "IPv6",
+        46 => "RSVP",
+        47 => "GRE",
+        50 => "ESP",
+        51 => "AH",
+        58 => "IPv6-ICMP",
+        59 => "IPv6-NoNxt",
+        88 => "EIGRP",
+        89 => "OSPFIGP",
+        94 => "IPIP",
+        103 => "PIM",
+        108 => "IPComp",
+        112 => "VRRP",
+        115 => "L2TP",
+        132 => "SCTP",
+        136 => "UDPLite",
+        137 => "MPLS-in-IP",
+        _ => return None,
+    };
+    Some(keyword)
 }
 
 /// The line of a record.
@@ -240,34 +241,35 @@ impl fmt::Display for NoPacket {
 fn write_carried<W: fmt::Write>(f: &mut Formatter<W>, carried: Carried) -> fmt::Result
     ensures text { DisplaysOnOk W.write_str_gives f.old result (Some (carried_text carried)) f.new }
 {
-    match carried {
+    let words = match carried {
         Carried::EtherType(number) => {
             let number = Hex(number);
-            write!(f, "type 0x{number}")
+            return write!(f, "type 0x{number}");
         }
         Carried::PppProtocol(number) => {
             let number = Hex(number);
-            write!(f, "protocol 0x{number}")
+            return write!(f, "protocol 0x{number}");
         }
         Carried::Nlpid(number) => {
             let number = HexByte(number);
-            write!(f, "NLPID 0x{number}")
+            return write!(f, "NLPID 0x{number}");
         }
         Carried::Llc(dsap) => {
             let dsap = HexByte(dsap);
-            write!(f, "LLC 0x{dsap}")
+            return write!(f, "LLC 0x{dsap}");
         }
-        Carried::Ip => f.write_str("IP"),
-        Carried::Snap => f.write_str("SNAP"),
-        Carried::Management => f.write_str("management frame"),
-        Carried::Control => f.write_str("control frame"),
-        Carried::Extension => f.write_str("extension frame"),
-        Carried::NoData => f.write_str("no data"),
-        Carried::Encrypted => f.write_str("encrypted"),
-        Carried::LaterFragment => f.write_str("later fragment"),
-        Carried::Aggregate => f.write_str("aggregate"),
-        Carried::Unknown => f.write_str("unknown link header"),
-    }
+        Carried::Ip => "IP",
+        Carried::Snap => "SNAP",
+        Carried::Management => "management frame",
+        Carried::Control => "control frame",
+        Carried::Extension => "extension frame",
+        Carried::NoData => "no data",
+        Carried::Encrypted => "encrypted",
+        Carried::LaterFragment => "later fragment",
+        Carried::Aggregate => "aggregate",
+        Carried::Unknown => "unknown link header",
+    };
+    f.write_str(words)
 }
 
 // A number in two hex digits.
@@ -384,11 +386,12 @@ impl fmt::Display for HeaderVerdict {
     ghost output = { λ verdict. Some (header_verdict_text verdict.0) };
 
     fn fmt<W: fmt::Write>(&self, f: &mut Formatter<W>) -> fmt::Result {
-        match self.0 {
-            Some(true) => f.write_str("right"),
-            Some(false) => f.write_str("wrong"),
-            None => f.write_str("none"),
-        }
+        let verdict = match self.0 {
+            Some(true) => "right",
+            Some(false) => "wrong",
+            None => "none",
+        };
+        f.write_str(verdict)
     }
 }
 
@@ -589,17 +592,18 @@ fn packed_as(magic: u32) -> Option<&'static str>
     ensures value { MatchOption result (packed_as magic ≡ None)
         (λ packed. packed_as magic ≡ Some packed.now) }
 {
-    if magic / 65_536 == 0x1f8b {
-        Some("gzip: zcat FILE | ipcap")
+    let packed = if magic / 65_536 == 0x1f8b {
+        "gzip: zcat FILE | ipcap"
     } else if magic == 0x28b5_2ffd {
-        Some("zstd: zstdcat FILE | ipcap")
+        "zstd: zstdcat FILE | ipcap"
     } else if magic == 0xfd37_7a58 {
-        Some("xz: xzcat FILE | ipcap")
+        "xz: xzcat FILE | ipcap"
     } else if magic / 256 == 0x42_5a68 {
-        Some("bzip2: bzcat FILE | ipcap")
+        "bzip2: bzcat FILE | ipcap"
     } else {
-        None
-    }
+        return None;
+    };
+    Some(packed)
 }
 
 /// The line on a capture with a link type that is not read.
@@ -636,49 +640,50 @@ impl fmt::Display for Name {
 fn link_type_name(number: u32) -> Option<&'static str>
     ensures value { option_map (λ text. text.now) result ≡ link_type_name number }
 {
-    match number {
-        3 => Some("AX25"),
-        6 => Some("IEEE802_5"),
-        7 => Some("ARCNET_BSD"),
-        10 => Some("FDDI"),
-        51 => Some("PPP_ETHER"),
-        100 => Some("ATM_RFC1483"),
-        117 => Some("PFLOG"),
-        119 => Some("IEEE802_11_PRISM"),
-        122 => Some("IP_OVER_FC"),
-        123 => Some("SUNATM"),
-        138 => Some("APPLE_IP_OVER_IEEE1394"),
-        139 => Some("MTP2_WITH_PHDR"),
-        140 => Some("MTP2"),
-        141 => Some("MTP3"),
-        142 => Some("SCCP"),
-        143 => Some("DOCSIS"),
-        147 => Some("USER0"),
-        163 => Some("IEEE802_11_AVS"),
-        165 => Some("BACNET_MS_TP"),
-        166 => Some("PPP_PPPD"),
-        177 => Some("LINUX_LAPD"),
-        187 => Some("BLUETOOTH_HCI_H4"),
-        189 => Some("USB_LINUX"),
-        192 => Some("PPI"),
-        195 => Some("IEEE802_15_4_WITHFCS"),
-        197 => Some("ERF"),
-        201 => Some("BLUETOOTH_HCI_H4_WITH_PHDR"),
-        204 => Some("PPP_WITH_DIR"),
-        215 => Some("IEEE802_15_4_NONASK_PHY"),
-        220 => Some("USB_LINUX_MMAPPED"),
-        227 => Some("CAN_SOCKETCAN"),
-        230 => Some("IEEE802_15_4_NOFCS"),
-        239 => Some("NFLOG"),
-        243 => Some("MPEG_2_TS"),
-        247 => Some("INFINIBAND"),
-        249 => Some("USBPCAP"),
-        251 => Some("BLUETOOTH_LE_LL"),
-        252 => Some("WIRESHARK_UPPER_PDU"),
-        253 => Some("NETLINK"),
-        256 => Some("BLUETOOTH_LE_LL_WITH_PHDR"),
-        272 => Some("NORDIC_BLE"),
-        283 => Some("IEEE802_15_4_TAP"),
-        _ => None,
-    }
+    let name = match number {
+        3 => "AX25",
+        6 => "IEEE802_5",
+        7 => "ARCNET_BSD",
+        10 => "FDDI",
+        51 => "PPP_ETHER",
+        100 => "ATM_RFC1483",
+        117 => "PFLOG",
+        119 => "IEEE802_11_PRISM",
+        122 => "IP_OVER_FC",
+        123 => "SUNATM",
+        138 => "APPLE_IP_OVER_IEEE1394",
+        139 => "MTP2_WITH_PHDR",
+        140 => "MTP2",
+        141 => "MTP3",
+        142 => "SCCP",
+        143 => "DOCSIS",
+        147 => "USER0",
+        163 => "IEEE802_11_AVS",
+        165 => "BACNET_MS_TP",
+        166 => "PPP_PPPD",
+        177 => "LINUX_LAPD",
+        187 => "BLUETOOTH_HCI_H4",
+        189 => "USB_LINUX",
+        192 => "PPI",
+        195 => "IEEE802_15_4_WITHFCS",
+        197 => "ERF",
+        201 => "BLUETOOTH_HCI_H4_WITH_PHDR",
+        204 => "PPP_WITH_DIR",
+        215 => "IEEE802_15_4_NONASK_PHY",
+        220 => "USB_LINUX_MMAPPED",
+        227 => "CAN_SOCKETCAN",
+        230 => "IEEE802_15_4_NOFCS",
+        239 => "NFLOG",
+        243 => "MPEG_2_TS",
+        247 => "INFINIBAND",
+        249 => "USBPCAP",
+        251 => "BLUETOOTH_LE_LL",
+        252 => "WIRESHARK_UPPER_PDU",
+        253 => "NETLINK",
+        256 => "BLUETOOTH_LE_LL_WITH_PHDR",
+        272 => "NORDIC_BLE",
+        283 => "IEEE802_15_4_TAP",
+        _ => return None,
+    };
+    Some(name)
 }
