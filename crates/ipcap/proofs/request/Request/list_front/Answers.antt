@@ -1,4 +1,5 @@
 use Rattle.std.proofs.Common.{◌≡◌, ◌-◌, ◌++◌, ◌≤◌, [], ap, false, refl, sym, ◌∙◌, arith, append_assoc, length, length-append, take, take-append-drop}
+use Rattle.std.proofs.lemmas.Grind.{common_steps}
 use Rattle.std.proofs.lemmas.Result.{err_from_is_err_and}
 use Rattle.packet_capture.specs.Any.{BeginsWith, said}
 use Rattle.packet_capture.proofs.AnyFronts.{begins_with-front}
@@ -13,19 +14,19 @@ use Rattle.ipcap.proofs.request.Request.list_front.Goals as goal
 pub fronts-init : goal.fronts-init
 fronts-init g c = record { most = c.max_len-most.ensures.value; taken = []; whole = refl; tells = tells_nothing _ _ _ _ }
 
-pub returns-in_err-list_too_long-clause-failed : goal.returns-in_err-list_too_long-clause-failed
-returns-in_err-list_too_long-clause-failed g c =
+pub returns-in_err-list_too_long : goal.returns-in_err-list_too_long
+returns-in_err-list_too_long g c =
     let was = c.fronts.invariant in
     let p = err_from_is_err_and c.from_residual.result c.from_residual.ensures.1 in
     let failed = c.in_err-list_too_long.ensures in
-    rw (p.1, p.2, was.whole) (front_after _ _ _ _ _ _ _ _ _ _ _ _ was.tells (front_of_nothing _ _ _ _ ⊥ c.fronts.place _ c.fronts.rest.now _ _ failed.kept failed.failed))
+    rw p.1 (record { failed = rw (p.2, was.whole) (front_after _ _ _ _ _ _ _ _ _ _ _ _ was.tells (front_of_nothing _ _ _ _ ⊥ c.fronts.place _ c.fronts.rest.now _ _ failed.kept failed.failed)); rest = tt; stops = tt; told = tt })
 
-pub returns-in_err-list_block-clause-failed : goal.returns-in_err-list_block-clause-failed
-returns-in_err-list_block-clause-failed g c =
+pub returns-in_err-list_block : goal.returns-in_err-list_block
+returns-in_err-list_block g c =
     let was = c.fronts.invariant in
     let p = err_from_is_err_and c.from_residual-in_err-list_block.result c.from_residual-in_err-list_block.ensures.1 in
     let failed = c.in_err-list_block.ensures in
-    rw (p.1, p.2, was.whole) (front_after _ _ _ _ _ _ _ _ _ _ _ _ was.tells (front_of_nothing _ _ _ _ ⊥ c.fronts.place _ c.fronts.rest.now _ _ failed.kept failed.failed))
+    rw p.1 (record { failed = rw (p.2, was.whole) (front_after _ _ _ _ _ _ _ _ _ _ _ _ was.tells (front_of_nothing _ _ _ _ ⊥ c.fronts.place _ c.fronts.rest.now _ _ failed.kept failed.failed)); rest = tt; stops = tt; told = tt })
 
 pub fronts-preserved : goal.fronts-preserved
 fronts-preserved g c =
@@ -73,3 +74,12 @@ list_block-requires-clause-short g c =
     let rest = c.fronts.rest.now in
     let within : length rest ≤ 327680 = omega (arith, ap length c.fronts.invariant.whole, length-append c.fronts.invariant.taken rest, c.requires.room) in
     frame_short c.fronts.place.capture rest _ _ c.in-Ok-Some.next.1.now within (rw c.in-Ok-Some.field-0-is at c.in-Ok-Some.ensures.reads)
+
+pub returns-then-has_enough : goal.returns-then-has_enough
+returns-then-has_enough g c = record { failed = tt; rest = grind (arith, common_steps); stops = grind (arith, common_steps); told = grind (arith, common_steps) }
+
+pub returns-in-Ok-None : goal.returns-in-Ok-None
+returns-in-Ok-None g c = record { failed = tt; rest = grind (arith, common_steps); stops = grind (arith, common_steps); told = grind (arith, common_steps) }
+
+pub returns-in-Err-CutOff : goal.returns-in-Err-CutOff
+returns-in-Err-CutOff g c = record { failed = tt; rest = grind (arith, common_steps); stops = grind (arith, common_steps); told = grind (arith, common_steps) }
