@@ -1,4 +1,4 @@
-/* What the programs that compare the libraries for C with a reference have in common (inputs.c), and what fuzz.c and packets.c
+/* What the programs that compare the library for C with a reference have in common (inputs.c), and what fuzz.c and packets.c
  * have. */
 
 #ifndef FUZZ_H
