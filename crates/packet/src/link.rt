@@ -187,13 +187,13 @@ fn front(len: usize, frame: &[u8]) -> Result<(&[u8], &[u8]), LinkError>
     ensures refused { IfErr result (λ e. (length frame.now < len)
         × (e ≡ record { required_len = len; len = length frame.now })) }
 {
-    if frame.len() < len {
-        return Err(LinkError {
+    match frame.split_at_checked(len) {
+        Some(parts) => Ok(parts),
+        None => Err(LinkError {
             required_len: len,
             len: frame.len(),
-        });
+        }),
     }
-    Ok((&frame[..len], &frame[len..]))
 }
 
 // The link header of a frame of another framing.

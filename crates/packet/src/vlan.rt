@@ -89,7 +89,7 @@ fn is_tag(ether_type: &Option<EtherType>) -> bool
     ensures value { result ≡ is_tag ether_type.now }
 {
     match ether_type {
-        Some(ether_type) => matches!(ether_type.0, 0x8100 | 0x88a8 | 0x9100),
+        Some(EtherType(number)) => *number == 0x8100 || *number == 0x88a8 || *number == 0x9100,
         None => false,
     }
 }
