@@ -1,6 +1,6 @@
 -- Options, and what they exclude.
 use Rattle.std.proofs.Common.{rules as known, tests, arith, length, ◌==◌, ◌≡◌, ◌∙◌, ap, ap₂, append_assoc, refl, true, false, ℕ, List, [], ◌∷◌, ◌++◌, Bor, map}
-use Rattle.std.proofs.lemmas.Bool.{ne_eqb}
+use Rattle.std.proofs.Math.Bool.{and-true}
 use Rattle.std.proofs.lemmas.List.{map-append}
 use Rattle.clap.specs.Adds.{AddsConflicts}
 use Rattle.clap.specs.Built.{AddsArg}
@@ -11,13 +11,14 @@ use Rattle.clap.specs.declared.builder.arg.Arg.{Arg}
 use Rattle.ipcap.specs.Arguments.{texts_of}
 use Rattle.ipcap.specs.Options.{app_with, excluding, exclusions_of, flags, options}
 
--- one that excludes another
-pub excludes : (old new : Arg) (other first : Bor (List ℕ)) (more : List (Bor (List ℕ))) → AddsConflicts old new (other ∷ []) → old.conflicts.items ++ other ∷ [] ≡ first ∷ more
-    → old.exclusive ≡ false → rule_of new ≡ excluding (rule_of old)
-excludes old new other first more adds all alone =
-    let items : new.conflicts.items ≡ first ∷ more = adds.1 ∙ all in
-    let some : (length new.conflicts.items == 0) ≡ false = rw items (ne_eqb _ _ (λ e. omega (arith, e))) in
-    ap rule_of adds.0 ∙ rw (alone, some) refl
+-- one that excludes others
+pub excludes : (old new : Arg) (others : List (Bor (List ℕ))) (rule : Rule) → rule_of old ≡ rule → rule.is_free ≡ true → (old.conflicts.items ≡ []) × (old.exclusive ≡ false) → AddsConflicts old new others
+    → (rule_of new ≡ record rule { is_free = length others == 0 }) × (new.conflicts.items ≡ others)
+excludes old new others rule is free alone adds =
+    let items : new.conflicts.items ≡ others = adds.1 ∙ ap (λ (before : List (Bor (List ℕ))). before ++ others) alone.0 in
+    let rest = rw (alone.1, alone.0) at (ap (λ (r : Rule). r.is_free) is ∙ free) in
+    let now : rule_of new ≡ record (rule_of old) { is_free = length others == 0 } = ap rule_of adds.0 ∙ rw (alone.1, items, rest, and-true (length others == 0)) refl in
+    (now ∙ ap (λ (r : Rule). record r { is_free = length others == 0 }) is, items)
 
 -- the command with one more
 not_global : (a : Arg) → is_simple_arg a ≡ true → a.global ≡ false
@@ -37,19 +38,8 @@ one_more old new a before others adds was is =
     let own : texts_of (excluded adds.arg) ≡ texts_of others = ap texts_of (adds.rules.conflicts ∙ is) in
     ap (map (λ (arg : Arg). texts_of (excluded arg))) adds.args ∙ (map-append (λ (arg : Arg). texts_of (excluded arg)) (args_of old) (adds.arg ∷ []) ∙ ap₂ (λ (all : List (List (List ℕ))) (x : List (List ℕ)). all ++ x ∷ []) was own)
 
-pub and_one : (old new : Arg) (other : Bor (List ℕ)) (before : List (Bor (List ℕ))) → AddsConflicts old new (other ∷ []) → excluded old ≡ before → excluded new ≡ before ++ other ∷ []
-and_one old new other before adds was = adds.1 ∙ ap (λ (others : List (Bor (List ℕ))). others ++ other ∷ []) was
-
--- one that excludes none does exclude one, and then another
-pub excludes_one : (old new : Arg) (other : Bor (List ℕ)) (rule : Rule) → rule_of old ≡ rule → (old.conflicts.items ≡ []) × (old.exclusive ≡ false) → AddsConflicts old new (other ∷ [])
-    → (rule_of new ≡ excluding rule) × (new.conflicts.items ≡ other ∷ []) × (new.exclusive ≡ false)
-excludes_one old new other rule is alone adds =
-    let all : old.conflicts.items ++ other ∷ [] ≡ other ∷ [] = ap (λ (others : List (Bor (List ℕ))). others ++ other ∷ []) alone.0 in
-    (excludes old new other other [] adds all alone.1 ∙ ap excluding is, adds.1 ∙ all, ap (λ (x : Arg). x.exclusive) adds.0 ∙ alone.1)
-
-pub excludes_more : (old new : Arg) (first other : Bor (List ℕ)) (rule : Rule) → (rule_of old ≡ excluding rule) × (old.conflicts.items ≡ first ∷ []) × (old.exclusive ≡ false)
-    → AddsConflicts old new (other ∷ []) → rule_of new ≡ excluding rule
-excludes_more old new first other rule was adds = excludes old new other first (other ∷ []) adds (ap (λ (others : List (Bor (List ℕ))). others ++ other ∷ []) was.1) was.2 ∙ ap excluding was.0
+pub more_after : {X : Type 0} (all new before more : List X) → new ≡ all ++ more → all ≡ before → new ≡ before ++ more
+more_after all new before more adds was = adds ∙ ap (λ xs. xs ++ more) was
 
 -- added one by one, or all at once
 pub five_more : {X : Type 0} (before : List X) (a b c d e : X) → ((((before ++ a ∷ []) ++ b ∷ []) ++ c ∷ []) ++ d ∷ []) ++ e ∷ [] ≡ before ++ a ∷ b ∷ c ∷ d ∷ e ∷ []

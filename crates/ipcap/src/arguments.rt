@@ -1,7 +1,7 @@
 //! The command line: options, the file that is read, and the words of an expression.
 
-ghost use Rattle.std.specs.Prelude.{◌≡◌, ◌<◌, ◌≤◌, ◌++◌, ◌↔◌, IfOk, IsFalse, IsOk, IsTrue, OnErr, OnOk};
-ghost use Rattle.std.specs.Prelude.{List, [], codes, false, length, true};
+ghost use Rattle.std.specs.Prelude.{◌≡◌, ◌==◌, ◌<◌, ◌≤◌, ◌++◌, ◌↔◌, IfOk, IsFalse, IsOk, IsTrue, OnErr, OnOk};
+ghost use Rattle.std.specs.Prelude.{List, [], ◌∷◌, codes, false, length, true};
 ghost use Rattle.clap.specs.Words.{Rule, app_of, first_value, found_of, one_text, rule_of};
 ghost use Rattle.ipcap.specs.Arguments.{BeginsExpression, HasLongText, IsFlag, IsLimit};
 ghost use Rattle.ipcap.specs.Arguments.{IsModeOf, NamesFile, NamesInput, ReadsWords, joined};
@@ -123,35 +123,51 @@ fn with_flags<'a>(alloc: Global, command: Command<'a>) -> Result<Command<'a>, Al
     ensures exclude { IfOk result (λ after.
         exclusions_of after ≡ exclusions_of command.entry ++ exclusions_of_flags) }
 {
-    command
-        .arg(flag(
-            alloc,
-            "count",
-            "Print how many packets match, and nothing else",
-        )
-        .conflicts_with("write")?)?
-        .arg(
-            flag(
-                alloc,
-                "quiet",
-                "Print the closing line alone, to standard output",
-            )
-            .conflicts_with("count")?
-            .conflicts_with("write")?,
-        )?
-        .arg(
-            Arg::new(alloc, "numbers")
-                .short('n')
-                .action(ArgAction::Count)
-                .help("Changes nothing: addresses and ports are always numbers"),
-        )?
-        .arg(flag(alloc, "utc", "Print times as dates in UTC"))?
-        .arg(flag(
-            alloc,
-            "reassemble",
-            "Put packets together of their fragments",
-        )
-        .conflicts_with("write")?)
+    let command = with_flag(
+        alloc,
+        command,
+        "count",
+        "Print how many packets match, and nothing else",
+        &["write"],
+    )?;
+    let command = with_flag(
+        alloc,
+        command,
+        "quiet",
+        "Print the closing line alone, to standard output",
+        &["count", "write"],
+    )?;
+    let command = command.arg(
+        Arg::new(alloc, "numbers")
+            .short('n')
+            .action(ArgAction::Count)
+            .help("Changes nothing: addresses and ports are always numbers"),
+    )?;
+    let command = with_flag(alloc, command, "utc", "Print times as dates in UTC", &[])?;
+    with_flag(
+        alloc,
+        command,
+        "reassemble",
+        "Put packets together of their fragments",
+        &["write"],
+    )
+}
+
+// A command with one of them, too, which excludes others.
+fn with_flag<'a>(
+    alloc: Global,
+    command: Command<'a>,
+    name: &'a str,
+    help: &'a str,
+    others: &[&'a str],
+) -> Result<Command<'a>, AllocError>
+    ensures option { IfOk result (λ after. (rules : List Rule) → app_of command.entry ≡ app_with rules
+        → app_of after ≡ app_with (rules
+        ++ record (flag name.now) { is_free = length others.now == 0 } ∷ [])) }
+    ensures excludes { IfOk result (λ after.
+        exclusions_of after ≡ exclusions_of command.entry ++ texts_of others.now ∷ []) }
+{
+    command.arg(flag(alloc, name, help).conflicts_with_all(others)?)
 }
 
 // An option with a value, by its letter.
