@@ -1,5 +1,5 @@
 -- Options, and what they exclude.
-use Rattle.std.proofs.Common.{rules as known, tests, arith, length, ◌==◌, ◌≡◌, ◌∙◌, ap, ap₂, append_assoc, refl, true, false, ℕ, List, [], ◌∷◌, ◌++◌, Bor, map}
+use Rattle.std.proofs.Common.{rules as known, tests, length, ◌==◌, ◌≡◌, ◌∙◌, ap, ap₂, append_assoc, refl, true, false, ℕ, List, [], ◌∷◌, ◌++◌, Bor, map}
 use Rattle.std.proofs.Math.Bool.{and-true}
 use Rattle.std.proofs.lemmas.List.{map-append}
 use Rattle.clap.specs.Adds.{AddsConflicts}
@@ -9,7 +9,7 @@ use Rattle.clap.specs.declared.builder.command.Command.{Command}
 use Rattle.clap.specs.Words.{Rule, app_of, args_of, is_simple, rule_of, with_rule}
 use Rattle.clap.specs.declared.builder.arg.Arg.{Arg}
 use Rattle.ipcap.specs.Arguments.{texts_of}
-use Rattle.ipcap.specs.Options.{app_with, excluding, exclusions_of, flags, options}
+use Rattle.ipcap.specs.Options.{app_with, exclusions_of, flags, options}
 
 -- one that excludes others
 pub excludes : (old new : Arg) (others : List (Bor (List ℕ))) (rule : Rule) → rule_of old ≡ rule → rule.is_free ≡ true → (old.conflicts.items ≡ []) × (old.exclusive ≡ false) → AddsConflicts old new others
