@@ -1,9 +1,10 @@
 -- An IPv4 packet with another address, from its parts.
-use Rattle.std.proofs.Common.{ℕ, true, false, ◌≡◌, ◌≢◌, ◌≤◌, ◌+◌, ◌%◌, ◌∙◌, ◌⊎◌, List, [], ◌++◌, ap, append-nil, arith, drop, length, length-append, length-drop, length-take, refl, slice_range, subst, sym, take, take_at, append_assoc, w16}
+use Rattle.std.proofs.Common.{ℕ, true, false, ◌≡◌, ◌≢◌, ◌≤◌, ◌+◌, ◌*◌, ◌%◌, ◌^◌, ◌∙◌, ◌⊎◌, List, [], ◌∷◌, ◌++◌, ap, append-nil, arith, drop, length, length-append, length-drop, length-take, refl, slice_range, subst, sym, take, take_at, append_assoc, w16}
 use Rattle.std.specs.Int.{to_be_bytes}
 use Rattle.std.proofs.lemmas.Bool.Decides.{nat_tests}
 use Rattle.std.proofs.lemmas.List.{drop_at}
 use Rattle.etherparse.specs.HeaderChecksum.{BecomesPacketOf, ChangesInPlace, with_field_and_checksum}
+use Rattle.etherparse.specs.IpEcn.{ecn_value}
 use Rattle.etherparse.specs.Ipv4Header.{IsIpv4Layout}
 use Rattle.etherparse.specs.Reading.{BeginsWith}
 use Rattle.etherparse.specs.WordSums.{network_order_word_sum, updated_checksum_of_words}
@@ -169,3 +170,13 @@ readdressed {header = header} {cut = cut} cuts offset old address after first fr
           (reach_kept cut.reach slice header next bytes front old address payload others cuts.version cuts.reaches now cuts.layout next_layout words next_words updated
           (rw (cuts.layout.layout.source, cuts.layout.layout.destination) at right));
     }
+
+-- how long a packet is that begins with a header
+pub header_fits_ipv4 : {before rest : List ℕ} {header : Ipv4Header} → BeginsWith IsIpv4Layout before header rest → 20 ≤ length before
+header_fits_ipv4 {rest = rest} begins = omega (arith, ap length begins.whole, length-append begins.front rest, begins.layout.layout.len)
+
+-- the packet with another code point or notification, from what was written to it
+pub marked : {before rest : List ℕ} {header next : Ipv4Header} (byte : ℕ) (after : List ℕ) → BeginsWith IsIpv4Layout before header rest → ChangesInPlace header next 1 (byte ∷ [])
+    → byte ≡ next.dscp * 2 ^ 2 + ecn_value next.ecn → after ≡ with_field_and_checksum 1 ((next.dscp * 2 ^ 2 + ecn_value next.ecn) ∷ []) next.header_checksum before
+    → BecomesPacketOf before after next rest
+marked {before = before} {rest = rest} byte after begins in_place is written = rw (written, ← is) (in_place before rest begins)
