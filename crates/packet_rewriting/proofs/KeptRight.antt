@@ -3,7 +3,7 @@ use Rattle.std.proofs.Common.{ℕ, Bool, true, false, ◌≡◌, ◌≢◌, ◌<
 use Rattle.std.specs.Int.{from_be_bytes, to_be_bytes}
 use Rattle.std.proofs.lemmas.Bool.Decides.{nat_tests}
 use Rattle.etherparse.proofs.WordSumLaws.{adds_slices, network_order_word_sum-append}
-use Rattle.etherparse.specs.WordSums.{SumsToAllOnes, UpdatesChecksum, folded_sum, little_endian_word_sum, network_order_word_sum, ones_complement_sum, updated_checksum, updated_checksum_of_words}
+use Rattle.etherparse.specs.WordSums.{SumsToAllOnes, UpdatesChecksum, UpdatesChecksumWithNoZero, folded_sum, little_endian_word_sum, network_order_word_sum, ones_complement_sum, updated_checksum, updated_checksum_of_words, with_no_zero}
 use Rattle.packet_parts.specs.Checksum.{Covers, IsRightIpv4, IsVerdictIpv4, IsWithoutChecksum, ipv4_pseudo_header, udp_checksum, udp_length}
 use Rattle.packet_parts.specs.declared.checksum.Verdict.TheVariants.{Right}
 use Rattle.std.proofs.lemmas.List.{get_or-take}
@@ -13,10 +13,10 @@ use Rattle.packet_rewriting.specs.Fields.{UpdatesUpper, updated_upper, with_upda
 use Rattle.packet_rewriting.specs.UpperChecksum.{checksum_field, checksum_place, with_checksum}
 
 -- a number is that of UDP or not
-is_udp : (number : ℕ) → (number == 17) ≡ true → number ≡ 17
+pub is_udp : (number : ℕ) → (number == 17) ≡ true → number ≡ 17
 is_udp number e = grind (arith, nat_tests, e)
 
-is_no_udp : (number : ℕ) → (number == 17) ≡ false → number ≢ 17
+pub is_no_udp : (number : ℕ) → (number == 17) ≡ false → number ≢ 17
 is_no_udp number e is = grind (arith, nat_tests, e, is)
 
 -- what a receiver sums keeps its fold
@@ -167,3 +167,13 @@ word_updated number checksum old new a b other = sym (updated_other number check
 pub word_updates : (number checksum answer : ℕ) (old new : List ℕ) → length old ≡ 2 → length new ≡ 2 → number ≢ 17
     → UpdatesChecksum checksum (from_be_bytes w16 old) (from_be_bytes w16 new) answer → UpdatesUpper number checksum (network_order_word_sum old) (network_order_word_sum new) answer
 word_updates number checksum answer old new a b other updates = record { udp = λ is. absurd (other is); other = λ _. rw (pair_word old a, pair_word new b) updates }
+
+-- and of UDP
+pub word_updated_udp : (number checksum : ℕ) (old new : List ℕ) → length old ≡ 2 → length new ≡ 2 → number ≡ 17
+    → (if checksum == 0 then 0 else with_no_zero (updated_checksum checksum (from_be_bytes w16 old) (from_be_bytes w16 new))) ≡ updated_upper 1 number checksum old new
+word_updated_udp number checksum old new a b is = rw (is, pair_word old a, pair_word new b) refl
+
+pub word_updates_udp : (number checksum answer : ℕ) (old new : List ℕ) → length old ≡ 2 → length new ≡ 2 → number ≡ 17
+    → UpdatesChecksumWithNoZero checksum (from_be_bytes w16 old) (from_be_bytes w16 new) answer
+    → UpdatesUpper number checksum (network_order_word_sum old) (network_order_word_sum new) answer
+word_updates_udp number checksum answer old new a b is updates = record { udp = λ _. rw (pair_word old a, pair_word new b) updates; other = λ other. absurd (other is) }

@@ -557,11 +557,10 @@ fn updated_for_word(checksum: u16, number: IpNumber, old: [u8; 2], new: [u8; 2])
     ensures updates { UpdatesUpper number checksum (network_order_word_sum old)
         (network_order_word_sum new) result }
 {
-    let ([a, b], [c, d]) = (old, new);
     if number == IpNumber::UDP {
-        update_2bytes_with_no_zero(checksum, [a, b], [c, d])
+        update_2bytes_with_no_zero(checksum, old, new)
     } else {
-        update_2bytes(checksum, [a, b], [c, d])
+        update_2bytes(checksum, old, new)
     }
 }
 
