@@ -2,12 +2,13 @@
 //! tshark and tcpdump have it, and the examples of `packet_links`.
 
 use crate::shared::assert_equal;
+use arrayvec::ArrayVec;
 use packet::link::{LinkSlice, LinkType};
 use packet::link_layers::LinkLayers;
 use packet::sliced_packet::SlicedPacket;
 use packet_links::framing::Framing;
 use packet_links::header::{Carried, Header};
-use std::test::Fail;
+use std::process::Abort;
 
 // A datagram to port 53.
 const DATAGRAM: [u8; 30] = [
@@ -23,16 +24,14 @@ const ADDRESSES: [u8; 24] = [
 // LLC and SNAP before an IPv4 packet.
 const SNAP: [u8; 8] = [0xaa, 0xaa, 3, 0, 0, 0, 8, 0];
 
-// Whether a datagram after this header is found, and nowhere else.
-fn carries_datagram(framing: Framing, header: &[u8]) -> bool {
-    let len = header.len();
-    if len > 60 {
-        return false;
+// Whether a datagram after these headers is found, and nowhere else.
+fn carries_datagram(rt: &impl Abort, framing: Framing, headers: &[&[u8]]) -> bool {
+    let mut frame: ArrayVec<u8, 90> = ArrayVec::new();
+    for header in headers {
+        frame.try_extend_from_slice(header).expect(rt, "room");
     }
-    let mut frame = [0; 90];
-    frame[..len].copy_from_slice(header);
-    frame[len..len + 30].copy_from_slice(&DATAGRAM);
-    match SlicedPacket::from_link_type(LinkType::Framed(framing), &frame[..len + 30]) {
+    frame.try_extend_from_slice(&DATAGRAM).expect(rt, "room");
+    match SlicedPacket::from_link_type(LinkType::Framed(framing), frame.as_slice()) {
         Ok(packet) => packet.payload.len() == 30 && packet.ports() == Some((1024, 53)),
         Err(_) => false,
     }
@@ -79,8 +78,8 @@ fn lines_of_ppp_carry_packets(rt: HostRuntime) {
         &[0x21],
     ] {
         let are_found = [
-            carries_datagram(Framing::Ppp, header),
-            carries_datagram(Framing::PppHdlc, header),
+            carries_datagram(&rt, Framing::Ppp, &[header]),
+            carries_datagram(&rt, Framing::PppHdlc, &[header]),
         ];
         assert_equal(&rt, (header, are_found), (header, [true; 2]));
     }
@@ -90,8 +89,8 @@ fn lines_of_ppp_carry_packets(rt: HostRuntime) {
 fn lines_of_cisco_hdlc_carry_packets(rt: HostRuntime) {
     for header in [[0x0f, 0, 8, 0], [0x8f, 0, 8, 0]] {
         let are_found = [
-            carries_datagram(Framing::CiscoHdlc, &header),
-            carries_datagram(Framing::PppHdlc, &header),
+            carries_datagram(&rt, Framing::CiscoHdlc, &[&header]),
+            carries_datagram(&rt, Framing::PppHdlc, &[&header]),
         ];
         assert_equal(&rt, (header, are_found), (header, [true; 2]));
     }
@@ -99,18 +98,21 @@ fn lines_of_cisco_hdlc_carry_packets(rt: HostRuntime) {
 
 #[test]
 fn lines_carry_others(rt: HostRuntime) {
-    assert_equal(&rt, carries_datagram(Framing::Slip, &[1; 16]), true);
     assert_equal(
         &rt,
-        carried(Framing::Ppp, &[0x80, 0x21, 1]),
-        Some(Carried::PppProtocol(0x8021)),
+        (
+            carries_datagram(&rt, Framing::Slip, &[&[1; 16]]),
+            carried(Framing::Ppp, &[0x80, 0x21, 1]),
+            carried(Framing::CiscoHdlc, &[0x8f, 0, 0x20, 0]),
+            Framing::Slip.header(&[0; 15]),
+        ),
+        (
+            true,
+            Some(Carried::PppProtocol(0x8021)),
+            Some(Carried::EtherType(0x2000)),
+            Err(16),
+        ),
     );
-    assert_equal(
-        &rt,
-        carried(Framing::CiscoHdlc, &[0x8f, 0, 0x20, 0]),
-        Some(Carried::EtherType(0x2000)),
-    );
-    assert_equal(&rt, Framing::Slip.header(&[0; 15]), Err(16));
 }
 
 #[test]
@@ -128,7 +130,7 @@ fn frame_relay_carries_packets(rt: HostRuntime) {
         ],
     ];
     for header in headers {
-        let is_found = carries_datagram(Framing::FrameRelay, header);
+        let is_found = carries_datagram(&rt, Framing::FrameRelay, &[header]);
         assert_equal(&rt, (header, is_found), (header, true));
     }
 }
@@ -138,20 +140,19 @@ fn frame_relay_carries_others(rt: HostRuntime) {
     // A status enquiry, an address of one byte, and one of five.
     assert_equal(
         &rt,
-        carried(Framing::FrameRelay, &[0, 1, 3, 8, 0x75]),
-        Some(Carried::Nlpid(8)),
+        (
+            carried(Framing::FrameRelay, &[0, 1, 3, 8, 0x75]),
+            carried(Framing::FrameRelay, &[1, 3, 0xcc, 0x45]),
+            carried(Framing::FrameRelay, &[0, 0, 0, 0, 1]),
+            Framing::FrameRelay.header(&[0x18, 0x41, 3, 0]),
+        ),
+        (
+            Some(Carried::Nlpid(8)),
+            Some(Carried::Unknown),
+            Some(Carried::Unknown),
+            Err(5),
+        ),
     );
-    assert_equal(
-        &rt,
-        carried(Framing::FrameRelay, &[1, 3, 0xcc, 0x45]),
-        Some(Carried::Unknown),
-    );
-    assert_equal(
-        &rt,
-        carried(Framing::FrameRelay, &[0, 0, 0, 0, 1]),
-        Some(Carried::Unknown),
-    );
-    assert_equal(&rt, Framing::FrameRelay.header(&[0x18, 0x41, 3, 0]), Err(5));
 }
 
 #[test]
@@ -166,17 +167,20 @@ fn ieee_802_11_carries_packets(rt: HostRuntime) {
         (0x08, 0x82, 0),
     ];
     for (first, second, more) in cases {
-        let mut header = [0; 48];
-        header[8..32].copy_from_slice(&ADDRESSES);
-        header[2] = 8;
-        [header[8], header[9]] = [first, second];
-        header[32 + more..40 + more].copy_from_slice(&SNAP);
-        let all = &header[..40 + more];
-        let are_found = [
-            carries_datagram(Framing::Ieee80211Radiotap, all),
-            carries_datagram(Framing::Ieee80211, &all[8..]),
+        let radiotap = [0, 0, 8, 0, 0, 0, 0, 0].as_slice();
+        let headers = [
+            radiotap,
+            &[first, second],
+            &ADDRESSES[2..],
+            &[0; 8][..more],
+            &SNAP,
         ];
-        assert_equal(&rt, (all, are_found), (all, [true; 2]));
+        let are_found = [
+            carries_datagram(&rt, Framing::Ieee80211Radiotap, &headers),
+            carries_datagram(&rt, Framing::Ieee80211, &headers[1..]),
+        ];
+        let seen = (first, second, more, are_found);
+        assert_equal(&rt, seen, (first, second, more, [true; 2]));
     }
 }
 
@@ -189,13 +193,9 @@ fn padding_is_skipped(rt: HostRuntime) {
         &[0, 0, 17, 0, 2, 0, 0, 0x80, 0, 0, 0, 0x80, 0, 0, 0, 0, 0x20],
     ];
     for radiotap in cases {
-        let len = radiotap.len();
-        let mut header = [0; 60];
-        header[..len].copy_from_slice(radiotap);
-        header[len..len + 24].copy_from_slice(&ADDRESSES);
-        [header[len], header[len + 1]] = [0x88, 2];
-        header[len + 28..len + 36].copy_from_slice(&SNAP);
-        let is_found = carries_datagram(Framing::Ieee80211Radiotap, &header[..len + 36]);
+        // After the addresses there are QoS control and two bytes of padding.
+        let headers = [radiotap, &[0x88, 2], &ADDRESSES[2..], &[0; 4], &SNAP];
+        let is_found = carries_datagram(&rt, Framing::Ieee80211Radiotap, &headers);
         assert_equal(&rt, (radiotap, is_found), (radiotap, true));
     }
 }
@@ -232,11 +232,13 @@ fn frame_with([first, second, sequence, qos]: [u8; 4]) -> [u8; 40] {
 
 #[test]
 fn short_frames_of_ieee_802_11_are_refused(rt: HostRuntime) {
-    assert_equal(&rt, Framing::Ieee80211.header(&ADDRESSES), Err(27));
-    assert_equal(&rt, Framing::Ieee80211.header(&ADDRESSES[..23]), Err(24));
     assert_equal(
         &rt,
-        Framing::Ieee80211Radiotap.header(&[0, 0, 12, 0, 0, 0, 0, 0]),
-        Err(12),
+        (
+            Framing::Ieee80211.header(&ADDRESSES),
+            Framing::Ieee80211.header(&ADDRESSES[..23]),
+            Framing::Ieee80211Radiotap.header(&[0, 0, 12, 0, 0, 0, 0, 0]),
+        ),
+        (Err(27), Err(24), Err(12)),
     );
 }

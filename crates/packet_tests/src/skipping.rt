@@ -58,8 +58,11 @@ fn front_of_a_record(rt: HostRuntime) {
         len: 400_016,
         head: None,
     };
-    assert_equal(&rt, capture.front_len(), 16);
-    assert_equal(&rt, capture.block_front(&record), Ok(front));
+    assert_equal(
+        &rt,
+        (capture.front_len(), capture.block_front(&record)),
+        (16, Ok(front)),
+    );
     // Records do not repeat their length.
     assert_equal(&rt, front.check_end([0, 0, 0, 0]), Ok(()));
 }
