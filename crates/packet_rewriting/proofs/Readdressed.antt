@@ -5,9 +5,9 @@ use Rattle.std.proofs.lemmas.Bool.Decides.{nat_tests}
 use Rattle.std.proofs.lemmas.List.{drop_at}
 use Rattle.etherparse.specs.HeaderChecksum.{BecomesPacketOf, ChangesInPlace, with_field_and_checksum}
 use Rattle.etherparse.specs.IpEcn.{ecn_value}
-use Rattle.etherparse.specs.Ipv4Header.{IsIpv4Layout}
+use Rattle.etherparse.specs.Ipv4Header.{IsIpv4Layout, ipv4_first_word}
 use Rattle.etherparse.specs.Reading.{BeginsWith}
-use Rattle.etherparse.specs.WordSums.{network_order_word_sum, updated_checksum_of_words}
+use Rattle.etherparse.specs.WordSums.{network_order_word_sum, updated_checksum, updated_checksum_of_words}
 use Rattle.etherparse.specs.declared.net.ipv4_header.Ipv4Header.{Ipv4Header}
 use Rattle.packet_parts.specs.Checksum.{IsVerdictIpv4}
 use Rattle.packet_parts.proofs.IpParts.{ipv4_front, ipv6_front}
@@ -18,7 +18,7 @@ use Rattle.packet_parts.specs.declared.ip_slice.IpHeaderSlice.TheVariants as hea
 use Rattle.packet_parts.specs.declared.ip_slice.IpSlice.{IpSlice}
 use Rattle.packet_rewriting.proofs.KeptPorts.{port_kept}
 use Rattle.packet_rewriting.proofs.KeptRight.{verdict_kept, verdict_of_other}
-use Rattle.packet_rewriting.specs.Fields.{ChangesPort, CutsAtPorts, CutsIpv4, ReaddressesIpv4, Reaches, UpdatesPayload, UpdatesUpper, covers_addresses, least_len, updated_upper, version_in, with_port, word_at}
+use Rattle.packet_rewriting.specs.Fields.{ChangesPort, CutsAtPorts, CutsIpv4, MarksIpv4, ReaddressesIpv4, Reaches, UpdatesPayload, UpdatesUpper, covers_addresses, least_len, updated_upper, version_in, with_port, word_at}
 use Rattle.packet_rewriting.specs.UpperChecksum.{checksum_field, checksum_place}
 use Rattle.packet_rewriting.specs.declared.fields.Cut.{Cut}
 use Rattle.packet_rewriting.specs.declared.fields.Reach.{Reach}
@@ -176,7 +176,17 @@ pub header_fits_ipv4 : {before rest : List ℕ} {header : Ipv4Header} → Begins
 header_fits_ipv4 {rest = rest} begins = omega (arith, ap length begins.whole, length-append begins.front rest, begins.layout.layout.len)
 
 -- the packet with another code point or notification, from what was written to it
-pub marked : {before rest : List ℕ} {header next : Ipv4Header} (byte : ℕ) (after : List ℕ) → BeginsWith IsIpv4Layout before header rest → ChangesInPlace header next 1 (byte ∷ [])
-    → byte ≡ next.dscp * 2 ^ 2 + ecn_value next.ecn → after ≡ with_field_and_checksum 1 ((next.dscp * 2 ^ 2 + ecn_value next.ecn) ∷ []) next.header_checksum before
-    → BecomesPacketOf before after next rest
-marked {before = before} {rest = rest} byte after begins in_place is written = rw (written, ← is) (in_place before rest begins)
+pub marks_ipv4 : {before rest : List ℕ} {header next : Ipv4Header} (marked : Ipv4Header → Ipv4Header) (byte : ℕ) (after : List ℕ) → BeginsWith IsIpv4Layout before header rest
+    → next ≡ record (marked header) { header_checksum = updated_checksum header.header_checksum (ipv4_first_word header) (ipv4_first_word (marked header)) }
+    → ChangesInPlace header next 1 (byte ∷ []) → byte ≡ next.dscp * 2 ^ 2 + ecn_value next.ecn
+    → after ≡ with_field_and_checksum 1 ((next.dscp * 2 ^ 2 + ecn_value next.ecn) ∷ []) next.header_checksum before → MarksIpv4 marked before after
+marks_ipv4 {before = before} {rest = rest} {header = header} {next = next} marked byte after begins set in_place is written =
+    record {
+      header = header;
+      rest = rest;
+      begins = begins;
+      next = next;
+      set = set;
+      changed = written;
+      becomes = rw (written, ← is) (in_place before rest begins);
+    }

@@ -1,6 +1,6 @@
 use Rattle.std.proofs.Common.{◌+◌, ◌*◌, ◌^◌, ap, sym}
 use Rattle.etherparse.specs.IpEcn.{ecn_value}
-use Rattle.packet_rewriting.proofs.Readdressed.{header_fits_ipv4, marked}
+use Rattle.packet_rewriting.proofs.Readdressed.{header_fits_ipv4, marks_ipv4}
 use Rattle.packet_rewriting.proofs.fields.set_ecn_ipv4.Goals as goal
 
 pub put_mark-requires : goal.put_mark-requires
@@ -8,14 +8,5 @@ put_mark-requires c = record { enough = header_fits_ipv4 c.in-Ok.ensures.reads.r
 
 pub returns-clause-changed : goal.returns-clause-changed
 returns-clause-changed c =
-    let begins = c.in-Ok.ensures.reads.reads in
-    let set = c.set_ecn.ensures.set in
-    record {
-      header = c.in-Ok.header;
-      rest = c.in-Ok.field-0-1.now;
-      begins = begins;
-      next = c.set_ecn.new.self;
-      set = set;
-      changed = c.put_mark.ensures.written;
-      becomes = marked _ _ begins c.set_ecn.ensures.in_place (ap (λ h. h.dscp * 2 ^ 2 + ecn_value h.ecn) (sym set)) c.put_mark.ensures.written;
-    }
+    let update = c.set_ecn.ensures in
+    marks_ipv4 (λ h. record h { ecn = c.args.ecn }) _ _ c.in-Ok.ensures.reads.reads update.set update.in_place (ap (λ h. h.dscp * 2 ^ 2 + ecn_value h.ecn) (sym update.set)) c.put_mark.ensures.written
