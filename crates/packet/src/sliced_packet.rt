@@ -30,7 +30,7 @@ pub struct SlicedPacket<'a> {
     pub net: Option<IpSlice<'a>>,
     /// The transport header; `None` if the number of the IP packet's payload is of none that is
     /// read, if that payload is of a later fragment, or if a first fragment does not have all of
-    /// it.
+    /// it or has a data offset of TCP below 5.
     pub transport: Option<TransportSlice<'a>>,
 }
 

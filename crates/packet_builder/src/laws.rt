@@ -27,9 +27,10 @@ use crate::{
 };
 use std::alloc::AllocError;
 
-/// A packet that was built, and is no fragment, is read by `SlicedPacket::from_link_type` in its
-/// layers, each with the bytes that it was built of; and its checksum is right. Of a Linux cooked
-/// capture of a device whose protocol type is no EtherType, only the link header is read.
+/// A packet that was built of UDP, TCP, ICMP over IPv4 or ICMPv6, is no fragment and has tags only
+/// after a link header is read by `SlicedPacket::from_link_type` in its layers, each with the bytes
+/// that it was built of; and its checksum is right. Of a Linux cooked capture of a device whose
+/// protocol type is no EtherType, only the link header is read.
 pub fn built_packet_law()
     ensures udp { (headers : Before) → (source_port destination_port : ℕ) →
         (payload frame : List ℕ) →

@@ -166,7 +166,8 @@ impl PacketHead {
         }
     }
 
-    /// The head of the packet in a record of the classic format.
+    /// The head of the packet in a record of the classic format. The caller has to pass the 16 bytes
+    /// of the record's head at least.
     pub fn of_record(header: &FileHeader, slice: &[u8]) -> PacketHead
         requires enough { 16 ≤ length slice.now }
         ensures value { result ≡ head_of_record header.now slice.now }

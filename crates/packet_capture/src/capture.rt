@@ -159,7 +159,7 @@ impl FileHeader {
         Ok((header, &file[FileHeader::LEN..]))
     }
 
-    /// The head at the front of a record.
+    /// The head at the front of a record. The caller has to pass its 16 bytes at least.
     pub fn record_head(&self, slice: &[u8]) -> RecordHead
         requires enough { 16 ≤ length slice.now }
         ensures value { result ≡ record_head self.now slice.now }

@@ -10,6 +10,8 @@ use crate::expression::{Operator, Primitive, Quantity, Relation};
 use crate::jumps::{Decision, decisions_of};
 use arrayvec::ArrayVec;
 use packet::lax_sliced_packet::LaxSlicedPacket;
+use std::fmt;
+use std::fmt::Formatter;
 use std::marker::Model;
 
 /// A step of an expression in postfix form, on a stack of answers.
@@ -26,7 +28,7 @@ pub(crate) enum Step {
 
 /// An expression that packets are chosen by. Contracts see its steps, and `expression_of` makes the
 /// expression of them.
-#[derive(Clone, Debug, Drop)]
+#[derive(Clone, Drop)]
 pub struct Filter {
     steps: ArrayVec<Step, 64>,
     decisions: ArrayVec<Decision, 64>,
@@ -44,6 +46,15 @@ impl Model for Filter {
 
     ghost invariant = { λ f. Computes f.steps.items (expression_of f.steps.items)
         × (f.decisions.items ≡ decisions_of f.steps.items) };
+}
+
+/// Its steps.
+impl fmt::Debug for Filter {
+    fn fmt<W: fmt::Write>(&self, f: &mut Formatter<W>) -> fmt::Result {
+        f.debug_struct("Filter")
+            .field("steps", &self.steps)
+            .finish_non_exhaustive()
+    }
 }
 
 impl Filter {

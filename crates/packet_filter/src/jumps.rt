@@ -13,7 +13,7 @@ use arrayvec::ArrayVec;
 
 /// The places where an expression goes on after a test. A place is one more than the number of steps
 /// from there to the end; 0 is none, and the answer is no.
-#[derive(Clone, Copy, Debug, Default)]
+#[derive(Clone, Copy, Default)]
 pub(crate) struct Jump {
     /// After a test that holds.
     pub yes: u8,
@@ -39,7 +39,7 @@ struct Operand {
 }
 
 /// What is asked at a step, and where it goes on.
-#[derive(Clone, Copy, Debug, Default)]
+#[derive(Clone, Copy, Default)]
 pub(crate) struct Decision {
     /// What is asked.
     pub quick: Quick,

@@ -23,7 +23,7 @@ use packet::sliced_packet::SlicedPacket;
 use packet_parts::ip_slice::IpHeaderSlice;
 
 /// What a step asks of a packet.
-#[derive(Clone, Copy, Debug, Default)]
+#[derive(Clone, Copy, Default)]
 pub(crate) enum Quick {
     /// It is an IP packet of this version.
     Version(Version),

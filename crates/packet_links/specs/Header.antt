@@ -1,7 +1,7 @@
 -- A link header and what it says of the bytes after it.
 use Rattle.std.specs.Prelude.{ℕ, ◌+◌, ◌==◌, ◌&&◌, ◌||◌, Bool, true, false, if◌then◌else◌, List}
-use Rattle.std.specs.Prelude.{Option, Some, None, slice_index}
-use Rattle.packet_links.specs.Bytes.{has, number_at}
+use Rattle.std.specs.Prelude.{Option, Some, None, length, nat_le, slice_index}
+use Rattle.packet_links.specs.Bytes.{has, is_set, number_at}
 use Rattle.packet_links.specs.declared.header.Carried.{Carried}
 use Rattle.packet_links.specs.declared.header.Carried.TheVariants as carried
 use Rattle.packet_links.specs.declared.header.Header.{Header}
@@ -43,10 +43,19 @@ snap_header place frame = if is_ether_type place frame
     then record { len = place + 19; carried = carried.EtherType (number_at (place + 17) frame) }
     else record { len = place + 5; carried = carried.Snap }
 
--- LLC at a place: the addresses of the destination's and of the source's protocol, and control
--- (IEEE 802.2 section 3.2). After aa aa 03 comes SNAP.
+-- the control at a place has one byte: of unnumbered information or of a command, whose bits 0 and 1
+-- are set (IEEE 802.2 section 5.2); at least, if the frame ends before it
+abbrev pub is_unnumbered : ℕ → List ℕ → Bool
+is_unnumbered place frame =
+    nat_le (length frame) place || (is_set 0 place frame && is_set 1 place frame)
+
+-- LLC at a place: the addresses of the destination's and of the source's protocol, and one or two
+-- bytes of control (IEEE 802.2 section 3.2). After aa aa 03 comes SNAP.
 abbrev pub llc_header : ℕ → List ℕ → Header
 llc_header place frame =
     if has 0xaa place frame && has 0xaa (place + 1) frame && has 0x03 (place + 2) frame
     then snap_header (place + 3) frame
-    else record { len = place + 3; carried = carried.Llc (slice_index frame place) }
+    else record {
+      len = place + 2 + (if is_unnumbered (place + 2) frame then 1 else 2);
+      carried = carried.Llc (slice_index frame place);
+    }

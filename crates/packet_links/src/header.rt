@@ -1,9 +1,10 @@
 //! A link header and what it says of the bytes after it.
 
 ghost use Rattle.std.specs.Prelude.{◌≡◌, ◌<◌, ◌^◌};
-ghost use Rattle.packet_links.specs.Header.{is_bridged, is_ether_type, llc_header, snap_header};
+ghost use Rattle.packet_links.specs.Header.{is_bridged, is_ether_type, is_unnumbered, llc_header};
+ghost use Rattle.packet_links.specs.Header.{snap_header};
 
-use crate::bytes::{byte_at, has, number_at};
+use crate::bytes::{byte_at, has, is_set, number_at};
 
 /// What follows a link header, as the header tells it.
 #[derive(Clone, Copy, Debug, PartialEq, Eq)]
@@ -134,6 +135,13 @@ fn is_bridged(frame: &[u8], place: usize) -> bool
         && matches!(byte_at(frame, place + 4), 0x01 | 0x07)
 }
 
+// Whether the control of LLC at a place has one byte.
+fn is_unnumbered(frame: &[u8], place: usize) -> bool
+    ensures value { result ≡ is_unnumbered place frame.now }
+{
+    frame.len() <= place || (is_set(0, place, frame) && is_set(1, place, frame))
+}
+
 // LLC at a place.
 pub(crate) fn llc_header(frame: &[u8], place: usize) -> Header
     requires fits { place < 2 ^ 30 }
@@ -143,8 +151,13 @@ pub(crate) fn llc_header(frame: &[u8], place: usize) -> Header
     if dsap == 0xaa && has(0xaa, place + 1, frame) && has(0x03, place + 2, frame) {
         return snap_header(frame, place + 3);
     }
+    let control_len = if is_unnumbered(frame, place + 2) {
+        1
+    } else {
+        2
+    };
     Header {
-        len: place + 3,
+        len: place + 2 + control_len,
         carried: Carried::Llc(dsap),
     }
 }

@@ -11,8 +11,16 @@ use crate::header::{Carried, Header};
 pub(crate) fn ppp_header(frame: &[u8]) -> Header
     ensures value { result ≡ ppp_header frame.now }
 {
-    let has_address = has(0xff, 0, frame) && has(0x03, 1, frame);
-    protocol_header(frame, if has_address { 2 } else { 0 })
+    if !has(0xff, 0, frame) {
+        return protocol_header(frame, 0);
+    }
+    if has(0x03, 1, frame) {
+        return protocol_header(frame, 2);
+    }
+    Header {
+        len: 2,
+        carried: Carried::Unknown,
+    }
 }
 
 // The protocol at a place.
@@ -20,7 +28,7 @@ pub(crate) fn protocol_header(frame: &[u8], place: usize) -> Header
     requires fits { place < 2 ^ 18 }
     ensures value { result ≡ protocol_header place frame.now }
 {
-    if is_set(0, place, frame) {
+    if frame.len() <= place || is_set(0, place, frame) {
         return Header {
             len: place + 1,
             carried: Carried::PppProtocol(u16::from(byte_at(frame, place))),

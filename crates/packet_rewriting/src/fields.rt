@@ -42,7 +42,8 @@ pub enum RewriteError {
     Ip(IpSliceError),
     /// The address is one of the other IP version.
     OtherVersion,
-    /// The payload ends within the header of UDP, TCP or ICMPv6, as that of a first fragment can.
+    /// The payload has fewer than 8 bytes of UDP, 20 of TCP or 4 of ICMPv6, as that of a first
+    /// fragment can. Options of TCP need not be there.
     Incomplete,
     /// The payload is a later fragment, which has no ports.
     LaterFragment,

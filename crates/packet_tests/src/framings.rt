@@ -86,6 +86,25 @@ fn lines_of_ppp_carry_packets(rt: HostRuntime) {
 }
 
 #[test]
+fn ends_of_ppp_headers(rt: HostRuntime) {
+    let ends = [
+        Framing::Ppp.header(&[]),
+        Framing::Ppp.header(&[0]),
+        Framing::Ppp.header(&[0xff]),
+        Framing::Ppp.header(&[0xff, 3]),
+        Framing::Ppp.header(&[0xff, 3, 0]),
+        Framing::FrameRelay.header(&[0x18, 0x41, 3, 0xcf]),
+    ];
+    assert_equal(&rt, ends, [Err(1), Err(2), Err(2), Err(3), Err(4), Err(5)]);
+    // The address, and another control than 3.
+    let header = Header {
+        len: 2,
+        carried: Carried::Unknown,
+    };
+    assert_equal(&rt, Framing::PppHdlc.header(&[0xff, 5, 0]), Ok(header));
+}
+
+#[test]
 fn lines_of_cisco_hdlc_carry_packets(rt: HostRuntime) {
     for header in [[0x0f, 0, 8, 0], [0x8f, 0, 8, 0]] {
         let are_found = [
@@ -228,6 +247,23 @@ fn frame_with([first, second, sequence, qos]: [u8; 4]) -> [u8; 40] {
     [frame[0], frame[1], frame[22], frame[24]] = [first, second, sequence, qos];
     [frame[26], frame[27], frame[28]] = [0x42, 0x42, 3];
     frame
+}
+
+#[test]
+fn control_of_llc_has_one_or_two_bytes(rt: HostRuntime) {
+    let mut frame = frame_with([0x88, 2, 0, 0]);
+    // Unnumbered information, a command, information, and two of supervision.
+    for (control, len) in [(3, 29), (0xe3, 29), (2, 30), (1, 30), (5, 30)] {
+        frame[28] = control;
+        let carried = Carried::Llc(0x42);
+        let found = Framing::Ieee80211.header(&frame);
+        assert_equal(
+            &rt,
+            (control, found),
+            (control, Ok(Header { len, carried })),
+        );
+    }
+    assert_equal(&rt, Framing::Ieee80211.header(&frame[..28]), Err(29));
 }
 
 #[test]

@@ -230,7 +230,9 @@ impl BlockHead {
 
 impl Section {
     /// The head of the packet in a block that has one, at the front of a slice, whether or not the
-    /// rest of the block is there, for a program that skips a packet that is too long for it.
+    /// rest of the block is there, for a program that skips a packet that is too long for it. The
+    /// caller has to pass `packet_type.data_start()` bytes at least, and the head of a block that is
+    /// 4 bytes longer at least; a head that `block_head` read is.
     ///
     /// # Errors
     ///
