@@ -454,6 +454,12 @@ def check_nothing_beside(file, text):
         judge(file, beside and beside.group(), not beside, 'is beside the repository')
 
 
+def check_iterators(file, text):
+    """The contract of `size_hint` allows a count that is too great, so no iterator has one of its own."""
+    if re.search(r'\bIterator for ', text):
+        judge(file, 'size_hint', 'fn size_hint' not in text, 'is written by hand')
+
+
 for file in FILES:
     if file.suffix in ('.md', '.rt', '.antt', '.sh', '.py', '.c', '.h', '.rs', '.txt', '.edit', ''):
         content = file.read_text(errors='replace')
@@ -461,6 +467,7 @@ for file in FILES:
             check_nothing_beside(file, content)
 for file, content in SOURCES.items():
     check_comments(file, content)
+    check_iterators(file, content)
 for file in PAGES:
     content = file.read_text()
     for check in check_code, check_files, check_clauses, check_commands, check_figures:
