@@ -24,7 +24,7 @@ use packet::vlan::VlanSlice;
 use packet_parts::checksum::{Absence, Verdict};
 use packet_parts::ip_slice::{IpHeaderSlice, IpSlice};
 
-/// A part of a frame; of one that is not there, both numbers are 0.
+/// A part of a frame; of one that is not there, `len` is 0.
 #[repr(C)]
 #[derive(Default, Drop)]
 pub struct Part {

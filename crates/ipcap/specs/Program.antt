@@ -94,7 +94,7 @@ module _ {R W E : Type 0} (remaining : R → Option (List ℕ)) (contents : W �
     pub new : Output W
     pub old_errors : Output E
     pub new_errors : Output E
-    pub reads : (input.source ≡ source) × (unread input ≡ [])
+    pub reads : (input.source ≡ source) × (unread input ≡ []) × (input.count ≡ 0)
     pub prints : (old.sink ≡ sink) × (pending old ≡ []) × (pending old_errors ≡ [])
     pub ends : EndsWith request memory input left old new old_errors new_errors code
         ⊎ FailsWith request memory input left old new old_errors new_errors code

@@ -20,7 +20,7 @@ pub struct IpFragment<'a> {
 }
 
 /// What all these fragments are, one after another. Those that [`IpDefragBuf::add`] refuses are
-/// passed over.
+/// passed over. If some are missing, they can be added.
 pub fn reassemble<'a>(
     bytes: &'a mut [u8],
     units: &'a mut [u8],
@@ -31,6 +31,7 @@ pub fn reassemble<'a>(
     ensures whole { (datagram : List ℕ) →
         (IsWhole result datagram ↔ HoldDatagram (came fragments.now) datagram) }
     ensures discarded { (result ≡ None) ↔ HaveConflict (came fragments.now) }
+    ensures stands { StandsFor result (came fragments.now) }
 {
     let mut buf = IpDefragBuf::new(bytes, units);
     for fragment in fragments {

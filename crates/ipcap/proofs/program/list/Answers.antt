@@ -10,7 +10,7 @@ returns-in-Ok g c = record {
     new = c.run.new.output;
     old_errors = c.new-errors.result;
     new_errors = c.run.new.errors;
-    reads = (c.new-input.ensures.source, c.new-input.ensures.unread);
+    reads = (c.new-input.ensures.source, c.new-input.ensures.unread, c.new-input.ensures.count);
     prints = (c.new-output.ensures.sink, c.new-output.ensures.empty, c.new-errors.ensures.empty);
     ends = inl (record { status = c.in-Ok.status; is_code = c.code.ensures.value; writes = c.in-Ok.ensures.output; unfailed = c.in-Ok.ensures.unfailed });
   };
@@ -25,7 +25,7 @@ returns g c = record {
     new = c.run.new.output;
     old_errors = c.new-errors.result;
     new_errors = c.run.new.errors;
-    reads = (c.new-input.ensures.source, c.new-input.ensures.unread);
+    reads = (c.new-input.ensures.source, c.new-input.ensures.unread, c.new-input.ensures.count);
     prints = (c.new-output.ensures.sink, c.new-output.ensures.empty, c.new-errors.ensures.empty);
     ends = inr (record { of = c.in-Err.failure; is_code = refl; fails = c.in-Err.ensures.failed });
   };

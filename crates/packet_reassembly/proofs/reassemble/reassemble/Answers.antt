@@ -8,3 +8,8 @@ pub returns-clause-whole : goal.returns-clause-whole
 returns-clause-whole c =
     let all = take_all c.loop-fragment.fragment-index c.args.fragments.now (omega arith) in
     whole_stands c.loop-fragment.buf (came c.args.fragments.now) (rw all at c.loop-fragment.invariant)
+
+pub returns-clause-stands : goal.returns-clause-stands
+returns-clause-stands c =
+    let all = take_all c.loop-fragment.fragment-index c.args.fragments.now (omega arith) in
+    rw all at c.loop-fragment.invariant
