@@ -13,9 +13,10 @@ use Rattle.ipcap.specs.Arguments.{HasLongText, IsArguments, text_of}
 use Rattle.ipcap.specs.Options.{app_with, exclusions, exclusions_of, options}
 use Rattle.ipcap.specs.Output.{Fails, IsOutcome, Writes}
 use Rattle.ipcap.specs.Reassembled.{Memory}
+use Rattle.ipcap.specs.Refusal.{refusal_lines}
 use Rattle.ipcap.specs.Request.{IsFilter, IsNoFilter}
 use Rattle.ipcap.specs.Status.{code_of}
-use Rattle.ipcap.specs.Streams.{NoReadFails, pending, unlisted, unread}
+use Rattle.ipcap.specs.Streams.{NoReadFails, Reports, pending, unlisted, unread}
 use Rattle.ipcap.specs.declared.arguments.Arguments.{Arguments}
 use Rattle.ipcap.specs.declared.failure.Failure.{Failure}
 use Rattle.ipcap.specs.declared.failure.Failure.TheVariants as failure
@@ -99,6 +100,16 @@ module _ {R W E : Type 0} (remaining : R → Option (List ℕ)) (contents : W �
     pub ends : EndsWith request memory input left old new old_errors new_errors code
         ⊎ FailsWith request memory input left old new old_errors new_errors code
 
+  -- The text of arguments is no expression: standard error gets the lines on it, and the code is 2.
+  pub record RefusesText (text : List ℕ) (code : ℕ) : Type 0 where
+    pub error : FilterError
+    pub is_none : IsNoFilter text error
+    pub old : Output E
+    pub new : Output E
+    pub fresh : pending old ≡ []
+    pub said : Reports contents_of_errors error_failed old new (refusal_lines text error)
+    pub is_code : code ≡ 2
+
   -- the same, with packets put together or not
   pub record RunsAnew (request : Request) (reassembles : Bool) (source : R) (sink : W) (code : ℕ)
       : Type 0 where
@@ -120,7 +131,7 @@ module _ {R W E : Type 0} (remaining : R → Option (List ℕ)) (contents : W �
 
     -- what comes of arguments, unless their text is no expression
     abbrev pub Answers : Arguments → ℕ → Type 0
-    Answers arguments code = ((e : FilterError) × IsNoFilter arguments.text.items e × (code ≡ 2))
+    Answers arguments code = RefusesText arguments.text.items code
         ⊎ ((request : Request) × IsRequest arguments request × Opens arguments request code)
 
     -- what comes of words, unless their text is too long

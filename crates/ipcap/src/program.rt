@@ -71,8 +71,8 @@ fn answer<S: System + Eprint>(system: &S, alloc: Global, arguments: &Arguments) 
         Ok(request) => request,
         Err(error) => {
             let text = arguments.text.as_slice();
-            let lines = RefusalLines { text, error };
-            let _ = eprint!(system; "{lines}");
+            let mut errors = Output::new(system.errors());
+            errors.report(RefusalLines { text, error });
             return Ok(REFUSED);
         }
     };

@@ -13,7 +13,7 @@ use std::io::{ErrorKind, Read, Write};
 use std::{fmt, io};
 
 // The most bytes in a line, or in the lines at the end.
-const LINE_ROOM: usize = 1024;
+const LINE_ROOM: usize = 16_384;
 
 /// A line, or the lines at the end.
 pub type Line = ArrayString<LINE_ROOM>;

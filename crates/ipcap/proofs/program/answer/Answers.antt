@@ -2,6 +2,17 @@ use Rattle.std.proofs.Common.{None, inl, inr, refl}
 use Rattle.std.proofs.lemmas.Result.{IfOk-weaker}
 use Rattle.ipcap.proofs.program.answer.Goals as goal
 
+pub returns-in-Err-clause-answers : goal.returns-in-Err-clause-answers
+returns-in-Err-clause-answers g c = inl (record {
+  error = c.in-Err.error;
+  is_none = c.in-Err.ensures.refused;
+  old = c.new-errors.result;
+  new = c.report.new.self;
+  fresh = c.new-errors.ensures.empty;
+  said = rw c.as_slice-text.ensures.value at c.report.ensures.reports;
+  is_code = refl;
+})
+
 pub returns-in-Err-open-clause-answers : goal.returns-in-Err-open-clause-answers
 returns-in-Err-open-clause-answers g c = inr (c.in-Ok.request, c.in-Ok.ensures.request, inl (c.in-Err-open.e, c.in-Err-open.ensures, c.refuse.ensures.code))
 
