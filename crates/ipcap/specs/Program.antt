@@ -100,6 +100,13 @@ module _ {R W E : Type 0} (remaining : R → Option (List ℕ)) (contents : W �
     pub ends : EndsWith request memory input left old new old_errors new_errors code
         ⊎ FailsWith request memory input left old new old_errors new_errors code
 
+  -- the same, with packets put together or not
+  pub record RunsAnew (request : Request) (reassembles : Bool) (source : R) (sink : W) (code : ℕ)
+      : Type 0 where
+    pub memory : Memory
+    pub fresh : IsFresh reassembles memory
+    pub runs : Runs request memory source sink code
+
   -- The text of arguments is no expression: standard error gets the lines on it, and the code is 2.
   pub record RefusesText (text : List ℕ) (code : ℕ) : Type 0 where
     pub error : FilterError
@@ -109,13 +116,6 @@ module _ {R W E : Type 0} (remaining : R → Option (List ℕ)) (contents : W �
     pub fresh : pending old ≡ []
     pub said : Reports contents_of_errors error_failed old new (refusal_lines text error)
     pub is_code : code ≡ 2
-
-  -- the same, with packets put together or not
-  pub record RunsAnew (request : Request) (reassembles : Bool) (source : R) (sink : W) (code : ℕ)
-      : Type 0 where
-    pub memory : Memory
-    pub fresh : IsFresh reassembles memory
-    pub runs : Runs request memory source sink code
 
   module _ (opens : Option (List ℕ) → Result R Error → Type 0)
       (creates : Option (List ℕ) → Result W Error → Type 0) where
