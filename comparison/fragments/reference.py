@@ -1,15 +1,16 @@
 #!/usr/bin/env python3
 """What the fragments of IP packets say: a reference for `packet_reassembly`.
 
-It is written from RFC 791 section 3.2, RFC 8200 section 4.5, RFC 5722, RFC 6946 and RFC 7112, and
-decides by the set of the fragments that have come, not one after another:
+It is written from RFC 791 section 3.2, RFC 8200 section 4.5, RFC 3168 section 5.3, RFC 5722, RFC
+6946 and RFC 7112, and decides by the set of the fragments that have come, not one after another:
 
 - a fragment is refused if it has no bytes, if more follow it and its length is no multiple of 8, or
   if it ends past byte 65535;
 - a datagram is discarded if two different fragments of it overlap, or if one goes past the end that
   another one tells;
 - it is complete if its end has come and all bytes before that;
-- the packet has the header of the fragment at offset 0.
+- the packet has the header of the fragment at offset 0, but the ECN codepoint CE if any fragment
+  has it; if one has CE and another Not-ECT, the datagram is discarded.
 
     reference.py --seed 1 --count 1000      prints cases, one JSON object a line
     reference.py --check --count 10000      checks the reference against itself: every order of a
@@ -89,15 +90,16 @@ def checksum(header):
     return 0xFFFF - total
 
 
-def ipv4(source, destination, protocol, identification, offset, more, payload, ttl=64, options=b""):
+def ipv4(source, destination, protocol, identification, offset, more, payload, ttl=64, options=b"",
+         ecn=0):
     header = struct.pack(
-        "!BBHHHBBH4s4s", 0x45 + len(options) // 4, 0, 20 + len(options) + len(payload),
+        "!BBHHHBBH4s4s", 0x45 + len(options) // 4, ecn, 20 + len(options) + len(payload),
         identification, more << 13 | offset, ttl, protocol, 0, source, destination) + options
     return header[:10] + struct.pack("!H", checksum(header)) + header[12:] + payload
 
 
-def ipv6(source, destination, next_header, body, hop_limit=64):
-    return struct.pack("!IHBB16s16s", 6 << 28, len(body), next_header, hop_limit, source,
+def ipv6(source, destination, next_header, body, hop_limit=64, ecn=0):
+    return struct.pack("!IHBB16s16s", 6 << 28 | ecn << 20, len(body), next_header, hop_limit, source,
                        destination) + body
 
 
@@ -136,8 +138,17 @@ def has_whole_chain(number, payload):
     return len(rest) >= {17: 8, 58: 4}.get(upper, 0)
 
 
+NOT_ECT, CE = 0, 3 # RFC 3168 section 5
+
+
+def codepoint(packet):
+    """the ECN codepoint of an IP packet"""
+    return packet[1] & 3 if packet[0] >> 4 == 4 else packet[1] >> 4 & 3
+
+
 def parsed(packet):
-    """(id, fragment, what makes the packet of a payload) of a fragment; None if it is whole."""
+    """(id, fragment, what makes the packet of a payload and the ECN codepoints of all fragments) of a
+    fragment; None if it is whole."""
     if packet[0] >> 4 == 4:
         size = 4 * (packet[0] & 15)
         word = struct.unpack_from("!H", packet, 6)[0]
@@ -147,12 +158,13 @@ def parsed(packet):
             return None
         ident = (4, packet[12:16], packet[16:20], packet[9], packet[4:6])
 
-        def made(payload):
+        def made(payload, codepoints):
             if size + len(payload) > MAX:
                 return None
             header = bytearray(packet[:size])
             struct.pack_into("!H", header, 2, size + len(payload))
             struct.pack_into("!H", header, 6, word & 0x4000)
+            header[1] |= CE if CE in codepoints else 0
             header[10:12] = b"\0\0"
             struct.pack_into("!H", header, 10, checksum(bytes(header)))
             return bytes(header) + payload
@@ -172,16 +184,24 @@ def parsed(packet):
     payload = body[at + 8:]
     ident = (6, packet[8:24], packet[24:40], identification)
 
-    def made(datagram):
+    def made(datagram, codepoints):
         if at + len(datagram) > MAX:
             return None
         front = bytearray(packet[:40 + at])
         front[before] = named
+        front[1] |= CE << 4 if CE in codepoints else 0
         struct.pack_into("!H", front, 4, at + len(datagram))
         return bytes(front) + datagram
 
     whole = word >> 3 != 0 or has_whole_chain(named, payload)
     return ident, (word >> 3, bool(word & 1), payload), made, whole
+
+
+def said_of(entry):
+    """What the fragments of a datagram say that came in packets with these ECN codepoints."""
+    if {CE, NOT_ECT} <= entry["codepoints"]:
+        return "discarded", None
+    return said(entry["fragments"])
 
 
 def run(packets):
@@ -197,16 +217,17 @@ def run(packets):
         if why or not whole:
             out.append(why or "refused-chain")
             continue
-        entry = found.setdefault(ident, {"fragments": [], "made": None})
+        entry = found.setdefault(ident, {"fragments": [], "codepoints": set(), "made": None})
         if fragment[0] == 0 and entry["made"] is None:
             entry["made"] = made
         entry["fragments"].append(fragment)
-        out.append(said(entry["fragments"])[0])
+        entry["codepoints"].add(codepoint(packet))
+        out.append(said_of(entry)[0])
     made = {}
     for ident, entry in found.items():
-        state, datagram = said(entry["fragments"])
+        state, datagram = said_of(entry)
         name = "/".join(x.hex() if isinstance(x, bytes) else str(x) for x in ident)
-        packet = entry["made"](datagram) if state == "complete" else None
+        packet = entry["made"](datagram, entry["codepoints"]) if state == "complete" else None
         made[name] = packet.hex() if packet else None
     return out, made
 
@@ -271,6 +292,12 @@ def packets_case(rng):
     packets = []
     for _ in range(rng.randint(1, 3)):
         version, number = rng.choice([4, 6]), rng.choice([17, 6, 58, 132])
+        most = rng.randint(0, 3)
+
+        def ecn():
+            """of most fragments the same; a router sets CE"""
+            return rng.choice([CE, rng.randint(0, 3)]) if rng.random() < 0.1 else most
+
         upper = rng.randbytes(rng.randint(1, 600))
         if number == 6 and len(upper) > 12:
             upper = upper[:12] + bytes([rng.choice([0x50, 0x60, 0xF0])]) + upper[13:]
@@ -281,7 +308,7 @@ def packets_case(rng):
             options = rng.choice([b"", bytes([1, 1, 1, 0])])
             for offset, more, payload in spoiled(rng, cut(rng, upper)):
                 packets.append(ipv4(b"\x0a\0\0\1", b"\x0a\0\0\2", number, identification, offset,
-                                    more, payload, rng.randint(1, 64), options))
+                                    more, payload, rng.randint(1, 64), options, ecn()))
             continue
         for offset, more, payload in spoiled(rng, cut(rng, upper)):
             chain = bytearray(extensions)
@@ -291,7 +318,7 @@ def packets_case(rng):
                 offset, more, payload = 0, False, payload
             body = bytes(chain) + fragment_header(number, offset, more, identification) + payload
             packets.append(ipv6(bytes(15) + b"\1", bytes(15) + b"\2",
-                                44 if first is None else first, body, rng.randint(1, 64)))
+                                44 if first is None else first, body, rng.randint(1, 64), ecn()))
     packets = [p for p in packets if p[0] >> 4 == 6 or struct.unpack_from("!H", p, 2)[0] == len(p)]
     rng.shuffle(packets)
     out, made = run(packets)

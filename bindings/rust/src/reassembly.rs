@@ -27,7 +27,8 @@ pub enum DatagramState {
     Incomplete,
     /// All of it has come.
     Complete,
-    /// Two of its fragments contradict each other.
+    /// Two of its fragments contradict each other, or one has the ECN codepoint CE and another
+    /// Not-ECT (RFC 3168 section 5.3).
     Discarded,
 }
 
@@ -331,6 +332,9 @@ impl<'a> IpDefragPool<'a> {
     /// older than the timeout is given up when a fragment with its id comes. The other slots do not
     /// change. What follows the packet does not count.
     ///
+    /// The ECN codepoint of each fragment counts, also of an exact duplicate: if one has CE and another
+    /// Not-ECT, the datagram is discarded for good (RFC 3168 section 5.3).
+    ///
     /// `None` if the packet is whole: it is no fragment, and nothing changes.
     ///
     /// # Errors
@@ -362,9 +366,9 @@ impl<'a> IpDefragPool<'a> {
     }
 
     /// Writes the packet of the datagram in a slot to the front of a buffer, and returns it: with the
-    /// headers of the first copy of the fragment at offset 0 that came, with the new length, and in
-    /// IPv4 the new checksum; in IPv6 without the fragment header. `None` if the datagram is not
-    /// complete. The slot stays as it is: release it once the packet is done with.
+    /// headers of the first copy of the fragment at offset 0 that came, with the new length, with the
+    /// ECN codepoint CE if any fragment had it, and in IPv4 the new checksum; in IPv6 without the
+    /// fragment header. `None` if the datagram is not complete. The slot stays as it is: release it once the packet is done with.
     ///
     /// # Errors
     ///

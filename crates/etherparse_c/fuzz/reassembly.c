@@ -176,6 +176,7 @@ struct flow {
     uint8_t addresses[32];
     uint32_t identification;
     uint32_t vlan_ids[2];
+    uint8_t codepoint; /* the ECN of most of them */
 };
 
 /* What a slot of the pool should hold. */
@@ -205,6 +206,7 @@ static void make_flow(struct flow *flow)
     make_cut(&flow->cut);
     flow->version = below(2) == 0 ? 4 : 6;
     flow->number = numbers[below(9)];
+    flow->codepoint = (uint8_t)below(4);
     /* Ids differ in one thing or another. */
     memset(flow->addresses, 0, 32);
     flow->addresses[below(32)] = (uint8_t)below(2);
@@ -243,12 +245,19 @@ static size_t make_unfragmentable(uint8_t *at, uint8_t *naming)
     return len;
 }
 
+/* The ECN codepoint of a packet of a flow: now and then another one, as a router sets CE. */
+static uint8_t codepoint_of(const struct flow *flow)
+{
+    return below(16) == 0 ? 3 : below(64) == 0 ? (uint8_t)below(4) : flow->codepoint;
+}
+
 static size_t make_ipv4_fragment(uint8_t *at, const struct flow *flow, const struct part_of *part)
 {
     size_t header = make_ipv4(at);
     put(at + 2, 2, header + part->len);
     put(at + 4, 2, flow->identification);
     put(at + 6, 2, (next_random() & 0xc000) | (part->more ? 0x2000 : 0) | (part->offset & 0x1fff));
+    at[1] = (uint8_t)((at[1] & 0xfc) | codepoint_of(flow));
     at[9] = flow->number;
     memcpy(at + 12, flow->addresses, 8);
     return header;
@@ -259,6 +268,7 @@ static size_t make_ipv6_fragment(uint8_t *at, const struct flow *flow, const str
     size_t len = make_ipv6(at, 44);
     len += make_unfragmentable(at + len, at + 6);
     memcpy(at + 8, flow->addresses, 32);
+    at[1] = (uint8_t)((at[1] & 0xcf) | codepoint_of(flow) << 4);
     at[len] = flow->number;
     at[len + 1] = (uint8_t)next_random();
     put(at + len + 2, 2, part->offset << 3 | below(4) << 1 | part->more);
@@ -359,6 +369,7 @@ static void hold(struct held *slot, const struct fragment *fragment, const uint8
         memcpy(slot->headers, bytes, fragment->headers_len);
     }
     map_add(&slot->map, fragment->offset, fragment->more, bytes + fragment->headers_len, fragment->len);
+    map_mark(&slot->map, fragment->codepoint);
 }
 
 static void check_written(size_t slot)

@@ -18,6 +18,7 @@ void map_clear(struct map *map)
 {
     memset(map->piece_of, 0, map->reach * sizeof map->piece_of[0]);
     map->is_discarded = map->is_ended = false;
+    memset(map->has_codepoint, 0, sizeof map->has_codepoint);
     map->end = map->reach = map->covered = map->piece_count = 0;
 }
 
@@ -68,6 +69,17 @@ struct etherparse_defrag_error map_add(struct map *map, size_t offset, bool more
     return refusal;
 }
 
+/* RFC 3168 section 5: the codepoints are 0, Not-ECT; 1, ECT(1); 2, ECT(0); and 3, CE. Section 5.3: CE of a fragment must not be
+ * lost, and must not be set if another one has Not-ECT; then the packet is dropped. */
+enum { NOT_ECT = 0, CE = 3 };
+
+void map_mark(struct map *map, uint32_t codepoint)
+{
+    map->has_codepoint[codepoint] = true;
+    if (map->has_codepoint[CE] && map->has_codepoint[NOT_ECT])
+        map->is_discarded = true;
+}
+
 uint32_t map_state(const struct map *map)
 {
     if (map->is_discarded)
@@ -111,6 +123,7 @@ static bool read_ipv4(const uint8_t *packet, const struct etherparse_packet_ip *
     fragment->offset = (uint16_t)bits_at(packet, 51, 13);
     fragment->more = bits_at(packet, 50, 1) == 1;
     fragment->next_header = ip->upper;
+    fragment->codepoint = bits_at(packet, 14, 2);
     fragment->headers_len = fragment->unfragmentable_len = ip->header.len;
     fragment->len = ip->payload.len;
     return ip->is_fragment;
@@ -140,6 +153,7 @@ static bool read_ipv6(const uint8_t *packet, struct fragment *fragment)
     fragment->offset = (uint16_t)bits_at(packet + at, 16, 13);
     fragment->more = bits_at(packet + at, 31, 1) == 1;
     fragment->next_header = packet[at];
+    fragment->codepoint = bits_at(packet, 10, 2); /* the last two bits of the traffic class */
     fragment->unfragmentable_len = at;
     fragment->headers_len = at + 8;
     fragment->len = end - at - 8;
@@ -176,7 +190,7 @@ bool read_fragment(const uint8_t *packet, size_t len, struct fragment *fragment,
     return error->kind == ETHERPARSE_DEFRAG_OK;
 }
 
-/* RFC 791 section 3.2 and RFC 8200 section 4.5. */
+/* RFC 791 section 3.2, RFC 8200 section 4.5 and RFC 3168 section 5.3. */
 struct etherparse_defrag_written write_datagram(const struct map *map, const uint8_t *headers, const struct fragment *first,
     uint8_t *out)
 {
@@ -193,6 +207,8 @@ struct etherparse_defrag_written write_datagram(const struct map *map, const uin
     uint8_t *length_field = out + (first->id.version == 4 ? 2 : 4);
     length_field[0] = (uint8_t)(said / 256);
     length_field[1] = (uint8_t)(said % 256);
+    if (map->has_codepoint[CE])
+        out[1] |= first->id.version == 4 ? 0x03 : 0x30;
     if (first->id.version == 6) {
         out[first->naming] = first->next_header;
         return written;

@@ -20,6 +20,7 @@ struct piece {
 struct map {
     bool is_discarded;
     bool is_ended; /* the last fragment has come */
+    bool has_codepoint[4]; /* a fragment has come with this ECN codepoint */
     size_t end; /* where it ends */
     size_t reach; /* the greatest end of a fragment */
     size_t covered; /* how many bytes have come */
@@ -35,6 +36,9 @@ void map_clear(struct map *map);
 /* Takes a fragment. */
 struct etherparse_defrag_error map_add(struct map *map, size_t offset, bool more, const uint8_t *payload, size_t len);
 
+/* Notes the ECN codepoint of a fragment that is taken. */
+void map_mark(struct map *map, uint32_t codepoint);
+
 /* What is known of the datagram. */
 uint32_t map_state(const struct map *map);
 
@@ -44,6 +48,7 @@ struct fragment {
     uint16_t offset;
     bool more;
     uint8_t next_header;
+    uint32_t codepoint; /* the ECN of its IP header */
     size_t headers_len; /* all bytes before the payload */
     size_t unfragmentable_len; /* of those, of IPv6, the bytes before the fragment header */
     size_t naming; /* of IPv6 the place of the byte that names the fragment header */

@@ -78,7 +78,9 @@ enum {
 enum {
     ETHERPARSE_DEFRAG_INCOMPLETE = 0, /* not all of it has come */
     ETHERPARSE_DEFRAG_COMPLETE = 1, /* all of it has come */
-    ETHERPARSE_DEFRAG_DISCARDED = 2, /* two of its fragments contradict each other */
+    /* two of its fragments contradict each other, or one has the ECN codepoint CE and another
+     * Not-ECT */
+    ETHERPARSE_DEFRAG_DISCARDED = 2,
     ETHERPARSE_DEFRAG_NO_FRAGMENT = 3 /* of a packet that was not added */
 };
 
@@ -212,6 +214,9 @@ void etherparse_defrag_pool_new(struct etherparse_defrag_pool_state *state,
  * the timeout is given up when a fragment with its id comes. The other slots do not change. A VLAN
  * identifier above 65535 says that there is no such tag. What follows the packet does not count.
  *
+ * The ECN codepoint of each fragment counts, also of an exact duplicate: if one has CE and another
+ * Not-ECT, the datagram is discarded for good (RFC 3168 section 5.3).
+ *
  * A packet that is whole is no fragment: then the state is NO_FRAGMENT, the error OK, and nothing
  * changes.
  *
@@ -223,8 +228,8 @@ struct etherparse_defrag_added etherparse_defrag_pool_add_packet(
 
 /* Writes the packet of the datagram in a slot to the front of a buffer of at least
  * ETHERPARSE_DEFRAG_PACKET_SIZE bytes, with the headers of the first copy of the fragment at offset
- * 0 that came: with the new length, and in IPv4 the new checksum; in IPv6 without the fragment
- * header. The len of the result is 0 if the datagram is not complete. The slot is one of the pool.
+ * 0 that came: with the new length, with the ECN codepoint CE if any fragment had it, and in IPv4
+ * the new checksum; in IPv6 without the fragment header. The len of the result is 0 if the datagram is not complete. The slot is one of the pool.
  * Nothing changes: release the slot once the packet is done with. */
 struct etherparse_defrag_written etherparse_defrag_pool_write_packet(
     struct etherparse_defrag_pool *pool, size_t slot, uint8_t *out, size_t len);

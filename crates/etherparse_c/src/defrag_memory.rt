@@ -11,6 +11,7 @@ ghost use Rattle.etherparse_c.specs.DefragMemory.{HasRoomForBuf, HasRoomForPool,
 ghost use Rattle.etherparse_c.specs.DefragMemory.{buf_row, empty_buf, pool_row, slot_row};
 
 use crate::defrag_slots::Slots;
+use packet_reassembly::fragment_ecn::FragmentEcn;
 use packet_reassembly::ip_defrag_buf::IpDefragBuf;
 use packet_reassembly::ip_defrag_headers::IpDefragHeaders;
 use packet_reassembly::ip_defrag_pool::IpDefragSlot;
@@ -97,6 +98,7 @@ fn slot_over(memory: &'static mut [u8]) -> IpDefragSlot<'static>
         id: None,
         since: 0,
         headers: IpDefragHeaders::new(headers),
+        ecn: FragmentEcn::NONE,
         buf: IpDefragBuf::new(bytes, units),
     }
 }

@@ -45,6 +45,9 @@ impl DefragPool {
 /// Adds the fragment that an IP packet is, in the VLANs that it came in: a number above 65535 says
 /// that there is no tag. A packet that is whole is no fragment, and nothing changes.
 ///
+/// The ECN codepoint of each fragment counts, also of an exact duplicate: if one has `CE` and another
+/// `Not-ECT`, the datagram is discarded for good (RFC 3168 section 5.3).
+///
 /// The error is the first of these, and nothing changes: the bytes are no whole IP packet; it is the
 /// first fragment of an IPv6 packet and lacks a part of the header chain; it is the first fragment
 /// of a datagram and has headers of more than 1280 bytes; it is a fragment that
@@ -76,8 +79,9 @@ pub extern "C" fn etherparse_defrag_pool_add_packet(
 }
 
 /// Writes the packet of the datagram in a slot to the front of a buffer with room for 65575 bytes,
-/// with the headers of its first fragment. There is none if the datagram is not complete. The slots
-/// do not change: release this one once the packet is done with.
+/// with the headers of its first fragment, and with the ECN codepoint `CE` if any fragment had it.
+/// There is none if the datagram is not complete. The slots do not change: release this one once the
+/// packet is done with.
 ///
 /// The packet can be too long: its length field says 65535 at most.
 #[unsafe(no_mangle)]

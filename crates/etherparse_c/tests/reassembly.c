@@ -1,6 +1,6 @@
 /* Worked values of the standards, by the calls from C: the fragments of RFC 791 section 3.2 and RFC 8200 section 4.5 in each order,
- * overlaps (RFC 5722), a second end, what no datagram can have, packets of both versions, and each refusal with its numbers. What a
- * call returns is a clause in src/; this tests the way through the header file. */
+ * overlaps (RFC 5722), a second end, what no datagram can have, packets of both versions, their ECN codepoints (RFC 3168), and each
+ * refusal with its numbers. What a call returns is a clause in src/; this tests the way through the header file. */
 
 #include "etherparse_reassembly.h"
 #include "compare.h"
@@ -257,6 +257,34 @@ static void ipv4_packets(void)
     EXPECT(pool.state == &pool_state, 1);
 }
 
+/* The ECN codepoints of three fragments, and of their packet, or -1 if it is dropped (RFC 3168 section 5.3): CE, 3, is not lost, and
+ * is not set beside Not-ECT, 0. */
+static void codepoints(void)
+{
+    static const int cases[][4] = {{2, 2, 3, 3}, {3, 1, 2, 3}, {3, 3, 3, 3}, {2, 1, 1, 2}, {1, 2, 2, 1}, {0, 0, 0, 0}, {3, 3, 0, -1},
+        {0, 2, 3, -1}, {3, 0, 3, -1}};
+    struct etherparse_defrag_pool pool = pool_of(1);
+    struct etherparse_defrag_added added;
+    struct etherparse_defrag_written written;
+    uint8_t packet[64];
+    int i, j;
+    for (i = 0; i < 9; i++) {
+        for (j = 2; j >= 0; j--) {
+            size_t len = ipv4(packet, 0xabcd, j);
+            packet[1] = (uint8_t)(0xb8 + cases[i][j]);
+            added = etherparse_defrag_pool_add_packet(&pool, packet, len, NO_VLAN, NO_VLAN, 0);
+        }
+        EXPECT_ADDED(added, 0, cases[i][3] < 0 ? ETHERPARSE_DEFRAG_DISCARDED : ETHERPARSE_DEFRAG_COMPLETE);
+        written = etherparse_defrag_pool_write_packet(&pool, 0, out, sizeof out);
+        EXPECT(written.len, cases[i][3] < 0 ? 0 : 41);
+        if (cases[i][3] >= 0) {
+            EXPECT(out[1], 0xb8 + cases[i][3]);
+            EXPECT(out[11], 0x3b - cases[i][3]); /* of the checksum, which is 4b3b less the codepoint */
+        }
+        etherparse_defrag_pool_release(&pool, 0);
+    }
+}
+
 /* Two fragments of an IPv6 packet with a UDP header, of 16 bytes and of 5. */
 static void ipv6_packets(void)
 {
@@ -417,6 +445,7 @@ int main(void)
     contradictions();
     refusals();
     ipv4_packets();
+    codepoints();
     ipv6_packets();
     packet_refusals();
     texts();

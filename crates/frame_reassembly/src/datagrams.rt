@@ -10,8 +10,8 @@ pub struct Datagrams {
     pub begun: u64,
     /// Those that are put together.
     pub put_together: u64,
-    /// Those that are discarded: two of their fragments contradict each other, or they would be
-    /// longer than a packet can be.
+    /// Those that are discarded: two of their fragments contradict each other or have the ECN
+    /// codepoints `CE` and `Not-ECT`, or they would be longer than a packet can be.
     pub discarded: u64,
 }
 

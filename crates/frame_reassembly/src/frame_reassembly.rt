@@ -34,7 +34,7 @@ pub struct FrameReassembly<'a, 'b> {
 struct Known {
     // No datagram has it.
     is_free: bool,
-    // Two fragments of its datagram contradict each other.
+    // Its datagram is discarded.
     is_discarded: bool,
 }
 

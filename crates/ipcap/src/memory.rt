@@ -3,6 +3,7 @@
 ghost use Rattle.std.specs.Prelude.{◌≡◌, ◌≤◌, ◌*◌, All, IfOk, None, length, vec_len};
 
 use frame_reassembly::frame_reassembly::FrameReassembly;
+use packet_reassembly::fragment_ecn::FragmentEcn;
 use packet_reassembly::ip_defrag_buf::IpDefragBuf;
 use packet_reassembly::ip_defrag_headers::IpDefragHeaders;
 use packet_reassembly::ip_defrag_pool::IpDefragSlot;
@@ -81,6 +82,7 @@ fn slot_in(memory: &mut [u8]) -> IpDefragSlot
         id: None,
         since: 0,
         headers: IpDefragHeaders::new(headers),
+        ecn: FragmentEcn::NONE,
         buf: IpDefragBuf::new(bytes, units),
     }
 }

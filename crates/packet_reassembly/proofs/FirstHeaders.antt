@@ -5,7 +5,8 @@ use Rattle.std.specs.Option.{option_or}
 use Rattle.std.proofs.lemmas.Bool.{cases_eq}
 use Rattle.std.proofs.lemmas.List.Elements.{Contains-push_cases}
 use Rattle.packet_reassembly.specs.Fragment.{Fragment, IsWhole, Takes}
-use Rattle.packet_reassembly.specs.Pool.{AreSameBut, Has, HasFirstHeaders, HaveFirstHeaders, IsAdded, slot_at}
+use Rattle.packet_reassembly.specs.Pool.{AreSameBut, Has, HasFirstHeaders, HaveFirstHeaders, IsAdded, TakesWith, slot_at}
+use Rattle.packet_reassembly.specs.declared.fragment_ecn.FragmentEcn.{FragmentEcn}
 use Rattle.packet_reassembly.specs.declared.ip_defrag_pool.Added.{Added}
 use Rattle.packet_reassembly.specs.declared.ip_defrag_pool.IpDefragSlot.{IpDefragSlot}
 use Rattle.packet_reassembly.specs.declared.ip_frag_id.IpFragId.{IpFragId}
@@ -28,6 +29,10 @@ others_have k old new same this have = record {
 pub released_have : (k : ℕ) (old new : List IpDefragSlot) → AreSameBut k old new → (slot_at new k).id ≡ None → HaveFirstHeaders old → HaveFirstHeaders new
 released_have k old new same free = others_have k old new same (λ id has. absurd (cc))
 
+-- where something is kept, the packet is not dropped
+takes_kept : (ecn : FragmentEcn) (old : Option (List Fragment)) (f : Fragment) (kept : List Fragment) → TakesWith ecn old f (Some kept) → Takes old f (Some kept)
+takes_kept ecn old f kept takes = takes.1 (λ dropped. let none = takes.0 dropped in cc)
+
 -- a fragment more, with its headers if it is at offset 0
 takes_have : (old : Option (List Fragment)) (kept : List Fragment) (f : Fragment) (before came : Option (List ℕ)) → Takes old f (Some kept) → (f.start ≡ 0 → came ≢ None)
     → ((kept : List Fragment) (g : Fragment) → old ≡ Some kept → Contains kept g → g.start ≡ 0 → before ≢ None) → (g : Fragment) → Contains kept g → g.start ≡ 0 → option_or before came ≢ None
@@ -36,11 +41,11 @@ takes_have (Some old) kept f before came takes brings has g contains front = λ 
     grind (arith, Contains-push_cases old f g ((takes.1 g).0 contains), has old g refl, brings)
 
 -- the same of the slots of a pool
-pub added_have : {old : List IpDefragSlot} {id : IpFragId} {timeout now : ℕ} {f : Fragment} {came : Option (List ℕ)} {added : Added} {new : List IpDefragSlot}
-    → IsAdded old id timeout now f came added new → (f.start ≡ 0 → came ≢ None) → HaveFirstHeaders old → HaveFirstHeaders new
+pub added_have : {old : List IpDefragSlot} {id : IpFragId} {timeout now : ℕ} {f : Fragment} {came : Option (List ℕ)} {ecn : FragmentEcn} {added : Added} {new : List IpDefragSlot}
+    → IsAdded old id timeout now f came ecn added new → (f.start ≡ 0 → came ≢ None) → HaveFirstHeaders old → HaveFirstHeaders new
 added_have {old = old} {id = id} {f = f} {came = came} {added = added} {new = new} is brings have = others_have added.slot old new is.others (λ other has. record {
   known = λ kept g buf contains front. elim is.takes [
-    | inl (on, since, headers, takes) ↦ rw headers (takes_have _ kept f _ came (rw buf at takes) brings (have.each added.slot id on.has).known g contains front)
-    | inr (begins, since, headers, takes) ↦ rw headers (takes_have (Some []) kept f None came (rw buf at takes) brings (λ before h e c _. let none : [] ≡ before = cc in omega (arith, (rw (← none) at c).1)) g contains front)
+    | inl (on, since, headers, ecns, takes) ↦ rw headers (takes_have _ kept f _ came (takes_kept _ _ f kept (rw buf at takes)) brings (have.each added.slot id on.has).known g contains front)
+    | inr (begins, since, headers, ecns, takes) ↦ rw headers (takes_have (Some []) kept f None came (takes_kept _ (Some []) f kept (rw buf at takes)) brings (λ before h e c _. let none : [] ≡ before = cc in omega (arith, (rw (← none) at c).1)) g contains front)
   ];
 }) have

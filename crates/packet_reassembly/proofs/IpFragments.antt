@@ -1,12 +1,14 @@
 -- a packet is one fragment, or none, or refused for one reason
-use Rattle.std.proofs.Common.{ℕ, ◌≡◌, ◌≢◌, ◌<◌, ◌≤◌, ◌+◌, ◌-◌, ◌++◌, ◌∙◌, Err, IfErr, IfNone, IfOk, IfSome, List, None, Ok, Option, Result, Some, ap, arith, inl, inr, length, length-append, refl, subst, sym, take, take_at}
+use Rattle.std.proofs.Common.{ℕ, ◌≡◌, ◌≢◌, ◌<◌, ◌≤◌, ◌+◌, ◌-◌, ◌++◌, ◌∙◌, Err, IfErr, IfNone, IfOk, IfSome, List, None, Ok, Option, Result, Some, ap, arith, inl, inr, length, length-append, refl, rules, subst, sym, take, take_at}
 use Rattle.std.proofs.lemmas.Bool.Decides.{nat_tests}
 use Rattle.std.proofs.lemmas.Grind.{common_steps}
 use Rattle.etherparse.proofs.Ipv4Reading.{tells_headers as tells_ipv4}
 use Rattle.etherparse.proofs.Ipv6Reading.{tells_headers as tells_ipv6}
+use Rattle.etherparse.specs.IpEcn.{ecn_value}
 use Rattle.etherparse.specs.Ipv4Header.{IsFragment, IsIpv4Layout, RefusesIpv4, ipv4_header_len, ipv4_payload_len}
 use Rattle.etherparse.specs.Ipv6Header.{IsIpv6Layout, RefusesIpv6}
 use Rattle.etherparse.specs.Reading.{BeginsWith}
+use Rattle.etherparse.specs.declared.IpEcn.{IpEcn}
 use Rattle.etherparse.specs.declared.err.LenError.{LenError}
 use Rattle.etherparse.specs.declared.net.ipv4_header.Ipv4Header.{Ipv4Header as Header4}
 use Rattle.etherparse.specs.declared.net.ipv6_header.Ipv6Header.{Ipv6Header as Header6}
@@ -120,6 +122,10 @@ headers_6 : (s : List ℕ) (f : IpFragmentSlice) (p : HasIpv6Fragment s f) → f
 headers_6 s f p = rw (p.headers, p.payload) (sym (before_payload p.begins.front p.parts.before.now p.parts.last.now p.are_parts.begins.front p.parts.payload.now (ipv6_bytes p.header s)
     (p.begins.whole ∙ ap (λ x. p.begins.front ++ x) (p.are_parts.whole ∙ ap (λ x. p.parts.before.now ++ (p.parts.last.now ++ x)) p.are_parts.begins.whole))))
 
+-- a number is that of one codepoint
+one_ecn : (a b : IpEcn) → ecn_value a ≡ ecn_value b → a ≡ b
+one_ecn a b same = search rules
+
 -- a packet is one fragment
 pub fragment_once : (s : List ℕ) (f g : IpFragmentSlice) → HasIpFragment s f → HasIpFragment s g → fragment_fields f ≡ fragment_fields g
 fragment_once s f g (inl p) (inl q) =
@@ -130,7 +136,8 @@ fragment_once s f g (inr p) (inl q) = absurd (one_version s q.header p.header _ 
 fragment_once s f g (inr p) (inr q) =
     let same = same_cut_beginning IsIpv6Layout RefusesIpv6 tells_ipv6 ipv6_bytes ipv6_front s p.header q.header p.body q.body p.begins q.begins in
     let parts = parts_once p.parts q.parts (rw (same.0, same.1) at p.are_parts) q.are_parts in
-    cc (headers_6 s f p, headers_6 s g q)
+    let ecn : ecn_value f.ecn ≡ ecn_value g.ecn = rw same.0 at p.ecn ∙ sym q.ecn in
+    cc (headers_6 s f p, headers_6 s g q, one_ecn f.ecn g.ecn ecn)
 
 -- it is refused for one reason
 pub fragment_refused_once : (s : List ℕ) (e f : IpSliceError) → RefusesIpFragment s e → RefusesIpFragment s f → e ≡ f

@@ -1,6 +1,6 @@
 -- The headers of a packet that is a fragment, which are its bytes before those of the fragment; and
 -- the packet of a datagram whose first fragment has them (RFC 791 section 3.2, RFC 8200 section
--- 4.5).
+-- 4.5), with the ECN codepoint of all its fragments (RFC 3168 section 5.3).
 use Rattle.std.specs.Prelude.{ℕ, ◌≡◌, ◌+◌, ◌<◌, ◌≤◌, ◌++◌, ◌⊎◌, List, length, take}
 use Rattle.std.specs.Prelude.{Option, Some, None}
 use Rattle.etherparse.specs.Ipv4Header.{IsIpv4Layout, ipv4_max_payload_len}
@@ -13,7 +13,9 @@ use Rattle.etherparse_net.specs.Ipv6FragmentHeader.{IsFragmentLayout}
 use Rattle.etherparse_net.specs.declared.ipv6_fragment_header.Ipv6FragmentHeader.{
   Ipv6FragmentHeader,
 }
+use Rattle.packet_reassembly.specs.Ecn.{marked_ipv4, marked_ipv6}
 use Rattle.packet_reassembly.specs.Packet.{AreUnfragmentable, IsIpv4Packet, IsIpv6Packet}
+use Rattle.packet_reassembly.specs.declared.fragment_ecn.FragmentEcn.{FragmentEcn}
 use Rattle.packet_reassembly.specs.declared.ip_defrag_headers.Kept.{Kept}
 use Rattle.packet_reassembly.specs.declared.ip_defrag_headers.Kept.TheVariants as kept
 use Rattle.packet_reassembly.specs.declared.ip_frag_id.IpFragVersionSpecId.{IpFragVersionSpecId}
@@ -30,28 +32,32 @@ pub record AreIpv6Headers (headers : List ℕ) (first : Ipv6Header) (before last
   pub unfragmentable : AreUnfragmentable first.next_header before last
   pub fragment_layout : IsFragmentLayout fragment at
 
--- the IPv4 packet of a datagram whose first fragment has this header, with its options
-pub record IsIpv4PacketWith (headers datagram packet : List ℕ) : Type 0 where
+-- the IPv4 packet of a datagram whose first fragment has this header, with its options, and whose
+-- fragments have these codepoints
+pub record IsIpv4PacketWith (headers : List ℕ) (ecn : FragmentEcn) (datagram packet : List ℕ)
+    : Type 0 where
   pub first : Ipv4Header
   pub layout : IsIpv4Layout first headers
-  pub has : IsIpv4Packet first datagram packet
+  pub has : IsIpv4Packet (marked_ipv4 ecn first) datagram packet
 
--- The IPv6 packet of a datagram whose first fragment has these headers. What named the fragment
--- header names what the fragment header of the first fragment names.
-pub record IsIpv6PacketWith (headers datagram packet : List ℕ) : Type 0 where
+-- The IPv6 packet of a datagram whose first fragment has these headers, and whose fragments have
+-- these codepoints. What named the fragment header names what the fragment header of the first
+-- fragment names.
+pub record IsIpv6PacketWith (headers : List ℕ) (ecn : FragmentEcn) (datagram packet : List ℕ)
+    : Type 0 where
   pub first : Ipv6Header
   pub before : List ℕ
   pub last : List ℕ
   pub fragment : Ipv6FragmentHeader
   pub are_headers : AreIpv6Headers headers first before last fragment
-  pub has : IsIpv6Packet first before last fragment.next_header datagram packet
+  pub has : IsIpv6Packet (marked_ipv6 ecn first) before last fragment.next_header datagram packet
 
--- the packet of a datagram whose first fragment has these headers; there is none if they are not
--- known
-abbrev pub IsPacketOf : Option (List ℕ) → List ℕ → List ℕ → Type 0
-IsPacketOf None datagram packet = ⊥
-IsPacketOf (Some headers) datagram packet =
-    IsIpv4PacketWith headers datagram packet ⊎ IsIpv6PacketWith headers datagram packet
+-- the packet of a datagram whose first fragment has these headers, and whose fragments have these
+-- codepoints; there is none if the headers are not known
+abbrev pub IsPacketOf : Option (List ℕ) → FragmentEcn → List ℕ → List ℕ → Type 0
+IsPacketOf None ecn datagram packet = ⊥
+IsPacketOf (Some headers) ecn datagram packet =
+    IsIpv4PacketWith headers ecn datagram packet ⊎ IsIpv6PacketWith headers ecn datagram packet
 
 -- the header and the datagram are longer than a total length can say
 pub record IsTooLongForIpv4 (headers datagram : List ℕ) : Type 0 where

@@ -1,10 +1,12 @@
 -- A packet of either version that is a fragment (RFC 791 section 3.1, RFC 8200 section 4.5).
-use Rattle.std.specs.Prelude.{ℕ, ◌≡◌, ◌≢◌, ◌≤◌, ◌+◌, ◌⊎◌, List, ◌++◌, length, None}
+use Rattle.std.specs.Prelude.{ℕ, ◌≡◌, ◌≢◌, ◌≤◌, ◌+◌, ◌%◌, ◌^◌, ◌⊎◌, List, ◌++◌, length, None}
 use Rattle.std.specs.Prelude.{Bool, Err, Ok, Option, Result, Some, option_map}
 use Rattle.std.specs.Result.{result_map_both}
+use Rattle.etherparse.specs.IpEcn.{ecn_value}
 use Rattle.etherparse.specs.Ipv4Header.{IsFragment, IsIpv4Layout}
 use Rattle.etherparse.specs.Ipv6Header.{IsIpv6Layout}
 use Rattle.etherparse.specs.Reading.{BeginsWith}
+use Rattle.etherparse.specs.declared.IpEcn.{IpEcn}
 use Rattle.etherparse.specs.declared.net.ipv4_header.Ipv4Header.{Ipv4Header}
 use Rattle.etherparse.specs.declared.net.ipv6_header.Ipv6Header.{Ipv6Header}
 use Rattle.etherparse.specs.declared.err.LenError.{LenError}
@@ -18,8 +20,8 @@ use Rattle.packet_reassembly.specs.declared.ip_fragment_slice.IpFragmentSlice.{I
 use Rattle.packet_reassembly.specs.declared.ipv6_fragment.Ipv6FragmentParts.{Ipv6FragmentParts}
 
 -- The packet has all the bytes that its total length says: an IPv4 header of a fragment, and the
--- bytes of that. The header says which packet it is of, where it stands, whether more follow and
--- what was fragmented. Its bytes are the headers.
+-- bytes of that. The header says which packet it is of, where it stands, whether more follow, what
+-- was fragmented, and the ECN codepoint. Its bytes are the headers.
 pub record HasIpv4Fragment (packet : List ℕ) (f : IpFragmentSlice) : Type 0 where
   pub header : Ipv4Header
   pub told : header.total_len ≢ 0
@@ -30,14 +32,15 @@ pub record HasIpv4Fragment (packet : List ℕ) (f : IpFragmentSlice) : Type 0 wh
   pub offset : f.offset ≡ header.fragment_offset
   pub more : f.more_fragments ≡ header.more_fragments
   pub next : f.next_header ≡ header.protocol
+  pub ecn : f.ecn ≡ header.ecn
   pub headers : f.headers.now ≡ begins.front
   pub last_extension : f.last_extension ≡ length f.headers.now
 
 -- The packet has all the bytes that its payload length says: an IPv6 header and what follows it,
 -- extension headers, a fragment header, and the bytes of the fragment. The fragment header says
--- where it stands, whether more follow and what was fragmented. All bytes before those of the
--- fragment are the headers. Whether the extension headers after the fragment header are whole makes
--- no difference.
+-- where it stands, whether more follow and what was fragmented; the traffic class of the IPv6 header
+-- has the ECN codepoint in its lower 2 bits. All bytes before those of the fragment are the headers.
+-- Whether the extension headers after the fragment header are whole makes no difference.
 pub record HasIpv6Fragment (packet : List ℕ) (f : IpFragmentSlice) : Type 0 where
   pub header : Ipv6Header
   pub body : List ℕ
@@ -49,6 +52,7 @@ pub record HasIpv6Fragment (packet : List ℕ) (f : IpFragmentSlice) : Type 0 wh
   pub offset : f.offset ≡ parts.fragment.fragment_offset
   pub more : f.more_fragments ≡ parts.fragment.more_fragments
   pub next : f.next_header ≡ parts.fragment.next_header
+  pub ecn : ecn_value f.ecn ≡ header.traffic_class % 2 ^ 2
   pub payload : f.payload.now ≡ parts.payload.now
   pub headers : f.headers.now ≡ begins.front
       ++ (parts.before.now ++ (parts.last.now ++ are_parts.begins.front))
@@ -107,6 +111,7 @@ pub record IpFragmentFields : Type 0 where
   pub offset : ℕ
   pub more_fragments : Bool
   pub next_header : ℕ
+  pub ecn : IpEcn
   pub headers : List ℕ
   pub payload : List ℕ
 
@@ -116,6 +121,7 @@ fragment_fields f = record {
   offset = f.offset;
   more_fragments = f.more_fragments;
   next_header = f.next_header;
+  ecn = f.ecn;
   headers = f.headers.now;
   payload = f.payload.now;
 }

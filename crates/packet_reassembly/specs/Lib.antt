@@ -1,4 +1,5 @@
 pub mod Arrivals
+pub mod Ecn
 pub mod Fragment
 pub mod HeaderChain
 pub mod Headers

@@ -2,6 +2,7 @@
 use Rattle.std.specs.Prelude.{ℕ, ◌≡◌, ◌<◌, ◌≤◌, ◌==◌, ◌⊎◌, List, Option, None, Some, length}
 use Rattle.std.specs.Prelude.{if◌then◌else◌}
 use Rattle.etherparse.specs.declared.err.ValueTooBigError.{ValueTooBigError}
+use Rattle.packet_reassembly.specs.Ecn.{ecn_of}
 use Rattle.packet_reassembly.specs.Fragment.{Fragment, IsRight, IsWhole, fragment}
 use Rattle.packet_reassembly.specs.HeaderChain.{HasWholeChain, LacksChain}
 use Rattle.packet_reassembly.specs.Headers.{IsErrorFor, IsPacketOf, IsTooLongFor}
@@ -45,8 +46,8 @@ headers_of f = if f.offset == 0 then Some f.headers.now else None
 abbrev pub HasShortHeaders : IpFragmentSlice → Type 0
 HasShortHeaders f = f.offset ≡ 0 → length f.headers.now ≤ 1280
 
--- The packet is a fragment that a datagram can have, and that fragment is added. If it is the first
--- one at offset 0, its headers are.
+-- The packet is a fragment that a datagram can have, and that fragment is added, with the ECN
+-- codepoint of its IP header. If it is the first one at offset 0, its headers are.
 pub record IsPacketAdded (old : List IpDefragSlot) (packet : List ℕ) (outer inner : Option ℕ)
     (timeout now : ℕ) (new : List IpDefragSlot) (added : Added) : Type 0 where
   pub f : IpFragmentSlice
@@ -55,7 +56,7 @@ pub record IsPacketAdded (old : List IpDefragSlot) (packet : List ℕ) (outer in
   pub short : HasShortHeaders f
   pub right : IsRight (fragment_of_packet f)
   pub is_added : IsAdded old (id_of outer inner f) timeout now (fragment_of_packet f)
-      (headers_of f) added new
+      (headers_of f) (ecn_of f.ecn) added new
   pub others : OthersStay old (id_of outer inner f) added.given_up new
 
 -- it is the first fragment of an IPv6 packet, and lacks a part of the header chain
@@ -94,7 +95,7 @@ RefusesPacket packet (why.Fragment e) = HasRefusedFragment packet e
 pub record IsPacketIn (slot : IpDefragSlot) (packet : List ℕ) : Type 0 where
   pub datagram : List ℕ
   pub whole : IsWhole slot.buf datagram
-  pub has : IsPacketOf slot.headers datagram packet
+  pub has : IsPacketOf slot.headers slot.ecn datagram packet
 
 -- the datagram in the slot is complete, and its packet would be too long
 pub record HasTooLongPacket (slot : IpDefragSlot) : Type 0 where

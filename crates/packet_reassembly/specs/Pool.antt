@@ -2,7 +2,9 @@
 use Rattle.std.specs.Prelude.{ℕ, ◌≡◌, ◌≢◌, ◌+◌, ◌<◌, ◌≤◌, ◌⊎◌, List, [], length, slice_index_or}
 use Rattle.std.specs.Prelude.{Option, Some, None, Contains}
 use Rattle.std.specs.Option.{option_or}
+use Rattle.packet_reassembly.specs.Ecn.{IsDropped, ecn_with, no_ecn}
 use Rattle.packet_reassembly.specs.Fragment.{Fragment, IsWhole, Takes}
+use Rattle.packet_reassembly.specs.declared.fragment_ecn.FragmentEcn.{FragmentEcn}
 use Rattle.packet_reassembly.specs.declared.ip_defrag_pool.Added.{Added}
 use Rattle.packet_reassembly.specs.declared.ip_defrag_pool.DatagramState.{DatagramState}
 use Rattle.packet_reassembly.specs.declared.ip_defrag_pool.DatagramState.TheVariants as state
@@ -11,7 +13,7 @@ use Rattle.packet_reassembly.specs.declared.ip_frag_id.IpFragId.{IpFragId}
 
 -- a slot that no datagram has, which is what there is past the last
 abbrev pub no_slot : IpDefragSlot
-no_slot = record { id = None; since = 0; headers = None; buf = Some [] }
+no_slot = record { id = None; since = 0; headers = None; ecn = no_ecn; buf = Some [] }
 
 abbrev pub slot_at : List IpDefragSlot → ℕ → IpDefragSlot
 slot_at slots k = slice_index_or slots k no_slot
@@ -60,9 +62,11 @@ pub record IsPlaced (old : List IpDefragSlot) (id : IpFragId) (timeout now k : �
   pub place : (GoesOn old id timeout now k given_up
       × ((slot_at new k).since ≡ (slot_at old k).since)
       × ((slot_at new k).headers ≡ (slot_at old k).headers)
+      × ((slot_at new k).ecn ≡ (slot_at old k).ecn)
       × ((slot_at new k).buf ≡ (slot_at old k).buf))
       ⊎ (Begins old id timeout now k given_up
       × ((slot_at new k).since ≡ now) × ((slot_at new k).headers ≡ None)
+      × ((slot_at new k).ecn ≡ no_ecn)
       × ((slot_at new k).buf ≡ Some []))
 
 -- what is known of the datagram
@@ -71,20 +75,30 @@ IsState kept state.Incomplete = (kept ≢ None) × ((datagram : List ℕ) → ¬
 IsState kept state.Complete = (datagram : List ℕ) × IsWhole kept datagram
 IsState kept state.Discarded = kept ≡ None
 
--- The slots, once a fragment of the datagram with this id has come, and with it maybe the headers
--- of the first one. Those that came before stay.
+-- What is kept once a fragment has come, of a datagram whose fragments then have these codepoints:
+-- nothing, for good, if its packet is dropped; otherwise what they say by themselves.
+abbrev pub TakesWith : FragmentEcn → Option (List Fragment) → Fragment → Option (List Fragment)
+    → Type 0
+TakesWith ecn old f new = (IsDropped ecn → new ≡ None) × ((¬ IsDropped ecn) → Takes old f new)
+
+-- The slots, once a fragment of the datagram with this id has come, with its codepoint, and with it
+-- maybe the headers of the first one. The headers that came before stay.
 pub record IsAdded (old : List IpDefragSlot) (id : IpFragId) (timeout now : ℕ) (f : Fragment)
-    (headers : Option (List ℕ)) (added : Added) (new : List IpDefragSlot) : Type 0 where
+    (headers : Option (List ℕ)) (ecn : FragmentEcn) (added : Added) (new : List IpDefragSlot)
+    : Type 0 where
   pub others : AreSameBut added.slot old new
   pub has : Has new added.slot id
   pub takes : (GoesOn old id timeout now added.slot added.given_up
       × ((slot_at new added.slot).since ≡ (slot_at old added.slot).since)
       × ((slot_at new added.slot).headers ≡ option_or (slot_at old added.slot).headers headers)
-      × Takes (slot_at old added.slot).buf f (slot_at new added.slot).buf)
+      × ((slot_at new added.slot).ecn ≡ ecn_with (slot_at old added.slot).ecn ecn)
+      × TakesWith (slot_at new added.slot).ecn (slot_at old added.slot).buf f
+      (slot_at new added.slot).buf)
       ⊎ (Begins old id timeout now added.slot added.given_up
       × ((slot_at new added.slot).since ≡ now)
       × ((slot_at new added.slot).headers ≡ headers)
-      × Takes (Some []) f (slot_at new added.slot).buf)
+      × ((slot_at new added.slot).ecn ≡ ecn)
+      × TakesWith (slot_at new added.slot).ecn (Some []) f (slot_at new added.slot).buf)
   pub state : IsState (slot_at new added.slot).buf added.state
 
 -- Every other datagram that had a slot has it still, with what has come of it, except the one that

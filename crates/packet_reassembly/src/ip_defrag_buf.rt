@@ -174,12 +174,19 @@ impl<'a> IpDefragBuf<'a> {
         }
     }
 
-    /// Whether two of the fragments that came contradict each other. No datagram is then found, for
-    /// good.
+    /// Whether it is discarded: two of the fragments that came contradict each other, or one has the
+    /// ECN codepoint `CE` and another `Not-ECT`. No datagram is then found, for good.
     pub fn is_discarded(&self) -> bool
         ensures discarded { IsTrue result ↔ (self.now ≡ None) }
     {
         self.discarded
+    }
+
+    /// Discards the datagram for good.
+    pub(crate) fn discard(&mut self)
+        ensures discarded { self.new ≡ None }
+    {
+        self.discarded = true;
     }
 
     /// The datagram, once each of its bytes has come.

@@ -11,6 +11,7 @@ ghost use Rattle.packet_reassembly.specs.Headers.{IsIpv6ErrorFor, IsIpv6PacketWi
 ghost use Rattle.packet_reassembly.specs.Headers.{IsTooLongFor, IsTooLongForIpv4, IsTooLongForIpv6};
 ghost use Rattle.packet_reassembly.specs.Headers.{kept_headers};
 
+use crate::fragment_ecn::FragmentEcn;
 use crate::ip_frag_id::IpFragVersionSpecId;
 use crate::ip_fragment_slice::IpFragmentSlice;
 use crate::packet::{put, write_ipv4_packet, write_ipv6_packet};
@@ -104,8 +105,10 @@ impl<'a> IpDefragHeaders<'a> {
 
     /// Writes the packet of a datagram whose first fragment has these headers, as
     /// [`write_ipv4_packet`] or [`write_ipv6_packet`] does. The next header of IPv6 is that of the
-    /// first fragment (RFC 8200 section 4.5). Returns its length in bytes; `None` if the first
-    /// fragment has not come.
+    /// first fragment (RFC 8200 section 4.5). `ecn` is that of all its fragments: the packet has `CE`
+    /// if any has it, else the codepoint of the first (RFC 3168 section 5.3). Whether it must be
+    /// dropped is not asked: [`FragmentEcn::is_dropped`] tells. Returns its length in bytes; `None` if
+    /// the first fragment has not come.
     ///
     /// # Errors
     ///
@@ -113,12 +116,13 @@ impl<'a> IpDefragHeaders<'a> {
     /// length can say: 65535 bytes, in IPv6 without the IPv6 header. Nothing is written.
     pub fn write_packet(
         &self,
+        ecn: FragmentEcn,
         datagram: &[u8],
         out: &mut [u8],
     ) -> Result<Option<usize>, ValueTooBigError<usize>>
         requires room { 65575 ≤ length out.old }
         ensures packet { IfOk result (λ found. IfSome found (λ len.
-            IsPacketOf self.now datagram.now (take len out.new))) }
+            IsPacketOf self.now ecn datagram.now (take len out.new))) }
         ensures within { IfOk result (λ found. IfSome found (λ len. len ≤ length out.new)) }
         ensures after { IfOk result (λ found. IfSome found (λ len.
             drop len out.new ≡ drop len out.old)) }
@@ -130,11 +134,17 @@ impl<'a> IpDefragHeaders<'a> {
     {
         match self.kept {
             Kept::Nothing => Ok(None),
-            Kept::Ipv4(len) => match write_ipv4(&self.bytes[..len], datagram, out) {
+            Kept::Ipv4(len) => match write_ipv4(&self.bytes[..len], ecn, datagram, out) {
                 Ok(len) => Ok(Some(len)),
                 Err(e) => Err(e),
             },
-            Kept::Ipv6(len, place) => match write_ipv6(&self.bytes[..len], place, datagram, out) {
+            Kept::Ipv6(len, place) => match write_ipv6(
+                &self.bytes[..len],
+                place,
+                ecn,
+                datagram,
+                out,
+            ) {
                 Ok(len) => Ok(Some(len)),
                 Err(e) => Err(e),
             },
@@ -156,15 +166,16 @@ fn kept_of(fragment: &IpFragmentSlice) -> Kept
     }
 }
 
-// The packet with this IPv4 header.
+// The packet with this IPv4 header, whose fragments have these ECN codepoints.
 fn write_ipv4(
     headers: &[u8],
+    ecn: FragmentEcn,
     datagram: &[u8],
     out: &mut [u8],
 ) -> Result<usize, ValueTooBigError<usize>>
     requires room { 65535 ≤ length out.old }
     requires header { (first : Header4) × IsIpv4Layout first headers.now }
-    ensures packet { IfOk result (λ len. IsIpv4PacketWith headers.now datagram.now
+    ensures packet { IfOk result (λ len. IsIpv4PacketWith headers.now ecn datagram.now
         (take len out.new)) }
     ensures within { IfOk result (λ len. len ≤ length out.new) }
     ensures after { IfOk result (λ len. drop len out.new ≡ drop len out.old) }
@@ -173,23 +184,24 @@ fn write_ipv4(
     ensures unchanged { OnErr result (out.new ≡ out.old) }
 {
     match Ipv4Header::from_slice(headers) {
-        Ok((first, _)) => write_ipv4_packet(first, datagram, out),
+        Ok((first, _)) => write_ipv4_packet(ecn.mark_ipv4(first), datagram, out),
         Err(_) => unreachable!(), // It is a header.
     }
 }
 
 // The packet with these headers, of which the last extension header, or the fragment header if there
-// is none, is at this place.
+// is none, is at this place; its fragments have these ECN codepoints.
 fn write_ipv6(
     headers: &[u8],
     place: usize,
+    ecn: FragmentEcn,
     datagram: &[u8],
     out: &mut [u8],
 ) -> Result<usize, ValueTooBigError<usize>>
     requires room { 65575 ≤ length out.old }
     requires short { length headers.now ≤ 1280 }
     requires headers { AreIpv6HeadersAt headers.now place }
-    ensures packet { IfOk result (λ len. IsIpv6PacketWith headers.now datagram.now
+    ensures packet { IfOk result (λ len. IsIpv6PacketWith headers.now ecn datagram.now
         (take len out.new)) }
     ensures within { IfOk result (λ len. len ≤ length out.new) }
     ensures after { IfOk result (λ len. drop len out.new ≡ drop len out.old) }
@@ -205,5 +217,12 @@ fn write_ipv6(
     let next_header = IpNumber(headers[end]);
     let before = &headers[Ipv6Header::LEN..place];
     let last = &headers[place..end];
-    write_ipv6_packet(first, before, last, next_header, datagram, out)
+    write_ipv6_packet(
+        ecn.mark_ipv6(first),
+        before,
+        last,
+        next_header,
+        datagram,
+        out,
+    )
 }

@@ -10,6 +10,7 @@ ghost use Rattle.packet_reassembly.specs.declared.ip_defrag_packet.IpDefragPacke
 ghost use Rattle.packet_reassembly.specs.declared.ip_defrag_pool.Added.{Added as What};
 ghost use Rattle.packet_reassembly.specs.declared.ip_defrag_pool.IpDefragSlot.{IpDefragSlot as Slot};
 
+use crate::fragment_ecn::FragmentEcn;
 use crate::header_chain::has_whole_chain;
 use crate::ip_defrag_error::IpDefragError;
 use crate::ip_defrag_headers::IpDefragHeaders;
@@ -54,7 +55,9 @@ impl<'a, 'b> IpDefragPool<'a, 'b> {
     /// the packet is whole. What follows the packet, as the padding of a frame, does not count.
     ///
     /// The slot keeps the headers of the first fragment at offset 0 that comes of its datagram. Of a
-    /// later copy they can differ, as in the time to live, and do not count.
+    /// later copy they can differ, as in the time to live, and do not count. The ECN codepoint of each
+    /// fragment counts, also of an exact duplicate: if one has `CE` and another `Not-ECT`, the
+    /// datagram is discarded for good (RFC 3168 section 5.3).
     ///
     /// Once the datagram is complete, [`IpDefragPool::write_packet`] writes its packet.
     ///
@@ -142,6 +145,7 @@ impl<'a, 'b> IpDefragPool<'a, 'b> {
             fragment.more_fragments,
             fragment.payload,
             first_of(&fragment),
+            FragmentEcn::of(fragment.ecn),
         ) {
             Ok(added) => Ok(Some(added)),
             Err(e) => Err(IpDefragPacketError::Fragment(e)),
@@ -193,7 +197,7 @@ impl<'a> IpDefragSlot<'a> {
     ghost use Rattle.packet_reassembly.specs.Pool.{HasFirstHeaders};
 
     /// Writes the packet of the datagram that has the slot, as [`IpDefragHeaders::write_packet`]
-    /// does. Returns its length in bytes; `None` if the datagram is not complete, or if no fragment
+    /// does, with `CE` if any fragment had it (RFC 3168 section 5.3). Returns its length in bytes; `None` if the datagram is not complete, or if no fragment
     /// of it at offset 0 came by [`IpDefragPool::add_packet`].
     ///
     /// # Errors
@@ -216,7 +220,7 @@ impl<'a> IpDefragSlot<'a> {
         ensures nothing { IfOk result (λ found. IfNone found (out.new ≡ out.old)) }
     {
         match self.buf.datagram() {
-            Some(datagram) => self.headers.write_packet(datagram, out),
+            Some(datagram) => self.headers.write_packet(self.ecn, datagram, out),
             None => Ok(None),
         }
     }

@@ -6,11 +6,13 @@ ghost use Rattle.std.specs.Prelude.{option_map};
 ghost use Rattle.std.specs.Option.{option_or};
 ghost use Rattle.packet_reassembly.specs.Pool.{AreSameBut, Begins, GoesOn, Has, HaveFirstHeaders};
 ghost use Rattle.packet_reassembly.specs.Pool.{IsAdded, IsExpired, IsFree, IsPlaced, IsState};
-ghost use Rattle.packet_reassembly.specs.Pool.{OthersStay, slot_at};
-ghost use Rattle.packet_reassembly.specs.Fragment.{IsRight, Takes, fragment};
+ghost use Rattle.packet_reassembly.specs.Pool.{OthersStay, TakesWith, slot_at};
+ghost use Rattle.packet_reassembly.specs.Ecn.{ecn_with, no_ecn};
+ghost use Rattle.packet_reassembly.specs.Fragment.{IsRight, fragment};
 ghost use Rattle.packet_reassembly.specs.Headers.{HasHeaders};
 ghost use Rattle.packet_reassembly.specs.Refusal.{Refuses};
 
+use crate::fragment_ecn::FragmentEcn;
 use crate::ip_defrag_buf::{IpDefragBuf, range_of};
 use crate::ip_defrag_error::IpDefragError;
 use crate::ip_defrag_headers::IpDefragHeaders;
@@ -28,6 +30,9 @@ pub struct IpDefragSlot<'a> {
     /// The headers of the first fragment of it that came by [`IpDefragPool::add_packet`] and is at
     /// offset 0.
     pub headers: IpDefragHeaders<'a>,
+    /// Which ECN codepoints the fragments of it have that came by [`IpDefragPool::add_packet`], and
+    /// were not refused (RFC 3168 section 5.3).
+    pub ecn: FragmentEcn,
     /// What has come of it.
     pub buf: IpDefragBuf<'a>,
 }
@@ -39,7 +44,8 @@ pub enum DatagramState {
     Incomplete,
     /// All of it has come.
     Complete,
-    /// Two of its fragments contradict each other.
+    /// Two of its fragments contradict each other, or one has the ECN codepoint `CE` and another
+    /// `Not-ECT` (RFC 3168 section 5.3).
     Discarded,
 }
 
@@ -67,6 +73,7 @@ pub struct Added {
 ///     id: None,
 ///     since: 0,
 ///     headers: IpDefragHeaders::new(&mut headers),
+///     ecn: FragmentEcn::NONE,
 ///     buf: IpDefragBuf::new(&mut bytes, &mut units),
 /// }];
 /// let mut pool = IpDefragPool {
@@ -101,7 +108,7 @@ impl<'a, 'b> IpDefragPool<'a, 'b> {
     /// older than the timeout is given up when a fragment with its id comes. The other slots do not
     /// change.
     ///
-    /// No headers are kept: if the fragment at offset 0 comes this way alone,
+    /// No headers are kept, and no ECN codepoint: if the fragment at offset 0 comes this way alone,
     /// [`IpDefragPool::write_packet`] finds no packet.
     ///
     /// # Errors
@@ -117,7 +124,7 @@ impl<'a, 'b> IpDefragPool<'a, 'b> {
     ) -> Result<Added, IpDefragError>
         requires some { 0 < length self.old.slots.now }
         ensures added { IfOk result (λ added. IsAdded self.old.slots.now id self.old.timeout now
-            (fragment offset more_fragments payload.now) None added self.new.slots.now) }
+            (fragment offset more_fragments payload.now) None no_ecn added self.new.slots.now) }
         ensures others { IfOk result (λ added.
             OthersStay self.old.slots.now id added.given_up self.new.slots.now) }
         ensures right { OnOk result (IsRight (fragment offset more_fragments payload.now)) }
@@ -137,6 +144,7 @@ impl<'a, 'b> IpDefragPool<'a, 'b> {
             more_fragments,
             payload,
             first,
+            FragmentEcn::NONE,
         )
     }
 
@@ -208,6 +216,7 @@ fn take(slot: &mut IpDefragSlot, id: IpFragId, now: u64) -> Option<IpFragId>
     ensures id { slot.new.id ≡ Some id }
     ensures since { slot.new.since ≡ now }
     ensures headers { slot.new.headers ≡ None }
+    ensures ecn { slot.new.ecn ≡ no_ecn }
     ensures empty { slot.new.buf ≡ Some [] }
     ensures given_up { result ≡ slot.old.id }
 {
@@ -215,6 +224,7 @@ fn take(slot: &mut IpDefragSlot, id: IpFragId, now: u64) -> Option<IpFragId>
     slot.id = Some(id);
     slot.since = now;
     slot.headers.clear();
+    slot.ecn = FragmentEcn::NONE;
     slot.buf.clear();
     given_up
 }
@@ -246,6 +256,7 @@ fn take_at(slots: &mut [IpDefragSlot], k: usize, id: IpFragId, now: u64) -> Opti
     ensures id { (slot_at slots.new k).id ≡ Some id }
     ensures since { (slot_at slots.new k).since ≡ now }
     ensures headers { (slot_at slots.new k).headers ≡ None }
+    ensures ecn { (slot_at slots.new k).ecn ≡ no_ecn }
     ensures empty { (slot_at slots.new k).buf ≡ Some [] }
     ensures given_up { result ≡ (slot_at slots.old k).id }
 {
@@ -273,8 +284,29 @@ fn place(
     (k, take_at(slots, k, id, now))
 }
 
-// Adds a fragment that a datagram can have to the datagram in the slot at an index, and keeps the
-// headers that the first one brings.
+// Adds a fragment that a datagram can have, whose fragments then have these ECN codepoints.
+fn add_with(
+    buf: &mut IpDefragBuf,
+    ecn: FragmentEcn,
+    offset: IpFragOffset,
+    more_fragments: bool,
+    payload: &[u8],
+)
+    requires right { IsRight (fragment offset more_fragments payload.now) }
+    ensures takes { TakesWith ecn buf.old (fragment offset more_fragments payload.now) buf.new }
+{
+    if ecn.is_dropped() {
+        buf.discard();
+        return;
+    }
+    match buf.add(offset, more_fragments, payload) {
+        Ok(()) => {}
+        Err(_) => unreachable!(), // A datagram can have it.
+    }
+}
+
+// Adds a fragment that a datagram can have to the datagram in the slot at an index, with its ECN
+// codepoint, and keeps the headers that the first one brings.
 fn add_at(
     slots: &mut [IpDefragSlot],
     k: usize,
@@ -282,6 +314,7 @@ fn add_at(
     more_fragments: bool,
     payload: &[u8],
     first: Option<&IpFragmentSlice>,
+    ecn: FragmentEcn,
 ) -> DatagramState
     requires within { k < length slots.old }
     requires right { IsRight (fragment offset more_fragments payload.now) }
@@ -291,21 +324,24 @@ fn add_at(
     ensures since { (slot_at slots.new k).since ≡ (slot_at slots.old k).since }
     ensures headers { (slot_at slots.new k).headers
         ≡ option_or (slot_at slots.old k).headers (option_map (λ f. f.now.headers.now) first.entry) }
-    ensures takes { Takes (slot_at slots.old k).buf (fragment offset more_fragments payload.now)
-        (slot_at slots.new k).buf }
+    ensures ecn { (slot_at slots.new k).ecn ≡ ecn_with (slot_at slots.old k).ecn ecn }
+    ensures takes { TakesWith (slot_at slots.new k).ecn (slot_at slots.old k).buf
+        (fragment offset more_fragments payload.now) (slot_at slots.new k).buf }
     ensures state { IsState (slot_at slots.new k).buf result }
 {
     let slot = &mut slots[k];
     if let Some(fragment) = first {
         slot.headers.keep(fragment);
     }
-    match slot.buf.add(offset, more_fragments, payload) {
-        Ok(()) => state_of(&slot.buf),
-        Err(_) => unreachable!(), // A datagram can have it.
-    }
+    let ecn = slot.ecn.with(ecn);
+    slot.ecn = ecn;
+    let buf = &mut slot.buf;
+    add_with(buf, ecn, offset, more_fragments, payload);
+    state_of(buf)
 }
 
-/// Adds a fragment to its datagram, and the headers that the first one brings.
+/// Adds a fragment to its datagram, with its ECN codepoint, and the headers that the first one
+/// brings.
 pub(crate) fn add_to(
     slots: &mut [IpDefragSlot],
     id: IpFragId,
@@ -315,12 +351,13 @@ pub(crate) fn add_to(
     more_fragments: bool,
     payload: &[u8],
     first: Option<&IpFragmentSlice>,
+    ecn: FragmentEcn,
 ) -> Result<Added, IpDefragError>
     requires some { 0 < length slots.old }
     requires first { IfSome first (λ f. HasHeaders f.now) }
     ensures added { IfOk result (λ added. IsAdded slots.old id timeout now
-        (fragment offset more_fragments payload.now) (option_map (λ f. f.now.headers.now) first.entry) added
-        slots.new) }
+        (fragment offset more_fragments payload.now) (option_map (λ f. f.now.headers.now) first.entry) ecn
+        added slots.new) }
     ensures others { IfOk result (λ added. OthersStay slots.old id added.given_up slots.new) }
     ensures right { OnOk result (IsRight (fragment offset more_fragments payload.now)) }
     ensures refused { IfErr result (Refuses (fragment offset more_fragments payload.now)) }
@@ -330,7 +367,7 @@ pub(crate) fn add_to(
         return Err(e);
     }
     let (slot, given_up) = place(slots, id, timeout, now);
-    let state = add_at(slots, slot, offset, more_fragments, payload, first);
+    let state = add_at(slots, slot, offset, more_fragments, payload, first, ecn);
     Ok(Added {
         slot,
         state,

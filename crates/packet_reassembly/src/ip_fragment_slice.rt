@@ -16,7 +16,7 @@ ghost use Rattle.packet_reassembly.specs.declared.ip_fragment_slice.IpFragmentSl
 
 use crate::ip_frag_id::IpFragVersionSpecId;
 use crate::ipv6_fragment::ipv6_fragment_parts;
-use etherparse::{IpFragOffset, IpNumber, Ipv4HeaderSlice, Ipv6Header, Ipv6HeaderSlice};
+use etherparse::{IpEcn, IpFragOffset, IpNumber, Ipv4HeaderSlice, Ipv6Header, Ipv6HeaderSlice};
 use packet_parts::ip_slice::{IpHeaderSlice, IpSlice, IpSliceError, LaxIpSlice};
 
 /// A packet that is a fragment: which packet it is of, where it stands in that, and its bytes.
@@ -31,6 +31,8 @@ pub struct IpFragmentSlice<'a> {
     /// The number of what was fragmented, as this fragment has it: the protocol of IPv4; of IPv6 the
     /// next header in its fragment header, which counts in the fragment at offset 0 alone.
     pub next_header: IpNumber,
+    /// The ECN codepoint of its IP header (RFC 3168 section 5).
+    pub ecn: IpEcn,
     /// The bytes of the packet before these: the IPv4 header with its options; or the IPv6 header,
     /// its extension headers before the fragment header, and that one.
     pub headers: &'a [u8],
@@ -135,6 +137,7 @@ fn ipv4_fragment<'a>(view: Ipv4HeaderSlice<'a>, payload: &'a [u8]) -> Option<IpF
         offset: view.fragments_offset(),
         more_fragments: view.more_fragments(),
         next_header: view.protocol(),
+        ecn: view.ecn(),
         headers,
         last_extension: headers.len(),
         payload,
@@ -178,6 +181,7 @@ fn ipv6_fragment<'a>(
         offset: parts.fragment.fragment_offset,
         more_fragments: parts.fragment.more_fragments,
         next_header: parts.fragment.next_header,
+        ecn: view.ecn(),
         headers: &whole[..whole.len() - parts.payload.len()],
         last_extension: Ipv6Header::LEN + parts.before.len(),
         payload: parts.payload,

@@ -1,7 +1,10 @@
 //! Laws of what the types derive. Nothing calls these functions; they are there to be proved.
 
 ghost use Rattle.std.specs.Prelude.{◌≡◌, ◌↔◌, IsTrue, Ok};
+ghost use Rattle.packet_reassembly.specs.Ecn.{ecn_with};
+ghost use Rattle.packet_reassembly.specs.declared.fragment_ecn.FragmentEcn.{FragmentEcn as Ecn};
 
+use crate::fragment_ecn::FragmentEcn;
 use crate::ip_defrag_error::IpDefragError;
 use crate::ip_defrag_pool::{Added, DatagramState};
 use crate::ip_frag_id::{IpFragId, IpFragVersionSpecId};
@@ -36,6 +39,19 @@ pub fn added_equality(one: &Added, other: &Added) -> bool
 {
     one == other
 }
+
+/// The codepoints of fragments are equal exactly if both fields are.
+pub fn fragment_ecn_equality(one: &FragmentEcn, other: &FragmentEcn) -> bool
+    ensures same_value { IsTrue result ↔ (one.now ≡ other.now) }
+{
+    one == other
+}
+
+/// Which codepoints fragments have depends neither on their order nor on repetitions.
+pub fn fragment_ecn_order()
+    ensures order { (a b c : Ecn) → ecn_with (ecn_with a b) c ≡ ecn_with (ecn_with a c) b }
+    ensures again { (a b : Ecn) → ecn_with (ecn_with a b) b ≡ ecn_with a b }
+{}
 
 /// The clone of an error is equal to it, and cloning never fails; so with those below.
 pub fn ip_defrag_error_clone(error: &IpDefragError) -> Result<IpDefragError, AllocError>
@@ -72,6 +88,13 @@ pub fn added_clone(added: &Added) -> Result<Added, AllocError>
     ensures same_value { result ≡ Ok added.now }
 {
     added.clone()
+}
+
+/// The clone of the codepoints of fragments.
+pub fn fragment_ecn_clone(ecn: &FragmentEcn) -> Result<FragmentEcn, AllocError>
+    ensures same_value { result ≡ Ok ecn.now }
+{
+    ecn.clone()
 }
 
 /// The clone of a fragment.

@@ -2,6 +2,7 @@
 //! order in which they come. No memory is allocated: the caller lends it.
 #![tactic(auto)]
 
+pub mod fragment_ecn;
 pub mod header_chain;
 pub mod ip_defrag_buf;
 pub mod ip_defrag_error;

@@ -1,6 +1,7 @@
 //! Whole packets from a pool, beside those that scapy 2.5.0 cut into fragments.
 
 use crate::shared::assert_equal;
+use packet_reassembly::fragment_ecn::FragmentEcn;
 use packet_reassembly::ip_defrag_buf::IpDefragBuf;
 use packet_reassembly::ip_defrag_headers::IpDefragHeaders;
 use packet_reassembly::ip_defrag_packet::IpDefragPacketError;
@@ -66,6 +67,7 @@ fn put_together(
         id: None,
         since: 0,
         headers: IpDefragHeaders::new(&mut headers),
+        ecn: FragmentEcn::NONE,
         buf: IpDefragBuf::new(&mut bytes, &mut units),
     }];
     let mut pool = IpDefragPool {
@@ -102,6 +104,70 @@ fn the_next_header_of_the_first_fragment_counts(rt: HostRuntime) {
     last[64] = 59;
     assert_packet(&rt, &last, &last, &IPV6_FIRST, &IPV6_PACKET);
     assert_packet(&rt, &IPV6_FIRST, &last, &last, &IPV6_PACKET);
+}
+
+// Fragments of IPv4 with these ECN codepoints make a packet with this one, in both orders; the byte
+// is the lower one of its header checksum.
+fn assert_ipv4_ecn(rt: &impl Abort, first: u8, last: u8, ecn: u8, checksum: u8) {
+    let (mut one, mut other, mut packet) = (IPV4_FIRST, IPV4_LAST, IPV4_PACKET);
+    (one[1], other[1]) = (0x28 | first, 0x28 | last);
+    (packet[1], packet[11]) = (0x28 | ecn, checksum);
+    assert_packet(rt, &one, &other, &other, &packet);
+    assert_packet(rt, &other, &one, &one, &packet);
+}
+
+// The same of IPv6: the lower 2 bits of the traffic class are bits 4 and 5 of byte 1.
+fn assert_ipv6_ecn(rt: &impl Abort, first: u8, last: u8, byte: u8) {
+    let (mut one, mut other, mut packet) = (IPV6_FIRST, IPV6_LAST, IPV6_PACKET);
+    (one[1], other[1], packet[1]) = (first, last, byte);
+    assert_packet(rt, &one, &other, &other, &packet);
+    assert_packet(rt, &other, &one, &one, &packet);
+}
+
+#[test]
+fn a_mark_of_congestion_is_not_lost(rt: HostRuntime) {
+    // CE of the last fragment, of the first, and of both, beside ECT(0) and ECT(1) (RFC 3168 section
+    // 5.3). The checksum of the packet is that without the codepoint, less it (RFC 1624).
+    assert_ipv4_ecn(&rt, 2, 3, 3, 0xfa);
+    assert_ipv4_ecn(&rt, 3, 1, 3, 0xfa);
+    assert_ipv4_ecn(&rt, 3, 3, 3, 0xfa);
+    assert_ipv6_ecn(&rt, 0x11, 0x31, 0x31);
+    assert_ipv6_ecn(&rt, 0x31, 0x21, 0x31);
+    assert_ipv6_ecn(&rt, 0x31, 0x31, 0x31);
+    // No CE: the codepoint of the first.
+    assert_ipv4_ecn(&rt, 2, 1, 2, 0xfb);
+    assert_ipv4_ecn(&rt, 1, 1, 1, 0xfc);
+    assert_ipv6_ecn(&rt, 0x11, 0x21, 0x11);
+    assert_ipv6_ecn(&rt, 0x21, 0x21, 0x21);
+}
+
+#[test]
+fn a_duplicate_that_was_marked_on_its_way_counts(rt: HostRuntime) {
+    let (mut first, mut last, mut packet) = (IPV4_FIRST, IPV4_LAST, IPV4_PACKET);
+    (first[1], last[1]) = (0x2a, 0x2a);
+    let mut copy = last;
+    copy[1] = 0x2b;
+    (packet[1], packet[11]) = (0x2b, 0xfa);
+    assert_packet(&rt, &first, &last, &copy, &packet);
+    assert_packet(&rt, &copy, &last, &first, &packet);
+}
+
+#[test]
+fn ce_beside_not_ect_is_dropped(rt: HostRuntime) {
+    let (mut first, mut last) = (IPV4_FIRST, IPV4_LAST);
+    first[1] = 0x2b;
+    assert_packet(&rt, &first, &IPV4_LAST, &IPV4_LAST, &[]);
+    assert_packet(&rt, &IPV4_LAST, &first, &first, &[]);
+    last[1] = 0x2b;
+    assert_packet(&rt, &IPV4_FIRST, &last, &last, &[]);
+    assert_packet(&rt, &last, &IPV4_FIRST, &IPV4_FIRST, &[]);
+    let (mut first, mut last) = (IPV6_FIRST, IPV6_LAST);
+    first[1] = 0x31;
+    assert_packet(&rt, &first, &IPV6_LAST, &IPV6_LAST, &[]);
+    assert_packet(&rt, &IPV6_LAST, &first, &first, &[]);
+    last[1] = 0x31;
+    assert_packet(&rt, &IPV6_FIRST, &last, &last, &[]);
+    assert_packet(&rt, &last, &IPV6_FIRST, &IPV6_FIRST, &[]);
 }
 
 #[test]

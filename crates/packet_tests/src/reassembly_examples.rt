@@ -4,7 +4,8 @@
 ghost use Rattle.std.specs.Prelude.{◌<◌, length};
 
 use crate::shared::assert_equal;
-use etherparse::{IpFragOffset, IpNumber, Ipv4Header, Ipv6Header};
+use etherparse::{IpEcn, IpFragOffset, IpNumber, Ipv4Header, Ipv6Header};
+use packet_reassembly::fragment_ecn::FragmentEcn;
 use packet_reassembly::header_chain::has_whole_chain;
 use packet_reassembly::ip_defrag_buf::IpDefragBuf;
 use packet_reassembly::ip_defrag_headers::IpDefragHeaders;
@@ -43,6 +44,13 @@ fn entries_of_a_table(rt: HostRuntime) {
     // A duplicate: the entries of its units, that of the last one again, and the one after it.
     let (added, entries) = buf.add_counted(IpFragOffset::ZERO, true, b"two units of 8b.");
     assert!(rt; added.is_ok() && entries == 4);
+}
+
+#[test]
+fn codepoints(rt: HostRuntime) {
+    let marked = FragmentEcn::of(IpEcn::CongestionExperienced);
+    assert!(rt; !marked.with(FragmentEcn::of(IpEcn::Ect0)).is_dropped());
+    assert!(rt; marked.with(FragmentEcn::of(IpEcn::NotEct)).is_dropped());
 }
 
 #[test]
@@ -130,6 +138,7 @@ fn a_pool(rt: HostRuntime) -> Result<(), Fail> {
         id: None,
         since: 0,
         headers: IpDefragHeaders::new(&mut headers),
+        ecn: FragmentEcn::NONE,
         buf: IpDefragBuf::new(&mut bytes, &mut units),
     }];
     let mut pool = IpDefragPool {
@@ -160,6 +169,7 @@ fn packets_in_a_pool(rt: HostRuntime) -> Result<(), Fail> {
         id: None,
         since: 0,
         headers: IpDefragHeaders::new(&mut headers),
+        ecn: FragmentEcn::NONE,
         buf: IpDefragBuf::new(&mut bytes, &mut units),
     }];
     let mut pool = IpDefragPool {

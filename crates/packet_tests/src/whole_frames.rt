@@ -4,6 +4,7 @@ use crate::shared::assert_equal;
 use frame_reassembly::datagrams::Datagrams;
 use frame_reassembly::frame_reassembly::FrameReassembly;
 use packet::link::LinkType;
+use packet_reassembly::fragment_ecn::FragmentEcn;
 use packet_reassembly::ip_defrag_buf::IpDefragBuf;
 use packet_reassembly::ip_defrag_headers::IpDefragHeaders;
 use packet_reassembly::ip_defrag_pool::IpDefragSlot;
@@ -29,6 +30,7 @@ fn frames(rt: HostRuntime) -> Result<(), Fail> {
         id: None,
         since: 0,
         headers: IpDefragHeaders::new(&mut headers),
+        ecn: FragmentEcn::NONE,
         buf: IpDefragBuf::new(&mut bytes, &mut units),
     }];
     two_fragments(&rt, &mut FrameReassembly::new(&mut slots))

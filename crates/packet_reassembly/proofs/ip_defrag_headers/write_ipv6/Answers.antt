@@ -13,14 +13,14 @@ write_ipv6_packet-requires-clause-headers c =
     let p = c.requires.headers in
     let (is_before, is_last, is_number) = parts_at c.args.headers.now c.args.place p in
     let same : c.in-Ok.first ≡ p.first = IfOk-at_ok (λ x. x.0 ≡ p.first) (c.in-Ok.ensures.reads.only (Ok (p.first, p.before ++ (p.last ++ p.are_headers.at))) (ipv6_first c.args.headers.now c.args.place p)) refl in
-    rw (same, is_before, is_last) p.are_headers.unfragmentable
+    rw (c.mark_ipv6.ensures.value, same, is_before, is_last) p.are_headers.unfragmentable
 
 pub returns-clause-packet : goal.returns-clause-packet
 returns-clause-packet c =
     let p = c.requires.headers in
     let same : c.in-Ok.first ≡ p.first = IfOk-at_ok (λ x. x.0 ≡ p.first) (c.in-Ok.ensures.reads.only (Ok (p.first, p.before ++ (p.last ++ p.are_headers.at))) (ipv6_first c.args.headers.now c.args.place p)) refl in
     let (is_before, is_last, is_number) = parts_at c.args.headers.now c.args.place p in
-    IfOk-weaker c.write_ipv6_packet.result _ _ (λ len has. let packet = rw (same, is_before, is_last, is_number) at has in search) c.write_ipv6_packet.ensures.packet
+    IfOk-weaker c.write_ipv6_packet.result _ _ (λ len has. let packet = rw (c.mark_ipv6.ensures.value, same, is_before, is_last, is_number) at has in search) c.write_ipv6_packet.ensures.packet
 
 pub returns-clause-refused : goal.returns-clause-refused
 returns-clause-refused c =

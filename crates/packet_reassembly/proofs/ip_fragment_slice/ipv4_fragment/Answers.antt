@@ -17,5 +17,6 @@ returns-clause-found c = λ packet header told enough begins front.
     let offset = c.fragments_offset.ensures.value header is_layout in
     let more = c.more_fragments.ensures.value header is_layout in
     let next = c.protocol-2.ensures.value header is_layout in
+    let ecn = c.ecn.ensures.value header is_layout in
     let headers = c.slice-headers.ensures.value ∙ sym front in
-    inl (search (rules, is_fragment, source, destination, protocol, identification, offset, more, next, headers))
+    inl (search (rules, is_fragment, source, destination, protocol, identification, offset, more, next, ecn, headers))

@@ -26,6 +26,7 @@ returns-clause-found c = λ packet header enough begins front is_whole.
       offset = refl;
       more = refl;
       next = refl;
+      ecn = c.ecn.ensures.value header is_layout;
       payload = refl;
       headers = before_payload begins.front parts.before.now parts.last.now p.begins.front parts.payload.now c.args.whole.now
           (sym is_whole ∙ (begins.whole ∙ ap (λ x. begins.front ++ x) (p.whole ∙ ap (λ x. parts.before.now ++ (parts.last.now ++ x)) p.begins.whole)));
