@@ -78,7 +78,7 @@ abbrev pub held : List ℕ → List ℕ → Extent → List Fragment
 held bytes units extent = map (λ k. fragment_in bytes (range_at units extent k))
     (filter (λ k. slice_index units k == 1) (range_with_len 0 (length units)))
 
--- what is kept; nothing, once two fragments have contradicted each other
+-- what is kept; nothing, once it is discarded
 abbrev pub kept : Bool → List ℕ → List ℕ → Extent → Option (List Fragment)
 kept discarded bytes units extent = cond discarded None (Some (held bytes units extent))
 

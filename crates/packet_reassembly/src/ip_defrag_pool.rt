@@ -108,8 +108,8 @@ impl<'a, 'b> IpDefragPool<'a, 'b> {
     /// older than the timeout is given up when a fragment with its id comes. The other slots do not
     /// change.
     ///
-    /// No headers are kept, and no ECN codepoint: if the fragment at offset 0 comes this way alone,
-    /// [`IpDefragPool::write_packet`] finds no packet.
+    /// No headers are kept, and no ECN codepoint counts: if the fragment at offset 0 comes this way
+    /// alone, [`IpDefragPool::write_packet`] finds no packet.
     ///
     /// # Errors
     ///
