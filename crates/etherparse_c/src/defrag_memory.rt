@@ -96,9 +96,9 @@ fn slot_over(memory: &'static mut [u8]) -> IpDefragSlot<'static>
     let (headers, _) = rest.split_at_mut(IpDefragHeaders::MAX_LEN);
     IpDefragSlot {
         id: None,
+        ecn: FragmentEcn::NONE,
         since: 0,
         headers: IpDefragHeaders::new(headers),
-        ecn: FragmentEcn::NONE,
         buf: IpDefragBuf::new(bytes, units),
     }
 }

@@ -80,9 +80,9 @@ fn slot_in(memory: &mut [u8]) -> IpDefragSlot
     let (bytes, units) = memory.split_at_mut(IpDefragBuf::MAX_LEN);
     IpDefragSlot {
         id: None,
+        ecn: FragmentEcn::NONE,
         since: 0,
         headers: IpDefragHeaders::new(headers),
-        ecn: FragmentEcn::NONE,
         buf: IpDefragBuf::new(bytes, units),
     }
 }

@@ -13,7 +13,7 @@ use Rattle.packet_reassembly.specs.declared.ip_frag_id.IpFragId.{IpFragId}
 
 -- a slot that no datagram has, which is what there is past the last
 abbrev pub no_slot : IpDefragSlot
-no_slot = record { id = None; since = 0; headers = None; ecn = no_ecn; buf = Some [] }
+no_slot = record { id = None; ecn = no_ecn; since = 0; headers = None; buf = Some [] }
 
 abbrev pub slot_at : List IpDefragSlot → ℕ → IpDefragSlot
 slot_at slots k = slice_index_or slots k no_slot

@@ -25,14 +25,14 @@ use etherparse::IpFragOffset;
 pub struct IpDefragSlot<'a> {
     /// The datagram that has it; `None` if none has.
     pub id: Option<IpFragId>,
+    /// Which ECN codepoints those of its fragments have that came by [`IpDefragPool::add_packet`]
+    /// and were not refused (RFC 3168 section 5.3).
+    pub ecn: FragmentEcn,
     /// When the first fragment of that came, by the caller's clock.
     pub since: u64,
     /// The headers of the first fragment of it that came by [`IpDefragPool::add_packet`] and is at
     /// offset 0.
     pub headers: IpDefragHeaders<'a>,
-    /// Which ECN codepoints the fragments of it have that came by [`IpDefragPool::add_packet`], and
-    /// were not refused (RFC 3168 section 5.3).
-    pub ecn: FragmentEcn,
     /// What has come of it.
     pub buf: IpDefragBuf<'a>,
 }
@@ -71,9 +71,9 @@ pub struct Added {
 /// let mut headers = [0; IpDefragHeaders::MAX_LEN];
 /// let mut slots = [IpDefragSlot {
 ///     id: None,
+///     ecn: FragmentEcn::NONE,
 ///     since: 0,
 ///     headers: IpDefragHeaders::new(&mut headers),
-///     ecn: FragmentEcn::NONE,
 ///     buf: IpDefragBuf::new(&mut bytes, &mut units),
 /// }];
 /// let mut pool = IpDefragPool {

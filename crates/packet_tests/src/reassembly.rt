@@ -65,9 +65,9 @@ fn put_together(
     let mut headers = [0; IpDefragHeaders::MAX_LEN];
     let mut slots = [IpDefragSlot {
         id: None,
+        ecn: FragmentEcn::NONE,
         since: 0,
         headers: IpDefragHeaders::new(&mut headers),
-        ecn: FragmentEcn::NONE,
         buf: IpDefragBuf::new(&mut bytes, &mut units),
     }];
     let mut pool = IpDefragPool {

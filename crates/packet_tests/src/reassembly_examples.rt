@@ -136,9 +136,9 @@ fn a_pool(rt: HostRuntime) -> Result<(), Fail> {
     let mut headers = [0; IpDefragHeaders::MAX_LEN];
     let mut slots = [IpDefragSlot {
         id: None,
+        ecn: FragmentEcn::NONE,
         since: 0,
         headers: IpDefragHeaders::new(&mut headers),
-        ecn: FragmentEcn::NONE,
         buf: IpDefragBuf::new(&mut bytes, &mut units),
     }];
     let mut pool = IpDefragPool {
@@ -167,9 +167,9 @@ fn packets_in_a_pool(rt: HostRuntime) -> Result<(), Fail> {
     let mut headers = [0; IpDefragHeaders::MAX_LEN];
     let mut slots = [IpDefragSlot {
         id: None,
+        ecn: FragmentEcn::NONE,
         since: 0,
         headers: IpDefragHeaders::new(&mut headers),
-        ecn: FragmentEcn::NONE,
         buf: IpDefragBuf::new(&mut bytes, &mut units),
     }];
     let mut pool = IpDefragPool {

@@ -28,9 +28,9 @@ fn frames(rt: HostRuntime) -> Result<(), Fail> {
     let mut units = [0; IpDefragBuf::UNITS];
     let mut slots = [IpDefragSlot {
         id: None,
+        ecn: FragmentEcn::NONE,
         since: 0,
         headers: IpDefragHeaders::new(&mut headers),
-        ecn: FragmentEcn::NONE,
         buf: IpDefragBuf::new(&mut bytes, &mut units),
     }];
     two_fragments(&rt, &mut FrameReassembly::new(&mut slots))
