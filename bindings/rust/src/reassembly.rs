@@ -332,8 +332,8 @@ impl<'a> IpDefragPool<'a> {
     /// older than the timeout is given up when a fragment with its id comes. The other slots do not
     /// change. What follows the packet does not count.
     ///
-    /// The ECN codepoint of each fragment counts, also of an exact duplicate: if one has CE and another
-    /// Not-ECT, the datagram is discarded for good (RFC 3168 section 5.3).
+    /// The ECN codepoint of each fragment counts, also that of an exact duplicate: if one has CE and
+    /// another Not-ECT, the datagram is discarded for good (RFC 3168 section 5.3).
     ///
     /// `None` if the packet is whole: it is no fragment, and nothing changes.
     ///
@@ -368,7 +368,8 @@ impl<'a> IpDefragPool<'a> {
     /// Writes the packet of the datagram in a slot to the front of a buffer, and returns it: with the
     /// headers of the first copy of the fragment at offset 0 that came, with the new length, with the
     /// ECN codepoint CE if any fragment had it, and in IPv4 the new checksum; in IPv6 without the
-    /// fragment header. `None` if the datagram is not complete. The slot stays as it is: release it once the packet is done with.
+    /// fragment header. `None` if the datagram is not complete. The slot stays as it is: release it
+    /// once the packet is done with.
     ///
     /// # Errors
     ///

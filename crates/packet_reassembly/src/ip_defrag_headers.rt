@@ -106,9 +106,9 @@ impl<'a> IpDefragHeaders<'a> {
     /// Writes the packet of a datagram whose first fragment has these headers, as
     /// [`write_ipv4_packet`] or [`write_ipv6_packet`] does. The next header of IPv6 is that of the
     /// first fragment (RFC 8200 section 4.5). `ecn` is that of all its fragments: the packet has `CE`
-    /// if any has it, else the codepoint of the first (RFC 3168 section 5.3). Whether it must be
-    /// dropped is not asked: [`FragmentEcn::is_dropped`] tells. Returns its length in bytes; `None` if
-    /// the first fragment has not come.
+    /// if any has it, else the codepoint of the first (RFC 3168 section 5.3). A packet that must be
+    /// dropped, by [`FragmentEcn::is_dropped`], is written all the same. Returns its length in bytes;
+    /// `None` if the first fragment has not come.
     ///
     /// # Errors
     ///

@@ -55,9 +55,9 @@ impl<'a, 'b> IpDefragPool<'a, 'b> {
     /// the packet is whole. What follows the packet, as the padding of a frame, does not count.
     ///
     /// The slot keeps the headers of the first fragment at offset 0 that comes of its datagram. Of a
-    /// later copy they can differ, as in the time to live, and do not count. The ECN codepoint of each
-    /// fragment counts, also of an exact duplicate: if one has `CE` and another `Not-ECT`, the
-    /// datagram is discarded for good (RFC 3168 section 5.3).
+    /// later copy they can differ, as in the time to live, and do not count. But the ECN codepoint of
+    /// each fragment counts, also that of an exact duplicate: if one has `CE` and another `Not-ECT`,
+    /// the datagram is discarded for good (RFC 3168 section 5.3).
     ///
     /// Once the datagram is complete, [`IpDefragPool::write_packet`] writes its packet.
     ///
@@ -197,8 +197,9 @@ impl<'a> IpDefragSlot<'a> {
     ghost use Rattle.packet_reassembly.specs.Pool.{HasFirstHeaders};
 
     /// Writes the packet of the datagram that has the slot, as [`IpDefragHeaders::write_packet`]
-    /// does, with `CE` if any fragment had it (RFC 3168 section 5.3). Returns its length in bytes; `None` if the datagram is not complete, or if no fragment
-    /// of it at offset 0 came by [`IpDefragPool::add_packet`].
+    /// does, with `CE` if any fragment had it (RFC 3168 section 5.3). Returns its length in bytes;
+    /// `None` if the datagram is not complete, or if no fragment of it at offset 0 came by
+    /// [`IpDefragPool::add_packet`].
     ///
     /// # Errors
     ///

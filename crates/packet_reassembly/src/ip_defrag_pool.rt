@@ -25,10 +25,10 @@ use etherparse::IpFragOffset;
 pub struct IpDefragSlot<'a> {
     /// The datagram that has it; `None` if none has.
     pub id: Option<IpFragId>,
-    /// Which ECN codepoints those of its fragments have that came by [`IpDefragPool::add_packet`]
-    /// and were not refused (RFC 3168 section 5.3).
+    /// The ECN codepoints of those of its fragments that came by [`IpDefragPool::add_packet`] and were
+    /// not refused (RFC 3168 section 5.3).
     pub ecn: FragmentEcn,
-    /// When the first fragment of that came, by the caller's clock.
+    /// When the first fragment of the datagram came, by the caller's clock.
     pub since: u64,
     /// The headers of the first fragment of it that came by [`IpDefragPool::add_packet`] and is at
     /// offset 0.
