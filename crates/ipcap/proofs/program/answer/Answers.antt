@@ -1,28 +1,53 @@
-use Rattle.std.proofs.Common.{None, inl, inr, refl}
-use Rattle.std.proofs.lemmas.Result.{IfOk-weaker}
+use Rattle.std.proofs.Common.{inl, inr, refl}
 use Rattle.ipcap.proofs.program.answer.Goals as goal
 
-pub returns-in-Err-clause-answers : goal.returns-in-Err-clause-answers
-returns-in-Err-clause-answers g c = inl (record {
-  error = c.in-Err.error;
-  is_none = c.in-Err.ensures.refused;
-  old = c.new-errors.result;
-  new = c.report.new.self;
-  fresh = c.new-errors.ensures.empty;
-  said = rw c.as_slice-text.ensures.value at c.report.ensures.reports;
-  is_code = refl;
-})
-
 pub returns-in-Err-open-clause-answers : goal.returns-in-Err-open-clause-answers
-returns-in-Err-open-clause-answers g c = inr (c.in-Ok.request, c.in-Ok.ensures.request, inl (c.in-Err-open.e, c.in-Err-open.ensures, c.refuse.ensures.code))
+returns-in-Err-open-clause-answers g c = inr (
+  c.in-Ok.request,
+  c.in-Ok.ensures.request,
+  inl (record {
+    e = c.in-Err-open.e;
+    opened = c.in-Err-open.ensures.opens;
+    said = c.refuse.ensures.says;
+    ends = c.refuse.ensures.value;
+    asks = c.open.ensures.asked;
+  }),
+)
 
 pub returns-in-Err-create-clause-answers : goal.returns-in-Err-create-clause-answers
-returns-in-Err-create-clause-answers g c = inr (c.in-Ok.request, c.in-Ok.ensures.request, inr (inl (c.in-Ok-open.reader, c.in-Err-create.e, c.in-Ok-open.ensures, c.in-Err-create.ensures, c.refuse-in-Err-create.ensures.code)))
+returns-in-Err-create-clause-answers g c = inr (
+  c.in-Ok.request,
+  c.in-Ok.ensures.request,
+  inr (inl (record {
+    source = c.in-Ok-open.reader;
+    e = c.in-Err-create.e;
+    opened = c.in-Ok-open.ensures.opens;
+    created = c.in-Err-create.ensures.creates;
+    said = c.refuse-in-Err-create.ensures.says;
+    ends = c.refuse-in-Err-create.ensures.value;
+    asks = c.create.ensures.asked;
+  })),
+)
 
-pub returns-then-arguments-clause-answers : goal.returns-then-arguments-clause-answers
-returns-then-arguments-clause-answers g c = IfOk-weaker c.list_reassembled.result _ _
-    (λ code r. inr (c.in-Ok.request, c.in-Ok.ensures.request, inr (inr (c.in-Ok-open.reader, c.in-Ok-create.writer, c.in-Ok-open.ensures, c.in-Ok-create.ensures, rw c.if-arguments.true r)))) c.list_reassembled.ensures.runs
-
-pub returns-else-arguments-clause-answers : goal.returns-else-arguments-clause-answers
-returns-else-arguments-clause-answers g c =
-    inr (c.in-Ok.request, c.in-Ok.ensures.request, inr (inr (c.in-Ok-open.reader, c.in-Ok-create.writer, c.in-Ok-open.ensures, c.in-Ok-create.ensures, rw c.if-arguments.false (record { memory = None; fresh = refl; runs = c.list.ensures.runs }))))
+pub returns-clause-answers : goal.returns-clause-answers
+returns-clause-answers g c = inr (
+  c.in-Ok.request,
+  c.in-Ok.ensures.request,
+  inr (inr (record {
+    source = c.in-Ok-open.reader;
+    sink = c.in-Ok-create.writer;
+    opened = c.in-Ok-open.ensures.opens;
+    created = c.in-Ok-create.ensures.creates;
+    runs = record {
+      input = c.new-input.result;
+      left = c.list_anew.new.input;
+      old = c.new-output.result;
+      new = c.list_anew.new.output;
+      reads = (c.new-input.ensures.source, c.new-input.ensures.unread, c.new-input.ensures.count);
+      prints = (c.new-output.ensures.sink, c.new-output.ensures.empty);
+      runs = c.in_ok-code.ensures.runs;
+      leaves = (refl, refl);
+    };
+    asks = c.create.ensures.asked;
+  })),
+)

@@ -19,32 +19,32 @@ line command m words is excludes parsed has =
 taken : (app : App) (words : List (List ℕ)) (kind : ErrorKind) → app ≡ app_with options → (takes app words ≡ true → kind ≡ OutOfMemory) → takes (app_with options) words ≡ true → kind ≡ OutOfMemory
 taken app words kind is passes = subst (λ (app : App). takes app words ≡ true → kind ≡ OutOfMemory) is passes
 
-pub returns-in-Err : goal.returns-in-Err
-returns-in-Err g c = record {
-  obeys = inl (record {
-    kind = kind_of c.in-Err.e;
+pub returns-in-Err-clause-obeys : goal.returns-in-Err-clause-obeys
+returns-in-Err-clause-obeys g c = rw c.unopened.ensures.value (inl (record {
+  e = c.in-Err.e;
+  of = record {
     why = taken _ _ _ c.in_ok-command.ensures.options c.in-Err.ensures.passes;
     shown = λ h. rw (c.exit_code.ensures.shown h) refl;
     mistake = λ help version. rw (c.exit_code.ensures.mistake help version) refl;
-  });
-}
+  };
+  shown = c.in_ok-show-in-Err.ensures.shows;
+  ends = refl;
+  asks = c.show.ensures.asked;
+  silent = refl;
+}))
 
-pub returns-in-Ok-from_matches : goal.returns-in-Ok-from_matches
-returns-in-Ok-from_matches g c =
+pub returns-in-Ok-from_matches-clause-obeys : goal.returns-in-Ok-from_matches-clause-obeys
+returns-in-Ok-from_matches-clause-obeys g c =
     let said = c.in-Ok-from_matches.ensures in
-    record {
-      obeys = IfOk-weaker c.answer.result _ _ (λ code a. inr (record {
-        matches = c.in-Ok.matches;
-        is = line _ _ _ c.in_ok-command.ensures.options c.in_ok-command.ensures.exclude c.in-Ok.ensures.parsed c.in-Ok.ensures.matches;
-        answers = inr (c.in-Ok-from_matches.arguments, record { mode = said.mode; utc = said.utc; reassembles = said.reassembles; limit = said.limit; output = said.output; input = said.input }, a);
-      })) c.answer.ensures.answers;
-    }
+    IfOk-weaker c.answer.result _ _ (λ ended a. inr (record {
+      matches = c.in-Ok.matches;
+      is = line _ _ _ c.in_ok-command.ensures.options c.in_ok-command.ensures.exclude c.in-Ok.ensures.parsed c.in-Ok.ensures.matches;
+      answers = inr (c.in-Ok-from_matches.arguments, record { mode = said.mode; utc = said.utc; reassembles = said.reassembles; limit = said.limit; output = said.output; input = said.input }, a);
+    })) c.answer.ensures.answers
 
-pub returns : goal.returns
-returns g c = record {
-  obeys = inr (record {
-    matches = c.in-Ok.matches;
-    is = line _ _ _ c.in_ok-command.ensures.options c.in_ok-command.ensures.exclude c.in-Ok.ensures.parsed c.in-Ok.ensures.matches;
-    answers = inl (c.in-Err-from_matches.ensures.long, refl);
-  });
-}
+pub returns-clause-obeys : goal.returns-clause-obeys
+returns-clause-obeys g c = inr (record {
+  matches = c.in-Ok.matches;
+  is = line _ _ _ c.in_ok-command.ensures.options c.in_ok-command.ensures.exclude c.in-Ok.ensures.parsed c.in-Ok.ensures.matches;
+  answers = inl (record { long = c.in-Err-from_matches.ensures.long; said = c.say.ensures.says; ends = c.unopened-in-Err-from_matches.ensures.value; asks = c.requires.first });
+})
