@@ -1,5 +1,5 @@
 -- A line on what failed.
-use Rattle.std.proofs.Common.{ℕ, ◌≡◌, List, ◌++◌, Option, Some, None, [], Result, Ok, Err, OnErr, OnOk, inl, inr, ap, codes, refl, ◌∙◌}
+use Rattle.std.proofs.Common.{ℕ, List, ◌++◌, Option, Some, None, [], Result, Ok, Err, OnErr, OnOk, inl, inr, ap, codes, refl, ◌∙◌}
 use Rattle.std.specs.Io.KnownBytes.{Appends, Keeps}
 use Rattle.std.specs.declared.io.Error.{Error}
 use Rattle.ipcap.specs.Faults.{IsReason, Says, fault_line, reason_text}

@@ -1,7 +1,7 @@
 -- What the program does with its arguments.
 use Rattle.std.specs.Prelude.{ℕ, ◌≡◌, ◌≢◌, ◌⊎◌, All, Bool, IfSome, List, []}
 use Rattle.std.specs.Prelude.{Err, None, Ok, Option, Result, Some, codes, false, length, take, true}
-use Rattle.std.specs.Prelude.{unwrap_or}
+use Rattle.std.specs.Prelude.{MatchResult, unwrap_or}
 use Rattle.std.specs.declared.io.Error.{Error}
 use Rattle.clap.specs.Values.{kind_of}
 use Rattle.clap.specs.Words.{IsParsedFrom, app_of, found_of, matches_of, rows_of, takes}
@@ -49,7 +49,7 @@ name_of name = take 327680 (unwrap_or name (codes "-"))
 
 -- the program ends with this exit status, and has opened no file
 abbrev pub unopened : {R W : Type 0} → ℕ → Ended R W
-unopened code = record { code = code; source = None; sink = None }
+unopened code = record { code = Ok code; source = None; sink = None }
 
 -- the request that arguments make
 pub record IsRequest (arguments : Arguments) (request : Request) : Type 0 where
@@ -79,6 +79,14 @@ pub record HasNoMatches (words : List (List ℕ)) (e : text.Error) (code : ℕ) 
   pub shown : (kind_of e ≡ DisplayHelp) ⊎ (kind_of e ≡ DisplayVersion) → code ≡ 0
   pub mistake : kind_of e ≢ DisplayHelp → kind_of e ≢ DisplayVersion → code ≡ 2
 
+-- there is no memory to put packets together, and nothing changes
+pub record LacksMemory {R W E : Type 0} (reassembles : Bool) (input left : Input R)
+    (old new : Output W) (old_errors new_errors : Output E) : Type 0 where
+  pub wanted : reassembles ≡ true
+  pub unread : left ≡ input
+  pub unwritten : new ≡ old
+  pub silent : new_errors ≡ old_errors
+
 module _ {R W E : Type 0} (remaining : R → Option (List ℕ)) (contents : W → Option (List ℕ))
     (contents_of_errors : E → Option (List ℕ)) (read_failed : R → Type 0)
     (write_failed : W → Type 0) (error_failed : E → Type 0) (why_read : R → Option Error)
@@ -100,7 +108,7 @@ module _ {R W E : Type 0} (remaining : R → Option (List ℕ)) (contents : W �
     pub mid : Output E
     pub fails : Fails remaining contents read_failed write_failed request memory of
         input left old new old_errors mid
-    pub says : Says contents_of_errors error_failed is_text (failure_text of)
+    pub said : Says contents_of_errors error_failed is_text (failure_text of)
         (reason_of of (why_read left.source) (why_written new.sink)) mid new_errors
 
   -- a run from this input to this output has this exit status, and leaves them so
@@ -126,7 +134,9 @@ module _ {R W E : Type 0} (remaining : R → Option (List ℕ)) (contents : W �
     pub new : Output W
     pub reads : (input.source ≡ source) × (unread input ≡ []) × (input.count ≡ 0)
     pub prints : (old.sink ≡ sink) × (pending old ≡ [])
-    pub runs : RunsAnew request reassembles input left old new old_errors new_errors ended.code
+    pub runs : MatchResult ended.code
+        (RunsAnew request reassembles input left old new old_errors new_errors)
+        (λ e. LacksMemory reassembles input left old new old_errors new_errors)
     pub leaves : (ended.source ≡ Some left.source) × (ended.sink ≡ Some new.sink)
 
   -- The text of arguments is no expression: standard error gets the lines on it, and the code is 2.
@@ -169,7 +179,7 @@ module _ {R W E : Type 0} (remaining : R → Option (List ℕ)) (contents : W �
       pub created : creates (text_of arguments.output) (Err e)
       pub said : Says contents_of_errors error_failed is_text (name_of (text_of arguments.output))
           (Some e) old_errors new_errors
-      pub ends : ended ≡ record { code = 2; source = Some source; sink = None }
+      pub ends : ended ≡ record { code = Ok 2; source = Some source; sink = None }
       pub asks : asked ≡ asked_for.Output
 
     -- both are opened, and a request is run
@@ -197,9 +207,10 @@ module _ {R W E : Type 0} (remaining : R → Option (List ℕ)) (contents : W �
     -- words with no matches: a text on them is shown, and nothing else comes of them
     pub record ShowsText : Type 0 where
       pub e : text.Error
-      pub of : HasNoMatches words e ended.code
+      pub code : ℕ
+      pub of : HasNoMatches words e code
       pub shown : shows e
-      pub ends : ended ≡ unopened ended.code
+      pub ends : ended ≡ unopened code
       pub asks : asked ≡ asked_for.Text
       pub silent : new_errors ≡ old_errors
 

@@ -57,5 +57,5 @@ fn start(rt: &HostRuntime) -> io::Result<u8> {
     let words: Vec<String> = arguments.collect(rt.alloc())?;
     let mut system = Host::new(rt);
     let mut errors = Output::new(Watched::new(rt.stderr()));
-    Ok(obey(&mut system, rt.alloc(), words.as_slice(), &mut errors)?.code)
+    obey(&mut system, rt.alloc(), words.as_slice(), &mut errors)?.code
 }

@@ -1,11 +1,11 @@
 //! What the program does with the words of its command line.
 
-ghost use Rattle.std.specs.Prelude.{◌≡◌, [], IfErr, IfOk, IsOk, OnErr, Some, false, map};
+ghost use Rattle.std.specs.Prelude.{◌≡◌, ◌⊎◌, [], IfErr, IfOk, IsOk, Ok, OnErr, Some, false, map};
 ghost use Rattle.std.specs.Prelude.{string_bytes, true};
 ghost use Rattle.std.specs.declared.io.Error.{Error};
 ghost use Rattle.ipcap.specs.Arguments.{text_of};
 ghost use Rattle.ipcap.specs.Faults.{Says};
-ghost use Rattle.ipcap.specs.Program.{Answers, IsRequest, Obeys, Runs, RunsAnew};
+ghost use Rattle.ipcap.specs.Program.{Answers, IsRequest, LacksMemory, Obeys, Runs, RunsAnew};
 ghost use Rattle.ipcap.specs.Program.{failure_text, name_of, reason_of, unopened};
 ghost use Rattle.ipcap.specs.Request.{IsNoFilter};
 ghost use Rattle.ipcap.specs.Streams.{pending};
@@ -37,8 +37,8 @@ const _: () = prove!(REFUSED == 2 && FAILED == 3);
 /// How the program ended, and how it left its streams.
 #[derive(Drop)]
 pub struct Ended<R, W> {
-    /// The exit status.
-    pub code: u8,
+    /// The exit status; or why there is none, since there is no memory.
+    pub code: io::Result<u8>,
     /// What was read from, if it was opened.
     pub source: Option<R>,
     /// What was written to, if it was made.
@@ -62,7 +62,8 @@ pub fn obey<S: System, E: Sink>(
         S.Reader.has_failed S.Writer.has_failed E.has_failed S.Reader.why_failed
         S.Writer.why_failed (E.is_text Error) S.opens S.creates S.shows
         (map string_bytes words.now) ended (S.asked system.new) errors.old errors.new) }
-    ensures silent { OnErr result (errors.new ≡ errors.old) }
+    ensures unopened { OnErr result (((S.asked system.new ≡ Asked.Nothing)
+        ⊎ (S.asked system.new ≡ Asked.Text)) × (errors.new ≡ errors.old)) }
 {
     let matches = match command(alloc)?.try_get_matches_from(words) {
         Ok(matches) => matches,
@@ -72,7 +73,7 @@ pub fn obey<S: System, E: Sink>(
         }
     };
     match Arguments::from_matches(&matches) {
-        Ok(arguments) => answer(system, alloc, &arguments, errors),
+        Ok(arguments) => Ok(answer(system, alloc, &arguments, errors)),
         Err(_) => {
             errors.say(b"the expression has more than 4096 bytes", None);
             Ok(unopened(REFUSED))
@@ -86,31 +87,30 @@ fn answer<S: System, E: Sink>(
     alloc: Global,
     arguments: &Arguments,
     errors: &mut Output<E>,
-) -> io::Result<Ended<S::Reader, S::Writer>>
+) -> Ended<S::Reader, S::Writer>
     requires first { S.asked system.old ≡ Asked.Nothing }
     requires fresh { pending errors.old ≡ [] }
-    ensures answers { IfOk result (λ ended. Answers S.Reader.remaining S.Writer.contents E.contents
+    ensures answers { Answers S.Reader.remaining S.Writer.contents E.contents
         S.Reader.has_failed S.Writer.has_failed E.has_failed S.Reader.why_failed
-        S.Writer.why_failed (E.is_text Error) S.opens S.creates arguments.now ended
-        (S.asked system.new) errors.old errors.new) }
-    ensures allocates { arguments.now.reassembles ≡ false → IsOk result }
-    ensures silent { OnErr result (errors.new ≡ errors.old) }
+        S.Writer.why_failed (E.is_text Error) S.opens S.creates arguments.now result
+        (S.asked system.new) errors.old errors.new }
+    ensures allocates { arguments.now.reassembles ≡ false → IsOk result.code }
 {
     let request = match request_of(arguments) {
         Ok(request) => request,
         Err(error) => {
             let text = arguments.text.as_slice();
             errors.report(RefusalLines { text, error });
-            return Ok(unopened(REFUSED));
+            return unopened(REFUSED);
         }
     };
     let reader = match system.open(arguments.input) {
         Ok(reader) => reader,
-        Err(e) => return Ok(refuse(errors, arguments.input, e, None)),
+        Err(e) => return refuse(errors, arguments.input, e, None),
     };
     let writer = match system.create(arguments.output) {
         Ok(writer) => writer,
-        Err(e) => return Ok(refuse(errors, arguments.output, e, Some(reader))),
+        Err(e) => return refuse(errors, arguments.output, e, Some(reader)),
     };
     let mut input = Input::new(reader);
     let mut output = Output::new(writer);
@@ -122,12 +122,12 @@ fn answer<S: System, E: Sink>(
         &mut input,
         &mut output,
         errors,
-    )?;
-    Ok(Ended {
+    );
+    Ended {
         code,
         source: Some(input.source),
         sink: Some(output.sink),
-    })
+    }
 }
 
 // No file is opened.
@@ -135,7 +135,7 @@ fn unopened<R, W>(code: u8) -> Ended<R, W>
     ensures value { result ≡ unopened code }
 {
     Ended {
-        code,
+        code: Ok(code),
         source: None,
         sink: None,
     }
@@ -166,12 +166,12 @@ fn refuse<R, W, E: Sink>(
     requires fresh { pending errors.old ≡ [] }
     ensures says { Says E.contents E.has_failed (E.is_text Error) (name_of (text_of name.entry))
         (Some e) errors.old errors.new }
-    ensures value { result ≡ record { code = 2; source = source; sink = None } }
+    ensures value { result ≡ record { code = Ok 2; source = source; sink = None } }
 {
     let name = name.unwrap_or("-").as_bytes();
     errors.say(&name[..ROOM.min(name.len())], Some(e));
     Ended {
-        code: REFUSED,
+        code: Ok(REFUSED),
         source,
         sink: None,
     }
@@ -192,8 +192,8 @@ fn list_anew<R: Source, W: Sink, E: Sink>(
         W.has_failed E.has_failed R.why_failed W.why_failed (E.is_text Error) request.now
         reassembles input.old input.new output.old output.new errors.old errors.new) }
     ensures allocates { reassembles ≡ false → IsOk result }
-    ensures unchanged { OnErr result ((input.new ≡ input.old) × (output.new ≡ output.old)
-        × (errors.new ≡ errors.old)) }
+    ensures lacks { OnErr result (LacksMemory reassembles input.old input.new
+        output.old output.new errors.old errors.new) }
 {
     if !reassembles {
         return Ok(list(request, None, input, output, errors));

@@ -8,5 +8,5 @@ returns-in-Ok g c = record {
 
 pub returns-in-Err : goal.returns-in-Err
 returns-in-Err g c = record {
-  runs = inr (record { of = c.in-Err.failure; is_code = refl; mid = c.run.new.errors; fails = c.in-Err.ensures.failed; says = rw (c.as_bytes.ensures.value, c.reason_of-why.ensures.what, c.reason_of-why.ensures.why) at c.say.ensures.says });
+  runs = inr (record { of = c.in-Err.failure; is_code = refl; mid = c.run.new.errors; fails = c.in-Err.ensures.failed; said = rw (c.as_bytes.ensures.value, c.reason_of-why.ensures.what, c.reason_of-why.ensures.why) at c.say.ensures.says });
 }

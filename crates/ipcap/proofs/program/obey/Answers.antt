@@ -1,6 +1,4 @@
 use Rattle.std.proofs.Common.{◌≡◌, ℕ, List, inl, inr, refl, subst, true}
-use Rattle.std.proofs.lemmas.Result.{IfOk-weaker}
-use Rattle.clap.specs.Values.{kind_of}
 use Rattle.clap.specs.Words.{App, HasMatchesOf, IsParsedFrom, app_of, takes}
 use Rattle.clap.specs.declared.builder.command.Command.{Command}
 use Rattle.clap.specs.declared.error.kind.ErrorKind.{ErrorKind}
@@ -20,27 +18,28 @@ taken : (app : App) (words : List (List ℕ)) (kind : ErrorKind) → app ≡ app
 taken app words kind is passes = subst (λ (app : App). takes app words ≡ true → kind ≡ OutOfMemory) is passes
 
 pub returns-in-Err-clause-obeys : goal.returns-in-Err-clause-obeys
-returns-in-Err-clause-obeys g c = rw c.unopened.ensures.value (inl (record {
+returns-in-Err-clause-obeys g c = inl (record {
   e = c.in-Err.e;
+  code = _;
   of = record {
     why = taken _ _ _ c.in_ok-command.ensures.options c.in-Err.ensures.passes;
     shown = λ h. rw (c.exit_code.ensures.shown h) refl;
     mistake = λ help version. rw (c.exit_code.ensures.mistake help version) refl;
   };
   shown = c.in_ok-show-in-Err.ensures.shows;
-  ends = refl;
+  ends = c.unopened.ensures.value;
   asks = c.show.ensures.asked;
   silent = refl;
-}))
+})
 
 pub returns-in-Ok-from_matches-clause-obeys : goal.returns-in-Ok-from_matches-clause-obeys
 returns-in-Ok-from_matches-clause-obeys g c =
     let said = c.in-Ok-from_matches.ensures in
-    IfOk-weaker c.answer.result _ _ (λ ended a. inr (record {
+    inr (record {
       matches = c.in-Ok.matches;
       is = line _ _ _ c.in_ok-command.ensures.options c.in_ok-command.ensures.exclude c.in-Ok.ensures.parsed c.in-Ok.ensures.matches;
-      answers = inr (c.in-Ok-from_matches.arguments, record { mode = said.mode; utc = said.utc; reassembles = said.reassembles; limit = said.limit; output = said.output; input = said.input }, a);
-    })) c.answer.ensures.answers
+      answers = inr (c.in-Ok-from_matches.arguments, record { mode = said.mode; utc = said.utc; reassembles = said.reassembles; limit = said.limit; output = said.output; input = said.input }, c.answer.ensures.answers);
+    })
 
 pub returns-clause-obeys : goal.returns-clause-obeys
 returns-clause-obeys g c = inr (record {
