@@ -72,10 +72,12 @@ pub record IsCommandLine (words : List (List ℕ)) (matches : ArgMatches) : Type
   pub parsed : IsParsedFrom command matches
   pub found : rows_of (found_of matches) ≡ matches_of (app_with options) words
 
--- The exit status of words with no matches: 0 if they ask for help or the version, and otherwise 2.
--- If the options take the words, there was no memory.
-pub record HasNoMatches (words : List (List ℕ)) (e : text.Error) (code : ℕ) : Type 0 where
-  pub why : takes (app_with options) words ≡ true → kind_of e ≡ OutOfMemory
+-- The options find no matches in the words. If they take the words, there was no memory.
+abbrev pub HasNoMatches : List (List ℕ) → text.Error → Type 0
+HasNoMatches words e = takes (app_with options) words ≡ true → kind_of e ≡ OutOfMemory
+
+-- the exit status then: 0 if the words ask for help or the version, and otherwise 2
+pub record HasCode (e : text.Error) (code : ℕ) : Type 0 where
   pub shown : (kind_of e ≡ DisplayHelp) ⊎ (kind_of e ≡ DisplayVersion) → code ≡ 0
   pub mistake : kind_of e ≢ DisplayHelp → kind_of e ≢ DisplayVersion → code ≡ 2
 
@@ -201,14 +203,17 @@ module _ {R W E : Type 0} (remaining : R → Option (List ℕ)) (contents : W �
         ⊎ ((request : Request) × IsRequest arguments request × Opens request)
 
   module _ (opens : Option (List ℕ) → Result R Error → Type 0)
-      (creates : Option (List ℕ) → Result W Error → Type 0) (shows : text.Error → Type 0)
+      (creates : Option (List ℕ) → Result W Error → Type 0)
+      (reads : List (List ℕ) → Result ArgMatches text.Error → Type 0) (shows : text.Error → Type 0)
       (words : List (List ℕ)) (ended : Ended R W) (asked : Asked)
       (old_errors new_errors : Output E) where
-    -- words with no matches: a text on them is shown, and nothing else comes of them
+    -- words with no matches: the text on them is shown, and nothing else comes of them
     pub record ShowsText : Type 0 where
       pub e : text.Error
       pub code : ℕ
-      pub of : HasNoMatches words e code
+      pub read : reads words (Err e)
+      pub none : HasNoMatches words e
+      pub is_code : HasCode e code
       pub shown : shows e
       pub ends : ended ≡ unopened code
       pub asks : asked ≡ asked_for.Text
@@ -217,6 +222,7 @@ module _ {R W E : Type 0} (remaining : R → Option (List ℕ)) (contents : W �
     -- what comes of words, unless their text is too long
     pub record Follows : Type 0 where
       pub matches : ArgMatches
+      pub read : reads words (Ok matches)
       pub is : IsCommandLine words matches
       pub answers : RefusesLength matches ended asked old_errors new_errors
           ⊎ ((arguments : Arguments) × IsArguments matches arguments

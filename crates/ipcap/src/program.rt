@@ -11,7 +11,7 @@ ghost use Rattle.ipcap.specs.Request.{IsNoFilter};
 ghost use Rattle.ipcap.specs.Streams.{pending};
 ghost use Rattle.ipcap.specs.declared.system.Asked.{Asked};
 
-use crate::arguments::{Arguments, command};
+use crate::arguments::Arguments;
 use crate::failure::Failure;
 use crate::input::{Input, ROOM};
 use crate::memory::{FRAME_ROOM, Reassembly, SLOT_LEN, slots_in};
@@ -60,12 +60,12 @@ pub fn obey<S: System, E: Sink>(
     requires fresh { pending errors.old ≡ [] }
     ensures obeys { IfOk result (λ ended. Obeys S.Reader.remaining S.Writer.contents E.contents
         S.Reader.has_failed S.Writer.has_failed E.has_failed S.Reader.why_failed
-        S.Writer.why_failed (E.is_text Error) S.opens S.creates S.shows
+        S.Writer.why_failed (E.is_text Error) S.opens S.creates S.reads S.shows
         (map string_bytes words.now) ended (S.asked system.new) errors.old errors.new) }
     ensures unopened { OnErr result (((S.asked system.new ≡ Asked.Nothing)
         ⊎ (S.asked system.new ≡ Asked.Text)) × (errors.new ≡ errors.old)) }
 {
-    let matches = match command(alloc)?.try_get_matches_from(words) {
+    let matches = match system.read(alloc, words)? {
         Ok(matches) => matches,
         Err(e) => {
             system.show(&e)?;

@@ -1,15 +1,21 @@
 //! What the program has of the system: the files that names stand for, and the texts on a command
 //! line.
 
-ghost use Rattle.std.specs.Prelude.{◌≡◌, ℕ, List, OnOk, Option, Result};
+ghost use Rattle.std.specs.Prelude.{◌≡◌, ℕ, IfErr, IfOk, List, OnOk, Option, Result, map};
+ghost use Rattle.std.specs.Prelude.{string_bytes};
 ghost use Rattle.std.specs.declared.io.Error.{Error};
 ghost use Rattle.clap.specs.declared.error.Error as text;
+ghost use Rattle.clap.specs.declared.parser.matches.ArgMatches as found;
 ghost use Rattle.ipcap.specs.Arguments.{text_of};
 ghost use Rattle.ipcap.specs.Files.{OpensReader, OpensWriter};
+ghost use Rattle.ipcap.specs.Program.{HasNoMatches, IsCommandLine};
 ghost use Rattle.ipcap.specs.declared.system.Asked as asked_for;
 
+use crate::arguments::read_words;
 use crate::files;
 use crate::streams::{Sink, Source, Watched};
+use clap::ArgMatches;
+use std::alloc::{AllocError, Global};
 use std::fs::File;
 use std::io;
 use std::io::{Stdin, Stdout};
@@ -42,6 +48,9 @@ pub trait System {
     // What it has been asked for.
     ghost asked: { Self → asked_for.Asked };
 
+    // What reading the words of a command line comes to.
+    ghost reads: { List (List ℕ) → Result found.ArgMatches text.Error → Type 0 };
+
     // A text on a command line is shown.
     ghost shows: { text.Error → Type 0 };
 
@@ -50,6 +59,18 @@ pub trait System {
 
     // What making the file with a name comes to; `-` and no name are standard output.
     ghost creates: { Option (List ℕ) → Result Self.Writer Error → Type 0 };
+
+    /// Reads the words of a command line, as `read_words` does.
+    fn read<'a>(
+        &self,
+        alloc: Global,
+        words: &'a [String],
+    ) -> Result<Result<ArgMatches<'a>, clap::Error>, AllocError>
+        ensures reads { IfOk result (reads (map string_bytes words.entry.now)) }
+        ensures matches { IfOk result (λ read. IfOk read
+            (IsCommandLine (map string_bytes words.entry.now))) }
+        ensures none { IfOk result (λ read. IfErr read
+            (HasNoMatches (map string_bytes words.entry.now))) };
 
     /// Shows help or the version on standard output, or on standard error what is wrong with a
     /// command line, as `clap::Error::print` does.
@@ -97,11 +118,21 @@ impl System for Host<'_> {
 
     ghost asked = { λ host. host.asked };
 
+    ghost reads = { λ _ _. Unit {0} };
+
     ghost shows = { λ _. Unit {0} };
 
     ghost opens = { λ name result. OpensReader name result };
 
     ghost creates = { λ name result. OpensWriter name result };
+
+    fn read<'a>(
+        &self,
+        alloc: Global,
+        words: &'a [String],
+    ) -> Result<Result<ArgMatches<'a>, clap::Error>, AllocError> {
+        read_words(alloc, words)
+    }
 
     fn show(&mut self, text: &clap::Error) -> io::Result<()> {
         self.asked = Asked::Text;
