@@ -4,5 +4,6 @@ mod Fronts
 mod Options
 mod Outcomes
 mod Runs
+mod Said
 mod Taken
 mod Written

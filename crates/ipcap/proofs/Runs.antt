@@ -30,7 +30,7 @@ use Rattle.ipcap.specs.Listing.{CutsOff, EndsAt, EndsOtherwise, HasLongFront, Li
 use Rattle.ipcap.specs.Reading.{max_len}
 use Rattle.ipcap.specs.Request.{copies, has_enough}
 use Rattle.ipcap.specs.Private.Progress.{Because, Breaks, Ends, GoesOn, IsTold, Lacks, Skips, Tells, TellsFront, TellsFrontOf, Turns, WantsMore, keeps, last_four}
-use Rattle.ipcap.specs.Streams.{CannotRead, Prints, Reads, Takes, kept_if, pending, unread}
+use Rattle.ipcap.specs.Streams.{CannotRead, Prints, PrintsFront, Reads, Takes, kept_if, pending, unread}
 use Rattle.ipcap.specs.Totals.{HasRoom, Told, counted, counted_block, no_packet, packet}
 use Rattle.ipcap.specs.declared.failure.Failure.{Failure}
 use Rattle.ipcap.specs.declared.failure.Failure.TheVariants as failure
@@ -258,6 +258,15 @@ module _ {W : Type 0} (contents : W → Option (List ℕ)) where
   -- nothing more is printed
   pub prints_then : (a b c : Output W) (text : List ℕ) → Prints contents a b text → Prints contents b c [] → Prints contents a c text
   prints_then a b c text p q = rw (append-nil text) at (prints_both a b c text [] p q)
+
+  -- more is printed, or a front of it
+  pub front_then : (a b c : Output W) (s t : List ℕ) → Prints contents a b s → PrintsFront contents b c t → PrintsFront contents a c (s ++ t)
+  front_then a b c s t p q = record {
+    front = s ++ q.front;
+    rest = q.rest;
+    whole = ap (λ l. s ++ l) q.whole ∙ sym (append_assoc s q.front q.rest);
+    prints = prints_both a b c s q.front p q.prints;
+  }
 
   module _ (request : Request) where
     pub tells_nothing : (t : Place) (o : Output W) → Tells contents request t t [] o o

@@ -2,6 +2,7 @@ pub mod Arguments
 pub mod Dates
 pub mod Digits
 pub mod Ends
+pub mod Faults
 pub mod Files
 pub mod Lines
 pub mod Listing

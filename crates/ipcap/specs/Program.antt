@@ -1,15 +1,18 @@
 -- What the program does with its arguments.
 use Rattle.std.specs.Prelude.{ℕ, ◌≡◌, ◌≢◌, ◌⊎◌, All, Bool, IfSome, List, []}
-use Rattle.std.specs.Prelude.{Err, None, Ok, Option, Result, Some, codes, false, length, true}
+use Rattle.std.specs.Prelude.{Err, None, Ok, Option, Result, Some, codes, false, length, take, true}
+use Rattle.std.specs.Prelude.{MatchResult, unwrap_or}
 use Rattle.std.specs.declared.io.Error.{Error}
+use Rattle.clap.specs.Values.{kind_of}
 use Rattle.clap.specs.Words.{IsParsedFrom, app_of, found_of, matches_of, rows_of, takes}
 use Rattle.clap.specs.declared.builder.command.Command.{Command}
-use Rattle.clap.specs.declared.error.kind.ErrorKind.{ErrorKind}
+use Rattle.clap.specs.declared.error.Error as text
 use Rattle.clap.specs.declared.error.kind.ErrorKind.TheVariants.{DisplayHelp, DisplayVersion}
 use Rattle.clap.specs.declared.error.kind.ErrorKind.TheVariants.{OutOfMemory}
 use Rattle.clap.specs.declared.parser.matches.ArgMatches.{ArgMatches}
 use Rattle.packet_filter.specs.declared.reading.FilterError.{FilterError}
 use Rattle.ipcap.specs.Arguments.{HasLongText, IsArguments, text_of}
+use Rattle.ipcap.specs.Faults.{Says}
 use Rattle.ipcap.specs.Options.{app_with, exclusions, exclusions_of, options}
 use Rattle.ipcap.specs.Output.{Fails, IsOutcome, Writes}
 use Rattle.ipcap.specs.Reassembled.{Memory}
@@ -22,8 +25,11 @@ use Rattle.ipcap.specs.declared.failure.Failure.{Failure}
 use Rattle.ipcap.specs.declared.failure.Failure.TheVariants as failure
 use Rattle.ipcap.specs.declared.input.Input.{Input}
 use Rattle.ipcap.specs.declared.output.Output.{Output}
+use Rattle.ipcap.specs.declared.program.Ended.{Ended}
 use Rattle.ipcap.specs.declared.request.Request.{Request}
 use Rattle.ipcap.specs.declared.status.Status.{Status}
+use Rattle.ipcap.specs.declared.system.Asked.{Asked}
+use Rattle.ipcap.specs.declared.system.Asked.TheVariants as asked_for
 
 -- what failed, in words
 abbrev pub failure_text : Failure → List ℕ
@@ -36,6 +42,14 @@ abbrev pub reason_of : Failure → Option Error → Option Error → Option Erro
 reason_of failure.Read of_read of_write = of_read
 reason_of failure.Write of_read of_write = of_write
 reason_of failure.Count of_read of_write = None
+
+-- the name of a file as it is shown: `-` if there is none
+abbrev pub name_of : Option (List ℕ) → List ℕ
+name_of name = take 327680 (unwrap_or name (codes "-"))
+
+-- the program ends with this exit status, and has opened no file
+abbrev pub unopened : {R W : Type 0} → ℕ → Ended R W
+unopened code = record { code = Ok code; source = None; sink = None }
 
 -- the request that arguments make
 pub record IsRequest (arguments : Arguments) (request : Request) : Type 0 where
@@ -58,17 +72,27 @@ pub record IsCommandLine (words : List (List ℕ)) (matches : ArgMatches) : Type
   pub parsed : IsParsedFrom command matches
   pub found : rows_of (found_of matches) ≡ matches_of (app_with options) words
 
--- The exit status of words with no matches: 0 if they ask for help or the version, and otherwise 2.
--- If the options take the words, there was no memory.
-pub record HasNoMatches (words : List (List ℕ)) (code : ℕ) : Type 0 where
-  pub kind : ErrorKind
-  pub why : takes (app_with options) words ≡ true → kind ≡ OutOfMemory
-  pub shown : (kind ≡ DisplayHelp) ⊎ (kind ≡ DisplayVersion) → code ≡ 0
-  pub mistake : kind ≢ DisplayHelp → kind ≢ DisplayVersion → code ≡ 2
+-- The options find no matches in the words. If they take the words, there was no memory.
+abbrev pub HasNoMatches : List (List ℕ) → text.Error → Type 0
+HasNoMatches words e = takes (app_with options) words ≡ true → kind_of e ≡ OutOfMemory
+
+-- the exit status then: 0 if the words ask for help or the version, and otherwise 2
+pub record HasCode (e : text.Error) (code : ℕ) : Type 0 where
+  pub shown : (kind_of e ≡ DisplayHelp) ⊎ (kind_of e ≡ DisplayVersion) → code ≡ 0
+  pub mistake : kind_of e ≢ DisplayHelp → kind_of e ≢ DisplayVersion → code ≡ 2
+
+-- there is no memory to put packets together, and nothing changes
+pub record LacksMemory {R W E : Type 0} (reassembles : Bool) (input left : Input R)
+    (old new : Output W) (old_errors new_errors : Output E) : Type 0 where
+  pub wanted : reassembles ≡ true
+  pub unread : left ≡ input
+  pub unwritten : new ≡ old
+  pub silent : new_errors ≡ old_errors
 
 module _ {R W E : Type 0} (remaining : R → Option (List ℕ)) (contents : W → Option (List ℕ))
     (contents_of_errors : E → Option (List ℕ)) (read_failed : R → Type 0)
-    (write_failed : W → Type 0) (error_failed : E → Type 0) where
+    (write_failed : W → Type 0) (error_failed : E → Type 0) (why_read : R → Option Error)
+    (why_written : W → Option Error) (is_text : Error → List ℕ → Type 0) where
   -- a run ends with a status, whose code this is
   pub record EndsWith (request : Request) (memory : Memory) (input left : Input R)
       (old new : Output W) (old_errors new_errors : Output E) (code : ℕ) : Type 0 where
@@ -78,69 +102,132 @@ module _ {R W E : Type 0} (remaining : R → Option (List ℕ)) (contents : W �
         error_failed (IsOutcome request memory bytes) status old new old_errors new_errors)
     pub unfailed : NoReadFails read_failed input left
 
-  -- it fails, and the code is 3
+  -- it fails, standard error gets a line on that, and the code is 3
   pub record FailsWith (request : Request) (memory : Memory) (input left : Input R)
       (old new : Output W) (old_errors new_errors : Output E) (code : ℕ) : Type 0 where
     pub of : Failure
     pub is_code : code ≡ 3
+    pub mid : Output E
     pub fails : Fails remaining contents read_failed write_failed request memory of
-        input left old new old_errors new_errors
+        input left old new old_errors mid
+    pub said : Says contents_of_errors error_failed is_text (failure_text of)
+        (reason_of of (why_read left.source) (why_written new.sink)) mid new_errors
 
-  -- a run from this source to this sink has this exit status
-  pub record Runs (request : Request) (memory : Memory) (source : R) (sink : W) (code : ℕ)
-      : Type 0 where
+  -- a run from this input to this output has this exit status, and leaves them so
+  abbrev pub Runs : Request → Memory → Input R → Input R → Output W → Output W → Output E
+      → Output E → ℕ → Type 0
+  Runs request memory input left old new old_errors new_errors code =
+      EndsWith request memory input left old new old_errors new_errors code
+      ⊎ FailsWith request memory input left old new old_errors new_errors code
+
+  -- the same, with packets put together or not
+  pub record RunsAnew (request : Request) (reassembles : Bool) (input left : Input R)
+      (old new : Output W) (old_errors new_errors : Output E) (code : ℕ) : Type 0 where
+    pub memory : Memory
+    pub fresh : IsFresh reassembles memory
+    pub runs : Runs request memory input left old new old_errors new_errors code
+
+  -- the same, from this source to this sink
+  pub record RunsFrom (request : Request) (reassembles : Bool) (source : R) (sink : W)
+      (ended : Ended R W) (old_errors new_errors : Output E) : Type 0 where
     pub input : Input R
     pub left : Input R
     pub old : Output W
     pub new : Output W
-    pub old_errors : Output E
-    pub new_errors : Output E
     pub reads : (input.source ≡ source) × (unread input ≡ []) × (input.count ≡ 0)
-    pub prints : (old.sink ≡ sink) × (pending old ≡ []) × (pending old_errors ≡ [])
-    pub ends : EndsWith request memory input left old new old_errors new_errors code
-        ⊎ FailsWith request memory input left old new old_errors new_errors code
-
-  -- the same, with packets put together or not
-  pub record RunsAnew (request : Request) (reassembles : Bool) (source : R) (sink : W) (code : ℕ)
-      : Type 0 where
-    pub memory : Memory
-    pub fresh : IsFresh reassembles memory
-    pub runs : Runs request memory source sink code
+    pub prints : (old.sink ≡ sink) × (pending old ≡ [])
+    pub runs : MatchResult ended.code
+        (RunsAnew request reassembles input left old new old_errors new_errors)
+        (λ e. LacksMemory reassembles input left old new old_errors new_errors)
+    pub leaves : (ended.source ≡ Some left.source) × (ended.sink ≡ Some new.sink)
 
   -- The text of arguments is no expression: standard error gets the lines on it, and the code is 2.
-  pub record RefusesText (text : List ℕ) (code : ℕ) : Type 0 where
+  -- No file is asked for.
+  pub record RefusesText (text : List ℕ) (ended : Ended R W) (asked : Asked)
+      (old_errors new_errors : Output E) : Type 0 where
     pub error : FilterError
     pub is_none : IsNoFilter text error
-    pub old : Output E
-    pub new : Output E
-    pub fresh : pending old ≡ []
-    pub said : Reports contents_of_errors error_failed old new (refusal_lines text error)
-    pub is_code : code ≡ 2
+    pub said : Reports contents_of_errors error_failed old_errors new_errors
+        (refusal_lines text error)
+    pub ends : ended ≡ unopened 2
+    pub asks : asked ≡ asked_for.Nothing
+
+  -- the text is too long for one
+  pub record RefusesLength (matches : ArgMatches) (ended : Ended R W) (asked : Asked)
+      (old_errors new_errors : Output E) : Type 0 where
+    pub long : HasLongText matches
+    pub said : Says contents_of_errors error_failed is_text
+        (codes "the expression has more than 4096 bytes") None old_errors new_errors
+    pub ends : ended ≡ unopened 2
+    pub asks : asked ≡ asked_for.Nothing
 
   module _ (opens : Option (List ℕ) → Result R Error → Type 0)
-      (creates : Option (List ℕ) → Result W Error → Type 0) where
+      (creates : Option (List ℕ) → Result W Error → Type 0) (arguments : Arguments)
+      (ended : Ended R W) (asked : Asked) (old_errors new_errors : Output E) where
+    -- the input cannot be opened, and standard error gets the reason; no output is asked for
+    pub record CannotOpen : Type 0 where
+      pub e : Error
+      pub opened : opens (text_of arguments.input) (Err e)
+      pub said : Says contents_of_errors error_failed is_text (name_of (text_of arguments.input))
+          (Some e) old_errors new_errors
+      pub ends : ended ≡ unopened 2
+      pub asks : asked ≡ asked_for.Input
+
+    -- the output cannot be made, and standard error gets the reason; the input is left as it is
+    pub record CannotCreate : Type 0 where
+      pub source : R
+      pub e : Error
+      pub opened : opens (text_of arguments.input) (Ok source)
+      pub created : creates (text_of arguments.output) (Err e)
+      pub said : Says contents_of_errors error_failed is_text (name_of (text_of arguments.output))
+          (Some e) old_errors new_errors
+      pub ends : ended ≡ record { code = Ok 2; source = Some source; sink = None }
+      pub asks : asked ≡ asked_for.Output
+
+    -- both are opened, and a request is run
+    pub record RunsOn (request : Request) : Type 0 where
+      pub source : R
+      pub sink : W
+      pub opened : opens (text_of arguments.input) (Ok source)
+      pub created : creates (text_of arguments.output) (Ok sink)
+      pub runs : RunsFrom request arguments.reassembles source sink ended old_errors new_errors
+      pub asks : asked ≡ asked_for.Output
+
     -- what comes of a request: a run, unless a file cannot be opened or made
-    abbrev pub Opens : Arguments → Request → ℕ → Type 0
-    Opens arguments request code =
-        ((e : Error) × opens (text_of arguments.input) (Err e) × (code ≡ 2))
-        ⊎ (((source : R) × (e : Error) × opens (text_of arguments.input) (Ok source)
-        × creates (text_of arguments.output) (Err e) × (code ≡ 2))
-        ⊎ ((source : R) × (sink : W) × opens (text_of arguments.input) (Ok source)
-        × creates (text_of arguments.output) (Ok sink)
-        × RunsAnew request arguments.reassembles source sink code))
+    abbrev pub Opens : Request → Type 0
+    Opens request = CannotOpen ⊎ (CannotCreate ⊎ RunsOn request)
 
     -- what comes of arguments, unless their text is no expression
-    abbrev pub Answers : Arguments → ℕ → Type 0
-    Answers arguments code = RefusesText arguments.text.items code
-        ⊎ ((request : Request) × IsRequest arguments request × Opens arguments request code)
+    abbrev pub Answers : Type 0
+    Answers = RefusesText arguments.text.items ended asked old_errors new_errors
+        ⊎ ((request : Request) × IsRequest arguments request × Opens request)
+
+  module _ (opens : Option (List ℕ) → Result R Error → Type 0)
+      (creates : Option (List ℕ) → Result W Error → Type 0)
+      (reads : List (List ℕ) → Result ArgMatches text.Error → Type 0) (shows : text.Error → Type 0)
+      (words : List (List ℕ)) (ended : Ended R W) (asked : Asked)
+      (old_errors new_errors : Output E) where
+    -- words with no matches: the text on them is shown, and nothing else comes of them
+    pub record ShowsText : Type 0 where
+      pub e : text.Error
+      pub code : ℕ
+      pub read : reads words (Err e)
+      pub none : HasNoMatches words e
+      pub is_code : HasCode e code
+      pub shown : shows e
+      pub ends : ended ≡ unopened code
+      pub asks : asked ≡ asked_for.Text
+      pub silent : new_errors ≡ old_errors
 
     -- what comes of words, unless their text is too long
-    pub record Follows (words : List (List ℕ)) (code : ℕ) : Type 0 where
+    pub record Follows : Type 0 where
       pub matches : ArgMatches
+      pub read : reads words (Ok matches)
       pub is : IsCommandLine words matches
-      pub answers : (HasLongText matches × (code ≡ 2))
-          ⊎ ((arguments : Arguments) × IsArguments matches arguments × Answers arguments code)
+      pub answers : RefusesLength matches ended asked old_errors new_errors
+          ⊎ ((arguments : Arguments) × IsArguments matches arguments
+          × Answers opens creates arguments ended asked old_errors new_errors)
 
     -- what comes of the words of a command line
-    abbrev pub Obeys : List (List ℕ) → ℕ → Type 0
-    Obeys words code = HasNoMatches words code ⊎ Follows words code
+    abbrev pub Obeys : Type 0
+    Obeys = ShowsText ⊎ Follows

@@ -1,13 +1,15 @@
 //! The command line: options, the file that is read, and the words of an expression.
 
 ghost use Rattle.std.specs.Prelude.{◌≡◌, ◌==◌, ◌<◌, ◌≤◌, ◌++◌, ◌↔◌, IfOk, IsFalse, IsOk, IsTrue, OnErr, OnOk};
-ghost use Rattle.std.specs.Prelude.{List, [], ◌∷◌, codes, false, length, true};
+ghost use Rattle.std.specs.Prelude.{IfErr, List, [], ◌∷◌, codes, false, length, map, string_bytes};
+ghost use Rattle.std.specs.Prelude.{true};
 ghost use Rattle.clap.specs.Words.{Rule, app_of, first_value, found_of, one_text, rule_of};
 ghost use Rattle.ipcap.specs.Arguments.{BeginsExpression, HasLongText, IsFlag, IsLimit};
 ghost use Rattle.ipcap.specs.Arguments.{IsModeOf, NamesFile, NamesInput, ReadsWords, joined};
 ghost use Rattle.ipcap.specs.Arguments.{text_of, texts_of, words_after};
 ghost use Rattle.ipcap.specs.Options.{app_with, exclusions, exclusions_of, exclusions_of_flags, flag};
 ghost use Rattle.ipcap.specs.Options.{flags, option_with_value, options};
+ghost use Rattle.ipcap.specs.Program.{HasNoMatches, IsCommandLine};
 
 use crate::request::{Mode, is_space};
 use arrayvec::ArrayVec;
@@ -114,6 +116,23 @@ pub fn command<'a>(alloc: Global) -> Result<Command<'a>, AllocError>
                 .action(ArgAction::Append)
                 .num_args(0..),
         )
+}
+
+/// Reads the words of a command line, of which the first is the program's name.
+///
+/// # Errors
+///
+/// An `AllocError` if there is no memory for the options that there are.
+pub fn read_words<'a>(
+    alloc: Global,
+    words: &'a [String],
+) -> Result<Result<ArgMatches<'a>, clap::Error>, AllocError>
+    ensures matches { IfOk result (λ read. IfOk read
+        (IsCommandLine (map string_bytes words.entry.now))) }
+    ensures none { IfOk result (λ read. IfErr read
+        (HasNoMatches (map string_bytes words.entry.now))) }
+{
+    Ok(command(alloc)?.try_get_matches_from(words))
 }
 
 // A command with the options without a value, too.

@@ -6,6 +6,7 @@ mod completing;
 mod dates;
 mod ends;
 mod failure;
+mod faults;
 mod files;
 mod input;
 mod lines;
@@ -24,10 +25,13 @@ mod streams;
 mod system;
 mod totals;
 
+use output::Output;
 use program::{FAILED, REFUSED, obey};
 use std::io::ErrorKind;
 use std::process::ExitCode;
 use std::{env, io};
+use streams::Watched;
+use system::Host;
 
 fn main(rt: HostRuntime) -> ExitCode {
     let code = match start(&rt) {
@@ -51,5 +55,7 @@ fn start(rt: &HostRuntime) -> io::Result<u8> {
         Err(e) => return Err(e),
     };
     let words: Vec<String> = arguments.collect(rt.alloc())?;
-    obey(rt, rt.alloc(), words.as_slice())
+    let mut system = Host::new(rt);
+    let mut errors = Output::new(Watched::new(rt.stderr()));
+    obey(&mut system, rt.alloc(), words.as_slice(), &mut errors)?.code
 }

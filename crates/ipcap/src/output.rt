@@ -2,12 +2,16 @@
 
 ghost use Rattle.arrayvec.specs.ArrayVec.{array_vec_len};
 ghost use Rattle.std.specs.Prelude.{◌≡◌, ◌≤◌, ◌+◌, [], IfErr, IfSome, OnErr, OnOk, length};
+ghost use Rattle.std.specs.Prelude.{option_map};
+ghost use Rattle.std.specs.declared.io.Error.{Error};
 
 use crate::failure::Failure;
+use crate::faults::Reason;
 use crate::input::ROOM;
 use crate::streams::{Line, Sink};
 use arrayvec::ArrayVec;
 use std::fmt::Display;
+use std::io;
 
 // The room for bytes that the sink has not yet got: a block, or some thousand lines.
 const TEXT_ROOM: usize = ROOM;
@@ -23,6 +27,7 @@ pub struct Output<W> {
 }
 
 impl<W: Sink> Output<W> {
+    ghost use Rattle.ipcap.specs.Faults.{Says, fault_line};
     ghost use Rattle.ipcap.specs.Streams.{Prints, PrintsFront, Reports, kept_if, pending};
 
     /// No line.
@@ -135,5 +140,50 @@ impl<W: Sink> Output<W> {
             (Reports W.contents W.has_failed self.old self.new) }
     {
         let _ = self.close(lines);
+    }
+
+    /// Adds a line on what failed, and why, if that is known, and passes it to the sink, if it takes
+    /// it.
+    pub fn say(&mut self, what: &[u8], why: Option<io::Error>)
+        requires fresh { pending self.old ≡ [] }
+        requires fits { length what.now ≤ ROOM }
+        ensures says { Says W.contents W.has_failed (W.is_text Error) what.now why
+            self.old self.new }
+    {
+        match why {
+            None => self.report_fault(what, None),
+            Some(e) => {
+                let mut text = Line::new();
+                match self.sink.format(e, &mut text) {
+                    Ok(()) => self.report_fault(what, Some(text.as_str())),
+                    Err(_) => {}
+                }
+            }
+        }
+    }
+
+    // Adds such a line, and passes it to the sink, if it takes it.
+    fn report_fault(&mut self, what: &[u8], reason: Option<&str>)
+        requires fresh { pending self.old ≡ [] }
+        requires fits { length what.now ≤ ROOM }
+        ensures reports { Reports W.contents W.has_failed self.old self.new
+            (fault_line what.now (option_map (λ text. text.now) reason.entry)) }
+    {
+        let _ = self.print_fault(what, reason);
+    }
+
+    // The same. After an error the sink has got a front of the line.
+    fn print_fault(&mut self, what: &[u8], reason: Option<&str>) -> Result<(), Failure>
+        requires fits { length what.now ≤ ROOM }
+        ensures prints { OnOk result (Prints W.contents self.old self.new
+            (fault_line what.now (option_map (λ text. text.now) reason.entry))) }
+        ensures all { OnOk result (pending self.new ≡ []) }
+        ensures front { OnErr result (PrintsFront W.contents self.old self.new
+            (fault_line what.now (option_map (λ text. text.now) reason.entry))) }
+        ensures failed { IfErr result (λ e. (e ≡ Failure.Write) × W.has_failed self.new.sink) }
+    {
+        self.copy(b"error: ")?;
+        self.copy(what)?;
+        self.close(Reason(reason))
     }
 }

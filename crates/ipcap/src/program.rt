@@ -1,13 +1,19 @@
 //! What the program does with the words of its command line.
 
-ghost use Rattle.std.specs.Prelude.{◌≡◌, IfErr, IfOk, IsOk, false, map, string_bytes, true};
-ghost use Rattle.ipcap.specs.Program.{Answers, IsRequest, Obeys, Runs, RunsAnew};
-ghost use Rattle.ipcap.specs.Program.{failure_text, reason_of};
+ghost use Rattle.std.specs.Prelude.{◌≡◌, ◌⊎◌, [], IfErr, IfOk, IsOk, Ok, OnErr, Some, false, map};
+ghost use Rattle.std.specs.Prelude.{string_bytes, true};
+ghost use Rattle.std.specs.declared.io.Error.{Error};
+ghost use Rattle.ipcap.specs.Arguments.{text_of};
+ghost use Rattle.ipcap.specs.Faults.{Says};
+ghost use Rattle.ipcap.specs.Program.{Answers, IsRequest, LacksMemory, Obeys, Runs, RunsAnew};
+ghost use Rattle.ipcap.specs.Program.{failure_text, name_of, reason_of, unopened};
 ghost use Rattle.ipcap.specs.Request.{IsNoFilter};
+ghost use Rattle.ipcap.specs.Streams.{pending};
+ghost use Rattle.ipcap.specs.declared.system.Asked.{Asked};
 
-use crate::arguments::{Arguments, command};
+use crate::arguments::Arguments;
 use crate::failure::Failure;
-use crate::input::Input;
+use crate::input::{Input, ROOM};
 use crate::memory::{FRAME_ROOM, Reassembly, SLOT_LEN, slots_in};
 use crate::output::Output;
 use crate::refusal::RefusalLines;
@@ -19,7 +25,6 @@ use frame_reassembly::frame_reassembly::FrameReassembly;
 use packet_filter::FilterError;
 use std::alloc::Global;
 use std::io;
-use std::io::{Eprint, Print};
 
 /// The exit status if the user asked for what there is not.
 pub const REFUSED: u8 = 2;
@@ -29,65 +34,110 @@ pub const FAILED: u8 = 3;
 
 const _: () = prove!(REFUSED == 2 && FAILED == 3);
 
-/// Does what the words of a command line say, of which the first is the program's name. Returns the
-/// exit status.
+/// How the program ended, and how it left its streams.
+#[derive(Drop)]
+pub struct Ended<R, W> {
+    /// The exit status; or why there is none, since there is no memory.
+    pub code: io::Result<u8>,
+    /// What was read from, if it was opened.
+    pub source: Option<R>,
+    /// What was written to, if it was made.
+    pub sink: Option<W>,
+}
+
+/// Does what the words of a command line say, of which the first is the program's name.
 ///
 /// # Errors
 ///
 /// There is no memory; or help, the version, or what is wrong with the words cannot be printed.
-pub fn obey<S: System + Print + Eprint>(
-    system: &S,
+pub fn obey<S: System, E: Sink>(
+    system: &mut S,
     alloc: Global,
     words: &[String],
-) -> io::Result<u8>
-    ensures obeys { IfOk result (Obeys S.Reader.remaining S.Writer.contents S.Errors.contents
-        S.Reader.has_failed S.Writer.has_failed S.Errors.has_failed (S.opens system.now)
-        (S.creates system.now) (map string_bytes words.now)) }
+    errors: &mut Output<E>,
+) -> io::Result<Ended<S::Reader, S::Writer>>
+    requires first { S.asked system.old ≡ Asked.Nothing }
+    requires fresh { pending errors.old ≡ [] }
+    ensures obeys { IfOk result (λ ended. Obeys S.Reader.remaining S.Writer.contents E.contents
+        S.Reader.has_failed S.Writer.has_failed E.has_failed S.Reader.why_failed
+        S.Writer.why_failed (E.is_text Error) S.opens S.creates S.reads S.shows
+        (map string_bytes words.now) ended (S.asked system.new) errors.old errors.new) }
+    ensures unopened { OnErr result (((S.asked system.new ≡ Asked.Nothing)
+        ⊎ (S.asked system.new ≡ Asked.Text)) × (errors.new ≡ errors.old)) }
 {
-    let matches = match command(alloc)?.try_get_matches_from(words) {
+    let matches = match system.read(alloc, words)? {
         Ok(matches) => matches,
         Err(e) => {
-            e.print(system)?;
-            return Ok(e.exit_code() as u8);
+            system.show(&e)?;
+            return Ok(unopened(e.exit_code() as u8));
         }
     };
     match Arguments::from_matches(&matches) {
-        Ok(arguments) => answer(system, alloc, &arguments),
+        Ok(arguments) => Ok(answer(system, alloc, &arguments, errors)),
         Err(_) => {
-            let _ = eprintln!(system; "error: the expression has more than 4096 bytes");
-            Ok(REFUSED)
+            errors.say(b"the expression has more than 4096 bytes", None);
+            Ok(unopened(REFUSED))
         }
     }
 }
 
-// Reads the expression, opens the files, and runs. Returns the exit status.
-fn answer<S: System + Eprint>(system: &S, alloc: Global, arguments: &Arguments) -> io::Result<u8>
-    ensures answers { IfOk result (Answers S.Reader.remaining S.Writer.contents S.Errors.contents
-        S.Reader.has_failed S.Writer.has_failed S.Errors.has_failed (S.opens system.now)
-        (S.creates system.now) arguments.now) }
-    ensures allocates { arguments.now.reassembles ≡ false → IsOk result }
+// Reads the expression, opens the files, and runs.
+fn answer<S: System, E: Sink>(
+    system: &mut S,
+    alloc: Global,
+    arguments: &Arguments,
+    errors: &mut Output<E>,
+) -> Ended<S::Reader, S::Writer>
+    requires first { S.asked system.old ≡ Asked.Nothing }
+    requires fresh { pending errors.old ≡ [] }
+    ensures answers { Answers S.Reader.remaining S.Writer.contents E.contents
+        S.Reader.has_failed S.Writer.has_failed E.has_failed S.Reader.why_failed
+        S.Writer.why_failed (E.is_text Error) S.opens S.creates arguments.now result
+        (S.asked system.new) errors.old errors.new }
+    ensures allocates { arguments.now.reassembles ≡ false → IsOk result.code }
 {
     let request = match request_of(arguments) {
         Ok(request) => request,
         Err(error) => {
             let text = arguments.text.as_slice();
-            let mut errors = Output::new(system.errors());
             errors.report(RefusalLines { text, error });
-            return Ok(REFUSED);
+            return unopened(REFUSED);
         }
     };
     let reader = match system.open(arguments.input) {
         Ok(reader) => reader,
-        Err(e) => return Ok(refuse(system, arguments.input, e)),
+        Err(e) => return refuse(errors, arguments.input, e, None),
     };
     let writer = match system.create(arguments.output) {
         Ok(writer) => writer,
-        Err(e) => return Ok(refuse(system, arguments.output, e)),
+        Err(e) => return refuse(errors, arguments.output, e, Some(reader)),
     };
-    if arguments.reassembles {
-        list_reassembled(system, alloc, &request, reader, writer)
-    } else {
-        Ok(list(system, &request, None, reader, writer))
+    let mut input = Input::new(reader);
+    let mut output = Output::new(writer);
+    let reassembles = arguments.reassembles;
+    let code = list_anew(
+        alloc,
+        reassembles,
+        &request,
+        &mut input,
+        &mut output,
+        errors,
+    );
+    Ended {
+        code,
+        source: Some(input.source),
+        sink: Some(output.sink),
+    }
+}
+
+// No file is opened.
+fn unopened<R, W>(code: u8) -> Ended<R, W>
+    ensures value { result ≡ unopened code }
+{
+    Ended {
+        code: Ok(code),
+        source: None,
+        sink: None,
     }
 }
 
@@ -105,66 +155,77 @@ fn request_of(arguments: &Arguments) -> Result<Request, FilterError>
     })
 }
 
-// Says why a file is not opened. Returns the exit status.
-fn refuse<S: Eprint>(system: &S, name: Option<&str>, e: io::Error) -> u8
-    ensures code { result ≡ 2 }
+// Says why a file is not opened, with as many bytes of its name as there is room for: on Linux an
+// argument has less.
+fn refuse<R, W, E: Sink>(
+    errors: &mut Output<E>,
+    name: Option<&str>,
+    e: io::Error,
+    source: Option<R>,
+) -> Ended<R, W>
+    requires fresh { pending errors.old ≡ [] }
+    ensures says { Says E.contents E.has_failed (E.is_text Error) (name_of (text_of name.entry))
+        (Some e) errors.old errors.new }
+    ensures value { result ≡ record { code = Ok 2; source = source; sink = None } }
 {
-    let name = name.unwrap_or("-");
-    let _ = eprintln!(system; "error: {name}: {e}");
-    REFUSED
+    let name = name.unwrap_or("-").as_bytes();
+    errors.say(&name[..ROOM.min(name.len())], Some(e));
+    Ended {
+        code: Ok(REFUSED),
+        source,
+        sink: None,
+    }
 }
 
-// Lists a capture, and puts packets together of their fragments, in memory that is taken before.
-// Returns the exit status.
-fn list_reassembled<S: System + Eprint>(
-    system: &S,
+// Lists a capture, and puts packets together of their fragments, if that is asked for, in memory
+// that is taken before. Returns the exit status.
+fn list_anew<R: Source, W: Sink, E: Sink>(
     alloc: Global,
+    reassembles: bool,
     request: &Request,
-    reader: S::Reader,
-    writer: S::Writer,
+    input: &mut Input<R>,
+    output: &mut Output<W>,
+    errors: &mut Output<E>,
 ) -> io::Result<u8>
-    ensures runs { IfOk result (RunsAnew S.Reader.remaining S.Writer.contents S.Errors.contents
-        S.Reader.has_failed S.Writer.has_failed S.Errors.has_failed request.now true
-        reader writer) }
+    requires fresh { (pending output.old ≡ []) × (pending errors.old ≡ []) }
+    ensures runs { IfOk result (RunsAnew R.remaining W.contents E.contents R.has_failed
+        W.has_failed E.has_failed R.why_failed W.why_failed (E.is_text Error) request.now
+        reassembles input.old input.new output.old output.new errors.old errors.new) }
+    ensures allocates { reassembles ≡ false → IsOk result }
+    ensures lacks { OnErr result (LacksMemory reassembles input.old input.new
+        output.old output.new errors.old errors.new) }
 {
+    if !reassembles {
+        return Ok(list(request, None, input, output, errors));
+    }
     let mut memory = vec![in alloc; 0; FrameReassembly::SLOTS * SLOT_LEN]?;
     let mut slots = slots_in(alloc, &mut memory)?;
     let mut frame = vec![in alloc; 0; FRAME_ROOM]?;
     let reassembly = Reassembly::new(&mut slots, &mut frame);
-    Ok(list(system, request, Some(reassembly), reader, writer))
+    Ok(list(request, Some(reassembly), input, output, errors))
 }
 
 // Lists a capture. Returns the exit status.
-fn list<S: System + Eprint>(
-    system: &S,
+fn list<R: Source, W: Sink, E: Sink>(
     request: &Request,
     memory: Option<Reassembly>,
-    reader: S::Reader,
-    writer: S::Writer,
+    input: &mut Input<R>,
+    output: &mut Output<W>,
+    errors: &mut Output<E>,
 ) -> u8
-    ensures runs { Runs S.Reader.remaining S.Writer.contents S.Errors.contents
-        S.Reader.has_failed S.Writer.has_failed S.Errors.has_failed request.now memory.entry
-        reader writer result }
+    requires fresh { (pending output.old ≡ []) × (pending errors.old ≡ []) }
+    ensures runs { Runs R.remaining W.contents E.contents R.has_failed W.has_failed E.has_failed
+        R.why_failed W.why_failed (E.is_text Error) request.now memory.entry
+        input.old input.new output.old output.new errors.old errors.new result }
 {
-    let mut input = Input::new(reader);
-    let mut output = Output::new(writer);
-    let mut errors = Output::new(system.errors());
-    match run(request, memory, &mut input, &mut output, &mut errors) {
+    match run(request, memory, input, output, errors) {
         Ok(status) => status.code(),
         Err(failure) => {
-            say(system, failure, &input.source, &output.sink);
+            let (what, why) = reason_of(failure, &input.source, &output.sink);
+            errors.say(what.as_bytes(), why);
             FAILED
         }
     }
-}
-
-// Says what failed, and why.
-fn say<S: Eprint, R: Source, W: Sink>(system: &S, failure: Failure, source: &R, sink: &W) {
-    let (what, reason) = reason_of(failure, source, sink);
-    let _ = match reason {
-        Some(e) => eprintln!(system; "error: {what}: {e}"),
-        None => eprintln!(system; "error: {what}"),
-    };
 }
 
 // What failed, and why, if that is known.

@@ -56,6 +56,9 @@ pub trait Sink {
     // Why the last of these calls that failed did so.
     ghost why_failed: { Self → Option Error };
 
+    // A text that `format` has made of a value.
+    ghost is_text: { (D : Type 0) → D → List ℕ → Type 0 };
+
     /// Writes once, as `Write::write` does, but takes at least one byte if there are any, and tries
     /// again if a signal interrupts it.
     fn write(&mut self, bytes: &[u8]) -> io::Result<usize>
@@ -70,6 +73,7 @@ pub trait Sink {
     fn format<D: Display + Drop>(&mut self, text: D, line: &mut Line) -> io::Result<()>
         requires empty { line.old.bytes ≡ [] }
         ensures text { OnOk result (IfSome (D.output text) (λ bytes. line.new.bytes ≡ bytes)) }
+        ensures made { OnOk result (is_text D text line.new.bytes) }
         ensures kept { Keeps (contents self.old) (contents self.new) }
         ensures failed { OnErr result (has_failed self.new) }
         ensures why { IfErr result (λ e. why_failed self.new ≡ Some e) };
@@ -126,6 +130,8 @@ impl<W: Write> Sink for Watched<W> {
     ghost has_failed = { λ watched. IsSome watched.failure };
 
     ghost why_failed = { λ watched. watched.failure };
+
+    ghost is_text = { λ _ _ _. Unit {0} };
 
     // A write that a signal interrupts is tried again, as in `write_all`.
     fn write(&mut self, bytes: &[u8]) -> io::Result<usize> {

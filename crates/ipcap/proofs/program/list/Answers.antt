@@ -3,30 +3,10 @@ use Rattle.ipcap.proofs.program.list.Goals as goal
 
 pub returns-in-Ok : goal.returns-in-Ok
 returns-in-Ok g c = record {
-  runs = record {
-    input = c.new-input.result;
-    left = c.run.new.input;
-    old = c.new-output.result;
-    new = c.run.new.output;
-    old_errors = c.new-errors.result;
-    new_errors = c.run.new.errors;
-    reads = (c.new-input.ensures.source, c.new-input.ensures.unread, c.new-input.ensures.count);
-    prints = (c.new-output.ensures.sink, c.new-output.ensures.empty, c.new-errors.ensures.empty);
-    ends = inl (record { status = c.in-Ok.status; is_code = c.code.ensures.value; writes = c.in-Ok.ensures.output; unfailed = c.in-Ok.ensures.unfailed });
-  };
+  runs = inl (record { status = c.in-Ok.status; is_code = c.code.ensures.value; writes = c.in-Ok.ensures.output; unfailed = c.in-Ok.ensures.unfailed });
 }
 
-pub returns : goal.returns
-returns g c = record {
-  runs = record {
-    input = c.new-input.result;
-    left = c.run.new.input;
-    old = c.new-output.result;
-    new = c.run.new.output;
-    old_errors = c.new-errors.result;
-    new_errors = c.run.new.errors;
-    reads = (c.new-input.ensures.source, c.new-input.ensures.unread, c.new-input.ensures.count);
-    prints = (c.new-output.ensures.sink, c.new-output.ensures.empty, c.new-errors.ensures.empty);
-    ends = inr (record { of = c.in-Err.failure; is_code = refl; fails = c.in-Err.ensures.failed });
-  };
+pub returns-in-Err : goal.returns-in-Err
+returns-in-Err g c = record {
+  runs = inr (record { of = c.in-Err.failure; is_code = refl; mid = c.run.new.errors; fails = c.in-Err.ensures.failed; said = rw (c.as_bytes.ensures.value, c.reason_of-why.ensures.what, c.reason_of-why.ensures.why) at c.say.ensures.says });
 }
