@@ -142,8 +142,7 @@ impl<W: Sink> Output<W> {
         let _ = self.close(lines);
     }
 
-    /// Adds a line on what failed, and why, if that is known, and passes it to the sink, if it takes
-    /// it.
+    /// Adds a line on what failed, and why, if that is known, and passes it to the sink, likewise.
     pub fn say(&mut self, what: &[u8], why: Option<io::Error>)
         requires fresh { pending self.old ≡ [] }
         requires fits { length what.now ≤ ROOM }
