@@ -2,6 +2,7 @@
 use Rattle.std.specs.Prelude.{ℕ, ◌≡◌, ◌≢◌, ◌⊎◌, All, Bool, IfSome, List, []}
 use Rattle.std.specs.Prelude.{Err, None, Ok, Option, Result, Some, codes, false, length, take, true}
 use Rattle.std.specs.Prelude.{MatchResult, unwrap_or}
+use Rattle.std.specs.declared.alloc.AllocError.{AllocError}
 use Rattle.std.specs.declared.io.Error.{Error}
 use Rattle.clap.specs.Values.{kind_of}
 use Rattle.clap.specs.Words.{IsParsedFrom, app_of, found_of, matches_of, rows_of, takes}
@@ -80,6 +81,14 @@ HasNoMatches words e = takes (app_with options) words ≡ true → kind_of e ≡
 pub record HasCode (e : text.Error) (code : ℕ) : Type 0 where
   pub shown : (kind_of e ≡ DisplayHelp) ⊎ (kind_of e ≡ DisplayVersion) → code ≡ 0
   pub mistake : kind_of e ≢ DisplayHelp → kind_of e ≢ DisplayVersion → code ≡ 2
+
+-- Why nothing comes of words: there is no memory to read them, or the text on them cannot be shown.
+abbrev pub Stops : (List (List ℕ) → Result (Result ArgMatches text.Error) AllocError → Type 0)
+    → (text.Error → Result (Unit {0}) Error → Type 0) → List (List ℕ) → Asked → Type 0
+Stops reads shows words asked =
+    ((e : AllocError) × reads words (Err e) × (asked ≡ asked_for.Nothing))
+    ⊎ ((e : text.Error) × (why : Error) × reads words (Ok (Err e)) × shows e (Err why)
+    × (asked ≡ asked_for.Text))
 
 -- there is no memory to put packets together, and nothing changes
 pub record LacksMemory {R W E : Type 0} (reassembles : Bool) (input left : Input R)
@@ -204,17 +213,18 @@ module _ {R W E : Type 0} (remaining : R → Option (List ℕ)) (contents : W �
 
   module _ (opens : Option (List ℕ) → Result R Error → Type 0)
       (creates : Option (List ℕ) → Result W Error → Type 0)
-      (reads : List (List ℕ) → Result ArgMatches text.Error → Type 0) (shows : text.Error → Type 0)
+      (reads : List (List ℕ) → Result (Result ArgMatches text.Error) AllocError → Type 0)
+      (shows : text.Error → Result (Unit {0}) Error → Type 0)
       (words : List (List ℕ)) (ended : Ended R W) (asked : Asked)
       (old_errors new_errors : Output E) where
     -- words with no matches: the text on them is shown, and nothing else comes of them
     pub record ShowsText : Type 0 where
       pub e : text.Error
       pub code : ℕ
-      pub read : reads words (Err e)
+      pub read : reads words (Ok (Err e))
       pub none : HasNoMatches words e
       pub is_code : HasCode e code
-      pub shown : shows e
+      pub shown : shows e (Ok tt)
       pub ends : ended ≡ unopened code
       pub asks : asked ≡ asked_for.Text
       pub silent : new_errors ≡ old_errors
@@ -222,7 +232,7 @@ module _ {R W E : Type 0} (remaining : R → Option (List ℕ)) (contents : W �
     -- what comes of words, unless their text is too long
     pub record Follows : Type 0 where
       pub matches : ArgMatches
-      pub read : reads words (Ok matches)
+      pub read : reads words (Ok (Ok matches))
       pub is : IsCommandLine words matches
       pub answers : RefusesLength matches ended asked old_errors new_errors
           ⊎ ((arguments : Arguments) × IsArguments matches arguments

@@ -1,11 +1,11 @@
 //! What the program does with the words of its command line.
 
-ghost use Rattle.std.specs.Prelude.{◌≡◌, ◌⊎◌, [], IfErr, IfOk, IsOk, Ok, OnErr, Some, false, map};
+ghost use Rattle.std.specs.Prelude.{◌≡◌, [], IfErr, IfOk, IsOk, Ok, OnErr, Some, false, map};
 ghost use Rattle.std.specs.Prelude.{string_bytes, true};
 ghost use Rattle.std.specs.declared.io.Error.{Error};
 ghost use Rattle.ipcap.specs.Arguments.{text_of};
 ghost use Rattle.ipcap.specs.Faults.{Says};
-ghost use Rattle.ipcap.specs.Program.{Answers, IsRequest, LacksMemory, Obeys, Runs, RunsAnew};
+ghost use Rattle.ipcap.specs.Program.{Answers, IsRequest, LacksMemory, Obeys, Runs, RunsAnew, Stops};
 ghost use Rattle.ipcap.specs.Program.{failure_text, name_of, reason_of, unopened};
 ghost use Rattle.ipcap.specs.Request.{IsNoFilter};
 ghost use Rattle.ipcap.specs.Streams.{pending};
@@ -62,8 +62,9 @@ pub fn obey<S: System, E: Sink>(
         S.Reader.has_failed S.Writer.has_failed E.has_failed S.Reader.why_failed
         S.Writer.why_failed (E.is_text Error) S.opens S.creates S.reads S.shows
         (map string_bytes words.now) ended (S.asked system.new) errors.old errors.new) }
-    ensures unopened { OnErr result (((S.asked system.new ≡ Asked.Nothing)
-        ⊎ (S.asked system.new ≡ Asked.Text)) × (errors.new ≡ errors.old)) }
+    ensures stops { OnErr result (Stops S.reads S.shows (map string_bytes words.now)
+        (S.asked system.new)) }
+    ensures silent { OnErr result (errors.new ≡ errors.old) }
 {
     let matches = match system.read(alloc, words)? {
         Ok(matches) => matches,

@@ -1,8 +1,9 @@
 //! What the program has of the system: the files that names stand for, and the texts on a command
 //! line.
 
-ghost use Rattle.std.specs.Prelude.{◌≡◌, ℕ, IfErr, IfOk, List, OnOk, Option, Result, map};
+ghost use Rattle.std.specs.Prelude.{◌≡◌, ℕ, IfErr, IfOk, List, Option, Result, map};
 ghost use Rattle.std.specs.Prelude.{string_bytes};
+ghost use Rattle.std.specs.declared.alloc.AllocError.{AllocError as NoMemory};
 ghost use Rattle.std.specs.declared.io.Error.{Error};
 ghost use Rattle.clap.specs.declared.error.Error as text;
 ghost use Rattle.clap.specs.declared.parser.matches.ArgMatches as found;
@@ -49,10 +50,10 @@ pub trait System {
     ghost asked: { Self → asked_for.Asked };
 
     // What reading the words of a command line comes to.
-    ghost reads: { List (List ℕ) → Result found.ArgMatches text.Error → Type 0 };
+    ghost reads: { List (List ℕ) → Result (Result found.ArgMatches text.Error) NoMemory → Type 0 };
 
-    // A text on a command line is shown.
-    ghost shows: { text.Error → Type 0 };
+    // What showing a text on a command line comes to.
+    ghost shows: { text.Error → Result (Unit {0}) Error → Type 0 };
 
     // What opening the file with a name comes to; `-` and no name are standard input.
     ghost opens: { Option (List ℕ) → Result Self.Reader Error → Type 0 };
@@ -66,7 +67,7 @@ pub trait System {
         alloc: Global,
         words: &'a [String],
     ) -> Result<Result<ArgMatches<'a>, clap::Error>, AllocError>
-        ensures reads { IfOk result (reads (map string_bytes words.entry.now)) }
+        ensures reads { reads (map string_bytes words.entry.now) result }
         ensures matches { IfOk result (λ read. IfOk read
             (IsCommandLine (map string_bytes words.entry.now))) }
         ensures none { IfOk result (λ read. IfErr read
@@ -77,7 +78,7 @@ pub trait System {
     fn show(&mut self, text: &clap::Error) -> io::Result<()>
         requires first { asked self.old ≡ Asked.Nothing }
         ensures asked { asked self.new ≡ Asked.Text }
-        ensures shows { OnOk result (shows text.now) };
+        ensures shows { shows text.now result };
 
     /// Opens the file with this name, as `Reader::open` does.
     fn open(&mut self, name: Option<&str>) -> io::Result<Self::Reader>
@@ -120,7 +121,7 @@ impl System for Host<'_> {
 
     ghost reads = { λ _ _. Unit {0} };
 
-    ghost shows = { λ _. Unit {0} };
+    ghost shows = { λ _ _. Unit {0} };
 
     ghost opens = { λ name result. OpensReader name result };
 

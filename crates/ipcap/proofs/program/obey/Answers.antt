@@ -5,7 +5,7 @@ pub returns-in-Err-clause-obeys : goal.returns-in-Err-clause-obeys
 returns-in-Err-clause-obeys g c = inl (record {
   e = c.in-Err.e;
   code = _;
-  read = rw c.in-Err.is at c.in_ok-matches.ensures.reads;
+  read = rw (c.in_ok-matches.was, c.in-Err.is) at c.read.ensures.reads;
   none = rw c.in-Err.is at c.in_ok-matches.ensures.none;
   is_code = record {
     shown = λ h. rw (c.exit_code.ensures.shown h) refl;
@@ -22,7 +22,7 @@ returns-in-Ok-from_matches-clause-obeys g c =
     let said = c.in-Ok-from_matches.ensures in
     inr (record {
       matches = c.in-Ok.matches;
-      read = rw c.in-Ok.is at c.in_ok-matches.ensures.reads;
+      read = rw (c.in_ok-matches.was, c.in-Ok.is) at c.read.ensures.reads;
       is = rw c.in-Ok.is at c.in_ok-matches.ensures.matches;
       answers = inr (c.in-Ok-from_matches.arguments, record { mode = said.mode; utc = said.utc; reassembles = said.reassembles; limit = said.limit; output = said.output; input = said.input }, c.answer.ensures.answers);
     })
@@ -30,7 +30,7 @@ returns-in-Ok-from_matches-clause-obeys g c =
 pub returns-clause-obeys : goal.returns-clause-obeys
 returns-clause-obeys g c = inr (record {
   matches = c.in-Ok.matches;
-  read = rw c.in-Ok.is at c.in_ok-matches.ensures.reads;
+  read = rw (c.in_ok-matches.was, c.in-Ok.is) at c.read.ensures.reads;
   is = rw c.in-Ok.is at c.in_ok-matches.ensures.matches;
   answers = inl (record { long = c.in-Err-from_matches.ensures.long; said = c.say.ensures.says; ends = c.unopened-in-Err-from_matches.ensures.value; asks = c.requires.first });
 })
