@@ -257,12 +257,13 @@ static void ipv4_packets(void)
     EXPECT(pool.state == &pool_state, 1);
 }
 
-/* The ECN codepoints of three fragments, and of their packet, or -1 if it is dropped (RFC 3168 section 5.3): CE, 3, is not lost, and
- * is not set beside Not-ECT, 0. */
+/* The ECN codepoints of three fragments, and of their packet, if it is not dropped (RFC 3168 section 5.3): CE, 3, is not lost, and is
+ * not set beside Not-ECT, 0. */
 static void codepoints(void)
 {
-    static const int cases[][4] = {{2, 2, 3, 3}, {3, 1, 2, 3}, {3, 3, 3, 3}, {2, 1, 1, 2}, {1, 2, 2, 1}, {0, 0, 0, 0}, {3, 3, 0, -1},
-        {0, 2, 3, -1}, {3, 0, 3, -1}};
+    enum { DROPPED = 4 };
+    static const uint8_t cases[][4] = {{2, 2, 3, 3}, {3, 1, 2, 3}, {3, 3, 3, 3}, {2, 1, 1, 2}, {1, 2, 2, 1}, {0, 0, 0, 0},
+        {3, 3, 0, DROPPED}, {0, 2, 3, DROPPED}, {3, 0, 3, DROPPED}};
     struct etherparse_defrag_pool pool = pool_of(1);
     struct etherparse_defrag_added added;
     struct etherparse_defrag_written written;
@@ -274,12 +275,12 @@ static void codepoints(void)
             packet[1] = (uint8_t)(0xb8 + cases[i][j]);
             added = etherparse_defrag_pool_add_packet(&pool, packet, len, NO_VLAN, NO_VLAN, 0);
         }
-        EXPECT_ADDED(added, 0, cases[i][3] < 0 ? ETHERPARSE_DEFRAG_DISCARDED : ETHERPARSE_DEFRAG_COMPLETE);
+        EXPECT_ADDED(added, 0, cases[i][3] == DROPPED ? ETHERPARSE_DEFRAG_DISCARDED : ETHERPARSE_DEFRAG_COMPLETE);
         written = etherparse_defrag_pool_write_packet(&pool, 0, out, sizeof out);
-        EXPECT(written.len, cases[i][3] < 0 ? 0 : 41);
-        if (cases[i][3] >= 0) {
-            EXPECT(out[1], 0xb8 + cases[i][3]);
-            EXPECT(out[11], 0x3b - cases[i][3]); /* of the checksum, which is 4b3b less the codepoint */
+        EXPECT(written.len, cases[i][3] == DROPPED ? 0 : 41);
+        if (cases[i][3] != DROPPED) {
+            EXPECT(out[1], 0xb8U + cases[i][3]);
+            EXPECT(out[11], 0x3bU - cases[i][3]); /* of the checksum, which is 4b3b less the codepoint */
         }
         etherparse_defrag_pool_release(&pool, 0);
     }
