@@ -43,8 +43,8 @@ snap_header place frame = if is_ether_type place frame
     then record { len = place + 19; carried = carried.EtherType (number_at (place + 17) frame) }
     else record { len = place + 5; carried = carried.Snap }
 
--- the control at a place has one byte: of unnumbered information or of a command, whose bits 0 and 1
--- are set (IEEE 802.2 section 5.2); at least, if the frame ends before it
+-- the control at a place has one byte: that of unnumbered information or of a command, whose bits 0
+-- and 1 are set (IEEE 802.2 section 5.2); at least, if the frame ends before it
 abbrev pub is_unnumbered : ℕ → List ℕ → Bool
 is_unnumbered place frame =
     nat_le (length frame) place || (is_set 0 place frame && is_set 1 place frame)

@@ -38,9 +38,9 @@ pub record HasIpv4Fragment (packet : List ℕ) (f : IpFragmentSlice) : Type 0 wh
 
 -- The packet has all the bytes that its payload length says: an IPv6 header and what follows it,
 -- extension headers, a fragment header, and the bytes of the fragment. The fragment header says
--- where it stands, whether more follow and what was fragmented; the traffic class of the IPv6 header
--- has the ECN codepoint in its lower 2 bits. All bytes before those of the fragment are the headers.
--- Whether the extension headers after the fragment header are whole makes no difference.
+-- where it stands, whether more follow and what was fragmented; the lower 2 bits of the traffic
+-- class are the ECN codepoint. All bytes before those of the fragment are the headers. Whether the
+-- extension headers after the fragment header are whole makes no difference.
 pub record HasIpv6Fragment (packet : List ℕ) (f : IpFragmentSlice) : Type 0 where
   pub header : Ipv6Header
   pub body : List ℕ
