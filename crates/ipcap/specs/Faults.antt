@@ -9,7 +9,7 @@ unfoldable pub reason_text : Option (List ℕ) → List ℕ
 reason_text None = codes "\n"
 reason_text (Some reason) = codes ": " ++ (reason ++ codes "\n")
 
--- the line
+-- the line: what failed, and why
 abbrev pub fault_line : List ℕ → Option (List ℕ) → List ℕ
 fault_line what reason = codes "error: " ++ (what ++ reason_text reason)
 

@@ -7,7 +7,7 @@ use Rattle.etherparse.specs.declared.net.ipv4_header.Ipv4Header.{Ipv4Header}
 use Rattle.etherparse.specs.declared.net.ipv6_header.Ipv6Header.{Ipv6Header}
 use Rattle.packet_reassembly.specs.declared.fragment_ecn.FragmentEcn.{FragmentEcn}
 
--- no fragment has come
+-- no fragment has CE and none Not-ECT, as before any has come
 abbrev pub no_ecn : FragmentEcn
 no_ecn = record { ce = false; not_ect = false }
 

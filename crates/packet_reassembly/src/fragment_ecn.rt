@@ -17,7 +17,7 @@ pub struct FragmentEcn {
 }
 
 impl FragmentEcn {
-    /// No fragment has come.
+    /// No fragment has either, as before any has come.
     pub const NONE: FragmentEcn = FragmentEcn {
         ce: false,
         not_ect: false,
