@@ -1,6 +1,6 @@
 //! The TCP header with its options (RFC 9293 section 3.1).
 
-ghost use Rattle.std.specs.Prelude.{◌≡◌, ◌≤◌, ◌++◌, length};
+ghost use Rattle.std.specs.Prelude.{◌≡◌, ◌≤◌, ◌++◌, Ok, ⊤, length};
 ghost use Rattle.etherparse.specs.Bytes.{IsBytes};
 ghost use Rattle.etherparse.specs.Reading.{BeginsWith};
 ghost use Rattle.etherparse_transport.specs.Tcp.{HasTcpFront};
@@ -11,6 +11,7 @@ mod checksum;
 use crate::tcp::{TcpError, TcpHeaderSlice};
 use crate::{TcpOptionElement, TcpOptionWriteError, TcpOptions, TcpOptionsIterator};
 use arrayvec::ArrayVec;
+use std::alloc::AllocError;
 
 /// A TCP header with its options (RFC 9293 section 3.1).
 ///
@@ -45,7 +46,7 @@ use arrayvec::ArrayVec;
 /// let (read, _) = TcpHeader::from_slice(bytes.as_slice())?;
 /// assert!(rt; read == header);
 /// ```
-#[derive(Clone, Debug, PartialEq, Eq, Hash, Drop)]
+#[derive(Debug, PartialEq, Eq, Hash, Drop)]
 pub struct TcpHeader {
     /// Bytes 0 and 1: the port of the sender.
     pub source_port: u16,
@@ -82,6 +83,21 @@ pub struct TcpHeader {
     pub urgent_pointer: u16,
     /// The bytes from 20 on: 0 to 40 bytes of options with their padding, in words of 4.
     pub options: TcpOptions,
+}
+
+impl Clone for TcpHeader {
+    ghost is_clone = { λ header copy. copy ≡ header };
+
+    ghost is_infallible = { λ _. ⊤ };
+
+    fn clone(&self) -> Result<TcpHeader, AllocError>
+        ensures same_value { result ≡ Ok self.now }
+    {
+        Ok(TcpHeader {
+            options: self.options.clone()?,
+            ..*self
+        })
+    }
 }
 
 impl TcpHeader {
