@@ -21,24 +21,32 @@ option_with_value id letter = record (new_rule id) { short = Some letter; value_
 abbrev pub excluding : Rule → Rule
 excluding rule = record rule { is_free = false }
 
+-- `-c N`: a number from 1 on, of 64 bits
+abbrev pub limit : Rule
+limit = record (option_with_value (codes "limit") 99) {
+  parser = Some (Unsigned 1 18446744073709551615);
+}
+
+-- `-n`, any number of times
+abbrev pub numbers : Rule
+numbers = record (new_rule (codes "numbers")) { short = Some 110; action = Some action.Count }
+
+-- any number of words
+abbrev pub expression : Rule
+expression = record (new_rule (codes "EXPRESSION")) {
+  action = Some Append;
+  range = Some (record { start_inclusive = 0; end_inclusive = usize_max });
+}
+
 -- the options without a value
 unfoldable pub flags : List Rule
-flags = excluding (flag (codes "count")) ∷ excluding (flag (codes "quiet"))
-    ∷ record (new_rule (codes "numbers")) { short = Some 110; action = Some action.Count }
+flags = excluding (flag (codes "count")) ∷ excluding (flag (codes "quiet")) ∷ numbers
     ∷ flag (codes "utc") ∷ excluding (flag (codes "reassemble")) ∷ []
 
 -- all options, and the words that are none: one, and any number after it
 unfoldable pub options : List Rule
-options = (option_with_value (codes "read") 114 ∷ option_with_value (codes "write") 119
-    ∷ record (option_with_value (codes "limit") 99) {
-      parser = Some (Unsigned 1 18446744073709551615);
-    }
-    ∷ []) ++ flags ++ new_rule (codes "FILE")
-    ∷ record (new_rule (codes "EXPRESSION")) {
-      action = Some Append;
-      range = Some (record { start_inclusive = 0; end_inclusive = usize_max });
-    }
-    ∷ []
+options = (option_with_value (codes "read") 114 ∷ option_with_value (codes "write") 119 ∷ limit ∷ [])
+    ++ flags ++ new_rule (codes "FILE") ∷ expression ∷ []
 
 abbrev pub app_with : List Rule → App
 app_with rules = record (new_app (codes "ipcap")) {

@@ -7,8 +7,9 @@ ghost use Rattle.clap.specs.Words.{Rule, app_of, first_value, found_of, one_text
 ghost use Rattle.ipcap.specs.Arguments.{BeginsExpression, HasLongText, IsFlag, IsLimit};
 ghost use Rattle.ipcap.specs.Arguments.{IsModeOf, NamesFile, NamesInput, ReadsWords, joined};
 ghost use Rattle.ipcap.specs.Arguments.{text_of, texts_of, words_after};
-ghost use Rattle.ipcap.specs.Options.{app_with, exclusions, exclusions_of, exclusions_of_flags, flag};
-ghost use Rattle.ipcap.specs.Options.{flags, option_with_value, options};
+ghost use Rattle.ipcap.specs.Options.{app_with, exclusions, exclusions_of, exclusions_of_flags};
+ghost use Rattle.ipcap.specs.Options.{expression, flag, flags, limit, numbers, option_with_value};
+ghost use Rattle.ipcap.specs.Options.{options};
 ghost use Rattle.ipcap.specs.Program.{HasNoMatches, IsCommandLine};
 
 use crate::request::{Mode, is_space};
@@ -101,21 +102,10 @@ pub fn command<'a>(alloc: Global) -> Result<Command<'a>, AllocError>
             "FILE",
             "Write the packets to FILE; `-` is standard output",
         ))?
-        .arg(with_value(
-            alloc,
-            "limit",
-            'c',
-            "N",
-            "Stop after N packets that are listed",
-        )
-        .value_parser(value_parser!(u64).range(1..)))?;
+        .arg(limit(alloc))?;
     with_flags(alloc, command)?
         .arg(Arg::new(alloc, "FILE"))?
-        .arg(
-            Arg::new(alloc, "EXPRESSION")
-                .action(ArgAction::Append)
-                .num_args(0..),
-        )
+        .arg(expression(alloc))
 }
 
 /// Reads the words of a command line, of which the first is the program's name.
@@ -156,12 +146,7 @@ fn with_flags<'a>(alloc: Global, command: Command<'a>) -> Result<Command<'a>, Al
         "Print the closing line alone, to standard output",
         &["count", "write"],
     )?;
-    let command = command.arg(
-        Arg::new(alloc, "numbers")
-            .short('n')
-            .action(ArgAction::Count)
-            .help("Changes nothing: addresses and ports are always numbers"),
-    )?;
+    let command = command.arg(numbers(alloc))?;
     let command = with_flag(alloc, command, "utc", "Print times as dates in UTC", &[])?;
     with_flag(
         alloc,
@@ -204,6 +189,36 @@ fn with_value<'a>(
         .short(letter)
         .value_name(value)
         .help(help)
+}
+
+// The option `-c`.
+fn limit<'a>(alloc: Global) -> Arg<'a>
+    ensures rule { rule_of result ≡ limit }
+    ensures alone { result.conflicts.items ≡ [] }
+{
+    let help = "Stop after N packets that are listed";
+    with_value(alloc, "limit", 'c', "N", help).value_parser(value_parser!(u64).range(1..))
+}
+
+// The option `-n`.
+fn numbers<'a>(alloc: Global) -> Arg<'a>
+    ensures rule { rule_of result ≡ numbers }
+    ensures alone { result.conflicts.items ≡ [] }
+{
+    Arg::new(alloc, "numbers")
+        .short('n')
+        .action(ArgAction::Count)
+        .help("Changes nothing: addresses and ports are always numbers")
+}
+
+// The words of an expression.
+fn expression<'a>(alloc: Global) -> Arg<'a>
+    ensures rule { rule_of result ≡ expression }
+    ensures alone { result.conflicts.items ≡ [] }
+{
+    Arg::new(alloc, "EXPRESSION")
+        .action(ArgAction::Append)
+        .num_args(0..)
 }
 
 // An option without a value, by its long name.
