@@ -1,7 +1,7 @@
 -- Headers of one length: how a slice is viewed and read.
-use Rattle.std.proofs.Common.{ℕ, ◌≡◌, ◌-◌, ◌≤◌, List, Ok, Result, length, take, drop, arith, subst}
+use Rattle.std.proofs.Common.{ℕ, ◌≡◌, ◌-◌, ◌≤◌, List, Ok, length, take, drop, arith, subst}
 use Rattle.std.proofs.Common.{sym, take-append-drop, length-take-le}
-use Rattle.etherparse.proofs.Fronts.{TellsHeaders, begins_at, read_once}
+use Rattle.etherparse.proofs.Fronts.{TellsHeaders, begins_at}
 use Rattle.etherparse.proofs.Parts.{part_is_bytes}
 use Rattle.etherparse.specs.Bytes.{IsBytes}
 use Rattle.etherparse.specs.Reading.{HasFront, Reads, Views}
@@ -18,13 +18,7 @@ module _ {H : Type 0} (Layout : H → List ℕ → Type 0) (Refuses : List ℕ �
       let h = header_at (take n s) (length-take-le n s enough) front_bytes in
       record { header = h.0; rest = drop n s; whole = sym (take-append-drop n s); layout = h.1 }
 
-  -- what is seen in front is read, and nothing else
+  -- what is seen in front is read
   pub front_read : (front : List ℕ) (h : H) → HasFront Layout s front → Layout h front
       → length front ≡ n → Reads Layout Refuses s (Ok (h, take (length s - n) (drop n s)))
   front_read front h v layout len = begins_at Layout n s front v.rest h v.whole layout len
-
-  pub front_read_once : (front : List ℕ) (h : H) → HasFront Layout s front → Layout h front
-      → length front ≡ n → (other : Result (H × List ℕ) LenError)
-      → Reads Layout Refuses s other → other ≡ Ok (h, take (length s - n) (drop n s))
-  front_read_once front h v layout len other o = read_once Layout Refuses t s other _ o
-      (front_read front h v layout len)

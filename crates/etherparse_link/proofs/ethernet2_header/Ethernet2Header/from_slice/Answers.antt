@@ -1,9 +1,13 @@
+use Rattle.etherparse.proofs.Fronts.{read_once}
 use Rattle.etherparse_link.proofs.Ethernet2Layout.{tells_headers}
-use Rattle.etherparse_link.proofs.Headers.{front_read_once}
+use Rattle.etherparse_link.proofs.Headers.{front_read}
 use Rattle.etherparse_link.specs.Ethernet2Header.{IsEthernet2Layout, RefusesEthernet2}
 use Rattle.etherparse_link.proofs.ethernet2_header.Ethernet2Header.from_slice.Goals as goal
 
-pub returns-clause-only : goal.returns-clause-only
-returns-clause-only c = let layout = c.to_header-header.ensures.layout in
-    front_read_once IsEthernet2Layout RefusesEthernet2 tells_headers 14 _ _ _
-    c.in_ok-from_slice.ensures.views layout layout.len
+pub returns : goal.returns
+returns c =
+    let layout = c.to_header-header.ensures.layout in
+    let reads = front_read IsEthernet2Layout RefusesEthernet2 tells_headers 14 _ _ _
+    c.in_ok-from_slice.ensures.views layout layout.len in
+    let once = read_once IsEthernet2Layout RefusesEthernet2 tells_headers _ in
+    record { reads = reads; only = λ other o. once other _ o reads }
