@@ -1,5 +1,5 @@
 -- One whole extension header at the front of a slice.
-use Rattle.std.proofs.Common.{ℕ, ◌≡◌, ◌∙◌, ◌+◌, ◌-◌, ◌≤◌, List, length, take, drop, refl, sym, ap}
+use Rattle.std.proofs.Common.{ℕ, ◌≡◌, ◌+◌, ◌-◌, ◌≤◌, List, ◌++◌, length, take, drop, refl, sym, ap}
 use Rattle.std.proofs.Common.{arith, slice_index, take-append-drop, length-drop, length-take}
 use Rattle.std.proofs.Common.{Result, Ok, Err}
 use Rattle.std.proofs.lemmas.Result.{IfOk-at_ok}
@@ -8,10 +8,6 @@ use Rattle.etherparse.specs.ExtensionHeaderChain.{IsExtensionHeader, IsWalkOf, e
 use Rattle.etherparse.specs.ExtensionHeaderChain.{required_len_of}
 use Rattle.etherparse.specs.LenError.{len_error_moved}
 use Rattle.etherparse.specs.declared.err.LenError.{LenError}
-use Rattle.etherparse_net.specs.Ipv6Extensions.{BeginsWithExtension, IsOfKind, extension_bytes}
-use Rattle.etherparse_net.specs.declared.ipv6_extension_slice.Ipv6ExtensionSlice.{
-  Ipv6ExtensionSlice,
-}
 use Rattle.etherparse.specs.ExtensionHeaders.{IsSkippable}
 
 -- it has two bytes, and as many as they say
@@ -21,7 +17,7 @@ whole_len : (n : ℕ) (s : List ℕ) → required_len_of n s ≤ length s
 whole_len n s enough = grind (arith, common_steps)
 
 -- its bytes are those of one header
-pub whole_header : (n : ℕ) (s : List ℕ) → IsSkippable n → required_len_of n s ≤ length s
+whole_header : (n : ℕ) (s : List ℕ) → IsSkippable n → required_len_of n s ≤ length s
     → IsExtensionHeader n (take (required_len_of n s) s)
 whole_header n s skippable enough =
     let told = whole_len n s enough in
@@ -29,23 +25,19 @@ whole_header n s skippable enough =
     grind (arith, common_steps) in
     record { skippable = skippable; len = rw (second, length-take) (omega arith) }
 
--- what a skip passes is the header that is seen
-pub extension_begins : {E : Type 0} (n next : ℕ) (s after : List ℕ) (view : Ipv6ExtensionSlice)
-    → IsSkippable n → required_len_of n s ≤ length s
+-- what a skip passes is one whole header, and the rest follows it
+pub passed_header : {E : Type 0} (n next : ℕ) (s after : List ℕ) → IsSkippable n
+    → required_len_of n s ≤ length s
     → ◌≡◌ {A = Result (ℕ × List ℕ) E} (Ok (next, after))
     (Ok (slice_index s 0, drop (required_len_of n s) s))
-    → extension_bytes view ≡ take (length s - length after) s → IsOfKind n view
-    → BeginsWithExtension n s view after
-extension_begins n next s after view skippable enough skipped bytes kind =
+    → IsExtensionHeader n (take (length s - length after) s)
+    × (s ≡ take (length s - length after) s ++ after)
+passed_header n next s after skippable enough skipped =
     let k = required_len_of n s in
     let same : after ≡ drop k s = IfOk-at_ok (λ x. x.1 ≡ drop k s) (sym skipped) refl in
     let passed : length s - length after ≡ k = omega (arith, ap length same, length-drop k s) in
-    let front : extension_bytes view ≡ take k s = bytes ∙ ap (λ i. take i s) passed in
-    record {
-      whole = rw (front, same) (sym (take-append-drop k s));
-      header = rw front (whole_header n s skippable enough);
-      kind = kind;
-    }
+    let whole : s ≡ take k s ++ after = rw same (sym (take-append-drop k s)) in
+    (rw passed (whole_header n s skippable enough), rw passed whole)
 
 -- a walk that ends further on
 pub moved_walk : (s : List ℕ) (first offset left : ℕ) (e f : LenError) → offset + left ≡ length s
