@@ -7,7 +7,6 @@ use packet_capture::capture::ByteOrder;
 use packet_capture::file_format::{FileFormat, format_named};
 use packet_capture::pcapng::blocks::{Block, Section, next_block};
 use packet_capture::pcapng::interfaces::Interface;
-use std::process::Abort;
 use std::test::Fail;
 
 #[test]
@@ -40,10 +39,6 @@ fn times_and_formats(rt: HostRuntime) {
 
 #[test]
 fn captures_of_either_format(rt: HostRuntime) -> Result<(), Fail> {
-    either_format(&rt)
-}
-
-fn either_format(rt: &impl Abort) -> Result<(), Fail> {
     use any::{Block, next_block};
 
     // pcapng: a section, an interface of packets that begin with their IP header, and a packet of

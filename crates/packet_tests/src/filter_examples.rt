@@ -50,7 +50,7 @@ fn a_tagged_datagram(rt: HostRuntime) -> Result<(), Fail> {
 }
 
 #[test]
-fn frames(rt: HostRuntime) -> Result<(), Fail> {
+fn frames(rt: HostRuntime) -> Result<(), FilterError> {
     // Ethernet, IPv4 from 10.0.0.1, and a datagram to port 53.
     let frame = [
         2, 0, 0, 0, 0, 2, 2, 0, 0, 0, 0, 1, 8, 0, 0x45, 0, 0, 30, 0, 0, 0, 0, 64, 0x11, 0, 0, 10,

@@ -1,11 +1,15 @@
-//! The examples in the doc comments of `packet` on link headers and on frames that end early, line by
-//! line as they stand there.
+//! The examples in the doc comments of `packet` on link types and on frames that end early, line by
+//! line as they stand there; and which header a frame has. What its view returns is in the same bytes
+//! in `etherparse_tests`.
 
 use crate::shared::assert_equal;
-use etherparse_link::EtherType;
+use etherparse_link::{
+    EtherType, Ethernet2HeaderSlice, LinuxSll2HeaderSlice, LinuxSllHeaderSlice,
+    SingleVlanHeaderSlice,
+};
 use packet::error::SliceError;
 use packet::lax_sliced_packet::LaxSlicedPacket;
-use packet::link::{LinkSlice, LinkType};
+use packet::link::{LinkError, LinkSlice, LinkType};
 use packet::link_layers::LinkLayers;
 use packet::sliced_packet::SlicedPacket;
 use packet::vlan::VlanSlice;
@@ -30,7 +34,7 @@ fn link_types(rt: HostRuntime) {
 }
 
 #[test]
-fn link_layers(rt: HostRuntime) -> Result<(), Fail> {
+fn link_layers(rt: HostRuntime) -> Result<(), LinkError> {
     // Ethernet, a tag of VLAN 5, and the first bytes of an ARP packet.
     let frame = [
         2, 0, 0, 0, 0, 2, 2, 0, 0, 0, 0, 1, 0x81, 0, 0, 5, 8, 6, 0, 1,
@@ -46,12 +50,8 @@ fn ethernet(rt: HostRuntime) -> Result<(), Fail> {
     // A frame from 2:0:0:0:0:1 to 2:0:0:0:0:2 with the first bytes of an ARP packet.
     let frame = [2, 0, 0, 0, 0, 2, 2, 0, 0, 0, 0, 1, 8, 6, 0, 1];
     let layers = LinkLayers::from_link_type(LinkType::Ethernet2, &frame)?;
-    let Some(LinkSlice::Ethernet2(header)) = layers.link else {
-        return Err(Fail::from("no header"));
-    };
-    assert_equal(&rt, header.destination(), [2, 0, 0, 0, 0, 2]);
-    assert_equal(&rt, header.source(), [2, 0, 0, 0, 0, 1]);
-    assert_equal(&rt, header.ether_type(), EtherType::ARP);
+    let header = Ethernet2HeaderSlice::from_slice(&frame)?;
+    assert_equal(&rt, layers.link, Some(LinkSlice::Ethernet2(header)));
     Ok(())
 }
 
@@ -60,17 +60,8 @@ fn a_cooked_capture(rt: HostRuntime) -> Result<(), Fail> {
     // A broadcast from 2:0:0:0:0:1 on an Ethernet device, and the first bytes of an ARP packet.
     let frame = [0, 1, 0, 1, 0, 6, 2, 0, 0, 0, 0, 1, 0, 0, 8, 6, 0, 1];
     let layers = LinkLayers::from_link_type(LinkType::LinuxSll, &frame)?;
-    let Some(LinkSlice::LinuxSll(header)) = layers.link else {
-        return Err(Fail::from("no header"));
-    };
-    assert_equal(
-        &rt,
-        (header.packet_type(), header.arp_hardware_type()),
-        (1, 1),
-    );
-    assert_equal(&rt, header.sender_address_valid_length(), 6);
-    assert_equal(&rt, header.sender_address(), [2, 0, 0, 0, 0, 1].as_slice());
-    assert_equal(&rt, header.protocol_type(), EtherType::ARP);
+    let header = LinuxSllHeaderSlice::from_slice(&frame)?;
+    assert_equal(&rt, layers.link, Some(LinkSlice::LinuxSll(header)));
     Ok(())
 }
 
@@ -82,21 +73,8 @@ fn a_cooked_capture_of_version_2(rt: HostRuntime) -> Result<(), Fail> {
         8, 6, 0, 0, 0, 0, 0, 3, 0, 1, 1, 6, 2, 0, 0, 0, 0, 1, 0, 0, 0, 1,
     ];
     let layers = LinkLayers::from_link_type(LinkType::LinuxSll2, &frame)?;
-    let Some(LinkSlice::LinuxSll2(header)) = layers.link else {
-        return Err(Fail::from("no header"));
-    };
-    assert_equal(&rt, header.protocol_type(), EtherType::ARP);
-    assert_equal(
-        &rt,
-        (header.interface_index(), header.arp_hardware_type()),
-        (3, 1),
-    );
-    assert_equal(
-        &rt,
-        (header.packet_type(), header.sender_address_valid_length()),
-        (1, 6),
-    );
-    assert_equal(&rt, header.sender_address(), [2, 0, 0, 0, 0, 1].as_slice());
+    let header = LinuxSll2HeaderSlice::from_slice(&frame)?;
+    assert_equal(&rt, layers.link, Some(LinkSlice::LinuxSll2(header)));
     Ok(())
 }
 
@@ -105,16 +83,13 @@ fn a_tag(rt: HostRuntime) -> Result<(), Fail> {
     // A tag of VLAN 5 with priority 3, and the first bytes of an ARP packet.
     let bytes = [0x60, 5, 8, 6, 0, 1];
     let packet = SlicedPacket::from_ether_type(EtherType::VLAN_TAGGED_FRAME, &bytes)?;
-    let Some(VlanSlice::SingleVlan(tag)) = packet.vlan else {
-        return Err(Fail::from("no tag"));
-    };
-    assert!(rt; tag.priority_code_point() == 3 && !tag.drop_eligible_indicator());
-    assert!(rt; tag.vlan_identifier() == 5 && tag.ether_type() == EtherType::ARP);
+    let tag = SingleVlanHeaderSlice::from_slice(&bytes)?;
+    assert_equal(&rt, packet.vlan, Some(VlanSlice::SingleVlan(tag)));
     Ok(())
 }
 
 #[test]
-fn frames_that_end_within_a_tag(rt: HostRuntime) -> Result<(), Fail> {
+fn frames_that_end_within_a_tag(rt: HostRuntime) -> Result<(), LinkError> {
     // A frame that ends within its second tag.
     let frame = [
         2, 0, 0, 0, 0, 2, 2, 0, 0, 0, 0, 1, 0x88, 0xa8, 0, 5, 0x81, 0, 1, 2, 3,
@@ -140,7 +115,7 @@ fn frames_that_end_within_their_tag(rt: HostRuntime) {
 }
 
 #[test]
-fn cooked_captures_that_end_within_a_packet(rt: HostRuntime) -> Result<(), Fail> {
+fn cooked_captures_that_end_within_a_packet(rt: HostRuntime) -> Result<(), LinkError> {
     // A packet of which two bytes were captured.
     let frame = [0, 0, 0, 1, 0, 6, 2, 0, 0, 0, 0, 1, 0, 0, 8, 0, 0x45, 0];
     let lax = LaxSlicedPacket::from_linux_sll(&frame)?;
@@ -150,7 +125,7 @@ fn cooked_captures_that_end_within_a_packet(rt: HostRuntime) -> Result<(), Fail>
 }
 
 #[test]
-fn cooked_captures_of_version_2_that_end_early(rt: HostRuntime) -> Result<(), Fail> {
+fn cooked_captures_of_version_2_that_end_early(rt: HostRuntime) -> Result<(), LinkError> {
     // The same with the header of version 2, on interface 3.
     let frame = [
         8, 0, 0, 0, 0, 0, 0, 3, 0, 1, 0, 6, 2, 0, 0, 0, 0, 1, 0, 0, 0x45, 0,
@@ -162,7 +137,7 @@ fn cooked_captures_of_version_2_that_end_early(rt: HostRuntime) -> Result<(), Fa
 }
 
 #[test]
-fn loopback_frames_that_end_within_a_packet(rt: HostRuntime) -> Result<(), Fail> {
+fn loopback_frames_that_end_within_a_packet(rt: HostRuntime) -> Result<(), LinkError> {
     // The family of IPv4, and a packet of which two bytes were captured.
     let lax = LaxSlicedPacket::from_loopback(&[2, 0, 0, 0, 0x45, 0])?;
     assert_equal(

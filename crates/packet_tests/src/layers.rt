@@ -5,8 +5,7 @@ use crate::shared::assert_equal;
 use etherparse::err::{Layer, LenError};
 use etherparse::{IpFragOffset, IpNumber, Ipv4HeaderSlice, Ipv6HeaderSlice, LenSource};
 use etherparse_net::Ipv6FragmentHeader;
-use etherparse_transport::TcpHeaderSlice;
-use packet_capture::capture::{ByteOrder, FileHeader, Format, Record, Resolution, next_record};
+use packet_capture::capture::{ByteOrder, FileHeader, Format, Resolution};
 use packet_parts::checksum::{Verdict, ipv4_verdict, ipv6_verdict};
 use packet_parts::fragment::Fragment;
 use packet_parts::fragment_key::{Ipv4Key, Ipv6Key, ipv4_key, ipv6_key};
@@ -42,30 +41,6 @@ const CAPTURE: [u8; 43] = [
     0xd4, 0xc3, 0xb2, 0xa1, 2, 0, 4, 0, 0, 0, 0, 0, 0, 0, 0, 0, 0xff, 0xff, 0, 0, 101, 0, 0, 0, 1,
     0, 0, 0, 2, 0, 0, 0, 3, 0, 0, 0, 5, 0, 0, 0, 97, 98, 99,
 ];
-
-#[test]
-fn a_tcp_header_is_seen(rt: HostRuntime) {
-    let view = TcpHeaderSlice::from_slice(&SEGMENT).expect(&rt, "a header");
-    let ports = [view.source_port(), view.destination_port()];
-    let numbers = [view.sequence_number(), view.acknowledgment_number()];
-    let last = [view.window_size(), view.checksum(), view.urgent_pointer()];
-    assert_equal(
-        &rt,
-        (ports, numbers, last),
-        ([1024, 80], [1, 0], [0x2000, 0x0979, 0]),
-    );
-    let flags = [view.syn(), view.ack(), view.fin(), view.rst()];
-    assert_equal(
-        &rt,
-        (
-            view.data_offset(),
-            view.options().len(),
-            view.flags(),
-            flags,
-        ),
-        (5, 0, 2, [true, false, false, false]),
-    );
-}
 
 #[test]
 fn a_tcp_checksum_is_judged_over_both_versions(rt: HostRuntime) {
@@ -163,7 +138,9 @@ fn packets_are_cut_at_their_length_field(rt: HostRuntime) -> Result<(), Fail> {
 }
 
 #[test]
-fn a_packet_that_ends_early_has_the_parts_that_are_there(rt: HostRuntime) -> Result<(), Fail> {
+fn a_packet_that_ends_early_has_the_parts_that_are_there(
+    rt: HostRuntime,
+) -> Result<(), IpSliceError> {
     let lax = LaxIpSlice::from_slice(&IPV6_PACKET[..50])?;
     let slice = &lax.slice;
     assert_equal(
@@ -221,7 +198,7 @@ fn after_a_later_fragment_header_comes_no_header(rt: HostRuntime) {
 }
 
 #[test]
-fn a_capture_hands_its_packets_over(rt: HostRuntime) {
+fn a_capture_begins_with_its_header(rt: HostRuntime) {
     let header = FileHeader {
         format: Format {
             order: ByteOrder::LittleEndian,
@@ -232,15 +209,6 @@ fn a_capture_hands_its_packets_over(rt: HostRuntime) {
     };
     let records = &CAPTURE[24..];
     assert_equal(&rt, FileHeader::from_slice(&CAPTURE), Ok((header, records)));
-    let record = Record {
-        seconds: 1,
-        nanoseconds: 2000,
-        original_len: 5,
-        bytes: b"abc",
-    };
-    let none = [].as_slice();
-    let read = [next_record(&header, records), next_record(&header, none)];
-    assert_equal(&rt, read, [Ok(Some((record, none))), Ok(None)]);
 }
 
 #[test]

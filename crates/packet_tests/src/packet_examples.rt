@@ -2,6 +2,7 @@
 //! by line, with `assert_equal` for equations that they assert.
 
 use crate::shared::assert_equal;
+use etherparse::err::{LenError, ValueTooBigError};
 use etherparse::{IpNumber, Ipv4Header, Ipv6Header};
 use etherparse_net::Ipv6FragmentHeader;
 use etherparse_transport::{TcpError, TcpHeaderSlice, UdpHeader};
@@ -22,7 +23,6 @@ use packet_rewriting::translation::{
     translate_udp_source,
 };
 use std::net::{IpAddr, Ipv4Addr};
-use std::process::Abort;
 use std::test::Fail;
 
 #[test]
@@ -50,7 +50,7 @@ fn verdicts_over_ipv4(rt: HostRuntime) {
 }
 
 #[test]
-fn checksum_over_ipv4(rt: HostRuntime) -> Result<(), Fail> {
+fn checksum_over_ipv4(rt: HostRuntime) -> Result<(), ValueTooBigError<u16>> {
     let (source, destination) = ([192, 168, 0, 1], [192, 168, 0, 199]);
     let ip = Ipv4Header::new(12, 64, IpNumber::UDP, source, destination)?;
     let mut udp = UdpHeader {
@@ -113,9 +113,7 @@ fn address(rt: HostRuntime) -> Result<(), Fail> {
 }
 
 #[test]
-fn headers(rt: HostRuntime) -> Result<(), Fail> {
-    assert!(rt; tcp(&rt).is_ok());
-
+fn headers(rt: HostRuntime) -> Result<(), LenError> {
     let slice = [4, 0, 0, 53, 0, 12, 0x91, 0xae, b't', b'e', b's', b't'];
     let (header, rest) = UdpHeader::from_slice(&slice)?;
     assert_equal(
@@ -134,7 +132,8 @@ fn headers(rt: HostRuntime) -> Result<(), Fail> {
     Ok(())
 }
 
-fn tcp(rt: &impl Abort) -> Result<(), TcpError> {
+#[test]
+fn tcp(rt: HostRuntime) -> Result<(), TcpError> {
     // A SYN from port 1024 to port 80, with sequence number 1 and a window of 8192 bytes.
     let segment = [
         4, 0, 0, 80, 0, 0, 0, 1, 0, 0, 0, 0, 0x50, 0x02, 0x20, 0, 0x09, 0x79, 0, 0,
@@ -166,12 +165,7 @@ fn tcp(rt: &impl Abort) -> Result<(), TcpError> {
 }
 
 #[test]
-fn packets(rt: HostRuntime) {
-    assert!(rt; slices(&rt).is_ok());
-    assert!(rt; lax_slices(&rt).is_ok());
-}
-
-fn slices(rt: &impl Abort) -> Result<(), IpSliceError> {
+fn slices(rt: HostRuntime) -> Result<(), IpSliceError> {
     // A datagram of 12 bytes, and two bytes that the link added.
     let packet = [
         0x45, 0, 0, 32, 0, 0, 0, 0, 64, 17, 0, 0, 192, 168, 0, 1, 192, 168, 0, 199, 4, 0, 0, 53, 0,
@@ -206,7 +200,8 @@ fn slices(rt: &impl Abort) -> Result<(), IpSliceError> {
     Ok(())
 }
 
-fn lax_slices(rt: &impl Abort) -> Result<(), IpSliceError> {
+#[test]
+fn lax_slices(rt: HostRuntime) -> Result<(), IpSliceError> {
     // A packet of 32 bytes, 28 of which were captured.
     let mut packet = [
         0x45, 0, 0, 32, 0, 0, 0, 0, 64, 17, 0, 0, 192, 168, 0, 1, 192, 168, 0, 199, 4, 0, 0, 53, 0,
@@ -285,7 +280,7 @@ fn rewriting(rt: HostRuntime) {
 }
 
 #[test]
-fn translation_of_udp(rt: HostRuntime) -> Result<(), Fail> {
+fn translation_of_udp(rt: HostRuntime) -> Result<(), ValueTooBigError<u16>> {
     let (source, destination) = ([192, 168, 0, 1], [192, 168, 0, 199]);
     let mut header = Ipv4Header::new(12, 64, IpNumber::UDP, source, destination)?;
     header.set_checksum();
@@ -297,7 +292,7 @@ fn translation_of_udp(rt: HostRuntime) -> Result<(), Fail> {
 }
 
 #[test]
-fn translation_of_tcp(rt: HostRuntime) -> Result<(), Fail> {
+fn translation_of_tcp(rt: HostRuntime) -> Result<(), ValueTooBigError<u16>> {
     let (source, destination) = ([192, 168, 0, 1], [192, 168, 0, 199]);
     let mut header = Ipv4Header::new(20, 64, IpNumber::TCP, source, destination)?;
     header.set_checksum();
@@ -310,8 +305,6 @@ fn translation_of_tcp(rt: HostRuntime) -> Result<(), Fail> {
 
 #[test]
 fn captures(rt: HostRuntime) {
-    assert!(rt; capture(&rt).is_ok());
-
     let format = Format {
         order: ByteOrder::LittleEndian,
         resolution: Resolution::Microseconds,
@@ -338,7 +331,8 @@ fn captures(rt: HostRuntime) {
     assert_equal(&rt, next_record(&header, &[]), Ok(None));
 }
 
-fn capture(rt: &impl Abort) -> Result<(), CaptureError> {
+#[test]
+fn capture(rt: HostRuntime) -> Result<(), CaptureError> {
     // A file without records: packets that begin with their IP header, in microseconds.
     let file = [
         0xd4, 0xc3, 0xb2, 0xa1, 2, 0, 4, 0, 0, 0, 0, 0, 0, 0, 0, 0, 0xff, 0xff, 0, 0, 101, 0, 0, 0,

@@ -87,6 +87,12 @@ fn assert_packet(rt: &impl Abort, first: &[u8], second: &[u8], third: &[u8], pac
     assert_equal(rt, out.get(..len), Some(packet));
 }
 
+// The packet that two fragments make, in both orders.
+fn assert_both_orders(rt: &impl Abort, one: &[u8], other: &[u8], packet: &[u8]) {
+    assert_packet(rt, one, other, other, packet);
+    assert_packet(rt, other, one, one, packet);
+}
+
 #[test]
 fn the_headers_of_the_copy_that_comes_first_count(rt: HostRuntime) {
     // A copy with another time to live, and with that a checksum that is wrong.
@@ -112,16 +118,14 @@ fn assert_ipv4_ecn(rt: &impl Abort, first: u8, last: u8, ecn: u8, checksum: u8) 
     let (mut one, mut other, mut packet) = (IPV4_FIRST, IPV4_LAST, IPV4_PACKET);
     (one[1], other[1]) = (0x28 | first, 0x28 | last);
     (packet[1], packet[11]) = (0x28 | ecn, checksum);
-    assert_packet(rt, &one, &other, &other, &packet);
-    assert_packet(rt, &other, &one, &one, &packet);
+    assert_both_orders(rt, &one, &other, &packet);
 }
 
 // The same of IPv6: the lower 2 bits of the traffic class are bits 4 and 5 of byte 1.
 fn assert_ipv6_ecn(rt: &impl Abort, first: u8, last: u8, byte: u8) {
     let (mut one, mut other, mut packet) = (IPV6_FIRST, IPV6_LAST, IPV6_PACKET);
     (one[1], other[1], packet[1]) = (first, last, byte);
-    assert_packet(rt, &one, &other, &other, &packet);
-    assert_packet(rt, &other, &one, &one, &packet);
+    assert_both_orders(rt, &one, &other, &packet);
 }
 
 #[test]
@@ -156,18 +160,14 @@ fn a_duplicate_that_was_marked_on_its_way_counts(rt: HostRuntime) {
 fn ce_beside_not_ect_is_dropped(rt: HostRuntime) {
     let (mut first, mut last) = (IPV4_FIRST, IPV4_LAST);
     first[1] = 0x2b;
-    assert_packet(&rt, &first, &IPV4_LAST, &IPV4_LAST, &[]);
-    assert_packet(&rt, &IPV4_LAST, &first, &first, &[]);
+    assert_both_orders(&rt, &first, &IPV4_LAST, &[]);
     last[1] = 0x2b;
-    assert_packet(&rt, &IPV4_FIRST, &last, &last, &[]);
-    assert_packet(&rt, &last, &IPV4_FIRST, &IPV4_FIRST, &[]);
+    assert_both_orders(&rt, &IPV4_FIRST, &last, &[]);
     let (mut first, mut last) = (IPV6_FIRST, IPV6_LAST);
     first[1] = 0x31;
-    assert_packet(&rt, &first, &IPV6_LAST, &IPV6_LAST, &[]);
-    assert_packet(&rt, &IPV6_LAST, &first, &first, &[]);
+    assert_both_orders(&rt, &first, &IPV6_LAST, &[]);
     last[1] = 0x31;
-    assert_packet(&rt, &IPV6_FIRST, &last, &last, &[]);
-    assert_packet(&rt, &last, &IPV6_FIRST, &IPV6_FIRST, &[]);
+    assert_both_orders(&rt, &IPV6_FIRST, &last, &[]);
 }
 
 #[test]

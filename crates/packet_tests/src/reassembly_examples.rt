@@ -4,7 +4,9 @@
 ghost use Rattle.std.specs.Prelude.{◌<◌, length};
 
 use crate::shared::assert_equal;
+use etherparse::err::ValueTooBigError;
 use etherparse::{IpEcn, IpFragOffset, IpNumber, Ipv4Header, Ipv6Header};
+use packet_parts::ip_slice::IpSliceError;
 use packet_reassembly::fragment_ecn::FragmentEcn;
 use packet_reassembly::header_chain::has_whole_chain;
 use packet_reassembly::ip_defrag_buf::IpDefragBuf;
@@ -68,7 +70,7 @@ fn whole_ipv4_packets(rt: HostRuntime) -> Result<(), Fail> {
 }
 
 #[test]
-fn whole_ipv6_packets(rt: HostRuntime) -> Result<(), Fail> {
+fn whole_ipv6_packets(rt: HostRuntime) -> Result<(), ValueTooBigError<usize>> {
     let mut first = Ipv6Header::default();
     first.next_header = IpNumber::IPV6_HEADER_HOP_BY_HOP;
     // Hop-by-hop options, which name the fragment header.
@@ -96,7 +98,7 @@ fn header_chains(rt: HostRuntime) {
 }
 
 #[test]
-fn fragments_of_packets(rt: HostRuntime) -> Result<(), Fail> {
+fn fragments_of_packets(rt: HostRuntime) -> Result<(), IpSliceError> {
     // A fragment that is not the first, and not the last.
     let mut packet = [
         0x45, 0, 0, 28, 0x12, 0x34, 0x20, 1, 64, 17, 0, 0, 192, 168, 0, 1, 192, 168, 0, 199, 1, 2,

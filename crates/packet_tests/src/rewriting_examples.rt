@@ -3,16 +3,16 @@
 
 use crate::shared::assert_equal;
 use etherparse::{IpDscp, IpEcn, IpNumber};
-use packet_rewriting::checksum::{calc_checksum_ipv4, calc_checksum_ipv6, set_checksum_ipv4};
-use packet_rewriting::fields::{
-    Reach, set_destination_ipv4, set_destination_ipv6, set_destination_port, set_dscp, set_ecn,
-    set_source_ipv4, set_source_ipv6, set_source_port,
+use packet_rewriting::checksum::{
+    ChecksumError, calc_checksum_ipv4, calc_checksum_ipv6, set_checksum_ipv4,
 };
-use std::process::Abort;
-use std::test::Fail;
+use packet_rewriting::fields::{
+    Reach, RewriteError, set_destination_ipv4, set_destination_ipv6, set_destination_port,
+    set_dscp, set_ecn, set_source_ipv4, set_source_ipv6, set_source_port,
+};
 
 #[test]
-fn checksums_over_ipv4(rt: HostRuntime) -> Result<(), Fail> {
+fn checksums_over_ipv4(rt: HostRuntime) -> Result<(), ChecksumError> {
     let (source, destination) = ([192, 168, 0, 1], [192, 168, 0, 199]);
     let mut datagram = [4, 0, 0, 53, 0, 12, 0, 0, b't', b'e', b's', b't'];
     let checksum = calc_checksum_ipv4(source, destination, IpNumber::UDP, &datagram)?;
@@ -27,7 +27,7 @@ fn checksums_over_ipv4(rt: HostRuntime) -> Result<(), Fail> {
 }
 
 #[test]
-fn checksum_over_ipv6(rt: HostRuntime) -> Result<(), Fail> {
+fn checksum_over_ipv6(rt: HostRuntime) -> Result<(), ChecksumError> {
     // An echo request from 2001:db8::1 to 2001:db8::2.
     let source = [0x20, 0x01, 0x0d, 0xb8, 0, 0, 0, 0, 0, 0, 0, 0, 0, 0, 0, 1];
     let mut destination = source;
@@ -39,7 +39,7 @@ fn checksum_over_ipv6(rt: HostRuntime) -> Result<(), Fail> {
 }
 
 #[test]
-fn ipv4_addresses(rt: HostRuntime) -> Result<(), Fail> {
+fn ipv4_addresses(rt: HostRuntime) -> Result<(), RewriteError> {
     let mut packet = [
         0x45, 0, 0, 32, 0, 0, 0, 0, 64, 17, 0xf8, 0xb4, 192, 168, 0, 1, 192, 168, 0, 199, 4, 0, 0,
         53, 0, 12, 0x91, 0xae, b't', b'e', b's', b't',
@@ -56,7 +56,7 @@ fn ipv4_addresses(rt: HostRuntime) -> Result<(), Fail> {
 }
 
 #[test]
-fn ports(rt: HostRuntime) -> Result<(), Fail> {
+fn ports(rt: HostRuntime) -> Result<(), RewriteError> {
     let mut packet = [
         0x45, 0, 0, 32, 0, 0, 0, 0, 64, 17, 0x46, 0x91, 198, 51, 100, 7, 10, 0, 0, 2, 4, 0, 0, 53,
         0, 12, 0xdf, 0x8a, b't', b'e', b's', b't',
@@ -69,7 +69,7 @@ fn ports(rt: HostRuntime) -> Result<(), Fail> {
 }
 
 #[test]
-fn marks(rt: HostRuntime) -> Result<(), Fail> {
+fn marks(rt: HostRuntime) -> Result<(), RewriteError> {
     let mut packet = [
         0x45, 0, 0, 32, 0, 0, 0, 0, 64, 17, 0x46, 0x91, 198, 51, 100, 7, 10, 0, 0, 2, 4, 0, 0, 53,
     ];
@@ -81,7 +81,7 @@ fn marks(rt: HostRuntime) -> Result<(), Fail> {
 }
 
 #[test]
-fn ipv6_addresses(rt: HostRuntime) -> Result<(), Fail> {
+fn ipv6_addresses(rt: HostRuntime) -> Result<(), RewriteError> {
     let source = [0x20, 0x01, 0x0d, 0xb8, 0, 0, 0, 0, 0, 0, 0, 0, 0, 0, 0, 7];
     let mut destination = source;
     destination[15] = 9;

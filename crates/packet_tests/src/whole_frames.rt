@@ -9,7 +9,6 @@ use packet_reassembly::ip_defrag_buf::IpDefragBuf;
 use packet_reassembly::ip_defrag_headers::IpDefragHeaders;
 use packet_reassembly::ip_defrag_pool::IpDefragSlot;
 use std::process::Abort;
-use std::test::Fail;
 
 #[test]
 fn counts(rt: HostRuntime) {
@@ -22,7 +21,7 @@ fn counts(rt: HostRuntime) {
 }
 
 #[test]
-fn frames(rt: HostRuntime) -> Result<(), Fail> {
+fn frames(rt: HostRuntime) {
     let mut headers = [0; IpDefragHeaders::MAX_LEN];
     let mut bytes = [0; IpDefragBuf::MAX_LEN];
     let mut units = [0; IpDefragBuf::UNITS];
@@ -33,10 +32,10 @@ fn frames(rt: HostRuntime) -> Result<(), Fail> {
         headers: IpDefragHeaders::new(&mut headers),
         buf: IpDefragBuf::new(&mut bytes, &mut units),
     }];
-    two_fragments(&rt, &mut FrameReassembly::new(&mut slots))
+    two_fragments(&rt, &mut FrameReassembly::new(&mut slots));
 }
 
-fn two_fragments(rt: &impl Abort, frames: &mut FrameReassembly) -> Result<(), Fail> {
+fn two_fragments(rt: &impl Abort, frames: &mut FrameReassembly) {
     let mut out = [0; 65_700];
 
     // Ethernet, a tag of VLAN 5, and two fragments of an IPv4 packet, of 8 bytes and of 5.
@@ -55,5 +54,4 @@ fn two_fragments(rt: &impl Abort, frames: &mut FrameReassembly) -> Result<(), Fa
     let taken = frames.take(LinkType::Ethernet2, &first, 1, &mut datagrams, &mut out);
     assert!(rt; taken == Some(51) && datagrams.put_together == 1);
     assert!(rt; out[..18] == first[..18] && &out[38..51] == b"thirteenbytes".as_slice());
-    Ok(())
 }
