@@ -2,12 +2,11 @@
 //! equations that they assert.
 
 use crate::shared::assert_equal;
-use etherparse_transport::TcpOptionElement;
-use packet_builder::PacketBuilder;
-use std::test::Fail;
+use etherparse_transport::{TcpOptionElement, TcpOptionWriteError};
+use packet_builder::{BuildSliceWriteError, PacketBuilder};
 
 #[test]
-fn packet_builder(rt: HostRuntime) -> Result<(), Fail> {
+fn packet_builder(rt: HostRuntime) -> Result<(), BuildSliceWriteError> {
     let (source, destination) = ([1, 2, 3, 4, 5, 6], [7, 8, 9, 10, 11, 12]);
     let builder = PacketBuilder::ethernet2(source, destination)
         .ipv4([192, 168, 1, 1], [192, 168, 1, 2], 20)
@@ -19,7 +18,7 @@ fn packet_builder(rt: HostRuntime) -> Result<(), Fail> {
 }
 
 #[test]
-fn echo_requests_over_ipv4(rt: HostRuntime) -> Result<(), Fail> {
+fn echo_requests_over_ipv4(rt: HostRuntime) -> Result<(), BuildSliceWriteError> {
     let request = PacketBuilder::ipv4([10, 0, 0, 1], [10, 0, 0, 2], 64).icmpv4_echo_request(1, 2);
     let mut memory = [0; 32];
     let len = request.write_to_slice(&mut memory, b"abcd")?;
@@ -28,7 +27,7 @@ fn echo_requests_over_ipv4(rt: HostRuntime) -> Result<(), Fail> {
 }
 
 #[test]
-fn echo_requests_over_ipv6(rt: HostRuntime) -> Result<(), Fail> {
+fn echo_requests_over_ipv6(rt: HostRuntime) -> Result<(), BuildSliceWriteError> {
     let source = [0x20, 1, 0x0d, 0xb8, 0, 0, 0, 0, 0, 0, 0, 0, 0, 0, 0, 1];
     let destination = [0x20, 1, 0x0d, 0xb8, 0, 0, 0, 0, 0, 0, 0, 0, 0, 0, 0, 2];
     let request = PacketBuilder::ipv6(source, destination, 64).icmpv6_echo_request(1, 2);
@@ -39,7 +38,7 @@ fn echo_requests_over_ipv6(rt: HostRuntime) -> Result<(), Fail> {
 }
 
 #[test]
-fn tcp_options(rt: HostRuntime) -> Result<(), Fail> {
+fn tcp_options(rt: HostRuntime) -> Result<(), TcpOptionWriteError> {
     let builder = PacketBuilder::ipv4([10, 0, 0, 1], [10, 0, 0, 2], 64)
         .tcp(1024, 80, 1, 8192)
         .syn()

@@ -80,12 +80,11 @@ fn one_add_to_a_new_sum_has_the_complement_of_its_words(rt: HostRuntime) {
 }
 
 #[test]
-fn the_front_of_a_slice_has_one_complement_in_all_sums(rt: HostRuntime) -> Result<(), Fail> {
+fn the_front_of_a_slice_has_one_complement_in_all_sums(rt: HostRuntime) {
     for (len, complement) in &OF_ASCENDING {
-        let slice = ASCENDING.get(..*len).ok_or("too few")?;
+        let slice = ASCENDING.get(..*len).expect(&rt, "bytes");
         assert_equal(&rt, complements_of(1, 1, slice), [*complement; 5]);
     }
-    Ok(())
 }
 
 // The complement of a start and a slice, by each way to sum them in 64 bits and in 32.
@@ -143,11 +142,10 @@ fn a_slice_of_any_length_and_place_sums_as_its_words_do(rt: HostRuntime) {
     let mut bytes = [0; 4112];
     fill_without_pattern(&mut bytes, 1);
     assert_sums_as_words(&rt, bytes.get(..4096).expect(&rt, "bytes"));
-    for drawn in bytes.chunks(4) {
-        if let [low, high, offset, ..] = drawn {
-            let len = usize::from(u16::from_le_bytes([*low, *high % 16]));
-            let offset = usize::from(*offset % 16);
-            let slice = bytes.get(offset..offset + len).expect(&rt, "bytes");
+    for offset in 0..16 {
+        for step in 0..68 {
+            // As 61 is odd, these lengths have all remainders by 16.
+            let slice = bytes.get(offset..offset + 61 * step).expect(&rt, "bytes");
             assert_sums_as_words(&rt, slice);
         }
     }

@@ -7,7 +7,7 @@ use etherparse::checksum::{
 };
 use etherparse::err::ipv4::BadOptionsLen;
 use etherparse::err::ipv6::ChainError;
-use etherparse::err::{Layer, LenError};
+use etherparse::err::{Layer, LenError, ValueTooBigError, ipv4, ipv6};
 use etherparse::{
     IpDscp, IpDscpKnown, IpEcn, IpFragOffset, IpNumber, Ipv4Header, Ipv4HeaderSlice, Ipv4Options,
     Ipv6FlowLabel, Ipv6Header, Ipv6HeaderSlice, LenSource, ip_number,
@@ -42,7 +42,7 @@ fn fields_and_numbers(rt: HostRuntime) -> Result<(), Fail> {
 }
 
 #[test]
-fn options(rt: HostRuntime) -> Result<(), Fail> {
+fn options(rt: HostRuntime) -> Result<(), BadOptionsLen> {
     // A router alert (RFC 2113), from an array and from a slice.
     let alert = Ipv4Options::from([148, 4, 0, 0]);
     let options = Ipv4Options::try_from([148, 4, 0, 0].as_slice())?;
@@ -130,7 +130,7 @@ fn both_zeros_are_updated_to_the_computed_checksum(rt: HostRuntime) {
 }
 
 #[test]
-fn a_checksum_that_is_stored(rt: HostRuntime) -> Result<(), Fail> {
+fn a_checksum_that_is_stored(rt: HostRuntime) -> Result<(), ValueTooBigError<u16>> {
     let (source, destination) = ([192, 168, 0, 1], [192, 168, 0, 199]);
     let mut header = Ipv4Header::new(95, 64, IpNumber::UDP, source, destination)?;
     header.set_checksum();
@@ -168,7 +168,7 @@ fn addresses_that_are_changed(rt: HostRuntime) {
 }
 
 #[test]
-fn an_ipv4_view(rt: HostRuntime) -> Result<(), Fail> {
+fn an_ipv4_view(rt: HostRuntime) -> Result<(), ipv4::HeaderSliceError> {
     let packet = [
         0x45, 0, 0, 24, 0, 0, 0x40, 0, 64, 17, 0, 0, 10, 0, 0, 1, 10, 0, 0, 2, 1, 2, 3, 4,
     ];
@@ -191,7 +191,7 @@ fn an_ipv6_header_written_and_read(rt: HostRuntime) -> Result<(), Fail> {
 }
 
 #[test]
-fn an_ipv6_payload_without_its_padding(rt: HostRuntime) -> Result<(), Fail> {
+fn an_ipv6_payload_without_its_padding(rt: HostRuntime) -> Result<(), ipv6::HeaderSliceError> {
     // The payload length is 4, and two bytes of padding follow the packet.
     let mut packet = [0; 46];
     packet[0] = 0x60;
@@ -212,7 +212,7 @@ fn a_traffic_class_by_its_parts(rt: HostRuntime) {
 }
 
 #[test]
-fn an_ipv6_view(rt: HostRuntime) -> Result<(), Fail> {
+fn an_ipv6_view(rt: HostRuntime) -> Result<(), ipv6::HeaderSliceError> {
     // A payload of 4 bytes, the number of UDP, a hop limit of 64, and addresses of zeros.
     let mut packet = [0; 44];
     [packet[0], packet[5], packet[6], packet[7]] = [0x60, 4, 17, 64];
@@ -223,7 +223,7 @@ fn an_ipv6_view(rt: HostRuntime) -> Result<(), Fail> {
 }
 
 #[test]
-fn one_extension_header(rt: HostRuntime) -> Result<(), Fail> {
+fn one_extension_header(rt: HostRuntime) -> Result<(), LenError> {
     // Hop-by-hop options of 8 bytes, and the start of a UDP header.
     let slice = [17, 0, 0, 0, 0, 0, 0, 0, 4, 0, 0, 53];
     let first = IpNumber::IPV6_HEADER_HOP_BY_HOP;
@@ -234,7 +234,7 @@ fn one_extension_header(rt: HostRuntime) -> Result<(), Fail> {
 }
 
 #[test]
-fn all_extension_headers(rt: HostRuntime) -> Result<(), Fail> {
+fn all_extension_headers(rt: HostRuntime) -> Result<(), LenError> {
     // Hop-by-hop options, destination options, and the start of a UDP header.
     let slice = [
         60, 0, 0, 0, 0, 0, 0, 0, 17, 0, 0, 0, 0, 0, 0, 0, 4, 0, 0, 53,

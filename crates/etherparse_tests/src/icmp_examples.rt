@@ -13,7 +13,7 @@ use std::process::Abort;
 use std::test::Fail;
 
 #[test]
-fn icmpv4_headers(rt: HostRuntime) -> Result<(), Fail> {
+fn icmpv4_headers(rt: HostRuntime) -> Result<(), LenError> {
     // An echo request with the payload `abcd`.
     let bytes = [8, 0, 0x21, 4, 0x12, 0x34, 0, 1, b'a', b'b', b'c', b'd'];
     let (header, payload) = Icmpv4Header::from_slice(&bytes)?;
@@ -111,7 +111,7 @@ fn codes_of_icmpv4(rt: HostRuntime) {
 }
 
 #[test]
-fn icmpv4_redirects_and_timestamps(rt: HostRuntime) -> Result<(), Fail> {
+fn icmpv4_redirects_and_timestamps(rt: HostRuntime) -> Result<(), LenError> {
     // Packets to the host are to go to 192.0.2.1.
     let bytes = [5, 1, 0x74, 0x36, 192, 0, 2, 1, b'a', b'b', b'c', b'd'];
     let (header, _) = Icmpv4Header::from_slice(&bytes)?;

@@ -2,14 +2,14 @@
 //! for each equation that they assert.
 
 use crate::shared::assert_equal;
+use etherparse::err::LenError;
 use etherparse_icmp::icmpv6::{
     DestUnreachableCode, ParameterProblemCode, ParameterProblemHeader, TimeExceededCode,
 };
 use etherparse_icmp::{Icmpv6Header, Icmpv6Type};
-use std::test::Fail;
 
 #[test]
-fn codes_of_icmpv6(rt: HostRuntime) -> Result<(), Fail> {
+fn codes_of_icmpv6(rt: HostRuntime) -> Result<(), LenError> {
     let code = DestUnreachableCode::from_u8(4);
     assert_equal(&rt, code, Some(DestUnreachableCode::Port));
     assert_equal(&rt, DestUnreachableCode::Port.code_u8(), 4);

@@ -2,6 +2,7 @@
 //! equations that they assert. The bytes in them are those that scapy makes of the same fields.
 
 use crate::shared::assert_equal;
+use etherparse::err::{LenError, ValueTooBigError};
 use etherparse_link::err::arp::{ArpEthIpv4FromError, ArpHwAddrError, ArpNewError};
 use etherparse_link::err::double_vlan::{HeaderError, HeaderSliceError};
 use etherparse_link::{
@@ -10,11 +11,10 @@ use etherparse_link::{
     LinuxSllHeader, LinuxSllHeaderSlice, LinuxSllPacketType, SingleVlanHeader,
     SingleVlanHeaderSlice, VlanId, VlanPcp,
 };
-use std::process::Abort;
 use std::test::Fail;
 
 #[test]
-fn arp_eth_ipv4_packet(rt: HostRuntime) -> Result<(), Fail> {
+fn arp_eth_ipv4_packet(rt: HostRuntime) -> Result<(), LenError> {
     // Who has 192.168.0.2? Tell 192.168.0.1.
     let request = ArpEthIpv4Packet {
         operation: ArpOperation::REQUEST,
@@ -47,7 +47,7 @@ fn arp_operation(rt: HostRuntime) {
 }
 
 #[test]
-fn arp_packet(rt: HostRuntime) -> Result<(), Fail> {
+fn arp_packet(rt: HostRuntime) -> Result<(), ArpNewError> {
     // Who has 192.168.0.2? Tell 192.168.0.1.
     let request = ArpPacket::new(
         ArpHardwareId::ETHERNET,
@@ -81,7 +81,7 @@ fn arp_packet_new(rt: HostRuntime) {
 }
 
 #[test]
-fn arp_packet_from_slice(rt: HostRuntime) -> Result<(), Fail> {
+fn arp_packet_from_slice(rt: HostRuntime) -> Result<(), LenError> {
     // A reply on ARCnet, whose addresses have one byte, and two bytes of padding.
     let bytes = [
         0, 7, 8, 0, 1, 4, 0, 2, 17, 192, 168, 0, 1, 34, 192, 168, 0, 2, 0, 0,
@@ -110,7 +110,7 @@ fn arp_packet_from_slice(rt: HostRuntime) -> Result<(), Fail> {
 }
 
 #[test]
-fn arp_packet_slice(rt: HostRuntime) -> Result<(), Fail> {
+fn arp_packet_slice(rt: HostRuntime) -> Result<(), LenError> {
     // Who has 192.168.0.2? Tell 192.168.0.1.
     let packet = [
         0, 1, 8, 0, 6, 4, 0, 1, 2, 0, 0, 0, 0, 1, 192, 168, 0, 1, 0, 0, 0, 0, 0, 0, 192, 168, 0, 2,
@@ -148,7 +148,7 @@ fn double_vlan_header(rt: HostRuntime) -> Result<(), Fail> {
 }
 
 #[test]
-fn double_vlan_header_from_slice(rt: HostRuntime) -> Result<(), Fail> {
+fn double_vlan_header_from_slice(rt: HostRuntime) -> Result<(), HeaderSliceError> {
     let bytes = [0, 100, 0x81, 0, 0x30, 7, 0x86, 0xdd, 0x60];
     let (tags, rest) = DoubleVlanHeader::from_slice(&bytes)?;
     let (outer, inner) = (tags.outer, tags.inner);
@@ -185,7 +185,7 @@ fn ethernet2_header(rt: HostRuntime) {
 }
 
 #[test]
-fn ethernet2_header_from_slice(rt: HostRuntime) -> Result<(), Fail> {
+fn ethernet2_header_from_slice(rt: HostRuntime) -> Result<(), LenError> {
     // The first bytes of an ARP packet that is a broadcast.
     let frame = [255, 255, 255, 255, 255, 255, 2, 0, 0, 0, 0, 1, 8, 6, 0, 1];
     let (header, rest) = Ethernet2Header::from_slice(&frame)?;
@@ -197,7 +197,7 @@ fn ethernet2_header_from_slice(rt: HostRuntime) -> Result<(), Fail> {
 }
 
 #[test]
-fn ethernet2_header_slice(rt: HostRuntime) -> Result<(), Fail> {
+fn ethernet2_header_slice(rt: HostRuntime) -> Result<(), LenError> {
     // A frame from 2:0:0:0:0:1 to 2:0:0:0:0:2 with the first bytes of an ARP packet.
     let frame = [2, 0, 0, 0, 0, 2, 2, 0, 0, 0, 0, 1, 8, 6, 0, 1];
     let header = Ethernet2HeaderSlice::from_slice(&frame)?;
@@ -226,7 +226,7 @@ fn linux_sll2_header(rt: HostRuntime) {
 }
 
 #[test]
-fn linux_sll2_header_from_slice(rt: HostRuntime) -> Result<(), Fail> {
+fn linux_sll2_header_from_slice(rt: HostRuntime) -> Result<(), LenError> {
     // A packet that this host sent on interface 2, an Ethernet device.
     let bytes = [
         8, 0, 0, 0, 0, 0, 0, 2, 0, 1, 4, 6, 2, 0, 0, 0, 0, 1, 0, 0, 0x45,
@@ -240,7 +240,7 @@ fn linux_sll2_header_from_slice(rt: HostRuntime) -> Result<(), Fail> {
 }
 
 #[test]
-fn linux_sll2_header_slice(rt: HostRuntime) -> Result<(), Fail> {
+fn linux_sll2_header_slice(rt: HostRuntime) -> Result<(), LenError> {
     // A broadcast from 2:0:0:0:0:1 on interface 3, an Ethernet device, and the first bytes of an
     // ARP packet.
     let frame = [
@@ -279,7 +279,7 @@ fn linux_sll_header(rt: HostRuntime) {
 }
 
 #[test]
-fn linux_sll_header_from_slice(rt: HostRuntime) -> Result<(), Fail> {
+fn linux_sll_header_from_slice(rt: HostRuntime) -> Result<(), LenError> {
     // A packet that this host sent, from an Ethernet device.
     let bytes = [0, 4, 0, 1, 0, 6, 2, 0, 0, 0, 0, 1, 0, 0, 8, 0, 0x45];
     let (header, rest) = LinuxSllHeader::from_slice(&bytes)?;
@@ -291,7 +291,7 @@ fn linux_sll_header_from_slice(rt: HostRuntime) -> Result<(), Fail> {
 }
 
 #[test]
-fn linux_sll_header_slice(rt: HostRuntime) -> Result<(), Fail> {
+fn linux_sll_header_slice(rt: HostRuntime) -> Result<(), LenError> {
     // A broadcast from 2:0:0:0:0:1 on an Ethernet device, and the first bytes of an ARP packet.
     let frame = [0, 1, 0, 1, 0, 6, 2, 0, 0, 0, 0, 1, 0, 0, 8, 6, 0, 1];
     let header = LinuxSllHeaderSlice::from_slice(&frame)?;
@@ -331,7 +331,7 @@ fn single_vlan_header(rt: HostRuntime) -> Result<(), Fail> {
 }
 
 #[test]
-fn single_vlan_header_from_slice(rt: HostRuntime) -> Result<(), Fail> {
+fn single_vlan_header_from_slice(rt: HostRuntime) -> Result<(), LenError> {
     // A tag of VLAN 0x123 with priority 5, to be dropped before others, and the first bytes of
     // an ARP packet.
     let bytes = [0xb1, 0x23, 8, 6, 0, 1];
@@ -343,7 +343,7 @@ fn single_vlan_header_from_slice(rt: HostRuntime) -> Result<(), Fail> {
 }
 
 #[test]
-fn single_vlan_header_slice(rt: HostRuntime) -> Result<(), Fail> {
+fn single_vlan_header_slice(rt: HostRuntime) -> Result<(), LenError> {
     // A tag of VLAN 5 with priority 3, and the first bytes of an ARP packet.
     let bytes = [0x60, 5, 8, 6, 0, 1];
     let tag = SingleVlanHeaderSlice::from_slice(&bytes)?;
@@ -353,7 +353,7 @@ fn single_vlan_header_slice(rt: HostRuntime) -> Result<(), Fail> {
 }
 
 #[test]
-fn vlan_id_try_new(rt: HostRuntime) -> Result<(), Fail> {
+fn vlan_id_try_new(rt: HostRuntime) -> Result<(), ValueTooBigError<u16>> {
     let id = VlanId::try_new(4095)?;
     assert_equal(&rt, id.value(), 4095);
     assert!(rt; VlanId::try_new(4096).is_err());
@@ -361,7 +361,7 @@ fn vlan_id_try_new(rt: HostRuntime) -> Result<(), Fail> {
 }
 
 #[test]
-fn vlan_pcp_try_new(rt: HostRuntime) -> Result<(), Fail> {
+fn vlan_pcp_try_new(rt: HostRuntime) -> Result<(), ValueTooBigError<u8>> {
     let pcp = VlanPcp::try_new(7)?;
     assert_equal(&rt, pcp.value(), 7);
     assert!(rt; VlanPcp::try_new(8).is_err());

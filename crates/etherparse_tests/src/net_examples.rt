@@ -4,6 +4,7 @@
 use crate::shared::assert_equal;
 use arrayvec::ArrayVec;
 use etherparse::IpNumber;
+use etherparse::err::LenError;
 use etherparse_net::err::{ExtPayloadLenError, IcvLenError, OptionWriteError};
 use etherparse_net::{
     IpAuthHeader, IpAuthHeaderSlice, IpAuthIcv, Ipv4OptionsIterator, Ipv6ExtPayload,
@@ -14,7 +15,7 @@ use etherparse_net::{
 use std::test::Fail;
 
 #[test]
-fn fragment_headers(rt: HostRuntime) -> Result<(), Fail> {
+fn fragment_headers(rt: HostRuntime) -> Result<(), LenError> {
     // What is reserved in bytes 1 and 3 is not kept.
     let slice = [17, 255, 0, 0x0f, 1, 2, 3, 4];
     let (header, _) = Ipv6FragmentHeader::from_slice(&slice)?;
@@ -125,7 +126,7 @@ fn options_of_a_header(rt: HostRuntime) -> Result<(), Fail> {
 }
 
 #[test]
-fn ipv6_options_written(rt: HostRuntime) -> Result<(), Fail> {
+fn ipv6_options_written(rt: HostRuntime) -> Result<(), OptionWriteError> {
     // A router alert (RFC 2711), and a PadN of two bytes.
     let mut options: ArrayVec<u8, 6> = ArrayVec::new();
     append_ipv6_option(&mut options, 5, &[0, 0])?;

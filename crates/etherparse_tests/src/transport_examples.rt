@@ -2,16 +2,16 @@
 //! by line, with `assert_equal` for each equation that they assert.
 
 use crate::shared::assert_equal;
+use etherparse::err::{LenError, ValueTooBigError};
 use etherparse::{IpNumber, Ipv4Header, Ipv4HeaderSlice, Ipv6Header};
 use etherparse_transport::{
-    TcpHeader, TcpHeaderSlice, TcpOptionElement, TcpOptionWriteError, TcpOptions, UdpHeader,
-    UdpHeaderSlice,
+    TcpError, TcpHeader, TcpHeaderSlice, TcpOptionElement, TcpOptionWriteError, TcpOptions,
+    UdpHeader, UdpHeaderSlice,
 };
-use std::process::Abort;
 use std::test::Fail;
 
 #[test]
-fn options_of_a_view(rt: HostRuntime) -> Result<(), Fail> {
+fn options_of_a_view(rt: HostRuntime) -> Result<(), TcpError> {
     // A SYN with a maximum segment size of 1460 bytes.
     let segment = [
         4, 0, 0, 80, 0, 0, 0, 1, 0, 0, 0, 0, 0x60, 0x02, 0x20, 0, 0xf1, 0xbc, 0, 0, 2, 4, 0x05,
@@ -46,7 +46,7 @@ fn tcp_checksum_of_a_view(rt: HostRuntime) -> Result<(), Fail> {
 }
 
 #[test]
-fn tcp_written_and_read(rt: HostRuntime) -> Result<(), Fail> {
+fn tcp_written_and_read(rt: HostRuntime) -> Result<(), TcpError> {
     let mut header = TcpHeader::new(1024, 80, 1, 8192);
     header.syn = true;
     let bytes = header.to_bytes();
@@ -56,7 +56,7 @@ fn tcp_written_and_read(rt: HostRuntime) -> Result<(), Fail> {
 }
 
 #[test]
-fn tcp_lengths(rt: HostRuntime) -> Result<(), Fail> {
+fn tcp_lengths(rt: HostRuntime) -> Result<(), TcpOptionWriteError> {
     let mut header = TcpHeader::default();
     header.set_options_raw(&[2, 4, 0x05, 0xb4, 1])?;
     assert_equal(&rt, (header.data_offset(), header.header_len()), (7, 28));
@@ -64,7 +64,7 @@ fn tcp_lengths(rt: HostRuntime) -> Result<(), Fail> {
 }
 
 #[test]
-fn tcp_options_set(rt: HostRuntime) -> Result<(), Fail> {
+fn tcp_options_set(rt: HostRuntime) -> Result<(), TcpOptionWriteError> {
     let mut header = TcpHeader::new(1024, 80, 1, 8192);
     header.set_options(&[TcpOptionElement::MaximumSegmentSize(1460)])?;
     assert_equal(
@@ -82,7 +82,7 @@ fn tcp_options_set(rt: HostRuntime) -> Result<(), Fail> {
 }
 
 #[test]
-fn tcp_read(rt: HostRuntime) -> Result<(), Fail> {
+fn tcp_read(rt: HostRuntime) -> Result<(), TcpError> {
     // A SYN from port 1024 to port 80 with a maximum segment size of 1460 bytes.
     let segment = [
         4, 0, 0, 80, 0, 0, 0, 1, 0, 0, 0, 0, 0x60, 0x02, 0x20, 0, 0xf1, 0xbc, 0, 0, 2, 4, 0x05,
@@ -111,7 +111,7 @@ fn tcp_checksum_over_ipv4(rt: HostRuntime) -> Result<(), Fail> {
 }
 
 #[test]
-fn tcp_checksum_over_ipv6(rt: HostRuntime) -> Result<(), Fail> {
+fn tcp_checksum_over_ipv6(rt: HostRuntime) -> Result<(), ValueTooBigError<usize>> {
     let mut ip = Ipv6Header::default();
     ip.source = [0x20, 0x01, 0x0d, 0xb8, 0, 0, 0, 0, 0, 0, 0, 0, 0, 0, 0, 1];
     ip.destination = [0x20, 0x01, 0x0d, 0xb8, 0, 0, 0, 0, 0, 0, 0, 0, 0, 0, 0, 2];
@@ -122,7 +122,7 @@ fn tcp_checksum_over_ipv6(rt: HostRuntime) -> Result<(), Fail> {
 }
 
 #[test]
-fn tcp_options_as_bytes(rt: HostRuntime) -> Result<(), Fail> {
+fn tcp_options_as_bytes(rt: HostRuntime) -> Result<(), TcpOptionWriteError> {
     // A maximum segment size of 1460 bytes, a no-operation and a window scale of 7: the zero after
     // them fills up the word.
     let options = TcpOptions::try_from_slice(&[2, 4, 0x05, 0xb4, 1, 3, 3])?;
@@ -137,7 +137,7 @@ fn tcp_options_as_bytes(rt: HostRuntime) -> Result<(), Fail> {
 }
 
 #[test]
-fn tcp_options_written(rt: HostRuntime) -> Result<(), Fail> {
+fn tcp_options_written(rt: HostRuntime) -> Result<(), TcpOptionWriteError> {
     let elements = [
         TcpOptionElement::MaximumSegmentSize(1460),
         TcpOptionElement::WindowScale(7),
@@ -152,7 +152,7 @@ fn tcp_options_written(rt: HostRuntime) -> Result<(), Fail> {
 }
 
 #[test]
-fn tcp_options_read(rt: HostRuntime) -> Result<(), Fail> {
+fn tcp_options_read(rt: HostRuntime) -> Result<(), TcpOptionWriteError> {
     // A maximum segment size of 1460 bytes, a no-operation, a window scale of 7, and the end.
     let options = TcpOptions::try_from_slice(&[2, 4, 0x05, 0xb4, 1, 3, 3, 7, 0])?;
     let mut iterator = options.elements_iter();
@@ -172,7 +172,7 @@ fn tcp_options_read(rt: HostRuntime) -> Result<(), Fail> {
 }
 
 #[test]
-fn udp_without_checksum(rt: HostRuntime) -> Result<(), Fail> {
+fn udp_without_checksum(rt: HostRuntime) -> Result<(), ValueTooBigError<usize>> {
     let header = UdpHeader::without_ipv4_checksum(1024, 53, 4)?;
     assert_equal(&rt, header.to_bytes(), [4, 0, 0, 53, 0, 12, 0, 0]);
     assert!(rt; UdpHeader::without_ipv4_checksum(1024, 53, 65528).is_err());
@@ -198,7 +198,7 @@ fn udp_checksum_over_ipv4(rt: HostRuntime) -> Result<(), Fail> {
 }
 
 #[test]
-fn udp_checksum_over_ipv6(rt: HostRuntime) -> Result<(), Fail> {
+fn udp_checksum_over_ipv6(rt: HostRuntime) -> Result<(), ValueTooBigError<usize>> {
     let mut ip = Ipv6Header::default();
     ip.source = [0x20, 0x01, 0x0d, 0xb8, 0, 0, 0, 0, 0, 0, 0, 0, 0, 0, 0, 1];
     ip.destination = [0x20, 0x01, 0x0d, 0xb8, 0, 0, 0, 0, 0, 0, 0, 0, 0, 0, 0, 2];
@@ -208,7 +208,7 @@ fn udp_checksum_over_ipv6(rt: HostRuntime) -> Result<(), Fail> {
 }
 
 #[test]
-fn views_of_udp(rt: HostRuntime) -> Result<(), Fail> {
+fn views_of_udp(rt: HostRuntime) -> Result<(), LenError> {
     let datagram = [4, 0, 0, 53, 0, 12, 0x91, 0xae, b't', b'e', b's', b't'];
     let view = UdpHeaderSlice::from_slice(&datagram)?;
     assert_equal(
