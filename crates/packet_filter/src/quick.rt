@@ -191,30 +191,9 @@ impl Quick {
         ensures value { (step : AnyStep) →
             IfSome result (λ holds. IsTrue holds ↔ Asks self.now step lax.now len) }
     {
-        let packet = &lax.packet;
         match *self {
-            Quick::Version(version) => Some(is_ip(version, packet)),
-            Quick::Proto(number) => Some(has_proto(None, IpNumber(number), packet)),
-            Quick::Ports(transport, low, high) => match &packet.net {
-                Some(ip) => Some(has_ports(transport, None, low, high, ip)),
-                None => Some(false),
-            },
-            Quick::Source(others, front) => Some(has_source(others, front, packet)),
-            Quick::Destination(others, front) => Some(has_destination(others, front, packet)),
-            Quick::Host(others, front) => Some(has_either(others, front, packet)),
-            Quick::Masked(direction, address, mask) => {
-                Some(has_masked_address(direction, address, mask, packet))
-            }
-            Quick::Length(relation, limit) => Some(compares(relation, len, limit as usize)),
-            Quick::IpByte(version, place, mask, relation, limit) => {
-                let layer = Layer::Ip(version);
-                Some(has_byte(layer, place, mask, relation, limit, packet, len))
-            }
-            Quick::PayloadByte(version, number, place, mask, relation, limit) => {
-                let layer = Layer::Payload(version, number);
-                Some(has_byte(layer, place, mask, relation, limit, packet, len))
-            }
             Quick::Other => None,
+            _ => Some(self.holds(&Step::Not, lax, len)), // The step is not asked.
         }
     }
 }

@@ -1,39 +1,20 @@
-use Rattle.std.proofs.Common.{arith}
-use Rattle.std.proofs.lemmas.Grind.{common_steps}
+use Rattle.std.proofs.Common.{◌≢◌, ℕ, refl}
+use Rattle.packet.specs.declared.lax_sliced_packet.LaxSlicedPacket.{LaxSlicedPacket}
+use Rattle.packet_filter.specs.Private.Quick.{Asks}
+use Rattle.packet_filter.specs.declared.filter.Step.{Step}
+use Rattle.packet_filter.specs.declared.quick.Quick.{Quick}
+use Rattle.packet_filter.specs.declared.quick.Quick.TheVariants as quick
 use Rattle.packet_filter.proofs.quick.Quick.holds_by_itself.Goals as goal
 
-pub returns-in-Host : goal.returns-in-Host
-returns-in-Host c = record { value = λ step. rw c.in-Host.is c.has_either.ensures.value }
+-- only what is not prepared depends on the step
+any_step : (q : Quick) (s t : Step) (lax : LaxSlicedPacket) (len : ℕ)
+    → q ≢ quick.Other → Asks q s lax len → Asks q t lax len
+any_step quick.Other s t lax len other h = absurd (other refl)
+any_step _ s t lax len other h = h
 
-pub returns-in-Masked : goal.returns-in-Masked
-returns-in-Masked c = record { value = λ step. rw c.in-Masked.is c.has_masked_address.ensures.value }
-
-pub returns-in-Destination : goal.returns-in-Destination
-returns-in-Destination c = grind (arith, common_steps)
-
-pub returns-in-IpByte : goal.returns-in-IpByte
-returns-in-IpByte c = grind (arith, common_steps)
-
-pub returns-in-Length : goal.returns-in-Length
-returns-in-Length c = grind (arith, common_steps)
-
-pub returns-in-None : goal.returns-in-None
-returns-in-None c = grind (arith, common_steps)
-
-pub returns-in-Other : goal.returns-in-Other
-returns-in-Other c = grind (arith, common_steps)
-
-pub returns-in-PayloadByte : goal.returns-in-PayloadByte
-returns-in-PayloadByte c = grind (arith, common_steps)
-
-pub returns-in-Proto : goal.returns-in-Proto
-returns-in-Proto c = grind (arith, common_steps)
-
-pub returns-in-Some : goal.returns-in-Some
-returns-in-Some c = grind (arith, common_steps)
-
-pub returns-in-Source : goal.returns-in-Source
-returns-in-Source c = grind (arith, common_steps)
-
-pub returns-in-Version : goal.returns-in-Version
-returns-in-Version c = grind (arith, common_steps)
+pub returns-in_default : goal.returns-in_default
+returns-in_default c =
+    let of_any = λ (s t : Step).
+    any_step c.args.self.now s t c.args.lax.now c.args.len c.in_default.not-Other in
+    let holds = c.holds.ensures.value in
+    record { value = λ step. (λ t. of_any _ step (holds.0 t), λ h. holds.1 (of_any step _ h)) }
