@@ -111,7 +111,7 @@ def told(crate, function, lines):
     verdicts = [at for at, line in enumerate(lines) if line.startswith('fn ')]
     end = next((at for at in verdicts if lines[at].startswith(f'fn {crate}::{function}: ')), 0)
     begin = max((at for at in verdicts if at < end), default=-1)
-    own = re.compile(rf'(note: )?(\./)?proofs/{function.replace("::", "/")}/')
+    own = re.compile(r'(note: )?(\./)?proofs/' + re.escape(function.replace('::', '/')) + '/')
     return [line for at, line in enumerate(lines) if PLACE.match(line) and (own.match(line) or begin < at < end)]
 
 
