@@ -1,7 +1,7 @@
 //! The examples in the doc comments of `packet_builder`, line by line, with `assert_equal` for
 //! equations that they assert.
 
-use crate::shared::assert_equal;
+use crate::shared::{assert_equal, assert_that};
 use etherparse_transport::{TcpOptionElement, TcpOptionWriteError};
 use packet_builder::{BuildSliceWriteError, PacketBuilder};
 
@@ -22,7 +22,10 @@ fn echo_requests_over_ipv4(rt: HostRuntime) -> Result<(), BuildSliceWriteError> 
     let request = PacketBuilder::ipv4([10, 0, 0, 1], [10, 0, 0, 2], 64).icmpv4_echo_request(1, 2);
     let mut memory = [0; 32];
     let len = request.write_to_slice(&mut memory, b"abcd")?;
-    assert!(rt; len == 32 && &memory[20..24] == [8, 0, 51, 54].as_slice());
+    assert_that(
+        &rt,
+        len == 32 && &memory[20..24] == [8, 0, 51, 54].as_slice(),
+    );
     Ok(())
 }
 
@@ -33,7 +36,10 @@ fn echo_requests_over_ipv6(rt: HostRuntime) -> Result<(), BuildSliceWriteError> 
     let request = PacketBuilder::ipv6(source, destination, 64).icmpv6_echo_request(1, 2);
     let mut memory = [0; 51];
     let len = request.write_to_slice(&mut memory, b"odd")?;
-    assert!(rt; len == 51 && &memory[40..44] == [128, 0, 80, 221].as_slice());
+    assert_that(
+        &rt,
+        len == 51 && &memory[40..44] == [128, 0, 80, 221].as_slice(),
+    );
     Ok(())
 }
 

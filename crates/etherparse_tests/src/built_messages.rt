@@ -33,20 +33,20 @@ fn messages_of_icmp(rt: HostRuntime) {
     assert_equal(&rt, builder.size(4), 46);
     let written = builder.write_to_slice(&mut memory, b"abcd");
     assert_equal(&rt, memory[46], 0xaa);
-    let expected = [
+    let expected = &[
         2, 0, 0, 0, 0, 2, 2, 0, 0, 0, 0, 1, 8, 0, 69, 0, 0, 32, 0, 0, 64, 0, 20, 1, 227, 137, 192,
         168, 1, 1, 192, 168, 1, 2, 8, 0, 51, 54, 0, 1, 0, 2, 97, 98, 99, 100,
     ];
-    assert_written(&rt, written, &memory, &expected);
+    assert_written(&rt, written, &memory, expected);
 
     let written = over_ipv4()
         .icmpv4_echo_reply(0x1234, 0xffff)
         .write_to_slice(&mut memory, b"odd");
-    let expected = [
+    let expected = &[
         69, 0, 0, 31, 0, 0, 64, 0, 64, 1, 38, 220, 10, 0, 0, 1, 10, 0, 0, 2, 0, 0, 26, 103, 18, 52,
         255, 255, 111, 100, 100,
     ];
-    assert_written(&rt, written, &memory, &expected);
+    assert_written(&rt, written, &memory, expected);
 }
 
 #[test]
@@ -56,20 +56,20 @@ fn other_messages_of_icmp(rt: HostRuntime) {
     let written = over_ipv4()
         .icmpv4(Icmpv4Type::DestinationUnreachable(needed))
         .write_to_slice(&mut memory, b"abc");
-    let expected = [
+    let expected = &[
         69, 0, 0, 31, 0, 0, 64, 0, 64, 1, 38, 220, 10, 0, 0, 1, 10, 0, 0, 2, 3, 4, 51, 33, 0, 0, 5,
         120, 97, 98, 99,
     ];
-    assert_written(&rt, written, &memory, &expected);
+    assert_written(&rt, written, &memory, expected);
 
     let written = over_ipv4()
         .icmpv4_raw(42, 1, [0; 4])
         .write_to_slice(&mut memory, &[]);
-    let expected = [
+    let expected = &[
         69, 0, 0, 28, 0, 0, 64, 0, 64, 1, 38, 223, 10, 0, 0, 1, 10, 0, 0, 2, 42, 1, 213, 254, 0, 0,
         0, 0,
     ];
-    assert_written(&rt, written, &memory, &expected);
+    assert_written(&rt, written, &memory, expected);
 }
 
 #[test]
@@ -81,23 +81,23 @@ fn messages_of_icmpv6(rt: HostRuntime) {
         .icmpv6_echo_reply(1, 2);
     assert_equal(&rt, builder.size(0), 66);
     let written = builder.write_to_slice(&mut memory, &[]);
-    let expected = [
+    let expected = &[
         2, 0, 0, 0, 0, 2, 2, 0, 0, 0, 0, 1, 129, 0, 0, 5, 134, 221, 96, 0, 0, 0, 0, 8, 58, 255, 32,
         1, 13, 184, 0, 0, 0, 0, 0, 0, 0, 0, 0, 0, 0, 1, 32, 1, 13, 184, 0, 0, 0, 0, 0, 0, 0, 0, 0,
         0, 0, 2, 129, 0, 35, 69, 0, 1, 0, 2,
     ];
-    assert_written(&rt, written, &memory, &expected);
+    assert_written(&rt, written, &memory, expected);
 
     let written = PacketBuilder::ethernet2(SOURCE, DESTINATION)
         .ipv6(FIRST, SECOND, 64)
         .icmpv6_echo_request(1, 2)
         .write_to_slice(&mut memory, b"odd");
-    let expected = [
+    let expected = &[
         2, 0, 0, 0, 0, 2, 2, 0, 0, 0, 0, 1, 134, 221, 96, 0, 0, 0, 0, 11, 58, 64, 32, 1, 13, 184,
         0, 0, 0, 0, 0, 0, 0, 0, 0, 0, 0, 1, 32, 1, 13, 184, 0, 0, 0, 0, 0, 0, 0, 0, 0, 0, 0, 2,
         128, 0, 80, 221, 0, 1, 0, 2, 111, 100, 100,
     ];
-    assert_written(&rt, written, &memory, &expected);
+    assert_written(&rt, written, &memory, expected);
 }
 
 // Asserts that a packet of this length was written, and what stands before its hop limit and after
@@ -119,14 +119,14 @@ fn other_messages_of_icmpv6(rt: HostRuntime) {
     let written = over_ipv6()
         .icmpv6(Icmpv6Type::PacketTooBig { mtu: 1280 })
         .write_to_slice(&mut memory, b"abcd");
-    let message = [2, 0, 216, 125, 0, 0, 5, 0, 97, 98, 99, 100];
-    assert_message(&rt, written, &memory, 52, (&[0, 12, 58, 47], &message));
+    let message = &[2, 0, 216, 125, 0, 0, 5, 0, 97, 98, 99, 100];
+    assert_message(&rt, written, &memory, 52, (&[0, 12, 58, 47], message));
 
     let written = over_ipv6()
         .icmpv6_raw(200, 3, [1, 2, 3, 4])
         .write_to_slice(&mut memory, b"xyz");
-    let message = [200, 3, 229, 193, 1, 2, 3, 4, 120, 121, 122];
-    assert_message(&rt, written, &memory, 51, (&[0, 11, 58, 47], &message));
+    let message = &[200, 3, 229, 193, 1, 2, 3, 4, 120, 121, 122];
+    assert_message(&rt, written, &memory, 51, (&[0, 11, 58, 47], message));
 }
 
 // ICMP may follow either header, ICMPv6 that of IPv6 alone.

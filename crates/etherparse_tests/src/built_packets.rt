@@ -23,12 +23,12 @@ fn a_datagram_over_ethernet(rt: HostRuntime) {
     let mut memory = [0xaa; 51];
     let written = builder.write_to_slice(&mut memory, &[1, 2, 3, 4, 5, 6, 7, 8]);
     assert_equal(&rt, memory[50], 0xaa);
-    let expected = [
+    let expected = &[
         7, 8, 9, 10, 11, 12, 1, 2, 3, 4, 5, 6, 8, 0, 69, 0, 0, 36, 0, 0, 64, 0, 20, 17, 227, 117,
         192, 168, 1, 1, 192, 168, 1, 2, 0, 21, 4, 210, 0, 16, 103, 127, 1, 2, 3, 4, 5, 6, 7, 8,
     ];
-    assert_written(&rt, written, &memory, &expected);
-    assert_carries_datagram(&rt, &expected);
+    assert_written(&rt, written, &memory, expected);
+    assert_carries_datagram(&rt, expected);
 }
 
 // Asserts that a datagram from port 21 to port 1234 is in a frame, and that its checksum is right.
@@ -58,13 +58,13 @@ fn a_segment_over_ipv6_in_two_vlans(rt: HostRuntime) {
     assert_equal(&rt, builder.size(3), 89);
     let mut memory = [0; 89];
     let written = builder.write_to_slice(&mut memory, b"odd");
-    let expected = [
+    let expected = &[
         2, 0, 0, 0, 0, 2, 2, 0, 0, 0, 0, 1, 136, 168, 0, 5, 129, 0, 0, 7, 134, 221, 96, 0, 0, 0, 0,
         27, 6, 64, 32, 1, 13, 184, 0, 0, 0, 0, 0, 0, 0, 0, 0, 0, 0, 1, 32, 1, 13, 184, 0, 0, 0, 0,
         0, 0, 0, 0, 0, 0, 0, 2, 4, 0, 0, 80, 0, 0, 0, 1, 0, 0, 0, 2, 96, 18, 32, 0, 68, 231, 0, 0,
         2, 4, 5, 180, 111, 100, 100,
     ];
-    assert_written(&rt, written, &memory, &expected);
+    assert_written(&rt, written, &memory, expected);
 }
 
 #[test]
@@ -81,11 +81,11 @@ fn a_datagram_in_a_cooked_capture(rt: HostRuntime) {
         .udp(1024, 53);
     let mut memory = [0; 48];
     let written = builder.write_to_slice(&mut memory, b"test");
-    let expected = [
+    let expected = &[
         0, 4, 0, 1, 0, 6, 2, 0, 0, 0, 0, 1, 0, 0, 8, 0, 69, 0, 0, 32, 0, 0, 64, 0, 64, 17, 38, 203,
         10, 0, 0, 1, 10, 0, 0, 2, 4, 0, 0, 53, 0, 12, 255, 196, 116, 101, 115, 116,
     ];
-    assert_written(&rt, written, &memory, &expected);
+    assert_written(&rt, written, &memory, expected);
 }
 
 #[test]
@@ -102,11 +102,11 @@ fn a_slice_that_is_too_short(rt: HostRuntime) {
     assert_equal(&rt, memory.as_slice(), [7; 39].as_slice());
     let mut memory = [7; 40];
     let written = builder.write_to_slice(&mut memory, &[]);
-    let expected = [
+    let expected = &[
         69, 0, 0, 40, 0, 0, 64, 0, 64, 6, 38, 206, 10, 0, 0, 1, 10, 0, 0, 2, 4, 0, 0, 80, 0, 0, 0,
         1, 0, 0, 0, 0, 80, 2, 32, 0, 119, 143, 0, 0,
     ];
-    assert_written(&rt, written, &memory, &expected);
+    assert_written(&rt, written, &memory, expected);
 }
 
 // Three options, two bytes of padding, and a payload; and options that do not fit.
@@ -127,11 +127,11 @@ fn a_segment_with_options(rt: HostRuntime) {
         .options(&options)
         .expect(&rt, "options")
         .write_to_slice(&mut memory, b"x");
-    let expected = [
+    let expected = &[
         69, 0, 0, 53, 0, 0, 64, 0, 64, 6, 38, 193, 10, 0, 0, 1, 10, 0, 0, 2, 4, 0, 0, 80, 0, 0, 0,
         1, 0, 0, 0, 0, 128, 2, 32, 0, 187, 194, 0, 0, 2, 4, 5, 180, 3, 3, 7, 4, 2, 0, 0, 0, 120,
     ];
-    assert_written(&rt, written, &memory, &expected);
+    assert_written(&rt, written, &memory, expected);
     let refused = step.options(&[TcpOptionElement::MaximumSegmentSize(1460); 11]);
     assert_equal(
         &rt,
@@ -158,12 +158,12 @@ fn a_segment_over_ethernet(rt: HostRuntime) {
     assert_equal(&rt, builder.size(8), 70);
     let mut memory = [0; 70];
     let written = builder.write_to_slice(&mut memory, &[1, 2, 3, 4, 5, 6, 7, 8]);
-    let expected = [
+    let expected = &[
         7, 8, 9, 10, 11, 12, 1, 2, 3, 4, 5, 6, 8, 0, 69, 0, 0, 56, 0, 0, 64, 0, 20, 6, 227, 108,
         192, 168, 1, 1, 192, 168, 1, 2, 0, 21, 4, 210, 0, 0, 0, 1, 0, 0, 0, 123, 113, 48, 102, 68,
         184, 119, 0, 23, 1, 2, 4, 4, 210, 0, 0, 0, 1, 2, 3, 4, 5, 6, 7, 8,
     ];
-    assert_written(&rt, written, &memory, &expected);
+    assert_written(&rt, written, &memory, expected);
 }
 
 // From 192.168.0.1 about 192.168.0.2.
@@ -188,11 +188,11 @@ fn an_arp_request_to_all(rt: HostRuntime) {
     let mut memory = [0xaa; 43];
     let written = builder.write_to_slice(&mut memory);
     assert_equal(&rt, memory[42], 0xaa);
-    let expected = [
+    let expected = &[
         255, 255, 255, 255, 255, 255, 2, 0, 0, 0, 0, 1, 8, 6, 0, 1, 8, 0, 6, 4, 0, 1, 2, 0, 0, 0,
         0, 1, 192, 168, 0, 1, 0, 0, 0, 0, 0, 0, 192, 168, 0, 2,
     ];
-    assert_written(&rt, written, &memory, &expected);
+    assert_written(&rt, written, &memory, expected);
 }
 
 #[test]
@@ -211,9 +211,9 @@ fn an_arp_reply_in_a_vlan(rt: HostRuntime) {
     assert_equal(&rt, memory.as_slice(), [7; 45].as_slice());
     let mut memory = [0; 46];
     let written = builder.write_to_slice(&mut memory);
-    let expected = [
+    let expected = &[
         255, 255, 255, 255, 255, 255, 2, 0, 0, 0, 0, 1, 129, 0, 0, 7, 8, 6, 0, 1, 8, 0, 6, 4, 0, 2,
         2, 0, 0, 0, 0, 1, 192, 168, 0, 1, 2, 0, 0, 0, 0, 2, 192, 168, 0, 2,
     ];
-    assert_written(&rt, written, &memory, &expected);
+    assert_written(&rt, written, &memory, expected);
 }

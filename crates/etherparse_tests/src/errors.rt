@@ -49,7 +49,7 @@ fn in_slice(layer: Layer, required_len: usize, len: usize, layer_start_offset: u
 #[test]
 fn errors_of_lengths(rt: HostRuntime) {
     // Too short and too long, at the start of the packet and further on.
-    let errors = [
+    let errors = &[
         (
             in_slice(Layer::Ipv4Header, 2, 1, 0),
             "LenError { required_len: 2, len: 1, len_source: Slice, layer: Ipv4Header, layer_start_offset: 0 }",
@@ -67,8 +67,8 @@ fn errors_of_lengths(rt: HostRuntime) {
             "LenError { required_len: 20, len: 20, len_source: Slice, layer: Ipv4Header, layer_start_offset: 4 }",
         ),
     ];
-    assert_shows(&rt, rt.alloc(), &errors);
-    let errors = [
+    assert_shows(&rt, rt.alloc(), errors);
+    let errors = &[
         (
             SliceWriteSpaceError {
                 required_len: 2,
@@ -88,7 +88,7 @@ fn errors_of_lengths(rt: HostRuntime) {
             "SliceWriteSpaceError { required_len: 4, len: 3, layer: Ipv4Header, layer_start_offset: 0 }",
         ),
     ];
-    assert_shows(&rt, rt.alloc(), &errors);
+    assert_shows(&rt, rt.alloc(), errors);
     let refused = BadOptionsLen { bad_len: 44 };
     let text = "BadOptionsLen { bad_len: 44 }";
     assert_shows(&rt, rt.alloc(), &[(refused, text)]);
@@ -133,7 +133,7 @@ fn errors_of_values(rt: HostRuntime) {
 
 #[test]
 fn errors_of_headers(rt: HostRuntime) {
-    let errors = [
+    let errors = &[
         (
             ipv4::HeaderError::UnexpectedVersion { version_number: 5 },
             "UnexpectedVersion { version_number: 5 }",
@@ -143,7 +143,7 @@ fn errors_of_headers(rt: HostRuntime) {
             "HeaderLengthSmallerThanHeader { ihl: 4 }",
         ),
     ];
-    assert_shows(&rt, rt.alloc(), &errors);
+    assert_shows(&rt, rt.alloc(), errors);
     let version = ipv4::HeaderError::UnexpectedVersion { version_number: 5 };
     let error = ipv4::HeaderSliceError::Content(version);
     let text = "Content(UnexpectedVersion { version_number: 5 })";
@@ -154,7 +154,7 @@ fn errors_of_headers(rt: HostRuntime) {
     let version = ipv6::HeaderError::UnexpectedVersion { version_number: 5 };
     let text = "UnexpectedVersion { version_number: 5 }";
     assert_shows(&rt, rt.alloc(), &[(version, text)]);
-    let errors = [
+    let errors = &[
         (
             ipv6::ChainError::Len(in_slice(Layer::Ipv6ExtHeader, 16, 3, 48)),
             "Len(LenError { required_len: 16, len: 3, len_source: Slice, layer: Ipv6ExtHeader, layer_start_offset: 48 })",
@@ -168,21 +168,21 @@ fn errors_of_headers(rt: HostRuntime) {
             "TooMany { limit: 32, next_header: 0, layer_start_offset: 296 }",
         ),
     ];
-    assert_shows(&rt, rt.alloc(), &errors);
+    assert_shows(&rt, rt.alloc(), errors);
 }
 
 #[test]
 fn layers_and_value_types(rt: HostRuntime) {
-    let layers = [
+    let layers = &[
         (Layer::LinuxSllHeader, "LinuxSllHeader"),
         (Layer::Ipv6ExtHeader, "Ipv6ExtHeader"),
         (Layer::Arp, "Arp"),
     ];
-    assert_derives(&rt, rt.alloc(), &layers);
-    let value_types = [
+    assert_derives(&rt, rt.alloc(), layers);
+    let value_types = &[
         (ValueType::VlanId, "VlanId"),
         (ValueType::VlanPcp, "VlanPcp"),
         (ValueType::LinuxSllType, "LinuxSllType"),
     ];
-    assert_derives(&rt, rt.alloc(), &value_types);
+    assert_derives(&rt, rt.alloc(), value_types);
 }

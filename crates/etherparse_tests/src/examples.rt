@@ -1,7 +1,7 @@
 //! The examples in the doc comments of the library, line by line, with `assert_equal` for each
 //! equation that they assert.
 
-use crate::shared::assert_equal;
+use crate::shared::{assert_equal, assert_that};
 use etherparse::checksum::{
     u64_16bit_word, update_2bytes, update_2bytes_with_no_zero, update_4bytes, update_16bytes,
 };
@@ -18,13 +18,13 @@ use std::test::Fail;
 fn fields_and_numbers(rt: HostRuntime) -> Result<(), Fail> {
     let dscp = IpDscp::try_new(46)?;
     assert_equal(&rt, dscp, IpDscp::EF);
-    assert!(rt; IpDscp::try_new(64).is_err());
+    assert_that(&rt, IpDscp::try_new(64).is_err());
 
     let known = IpDscpKnown::try_from_ip_dscp(IpDscp::EF)?;
     assert_equal(&rt, known, IpDscpKnown::ExpeditedForwarding);
     // No code point of the registry has the number 2.
     let dscp = IpDscp::try_new(2)?;
-    assert!(rt; IpDscpKnown::try_from_ip_dscp(dscp).is_err());
+    assert_that(&rt, IpDscpKnown::try_from_ip_dscp(dscp).is_err());
 
     let ecn = IpEcn::try_new(3)?;
     assert_equal(&rt, ecn, IpEcn::CongestionExperienced);
@@ -80,7 +80,7 @@ fn lengths_of_an_ipv4_header(rt: HostRuntime) {
     assert_equal(&rt, header.payload_len(), Ok(100));
     // A total length that leaves no room for the header.
     header.total_len = 19;
-    assert!(rt; header.payload_len().is_err());
+    assert_that(&rt, header.payload_len().is_err());
 }
 
 #[test]
@@ -112,9 +112,9 @@ fn an_ipv4_payload_without_its_padding(rt: HostRuntime) -> Result<(), Fail> {
 fn a_time_to_live_that_is_lowered(rt: HostRuntime) {
     let mut header = Ipv4Header::default();
     header.time_to_live = 2;
-    assert!(rt; header.lower_time_to_live());
+    assert_that(&rt, header.lower_time_to_live());
     // The next router discards the packet.
-    assert!(rt; !header.lower_time_to_live());
+    assert_that(&rt, !header.lower_time_to_live());
 }
 
 #[test]
@@ -169,10 +169,10 @@ fn addresses_that_are_changed(rt: HostRuntime) {
 
 #[test]
 fn an_ipv4_view(rt: HostRuntime) -> Result<(), ipv4::HeaderSliceError> {
-    let packet = [
+    let packet = &[
         0x45, 0, 0, 24, 0, 0, 0x40, 0, 64, 17, 0, 0, 10, 0, 0, 1, 10, 0, 0, 2, 1, 2, 3, 4,
     ];
-    let view = Ipv4HeaderSlice::from_slice(&packet)?;
+    let view = Ipv4HeaderSlice::from_slice(packet)?;
     assert_equal(&rt, view.source(), [10, 0, 0, 1]);
     assert_equal(&rt, view.payload_len(), Ok(4));
     Ok(())
@@ -225,9 +225,9 @@ fn an_ipv6_view(rt: HostRuntime) -> Result<(), ipv6::HeaderSliceError> {
 #[test]
 fn one_extension_header(rt: HostRuntime) -> Result<(), LenError> {
     // Hop-by-hop options of 8 bytes, and the start of a UDP header.
-    let slice = [17, 0, 0, 0, 0, 0, 0, 0, 4, 0, 0, 53];
+    let slice = &[17, 0, 0, 0, 0, 0, 0, 0, 4, 0, 0, 53];
     let first = IpNumber::IPV6_HEADER_HOP_BY_HOP;
-    let (next, rest) = Ipv6Header::skip_header_extension_in_slice(&slice, first)?;
+    let (next, rest) = Ipv6Header::skip_header_extension_in_slice(slice, first)?;
     assert_equal(&rt, next, IpNumber::UDP);
     assert_equal(&rt, rest, [4, 0, 0, 53].as_slice());
     Ok(())
@@ -236,11 +236,11 @@ fn one_extension_header(rt: HostRuntime) -> Result<(), LenError> {
 #[test]
 fn all_extension_headers(rt: HostRuntime) -> Result<(), LenError> {
     // Hop-by-hop options, destination options, and the start of a UDP header.
-    let slice = [
+    let slice = &[
         60, 0, 0, 0, 0, 0, 0, 0, 17, 0, 0, 0, 0, 0, 0, 0, 4, 0, 0, 53,
     ];
     let first = IpNumber::IPV6_HEADER_HOP_BY_HOP;
-    let (upper, rest) = Ipv6Header::skip_all_header_extensions_in_slice(&slice, first)?;
+    let (upper, rest) = Ipv6Header::skip_all_header_extensions_in_slice(slice, first)?;
     assert_equal(&rt, upper, IpNumber::UDP);
     assert_equal(&rt, rest, [4, 0, 0, 53].as_slice());
     Ok(())
@@ -249,22 +249,22 @@ fn all_extension_headers(rt: HostRuntime) -> Result<(), LenError> {
 #[test]
 fn extension_headers_counted_and_too_many(rt: HostRuntime) {
     // Hop-by-hop options, destination options, and the start of a UDP header.
-    let slice = [
+    let slice = &[
         60, 0, 0, 0, 0, 0, 0, 0, 17, 0, 0, 0, 0, 0, 0, 0, 4, 0, 0, 53,
     ];
     let first = IpNumber::IPV6_HEADER_HOP_BY_HOP;
-    let (walked, turns) = Ipv6Header::skip_all_header_extensions_counted(&slice, first);
+    let (walked, turns) = Ipv6Header::skip_all_header_extensions_counted(slice, first);
     // The numbers 0, 60 and 17 were tested.
-    assert!(rt; walked.is_ok() && turns == 3);
+    assert_that(&rt, walked.is_ok() && turns == 3);
 
-    let slice = [60, 0, 0, 0, 0, 0, 0, 0, 17, 0, 0, 0, 0, 0, 0, 0];
+    let slice = &[60, 0, 0, 0, 0, 0, 0, 0, 17, 0, 0, 0, 0, 0, 0, 0];
     let first = IpNumber::IPV6_HEADER_HOP_BY_HOP;
     let too_many = ChainError::TooMany {
         limit: 1,
         next_header: 60,
         layer_start_offset: 8,
     };
-    let refused = Ipv6Header::skip_header_extensions_up_to(&slice, first, 1);
+    let refused = Ipv6Header::skip_header_extensions_up_to(slice, first, 1);
     assert_equal(&rt, refused, Err(too_many));
 }
 
@@ -308,18 +308,18 @@ fn sums(rt: HostRuntime) {
     assert_equal(&rt, checksum.swap_bytes(), 0xb861);
 
     // UDP over IPv4 (RFC 768): the pseudo-header, the header with 0 for its checksum, the payload.
-    let pseudo_header = [192, 168, 0, 1, 192, 168, 0, 199, 0, 17, 0, 12];
+    let pseudo_header = &[192, 168, 0, 1, 192, 168, 0, 199, 0, 17, 0, 12];
     let header = [4, 0, 0, 53, 0, 12, 0, 0];
-    let payload = [b't', b'e', b's', b't'];
-    let sum = u64_16bit_word::add_slices(&[&pseudo_header, &header, &payload]);
+    let payload = &[b't', b'e', b's', b't'];
+    let sum = u64_16bit_word::add_slices(&[pseudo_header, &header, payload]);
     let checksum = u64_16bit_word::ones_complement_with_no_zero(sum);
     assert_equal(&rt, checksum.to_le_bytes(), [0x91, 0xae]);
 
     // An IPv4 header with its checksum in it: its words sum to all ones.
-    let header = [
+    let header = &[
         0x45, 0, 0, 115, 0, 0, 0x40, 0, 64, 17, 0xb8, 0x61, 192, 168, 0, 1, 192, 168, 0, 199,
     ];
-    assert_equal(&rt, u64_16bit_word::checksum(0, &header), 0);
+    assert_equal(&rt, u64_16bit_word::checksum(0, header), 0);
 }
 
 #[test]

@@ -37,12 +37,12 @@ where
 
 #[test]
 fn fields_are_printed_and_hashed(rt: HostRuntime) {
-    let code_points = [
+    let code_points = &[
         (IpDscp::ZERO, "00000000", "IpDscp(0)"),
         (IpDscp::MAX, "00000063", "IpDscp(63)"),
     ];
-    assert_field::<Ipv4Dscp, u8>(&rt, rt.alloc(), &code_points);
-    let notifications = [
+    assert_field::<Ipv4Dscp, u8>(&rt, rt.alloc(), code_points);
+    let notifications = &[
         (IpEcn::NotEct, "00000000", "NotEct"),
         (IpEcn::Ect1, "00000001", "Ect1"),
         (IpEcn::Ect0, "00000002", "Ect0"),
@@ -52,8 +52,8 @@ fn fields_are_printed_and_hashed(rt: HostRuntime) {
             "CongestionExperienced",
         ),
     ];
-    assert_field::<Ipv4Ecn, u8>(&rt, rt.alloc(), &notifications);
-    let offsets = [
+    assert_field::<Ipv4Ecn, u8>(&rt, rt.alloc(), notifications);
+    let offsets = &[
         (IpFragOffset::ZERO, "00000000", "IpFragOffset(0)"),
         (
             IpFragOffset::try_new(8191).unwrap(),
@@ -61,8 +61,8 @@ fn fields_are_printed_and_hashed(rt: HostRuntime) {
             "IpFragOffset(8191)",
         ),
     ];
-    assert_field::<IpFragOffset, u16>(&rt, rt.alloc(), &offsets);
-    let flow_labels = [
+    assert_field::<IpFragOffset, u16>(&rt, rt.alloc(), offsets);
+    let flow_labels = &[
         (Ipv6FlowLabel::ZERO, "00000000", "Ipv6FlowLabel(0)"),
         (
             Ipv6FlowLabel::try_new(1048575).unwrap(),
@@ -70,17 +70,17 @@ fn fields_are_printed_and_hashed(rt: HostRuntime) {
             "Ipv6FlowLabel(1048575)",
         ),
     ];
-    assert_field::<Ipv6FlowLabel, u32>(&rt, rt.alloc(), &flow_labels);
+    assert_field::<Ipv6FlowLabel, u32>(&rt, rt.alloc(), flow_labels);
 }
 
 #[test]
 fn known_code_points_are_printed_and_hashed(rt: HostRuntime) {
-    let code_points = [
+    let code_points = &[
         (IpDscpKnown::ClassSelector0, "ClassSelector0"),
         (IpDscpKnown::VoiceAdmit, "VoiceAdmit"),
         (IpDscpKnown::LowerEffort, "LowerEffort"),
     ];
-    assert_derives(&rt, rt.alloc(), &code_points);
+    assert_derives(&rt, rt.alloc(), code_points);
 }
 
 #[test]

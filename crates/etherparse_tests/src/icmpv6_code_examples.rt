@@ -1,7 +1,7 @@
 //! The examples in the doc comments of `etherparse_icmp::icmpv6`, line by line, with `assert_equal`
 //! for each equation that they assert.
 
-use crate::shared::assert_equal;
+use crate::shared::{assert_equal, assert_that};
 use etherparse::err::LenError;
 use etherparse_icmp::icmpv6::{
     DestUnreachableCode, ParameterProblemCode, ParameterProblemHeader, TimeExceededCode,
@@ -13,12 +13,12 @@ fn codes_of_icmpv6(rt: HostRuntime) -> Result<(), LenError> {
     let code = DestUnreachableCode::from_u8(4);
     assert_equal(&rt, code, Some(DestUnreachableCode::Port));
     assert_equal(&rt, DestUnreachableCode::Port.code_u8(), 4);
-    assert!(rt; DestUnreachableCode::from_u8(7).is_none());
+    assert_that(&rt, DestUnreachableCode::from_u8(7).is_none());
 
     let code = TimeExceededCode::from_u8(0);
     assert_equal(&rt, code, Some(TimeExceededCode::HopLimitExceeded));
     assert_equal(&rt, TimeExceededCode::HopLimitExceeded.code_u8(), 0);
-    assert!(rt; TimeExceededCode::from_u8(2).is_none());
+    assert_that(&rt, TimeExceededCode::from_u8(2).is_none());
 
     let code = ParameterProblemCode::from_u8(1);
     assert_equal(
@@ -31,11 +31,11 @@ fn codes_of_icmpv6(rt: HostRuntime) -> Result<(), LenError> {
         ParameterProblemCode::UnrecognizedNextHeader.code_u8(),
         1,
     );
-    assert!(rt; ParameterProblemCode::from_u8(11).is_none());
+    assert_that(&rt, ParameterProblemCode::from_u8(11).is_none());
 
     // An unrecognized next header, at byte 40 of a packet that began with `abcd`.
-    let bytes = [4, 1, 0xdb, 0x54, 0, 0, 0, 40, b'a', b'b', b'c', b'd'];
-    let (header, _) = Icmpv6Header::from_slice(&bytes)?;
+    let bytes = &[4, 1, 0xdb, 0x54, 0, 0, 0, 40, b'a', b'b', b'c', b'd'];
+    let (header, _) = Icmpv6Header::from_slice(bytes)?;
     let code = ParameterProblemCode::UnrecognizedNextHeader;
     let problem = ParameterProblemHeader { code, pointer: 40 };
     assert_equal(&rt, header.icmp_type, Icmpv6Type::ParameterProblem(problem));

@@ -55,7 +55,7 @@ fn assert_refuses(rt: &impl Abort, slice: &[u8], limit: usize, expected: ChainEr
 
 #[test]
 fn the_limit_is_tested_before_lengths(rt: HostRuntime) {
-    let zeros = [0; 264];
+    let zeros = &[0; 264];
     for (len, limit, offset) in TOO_MANY {
         assert_refuses(&rt, &zeros[..len], limit, too_many(limit, 0, offset));
     }
@@ -66,7 +66,7 @@ fn the_limit_is_tested_before_lengths(rt: HostRuntime) {
 
 #[test]
 fn a_limit_of_no_header_keeps_the_slice(rt: HostRuntime) {
-    let slice = [0, 1, 2, 3];
+    let slice = &[0, 1, 2, 3];
     for len in 0..=4 {
         assert_walks(&rt, &slice[..len], 59, 0, 59, &slice[..len]);
     }
@@ -88,7 +88,7 @@ fn the_limit_counts_the_headers_that_are_skipped(rt: HostRuntime) {
 
 #[test]
 fn a_limit_above_an_eighth_of_the_length_changes_nothing(rt: HostRuntime) {
-    let zeros = [0; 64];
+    let zeros = &[0; 64];
     for len in 0..=64 {
         let slice = &zeros[..len];
         let refusal = Ipv6Header::skip_all_header_extensions_in_slice(
@@ -101,8 +101,8 @@ fn a_limit_above_an_eighth_of_the_length_changes_nothing(rt: HostRuntime) {
 
 #[test]
 fn an_error_is_told_further_on(rt: HostRuntime) {
-    let zeros = [0; 264];
-    let refusal = Ipv6Header::skip_header_extensions_up_to(&zeros, IpNumber(0), 32).expect_err(
+    let zeros = &[0; 264];
+    let refusal = Ipv6Header::skip_header_extensions_up_to(zeros, IpNumber(0), 32).expect_err(
         &rt,
         "a header too many",
     );

@@ -1,7 +1,7 @@
 //! The examples in the doc comments of `etherparse_link`, line by line, with `assert_equal` for
 //! equations that they assert. The bytes in them are those that scapy makes of the same fields.
 
-use crate::shared::assert_equal;
+use crate::shared::{assert_equal, assert_that};
 use etherparse::err::{LenError, ValueTooBigError};
 use etherparse_link::err::arp::{ArpEthIpv4FromError, ArpHwAddrError, ArpNewError};
 use etherparse_link::err::double_vlan::{HeaderError, HeaderSliceError};
@@ -58,7 +58,7 @@ fn arp_packet(rt: HostRuntime) -> Result<(), ArpNewError> {
         &[0; 6],
         &[192, 168, 0, 2],
     )?;
-    let expected = [
+    let expected = &[
         0, 1, 8, 0, 6, 4, 0, 1, 2, 0, 0, 0, 0, 1, 192, 168, 0, 1, 0, 0, 0, 0, 0, 0, 192, 168, 0, 2,
     ];
     assert_equal(&rt, request.to_bytes().as_slice(), expected.as_slice());
@@ -83,14 +83,17 @@ fn arp_packet_new(rt: HostRuntime) {
 #[test]
 fn arp_packet_from_slice(rt: HostRuntime) -> Result<(), LenError> {
     // A reply on ARCnet, whose addresses have one byte, and two bytes of padding.
-    let bytes = [
+    let bytes = &[
         0, 7, 8, 0, 1, 4, 0, 2, 17, 192, 168, 0, 1, 34, 192, 168, 0, 2, 0, 0,
     ];
-    let (packet, rest) = ArpPacket::from_slice(&bytes)?;
+    let (packet, rest) = ArpPacket::from_slice(bytes)?;
     assert_equal(&rt, packet.hw_addr_type, ArpHardwareId::ARCNET);
     assert_equal(&rt, packet.proto_addr_type, EtherType::IPV4);
     assert_equal(&rt, packet.operation, ArpOperation::REPLY);
-    assert!(rt; packet.hw_addr_size() == 1 && packet.protocol_addr_size() == 4);
+    assert_that(
+        &rt,
+        packet.hw_addr_size() == 1 && packet.protocol_addr_size() == 4,
+    );
     assert_equal(&rt, packet.sender_hw_addr(), [17].as_slice());
     assert_equal(
         &rt,
@@ -112,12 +115,18 @@ fn arp_packet_from_slice(rt: HostRuntime) -> Result<(), LenError> {
 #[test]
 fn arp_packet_slice(rt: HostRuntime) -> Result<(), LenError> {
     // Who has 192.168.0.2? Tell 192.168.0.1.
-    let packet = [
+    let packet = &[
         0, 1, 8, 0, 6, 4, 0, 1, 2, 0, 0, 0, 0, 1, 192, 168, 0, 1, 0, 0, 0, 0, 0, 0, 192, 168, 0, 2,
     ];
-    let arp = ArpPacketSlice::from_slice(&packet)?;
-    assert!(rt; arp.hw_addr_type() == ArpHardwareId::ETHERNET && arp.hw_addr_size() == 6);
-    assert!(rt; arp.proto_addr_type() == EtherType::IPV4 && arp.proto_addr_size() == 4);
+    let arp = ArpPacketSlice::from_slice(packet)?;
+    assert_that(
+        &rt,
+        arp.hw_addr_type() == ArpHardwareId::ETHERNET && arp.hw_addr_size() == 6,
+    );
+    assert_that(
+        &rt,
+        arp.proto_addr_type() == EtherType::IPV4 && arp.proto_addr_size() == 4,
+    );
     assert_equal(&rt, arp.operation(), ArpOperation::REQUEST);
     assert_equal(&rt, arp.sender_hw_addr(), [2, 0, 0, 0, 0, 1].as_slice());
     assert_equal(&rt, arp.sender_protocol_addr(), [192, 168, 0, 1].as_slice());
@@ -149,19 +158,19 @@ fn double_vlan_header(rt: HostRuntime) -> Result<(), Fail> {
 
 #[test]
 fn double_vlan_header_from_slice(rt: HostRuntime) -> Result<(), HeaderSliceError> {
-    let bytes = [0, 100, 0x81, 0, 0x30, 7, 0x86, 0xdd, 0x60];
-    let (tags, rest) = DoubleVlanHeader::from_slice(&bytes)?;
+    let bytes = &[0, 100, 0x81, 0, 0x30, 7, 0x86, 0xdd, 0x60];
+    let (tags, rest) = DoubleVlanHeader::from_slice(bytes)?;
     let (outer, inner) = (tags.outer, tags.inner);
     assert_equal(&rt, outer.vlan_id.value(), 100);
     assert_equal(&rt, inner.vlan_id.value(), 7);
     assert_equal(&rt, inner.ether_type, EtherType::IPV6);
     assert_equal(&rt, rest, [0x60].as_slice());
     // A single tag before an IPv4 packet.
-    let single = [0, 100, 8, 0, 0x45, 0, 0, 20];
+    let single = &[0, 100, 8, 0, 0x45, 0, 0, 20];
     let refused = HeaderSliceError::Content(HeaderError::NonVlanEtherType {
         unexpected_ether_type: EtherType::IPV4,
     });
-    assert_equal(&rt, DoubleVlanHeader::from_slice(&single), Err(refused));
+    assert_equal(&rt, DoubleVlanHeader::from_slice(single), Err(refused));
     Ok(())
 }
 
@@ -187,20 +196,23 @@ fn ethernet2_header(rt: HostRuntime) {
 #[test]
 fn ethernet2_header_from_slice(rt: HostRuntime) -> Result<(), LenError> {
     // The first bytes of an ARP packet that is a broadcast.
-    let frame = [255, 255, 255, 255, 255, 255, 2, 0, 0, 0, 0, 1, 8, 6, 0, 1];
-    let (header, rest) = Ethernet2Header::from_slice(&frame)?;
+    let frame = &[255, 255, 255, 255, 255, 255, 2, 0, 0, 0, 0, 1, 8, 6, 0, 1];
+    let (header, rest) = Ethernet2Header::from_slice(frame)?;
     assert_equal(&rt, header.destination, [255; 6]);
     assert_equal(&rt, header.source, [2, 0, 0, 0, 0, 1]);
-    assert!(rt; header.ether_type == EtherType::ARP && rest == [0, 1].as_slice());
-    assert!(rt; Ethernet2Header::from_slice(&frame[..13]).is_err());
+    assert_that(
+        &rt,
+        header.ether_type == EtherType::ARP && rest == [0, 1].as_slice(),
+    );
+    assert_that(&rt, Ethernet2Header::from_slice(&frame[..13]).is_err());
     Ok(())
 }
 
 #[test]
 fn ethernet2_header_slice(rt: HostRuntime) -> Result<(), LenError> {
     // A frame from 2:0:0:0:0:1 to 2:0:0:0:0:2 with the first bytes of an ARP packet.
-    let frame = [2, 0, 0, 0, 0, 2, 2, 0, 0, 0, 0, 1, 8, 6, 0, 1];
-    let header = Ethernet2HeaderSlice::from_slice(&frame)?;
+    let frame = &[2, 0, 0, 0, 0, 2, 2, 0, 0, 0, 0, 1, 8, 6, 0, 1];
+    let header = Ethernet2HeaderSlice::from_slice(frame)?;
     assert_equal(&rt, header.destination(), [2, 0, 0, 0, 0, 2]);
     assert_equal(&rt, header.source(), [2, 0, 0, 0, 0, 1]);
     assert_equal(&rt, header.ether_type(), EtherType::ARP);
@@ -228,13 +240,16 @@ fn linux_sll2_header(rt: HostRuntime) {
 #[test]
 fn linux_sll2_header_from_slice(rt: HostRuntime) -> Result<(), LenError> {
     // A packet that this host sent on interface 2, an Ethernet device.
-    let bytes = [
+    let bytes = &[
         8, 0, 0, 0, 0, 0, 0, 2, 0, 1, 4, 6, 2, 0, 0, 0, 0, 1, 0, 0, 0x45,
     ];
-    let (header, rest) = LinuxSll2Header::from_slice(&bytes)?;
+    let (header, rest) = LinuxSll2Header::from_slice(bytes)?;
     let packet_type = LinuxSllPacketType::from(header.packet_type);
     assert_equal(&rt, packet_type, LinuxSllPacketType::OUTGOING);
-    assert!(rt; header.interface_index == 2 && header.protocol_type == EtherType::IPV4);
+    assert_that(
+        &rt,
+        header.interface_index == 2 && header.protocol_type == EtherType::IPV4,
+    );
     assert_equal(&rt, rest, [0x45].as_slice());
     Ok(())
 }
@@ -243,10 +258,10 @@ fn linux_sll2_header_from_slice(rt: HostRuntime) -> Result<(), LenError> {
 fn linux_sll2_header_slice(rt: HostRuntime) -> Result<(), LenError> {
     // A broadcast from 2:0:0:0:0:1 on interface 3, an Ethernet device, and the first bytes of an
     // ARP packet.
-    let frame = [
+    let frame = &[
         8, 6, 0, 0, 0, 0, 0, 3, 0, 1, 1, 6, 2, 0, 0, 0, 0, 1, 0, 0, 0, 1,
     ];
-    let header = LinuxSll2HeaderSlice::from_slice(&frame)?;
+    let header = LinuxSll2HeaderSlice::from_slice(frame)?;
     assert_equal(&rt, header.protocol_type(), EtherType::ARP);
     assert_equal(
         &rt,
@@ -281,20 +296,23 @@ fn linux_sll_header(rt: HostRuntime) {
 #[test]
 fn linux_sll_header_from_slice(rt: HostRuntime) -> Result<(), LenError> {
     // A packet that this host sent, from an Ethernet device.
-    let bytes = [0, 4, 0, 1, 0, 6, 2, 0, 0, 0, 0, 1, 0, 0, 8, 0, 0x45];
-    let (header, rest) = LinuxSllHeader::from_slice(&bytes)?;
+    let bytes = &[0, 4, 0, 1, 0, 6, 2, 0, 0, 0, 0, 1, 0, 0, 8, 0, 0x45];
+    let (header, rest) = LinuxSllHeader::from_slice(bytes)?;
     assert_equal(&rt, header.packet_type, LinuxSllPacketType::OUTGOING);
     assert_equal(&rt, header.arp_hrd_type, ArpHardwareId::ETHERNET);
     assert_equal(&rt, header.sender_address_valid_length, 6);
-    assert!(rt; header.protocol_type == EtherType::IPV4 && rest == [0x45].as_slice());
+    assert_that(
+        &rt,
+        header.protocol_type == EtherType::IPV4 && rest == [0x45].as_slice(),
+    );
     Ok(())
 }
 
 #[test]
 fn linux_sll_header_slice(rt: HostRuntime) -> Result<(), LenError> {
     // A broadcast from 2:0:0:0:0:1 on an Ethernet device, and the first bytes of an ARP packet.
-    let frame = [0, 1, 0, 1, 0, 6, 2, 0, 0, 0, 0, 1, 0, 0, 8, 6, 0, 1];
-    let header = LinuxSllHeaderSlice::from_slice(&frame)?;
+    let frame = &[0, 1, 0, 1, 0, 6, 2, 0, 0, 0, 0, 1, 0, 0, 8, 6, 0, 1];
+    let header = LinuxSllHeaderSlice::from_slice(frame)?;
     assert_equal(
         &rt,
         (header.packet_type(), header.arp_hardware_type()),
@@ -334,10 +352,13 @@ fn single_vlan_header(rt: HostRuntime) -> Result<(), Fail> {
 fn single_vlan_header_from_slice(rt: HostRuntime) -> Result<(), LenError> {
     // A tag of VLAN 0x123 with priority 5, to be dropped before others, and the first bytes of
     // an ARP packet.
-    let bytes = [0xb1, 0x23, 8, 6, 0, 1];
-    let (tag, rest) = SingleVlanHeader::from_slice(&bytes)?;
-    assert!(rt; tag.pcp.value() == 5 && tag.drop_eligible_indicator);
-    assert!(rt; tag.vlan_id.value() == 0x123 && tag.ether_type == EtherType::ARP);
+    let bytes = &[0xb1, 0x23, 8, 6, 0, 1];
+    let (tag, rest) = SingleVlanHeader::from_slice(bytes)?;
+    assert_that(&rt, tag.pcp.value() == 5 && tag.drop_eligible_indicator);
+    assert_that(
+        &rt,
+        tag.vlan_id.value() == 0x123 && tag.ether_type == EtherType::ARP,
+    );
     assert_equal(&rt, rest, [0, 1].as_slice());
     Ok(())
 }
@@ -345,10 +366,16 @@ fn single_vlan_header_from_slice(rt: HostRuntime) -> Result<(), LenError> {
 #[test]
 fn single_vlan_header_slice(rt: HostRuntime) -> Result<(), LenError> {
     // A tag of VLAN 5 with priority 3, and the first bytes of an ARP packet.
-    let bytes = [0x60, 5, 8, 6, 0, 1];
-    let tag = SingleVlanHeaderSlice::from_slice(&bytes)?;
-    assert!(rt; tag.priority_code_point() == 3 && !tag.drop_eligible_indicator());
-    assert!(rt; tag.vlan_identifier() == 5 && tag.ether_type() == EtherType::ARP);
+    let bytes = &[0x60, 5, 8, 6, 0, 1];
+    let tag = SingleVlanHeaderSlice::from_slice(bytes)?;
+    assert_that(
+        &rt,
+        tag.priority_code_point() == 3 && !tag.drop_eligible_indicator(),
+    );
+    assert_that(
+        &rt,
+        tag.vlan_identifier() == 5 && tag.ether_type() == EtherType::ARP,
+    );
     Ok(())
 }
 
@@ -356,7 +383,7 @@ fn single_vlan_header_slice(rt: HostRuntime) -> Result<(), LenError> {
 fn vlan_id_try_new(rt: HostRuntime) -> Result<(), ValueTooBigError<u16>> {
     let id = VlanId::try_new(4095)?;
     assert_equal(&rt, id.value(), 4095);
-    assert!(rt; VlanId::try_new(4096).is_err());
+    assert_that(&rt, VlanId::try_new(4096).is_err());
     Ok(())
 }
 
@@ -364,6 +391,6 @@ fn vlan_id_try_new(rt: HostRuntime) -> Result<(), ValueTooBigError<u16>> {
 fn vlan_pcp_try_new(rt: HostRuntime) -> Result<(), ValueTooBigError<u8>> {
     let pcp = VlanPcp::try_new(7)?;
     assert_equal(&rt, pcp.value(), 7);
-    assert!(rt; VlanPcp::try_new(8).is_err());
+    assert_that(&rt, VlanPcp::try_new(8).is_err());
     Ok(())
 }

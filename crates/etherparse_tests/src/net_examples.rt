@@ -1,7 +1,7 @@
 //! The examples in the doc comments of `etherparse_net`, line by line, with `assert_equal` for
 //! equations that they assert.
 
-use crate::shared::assert_equal;
+use crate::shared::{assert_equal, assert_that};
 use arrayvec::ArrayVec;
 use etherparse::IpNumber;
 use etherparse::err::LenError;
@@ -17,14 +17,17 @@ use std::test::Fail;
 #[test]
 fn fragment_headers(rt: HostRuntime) -> Result<(), LenError> {
     // What is reserved in bytes 1 and 3 is not kept.
-    let slice = [17, 255, 0, 0x0f, 1, 2, 3, 4];
-    let (header, _) = Ipv6FragmentHeader::from_slice(&slice)?;
+    let slice = &[17, 255, 0, 0x0f, 1, 2, 3, 4];
+    let (header, _) = Ipv6FragmentHeader::from_slice(slice)?;
     assert_equal(&rt, header.to_bytes(), [17, 0, 0, 9, 1, 2, 3, 4]);
 
     // A fragment that is not the first, and not the last.
-    let slice = [17, 0, 0, 9, 1, 2, 3, 4, 5, 6, 7, 8];
-    let view = Ipv6FragmentHeaderSlice::from_slice(&slice)?;
-    assert!(rt; view.next_header() == IpNumber::UDP && view.more_fragments());
+    let slice = &[17, 0, 0, 9, 1, 2, 3, 4, 5, 6, 7, 8];
+    let view = Ipv6FragmentHeaderSlice::from_slice(slice)?;
+    assert_that(
+        &rt,
+        view.next_header() == IpNumber::UDP && view.more_fragments(),
+    );
     assert_equal(&rt, view.fragment_offset().byte_offset(), 8);
     assert_equal(&rt, view.identification(), 0x01020304);
     Ok(())
@@ -48,8 +51,8 @@ fn authentication_headers(rt: HostRuntime) -> Result<(), Fail> {
     let (read, _) = IpAuthHeader::from_slice(bytes.as_slice())?;
     assert_equal(&rt, read, header);
 
-    let slice = [6, 2, 0, 0, 0, 0, 1, 0, 0, 0, 0, 1, 9, 8, 7, 6, 0x12];
-    let view = IpAuthHeaderSlice::from_slice(&slice)?;
+    let slice = &[6, 2, 0, 0, 0, 0, 1, 0, 0, 0, 0, 1, 9, 8, 7, 6, 0x12];
+    let view = IpAuthHeaderSlice::from_slice(slice)?;
     assert_equal(&rt, view.next_header(), IpNumber::TCP);
     assert_equal(&rt, (view.spi(), view.sequence_number()), (256, 1));
     assert_equal(&rt, view.raw_icv(), [9, 8, 7, 6].as_slice());
@@ -71,8 +74,8 @@ fn raw_headers(rt: HostRuntime) -> Result<(), Fail> {
     assert_equal(&rt, read, header);
 
     // Hop-by-hop options with a router alert (RFC 2711), and the start of what follows.
-    let slice = [58, 0, 5, 2, 0, 0, 1, 0, 131, 0];
-    let view = Ipv6RawExtHeaderSlice::from_slice(&slice)?;
+    let slice = &[58, 0, 5, 2, 0, 0, 1, 0, 131, 0];
+    let view = Ipv6RawExtHeaderSlice::from_slice(slice)?;
     assert_equal(&rt, view.next_header(), IpNumber::IPV6_ICMP);
     assert_equal(&rt, view.payload(), [5, 2, 0, 0, 1, 0].as_slice());
     Ok(())
@@ -81,18 +84,24 @@ fn raw_headers(rt: HostRuntime) -> Result<(), Fail> {
 #[test]
 fn chains(rt: HostRuntime) -> Result<(), Fail> {
     // Hop-by-hop options, a fragment header, and the start of a UDP header.
-    let body = [
+    let body = &[
         44, 0, 1, 4, 0, 0, 0, 0, 17, 0, 0, 1, 0, 0, 0, 7, 4, 0, 0, 53,
     ];
-    let mut headers = Ipv6ExtensionSliceIter::new(IpNumber::IPV6_HEADER_HOP_BY_HOP, &body);
+    let mut headers = Ipv6ExtensionSliceIter::new(IpNumber::IPV6_HEADER_HOP_BY_HOP, body);
     let Some(Ok(Ipv6ExtensionSlice::HopByHop(options))) = headers.next() else {
         return Err(Fail::from("no options"));
     };
     let Some(Ok(Ipv6ExtensionSlice::Fragment(fragment))) = headers.next() else {
         return Err(Fail::from("no fragment header"));
     };
-    assert!(rt; options.slice().len() == 8 && fragment.identification() == 7);
-    assert!(rt; headers.next().is_none() && headers.next_header == IpNumber::UDP);
+    assert_that(
+        &rt,
+        options.slice().len() == 8 && fragment.identification() == 7,
+    );
+    assert_that(
+        &rt,
+        headers.next().is_none() && headers.next_header == IpNumber::UDP,
+    );
     assert_equal(&rt, headers.rest, [4, 0, 0, 53].as_slice());
     Ok(())
 }
@@ -103,7 +112,7 @@ fn ipv6_options(rt: HostRuntime) -> Result<(), Fail> {
     let Some(Ok(option)) = Ipv6OptionsIterator::new(&[5, 2, 0, 0]).next() else {
         return Err(Fail::from("no option"));
     };
-    assert!(rt; option.option_type() == 5 && !option.may_change());
+    assert_that(&rt, option.option_type() == 5 && !option.may_change());
     assert_equal(&rt, option.unknown_action(), Ipv6OptionAction::Skip);
     assert_equal(&rt, option.data(), [0, 0].as_slice());
     Ok(())
@@ -117,11 +126,11 @@ fn options_of_a_header(rt: HostRuntime) -> Result<(), Fail> {
     let Some(Ok(alert)) = options.next() else {
         return Err(Fail::from("no option"));
     };
-    assert!(rt; alert.option_type() == 5 && options.offset == 4);
+    assert_that(&rt, alert.option_type() == 5 && options.offset == 4);
     let Some(Ok(padding)) = options.next() else {
         return Err(Fail::from("no option"));
     };
-    assert!(rt; padding.is_padding() && options.next().is_none());
+    assert_that(&rt, padding.is_padding() && options.next().is_none());
     Ok(())
 }
 
@@ -163,7 +172,7 @@ fn ipv4_options(rt: HostRuntime) -> Result<(), Fail> {
     let Some(Ok(option)) = Ipv4OptionsIterator::new(&[148, 4, 0, 0]).next() else {
         return Err(Fail::from("no option"));
     };
-    assert!(rt; option.option_type() == 148 && option.is_copied());
+    assert_that(&rt, option.option_type() == 148 && option.is_copied());
     assert_equal(&rt, (option.class(), option.number()), (0, 20));
     assert_equal(&rt, option.data(), [0, 0].as_slice());
     Ok(())
@@ -176,10 +185,10 @@ fn lists_of_ipv4_options(rt: HostRuntime) -> Result<(), Fail> {
     let Some(Ok(first)) = options.next() else {
         return Err(Fail::from("no option"));
     };
-    assert!(rt; first.option_type() == 1 && first.data().is_empty());
+    assert_that(&rt, first.option_type() == 1 && first.data().is_empty());
     let Some(Ok(alert)) = options.next() else {
         return Err(Fail::from("no option"));
     };
-    assert!(rt; alert.option_type() == 148 && options.next().is_none());
+    assert_that(&rt, alert.option_type() == 148 && options.next().is_none());
     Ok(())
 }

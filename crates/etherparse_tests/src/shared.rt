@@ -1,5 +1,7 @@
 //! What several tests share.
 
+ghost use Rattle.std.specs.Prelude.{IsTrue};
+
 use etherparse::LenSource;
 use etherparse::err::{Layer, LenError};
 use etherparse_link::VlanId;
@@ -26,6 +28,13 @@ pub(crate) const IPV6_ASCENDING: [u8; 40] = [
 /// times as long as that of a call of this function.
 pub(crate) fn assert_equal<T: Debug + Drop + PartialEq>(rt: &impl Abort, value: T, expected: T) {
     assert_eq!(rt; value, expected);
+}
+
+/// Asserts that a condition holds. An `assert!` has a longer proof than a call of this function.
+pub(crate) fn assert_that(rt: &impl Abort, holds: bool)
+    ensures holds { IsTrue holds }
+{
+    assert!(rt; holds);
 }
 
 /// Asserts that these bytes are what was written to the front of a slice.

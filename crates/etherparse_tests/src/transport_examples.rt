@@ -1,7 +1,7 @@
 //! The examples in the doc comments of `etherparse_transport` that are not in `packet_examples`, line
 //! by line, with `assert_equal` for each equation that they assert.
 
-use crate::shared::assert_equal;
+use crate::shared::{assert_equal, assert_that};
 use etherparse::err::{LenError, ValueTooBigError};
 use etherparse::{IpNumber, Ipv4Header, Ipv4HeaderSlice, Ipv6Header};
 use etherparse_transport::{
@@ -13,11 +13,11 @@ use std::test::Fail;
 #[test]
 fn options_of_a_view(rt: HostRuntime) -> Result<(), TcpError> {
     // A SYN with a maximum segment size of 1460 bytes.
-    let segment = [
+    let segment = &[
         4, 0, 0, 80, 0, 0, 0, 1, 0, 0, 0, 0, 0x60, 0x02, 0x20, 0, 0xf1, 0xbc, 0, 0, 2, 4, 0x05,
         0xb4,
     ];
-    let mut iterator = TcpHeaderSlice::from_slice(&segment)?.options_iterator();
+    let mut iterator = TcpHeaderSlice::from_slice(segment)?.options_iterator();
     assert_equal(
         &rt,
         iterator.next(),
@@ -30,12 +30,12 @@ fn options_of_a_view(rt: HostRuntime) -> Result<(), TcpError> {
 #[test]
 fn tcp_checksum_of_a_view(rt: HostRuntime) -> Result<(), Fail> {
     // A segment with the payload "test" from 192.168.0.1 to 192.168.0.199.
-    let packet = [
+    let packet = &[
         0x45, 0, 0, 44, 0, 0, 0x40, 0, 64, 6, 0xb8, 0xb3, 192, 168, 0, 1, 192, 168, 0, 199, 4, 0,
         0, 80, 0, 0, 0, 1, 0, 0, 0, 0, 0x50, 0x08, 0x20, 0, 0x21, 0x95, 0, 0, b't', b'e', b's',
         b't',
     ];
-    let ip = Ipv4HeaderSlice::from_slice(&packet)?;
+    let ip = Ipv4HeaderSlice::from_slice(packet)?;
     let tcp = TcpHeaderSlice::from_slice(&packet[20..])?;
     assert_equal(
         &rt,
@@ -84,18 +84,21 @@ fn tcp_options_set(rt: HostRuntime) -> Result<(), TcpOptionWriteError> {
 #[test]
 fn tcp_read(rt: HostRuntime) -> Result<(), TcpError> {
     // A SYN from port 1024 to port 80 with a maximum segment size of 1460 bytes.
-    let segment = [
+    let segment = &[
         4, 0, 0, 80, 0, 0, 0, 1, 0, 0, 0, 0, 0x60, 0x02, 0x20, 0, 0xf1, 0xbc, 0, 0, 2, 4, 0x05,
         0xb4,
     ];
-    let (header, rest) = TcpHeader::from_slice(&segment)?;
+    let (header, rest) = TcpHeader::from_slice(segment)?;
     assert_equal(
         &rt,
         (header.source_port, header.destination_port),
         (1024, 80),
     );
-    assert!(rt; header.syn && !header.ack && header.window_size == 8192);
-    assert!(rt; header.options.as_slice() == [2, 4, 0x05, 0xb4].as_slice() && rest.is_empty());
+    assert_that(&rt, header.syn && !header.ack && header.window_size == 8192);
+    assert_that(
+        &rt,
+        header.options.as_slice() == [2, 4, 0x05, 0xb4].as_slice() && rest.is_empty(),
+    );
     Ok(())
 }
 
@@ -175,7 +178,10 @@ fn tcp_options_read(rt: HostRuntime) -> Result<(), TcpOptionWriteError> {
 fn udp_without_checksum(rt: HostRuntime) -> Result<(), ValueTooBigError<usize>> {
     let header = UdpHeader::without_ipv4_checksum(1024, 53, 4)?;
     assert_equal(&rt, header.to_bytes(), [4, 0, 0, 53, 0, 12, 0, 0]);
-    assert!(rt; UdpHeader::without_ipv4_checksum(1024, 53, 65528).is_err());
+    assert_that(
+        &rt,
+        UdpHeader::without_ipv4_checksum(1024, 53, 65528).is_err(),
+    );
     Ok(())
 }
 
@@ -209,8 +215,8 @@ fn udp_checksum_over_ipv6(rt: HostRuntime) -> Result<(), ValueTooBigError<usize>
 
 #[test]
 fn views_of_udp(rt: HostRuntime) -> Result<(), LenError> {
-    let datagram = [4, 0, 0, 53, 0, 12, 0x91, 0xae, b't', b'e', b's', b't'];
-    let view = UdpHeaderSlice::from_slice(&datagram)?;
+    let datagram = &[4, 0, 0, 53, 0, 12, 0x91, 0xae, b't', b'e', b's', b't'];
+    let view = UdpHeaderSlice::from_slice(datagram)?;
     assert_equal(
         &rt,
         (view.source_port(), view.destination_port()),

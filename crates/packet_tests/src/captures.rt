@@ -12,13 +12,13 @@ use std::test::Fail;
 #[test]
 fn blocks_of_pcapng(rt: HostRuntime) {
     // A section of little-endian numbers, without a length of its own.
-    let file = [
+    let file = &[
         0x0a, 0x0d, 0x0d, 0x0a, 28, 0, 0, 0, 0x4d, 0x3c, 0x2b, 0x1a, 1, 0, 0, 0, 0xff, 0xff, 0xff,
         0xff, 0xff, 0xff, 0xff, 0xff, 28, 0, 0, 0,
     ];
     let mut section = Section::none();
     let expected = Ok(Some((Block::Section, [].as_slice())));
-    assert_equal(&rt, next_block(&mut section, &file), expected);
+    assert_equal(&rt, next_block(&mut section, file), expected);
     assert_equal(&rt, section.order, Some(ByteOrder::LittleEndian));
     assert_equal(&rt, next_block(&mut section, &[]), Ok(None));
 }
@@ -43,13 +43,13 @@ fn captures_of_either_format(rt: HostRuntime) -> Result<(), Fail> {
 
     // pcapng: a section, an interface of packets that begin with their IP header, and a packet of
     // 3 bytes, 1,000,001 microseconds after the start of 1970.
-    let file = [
+    let file = &[
         0x0a, 0x0d, 0x0d, 0x0a, 28, 0, 0, 0, 0x4d, 0x3c, 0x2b, 0x1a, 1, 0, 0, 0, 0xff, 0xff, 0xff,
         0xff, 0xff, 0xff, 0xff, 0xff, 28, 0, 0, 0, 1, 0, 0, 0, 20, 0, 0, 0, 101, 0, 0, 0, 0, 0, 0,
         0, 20, 0, 0, 0, 6, 0, 0, 0, 36, 0, 0, 0, 0, 0, 0, 0, 0, 0, 0, 0, 0x41, 0x42, 0x0f, 0, 3, 0,
         0, 0, 5, 0, 0, 0, b'a', b'b', b'c', 0, 36, 0, 0, 0,
     ];
-    let (mut capture, bytes) = Capture::from_slice(&file)?;
+    let (mut capture, bytes) = Capture::from_slice(file)?;
     let mut rest = bytes;
     let mut found = None;
     'next: while let Some((block, after)) = next_block(&mut capture, rest)? {

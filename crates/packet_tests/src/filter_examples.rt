@@ -1,6 +1,7 @@
 //! The examples in the doc comments of `packet_filter`, line by line as they stand there, and the
 //! texts of its errors.
 
+use crate::shared::assert_that;
 use packet::lax_sliced_packet::LaxSlicedPacket;
 use packet::link::LinkType;
 use packet_filter::{Expected, Filter, FilterError};
@@ -8,44 +9,56 @@ use std::test::Fail;
 
 #[test]
 fn texts_and_refusals(rt: HostRuntime) {
-    assert!(rt; Filter::from_text(b"tcp port 80 or udp port 53").is_ok());
+    assert_that(
+        &rt,
+        Filter::from_text(b"tcp port 80 or udp port 53").is_ok(),
+    );
     // `prot` is no word of the language.
     let refused = Filter::from_text(b"tcp prot 80");
     let expected = FilterError::Unexpected {
         place: 4,
         expected: Expected::AfterTransport,
     };
-    assert!(rt; refused.is_err_and(|error| error == expected));
+    assert_that(&rt, refused.is_err_and(|error| error == expected));
     // `)` is missing.
     let refused = Filter::from_text(b"not (tcp or udp");
-    assert!(rt; matches!(refused, Err(FilterError::Incomplete { .. })));
+    assert_that(&rt, matches!(refused, Err(FilterError::Incomplete { .. })));
     // Parentheses have to say which of `and` and `or` comes first.
     let refused = Filter::from_text(b"udp or tcp and port 22");
-    assert!(rt; matches!(refused, Err(FilterError::Mixed { place: 11, .. })));
+    assert_that(
+        &rt,
+        matches!(refused, Err(FilterError::Mixed { place: 11, .. })),
+    );
     // The mask lacks the last bit of the address.
     let refused = Filter::from_text(b"net 10.0.0.1 mask 255.0.0.0");
-    assert!(rt; matches!(refused, Err(FilterError::Unexpected { place: 18, .. })));
+    assert_that(
+        &rt,
+        matches!(refused, Err(FilterError::Unexpected { place: 18, .. })),
+    );
     // Labels of MPLS are in pcap-filter(7), and not here.
     let refused = Filter::from_text(b"ip or mpls");
-    assert!(rt; matches!(refused, Err(FilterError::Unsupported { place: 6 })));
+    assert_that(
+        &rt,
+        matches!(refused, Err(FilterError::Unsupported { place: 6 })),
+    );
 }
 
 #[test]
 fn place_of_a_refusal(rt: HostRuntime) {
     let refused = Filter::from_text(b"tcp prot 80");
-    assert!(rt; refused.is_err_and(|error| error.place() == Some(4)));
+    assert_that(&rt, refused.is_err_and(|error| error.place() == Some(4)));
 }
 
 #[test]
 fn a_tagged_datagram(rt: HostRuntime) -> Result<(), Fail> {
     // Ethernet, a tag of VLAN 5, IPv4 from 10.0.0.1, and a datagram to port 53.
-    let frame = [
+    let frame = &[
         2, 0, 0, 0, 0, 2, 2, 0, 0, 0, 0, 1, 0x81, 0, 0, 5, 8, 0, 0x45, 0, 0, 30, 0, 0, 0, 0, 64,
         0x11, 0, 0, 10, 0, 0, 1, 10, 0, 0, 2, 4, 0, 0, 53, 0, 10, 0, 0, b'h', b'i',
     ];
-    let lax = LaxSlicedPacket::from_ethernet(&frame)?;
+    let lax = LaxSlicedPacket::from_ethernet(frame)?;
     let filter = Filter::from_text(b"udp port 53 and src net 10.0.0.0/8 and not vlan 6")?;
-    assert!(rt; filter.matches(&lax, frame.len()));
+    assert_that(&rt, filter.matches(&lax, frame.len()));
     Ok(())
 }
 
@@ -57,8 +70,14 @@ fn frames(rt: HostRuntime) -> Result<(), FilterError> {
         0, 0, 1, 10, 0, 0, 2, 4, 0, 0, 53, 0, 10, 0, 0, b'h', b'i',
     ];
     let filter = Filter::from_text(b"udp port 53 or (not ip and less 60)")?;
-    assert!(rt; filter.matches_frame(LinkType::Ethernet2, &frame, frame.len()));
+    assert_that(
+        &rt,
+        filter.matches_frame(LinkType::Ethernet2, &frame, frame.len()),
+    );
     // A frame that ends within its link header.
-    assert!(rt; filter.matches_frame(LinkType::Ethernet2, &frame[..13], 13));
+    assert_that(
+        &rt,
+        filter.matches_frame(LinkType::Ethernet2, &frame[..13], 13),
+    );
     Ok(())
 }

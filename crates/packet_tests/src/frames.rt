@@ -1,7 +1,7 @@
 //! Frames in their layers: the examples of the doc comments, worked frames of each link type, and
 //! where reading stops.
 
-use crate::shared::assert_equal;
+use crate::shared::{assert_equal, assert_that};
 use etherparse::LenSource;
 use etherparse::err::ipv4::HeaderSliceError;
 use etherparse::err::{Layer, LenError};
@@ -20,11 +20,11 @@ use std::process::Abort;
 #[test]
 fn a_tagged_frame(rt: HostRuntime) -> Result<(), SliceError> {
     // Ethernet, a tag of VLAN 5 with priority 3, IPv4, and a datagram to port 53.
-    let frame = [
+    let frame = &[
         2, 0, 0, 0, 0, 2, 2, 0, 0, 0, 0, 1, 0x81, 0, 0x60, 5, 8, 0, 0x45, 0, 0, 30, 0, 0, 0, 0, 64,
         17, 0, 0, 10, 0, 0, 1, 10, 0, 0, 2, 4, 0, 0, 53, 0, 10, 0, 0, b'h', b'i',
     ];
-    let packet = SlicedPacket::from_ethernet(&frame)?;
+    let packet = SlicedPacket::from_ethernet(frame)?;
     assert_equal(&rt, packet.ether_type, Some(EtherType::IPV4));
     assert_equal(&rt, packet.ports(), Some((1024, 53)));
     // It is no ARP packet.
@@ -35,8 +35,8 @@ fn a_tagged_frame(rt: HostRuntime) -> Result<(), SliceError> {
 #[test]
 fn a_cooked_capture(rt: HostRuntime) -> Result<(), SliceError> {
     // The header of a broadcast from 2:0:0:0:0:1, and an ARP packet that is not read.
-    let frame = [0, 1, 0, 1, 0, 6, 2, 0, 0, 0, 0, 1, 0, 0, 8, 6, 0, 1, 8, 0];
-    let packet = SlicedPacket::from_linux_sll(&frame)?;
+    let frame = &[0, 1, 0, 1, 0, 6, 2, 0, 0, 0, 0, 1, 0, 0, 8, 6, 0, 1, 8, 0];
+    let packet = SlicedPacket::from_linux_sll(frame)?;
     assert_equal(&rt, packet.ether_type, Some(EtherType::ARP));
     assert_equal(&rt, packet.payload, [0, 1, 8, 0].as_slice());
     Ok(())
@@ -45,10 +45,10 @@ fn a_cooked_capture(rt: HostRuntime) -> Result<(), SliceError> {
 #[test]
 fn a_cooked_capture_of_version_2(rt: HostRuntime) -> Result<(), SliceError> {
     // The same with the header of version 2, on interface 3.
-    let frame = [
+    let frame = &[
         8, 6, 0, 0, 0, 0, 0, 3, 0, 1, 1, 6, 2, 0, 0, 0, 0, 1, 0, 0, 0, 1, 8, 0,
     ];
-    let packet = SlicedPacket::from_linux_sll2(&frame)?;
+    let packet = SlicedPacket::from_linux_sll2(frame)?;
     assert_equal(&rt, packet.ether_type, Some(EtherType::ARP));
     assert_equal(&rt, packet.payload, [0, 1, 8, 0].as_slice());
     Ok(())
@@ -57,10 +57,13 @@ fn a_cooked_capture_of_version_2(rt: HostRuntime) -> Result<(), SliceError> {
 #[test]
 fn a_loopback_frame(rt: HostRuntime) -> Result<(), SliceError> {
     // Family 7 in either byte order, which is not that of IP.
-    let frame = [7, 0, 0, 0, 1];
-    let packet = SlicedPacket::from_loopback(&frame)?;
+    let frame = &[7, 0, 0, 0, 1];
+    let packet = SlicedPacket::from_loopback(frame)?;
     assert_equal(&rt, packet.link, Some(LinkSlice::Loopback { family: 7 }));
-    assert!(rt; SlicedPacket::from_loopback(&[0, 0, 0, 7, 1])? == packet);
+    assert_that(
+        &rt,
+        SlicedPacket::from_loopback(&[0, 0, 0, 7, 1])? == packet,
+    );
     Ok(())
 }
 
@@ -81,7 +84,7 @@ fn a_link_type(rt: HostRuntime) {
 fn another_protocol(rt: HostRuntime) -> Result<(), SliceError> {
     // A protocol that is not read.
     let packet = SlicedPacket::from_ether_type(EtherType::ARP, &[0, 1, 8, 0])?;
-    assert!(rt; packet.net.is_none());
+    assert_that(&rt, packet.net.is_none());
     assert_equal(&rt, packet.payload, [0, 1, 8, 0].as_slice());
     Ok(())
 }
@@ -89,7 +92,7 @@ fn another_protocol(rt: HostRuntime) -> Result<(), SliceError> {
 #[test]
 fn a_packet_without_its_transport_header(rt: HostRuntime) {
     // Four bytes of a TCP header, in a packet that is as short as it says.
-    let packet = [
+    let packet = &[
         0x45, 0, 0, 24, 0, 0, 0, 0, 64, 6, 0, 0, 10, 0, 0, 1, 10, 0, 0, 2, 4, 0, 0, 80,
     ];
     let too_short = LenError {
@@ -99,19 +102,19 @@ fn a_packet_without_its_transport_header(rt: HostRuntime) {
         layer: Layer::TcpHeader,
         layer_start_offset: 20,
     };
-    let refused = SlicedPacket::from_ip(&packet);
+    let refused = SlicedPacket::from_ip(packet);
     assert_equal(&rt, refused, Err(SliceError::Tcp(TcpError::Len(too_short))));
 }
 
 #[test]
 fn ports_of_a_cut_packet(rt: HostRuntime) {
     // Four bytes of a TCP header, in a packet that a capture cut.
-    let packet = [
+    let packet = &[
         0x45, 0, 0, 40, 0, 0, 0, 0, 64, 6, 0, 0, 10, 0, 0, 1, 10, 0, 0, 2, 4, 0, 0, 80,
     ];
-    let lax = LaxSlicedPacket::from_ip(&packet);
-    assert!(rt; lax.stop.is_some());
-    assert!(rt; lax.packet.transport.is_none());
+    let lax = LaxSlicedPacket::from_ip(packet);
+    assert_that(&rt, lax.stop.is_some());
+    assert_that(&rt, lax.packet.transport.is_none());
     assert_equal(&rt, lax.packet.ports(), Some((1024, 80)));
 }
 
@@ -126,7 +129,10 @@ fn an_arp_packet(rt: HostRuntime) -> Result<(), SliceError> {
     assert_equal(&rt, operation, Some(Ok(ArpOperation::REQUEST)));
     // All of it but its last byte.
     let packet = SlicedPacket::from_ether_type(EtherType::ARP, &arp[..27])?;
-    assert!(rt; matches!(packet.arp(), Some(Err(e)) if e.required_len == 28 && e.len == 27));
+    assert_that(
+        &rt,
+        matches!(packet.arp(), Some(Err(e)) if e.required_len == 28 && e.len == 27),
+    );
     Ok(())
 }
 
@@ -166,8 +172,8 @@ fn two_tags(vlan: Option<VlanSlice>) -> Option<[(u8, bool, u16); 2]> {
 
 #[test]
 fn two_tags_are_read_and_a_third_is_another_protocol(rt: HostRuntime) {
-    let bytes = [0xb0, 7, 0x81, 0, 0x60, 5, 0x91, 0, 0, 1, 8, 0];
-    let packet = SlicedPacket::from_ether_type(EtherType::PROVIDER_BRIDGING, &bytes).expect(
+    let bytes = &[0xb0, 7, 0x81, 0, 0x60, 5, 0x91, 0, 0, 1, 8, 0];
+    let packet = SlicedPacket::from_ether_type(EtherType::PROVIDER_BRIDGING, bytes).expect(
         &rt, "a packet",
     );
     let third = Some(EtherType::VLAN_DOUBLE_TAGGED_FRAME);
@@ -180,11 +186,11 @@ fn two_tags_are_read_and_a_third_is_another_protocol(rt: HostRuntime) {
 
 #[test]
 fn an_error_of_a_tag_has_its_place_in_the_frame(rt: HostRuntime) {
-    let frame = [
+    let frame = &[
         2, 0, 0, 0, 0, 2, 2, 0, 0, 0, 0, 1, 0x88, 0xa8, 0, 5, 0x81, 0, 1, 2, 3,
     ];
     let too_short = too_short(Layer::VlanHeader, 4, 3, 18);
-    let refused = SlicedPacket::from_ethernet(&frame).err();
+    let refused = SlicedPacket::from_ethernet(frame).err();
     assert_equal(&rt, refused, Some(SliceError::Vlan(too_short)));
 }
 

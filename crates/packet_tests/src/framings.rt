@@ -1,7 +1,7 @@
 //! Frames of PPP, Cisco's HDLC, frame relay, SLIP and IEEE 802.11: where their packets begin, as
 //! tshark and tcpdump have it, and the examples of `packet_links`.
 
-use crate::shared::assert_equal;
+use crate::shared::{assert_equal, assert_that};
 use arrayvec::ArrayVec;
 use packet::link::{LinkSlice, LinkType};
 use packet::link_layers::LinkLayers;
@@ -62,11 +62,11 @@ fn examples(rt: HostRuntime) {
     assert_equal(&rt, Framing::Ppp.header(&[0xff, 3, 0]), Err(4));
 
     // IPv6 and the control protocol of IPv4, by their numbers of PPP.
-    assert!(rt; Carried::PppProtocol(0x0057).is_ip());
-    assert!(rt; !Carried::PppProtocol(0x8021).is_ip());
+    assert_that(&rt, Carried::PppProtocol(0x0057).is_ip());
+    assert_that(&rt, !Carried::PppProtocol(0x8021).is_ip());
 
     assert_equal(&rt, Carried::EtherType(0x0806).ether_type(), Some(0x0806));
-    assert!(rt; Carried::Nlpid(0xcc).ether_type().is_none());
+    assert_that(&rt, Carried::Nlpid(0xcc).ether_type().is_none());
 }
 
 #[test]

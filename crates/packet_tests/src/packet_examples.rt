@@ -1,7 +1,7 @@
 //! The examples in the doc comments of `packet_parts`, `packet_rewriting` and `packet_capture`, line
 //! by line, with `assert_equal` for equations that they assert.
 
-use crate::shared::assert_equal;
+use crate::shared::{assert_equal, assert_that};
 use etherparse::err::{LenError, ValueTooBigError};
 use etherparse::{IpNumber, Ipv4Header, Ipv6Header};
 use etherparse_net::Ipv6FragmentHeader;
@@ -29,9 +29,9 @@ use std::test::Fail;
 fn sum_over_ipv4(rt: HostRuntime) {
     // A datagram of 12 bytes and its pseudo-header sum to all ones.
     let (source, destination) = ([192, 168, 0, 1], [192, 168, 0, 199]);
-    let datagram = [4, 0, 0, 53, 0, 12, 0x91, 0xae, b't', b'e', b's', b't'];
+    let datagram = &[4, 0, 0, 53, 0, 12, 0x91, 0xae, b't', b'e', b's', b't'];
     let mut sum = ipv4_pseudo_header(source, destination, IpNumber::UDP, 12);
-    assert_equal(&rt, sum.add_slice(&datagram).ones_complement(), 0);
+    assert_equal(&rt, sum.add_slice(datagram).ones_complement(), 0);
 }
 
 #[test]
@@ -70,9 +70,9 @@ fn sum_over_ipv6(rt: HostRuntime) {
     let source = [0x20, 0x01, 0x0d, 0xb8, 0, 0, 0, 0, 0, 0, 0, 0, 0, 0, 0, 1];
     let mut destination = source;
     destination[15] = 2;
-    let datagram = [4, 0, 0, 53, 0, 12, 0xb8, 0x52, b't', b'e', b's', b't'];
+    let datagram = &[4, 0, 0, 53, 0, 12, 0xb8, 0x52, b't', b'e', b's', b't'];
     let mut sum = ipv6_pseudo_header(source, destination, IpNumber::UDP, 12);
-    assert_equal(&rt, sum.add_slice(&datagram).ones_complement(), 0);
+    assert_equal(&rt, sum.add_slice(datagram).ones_complement(), 0);
 }
 
 #[test]
@@ -114,8 +114,8 @@ fn address(rt: HostRuntime) -> Result<(), Fail> {
 
 #[test]
 fn headers(rt: HostRuntime) -> Result<(), LenError> {
-    let slice = [4, 0, 0, 53, 0, 12, 0x91, 0xae, b't', b'e', b's', b't'];
-    let (header, rest) = UdpHeader::from_slice(&slice)?;
+    let slice = &[4, 0, 0, 53, 0, 12, 0x91, 0xae, b't', b'e', b's', b't'];
+    let (header, rest) = UdpHeader::from_slice(slice)?;
     assert_equal(
         &rt,
         (header.source_port, header.destination_port),
@@ -124,9 +124,12 @@ fn headers(rt: HostRuntime) -> Result<(), LenError> {
     assert_equal(&rt, rest, b"test".as_slice());
 
     // A fragment that is not the first, and not the last.
-    let slice = [17, 0, 0, 9, 1, 2, 3, 4, 5, 6, 7, 8];
-    let (header, rest) = Ipv6FragmentHeader::from_slice(&slice)?;
-    assert!(rt; header.is_fragmenting_payload() && header.more_fragments);
+    let slice = &[17, 0, 0, 9, 1, 2, 3, 4, 5, 6, 7, 8];
+    let (header, rest) = Ipv6FragmentHeader::from_slice(slice)?;
+    assert_that(
+        &rt,
+        header.is_fragmenting_payload() && header.more_fragments,
+    );
     assert_equal(&rt, header.fragment_offset.byte_offset(), 8);
     assert_equal(&rt, rest, [5, 6, 7, 8].as_slice());
     Ok(())
@@ -135,10 +138,10 @@ fn headers(rt: HostRuntime) -> Result<(), LenError> {
 #[test]
 fn tcp(rt: HostRuntime) -> Result<(), TcpError> {
     // A SYN from port 1024 to port 80, with sequence number 1 and a window of 8192 bytes.
-    let segment = [
+    let segment = &[
         4, 0, 0, 80, 0, 0, 0, 1, 0, 0, 0, 0, 0x50, 0x02, 0x20, 0, 0x09, 0x79, 0, 0,
     ];
-    let header = TcpHeaderSlice::from_slice(&segment)?;
+    let header = TcpHeaderSlice::from_slice(segment)?;
     assert_equal(
         &rt,
         (header.source_port(), header.destination_port()),
@@ -149,7 +152,10 @@ fn tcp(rt: HostRuntime) -> Result<(), TcpError> {
         (header.sequence_number(), header.acknowledgment_number()),
         (1, 0),
     );
-    assert!(rt; header.syn() && !header.ack() && !header.fin() && !header.rst());
+    assert_that(
+        &rt,
+        header.syn() && !header.ack() && !header.fin() && !header.rst(),
+    );
     assert_equal(
         &rt,
         (header.data_offset(), header.flags()),
@@ -160,18 +166,21 @@ fn tcp(rt: HostRuntime) -> Result<(), TcpError> {
         (header.window_size(), header.checksum()),
         (8192, 0x0979),
     );
-    assert!(rt; header.urgent_pointer() == 0 && header.options().is_empty());
+    assert_that(
+        &rt,
+        header.urgent_pointer() == 0 && header.options().is_empty(),
+    );
     Ok(())
 }
 
 #[test]
 fn slices(rt: HostRuntime) -> Result<(), IpSliceError> {
     // A datagram of 12 bytes, and two bytes that the link added.
-    let packet = [
+    let packet = &[
         0x45, 0, 0, 32, 0, 0, 0, 0, 64, 17, 0, 0, 192, 168, 0, 1, 192, 168, 0, 199, 4, 0, 0, 53, 0,
         12, 0x91, 0xae, b't', b'e', b's', b't', 0, 0,
     ];
-    let slice = IpSlice::from_slice(&packet)?;
+    let slice = IpSlice::from_slice(packet)?;
     assert_equal(
         &rt,
         slice.source(),
@@ -182,21 +191,30 @@ fn slices(rt: HostRuntime) -> Result<(), IpSliceError> {
         slice.destination(),
         IpAddr::V4(Ipv4Addr::new(192, 168, 0, 199)),
     );
-    assert!(rt; slice.header_len() == 20 && slice.header.packet_len() == 32);
-    assert!(rt; slice.upper == IpNumber::UDP && slice.payload.len() == 12);
+    assert_that(
+        &rt,
+        slice.header_len() == 20 && slice.header.packet_len() == 32,
+    );
+    assert_that(
+        &rt,
+        slice.upper == IpNumber::UDP && slice.payload.len() == 12,
+    );
     assert_equal(&rt, slice.verdict(), Verdict::Right);
     // A fragment that is not the first, and not the last.
-    let packet = [
+    let packet = &[
         0x45, 0, 0, 28, 0x12, 0x34, 0x20, 1, 64, 17, 0, 0, 192, 168, 0, 1, 192, 168, 0, 199, 1, 2,
         3, 4, 5, 6, 7, 8,
     ];
-    let slice = IpSlice::from_slice(&packet)?;
+    let slice = IpSlice::from_slice(packet)?;
     let place = Fragment {
         identification: 0x1234,
         offset: 8,
         more_fragments: true,
     };
-    assert!(rt; slice.fragment == Some(place) && slice.is_later_fragment);
+    assert_that(
+        &rt,
+        slice.fragment == Some(place) && slice.is_later_fragment,
+    );
     Ok(())
 }
 
@@ -208,21 +226,21 @@ fn lax_slices(rt: HostRuntime) -> Result<(), IpSliceError> {
         12, 0x91, 0xae,
     ];
     let lax = LaxIpSlice::from_slice(&packet)?;
-    assert!(rt; lax.slice.payload.len() == 8 && lax.stop.is_some());
+    assert_that(&rt, lax.slice.payload.len() == 8 && lax.stop.is_some());
     assert_equal(&rt, lax.verdict(), Verdict::Absent(Absence::Incomplete));
     // A total length of 0: the payload is all that there is.
     packet[3] = 0;
     let lax = LaxIpSlice::from_slice(&packet)?;
-    assert!(rt; lax.slice.payload.len() == 8 && lax.stop.is_some());
+    assert_that(&rt, lax.slice.payload.len() == 8 && lax.stop.is_some());
     Ok(())
 }
 
 #[test]
 fn fragments(rt: HostRuntime) {
     // The fragment header of a fragment that is not the first, and the middle of a payload.
-    let body = [17, 0, 0, 9, 1, 2, 3, 4, 5, 6, 7, 8];
-    let after = after_extensions(&body, IpNumber::IPV6_FRAGMENTATION_HEADER);
-    assert!(rt; after.number == IpNumber::UDP && after.is_later);
+    let body = &[17, 0, 0, 9, 1, 2, 3, 4, 5, 6, 7, 8];
+    let after = after_extensions(body, IpNumber::IPV6_FRAGMENTATION_HEADER);
+    assert_that(&rt, after.number == IpNumber::UDP && after.is_later);
     assert_equal(&rt, after.rest, [5, 6, 7, 8].as_slice());
 }
 
@@ -257,21 +275,21 @@ fn keys_of_ipv6_fragments(rt: HostRuntime) {
 #[test]
 fn rewriting(rt: HostRuntime) {
     let mut message = [8, 0, 0x84, 0x68, 0x12, 0x34, 0, 1, b'a', b'b'];
-    assert!(rt; icmpv4_reply(&mut message));
+    assert_that(&rt, icmpv4_reply(&mut message));
     assert_equal(
         &rt,
         message,
         [0, 0, 0x8c, 0x68, 0x12, 0x34, 0, 1, b'a', b'b'],
     );
     // A reply gets no reply.
-    assert!(rt; !icmpv4_reply(&mut message));
+    assert_that(&rt, !icmpv4_reply(&mut message));
 
     // A reply from 2001:db8::1 to 2001:db8::2.
     let source = [0x20, 0x01, 0x0d, 0xb8, 0, 0, 0, 0, 0, 0, 0, 0, 0, 0, 0, 1];
     let mut destination = source;
     destination[15] = 2;
     let mut message = [128, 0, 0xb0, 0xae, 0x12, 0x34, 0, 1, b'a', b'b'];
-    assert!(rt; icmpv6_reply(source, destination, &mut message));
+    assert_that(&rt, icmpv6_reply(source, destination, &mut message));
     assert_equal(
         &rt,
         message,
@@ -315,10 +333,10 @@ fn captures(rt: HostRuntime) {
         link_type: 101,
     };
     // 3 bytes of a packet of 5, captured 2 microseconds into second 1.
-    let records = [
+    let records = &[
         1, 0, 0, 0, 2, 0, 0, 0, 3, 0, 0, 0, 5, 0, 0, 0, b'a', b'b', b'c',
     ];
-    let head = header.record_head(&records);
+    let head = header.record_head(records);
     assert_equal(&rt, (head.captured_len, head.original_len), (3, 5));
     let record = Record {
         seconds: 1,
@@ -327,19 +345,19 @@ fn captures(rt: HostRuntime) {
         bytes: b"abc",
     };
     let expected = Ok(Some((record, [].as_slice())));
-    assert_equal(&rt, next_record(&header, &records), expected);
+    assert_equal(&rt, next_record(&header, records), expected);
     assert_equal(&rt, next_record(&header, &[]), Ok(None));
 }
 
 #[test]
 fn capture(rt: HostRuntime) -> Result<(), CaptureError> {
     // A file without records: packets that begin with their IP header, in microseconds.
-    let file = [
+    let file = &[
         0xd4, 0xc3, 0xb2, 0xa1, 2, 0, 4, 0, 0, 0, 0, 0, 0, 0, 0, 0, 0xff, 0xff, 0, 0, 101, 0, 0, 0,
     ];
-    let (header, records) = FileHeader::from_slice(&file)?;
+    let (header, records) = FileHeader::from_slice(file)?;
     assert_equal(&rt, header.format.resolution, Resolution::Microseconds);
     assert_equal(&rt, (header.snap_len, header.link_type), (65535, 101));
-    assert!(rt; records.is_empty());
+    assert_that(&rt, records.is_empty());
     Ok(())
 }

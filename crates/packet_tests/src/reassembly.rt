@@ -1,6 +1,6 @@
 //! Whole packets from a pool, beside those that scapy 2.5.0 cut into fragments.
 
-use crate::shared::assert_equal;
+use crate::shared::{assert_equal, assert_that};
 use packet_reassembly::fragment_ecn::FragmentEcn;
 use packet_reassembly::ip_defrag_buf::IpDefragBuf;
 use packet_reassembly::ip_defrag_headers::IpDefragHeaders;
@@ -179,16 +179,17 @@ fn headers_of_1280_bytes_are_kept_and_longer_ones_refused(rt: HostRuntime) {
     (packet[40], packet[41]) = (44, 153);
     (packet[1272], packet[1275]) = (17, 1);
     let kept = put_together(&packet, &packet, &packet, &mut out);
-    assert!(rt; matches!(kept, Ok(0)));
+    assert_that(&rt, matches!(kept, Ok(0)));
     // 8 bytes of options more.
     (packet[5], packet[41]) = (0xe8, 154);
     (packet[1272], packet[1275]) = (0, 0);
     (packet[1280], packet[1283]) = (17, 1);
     let refused = put_together(&packet, &packet, &packet, &mut out);
-    assert!(rt;
+    assert_that(
+        &rt,
         matches!(
             refused,
             Err(IpDefragPacketError::HeadersTooLong { len: 1288 })
-        )
+        ),
     );
 }

@@ -21,11 +21,11 @@ fn front_of_a_section(rt: HostRuntime) -> Result<(), Fail> {
 
 fn front_in_a_file(rt: &impl Abort) -> Result<(), Fail> {
     // The first bytes of a section header of pcapng that has 400,000 bytes.
-    let file = [
+    let file = &[
         0x0a, 0x0d, 0x0d, 0x0a, 0x80, 0x1a, 6, 0, 0x4d, 0x3c, 0x2b, 0x1a, 1, 0, 0, 0, 0xff, 0xff,
         0xff, 0xff, 0xff, 0xff, 0xff, 0xff, 1, 0, 0, 0,
     ];
-    let (capture, bytes) = Capture::from_slice(&file)?;
+    let (capture, bytes) = Capture::from_slice(file)?;
     let front = capture.block_front(bytes)?;
     assert_equal(
         &rt,
@@ -47,7 +47,7 @@ fn front_of_a_record(rt: HostRuntime) {
         link_type: 0x2400_0001,
     });
     // 400,000 bytes of a packet of 500,000, captured 2 microseconds into second 1.
-    let record = [0, 0, 0, 1, 0, 0, 0, 2, 0, 6, 0x1a, 0x80, 0, 7, 0xa1, 0x20];
+    let record = &[0, 0, 0, 1, 0, 0, 0, 2, 0, 6, 0x1a, 0x80, 0, 7, 0xa1, 0x20];
     let stamp = Stamp::Recorded {
         seconds: 1,
         nanoseconds: 2_000,
@@ -60,7 +60,7 @@ fn front_of_a_record(rt: HostRuntime) {
     };
     assert_equal(
         &rt,
-        (capture.front_len(), capture.block_front(&record)),
+        (capture.front_len(), capture.block_front(record)),
         (16, Ok(front)),
     );
     // Records do not repeat their length.
@@ -80,29 +80,29 @@ fn fronts_of_packets(rt: HostRuntime) {
         offset: 7,
     };
     let content = Content::Packet(packet(101, stamp));
-    let block = [
+    let block = &[
         0, 0, 0, 6, 0, 6, 0x1a, 0xa0, 0, 0, 0, 1, 0, 0, 0, 3, 0, 0, 0, 2, 0, 6, 0x1a, 0x80, 0, 7,
         0xa1, 0x20,
     ];
     let block_type = BlockType::Packet(PacketType::Enhanced);
-    assert_front(&rt, &block, front(block_type, 400_032, content));
+    assert_front(&rt, block, front(block_type, 400_032, content));
 
     // The same, after 65,535 packets that were dropped.
-    let block = [
+    let block = &[
         0, 0, 0, 2, 0, 6, 0x1a, 0xa0, 0, 1, 0xff, 0xff, 0, 0, 0, 3, 0, 0, 0, 2, 0, 6, 0x1a, 0x80,
         0, 7, 0xa1, 0x20,
     ];
     let block_type = BlockType::Packet(PacketType::Obsolete);
-    assert_front(&rt, &block, front(block_type, 400_032, content));
+    assert_front(&rt, block, front(block_type, 400_032, content));
 
     // On the first interface, which keeps 400,000 bytes of a packet.
     let content = Content::Packet(packet(1, Stamp::Unknown));
-    let block = [
+    let block = &[
         0, 0, 0, 3, 0, 6, 0x1a, 0x90, 0, 7, 0xa1, 0x20, 1, 2, 3, 4, 5, 6, 7, 8, 9, 10, 11, 12, 13,
         14, 15, 16,
     ];
     let block_type = BlockType::Packet(PacketType::Simple);
-    assert_front(&rt, &block, front(block_type, 400_016, content));
+    assert_front(&rt, block, front(block_type, 400_016, content));
 }
 
 #[test]
@@ -111,28 +111,28 @@ fn fronts_of_refused_packets(rt: HostRuntime) {
 
     // Of a third interface.
     let content = Content::Refused(BlockError::Interface { id: 2, count: 2 });
-    let block = [
+    let block = &[
         0, 0, 0, 6, 0, 6, 0x1a, 0xa0, 0, 0, 0, 2, 0, 0, 0, 3, 0, 0, 0, 2, 0, 6, 0x1a, 0x80, 0, 7,
         0xa1, 0x20,
     ];
-    assert_front(&rt, &block, front(block_type, 400_032, content));
+    assert_front(&rt, block, front(block_type, 400_032, content));
 
     // One byte more than 400,032 bytes have room for after 28 and before 4.
     let content = Content::Refused(BlockError::CapturedLength {
         captured_len: 400_001,
         room: 400_000,
     });
-    let block = [
+    let block = &[
         0, 0, 0, 6, 0, 6, 0x1a, 0xa0, 0, 0, 0, 1, 0, 0, 0, 3, 0, 0, 0, 2, 0, 6, 0x1a, 0x81, 0, 7,
         0xa1, 0x20,
     ];
-    assert_front(&rt, &block, front(block_type, 400_032, content));
+    assert_front(&rt, block, front(block_type, 400_032, content));
 }
 
 #[test]
 fn fronts_without_packets(rt: HostRuntime) {
     // A section header in the other byte order.
-    let block = [
+    let block = &[
         0x0a, 0x0d, 0x0d, 0x0a, 0x80, 0x1a, 6, 0, 0x4d, 0x3c, 0x2b, 0x1a, 1, 0, 0, 0, 0xff, 0xff,
         0xff, 0xff, 0xff, 0xff, 0xff, 0xff, 1, 0, 0, 0,
     ];
@@ -145,28 +145,28 @@ fn fronts_without_packets(rt: HostRuntime) {
             total_len: 400_000,
         }),
     };
-    assert_front(&rt, &block, Ok(expected));
+    assert_front(&rt, block, Ok(expected));
 
     // An interface with a comment (option 1) of 65,000 bytes.
-    let block = [
+    let block = &[
         0, 0, 0, 1, 0, 6, 0x1a, 0x80, 0, 1, 0, 0, 0, 0, 0, 0, 0, 1, 0xfd, 0xe8, b'a', b'a', b'a',
         b'a', b'a', b'a', b'a', b'a',
     ];
     let block_type = BlockType::InterfaceDescription;
     let expected = front(block_type, 400_000, Content::Description);
-    assert_front(&rt, &block, expected);
+    assert_front(&rt, block, expected);
 
     // A Name Resolution Block, which has the type 4; its first record has the type 1 and 65,000
     // bytes.
-    let block = [
+    let block = &[
         0, 0, 0, 4, 0, 6, 0x1a, 0x80, 0, 1, 0xfd, 0xe8, 10, 0, 0, 1, b'a', b'a', b'a', b'a', b'a',
         b'a', b'a', b'a', b'a', b'a', b'a', b'a',
     ];
     let expected = front(BlockType::Other(4), 400_000, Content::Other);
-    assert_front(&rt, &block, expected);
+    assert_front(&rt, block, expected);
 
     // A length that is no multiple of 4.
-    let block = [
+    let block = &[
         0, 0, 0, 4, 0, 6, 0x1a, 0x82, 0, 1, 0xfd, 0xe8, 10, 0, 0, 1, b'a', b'a', b'a', b'a', b'a',
         b'a', b'a', b'a', b'a', b'a', b'a', b'a',
     ];
@@ -174,7 +174,7 @@ fn fronts_without_packets(rt: HostRuntime) {
         block_type: BlockType::Other(4),
         total_len: 400_002,
     });
-    assert_front(&rt, &block, expected);
+    assert_front(&rt, block, expected);
 }
 
 #[test]

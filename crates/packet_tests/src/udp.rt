@@ -43,9 +43,9 @@ fn over_ipv6() -> Ipv6Header {
 
 #[test]
 fn eight_bytes_are_read_and_written(rt: HostRuntime) {
-    let bytes = [4, 0, 0, 53, 0, 12, 0x91, 0xae, b't', b'e'];
+    let bytes = &[4, 0, 0, 53, 0, 12, 0x91, 0xae, b't', b'e'];
     let expected = (header(0x91ae), b"te".as_slice());
-    assert_equal(&rt, UdpHeader::from_slice(&bytes), Ok(expected));
+    assert_equal(&rt, UdpHeader::from_slice(bytes), Ok(expected));
     assert_equal(
         &rt,
         header(0x91ae).to_bytes(),

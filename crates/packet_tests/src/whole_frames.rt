@@ -1,6 +1,6 @@
 //! The examples in the doc comments of `frame_reassembly`, line by line as they stand there.
 
-use crate::shared::assert_equal;
+use crate::shared::{assert_equal, assert_that};
 use frame_reassembly::datagrams::Datagrams;
 use frame_reassembly::frame_reassembly::FrameReassembly;
 use packet::link::LinkType;
@@ -39,19 +39,22 @@ fn two_fragments(rt: &impl Abort, frames: &mut FrameReassembly) {
     let mut out = [0; 65_700];
 
     // Ethernet, a tag of VLAN 5, and two fragments of an IPv4 packet, of 8 bytes and of 5.
-    let first = [
+    let first = &[
         2, 0, 0, 0, 0, 2, 2, 0, 0, 0, 0, 1, 0x81, 0, 0, 5, 8, 0, 0x45, 0, 0, 28, 0x12, 0x34, 0x20,
         0, 64, 17, 0, 0, 192, 168, 0, 1, 192, 168, 0, 199, b't', b'h', b'i', b'r', b't', b'e',
         b'e', b'n',
     ];
-    let last = [
+    let last = &[
         2, 0, 0, 0, 0, 2, 2, 0, 0, 0, 0, 1, 0x81, 0, 0, 5, 8, 0, 0x45, 0, 0, 25, 0x12, 0x34, 0, 1,
         64, 17, 0, 0, 192, 168, 0, 1, 192, 168, 0, 199, b'b', b'y', b't', b'e', b's',
     ];
     let mut datagrams = Datagrams::none();
-    let taken = frames.take(LinkType::Ethernet2, &last, 0, &mut datagrams, &mut out);
-    assert!(rt; taken.is_none() && datagrams.left_over() == 1);
-    let taken = frames.take(LinkType::Ethernet2, &first, 1, &mut datagrams, &mut out);
-    assert!(rt; taken == Some(51) && datagrams.put_together == 1);
-    assert!(rt; out[..18] == first[..18] && &out[38..51] == b"thirteenbytes".as_slice());
+    let taken = frames.take(LinkType::Ethernet2, last, 0, &mut datagrams, &mut out);
+    assert_that(&rt, taken.is_none() && datagrams.left_over() == 1);
+    let taken = frames.take(LinkType::Ethernet2, first, 1, &mut datagrams, &mut out);
+    assert_that(&rt, taken == Some(51) && datagrams.put_together == 1);
+    assert_that(
+        &rt,
+        out[..18] == first[..18] && &out[38..51] == b"thirteenbytes".as_slice(),
+    );
 }
