@@ -91,3 +91,5 @@ impl FragmentEcn {
         header
     }
 }
+
+const _: () = prove!(!FragmentEcn::NONE.ce && !FragmentEcn::NONE.not_ect);

@@ -101,13 +101,13 @@ impl<'a> IpDefragBuf<'a> {
         self.add_counted(offset, more_fragments, payload).0
     }
 
-    /// The result of [`IpDefragBuf::add`], and how many entries of the table were read or written:
-    /// at most two for each 8 bytes of the fragment and one more, whatever has come before. An
-    /// entry is a byte. For a new fragment that is kept it is exactly that: each is read once and
-    /// written once, and the first is written again. For a duplicate it is one for each 8 bytes and
-    /// two more, and for a fragment that conflicts with another at most that. None is read if the
-    /// datagram was discarded before, or if the fragment is refused. Apart from this the payload is
-    /// compared or copied at most once.
+    /// The result of [`IpDefragBuf::add`], and how many entries of the table were read or written,
+    /// as the code counts them: at most two for each 8 bytes of the fragment and one more, whatever
+    /// has come before. An entry is a byte. For a new fragment that is kept it is exactly that: each
+    /// is read once and written once, and the first is written again. For a duplicate it is one for
+    /// each 8 bytes and two more, and for a fragment that conflicts with another at most that. None
+    /// is read if the datagram was discarded before, or if the fragment is refused. Apart from this
+    /// the payload is compared or copied at most once.
     ///
     /// # Errors
     ///

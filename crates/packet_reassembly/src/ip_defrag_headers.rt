@@ -152,6 +152,8 @@ impl<'a> IpDefragHeaders<'a> {
     }
 }
 
+const _: () = prove!(IpDefragHeaders::MAX_LEN == 1280);
+
 // Which headers those of a fragment are, where memory begins with them.
 fn kept_of(fragment: &IpFragmentSlice) -> Kept
     requires headers { HasHeaders fragment.now }

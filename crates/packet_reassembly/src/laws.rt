@@ -6,7 +6,7 @@ ghost use Rattle.packet_reassembly.specs.declared.fragment_ecn.FragmentEcn.{Frag
 
 use crate::fragment_ecn::FragmentEcn;
 use crate::ip_defrag_error::IpDefragError;
-use crate::ip_defrag_pool::{Added, DatagramState};
+use crate::ip_defrag_pool::{Added, DatagramState, IpDefragPool, IpDefragSlot};
 use crate::ip_frag_id::{IpFragId, IpFragVersionSpecId};
 use crate::reassemble::IpFragment;
 use std::alloc::AllocError;
@@ -102,4 +102,12 @@ pub fn ip_fragment_clone<'a>(fragment: &IpFragment<'a>) -> Result<IpFragment<'a>
     ensures same_value { result ≡ Ok fragment.now }
 {
     Clone::clone(fragment)
+}
+
+/// When a pool is let go, its slots are as they were.
+pub fn ip_defrag_pool_drop(slots: &mut [IpDefragSlot], timeout: u64) -> u64
+    ensures same_slots { slots.new ≡ slots.old }
+{
+    let pool = IpDefragPool { slots, timeout };
+    pool.timeout
 }
