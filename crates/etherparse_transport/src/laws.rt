@@ -62,12 +62,6 @@ fn udp_header_clone(header: &UdpHeader) -> Result<UdpHeader, AllocError>
     header.clone()
 }
 
-fn tcp_header_clone(header: &TcpHeader) -> Result<TcpHeader, AllocError>
-    ensures same_value { result ≡ Ok header.now }
-{
-    header.clone()
-}
-
 fn tcp_options_clone(options: &TcpOptions) -> Result<TcpOptions, AllocError>
     ensures same_value { result ≡ Ok options.now }
 {

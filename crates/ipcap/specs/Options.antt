@@ -45,7 +45,8 @@ flags = excluding (flag (codes "count")) ∷ excluding (flag (codes "quiet")) �
 
 -- all options, and the words that are none: one, and any number after it
 unfoldable pub options : List Rule
-options = (option_with_value (codes "read") 114 ∷ option_with_value (codes "write") 119 ∷ limit ∷ [])
+options =
+    (option_with_value (codes "read") 114 ∷ option_with_value (codes "write") 119 ∷ limit ∷ [])
     ++ flags ++ new_rule (codes "FILE") ∷ expression ∷ []
 
 abbrev pub app_with : List Rule → App
