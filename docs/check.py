@@ -8,7 +8,8 @@
   compiles.
 - An example in a doc comment stands in a test of `etherparse_tests` or `packet_tests`,
   or in a caller of `uses`; there `assert_equal(&rt, a, b)` may stand for `assert!(rt; a == b)`
-  and for `assert_eq!(rt; a, b)`.
+  and for `assert_eq!(rt; a, b)`, `assert_that(&rt, a)` for `assert!(rt; a)`, and `let a = &[..]`
+  with `a` for `let a = [..]` with `&a`.
 - A file that a page names is there, and each command names files that are there; a command that
   pipes into `rt run` or `rt try` in crates/iphead is run by the built program, and prints what the
   page shows.
@@ -257,10 +258,10 @@ EQUATION = re.compile(r'assert!\(rt;((?:(?!&&|\|\||==|;(?!\d+\])).)+)==((?:(?!&&
 
 
 def with_calls(squeezed):
-    """a squeezed text with the call `assert_equal(&rt, a, b)` for each `assert!(rt; a == b)` and each
-    `assert_eq!(rt; a, b)`"""
-    called = EQUATION.sub(r'assert_equal(&rt,\1,\2);', squeezed)
-    return called.replace('assert_eq!(rt;', 'assert_equal(&rt,').replace(',)', ')')
+    """a squeezed text with the call `assert_equal(&rt, a, b)` for each assertion that a and b are equal,
+    with `assert!(rt; a)` for each other, and without `&`"""
+    plain = squeezed.replace(',)', ')').replace('assert_that(&rt,', 'assert!(rt;').replace('assert_eq!(rt;', 'assert_equal(&rt,')
+    return EQUATION.sub(r'assert_equal(&rt,\1,\2);', plain).replace('&', '')
 
 
 def check_comments(file, text):
@@ -454,10 +455,12 @@ def check_nothing_beside(file, text):
         judge(file, beside and beside.group(), not beside, 'is beside the repository')
 
 
-def check_iterators(file, text):
-    """The contract of `size_hint` allows a count that is too great, so no iterator has one of its own."""
+def check_unsaid(file, text):
+    """What no contract says is not written by hand: the contract of `size_hint` allows a count that is too great, and what a
+    `drop` does to memory that was lent is in no contract."""
     if re.search(r'\bIterator for ', text):
         judge(file, 'size_hint', 'fn size_hint' not in text, 'is written by hand')
+    judge(file, 'Drop', not re.search(r'\bDrop for ', text), 'is written by hand')
 
 
 for file in FILES:
@@ -467,7 +470,7 @@ for file in FILES:
             check_nothing_beside(file, content)
 for file, content in SOURCES.items():
     check_comments(file, content)
-    check_iterators(file, content)
+    check_unsaid(file, content)
 for file in PAGES:
     content = file.read_text()
     for check in check_code, check_files, check_clauses, check_commands, check_figures:
