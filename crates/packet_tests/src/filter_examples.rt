@@ -1,7 +1,7 @@
-//! The examples in the doc comments of `packet_filter`, line by line as they stand there, and the
-//! texts of its errors.
+//! The examples in the doc comments of `packet_filter`, line by line as they stand there, the texts
+//! of its errors, and how a filter is printed.
 
-use crate::shared::assert_that;
+use crate::shared::{assert_equal, assert_that};
 use packet::lax_sliced_packet::LaxSlicedPacket;
 use packet::link::LinkType;
 use packet_filter::{Expected, Filter, FilterError};
@@ -79,5 +79,14 @@ fn frames(rt: HostRuntime) -> Result<(), FilterError> {
         &rt,
         filter.matches_frame(LinkType::Ethernet2, &frame[..13], 13),
     );
+    Ok(())
+}
+
+#[test]
+fn a_filter_is_printed(rt: HostRuntime) -> Result<(), Fail> {
+    let filter = Filter::from_text(b"not udp")?;
+    let printed = format!(in rt.alloc(); "{filter:?}")?;
+    let steps = "Filter { steps: [Test(Proto(None, 17)), Not], .. }";
+    assert_equal(&rt, printed.as_str(), steps);
     Ok(())
 }
