@@ -115,6 +115,7 @@ impl<'a, 'b> IpDefragPool<'a, 'b> {
         ensures headers { HaveFirstHeaders self.old.slots.now →
             HaveFirstHeaders self.new.slots.now }
         ensures timeout { self.new.timeout ≡ self.old.timeout }
+        ensures same_reference { self.new.slots.ghost_name ≡ self.old.slots.ghost_name }
     {
         let fragment = match ip_fragment(packet) {
             Ok(Some(fragment)) => fragment,
@@ -180,6 +181,7 @@ impl<'a, 'b> IpDefragPool<'a, 'b> {
         ensures nothing { IfOk result (λ found. IfNone found (out.new ≡ out.old)) }
         ensures slots { self.new.slots.now ≡ self.old.slots.now }
         ensures timeout { self.new.timeout ≡ self.old.timeout }
+        ensures same_reference { self.new.slots.ghost_name ≡ self.old.slots.ghost_name }
     {
         let slots = &mut *self.slots;
         let slots = &*slots;

@@ -61,7 +61,8 @@ pub struct Added {
     pub given_up: Option<IpFragId>,
 }
 
-/// Many datagrams at once, in slots that the caller lends.
+/// Many datagrams at once, in slots that the caller lends. Once the pool is let go, they are what it
+/// left, and another can go on with them: each call says so by `same_reference`.
 ///
 /// # Example
 ///
@@ -131,6 +132,7 @@ impl<'a, 'b> IpDefragPool<'a, 'b> {
         ensures refused { IfErr result (Refuses (fragment offset more_fragments payload.now)) }
         ensures unchanged { OnErr result (self.new.slots.now ≡ self.old.slots.now) }
         ensures timeout { self.new.timeout ≡ self.old.timeout }
+        ensures same_reference { self.new.slots.ghost_name ≡ self.old.slots.ghost_name }
     {
         let timeout = self.timeout;
         let slots = &mut *self.slots;
@@ -159,6 +161,7 @@ impl<'a, 'b> IpDefragPool<'a, 'b> {
         ensures headers { HaveFirstHeaders self.old.slots.now →
             HaveFirstHeaders self.new.slots.now }
         ensures timeout { self.new.timeout ≡ self.old.timeout }
+        ensures same_reference { self.new.slots.ghost_name ≡ self.old.slots.ghost_name }
     {
         let slots = &mut *self.slots;
         release_at(slots, slot);

@@ -1,8 +1,11 @@
-//! A caller of `packet_reassembly`.
+//! Callers of `packet_reassembly`.
 
-ghost use Rattle.std.specs.Prelude.{ℕ, ◌≡◌, ◌≤◌, List, IfNone, IfSome, length};
+ghost use Rattle.std.specs.Prelude.{ℕ, ◌≡◌, ◌<◌, ◌≤◌, List, None, IfNone, IfOk, IfSome, OnErr, length};
 ghost use Rattle.packet_reassembly.specs.Arrivals.{HoldDatagram, came};
+ghost use Rattle.packet_reassembly.specs.PacketAdded.{IsPacketAdded};
 
+use packet_reassembly::ip_defrag_packet::IpDefragPacketError;
+use packet_reassembly::ip_defrag_pool::{Added, IpDefragPool, IpDefragSlot};
 use packet_reassembly::reassemble::{IpFragment, reassemble};
 
 /// How long the datagram is that these fragments are, in bytes, in whichever order they came.
@@ -19,4 +22,23 @@ pub fn datagram_len(bytes: &mut [u8], units: &mut [u8], fragments: &[IpFragment]
         Some(datagram) => Some(datagram.len()),
         None => None,
     }
+}
+
+/// Adds a packet to the datagrams in slots that a caller keeps, by a pool for this packet alone.
+pub fn added_to(
+    slots: &mut [IpDefragSlot],
+    packet: &[u8],
+    now: u64,
+) -> Result<Option<Added>, IpDefragPacketError>
+    requires some { 0 < length slots.old }
+    ensures added { IfOk result (λ found. IfSome found (IsPacketAdded slots.old packet.now None None
+        60 now slots.new)) }
+    ensures kept { IfOk result (λ found. IfNone found (slots.new ≡ slots.old)) }
+    ensures unchanged { OnErr result (slots.new ≡ slots.old) }
+{
+    let mut pool = IpDefragPool {
+        slots,
+        timeout: IpDefragPool::TIMEOUT_SECONDS,
+    };
+    pool.add_packet(packet, None, None, now)
 }
