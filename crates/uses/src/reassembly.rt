@@ -1,8 +1,10 @@
 //! Callers of `packet_reassembly`.
 
-ghost use Rattle.std.specs.Prelude.{ℕ, ◌≡◌, ◌<◌, ◌≤◌, List, None, IfNone, IfOk, IfSome, OnErr, length};
+ghost use Rattle.std.specs.Prelude.{ℕ, ◌≡◌, ◌<◌, ◌≤◌, List, None, length};
+ghost use Rattle.std.specs.Prelude.{IfErr, IfNone, IfOk, IfSome, OnErr};
 ghost use Rattle.packet_reassembly.specs.Arrivals.{HoldDatagram, came};
-ghost use Rattle.packet_reassembly.specs.PacketAdded.{IsPacketAdded};
+ghost use Rattle.packet_reassembly.specs.IpFragment.{IsNoFragment};
+ghost use Rattle.packet_reassembly.specs.PacketAdded.{IsPacketAdded, RefusesPacket};
 
 use packet_reassembly::ip_defrag_packet::IpDefragPacketError;
 use packet_reassembly::ip_defrag_pool::{Added, IpDefragPool, IpDefragSlot};
@@ -33,7 +35,9 @@ pub fn added_to(
     requires some { 0 < length slots.old }
     ensures added { IfOk result (λ found. IfSome found (IsPacketAdded slots.old packet.now None None
         60 now slots.new)) }
+    ensures none { IfOk result (λ found. IfNone found (IsNoFragment packet.now)) }
     ensures kept { IfOk result (λ found. IfNone found (slots.new ≡ slots.old)) }
+    ensures refused { IfErr result (RefusesPacket packet.now) }
     ensures unchanged { OnErr result (slots.new ≡ slots.old) }
 {
     let mut pool = IpDefragPool {
