@@ -66,8 +66,10 @@ IPV4_ARGUMENTS = ['dscp', 'ecn', 'total_len', 'identification', 'dont_fragment',
 IPV6 = Layout('Ipv6Header', 'version:4 traffic_class:8 flow_label:20 payload_length:16 next_header:8 hop_limit:8 source:128 '
               'destination:128')
 IPV6_ARGUMENTS = ['traffic_class', 'flow_label', 'payload_length', 'next_header', 'hop_limit', 'source', 'destination']
-# What the type of an ICMP message is followed by (RFC 792; RFC 1191 section 4).
+# What the type of an ICMP message is followed by (RFC 792; RFC 1191 section 4; RFC 4861 sections 4.2 and 4.4).
 ECHO = Layout('', 'id:16 seq:16')
+ROUTER = Layout('', 'cur_hop_limit:8 managed_address_config:1 other_config:1 -:6 router_lifetime:16')
+NEIGHBOR = Layout('', 'router:1 solicited:1 override_flag:1 -:29')
 TIMESTAMP = Layout('', 'id:16 seq:16 originate_timestamp:32 receive_timestamp:32 transmit_timestamp:32')
 
 
@@ -539,9 +541,10 @@ def listed(held):
     return '[' + ', '.join(map(str, held)) + ']'
 
 
-def record(name, layout, held):
+def record(name, layout, held, flags=()):
     fields, _ = layout.read(held)
-    return f'{name} {{ {", ".join([f"{key}: {value}" for key, value in fields.items()])} }}'
+    texts = [f'{key}: {flag(value) if key in flags else value}' for key, value in fields.items()]
+    return f'{name} {{ {", ".join(texts)} }}'
 
 
 def icmpv4_kind(kind, code, rest):
@@ -585,6 +588,12 @@ def icmpv6_kind(kind, code, rest):
         return f'PacketTooBig {{ mtu: {number} }}', rest[:4]
     if code == 0 and kind in (128, 129):
         return f'{("EchoRequest", "EchoReply")[kind - 128]}({record("IcmpEchoHeader", ECHO, rest)})', rest[:4]
+    if code == 0 and kind == 134:
+        fields = record('RouterAdvertisementHeader', ROUTER, rest, ('managed_address_config', 'other_config'))
+        return f'RouterAdvertisement({fields})', ROUTER.read(rest)[1]
+    if code == 0 and kind == 136:
+        fields = record('NeighborAdvertisementHeader', NEIGHBOR, rest, ('router', 'solicited', 'override_flag'))
+        return f'NeighborAdvertisement({fields})', NEIGHBOR.read(rest)[1]
     if code == 0 and kind in (133, 135, 137):
         return {133: 'RouterSolicitation', 135: 'NeighborSolicitation', 137: 'Redirect'}[kind], unused
     return unknown(kind, code, rest)

@@ -12,6 +12,9 @@ use Rattle.etherparse.specs.Bytes.{IsBytes}
 use Rattle.etherparse.specs.Reading.{IsTooShort}
 use Rattle.etherparse.specs.WordSums.{little_endian_word_sum}
 use Rattle.etherparse.specs.declared.err.Layer.TheVariants as layer
+use Rattle.etherparse_icmp.proofs.Advertisements.{neighbor_of, neighbor_rest, neighbor_spelled}
+use Rattle.etherparse_icmp.proofs.Advertisements.{neighbor_told, router_of, router_rest}
+use Rattle.etherparse_icmp.proofs.Advertisements.{router_spelled, router_told}
 use Rattle.etherparse_icmp.proofs.Checksums.{HasWords}
 use Rattle.etherparse_icmp.proofs.Rests.{drop_is_bytes, echo_of, echo_spelled, echo_told}
 use Rattle.etherparse_icmp.specs.Icmpv6.{HasIcmpv6Bytes, HasIcmpv6Name, HasIcmpv6Rest}
@@ -76,7 +79,9 @@ type_of n code rest = if n == 1 then icmp.DestinationUnreachable (unreachable_co
     (record { code = problem_code code; pointer = from_be_bytes w32 rest })
     else if n == 128 then icmp.EchoRequest (echo_of rest) else if n == 129 then icmp.EchoReply (echo_of rest)
     else if n == 133 then icmp.RouterSolicitation
-    else if n == 135 then icmp.NeighborSolicitation else icmp.Redirect
+    else if n == 134 then icmp.RouterAdvertisement (router_of rest)
+    else if n == 135 then icmp.NeighborSolicitation
+    else if n == 136 then icmp.NeighborAdvertisement (neighbor_of rest) else icmp.Redirect
 
 -- a type has a name and is told by its numbers, or it is unknown
 told_by_numbers : (t : Icmpv6Type) (rest : List ℕ) → HasIcmpv6Rest t rest
@@ -94,7 +99,11 @@ told_by_numbers (icmp.EchoRequest echo) rest h =
     inl (tt, ap icmp.EchoRequest (echo_told echo rest h))
 told_by_numbers (icmp.EchoReply echo) rest h = inl (tt, ap icmp.EchoReply (echo_told echo rest h))
 told_by_numbers icmp.RouterSolicitation rest h = inl (tt, refl)
+told_by_numbers (icmp.RouterAdvertisement header) rest h =
+    inl (tt, ap icmp.RouterAdvertisement (router_told header rest h))
 told_by_numbers icmp.NeighborSolicitation rest h = inl (tt, refl)
+told_by_numbers (icmp.NeighborAdvertisement header) rest h =
+    inl (tt, ap icmp.NeighborAdvertisement (neighbor_told header rest h))
 told_by_numbers icmp.Redirect rest h = inl (tt, refl)
 
 -- an unknown type does not have the numbers of one that has a name
@@ -133,6 +142,8 @@ rest_of (icmp.PacketTooBig mtu) = to_be_bytes w32 mtu
 rest_of (icmp.ParameterProblem header) = to_be_bytes w32 header.pointer
 rest_of (icmp.EchoRequest echo) = to_be_bytes w16 echo.id ++ to_be_bytes w16 echo.seq
 rest_of (icmp.EchoReply echo) = to_be_bytes w16 echo.id ++ to_be_bytes w16 echo.seq
+rest_of (icmp.RouterAdvertisement header) = router_rest header
+rest_of (icmp.NeighborAdvertisement header) = neighbor_rest header
 rest_of icmp_type = 0 ∷ 0 ∷ 0 ∷ 0 ∷ []
 
 cleared_spelled : (t : Icmpv6Type) (rest : List ℕ) → length rest ≡ 4 → IsBytes rest
@@ -144,6 +155,10 @@ cleared_spelled (icmp.ParameterProblem header) rest len bytes h =
     sym (be_bytes_4 rest header.pointer len bytes (sym h))
 cleared_spelled (icmp.EchoRequest echo) rest len bytes h = echo_spelled echo rest len bytes h
 cleared_spelled (icmp.EchoReply echo) rest len bytes h = echo_spelled echo rest len bytes h
+cleared_spelled (icmp.RouterAdvertisement header) rest len bytes h =
+    router_spelled header rest len bytes h
+cleared_spelled (icmp.NeighborAdvertisement header) rest len bytes h =
+    neighbor_spelled header rest len bytes h
 cleared_spelled t rest len bytes h = grind arith
 
 abbrev spelling : Icmpv6Type → ℕ → List ℕ

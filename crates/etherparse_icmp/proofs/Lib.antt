@@ -1,3 +1,4 @@
+mod Advertisements
 mod Checksums
 mod Icmpv4Codes
 mod Icmpv4Layout

@@ -7,6 +7,9 @@ use Rattle.etherparse.specs.Bytes.{IsBytes}
 use Rattle.etherparse.specs.Reading.{IsTooShort, Reads}
 use Rattle.etherparse.specs.declared.err.LenError.{LenError}
 use Rattle.etherparse.specs.declared.err.Layer.TheVariants as layer
+use Rattle.etherparse_icmp.specs.Advertisements.{HasNeighborAdvertisement, HasRouterAdvertisement}
+use Rattle.etherparse_icmp.specs.Advertisements.{neighbor_advertisement_cleared}
+use Rattle.etherparse_icmp.specs.Advertisements.{router_advertisement_cleared}
 use Rattle.etherparse_icmp.specs.IcmpEcho.{HasEcho}
 use Rattle.etherparse_icmp.specs.Icmpv6Codes.{dest_unreachable_number, parameter_problem_number}
 use Rattle.etherparse_icmp.specs.Icmpv6Codes.{time_exceeded_number}
@@ -22,7 +25,11 @@ use Rattle.etherparse_icmp.specs.declared.icmpv6_type.Icmpv6Type.TheVariants.{Pa
 use Rattle.etherparse_icmp.specs.declared.icmpv6_type.Icmpv6Type.TheVariants.{EchoRequest}
 use Rattle.etherparse_icmp.specs.declared.icmpv6_type.Icmpv6Type.TheVariants.{EchoReply}
 use Rattle.etherparse_icmp.specs.declared.icmpv6_type.Icmpv6Type.TheVariants.{RouterSolicitation}
+use Rattle.etherparse_icmp.specs.declared.icmpv6_type.Icmpv6Type.TheVariants.{RouterAdvertisement}
 use Rattle.etherparse_icmp.specs.declared.icmpv6_type.Icmpv6Type.TheVariants.{NeighborSolicitation}
+use Rattle.etherparse_icmp.specs.declared.icmpv6_type.Icmpv6Type.TheVariants.{
+  NeighborAdvertisement,
+}
 use Rattle.etherparse_icmp.specs.declared.icmpv6_type.Icmpv6Type.TheVariants.{Redirect}
 
 -- the number of the type
@@ -35,7 +42,9 @@ icmpv6_type_number (ParameterProblem header) = 4
 icmpv6_type_number (EchoRequest echo) = 128
 icmpv6_type_number (EchoReply echo) = 129
 icmpv6_type_number RouterSolicitation = 133
+icmpv6_type_number (RouterAdvertisement header) = 134
 icmpv6_type_number NeighborSolicitation = 135
+icmpv6_type_number (NeighborAdvertisement header) = 136
 icmpv6_type_number Redirect = 137
 
 -- the number of the code
@@ -48,7 +57,9 @@ icmpv6_code_number (ParameterProblem header) = parameter_problem_number header.c
 icmpv6_code_number (EchoRequest echo) = 0
 icmpv6_code_number (EchoReply echo) = 0
 icmpv6_code_number RouterSolicitation = 0
+icmpv6_code_number (RouterAdvertisement header) = 0
 icmpv6_code_number NeighborSolicitation = 0
+icmpv6_code_number (NeighborAdvertisement header) = 0
 icmpv6_code_number Redirect = 0
 
 -- what the 4 bytes after the checksum say; some types do not use them
@@ -61,7 +72,9 @@ HasIcmpv6Rest (ParameterProblem header) rest = from_be_bytes w32 rest ≡ header
 HasIcmpv6Rest (EchoRequest echo) rest = HasEcho echo rest
 HasIcmpv6Rest (EchoReply echo) rest = HasEcho echo rest
 HasIcmpv6Rest RouterSolicitation rest = Unit {0}
+HasIcmpv6Rest (RouterAdvertisement header) rest = HasRouterAdvertisement header rest
 HasIcmpv6Rest NeighborSolicitation rest = Unit {0}
+HasIcmpv6Rest (NeighborAdvertisement header) rest = HasNeighborAdvertisement header rest
 HasIcmpv6Rest Redirect rest = Unit {0}
 
 -- the same bytes with those 0 that the type does not use, as a sender has to have them
@@ -69,7 +82,9 @@ abbrev pub icmpv6_cleared : Icmpv6Type → List ℕ → List ℕ
 icmpv6_cleared (DestinationUnreachable code) rest = 0 ∷ 0 ∷ 0 ∷ 0 ∷ []
 icmpv6_cleared (TimeExceeded code) rest = 0 ∷ 0 ∷ 0 ∷ 0 ∷ []
 icmpv6_cleared RouterSolicitation rest = 0 ∷ 0 ∷ 0 ∷ 0 ∷ []
+icmpv6_cleared (RouterAdvertisement header) rest = router_advertisement_cleared rest
 icmpv6_cleared NeighborSolicitation rest = 0 ∷ 0 ∷ 0 ∷ 0 ∷ []
+icmpv6_cleared (NeighborAdvertisement header) rest = neighbor_advertisement_cleared rest
 icmpv6_cleared Redirect rest = 0 ∷ 0 ∷ 0 ∷ 0 ∷ []
 icmpv6_cleared icmp_type rest = rest
 

@@ -1,3 +1,4 @@
+pub mod Advertisements
 pub mod IcmpChecksum
 pub mod IcmpEcho
 pub mod IcmpTimestamps

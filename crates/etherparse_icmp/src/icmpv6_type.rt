@@ -5,7 +5,8 @@ ghost use Rattle.etherparse_icmp.specs.Icmpv6.{AreIcmpv6Unnamed, HasIcmpv6Name, 
 
 use crate::IcmpEchoHeader;
 use crate::icmpv6::{
-    DestUnreachableCode, ParameterProblemCode, ParameterProblemHeader, TimeExceededCode,
+    DestUnreachableCode, NeighborAdvertisementHeader, ParameterProblemCode, ParameterProblemHeader,
+    RouterAdvertisementHeader, TimeExceededCode,
 };
 use etherparse::IpNumber;
 use etherparse::err::{ValueTooBigError, ValueType};
@@ -49,10 +50,16 @@ pub enum Icmpv6Type {
     /// Type 133, code 0: asks for routers (RFC 4861 section 4.1). Bytes 4 to 7 are not used: they
     /// are read whatever they are, and written as 0; options follow the header.
     RouterSolicitation,
+    /// Type 134, code 0: a router tells hosts of itself (RFC 4861 section 4.2). Two times and
+    /// options follow the header.
+    RouterAdvertisement(RouterAdvertisementHeader),
     /// Type 135, code 0: asks for the link-layer address of a neighbor (RFC 4861 section 4.3).
     /// Bytes 4 to 7 are not used: they are read whatever they are, and written as 0; the target's
     /// address follows the header.
     NeighborSolicitation,
+    /// Type 136, code 0: tells a link-layer address (RFC 4861 section 4.4). The target's address and
+    /// options follow the header.
+    NeighborAdvertisement(NeighborAdvertisementHeader),
     /// Type 137, code 0: another first hop is nearer (RFC 4861 section 4.5). Bytes 4 to 7 are not
     /// used: they are read whatever they are, and written as 0; two addresses follow the header.
     Redirect,
@@ -82,7 +89,9 @@ impl Icmpv6Type {
             Icmpv6Type::EchoRequest(_) => 128,
             Icmpv6Type::EchoReply(_) => 129,
             Icmpv6Type::RouterSolicitation => 133,
+            Icmpv6Type::RouterAdvertisement(_) => 134,
             Icmpv6Type::NeighborSolicitation => 135,
+            Icmpv6Type::NeighborAdvertisement(_) => 136,
             Icmpv6Type::Redirect => 137,
         }
     }
@@ -100,7 +109,9 @@ impl Icmpv6Type {
             | Icmpv6Type::EchoRequest(_)
             | Icmpv6Type::EchoReply(_)
             | Icmpv6Type::RouterSolicitation
+            | Icmpv6Type::RouterAdvertisement(_)
             | Icmpv6Type::NeighborSolicitation
+            | Icmpv6Type::NeighborAdvertisement(_)
             | Icmpv6Type::Redirect => 0,
         }
     }
@@ -199,6 +210,8 @@ impl Icmpv6Type {
             Icmpv6Type::PacketTooBig { mtu } => mtu.to_be_bytes(),
             Icmpv6Type::ParameterProblem(header) => header.pointer.to_be_bytes(),
             Icmpv6Type::EchoRequest(echo) | Icmpv6Type::EchoReply(echo) => echo.to_bytes(),
+            Icmpv6Type::RouterAdvertisement(header) => header.to_bytes(),
+            Icmpv6Type::NeighborAdvertisement(header) => header.to_bytes(),
         }
     }
 }
@@ -233,7 +246,13 @@ fn named(type_u8: u8, code_u8: u8, rest: [u8; 4]) -> Option<Icmpv6Type>
         128 if code_u8 == 0 => Some(Icmpv6Type::EchoRequest(IcmpEchoHeader::from_bytes(rest))),
         129 if code_u8 == 0 => Some(Icmpv6Type::EchoReply(IcmpEchoHeader::from_bytes(rest))),
         133 if code_u8 == 0 => Some(Icmpv6Type::RouterSolicitation),
+        134 if code_u8 == 0 => Some(Icmpv6Type::RouterAdvertisement(
+            RouterAdvertisementHeader::from_bytes(rest),
+        )),
         135 if code_u8 == 0 => Some(Icmpv6Type::NeighborSolicitation),
+        136 if code_u8 == 0 => Some(Icmpv6Type::NeighborAdvertisement(
+            NeighborAdvertisementHeader::from_bytes(rest),
+        )),
         137 if code_u8 == 0 => Some(Icmpv6Type::Redirect),
         _ => None,
     }

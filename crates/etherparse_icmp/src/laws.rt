@@ -103,6 +103,14 @@ fn icmpv6_dest_unreachable_code_clone(
     code.clone()
 }
 
+fn icmpv6_neighbor_advertisement_header_clone(
+    header: &icmpv6::NeighborAdvertisementHeader,
+) -> Result<icmpv6::NeighborAdvertisementHeader, AllocError>
+    ensures same_value { result ≡ Ok header.now }
+{
+    header.clone()
+}
+
 fn icmpv6_parameter_problem_code_clone(
     code: &icmpv6::ParameterProblemCode,
 ) -> Result<icmpv6::ParameterProblemCode, AllocError>
@@ -114,6 +122,14 @@ fn icmpv6_parameter_problem_code_clone(
 fn icmpv6_parameter_problem_header_clone(
     header: &icmpv6::ParameterProblemHeader,
 ) -> Result<icmpv6::ParameterProblemHeader, AllocError>
+    ensures same_value { result ≡ Ok header.now }
+{
+    header.clone()
+}
+
+fn icmpv6_router_advertisement_header_clone(
+    header: &icmpv6::RouterAdvertisementHeader,
+) -> Result<icmpv6::RouterAdvertisementHeader, AllocError>
     ensures same_value { result ≡ Ok header.now }
 {
     header.clone()
