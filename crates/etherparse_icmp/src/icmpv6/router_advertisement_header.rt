@@ -10,7 +10,8 @@
 /// +---------------+-+-+-----------+-------------------------------+
 /// ```
 ///
-/// The reserved bits are read whatever they are, and written as 0.
+/// The reserved bits are read whatever they are, and written as 0; so what later RFCs put there is
+/// lost, such as the preference of a router (RFC 4191).
 ///
 /// # Example
 ///
