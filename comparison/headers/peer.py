@@ -17,8 +17,9 @@ import sys
 logging.getLogger('scapy').setLevel(logging.ERROR)
 
 from scapy.layers.inet import ICMP, IP, IPOption, TCP, UDP, in4_chksum # noqa: E402
-from scapy.layers.inet6 import (ICMPv6DestUnreach, ICMPv6EchoReply, ICMPv6EchoRequest, ICMPv6PacketTooBig, ICMPv6ParamProblem, # noqa: E402
-                                ICMPv6TimeExceeded, IPv6, IPv6ExtHdrDestOpt, IPv6ExtHdrFragment, IPv6ExtHdrHopByHop, in6_chksum)
+from scapy.layers.inet6 import (ICMPv6DestUnreach, ICMPv6EchoReply, ICMPv6EchoRequest, ICMPv6ND_NA, ICMPv6ND_RA, # noqa: E402
+                                ICMPv6PacketTooBig, ICMPv6ParamProblem, ICMPv6TimeExceeded, IPv6, IPv6ExtHdrDestOpt,
+                                IPv6ExtHdrFragment, IPv6ExtHdrHopByHop, in6_chksum)
 from scapy.layers.ipsec import AH # noqa: E402
 from scapy.layers.l2 import ARP, CookedLinux, CookedLinuxV2, Dot1AD, Dot1Q, Dot3, Ether # noqa: E402
 from scapy.packet import Raw # noqa: E402
@@ -27,7 +28,7 @@ from scapy.utils import checksum # noqa: E402
 import random_cases # noqa: E402
 import reference # noqa: E402
 
-raw = reference.raw
+raw, flag = reference.raw, reference.flag
 
 
 class NotThere(Exception):
@@ -309,7 +310,7 @@ def icmpv4(words, answer):
 
 
 ICMPV6 = {1: ICMPv6DestUnreach, 2: ICMPv6PacketTooBig, 3: ICMPv6TimeExceeded, 4: ICMPv6ParamProblem, 128: ICMPv6EchoRequest,
-          129: ICMPv6EchoReply}
+          129: ICMPv6EchoReply, 134: ICMPv6ND_RA, 136: ICMPv6ND_NA}
 
 
 def icmpv6(words, answer):
@@ -317,7 +318,8 @@ def icmpv6(words, answer):
     kind = answer.split(' kind=')[1].split(' rest=')[0]
     found = []
     if held[0] in ICMPV6 and not kind.startswith('Unknown'):
-        packet = ICMPV6[held[0]](held[:8])
+        # (what follows the 8 bytes of an advertisement is a part of scapy's header)
+        packet = ICMPV6[held[0]](held[:8] + bytes(16 * (held[0] in (134, 136))))
         found = numbers(fields, {'type': packet.type, 'code': packet.code, 'checksum': packet.cksum})
         if kind.startswith('Echo'):
             found += same(('kind', f'IcmpEchoHeader {{ id: {packet.id}, seq: {packet.seq} }}', kind.split('(')[1][:-1]))
@@ -325,6 +327,13 @@ def icmpv6(words, answer):
             found += same(('mtu', f'PacketTooBig {{ mtu: {packet.mtu} }}', kind))
         elif kind.startswith('ParameterProblem'):
             found += same(('pointer', packet.ptr, int(kind.split('pointer: ')[1].split(' ')[0])))
+        elif kind.startswith('RouterAdvertisement'):
+            router = (f'cur_hop_limit: {packet.chlim}, managed_address_config: {flag(packet.M)}, other_config: {flag(packet.O)}, '
+                      f'router_lifetime: {packet.routerlifetime}')
+            found += same(('router', router, kind.split('{ ')[1].split(' }')[0]))
+        elif kind.startswith('NeighborAdvertisement'):
+            neighbor = f'router: {flag(packet.R)}, solicited: {flag(packet.S)}, override_flag: {flag(packet.O)}'
+            found += same(('neighbor', neighbor, kind.split('{ ')[1].split(' }')[0]))
     written = raw(fields['bytes'])
     whole = written[:2] + b'\0\0' + written[4:] + raw(fields['rest'])
     made = sum_over(ip_of(words), 58, whole)
