@@ -87,7 +87,8 @@ NeedsForBlocks s needed = ((length s < 2) × (needed ≡ 2))
     ⊎ ((2 ≤ length s) × (needed ≡ slice_index s 1) × HasBlocksLength needed)
 
 -- Why the bytes, which are not at the end of the options, begin with none: they end before the
--- option does; or its length is none that its kind has; or the kind is not known.
+-- option does; or its length is none that its kind has; or the kind is not known. That such a kind
+-- ends the list is the Rust crate's rule: a host ignores it and goes on (RFC 9293, MUST-6).
 abbrev pub RefusesOption : List ℕ → refused.TcpOptionReadError → Type 0
 RefusesOption s (refused.TheVariants.UnexpectedEndOfSlice kind needed len) =
     (kind ≡ slice_index s 0) × (len ≡ length s) × (length s < needed)
