@@ -442,6 +442,14 @@ first, as in \`(a or b) and c\` or \`a or (b and c)\`." 'udp or tcp and port 22'
     no_expression 'The word of pcap-filter(7) at byte 6 is not part of the language.' 'ip or mpls' 6 ip or mpls
     printf -v blanks '%4093s' ''
     : >"$room/wanted"
+    # Lines nearly as long as there can be.
+    {
+        echo "Expression Error: The word at byte 4092 $cannot $after"
+        echo "tcp${blanks:4}prot"
+        printf '%4092s^\n' ''
+    } >"$room/wanted.errors"
+    run "tcp${blanks:4}prot"
+    judge 'a refused expression of 4096 bytes' $? 2
     echo 'error: the expression has more than 4096 bytes' >"$room/wanted.errors"
     run "${blanks}arp "
     judge 'an expression of 4097 bytes' $? 2

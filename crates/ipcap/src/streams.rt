@@ -12,8 +12,11 @@ use std::fmt::{Display, Write as _};
 use std::io::{ErrorKind, Read, Write};
 use std::{fmt, io};
 
-// The most bytes in a line, or in the lines at the end.
+// The most bytes in a line, or in the lines at the end. The most that there can be are those on a
+// refused expression of 4096 bytes: it stands there once, and as many blanks before the mark.
 const LINE_ROOM: usize = 16_384;
+
+const _: () = prove!(LINE_ROOM == 16_384);
 
 /// A line, or the lines at the end.
 pub type Line = ArrayString<LINE_ROOM>;
