@@ -1,7 +1,6 @@
 -- The bytes after the checksum of an advertisement: they have its fields, and its fields them.
 use Rattle.std.proofs.Common.{ℕ, ◌≡◌, ◌+◌, ◌*◌, ◌/◌, ◌%◌, ◌<◌, ◌==◌, List, [], ◌∷◌, length, drop}
-use Rattle.std.proofs.Common.{slice_index, ap, arith, refl, rules, ◌∙◌, w16}
-use Rattle.std.proofs.Common.{drop_of_length-le}
+use Rattle.std.proofs.Common.{slice_index, arith, drop_of_length-le, rules, w16}
 use Rattle.std.specs.Int.{from_be_bytes, from_bool, to_be_bytes}
 use Rattle.std.specs.List.{slice_range}
 use Rattle.std.proofs.lemmas.Grind.{common_steps}
@@ -68,7 +67,9 @@ neighbor_rest header = (from_bool header.router * 128 + from_bool header.solicit
 upper_three : (n : ℕ) → n < 256 → n / 32 * 32 ≡ from_bool (n / 128 == 1) * 128
     + from_bool (n / 64 % 2 == 1) * 64 + from_bool (n / 32 % 2 == 1) * 32
 upper_three n few =
-    omega (arith, flag_is (n / 128) (omega (arith, few)), flag_is (n / 64 % 2) (omega arith), flag_is (n / 32 % 2) (omega arith))
+    let first = flag_is (n / 128) (omega (arith, few)) in
+    let second = flag_is (n / 64 % 2) (omega arith) in
+    omega (arith, first, second, flag_is (n / 32 % 2) (omega arith))
 
 pub neighbor_spelled : (header : NeighborAdvertisementHeader) (rest : List ℕ) → length rest ≡ 4
     → IsBytes rest → HasNeighborAdvertisement header rest
