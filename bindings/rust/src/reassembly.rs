@@ -328,8 +328,8 @@ impl<'a> IpDefragPool<'a> {
     }
 
     /// Adds the fragment that an IP packet is, without the link header, to its datagram. If none has
-    /// its id, it takes a slot: one that none has, or else that of the oldest. A datagram that is
-    /// older than the timeout is given up when a fragment with its id comes. The other slots do not
+    /// its id, it takes a slot: one that none has, or else that of the oldest. A datagram as old as
+    /// the timeout, or older, is given up when a fragment with its id comes. The other slots do not
     /// change. What follows the packet does not count.
     ///
     /// The ECN codepoint of each fragment counts, also that of an exact duplicate: if one has CE and

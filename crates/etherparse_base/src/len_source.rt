@@ -11,7 +11,7 @@ pub enum LenSource {
     Ipv6HeaderPayloadLen,
     /// The "length" field of a UDP header.
     UdpHeaderLen,
-    /// The "length" field of a TCP header.
+    /// The "data offset" field of a TCP header, which the text of the error calls its length field.
     TcpHeaderLen,
     /// The two address length fields of an ARP packet.
     ArpAddrLengths,

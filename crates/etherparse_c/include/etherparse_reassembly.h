@@ -62,7 +62,7 @@ enum {
     ETHERPARSE_DEFRAG_UNALIGNED_LEN = 2,
     ETHERPARSE_DEFRAG_TOO_BIG = 3, /* it ends past byte 65535 */
     /* the bytes are no IP packet, or not all of it is there, or it is one of IPv6 that ends within an
-     * extension header with no fragment header before it */
+     * extension header with no fragment header before it that is not atomic */
     ETHERPARSE_DEFRAG_PACKET = 4,
     /* the first fragment of an IPv6 packet lacks a part of the header chain (RFC 7112): it ends within
      * an extension header after its fragment header, or within the header of the upper layer */
@@ -210,9 +210,9 @@ void etherparse_defrag_pool_new(struct etherparse_defrag_pool_state *state,
     struct etherparse_defrag_slot *slots, size_t count, uint64_t timeout);
 
 /* Adds the fragment that an IP packet is, without the link header, to its datagram. If none has its
- * id, it takes a slot: one that none has, or else that of the oldest. A datagram that is older than
- * the timeout is given up when a fragment with its id comes. The other slots do not change. A VLAN
- * identifier above 65535 says that there is no such tag. What follows the packet does not count.
+ * id, it takes a slot: one that none has, or else that of the oldest. A datagram as old as the
+ * timeout, or older, is given up when a fragment with its id comes. The other slots do not change. A
+ * VLAN identifier above 65535 says that there is no such tag. What follows the packet does not count.
  *
  * The ECN codepoint of each fragment counts, also of an exact duplicate: if one has CE and another
  * Not-ECT, the datagram is discarded for good (RFC 3168 section 5.3).
@@ -229,8 +229,9 @@ struct etherparse_defrag_added etherparse_defrag_pool_add_packet(
 /* Writes the packet of the datagram in a slot to the front of a buffer of at least
  * ETHERPARSE_DEFRAG_PACKET_SIZE bytes, with the headers of the first copy of the fragment at offset
  * 0 that came: with the new length, with the ECN codepoint CE if any fragment had it, and in IPv4
- * the new checksum; in IPv6 without the fragment header. The len of the result is 0 if the datagram is not complete. The slot is one of the pool.
- * Nothing changes: release the slot once the packet is done with. */
+ * the new checksum; in IPv6 without the fragment header. The len of the result is 0 if the datagram
+ * is not complete. The slot is one of the pool. Nothing changes: release the slot once the packet is
+ * done with. */
 struct etherparse_defrag_written etherparse_defrag_pool_write_packet(
     struct etherparse_defrag_pool *pool, size_t slot, uint8_t *out, size_t len);
 

@@ -1,7 +1,7 @@
 //! What tells echo messages apart (RFC 792, RFC 4443 section 4.1).
 
-/// The identifier and the sequence number of an echo message or its reply. They begin the reply as
-/// they began the request.
+/// The identifier and the sequence number of an echo message or its reply. A reply repeats those of
+/// its request.
 ///
 /// # Example
 ///

@@ -11,7 +11,7 @@ use etherparse::IpNumber;
 /// the number of the header before it, whatever place it has in the chain.
 #[derive(Clone, Copy, Debug, PartialEq, Eq)]
 pub enum Ipv6ExtensionSlice<'a> {
-    /// Hop-by-hop options: number 0. Only right after the IPv6 header are they allowed (RFC 8200
+    /// Hop-by-hop options: number 0. They are allowed only right after the IPv6 header (RFC 8200
     /// section 4.1), which is not tested.
     HopByHop(Ipv6RawExtHeaderSlice<'a>),
     /// A routing header: number 43.

@@ -16,7 +16,7 @@ use std::alloc::AllocError;
 
 /// The extension headers at the front of some bytes, one after another (RFC 8200 section 4). They
 /// end where the walk of [`Ipv6Header::skip_all_header_extensions_in_slice`] does: before a number
-/// that is of none that can be skipped, or at a header that is incomplete.
+/// that no skippable header has, or at a header that is incomplete.
 ///
 /// A fragment header is passed whatever its offset: after one with an offset above 0 comes the
 /// middle of a payload, in which what looks like a header is none.

@@ -68,7 +68,8 @@ impl<'a, 'b> FrameReassembly<'a, 'b> {
     pub const MAX_PACKET_LEN: usize = 65_575;
 
     /// With these slots, from one to [`FrameReassembly::SLOTS`] of them. Datagrams that have slots
-    /// go on.
+    /// go on. Each must have come by [`IpDefragPool::add_packet`], so that the headers of its first
+    /// fragment are kept.
     pub fn new(slots: &'a mut [IpDefragSlot<'b>]) -> FrameReassembly<'a, 'b>
         requires some { 0 < length slots.old }
         requires few { length slots.old ≤ 32 }
@@ -87,7 +88,8 @@ impl<'a, 'b> FrameReassembly<'a, 'b> {
     /// added to its datagram: fragments that came in different VLANs are not put together. If it
     /// completes the datagram, `out` gets the frame that it completes: what stands before the packet,
     /// and the whole packet; the datagram leaves its slot, and the length of that frame is returned.
-    /// Otherwise, and for all other frames, `None`.
+    /// Otherwise, and for all other frames, `None`. `out` has to have the length of `frame` and
+    /// [`FrameReassembly::MAX_PACKET_LEN`] bytes more.
     ///
     /// A packet that is not all there is not added, nor one that [`IpDefragPool::add_packet`]
     /// refuses. A datagram is given up 60 seconds after its first fragment, once another fragment

@@ -26,7 +26,7 @@ use packet_filter::FilterError;
 use std::alloc::Global;
 use std::io;
 
-/// The exit status if the user asked for what there is not.
+/// The exit status if the command line or the expression is refused, or a file cannot be opened.
 pub const REFUSED: u8 = 2;
 
 /// The exit status if a read or a write failed.

@@ -53,7 +53,7 @@ impl<'a> LaxSlicedPacket<'a> {
     pub fn from_ethernet(frame: &'a [u8]) -> Result<LaxSlicedPacket<'a>, LinkError>
         ensures reads { IsLaxReadingOf LinkType.Ethernet2 frame.now result }
     {
-        LaxSlicedPacket::from_link_type(LinkType::Ethernet2, frame)
+        frame_layers(LinkType::Ethernet2, frame)
     }
 
     /// The layers of a Linux cooked capture (LINKTYPE_LINUX_SLL).
@@ -74,7 +74,7 @@ impl<'a> LaxSlicedPacket<'a> {
     pub fn from_linux_sll(frame: &'a [u8]) -> Result<LaxSlicedPacket<'a>, LinkError>
         ensures reads { IsLaxReadingOf LinkType.LinuxSll frame.now result }
     {
-        LaxSlicedPacket::from_link_type(LinkType::LinuxSll, frame)
+        frame_layers(LinkType::LinuxSll, frame)
     }
 
     /// The layers of a Linux cooked capture of version 2 (LINKTYPE_LINUX_SLL2).
@@ -97,7 +97,7 @@ impl<'a> LaxSlicedPacket<'a> {
     pub fn from_linux_sll2(frame: &'a [u8]) -> Result<LaxSlicedPacket<'a>, LinkError>
         ensures reads { IsLaxReadingOf LinkType.LinuxSll2 frame.now result }
     {
-        LaxSlicedPacket::from_link_type(LinkType::LinuxSll2, frame)
+        frame_layers(LinkType::LinuxSll2, frame)
     }
 
     /// The layers of a frame of a loopback interface whose family is in the byte order of the
@@ -119,7 +119,7 @@ impl<'a> LaxSlicedPacket<'a> {
     pub fn from_loopback(frame: &'a [u8]) -> Result<LaxSlicedPacket<'a>, LinkError>
         ensures reads { IsLaxReadingOf LinkType.Null frame.now result }
     {
-        LaxSlicedPacket::from_link_type(LinkType::Null, frame)
+        frame_layers(LinkType::Null, frame)
     }
 
     /// The layers of a frame of a link type.
@@ -157,7 +157,6 @@ impl<'a> LaxSlicedPacket<'a> {
     /// assert!(rt; matches!(lax.stop, Some(SliceError::Vlan(_))));
     /// assert!(rt; lax.packet.vlan.is_none() && lax.packet.payload == [1, 2, 3].as_slice());
     /// ```
-    #[inline(never)] // Likewise.
     pub fn from_ether_type(ether_type: EtherType, bytes: &'a [u8]) -> LaxSlicedPacket<'a>
         ensures reads { IsLaxReadingAfter (Some ether_type) bytes.now result }
     {

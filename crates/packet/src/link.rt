@@ -65,8 +65,8 @@ pub enum LinkSlice<'a> {
 /// A frame ends within its link header.
 #[derive(Clone, Copy, Debug, PartialEq, Eq)]
 pub struct LinkError {
-    /// The length of the link header, in bytes; if it tells its own length, the length up to which
-    /// the bytes that are there tell.
+    /// The length of the link header, in bytes; if the header itself gives it, the least that is
+    /// possible by the bytes that are there.
     pub required_len: usize,
     /// The length of the frame, in bytes.
     pub len: usize,
@@ -104,8 +104,8 @@ impl LinkType {
         }
     }
 
-    /// The length of the link header of a frame, in bytes. If it tells its own length, a frame that
-    /// ends within it has the length up to which the bytes that are there tell.
+    /// The length of the link header of a frame, in bytes. If the header itself gives it, and the
+    /// frame ends within it: the least that is possible by the bytes that are there.
     ///
     /// # Example
     ///

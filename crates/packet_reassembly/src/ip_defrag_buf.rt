@@ -59,7 +59,8 @@ impl<'a> IpDefragBuf<'a> {
     /// The memory that its table takes, in bytes: 8192, one for each 8 bytes of the datagram.
     pub const UNITS: usize = 8192;
 
-    /// A datagram of which nothing has come. What the memory has before makes no difference.
+    /// A datagram of which nothing has come. `bytes` has to have at least [`IpDefragBuf::MAX_LEN`]
+    /// bytes, and `units` at least [`IpDefragBuf::UNITS`]; what they hold makes no difference.
     #[tactic(auto, using(crate::proofs::TableLaws::held_none, crate::proofs::TableLaws::table_none))]
     pub fn new(bytes: &'a mut [u8], units: &'a mut [u8]) -> IpDefragBuf<'a>
         requires bytes { 65535 ≤ length bytes.old }

@@ -61,7 +61,8 @@ impl<'a> IpDefragHeaders<'a> {
     /// at most.
     pub const MAX_LEN: usize = 1280;
 
-    /// Those of a datagram whose first fragment has not come.
+    /// Those of a datagram whose first fragment has not come. `bytes` has to have at least
+    /// [`IpDefragHeaders::MAX_LEN`] bytes.
     pub fn new(bytes: &'a mut [u8]) -> IpDefragHeaders<'a>
         requires bytes { 1280 ≤ length bytes.old }
         ensures none { result ≡ None }
@@ -107,8 +108,9 @@ impl<'a> IpDefragHeaders<'a> {
     /// [`write_ipv4_packet`] or [`write_ipv6_packet`] does. The next header of IPv6 is that of the
     /// first fragment (RFC 8200 section 4.5). `ecn` is that of all its fragments: the packet has `CE`
     /// if any has it, else the codepoint of the first (RFC 3168 section 5.3). A packet that must be
-    /// dropped, by [`FragmentEcn::is_dropped`], is written all the same. Returns its length in bytes;
-    /// `None` if the first fragment has not come.
+    /// dropped, by [`FragmentEcn::is_dropped`], is written all the same. `out` has to have at least
+    /// 65575 bytes. Returns the length of the packet in bytes; `None` if the first fragment has not
+    /// come.
     ///
     /// # Errors
     ///

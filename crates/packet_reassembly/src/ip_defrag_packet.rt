@@ -59,7 +59,8 @@ impl<'a, 'b> IpDefragPool<'a, 'b> {
     /// each fragment counts, also that of an exact duplicate: if one has `CE` and another `Not-ECT`,
     /// the datagram is discarded for good (RFC 3168 section 5.3).
     ///
-    /// Once the datagram is complete, [`IpDefragPool::write_packet`] writes its packet.
+    /// The pool has to have at least one slot. Once the datagram is complete,
+    /// [`IpDefragPool::write_packet`] writes its packet.
     ///
     /// # Errors
     ///
@@ -154,7 +155,8 @@ impl<'a, 'b> IpDefragPool<'a, 'b> {
     }
 
     /// Writes the packet of the datagram in the slot at an index, as [`IpDefragSlot::write_packet`]
-    /// does. The slots do not change: release this one when the packet is done with.
+    /// does: the pool has to have that slot, and `out` at least 65575 bytes. The slots do not change:
+    /// release this one when the packet is done with.
     ///
     /// # Errors
     ///
@@ -199,9 +201,9 @@ impl<'a> IpDefragSlot<'a> {
     ghost use Rattle.packet_reassembly.specs.Pool.{HasFirstHeaders};
 
     /// Writes the packet of the datagram that has the slot, as [`IpDefragHeaders::write_packet`]
-    /// does, with `CE` if any fragment had it (RFC 3168 section 5.3). Returns its length in bytes;
-    /// `None` if the datagram is not complete, or if no fragment of it at offset 0 came by
-    /// [`IpDefragPool::add_packet`].
+    /// does, with `CE` if any fragment had it (RFC 3168 section 5.3). `out` has to have at least
+    /// 65575 bytes. Returns the length of the packet in bytes; `None` if the datagram is not complete,
+    /// or if no fragment of it at offset 0 came by [`IpDefragPool::add_packet`].
     ///
     /// # Errors
     ///

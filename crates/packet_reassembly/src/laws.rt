@@ -104,7 +104,7 @@ pub fn ip_fragment_clone<'a>(fragment: &IpFragment<'a>) -> Result<IpFragment<'a>
     Clone::clone(fragment)
 }
 
-/// When a pool is let go, its slots are as they were.
+/// When a pool is dropped, its slots are as they were.
 pub fn ip_defrag_pool_drop(slots: &mut [IpDefragSlot], timeout: u64) -> u64
     ensures same_slots { slots.new ≡ slots.old }
 {

@@ -20,7 +20,8 @@ pub struct IpFragment<'a> {
 }
 
 /// What all these fragments are, one after another. Those that [`IpDefragBuf::add`] refuses are
-/// passed over. If some are missing, they can be added.
+/// passed over. If some are missing, they can be added. `bytes` has to have at least
+/// [`IpDefragBuf::MAX_LEN`] bytes, and `units` at least [`IpDefragBuf::UNITS`].
 pub fn reassemble<'a>(
     bytes: &'a mut [u8],
     units: &'a mut [u8],

@@ -7,8 +7,8 @@ use super::Layer;
 use std::error::Error;
 use std::fmt;
 
-/// A slice with too little room for what is written to it. No call of these crates returns this
-/// error: it is for the layers above.
+/// A slice with too little room for what is written to it. No call here returns this error: it is
+/// there under the Rust crate's name, for code of your own.
 #[derive(Clone, Debug, PartialEq, Eq, Hash, Drop)]
 pub struct SliceWriteSpaceError {
     /// The length that was needed, in bytes.

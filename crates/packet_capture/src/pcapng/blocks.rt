@@ -117,7 +117,7 @@ pub enum BlockError {
         /// Where the option begins, from the start of the block.
         place: usize,
     },
-    /// An `if_tsresol` that a second has 2^64 or more units by.
+    /// An `if_tsresol` by which a second has 2^64 or more units.
     Resolution(u8),
     /// The packet is of an interface that the section does not have.
     Interface {

@@ -8,7 +8,7 @@ use std::fmt;
 /// 2).
 #[derive(Clone, Debug, PartialEq, Eq, Hash, Drop)]
 pub enum HeaderError {
-    /// The payload length is 0: of the 12 bytes before the integrity check value it counts 8.
+    /// The payload length is 0: that is a header of 8 bytes, and each has at least 12.
     ZeroPayloadLen,
 }
 
