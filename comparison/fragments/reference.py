@@ -127,7 +127,7 @@ def walk(number, body):
 
 
 def has_whole_chain(number, payload):
-    """RFC 7112: the rest of the header chain is in the first fragment."""
+    """RFC 7112: the rest of the header chain is in the first fragment, with one of the headers that RFC 8200 section 4.5 names."""
     walked = walk(number, payload)
     if walked is None:
         return False
@@ -135,7 +135,9 @@ def has_whole_chain(number, payload):
     rest = payload[at:]
     if upper == 6:
         return len(rest) >= 20 and len(rest) >= 4 * (rest[12] >> 4)
-    return len(rest) >= {17: 8, 58: 4}.get(upper, 0)
+    if upper == 4:
+        return len(rest) >= 20 and len(rest) >= 4 * (rest[0] & 15)
+    return len(rest) >= {17: 8, 41: 40, 50: 8, 58: 4}.get(upper, 0)
 
 
 NOT_ECT, CE = 0, 3 # RFC 3168 section 5

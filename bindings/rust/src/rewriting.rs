@@ -83,7 +83,7 @@ errors! {
         Incomplete = INCOMPLETE,
         /// The payload is a later fragment, which has no ports.
         LaterFragment = LATER_FRAGMENT,
-        /// The payload is neither UDP nor TCP, and has no ports.
+        /// The payload is neither UDP nor TCP.
         OtherProtocol = OTHER_PROTOCOL,
     }
 }

@@ -202,10 +202,10 @@ static uint64_t now;
 
 static void make_flow(struct flow *flow)
 {
-    static const uint8_t numbers[] = {17, 6, 58, 1, 59, 60, 0, 44, 50};
+    static const uint8_t numbers[] = {17, 6, 58, 1, 59, 60, 0, 44, 50, 4, 41};
     make_cut(&flow->cut);
     flow->version = below(2) == 0 ? 4 : 6;
-    flow->number = numbers[below(9)];
+    flow->number = numbers[below(11)];
     flow->codepoint = (uint8_t)below(4);
     /* Ids differ in one thing or another. */
     memset(flow->addresses, 0, 32);

@@ -88,7 +88,8 @@ uint32_t map_state(const struct map *map)
 }
 
 /* Whether the header chain that goes on in a payload is whole in it (RFC 7112 section 5): extension headers, and the header of TCP
- * (RFC 9293 section 3.1), UDP (RFC 768) or ICMPv6 (RFC 4443 section 2.1). */
+ * (RFC 9293 section 3.1), UDP (RFC 768), ICMPv6 (RFC 4443 section 2.1), IPv4 (RFC 791 section 3.1), IPv6 (RFC 8200 section 3) or ESP
+ * (RFC 4303 section 2), which RFC 8200 section 4.5 names. */
 static bool has_whole_chain(const uint8_t *payload, size_t len, uint8_t number)
 {
     size_t at = 0, needed = 0;
@@ -105,7 +106,11 @@ static bool has_whole_chain(const uint8_t *payload, size_t len, uint8_t number)
     }
     if (number == 6)
         needed = len - at < 20 ? 20 : 4 * bits_at(payload + at, 96, 4);
-    else if (number == 17)
+    else if (number == 4)
+        needed = len - at < 20 ? 20 : 4 * bits_at(payload + at, 4, 4);
+    else if (number == 41)
+        needed = 40;
+    else if (number == 17 || number == 50)
         needed = 8;
     else if (number == 58)
         needed = 4;

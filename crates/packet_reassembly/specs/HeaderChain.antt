@@ -1,5 +1,5 @@
 -- The header chain of an IPv6 packet, all of which its first fragment has (RFC 7112).
-use Rattle.std.specs.Prelude.{ℕ, ◌*◌, ◌/◌, ◌^◌, ◌<◌, ◌≤◌, ◌==◌, ◌⊎◌, List, Option, None, Some}
+use Rattle.std.specs.Prelude.{ℕ, ◌*◌, ◌/◌, ◌%◌, ◌^◌, ◌<◌, ◌≤◌, ◌==◌, ◌⊎◌, List, Option, None, Some}
 use Rattle.std.specs.Prelude.{if◌then◌else◌, false, length, nat_lt, slice_index, true}
 use Rattle.etherparse.specs.declared.err.LenError.{LenError}
 use Rattle.packet_parts.specs.Extensions.{EndsAs}
@@ -7,14 +7,20 @@ use Rattle.etherparse_net.specs.declared.ipv6_fragment_header.Ipv6FragmentHeader
   Ipv6FragmentHeader,
 }
 
--- How many bytes the upper-layer header of a number has at least: 20 of TCP, or as many words of
--- four bytes as its data offset says (RFC 9293 section 3.1); 8 of UDP (RFC 768); 4 of ICMPv6 (RFC
--- 4443 section 2.1). Nothing is known of others.
+-- How many bytes the upper-layer header of a number has at least, of those that RFC 8200 section
+-- 4.5 names: 20 of TCP, or as many words of four bytes as its data offset says (RFC 9293 section
+-- 3.1); 20 of IPv4, or as many as its IHL says (RFC 791 section 3.1); 8 of UDP (RFC 768); 40 of
+-- IPv6 (RFC 8200 section 3); the 8 of ESP before its payload (RFC 4303 section 2); 4 of ICMPv6 (RFC
+-- 4443 section 2.1). Nothing is asked of others.
 abbrev pub upper_header_len : ℕ → List ℕ → ℕ
 upper_header_len number bytes =
     if number == 6 then (if nat_lt (length bytes) 20 then 20 else slice_index bytes 12 / 2 ^ 4 * 4)
+    else (if number == 4 then (if nat_lt (length bytes) 20 then 20
+    else slice_index bytes 0 % 2 ^ 4 * 4)
     else (if number == 17 then 8
-    else (if number == 58 then 4 else 0))
+    else (if number == 41 then 40
+    else (if number == 50 then 8
+    else (if number == 58 then 4 else 0)))))
 
 -- the payload of a first fragment, which has this number, has the rest of the header chain: whole
 -- extension headers and the upper-layer header

@@ -11,8 +11,9 @@ use packet_parts::extensions::after_extensions;
 /// first fragment without that is to be refused (RFC 7112 section 5), since what it lacks decides
 /// who takes the packet.
 ///
-/// The header of the upper layer is 20 bytes of TCP, or more by its data offset; 8 of UDP; 4 of
-/// ICMPv6. Nothing is asked of others.
+/// The header of the upper layer is one of those that RFC 8200 section 4.5 names: 20 bytes of TCP or
+/// IPv4, or as many as the data offset or the IHL says; 8 of UDP; 40 of IPv6; 8 of ESP; 4 of ICMPv6.
+/// Nothing is asked of others.
 ///
 /// # Example
 ///
@@ -22,6 +23,8 @@ use packet_parts::extensions::after_extensions;
 /// assert!(rt; !has_whole_chain(IpNumber::UDP, &udp[..7]));
 /// // Destination options of 16 bytes, 8 of which are there.
 /// assert!(rt; !has_whole_chain(IpNumber::IPV6_DESTINATION_OPTIONS, &[17, 1, 1, 4, 0, 0, 0, 0]));
+/// // The first 8 bytes of the 40 of an IPv6 header.
+/// assert!(rt; !has_whole_chain(IpNumber::IPV6, &[0x60, 0, 0, 0, 0, 8, 17, 64]));
 /// ```
 pub fn has_whole_chain(next_header: IpNumber, payload: &[u8]) -> bool
     ensures whole { IsTrue result → HasWholeChain next_header payload.now }
@@ -39,9 +42,11 @@ fn upper_header_len(number: IpNumber, bytes: &[u8]) -> usize
     ensures len { result ≡ upper_header_len number bytes.now }
 {
     match number {
-        IpNumber::TCP if bytes.len() < 20 => 20,
+        IpNumber::TCP | IpNumber::IPV4 if bytes.len() < 20 => 20,
         IpNumber::TCP => usize::from(bytes[12] >> 4) * 4,
-        IpNumber::UDP => 8,
+        IpNumber::IPV4 => usize::from(bytes[0] % 16) * 4,
+        IpNumber::UDP | IpNumber::ENCAPSULATING_SECURITY_PAYLOAD => 8,
+        IpNumber::IPV6 => 40,
         IpNumber::IPV6_ICMP => 4,
         _ => 0,
     }

@@ -323,7 +323,7 @@ rewrite_error_text error.Incomplete =
 rewrite_error_text error.LaterFragment =
     codes "Rewrite Error: The packet is a later fragment, which has no ports."
 rewrite_error_text error.OtherProtocol =
-    codes "Rewrite Error: The protocol of the packet has no ports."
+    codes "Rewrite Error: The packet carries neither UDP nor TCP."
 
 -- the same under any width, precision or flag; of a packet's own error nothing is said
 abbrev pub text_in_any_style : RewriteError → Option (List ℕ)

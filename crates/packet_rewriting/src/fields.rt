@@ -47,7 +47,7 @@ pub enum RewriteError {
     Incomplete,
     /// The payload is a later fragment, which has no ports.
     LaterFragment,
-    /// The payload is neither UDP nor TCP, and has no ports.
+    /// The payload is neither UDP nor TCP.
     OtherProtocol,
 }
 
@@ -70,7 +70,7 @@ impl fmt::Display for RewriteError {
                 f.write_str("Rewrite Error: The packet is a later fragment, which has no ports.")
             }
             RewriteError::OtherProtocol => {
-                f.write_str("Rewrite Error: The protocol of the packet has no ports.")
+                f.write_str("Rewrite Error: The packet carries neither UDP nor TCP.")
             }
         }
     }
@@ -81,8 +81,9 @@ impl fmt::Display for RewriteError {
 pub enum Reach {
     /// Into the header of UDP, TCP or, over IPv6, ICMPv6, whose checksum is updated too.
     Upper,
-    /// It ends with the IP header: the payload is a later fragment. The checksum that covers the
-    /// address is in the first one.
+    /// It ends with the IP header: the payload is a later fragment. No checksum in it is updated: the
+    /// one that covers the address is in the first fragment, but that of TCP over IPv4 in a later
+    /// one if the first has fewer than 18 bytes of TCP.
     LaterFragment,
     /// It ends with the IP header: the checksum of the protocol does not cover the addresses, or the
     /// protocol is not known here.
@@ -155,9 +156,9 @@ pub fn set_destination_ipv4(packet: &mut [u8], destination: [u8; 4]) -> Result<R
 }
 
 /// Gives an IPv6 packet another source address in place: bytes 8 to 23, and the checksum of UDP, TCP
-/// or ICMPv6, if [`Reach`] says so. All else stays the same, also what comes after the packet. In a
-/// packet with a routing header, the checksum is updated as if the header's destination were the
-/// last one (RFC 8200 section 8.1).
+/// or ICMPv6, if [`Reach`] says so. All else stays the same, also what comes after the packet, and
+/// what covers or replaces the address elsewhere: an authentication header (RFC 4302), a home
+/// address option (RFC 6275 section 6.3).
 ///
 /// # Errors
 ///
@@ -200,7 +201,8 @@ pub fn set_source_ipv6(packet: &mut [u8], source: [u8; 16]) -> Result<Reach, Rew
 }
 
 /// Gives an IPv6 packet another destination address in place, bytes 24 to 39, as
-/// [`set_source_ipv6`] gives it another source address.
+/// [`set_source_ipv6`] gives it another source address. In a packet with a routing header, the
+/// checksum is updated as if the header's destination were the last one (RFC 8200 section 8.1).
 ///
 /// # Errors
 ///

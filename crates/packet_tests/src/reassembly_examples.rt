@@ -99,6 +99,11 @@ fn header_chains(rt: HostRuntime) {
             &[17, 1, 1, 4, 0, 0, 0, 0],
         ),
     );
+    // The first 8 bytes of the 40 of an IPv6 header.
+    assert_that(
+        &rt,
+        !has_whole_chain(IpNumber::IPV6, &[0x60, 0, 0, 0, 0, 8, 17, 64]),
+    );
 }
 
 #[test]
