@@ -26,7 +26,7 @@ use Rattle.etherparse_icmp.specs.IcmpTimestamps.{HasTimestamps}
 use Rattle.etherparse_icmp.specs.Icmpv4.{HasIcmpv4Bytes, HasIcmpv4Name, HasIcmpv4Rest}
 use Rattle.etherparse_icmp.specs.Icmpv4.{IsIcmpv4Layout, IsIcmpv4AsRead, IsIcmpv4Written}
 use Rattle.etherparse_icmp.specs.Icmpv4.{RefusesIcmpv4, SaysIcmpv4}
-use Rattle.etherparse_icmp.specs.Icmpv4.{icmpv4_cleared, icmpv4_code_number, icmpv4_len}
+use Rattle.etherparse_icmp.specs.Icmpv4.{icmpv4_cleared, icmpv4_code_number, icmpv4_len, icmpv4_len_of}
 use Rattle.etherparse_icmp.specs.Icmpv4.{icmpv4_type_number}
 use Rattle.etherparse_icmp.specs.declared.icmpv4.timestamp_message.TimestampMessage.{TimestampMessage}
 use Rattle.etherparse_icmp.specs.declared.icmpv4_header.Icmpv4Header.{Icmpv4Header}
@@ -129,11 +129,6 @@ same_header g h p k l =
     let checksum = sym k.layout.checksum_is ∙ l.layout.checksum_is in
     search (rules, icmp_type, checksum)
 
--- the length is told by the numbers
-abbrev len_of : ℕ → ℕ → ℕ
-len_of n code = if n == 13 then (if code == 0 then 20 else 8)
-    else if n == 14 then (if code == 0 then 20 else 8) else 8
-
 no_times : TimestampMessage
 no_times = record {
   id = 0;
@@ -144,11 +139,11 @@ no_times = record {
   transmit_timestamp = 0;
 }
 
-unnamed_len : (n code : ℕ) → (n ≡ 13 → code ≡ 0 → ⊥) → (n ≡ 14 → code ≡ 0 → ⊥) → len_of n code ≡ 8
+unnamed_len : (n code : ℕ) → (n ≡ 13 → code ≡ 0 → ⊥) → (n ≡ 14 → code ≡ 0 → ⊥) → icmpv4_len_of n code ≡ 8
 unnamed_len n code request reply = grind (arith, common_steps)
 
 len_told : (t : Icmpv4Type) → IsIcmpv4AsRead t
-    → len_of (icmpv4_type_number t) (icmpv4_code_number t) ≡ icmpv4_len t
+    → icmpv4_len_of (icmpv4_type_number t) (icmpv4_code_number t) ≡ icmpv4_len t
 len_told (icmp.Unknown n code bytes) told =
     unnamed_len n code (λ a b. told (icmp.TimestampRequest no_times) tt (sym a) (sym b))
     (λ a b. told (icmp.TimestampReply no_times) tt (sym a) (sym b))
@@ -159,7 +154,7 @@ len_at_least t = grind (arith, common_steps)
 
 -- the front of a slice has its first bytes, and is as long as they tell
 record HasFrontLen (s front : List ℕ) : Type 0 where
-  len : length front ≡ len_of (slice_index s 0) (slice_index s 1)
+  len : length front ≡ icmpv4_len_of (slice_index s 0) (slice_index s 1)
   enough : 8 ≤ length front
   within : length front ≤ length s
 
@@ -172,7 +167,7 @@ front_len s h x b =
     rw b.whole (get_or-append b.front x 0 0 (omega (arith, enough))) in
     let second : slice_index s 1 ≡ slice_index b.front 1 =
     rw b.whole (get_or-append b.front x 0 1 (omega (arith, enough))) in
-    let told : len_of (slice_index b.front 0) (slice_index b.front 1) ≡ icmpv4_len h.icmp_type =
+    let told : icmpv4_len_of (slice_index b.front 0) (slice_index b.front 1) ≡ icmpv4_len h.icmp_type =
     rw (l.says.type_is, l.says.code_is) at (len_told h.icmp_type b.layout.as_read) in
     record {
       len = l.len ∙ sym told ∙ rw (first, second) refl;

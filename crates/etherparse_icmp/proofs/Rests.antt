@@ -1,6 +1,6 @@
--- The bytes after the checksum of a message, and those of echo messages.
-use Rattle.std.proofs.Common.{ℕ, ◌≡◌, ◌+◌, List, [], ◌∷◌, ◌++◌, length, length-drop, drop}
-use Rattle.std.proofs.Common.{slice_index, arith, rules, w16}
+-- The bytes after the header of a message and after its checksum, and those of echo messages.
+use Rattle.std.proofs.Common.{ℕ, ◌≡◌, ◌+◌, List, [], ◌∷◌, ◌++◌, length, length-drop, drop, sym, take}
+use Rattle.std.proofs.Common.{slice_index, arith, rules, take-append-drop, w16}
 use Rattle.std.specs.Int.{from_be_bytes, to_be_bytes}
 use Rattle.std.specs.List.{slice_range}
 use Rattle.std.proofs.lemmas.Grind.{common_steps}
@@ -8,8 +8,15 @@ use Rattle.std.proofs.lemmas.List.{get_or-drop}
 use Rattle.std.proofs.lemmas.List.FromFn.{fill_by_all}
 use Rattle.etherparse.proofs.Layouts.{told, u16}
 use Rattle.etherparse.specs.Bytes.{IsBytes}
+use Rattle.etherparse.specs.Reading.{BeginsWith}
 use Rattle.etherparse_icmp.specs.IcmpEcho.{HasEcho}
 use Rattle.etherparse_icmp.specs.declared.icmp_echo_header.IcmpEchoHeader.{IcmpEchoHeader}
+
+-- a header of the first bytes is at the front of a message, and the bytes after it follow
+pub begins_with : {H : Type 0} (Layout : H → List ℕ → Type 0) (n : ℕ) (header : H) (s : List ℕ)
+    → Layout header (take n s) → BeginsWith Layout s header (drop n s)
+begins_with Layout n header s layout =
+    record { front = take n s; whole = sym (take-append-drop n s); layout = layout }
 
 pub drop_is_bytes : (n : ℕ) (p : List ℕ) → IsBytes p → IsBytes (drop n p)
 drop_is_bytes n p bytes i = rw (get_or-drop n p i 0) (bytes (n + i))

@@ -1,7 +1,7 @@
 -- The header of a message of ICMP (RFC 792): type, code, checksum, and bytes whose meaning is of
 -- the type, 16 of a timestamp message and 4 of any other.
-use Rattle.std.specs.Prelude.{ℕ, ◌≡◌, ◌≤◌, ◌⊎◌, List, [], ◌∷◌, drop, length, Result, slice_index}
-use Rattle.std.specs.Prelude.{slice_range}
+use Rattle.std.specs.Prelude.{ℕ, ◌≡◌, ◌==◌, ◌≤◌, ◌⊎◌, List, [], ◌∷◌, drop, if◌then◌else◌, length}
+use Rattle.std.specs.Prelude.{Result, slice_index, slice_range}
 use Rattle.std.specs.Int.{from_be_bytes, w16}
 use Rattle.etherparse.specs.Bytes.{IsBytes}
 use Rattle.etherparse.specs.Reading.{IsTooShort, Reads}
@@ -55,6 +55,11 @@ abbrev pub icmpv4_len : Icmpv4Type → ℕ
 icmpv4_len (TimestampRequest message) = 20
 icmpv4_len (TimestampReply message) = 20
 icmpv4_len icmp_type = 8
+
+-- the same by the numbers of the type and of the code
+abbrev pub icmpv4_len_of : ℕ → ℕ → ℕ
+icmpv4_len_of type_number code_number = if code_number == 0 then (if type_number == 13 then 20
+    else if type_number == 14 then 20 else 8) else 8
 
 -- what the bytes after the checksum say, as far as the type uses them
 abbrev pub HasIcmpv4Rest : Icmpv4Type → List ℕ → Type 0

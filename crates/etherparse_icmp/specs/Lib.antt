@@ -5,6 +5,8 @@ pub mod IcmpTimestamps
 pub mod Icmpv4
 pub mod Icmpv4Checksum
 pub mod Icmpv4Codes
+pub mod Icmpv4View
 pub mod Icmpv6
 pub mod Icmpv6Checksum
 pub mod Icmpv6Codes
+pub mod Icmpv6View

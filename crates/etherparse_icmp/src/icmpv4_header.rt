@@ -3,9 +3,10 @@
 ghost use Rattle.std.specs.Prelude.{◌≡◌, ◌≤◌, ◌⊎◌, IsTrue, ◌↔◌, length, slice_index};
 ghost use Rattle.etherparse.specs.Reading.{too_short_error};
 ghost use Rattle.etherparse_icmp.specs.Icmpv4.{IsIcmpv4Layout};
+ghost use Rattle.etherparse_icmp.specs.Icmpv4View.{icmpv4_len_in};
 
-use crate::Icmpv4Type;
 use crate::icmpv4::TimestampMessage;
+use crate::{Icmpv4Slice, Icmpv4Type};
 use arrayvec::ArrayVec;
 use etherparse::LenSource;
 use etherparse::err::{Layer, LenError};
@@ -108,22 +109,10 @@ impl Icmpv4Header {
         ensures only { (other : Icmpv4Reading) → ReadsIcmpv4 slice.now other →
             other ≡ found_and_rest result }
     {
-        if slice.len() < Icmpv4Header::MIN_LEN {
-            return Err(too_short(Layer::Icmpv4, Icmpv4Header::MIN_LEN, slice.len()));
+        match Icmpv4Slice::from_slice(slice) {
+            Ok(view) => Ok((view.header(), view.payload())),
+            Err(e) => Err(e),
         }
-        let is_timestamp = (slice[0] == 13 || slice[0] == 14) && slice[1] == 0;
-        if !is_timestamp {
-            return Ok((header_of(&slice[..8]), &slice[8..]));
-        }
-        if slice.len() < Icmpv4Header::MAX_LEN {
-            let layer = if slice[0] == 13 {
-                Layer::Icmpv4Timestamp
-            } else {
-                Layer::Icmpv4TimestampReply
-            };
-            return Err(too_short(layer, Icmpv4Header::MAX_LEN, slice.len()));
-        }
-        Ok((timestamp_header_of(&slice[..20]), &slice[20..]))
     }
 
     /// The length of the header, in bytes: 20 of a timestamp message or its reply, 8 of any other.
@@ -151,6 +140,18 @@ impl Icmpv4Header {
 const _: () = prove!(Icmpv4Header::MIN_LEN == 8);
 
 const _: () = prove!(Icmpv4Header::MAX_LEN == 20);
+
+// The header of these bytes, which are as many as their first two say.
+pub(crate) fn header_in(bytes: &[u8]) -> Icmpv4Header
+    requires len { length bytes.now ≡ icmpv4_len_in bytes.now }
+    ensures layout { IsIcmpv4Layout result bytes.now }
+{
+    if bytes.len() == Icmpv4Header::MAX_LEN {
+        timestamp_header_of(bytes)
+    } else {
+        header_of(bytes)
+    }
+}
 
 // The header of 8 bytes that are not of a timestamp message.
 fn header_of(bytes: &[u8]) -> Icmpv4Header
@@ -186,7 +187,7 @@ fn timestamp_header_of(bytes: &[u8]) -> Icmpv4Header
 }
 
 // The error of a slice of so many bytes, which are fewer than the layer needs.
-fn too_short(layer: Layer, required_len: usize, len: usize) -> LenError
+pub(crate) fn too_short(layer: Layer, required_len: usize, len: usize) -> LenError
     ensures value { result ≡ too_short_error layer required_len len }
 {
     LenError {

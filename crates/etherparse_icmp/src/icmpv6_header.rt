@@ -5,7 +5,7 @@ ghost use Rattle.etherparse.specs.Reading.{too_short_error};
 ghost use Rattle.etherparse.specs.declared.err.Layer.TheVariants as layer;
 ghost use Rattle.etherparse_icmp.specs.Icmpv6.{IsIcmpv6Layout};
 
-use crate::Icmpv6Type;
+use crate::{Icmpv6Slice, Icmpv6Type};
 use etherparse::LenSource;
 use etherparse::err::{Layer, LenError, ValueTooBigError, ValueType};
 
@@ -142,11 +142,10 @@ impl Icmpv6Header {
         ensures only { (other : Icmpv6Reading) → ReadsIcmpv6 slice.now other →
             other ≡ found_and_rest result }
     {
-        if slice.len() < Icmpv6Header::LEN {
-            return Err(too_short(slice.len()));
+        match Icmpv6Slice::from_slice(slice) {
+            Ok(view) => Ok((view.header(), view.payload())),
+            Err(e) => Err(e),
         }
-        let (front, rest) = (&slice[..Icmpv6Header::LEN], &slice[Icmpv6Header::LEN..]);
-        Ok((header_of(front), rest))
     }
 
     /// The length of the header, in bytes: 8.
@@ -174,7 +173,7 @@ impl Icmpv6Header {
 const _: () = prove!(Icmpv6Header::LEN == 8);
 
 // The header of 8 bytes.
-fn header_of(bytes: &[u8]) -> Icmpv6Header
+pub(crate) fn header_of(bytes: &[u8]) -> Icmpv6Header
     requires { length bytes.now ≡ 8 }
     ensures layout { IsIcmpv6Layout result bytes.now }
 {
@@ -186,7 +185,7 @@ fn header_of(bytes: &[u8]) -> Icmpv6Header
 }
 
 // The error of a slice of so many bytes, which are fewer than 8.
-fn too_short(len: usize) -> LenError
+pub(crate) fn too_short(len: usize) -> LenError
     ensures value { result ≡ too_short_error layer.Icmpv6 8 len }
 {
     LenError {

@@ -1,9 +1,12 @@
-//! What the derived `==` of the headers and the `clone` of all types say, each as the clause of one
-//! small function. Nothing calls them: they are there to be proved.
+//! What the derived `==` of headers and views and the `clone` of all types say, each as the clause of
+//! one small function. Nothing calls them: they are there to be proved.
 
 ghost use Rattle.std.specs.Prelude.{◌≡◌, ◌↔◌, IsTrue, Ok};
 
-use crate::{IcmpEchoHeader, Icmpv4Header, Icmpv4Type, Icmpv6Header, Icmpv6Type, icmpv4, icmpv6};
+use crate::{
+    IcmpEchoHeader, Icmpv4Header, Icmpv4Slice, Icmpv4Type, Icmpv6Header, Icmpv6Slice, Icmpv6Type,
+    icmpv4, icmpv6,
+};
 use std::alloc::AllocError;
 
 fn icmpv4_header_equality(a: &Icmpv4Header, b: &Icmpv4Header) -> bool
@@ -18,7 +21,32 @@ fn icmpv6_header_equality(a: &Icmpv6Header, b: &Icmpv6Header) -> bool
     a == b
 }
 
+// Views are equal if they show the same bytes.
+fn icmpv4_view_equality(a: &Icmpv4Slice, b: &Icmpv4Slice) -> bool
+    ensures same_bytes { IsTrue result ↔ (a.now.slice.now ≡ b.now.slice.now) }
+{
+    a == b
+}
+
+fn icmpv6_view_equality(a: &Icmpv6Slice, b: &Icmpv6Slice) -> bool
+    ensures same_bytes { IsTrue result ↔ (a.now.slice.now ≡ b.now.slice.now) }
+{
+    a == b
+}
+
 // A clone is equal, and cloning never fails.
+fn icmpv4_view_clone<'a>(view: &Icmpv4Slice<'a>) -> Result<Icmpv4Slice<'a>, AllocError>
+    ensures same_value { result ≡ Ok view.now }
+{
+    view.clone()
+}
+
+fn icmpv6_view_clone<'a>(view: &Icmpv6Slice<'a>) -> Result<Icmpv6Slice<'a>, AllocError>
+    ensures same_value { result ≡ Ok view.now }
+{
+    view.clone()
+}
+
 fn icmpv4_header_clone(header: &Icmpv4Header) -> Result<Icmpv4Header, AllocError>
     ensures same_value { result ≡ Ok header.now }
 {

@@ -8,7 +8,9 @@ use etherparse_icmp::icmpv4::{
     DestUnreachableHeader, ParameterProblemHeader, RedirectCode, RedirectHeader, TimeExceededCode,
     TimestampMessage,
 };
-use etherparse_icmp::{IcmpEchoHeader, Icmpv4Header, Icmpv4Type, Icmpv6Header, Icmpv6Type};
+use etherparse_icmp::{
+    IcmpEchoHeader, Icmpv4Header, Icmpv4Slice, Icmpv4Type, Icmpv6Header, Icmpv6Slice, Icmpv6Type,
+};
 use std::process::Abort;
 use std::test::Fail;
 
@@ -79,6 +81,55 @@ fn icmpv6_headers(rt: HostRuntime) -> Result<(), Fail> {
         &rt,
         too_big.calc_checksum(source, destination, b"abcd")?,
         0xd87d,
+    );
+    Ok(())
+}
+
+#[test]
+fn icmpv4_views(rt: HostRuntime) -> Result<(), LenError> {
+    // An echo request with the payload `abcd`.
+    let message = &[8, 0, 0x21, 4, 0x12, 0x34, 0, 1, b'a', b'b', b'c', b'd'];
+    let view = Icmpv4Slice::from_slice(message)?;
+    let echo = IcmpEchoHeader { id: 0x1234, seq: 1 };
+    assert_equal(&rt, view.icmp_type(), Icmpv4Type::EchoRequest(echo));
+    let numbers = (
+        view.header_len(),
+        view.type_u8(),
+        view.code_u8(),
+        view.checksum(),
+    );
+    assert_that(&rt, numbers == (8, 8, 0, 0x2104));
+    assert_equal(&rt, view.bytes5to8(), [0x12, 0x34, 0, 1]);
+    assert_equal(
+        &rt,
+        Icmpv4Header::from_slice(view.slice()),
+        Ok((view.header(), view.payload())),
+    );
+    Ok(())
+}
+
+#[test]
+fn icmpv6_views(rt: HostRuntime) -> Result<(), LenError> {
+    // An echo request with the payload `abcd`, from 2001:db8::1 to 2001:db8::2.
+    let message = &[128, 0, 0x4d, 0x48, 0x12, 0x34, 0, 1, b'a', b'b', b'c', b'd'];
+    let source = [0x20, 0x01, 0x0d, 0xb8, 0, 0, 0, 0, 0, 0, 0, 0, 0, 0, 0, 1];
+    let destination = [0x20, 0x01, 0x0d, 0xb8, 0, 0, 0, 0, 0, 0, 0, 0, 0, 0, 0, 2];
+    let view = Icmpv6Slice::from_slice(message)?;
+    assert_that(&rt, view.is_checksum_valid(source, destination));
+    let echo = IcmpEchoHeader { id: 0x1234, seq: 1 };
+    assert_equal(&rt, view.icmp_type(), Icmpv6Type::EchoRequest(echo));
+    let numbers = (
+        view.header_len(),
+        view.type_u8(),
+        view.code_u8(),
+        view.checksum(),
+    );
+    assert_that(&rt, numbers == (8, 128, 0, 0x4d48));
+    assert_equal(&rt, view.bytes5to8(), [0x12, 0x34, 0, 1]);
+    assert_equal(
+        &rt,
+        Icmpv6Header::from_slice(view.slice()),
+        Ok((view.header(), view.payload())),
     );
     Ok(())
 }
