@@ -161,7 +161,7 @@ carried_text carried.Control = codes "control frame"
 carried_text carried.Extension = codes "extension frame"
 carried_text carried.NoData = codes "no data"
 carried_text carried.Encrypted = codes "encrypted"
-carried_text carried.LaterFragment = codes "later fragment"
+carried_text carried.Fragment = codes "fragment"
 carried_text carried.Aggregate = codes "aggregate"
 carried_text carried.Unknown = codes "unknown link header"
 

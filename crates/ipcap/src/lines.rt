@@ -265,7 +265,7 @@ fn write_carried<W: fmt::Write>(f: &mut Formatter<W>, carried: Carried) -> fmt::
         Carried::Extension => "extension frame",
         Carried::NoData => "no data",
         Carried::Encrypted => "encrypted",
-        Carried::LaterFragment => "later fragment",
+        Carried::Fragment => "fragment",
         Carried::Aggregate => "aggregate",
         Carried::Unknown => "unknown link header",
     };

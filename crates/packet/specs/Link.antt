@@ -13,7 +13,8 @@ use Rattle.packet_links.specs.Framing.{framing_of, header_in}
 use Rattle.packet_links.specs.Header.{ether_type_of}
 use Rattle.packet_links.specs.declared.header.Carried.{Carried}
 
--- The link types by their numbers. The number of LINKTYPE_RAW is 101; some systems write 12 or 14.
+-- The link types by their numbers. Those of an IP packet alone are 101 (LINKTYPE_RAW), for which
+-- some systems write 12 or 14, 228 (LINKTYPE_IPV4) and 229 (LINKTYPE_IPV6).
 abbrev pub link_type_of : ℕ → Option LinkType
 link_type_of number =
     if number == 0 then Some Null

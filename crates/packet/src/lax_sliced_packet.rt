@@ -122,8 +122,8 @@ impl<'a> LaxSlicedPacket<'a> {
         frame_layers(LinkType::Null, frame)
     }
 
-    /// The layers of a frame of a link type. A loop that reads them at once and keeps none is faster
-    /// with [`frame_layers`].
+    /// The layers of a frame of a link type. A loop that reads them at once and keeps none is
+    /// faster with [`frame_layers`].
     ///
     /// # Errors
     ///

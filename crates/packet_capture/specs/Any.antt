@@ -79,8 +79,8 @@ is_fine (RecordedAt at fraction Nanoseconds) = true
 is_fine (Counted timestamp resolution offset) = is_below_microsecond resolution
 is_fine Unknown = false
 
--- The head of a record. The upper bits of the link type in the file header are about a frame check
--- sequence.
+-- The head of a record. The link type is the lower 16 bits of the field in the file header: bits 26
+-- and 28 to 31 are about a frame check sequence, and the others above are reserved.
 abbrev pub head_of_record : FileHeader → List ℕ → PacketHead
 head_of_record header s = record {
   link_type = header.link_type % 2 ^ 16;

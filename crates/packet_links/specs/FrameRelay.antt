@@ -27,7 +27,8 @@ after_address place frame = if has 0x03 place frame
     else record { len = place + 2; carried = carried.EtherType (number_at place frame) }
 
 -- LINKTYPE_FRELAY: an address of 2, 3 or 4 bytes, of which the last alone is odd (Q.922 section
--- 3.2), and what follows it. A header has 4 bytes at least.
+-- 3.2), and what follows it. A shorter frame than 4 bytes, which signalling alone has (Q.922
+-- section 2.9), is taken for one that was cut.
 abbrev pub frame_relay_header : List ℕ → Header
 frame_relay_header frame =
     if nat_lt (length frame) 4 || is_set 0 0 frame

@@ -7,8 +7,8 @@ use Rattle.packet_links.specs.declared.header.Carried.TheVariants as carried
 use Rattle.packet_links.specs.declared.header.Header.{Header}
 
 -- What follows is an IP packet: by its EtherType (RFC 894, RFC 2464 section 3), its number of PPP
--- (RFC 1332 section 2, RFC 5072 section 2) or its NLPID (RFC 2427 section 4.1); or with no number.
--- The version is told by the packet itself.
+-- (RFC 1332 section 2, RFC 5072 section 2) or its NLPID (RFC 2427 section 4.1, RFC 2590); or with
+-- no number. The version is told by the packet itself.
 abbrev pub is_ip : Carried → Bool
 is_ip (carried.EtherType number) = number == 0x0800 || number == 0x86dd
 is_ip (carried.PppProtocol number) = number == 0x0021 || number == 0x0057
@@ -43,8 +43,8 @@ snap_header place frame = if is_ether_type place frame
     then record { len = place + 19; carried = carried.EtherType (number_at (place + 17) frame) }
     else record { len = place + 5; carried = carried.Snap }
 
--- the control at a place has one byte: that of unnumbered information or of a command, whose bits 0
--- and 1 are set (IEEE 802.2 section 5.2); at least, if the frame ends before it
+-- the control at a place has one byte, that of an unnumbered PDU: its bits 0 and 1 are set (IEEE
+-- 802.2 section 5.2); at least one, if the frame ends before it
 abbrev pub is_unnumbered : ℕ → List ℕ → Bool
 is_unnumbered place frame =
     nat_le (length frame) place || (is_set 0 place frame && is_set 1 place frame)

@@ -24,26 +24,31 @@ abbrev pub data_header_len : Bool → List ℕ → ℕ
 data_header_len false mac = controls_end mac
 data_header_len true mac = (controls_end mac + 3) / 4 * 4
 
--- a fragment with another number than 0, the lower 4 bits of sequence control (section 9.2.4.4)
-abbrev pub is_later_fragment : List ℕ → Bool
-is_later_fragment mac = not (slice_index mac 22 % 2 ^ 4 == 0)
+-- a fragment: more of them follow by bit 2 of byte 1 (section 9.2.4.1.5), or it has another number
+-- than 0, the lower 4 bits of sequence control (section 9.2.4.4)
+abbrev pub is_fragment : List ℕ → Bool
+is_fragment mac = is_set 2 1 mac || not (slice_index mac 22 % 2 ^ 4 == 0)
 
 -- several packets in one: bit 7 of QoS control (section 9.2.4.5.9)
 abbrev pub is_aggregate : List ℕ → Bool
 is_aggregate mac = is_set 7 0 mac && is_set 7 (addresses_end mac) mac
 
--- A data frame: no data by bit 2 of the subtype (section 9.2.4.1.3), encrypted by the flag of
--- protected frames (section 9.2.4.1.9), and else LLC, unless it is a later fragment or an
--- aggregate.
-abbrev pub data_header : Bool → List ℕ → Header
-data_header is_padded mac =
-    let len = data_header_len is_padded mac in
-    if is_set 6 0 mac then record { len = len; carried = carried.NoData }
-    else if is_set 6 1 mac then record { len = len; carried = carried.Encrypted }
+-- What follows a header of this length in a frame with data: encrypted data by the flag of
+-- protected frames (section 9.2.4.1.9), and else LLC, unless it is a fragment or an aggregate. It
+-- is not known if the frame ends within the header.
+abbrev pub data_after : ℕ → List ℕ → Header
+data_after len mac =
+    if is_set 6 1 mac then record { len = len; carried = carried.Encrypted }
     else if nat_lt (length mac) len then record { len = len; carried = carried.Unknown }
-    else if is_later_fragment mac then record { len = len; carried = carried.LaterFragment }
+    else if is_fragment mac then record { len = len; carried = carried.Fragment }
     else if is_aggregate mac then record { len = len; carried = carried.Aggregate }
     else llc_header len mac
+
+-- A data frame: it has no data by bit 2 of the subtype (section 9.2.4.1.3), and then no padding.
+abbrev pub data_header : Bool → List ℕ → Header
+data_header is_padded mac =
+    if is_set 6 0 mac then record { len = controls_end mac; carried = carried.NoData }
+    else data_after (data_header_len is_padded mac) mac
 
 -- LINKTYPE_IEEE802_11: frame control has the version 0 in its bits 0 and 1 and the type in bits 2
 -- and 3 (section 9.2.4.1.3). Of a frame of another type nothing after it is read.

@@ -31,8 +31,8 @@ pub enum Carried {
     NoData,
     /// Encrypted data of IEEE 802.11.
     Encrypted,
-    /// A fragment of IEEE 802.11 other than the first, which begins with no header.
-    LaterFragment,
+    /// A fragment of IEEE 802.11: its packet goes on in another frame, or began in one.
+    Fragment,
     /// Several packets in one frame of IEEE 802.11, an A-MSDU.
     Aggregate,
     /// It is not known: the header has no form that is read here.

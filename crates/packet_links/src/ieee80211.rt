@@ -3,7 +3,7 @@
 ghost use Rattle.std.specs.Prelude.{◌≡◌, ◌≤◌, length};
 ghost use Rattle.packet_links.specs.Ieee80211.{addresses_end, controls_end, data_header};
 ghost use Rattle.packet_links.specs.Ieee80211.{data_header_len, flags_place, ieee80211_header};
-ghost use Rattle.packet_links.specs.Ieee80211.{has_padding, is_aggregate, is_later_fragment};
+ghost use Rattle.packet_links.specs.Ieee80211.{has_padding, is_aggregate, is_fragment};
 ghost use Rattle.packet_links.specs.Ieee80211.{present_len, radiotap_header, radiotap_len};
 
 use crate::bytes::{byte_at, is_set};
@@ -99,15 +99,19 @@ fn data_header(is_padded: bool, mac: &[u8]) -> Header
     ensures value { result ≡ data_header is_padded mac.now }
     ensures short { result.len ≤ 58 }
 {
+    if is_set(6, 0, mac) {
+        return Header {
+            len: controls_end(mac),
+            carried: Carried::NoData,
+        };
+    }
     let len = data_header_len(is_padded, mac);
-    let carried = if is_set(6, 0, mac) {
-        Carried::NoData
-    } else if is_set(6, 1, mac) {
+    let carried = if is_set(6, 1, mac) {
         Carried::Encrypted
     } else if mac.len() < len {
         Carried::Unknown
-    } else if is_later_fragment(mac) {
-        Carried::LaterFragment
+    } else if is_fragment(mac) {
+        Carried::Fragment
     } else if is_aggregate(mac) {
         Carried::Aggregate
     } else {
@@ -150,11 +154,11 @@ fn addresses_end(mac: &[u8]) -> usize
     }
 }
 
-// Whether a data frame is a fragment other than the first.
-fn is_later_fragment(mac: &[u8]) -> bool
-    ensures value { result ≡ is_later_fragment mac.now }
+// Whether a data frame is a fragment.
+fn is_fragment(mac: &[u8]) -> bool
+    ensures value { result ≡ is_fragment mac.now }
 {
-    byte_at(mac, 22) % 16 != 0
+    is_set(2, 1, mac) || byte_at(mac, 22) % 16 != 0
 }
 
 // Whether a data frame has several packets in one.

@@ -116,8 +116,8 @@ pub struct LaxIpSlice<'a> {
     /// that is in the place of the payload, with its number.
     pub slice: IpSlice<'a>,
     /// Why [`IpSlice::from_slice`] refuses the packet: `Packet` or `Extensions`; `None` if it does
-    /// not. With `Packet` for a total length of 0, as a host writes it if its network card cuts long
-    /// packets (segmentation offload), the payload is all that follows the header.
+    /// not. With `Packet` for a total length of 0, as a host writes it if its network card cuts
+    /// long packets (segmentation offload), the payload is all that follows the header.
     pub stop: Option<IpSliceError>,
 }
 
@@ -135,9 +135,9 @@ impl<'a> IpHeaderSlice<'a> {
         }
     }
 
-    /// How long the packet is by its length field, in bytes and with the header: a payload length of
-    /// 0 gives 40. A total length of 0, which gives 0, says nothing: a host writes it if its network
-    /// card cuts long packets (segmentation offload).
+    /// How long the packet is by its length field, in bytes and with the header: a payload length
+    /// of 0 gives 40. A total length of 0, which gives 0, says nothing: a host writes it if its
+    /// network card cuts long packets (segmentation offload).
     pub fn packet_len(&self) -> usize
         ensures value { result ≡ packet_len_of self.now }
     {

@@ -155,8 +155,8 @@ impl<'a, 'b> IpDefragPool<'a, 'b> {
     }
 
     /// Writes the packet of the datagram in the slot at an index, as [`IpDefragSlot::write_packet`]
-    /// does: the pool has to have that slot, and `out` at least 65575 bytes. The slots do not change:
-    /// release this one when the packet is done with.
+    /// does: the pool has to have that slot, and `out` at least 65575 bytes. The slots do not
+    /// change: release this one when the packet is done with.
     ///
     /// # Errors
     ///
@@ -202,8 +202,8 @@ impl<'a> IpDefragSlot<'a> {
 
     /// Writes the packet of the datagram that has the slot, as [`IpDefragHeaders::write_packet`]
     /// does, with `CE` if any fragment had it (RFC 3168 section 5.3). `out` has to have at least
-    /// 65575 bytes. Returns the length of the packet in bytes; `None` if the datagram is not complete,
-    /// or if no fragment of it at offset 0 came by [`IpDefragPool::add_packet`].
+    /// 65575 bytes. Returns the length of the packet in bytes; `None` if the datagram is not
+    /// complete, or if no fragment of it at offset 0 came by [`IpDefragPool::add_packet`].
     ///
     /// # Errors
     ///

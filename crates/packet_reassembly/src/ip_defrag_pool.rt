@@ -61,8 +61,8 @@ pub struct Added {
     pub given_up: Option<IpFragId>,
 }
 
-/// Many datagrams at once, in slots that the caller lends. Once the pool is dropped, they are what it
-/// left, and another can go on with them: each call says so by `same_reference`.
+/// Many datagrams at once, in slots that the caller lends. Once the pool is dropped, they are what
+/// it left, and another can go on with them: each call says so by `same_reference`.
 ///
 /// # Example
 ///
@@ -105,9 +105,9 @@ impl<'a, 'b> IpDefragPool<'a, 'b> {
     pub const TIMEOUT_SECONDS: u64 = 60;
 
     /// Adds a fragment to its datagram. If none has this id, it takes a slot: the first that none
-    /// has, or else that of the oldest, the first of those that are equally old. A datagram as old as
-    /// the timeout, or older, is given up when a fragment with its id comes. The other slots do not
-    /// change. The pool has to have at least one slot.
+    /// has, or else that of the oldest, the first of those that are equally old. A datagram as old
+    /// as the timeout, or older, is given up when a fragment with its id comes. The other slots do
+    /// not change. The pool has to have at least one slot.
     ///
     /// No headers are kept, and no ECN codepoint counts: if the fragment at offset 0 comes this way
     /// alone, [`IpDefragPool::write_packet`] finds no packet.
@@ -150,8 +150,8 @@ impl<'a, 'b> IpDefragPool<'a, 'b> {
         )
     }
 
-    /// Takes the slot at an index from its datagram; the pool has to have that slot. What has come of
-    /// the datagram stays until another one takes the slot.
+    /// Takes the slot at an index from its datagram; the pool has to have that slot. What has come
+    /// of the datagram stays until another one takes the slot.
     #[tactic(auto, using(crate::proofs::FirstHeaders::released_have))]
     pub fn release(&mut self, slot: usize)
         requires within { slot < length self.old.slots.now }

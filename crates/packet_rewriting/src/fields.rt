@@ -81,9 +81,9 @@ impl fmt::Display for RewriteError {
 pub enum Reach {
     /// Into the header of UDP, TCP or, over IPv6, ICMPv6, whose checksum is updated too.
     Upper,
-    /// It ends with the IP header: the payload is a later fragment. No checksum in it is updated: the
-    /// one that covers the address is in the first fragment, but that of TCP over IPv4 in a later
-    /// one if the first has fewer than 18 bytes of TCP.
+    /// It ends with the IP header: the payload is a later fragment. No checksum in it is updated:
+    /// the one that covers the address is in the first fragment, but that of TCP over IPv4 in a
+    /// later one if the first has fewer than 18 bytes of TCP.
     LaterFragment,
     /// It ends with the IP header: the checksum of the protocol does not cover the addresses, or the
     /// protocol is not known here.

@@ -220,6 +220,17 @@ fn padding_is_skipped(rt: HostRuntime) {
 }
 
 #[test]
+fn frame_without_data_has_no_padding(rt: HostRuntime) {
+    let mut frame = [0; 35];
+    frame[..9].copy_from_slice(&[0, 0, 9, 0, 2, 0, 0, 0, 0x20]);
+    frame[9..33].copy_from_slice(&ADDRESSES);
+    [frame[9], frame[10]] = [0xc8, 1];
+    let found = Framing::Ieee80211Radiotap.header(&frame);
+    let carried = Carried::NoData;
+    assert_equal(&rt, found, Ok(Header { len: 35, carried }));
+}
+
+#[test]
 fn ieee_802_11_carries_others(rt: HostRuntime) {
     // Frame control, sequence control, the first byte of QoS control, and what is carried.
     let cases = [
@@ -230,7 +241,8 @@ fn ieee_802_11_carries_others(rt: HostRuntime) {
         (0x48, 1, 0, 0, Carried::NoData),
         (0xc8, 1, 0, 0, Carried::NoData),
         (0x88, 0x42, 0, 0, Carried::Encrypted),
-        (0x08, 1, 0x11, 0, Carried::LaterFragment),
+        (0x08, 1, 0x11, 0, Carried::Fragment),
+        (0x08, 5, 0x10, 0, Carried::Fragment),
         (0x88, 2, 0, 0x80, Carried::Aggregate),
         (0x88, 2, 0, 0, Carried::Llc(0x42)),
     ];

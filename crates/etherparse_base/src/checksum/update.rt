@@ -15,8 +15,8 @@ use super::u32_16bit_word::ones_complement;
 /// 3, equation 3). The words are given as their bytes in the packet; the checksum is a number that
 /// was read from its bytes with the high byte first.
 ///
-/// A checksum that was computed of the old words becomes that of the new words, unless all words are
-/// 0 now: it is then 0, and 0xffff if computed anew. A wrong one is not repaired.
+/// A checksum that was computed of the old words becomes that of the new words, unless all words
+/// are 0 now: it is then 0, and 0xffff if computed anew. A wrong one is not repaired.
 ///
 /// The Rust crate has no such call.
 ///
