@@ -199,7 +199,7 @@ loads_at (token.Number place) = Some (place, One)
 loads_at (token.Place place size) = Some (place, size)
 loads_at _ = None
 
--- numbers with `|` between them, of whose bits each has one of them
+-- numbers with `|` between them, and the bitwise or of all of them
 pub data AreBits : List Token → ℕ → Type 0 where
   single : (k : ℕ) → AreBits (token.Number k ∷ []) k
   with : {words : List Token} {bits : ℕ} → AreBits words bits → (k : ℕ)
@@ -250,15 +250,15 @@ pub data Kind : Type 0 where
   operand : Kind
   chain : Operator → Kind
 
--- the head of a value alone that has no value before it
+-- the head of a value alone after a primitive that has none, and at the beginning
 abbrev pub first_head : Head
 first_head = head.Host None None
 
 -- The words are an expression of this kind. `not` binds tighter than `and` and `or`, which stand
--- together only where parentheses keep them apart. A value alone has the head of the primitive
--- before it, past any parentheses: in place of the words its head would be `before`, and after them
--- `after`. If `only` is true, all primitives are values alone: so after a head. A network has its
--- mask after the word `mask`.
+-- together only where parentheses keep them apart. A value alone has the head of the last primitive
+-- before it that no closed parentheses enclose: in place of the words its head would be `before`,
+-- and after them `after`. If `only` is true, all primitives are values alone: so after a head. A
+-- network has its mask after the word `mask`.
 pub data Reads : Kind → Bool → Head → List Token → Expression → Head → Type 0 where
   primitive : {before : Head} {words : List Token} {p : Primitive} → IsPrimitive words p
       → Reads operand false before words (one p) first_head
