@@ -33,7 +33,8 @@ pub enum Icmpv6Type {
     /// used: they are read whatever they are, and written as 0.
     DestinationUnreachable(DestUnreachableCode),
     /// Type 2, code 0: a packet was larger than the link that it had to take (RFC 4443 section
-    /// 3.2).
+    /// 3.2). A receiver ignores the code; a message with another one is `Unknown` here, so that it
+    /// is written back as it was.
     PacketTooBig {
         /// The greatest length of a packet on that link, in bytes.
         mtu: u32,

@@ -13,7 +13,8 @@ use Rattle.packet_filter.specs.declared.head.Head.TheVariants as head
 use Rattle.packet_filter.specs.declared.token.Token.{Token}
 use Rattle.packet_filter.specs.declared.token.Token.TheVariants as token
 
--- words that can stand there, and the text, which names them and no others
+-- words that can stand there, and the text, which names them and, where a primitive can end there,
+-- an operator
 abbrev pub row : Expected → List (List ℕ) × List ℕ
 row expected.Operand = (
   codes "not" ∷ codes "(" ∷ codes "tcp" ∷ codes "host" ∷ [],

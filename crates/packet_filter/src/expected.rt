@@ -13,10 +13,11 @@ use std::fmt;
 
 /// What can stand at a place of a text. Its text names words that can, in general or as examples.
 /// It leaves out `not` and `(` before a value, `(` before numbers with `|` between them, and `[`
-/// after a protocol that has no ports, such as `icmp`; after a direction `or dst` and `and dst`, and
-/// `host` and `net` if a protocol stands before it; and after a length or a load `&` and `)`. At the
-/// end of a text it also leaves out what the last primitive can go on with, if that is complete: it
-/// is none of `AfterIp`, `AfterNetwork`, `AfterTransport`, `AfterVlan` and `AfterAddress` there.
+/// after a protocol that has no ports, such as `icmp`; after a direction `or dst` and `and dst`,
+/// and `host` and `net` if a protocol stands before it; after a length or a load `&` and `)`; and
+/// `)` after a primitive that can go on, such as `ip`. At the end of a text it also leaves out what
+/// the last primitive can go on with, if that is complete: it is none of `AfterIp`, `AfterNetwork`,
+/// `AfterTransport`, `AfterVlan` and `AfterAddress` there.
 #[derive(Clone, Copy, Debug, PartialEq, Eq)]
 pub enum Expected {
     /// `not`, `(` or a primitive.
