@@ -62,7 +62,7 @@ enum {
     ETHERPARSE_DEFRAG_UNALIGNED_LEN = 2,
     ETHERPARSE_DEFRAG_TOO_BIG = 3, /* it ends past byte 65535 */
     /* the bytes are no IP packet, or not all of it is there, or it is one of IPv6 that ends within an
-     * extension header with no fragment header before it that is not atomic */
+     * extension header before which there is no fragment header, or only atomic ones */
     ETHERPARSE_DEFRAG_PACKET = 4,
     /* the first fragment of an IPv6 packet lacks a part of the header chain (RFC 7112): it ends within
      * an extension header after its fragment header, or within the header of the upper layer */

@@ -50,10 +50,10 @@ pub struct LinuxSllHeader {
     pub sender_address_valid_length: u16,
     /// The sender's address, as far as its length says; all 8 bytes are kept: bytes 6 to 13.
     pub sender_address: [u8; 8],
-    /// What follows the header: bytes 14 and 15. That of [`ArpHardwareId::IPGRE`] is an EtherType
-    /// too (RFC 2784 section 2.4). For some other kinds of devices it is none: for
+    /// What follows the header: bytes 14 and 15. For some kinds of devices it is no EtherType: for
     /// [`ArpHardwareId::NETLINK`] it is a netlink family; for [`ArpHardwareId::FRAD`] and
-    /// [`ArpHardwareId::IEEE80211_RADIOTAP`] it says nothing, and is to be ignored.
+    /// [`ArpHardwareId::IEEE80211_RADIOTAP`] it says nothing, and is to be ignored. For
+    /// [`ArpHardwareId::IPGRE`] it is one (RFC 2784 section 2.4).
     pub protocol_type: EtherType,
 }
 

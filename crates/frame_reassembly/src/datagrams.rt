@@ -31,8 +31,8 @@ impl Datagrams {
     }
 
     /// Those that are left over: of which fragments have come, and which are neither put together
-    /// nor discarded. Some of these may have been given up for others. There are more if some had
-    /// slots before this count began: they count where they end, and not as begun.
+    /// nor discarded. Some of these may have been given up for others. The result is too low if
+    /// some had slots before this count began: they count where they end, and not as begun.
     ///
     /// # Example
     ///

@@ -68,8 +68,8 @@ impl<'a, 'b> FrameReassembly<'a, 'b> {
     pub const MAX_PACKET_LEN: usize = 65_575;
 
     /// With these slots, from one to [`FrameReassembly::SLOTS`] of them. Datagrams that have slots
-    /// go on. Each must have come by [`IpDefragPool::add_packet`], so that the headers of its first
-    /// fragment are kept.
+    /// go on. Their fragments must have come by [`IpDefragPool::add_packet`], so that the headers of
+    /// the first are kept.
     pub fn new(slots: &'a mut [IpDefragSlot<'b>]) -> FrameReassembly<'a, 'b>
         requires some { 0 < length slots.old }
         requires few { length slots.old ≤ 32 }

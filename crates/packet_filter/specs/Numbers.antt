@@ -35,8 +35,8 @@ is_hexadecimal [] = false
 is_hexadecimal (c ∷ []) = false
 is_hexadecimal (c ∷ d ∷ s) = (c == 48) && ((d == 120) || (d == 88))
 
--- the decimal number below 2 ^ 32 that the word is, without leading zeros, with which libpcap takes
--- most numbers for octal
+-- the decimal number below 2 ^ 32 that the word is, without leading zeros: with these libpcap reads
+-- most numbers as octal
 abbrev pub decimal_of : List ℕ → Option ℕ
 decimal_of word = if has_leading_zero word then None else digits_of 10 word
 

@@ -34,8 +34,8 @@ abbrev pub is_aggregate : List ℕ → Bool
 is_aggregate mac = is_set 7 0 mac && is_set 7 (addresses_end mac) mac
 
 -- What follows a header of this length in a frame with data: encrypted data by the flag of
--- protected frames (section 9.2.4.1.9), and else LLC, unless it is a fragment or an aggregate. It
--- is not known if the frame ends within the header.
+-- protected frames (section 9.2.4.1.9), and else LLC, unless it is a fragment or an aggregate; or
+-- unknown, if the frame ends within the header and is not encrypted.
 abbrev pub data_after : ℕ → List ℕ → Header
 data_after len mac =
     if is_set 6 1 mac then record { len = len; carried = carried.Encrypted }

@@ -11,9 +11,9 @@ use packet_parts::extensions::after_extensions;
 /// first fragment without that is to be refused (RFC 7112 section 5), since what it lacks decides
 /// who takes the packet.
 ///
-/// The header of the upper layer is one of those that RFC 8200 section 4.5 names: 20 bytes of TCP
-/// or IPv4, or as many as the data offset or the IHL says; 8 of UDP; 40 of IPv6; 8 of ESP; 4 of
-/// ICMPv6. Nothing is asked of others.
+/// An upper-layer header counts if RFC 8200 section 4.5 names it: 20 bytes of TCP or IPv4, or as
+/// many as the data offset or the IHL says; 8 of UDP; 40 of IPv6; 8 of ESP; 4 of ICMPv6. Nothing is
+/// asked of others.
 ///
 /// # Example
 ///

@@ -58,8 +58,8 @@ pub fn write_ipv4_packet(
 
 /// Writes an IPv6 packet that fragments were cut from: the IPv6 header of the fragment at offset 0
 /// with the payload length of all after it; its extension headers before the fragment header, those
-/// before the last and the last; and the payload. The header that named the fragment header gets
-/// its next header: the last extension header, or the IPv6 header if there is none (RFC 8200
+/// before the last and the last; and the payload. `next_header` goes into the header before the
+/// fragment header: the last extension header, or the IPv6 header if there is none (RFC 8200
 /// section 4.5). Returns the length of the packet in bytes.
 ///
 /// `before` and `last` have to be a chain of extension headers that leads from `first` to the
