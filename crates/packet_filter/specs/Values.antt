@@ -103,8 +103,8 @@ icmp6_types =
     (codes "icmp6-multicastrouterterm", token.Number 153) ∷ []
 
 -- ports (IANA, Service Name and Transport Protocol Port Number Registry); `imap2` and `snmp-trap`
--- are the names of /etc/services for its `imap` and `snmptrap`, as `sip-tls` is for its `sips`, which
--- is no name here
+-- are the names of /etc/services for its `imap` and `snmptrap`, as `sip-tls` is for its `sips`,
+-- which is no name here
 abbrev pub services : List Name
 services =
     (codes "echo", token.Service 7) ∷
