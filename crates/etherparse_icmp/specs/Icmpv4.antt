@@ -56,8 +56,8 @@ icmpv4_len (TimestampRequest message) = 20
 icmpv4_len (TimestampReply message) = 20
 icmpv4_len icmp_type = 8
 
--- the same by the numbers of the type and of the code: 13 and 14, with the code 0, are the timestamp
--- messages
+-- the same by the numbers of the type and of the code: 13 and 14, with the code 0, are the
+-- timestamp messages
 abbrev pub icmpv4_len_of : ℕ → ℕ → ℕ
 icmpv4_len_of type_number code_number = if code_number == 0 then (if type_number == 13 then 20
     else if type_number == 14 then 20 else 8) else 8
