@@ -6,10 +6,6 @@
 - Code in Rattle stands in a source file, contracts aside, or else proves in a crate of its own;
   a line in antt stands in a proof or a definition; other code stands in a file of its language or
   compiles.
-- An example in a doc comment stands in a test of `etherparse_tests` or `packet_tests`,
-  or in a caller of `uses`; there `assert_equal(&rt, a, b)` may stand for `assert!(rt; a == b)`
-  and for `assert_eq!(rt; a, b)`, `assert_that(&rt, a)` for `assert!(rt; a)`, and `let a = &[..]`
-  with `a` for `let a = [..]` with `&a`.
 - A file that a page names is there, and each command names files that are there; a command that
   pipes into `rt run` or `rt try` in crates/iphead is run by the built program, and prints what the
   page shows.
@@ -41,7 +37,6 @@ SPECS = {file: file.read_text() for file in FILES if file.suffix == '.antt'}
 LIBRARY = ('etherparse_base', 'etherparse_fields', 'etherparse', 'etherparse_net', 'packet_parts',
            'etherparse_transport', 'etherparse_icmp', 'etherparse_link', 'packet_links', 'packet',
            'packet_rewriting', 'packet_capture', 'packet_reassembly')
-TESTS = ('etherparse_tests', 'packet_tests', 'uses')
 PATH = re.compile(r'[\w.{},/-]+\.(?:md|rt|antt|sh|py|edit|txt|c|h|rs|toml)$')
 FIGURE = re.compile(r'(?<![\w.])\d+(?:\.\d+)? (?:ns|nanoseconds?|seconds?|minutes?|GB|MB)\b')
 RUN = re.compile(r'\| rt (run|try)\b')
@@ -254,32 +249,6 @@ def check_signatures(page, block):
             judge(page, found.group(1), is_one, f'is no clause of {function}')
 
 
-EQUATION = re.compile(r'assert!\(rt;((?:(?!&&|\|\||==|;(?!\d+\])).)+)==((?:(?!&&|\|\||==|;(?!\d+\])).)+)\);')
-
-
-def with_calls(squeezed):
-    """a squeezed text with the call `assert_equal(&rt, a, b)` for each assertion that a and b are equal,
-    with `assert!(rt; a)` for each other, and without `&`"""
-    plain = squeezed.replace(',)', ')').replace('assert_that(&rt,', 'assert!(rt;').replace('assert_eq!(rt;', 'assert_equal(&rt,')
-    return EQUATION.sub(r'assert_equal(&rt,\1,\2);', plain).replace('&', '')
-
-
-def check_comments(file, text):
-    """each example of a doc comment stands in a test or in a caller"""
-    comment = '\n'.join(re.sub(r'^\s*//[/!] ?', '', line) if re.match(r'\s*//[/!]', line) else ''
-                        for line in text.split('\n'))
-    for language, block in blocks(comment):
-        if language == '':
-            first = block.strip().split('\n')[0]
-            example = with_calls(without_contracts(block))
-            stands = any(example in test for test in IN_TESTS)
-            judge(file, first, stands, 'stands in no test and no caller')
-
-
-IN_TESTS = [with_calls(source) for path, source in SQUEEZED.items()
-            if any(f'{crate}/src' in str(path) for crate in TESTS)]
-
-
 def is_there(page, name):
     """whether a file is named from the root, from the page's folder or its crate, or alone"""
     for one in re.sub(r'[{}]', '', name).split(',') if '{' not in name else expanded(name):
@@ -469,7 +438,6 @@ for file in FILES:
         if file.name not in ('stdin', 'stdout', 'LICENSE'):
             check_nothing_beside(file, content)
 for file, content in SOURCES.items():
-    check_comments(file, content)
     check_unsaid(file, content)
 for file in PAGES:
     content = file.read_text()

@@ -86,8 +86,9 @@ def changed(text, old):
 
 
 def groups(crate, bodies):
-    """Returns the bodies in groups. Those of one are in different functions, so that none has a part in what another comes to."""
-    apart, alone = [], []
+    """Returns the bodies in groups. Those of one are in different functions, so that none has a part in what another comes to; or
+    they write an impl of different types, of which a law speaks."""
+    apart, alone, laws = [], [], []
     for body in bodies:
         functions, edits = read(body)
         texts = {file: (CRATES / crate / file).read_text() for file, old, new in edits}
@@ -97,13 +98,16 @@ def groups(crate, bodies):
         # (one that only adds a function changes no other)
         adds = all(new.endswith(old) and not re.search(rf'\bfn {it}\b', texts[file]) for file, old, new in edits for it in names)
         if not adds and (len(bodies_of) > 1 or found is None or [found[0]] != names):
-            alone.append([body])
+            if all(it.startswith('laws::') for it in functions) and not texts.keys() & {it for other in laws for it, _, _ in read(other)[1]}:
+                laws.append(body)
+            else:
+                alone.append([body])
             continue
         group = next((it for it in apart if functions not in [read(other)[0] for other in it]), None)
         if group is None:
             apart.append(group := [])
         group.append(body)
-    return apart + alone
+    return apart + alone + [laws] * bool(laws)
 
 
 def told(crate, function, lines):

@@ -20,9 +20,8 @@
 //! }
 //! ```
 //!
-//! The other examples are also tests in `etherparse_tests`, which are proved and run. In them `rt`
-//! is the test's argument, `?` returns an error from the test, and all names come from
-//! `etherparse`.
+//! Each other example is run as a test. There `rt` is the test's argument, `?` ends the test with
+//! the error, and all names come from `etherparse`.
 #![tactic(auto)]
 
 mod laws;

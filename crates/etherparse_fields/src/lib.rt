@@ -1,9 +1,8 @@
 //! Fields of IP headers with fewer values than their integer type, the numbers of protocols, and
 //! IPv4 options.
 //!
-//! The examples in this crate are also tests in `etherparse_tests`, which are proved and run. In
-//! them `rt` is the test's argument, `?` returns an error from the test, and all names come from
-//! `etherparse`.
+//! Each example is run as a test. There `rt` is the test's argument, `?` ends the test with the
+//! error, and all names come from `etherparse`.
 #![tactic(auto)]
 
 mod laws;

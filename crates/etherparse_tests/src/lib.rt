@@ -1,29 +1,33 @@
-//! Tests of the crates of headers by their public paths: what no clause says, worked values from the
-//! standards, and the examples of doc comments.
+//! Tests of all libraries by their public paths: what no clause says, and worked values from the
+//! standards.
 //!
 //! They are in a crate of their own, since each crate with tests is proved once more for them.
 #![tactic(auto)]
 
 #[cfg(test)]
-mod builder_examples;
+mod address;
 #[cfg(test)]
 mod built_messages;
 #[cfg(test)]
 mod built_packets;
 #[cfg(test)]
+mod captures;
+#[cfg(test)]
 mod checksum;
 #[cfg(test)]
 mod errors;
 #[cfg(test)]
-mod examples;
-#[cfg(test)]
 mod fields;
+#[cfg(test)]
+mod filter;
+#[cfg(test)]
+mod frames;
+#[cfg(test)]
+mod framings;
 #[cfg(test)]
 mod headers;
 #[cfg(test)]
-mod icmp_examples;
-#[cfg(test)]
-mod icmpv6_code_examples;
+mod icmp;
 #[cfg(test)]
 mod ip_number;
 #[cfg(test)]
@@ -31,15 +35,17 @@ mod ipv4_reading;
 #[cfg(test)]
 mod ipv6_reading;
 #[cfg(test)]
+mod layers;
+#[cfg(test)]
 mod limited_walk;
 #[cfg(test)]
-mod link_examples;
-#[cfg(test)]
-mod net_examples;
+mod reassembly;
 #[cfg(test)]
 mod shared;
 #[cfg(test)]
-mod transport_examples;
+mod skipping;
+#[cfg(test)]
+mod udp;
 #[cfg(test)]
 mod updates;
 #[cfg(test)]

@@ -99,6 +99,18 @@ impl<'a, 'b> FrameReassembly<'a, 'b> {
     /// # Example
     ///
     /// ```
+    /// let mut headers = [0; IpDefragHeaders::MAX_LEN];
+    /// let mut bytes = [0; IpDefragBuf::MAX_LEN];
+    /// let mut units = [0; IpDefragBuf::UNITS];
+    /// let mut slots = [IpDefragSlot {
+    ///     id: None,
+    ///     ecn: FragmentEcn::NONE,
+    ///     since: 0,
+    ///     headers: IpDefragHeaders::new(&mut headers),
+    ///     buf: IpDefragBuf::new(&mut bytes, &mut units),
+    /// }];
+    /// let mut frames = FrameReassembly::new(&mut slots);
+    /// let mut out = [0; 65_700];
     /// // Ethernet, a tag of VLAN 5, and two fragments of an IPv4 packet, of 8 bytes and of 5.
     /// let first = [
     ///     2, 0, 0, 0, 0, 2, 2, 0, 0, 0, 0, 1, 0x81, 0, 0, 5, 8, 0, 0x45, 0, 0, 28, 0x12, 0x34, 0x20,

@@ -71,6 +71,20 @@ impl<'a, 'b> IpDefragPool<'a, 'b> {
     /// # Example
     ///
     /// ```
+    /// let mut headers = [0; IpDefragHeaders::MAX_LEN];
+    /// let mut bytes = [0; IpDefragBuf::MAX_LEN];
+    /// let mut units = [0; IpDefragBuf::UNITS];
+    /// let mut slots = [IpDefragSlot {
+    ///     id: None,
+    ///     ecn: FragmentEcn::NONE,
+    ///     since: 0,
+    ///     headers: IpDefragHeaders::new(&mut headers),
+    ///     buf: IpDefragBuf::new(&mut bytes, &mut units),
+    /// }];
+    /// let mut pool = IpDefragPool {
+    ///     slots: &mut slots,
+    ///     timeout: IpDefragPool::TIMEOUT_SECONDS,
+    /// };
     /// // Two fragments of an IPv4 packet, of 8 bytes and of 5.
     /// let first = [
     ///     0x45, 0, 0, 28, 0x12, 0x34, 0x20, 0, 64, 17, 0, 0, 192, 168, 0, 1, 192, 168, 0, 199, b't',

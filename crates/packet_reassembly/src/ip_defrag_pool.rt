@@ -67,6 +67,18 @@ pub struct Added {
 /// # Example
 ///
 /// ```
+/// // Two datagrams from 192.168.0.1 to 192.168.0.199.
+/// let id_of = |identification| IpFragId {
+///     outer_vlan_id: None,
+///     inner_vlan_id: None,
+///     ip: IpFragVersionSpecId::Ipv4 {
+///         source: [192, 168, 0, 1],
+///         destination: [192, 168, 0, 199],
+///         protocol: 17,
+///         identification,
+///     },
+/// };
+/// let (id, other) = (id_of(1), id_of(2));
 /// let mut bytes = [0; IpDefragBuf::MAX_LEN];
 /// let mut units = [0; IpDefragBuf::UNITS];
 /// let mut headers = [0; IpDefragHeaders::MAX_LEN];

@@ -70,8 +70,9 @@ impl Ipv4Header {
     ///
     /// # Example
     ///
+    /// With the header of [`Ipv4Header::set_checksum`]:
+    ///
     /// ```
-    /// header.header_checksum = 0xb861;
     /// header.set_dscp(IpDscp::EF);
     /// assert_eq!(rt; header.header_checksum, 0xb7a9);
     /// ```
@@ -101,8 +102,10 @@ impl Ipv4Header {
     ///
     /// # Example
     ///
+    /// A router marks that the packet of [`Ipv4Header::set_dscp`] met congestion (RFC 3168 section
+    /// 5):
+    ///
     /// ```
-    /// // A router marks that the packet met congestion (RFC 3168 section 5).
     /// header.set_ecn(IpEcn::CongestionExperienced);
     /// assert_eq!(rt; header.header_checksum, 0xb7a6);
     /// ```
@@ -222,8 +225,9 @@ impl Ipv4Header {
     ///
     /// # Example
     ///
+    /// With the header of [`Ipv4Header::set_checksum`]:
+    ///
     /// ```
-    /// header.header_checksum = 0xb861;
     /// header.set_source([10, 0, 0, 1]);
     /// assert_eq!(rt; header.header_checksum, 0x6f0a);
     /// ```
@@ -250,6 +254,8 @@ impl Ipv4Header {
     /// The Rust crate has no such call.
     ///
     /// # Example
+    ///
+    /// With the header of [`Ipv4Header::set_source`]:
     ///
     /// ```
     /// header.set_destination([10, 0, 0, 2]);

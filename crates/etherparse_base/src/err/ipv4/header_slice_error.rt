@@ -23,13 +23,15 @@ impl HeaderSliceError {
     /// # Example
     ///
     /// ```
-    /// let (outer, payload) = Ipv4Header::from_slice(packet)?;
-    /// if outer.protocol != IpNumber::IPV4 || outer.is_fragmenting_payload() {
-    ///     return Ok(None);
-    /// }
-    /// match Ipv4Header::from_slice(payload) {
-    ///     Ok(inner) => Ok(Some(inner)),
-    ///     Err(e) => Err(e.add_slice_offset(outer.header_len())),
+    /// fn inner_header(packet: &[u8]) -> Result<Option<(Ipv4Header, &[u8])>, HeaderSliceError> {
+    ///     let (outer, payload) = Ipv4Header::from_slice(packet)?;
+    ///     if outer.protocol != IpNumber::IPV4 || outer.is_fragmenting_payload() {
+    ///         return Ok(None);
+    ///     }
+    ///     match Ipv4Header::from_slice(payload) {
+    ///         Ok(inner) => Ok(Some(inner)),
+    ///         Err(e) => Err(e.add_slice_offset(outer.header_len())),
+    ///     }
     /// }
     /// ```
     #[inline]

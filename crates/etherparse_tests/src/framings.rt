@@ -1,7 +1,7 @@
 //! Frames of PPP, Cisco's HDLC, frame relay, SLIP and IEEE 802.11: where their packets begin, as
-//! tshark and tcpdump have it, and the examples of `packet_links`.
+//! tshark and tcpdump have it.
 
-use crate::shared::{assert_equal, assert_that};
+use crate::shared::assert_equal;
 use arrayvec::ArrayVec;
 use packet::link::{LinkSlice, LinkType};
 use packet::link_layers::LinkLayers;
@@ -48,25 +48,6 @@ fn carried(framing: Framing, frame: &[u8]) -> Option<Carried> {
         ) => Some(carried),
         _ => None,
     }
-}
-
-#[test]
-fn examples(rt: HostRuntime) {
-    // PPP without address and control, and the number of IPv4 in one byte.
-    let header = Header {
-        len: 1,
-        carried: Carried::PppProtocol(0x0021),
-    };
-    assert_equal(&rt, Framing::Ppp.header(&[0x21, 0x45, 0]), Ok(header));
-    // With address, control, and one byte of the number.
-    assert_equal(&rt, Framing::Ppp.header(&[0xff, 3, 0]), Err(4));
-
-    // IPv6 and the control protocol of IPv4, by their numbers of PPP.
-    assert_that(&rt, Carried::PppProtocol(0x0057).is_ip());
-    assert_that(&rt, !Carried::PppProtocol(0x8021).is_ip());
-
-    assert_equal(&rt, Carried::EtherType(0x0806).ether_type(), Some(0x0806));
-    assert_that(&rt, Carried::Nlpid(0xcc).ether_type().is_none());
 }
 
 #[test]

@@ -1,140 +1,26 @@
-//! Frames in their layers: the examples of the doc comments, worked frames of each link type, and
-//! where reading stops.
+//! Worked frames of each link type in their layers, which header a frame has, and where reading
+//! stops.
 
-use crate::shared::{assert_equal, assert_that};
+use crate::shared::assert_equal;
 use etherparse::LenSource;
 use etherparse::err::ipv4::HeaderSliceError;
 use etherparse::err::{Layer, LenError};
-use etherparse_link::{ArpOperation, EtherType, SingleVlanHeaderSlice};
+use etherparse_link::{
+    EtherType, Ethernet2HeaderSlice, LinuxSll2HeaderSlice, LinuxSllHeaderSlice,
+    SingleVlanHeaderSlice,
+};
 use etherparse_transport::TcpError;
 use packet::error::SliceError;
 use packet::lax_sliced_packet::LaxSlicedPacket;
-use packet::link::{LinkError, LinkSlice, LinkType};
+use packet::link::{LinkSlice, LinkType};
+use packet::link_layers::LinkLayers;
 use packet::sliced_packet::SlicedPacket;
 use packet::transport::TransportSlice;
 use packet::vlan::VlanSlice;
 use packet_parts::ip_slice::IpSliceError;
 use std::alloc::Global;
 use std::process::Abort;
-
-#[test]
-fn a_tagged_frame(rt: HostRuntime) -> Result<(), SliceError> {
-    // Ethernet, a tag of VLAN 5 with priority 3, IPv4, and a datagram to port 53.
-    let frame = &[
-        2, 0, 0, 0, 0, 2, 2, 0, 0, 0, 0, 1, 0x81, 0, 0x60, 5, 8, 0, 0x45, 0, 0, 30, 0, 0, 0, 0, 64,
-        17, 0, 0, 10, 0, 0, 1, 10, 0, 0, 2, 4, 0, 0, 53, 0, 10, 0, 0, b'h', b'i',
-    ];
-    let packet = SlicedPacket::from_ethernet(frame)?;
-    assert_equal(&rt, packet.ether_type, Some(EtherType::IPV4));
-    assert_equal(&rt, packet.ports(), Some((1024, 53)));
-    // It is no ARP packet.
-    assert_equal(&rt, packet.arp().is_none(), true);
-    Ok(())
-}
-
-#[test]
-fn a_cooked_capture(rt: HostRuntime) -> Result<(), SliceError> {
-    // The header of a broadcast from 2:0:0:0:0:1, and an ARP packet that is not read.
-    let frame = &[0, 1, 0, 1, 0, 6, 2, 0, 0, 0, 0, 1, 0, 0, 8, 6, 0, 1, 8, 0];
-    let packet = SlicedPacket::from_linux_sll(frame)?;
-    assert_equal(&rt, packet.ether_type, Some(EtherType::ARP));
-    assert_equal(&rt, packet.payload, [0, 1, 8, 0].as_slice());
-    Ok(())
-}
-
-#[test]
-fn a_cooked_capture_of_version_2(rt: HostRuntime) -> Result<(), SliceError> {
-    // The same with the header of version 2, on interface 3.
-    let frame = &[
-        8, 6, 0, 0, 0, 0, 0, 3, 0, 1, 1, 6, 2, 0, 0, 0, 0, 1, 0, 0, 0, 1, 8, 0,
-    ];
-    let packet = SlicedPacket::from_linux_sll2(frame)?;
-    assert_equal(&rt, packet.ether_type, Some(EtherType::ARP));
-    assert_equal(&rt, packet.payload, [0, 1, 8, 0].as_slice());
-    Ok(())
-}
-
-#[test]
-fn a_loopback_frame(rt: HostRuntime) -> Result<(), SliceError> {
-    // Family 7 in either byte order, which is not that of IP.
-    let frame = &[7, 0, 0, 0, 1];
-    let packet = SlicedPacket::from_loopback(frame)?;
-    assert_equal(&rt, packet.link, Some(LinkSlice::Loopback { family: 7 }));
-    assert_that(
-        &rt,
-        SlicedPacket::from_loopback(&[0, 0, 0, 7, 1])? == packet,
-    );
-    Ok(())
-}
-
-#[test]
-fn a_link_type(rt: HostRuntime) {
-    // A frame of LINKTYPE_ETHERNET that ends within its link header.
-    let link_type = LinkType::from_number(1);
-    assert_equal(&rt, link_type, Some(LinkType::Ethernet2));
-    let refused = SlicedPacket::from_link_type(LinkType::Ethernet2, &[0; 13]);
-    let too_short = LinkError {
-        required_len: 14,
-        len: 13,
-    };
-    assert_equal(&rt, refused, Err(SliceError::Link(too_short)));
-}
-
-#[test]
-fn another_protocol(rt: HostRuntime) -> Result<(), SliceError> {
-    // A protocol that is not read.
-    let packet = SlicedPacket::from_ether_type(EtherType::ARP, &[0, 1, 8, 0])?;
-    assert_that(&rt, packet.net.is_none());
-    assert_equal(&rt, packet.payload, [0, 1, 8, 0].as_slice());
-    Ok(())
-}
-
-#[test]
-fn a_packet_without_its_transport_header(rt: HostRuntime) {
-    // Four bytes of a TCP header, in a packet that is as short as it says.
-    let packet = &[
-        0x45, 0, 0, 24, 0, 0, 0, 0, 64, 6, 0, 0, 10, 0, 0, 1, 10, 0, 0, 2, 4, 0, 0, 80,
-    ];
-    let too_short = LenError {
-        required_len: 20,
-        len: 4,
-        len_source: LenSource::Slice,
-        layer: Layer::TcpHeader,
-        layer_start_offset: 20,
-    };
-    let refused = SlicedPacket::from_ip(packet);
-    assert_equal(&rt, refused, Err(SliceError::Tcp(TcpError::Len(too_short))));
-}
-
-#[test]
-fn ports_of_a_cut_packet(rt: HostRuntime) {
-    // Four bytes of a TCP header, in a packet that a capture cut.
-    let packet = &[
-        0x45, 0, 0, 40, 0, 0, 0, 0, 64, 6, 0, 0, 10, 0, 0, 1, 10, 0, 0, 2, 4, 0, 0, 80,
-    ];
-    let lax = LaxSlicedPacket::from_ip(packet);
-    assert_that(&rt, lax.stop.is_some());
-    assert_that(&rt, lax.packet.transport.is_none());
-    assert_equal(&rt, lax.packet.ports(), Some((1024, 80)));
-}
-
-#[test]
-fn an_arp_packet(rt: HostRuntime) -> Result<(), SliceError> {
-    // Who has 192.168.0.2? Tell 192.168.0.1.
-    let arp = [
-        0, 1, 8, 0, 6, 4, 0, 1, 2, 0, 0, 0, 0, 1, 192, 168, 0, 1, 0, 0, 0, 0, 0, 0, 192, 168, 0, 2,
-    ];
-    let packet = SlicedPacket::from_ether_type(EtherType::ARP, &arp)?;
-    let operation = packet.arp().map(|view| view.map(|arp| arp.operation()));
-    assert_equal(&rt, operation, Some(Ok(ArpOperation::REQUEST)));
-    // All of it but its last byte.
-    let packet = SlicedPacket::from_ether_type(EtherType::ARP, &arp[..27])?;
-    assert_that(
-        &rt,
-        matches!(packet.arp(), Some(Err(e)) if e.required_len == 28 && e.len == 27),
-    );
-    Ok(())
-}
+use std::test::Fail;
 
 // A datagram over IPv4, of 30 bytes: from port 1024 to port 53.
 const DATAGRAM: [u8; 30] = [
@@ -329,4 +215,47 @@ fn errors_have_texts(rt: HostRuntime) {
     [segment[3], segment[9], segment[32]] = [40, 6, 0x40];
     let text = "TCP Header Error: Data offset 4 is less than 5.";
     assert_refused(&rt, rt.alloc(), SlicedPacket::from_ip(&segment).err(), text);
+}
+
+#[test]
+fn a_view_of_an_ethernet_header(rt: HostRuntime) -> Result<(), Fail> {
+    // A frame from 2:0:0:0:0:1 to 2:0:0:0:0:2 with the first bytes of an ARP packet.
+    let frame = &[2, 0, 0, 0, 0, 2, 2, 0, 0, 0, 0, 1, 8, 6, 0, 1];
+    let layers = LinkLayers::from_link_type(LinkType::Ethernet2, frame)?;
+    let header = Ethernet2HeaderSlice::from_slice(frame)?;
+    assert_equal(&rt, layers.link, Some(LinkSlice::Ethernet2(header)));
+    Ok(())
+}
+
+#[test]
+fn a_view_of_a_cooked_header(rt: HostRuntime) -> Result<(), Fail> {
+    // A broadcast from 2:0:0:0:0:1 on an Ethernet device, and the first bytes of an ARP packet.
+    let frame = &[0, 1, 0, 1, 0, 6, 2, 0, 0, 0, 0, 1, 0, 0, 8, 6, 0, 1];
+    let layers = LinkLayers::from_link_type(LinkType::LinuxSll, frame)?;
+    let header = LinuxSllHeaderSlice::from_slice(frame)?;
+    assert_equal(&rt, layers.link, Some(LinkSlice::LinuxSll(header)));
+    Ok(())
+}
+
+#[test]
+fn a_view_of_a_cooked_header_of_version_2(rt: HostRuntime) -> Result<(), Fail> {
+    // A broadcast from 2:0:0:0:0:1 on interface 3, an Ethernet device, and the first bytes of an ARP
+    // packet.
+    let frame = &[
+        8, 6, 0, 0, 0, 0, 0, 3, 0, 1, 1, 6, 2, 0, 0, 0, 0, 1, 0, 0, 0, 1,
+    ];
+    let layers = LinkLayers::from_link_type(LinkType::LinuxSll2, frame)?;
+    let header = LinuxSll2HeaderSlice::from_slice(frame)?;
+    assert_equal(&rt, layers.link, Some(LinkSlice::LinuxSll2(header)));
+    Ok(())
+}
+
+#[test]
+fn a_view_of_a_tag(rt: HostRuntime) -> Result<(), Fail> {
+    // A tag of VLAN 5 with priority 3, and the first bytes of an ARP packet.
+    let bytes = &[0x60, 5, 8, 6, 0, 1];
+    let packet = SlicedPacket::from_ether_type(EtherType::VLAN_TAGGED_FRAME, bytes)?;
+    let tag = SingleVlanHeaderSlice::from_slice(bytes)?;
+    assert_equal(&rt, packet.vlan, Some(VlanSlice::SingleVlan(tag)));
+    Ok(())
 }

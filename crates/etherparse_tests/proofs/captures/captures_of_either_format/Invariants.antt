@@ -1,5 +1,5 @@
 use Rattle.std.proofs.Common.{length}
-use Rattle.packet_tests.proofs.captures.captures_of_either_format.Given as goal
+use Rattle.etherparse_tests.proofs.captures.captures_of_either_format.Given as goal
 
 abbrev pub decreases-next : goal.decreases-next
 decreases-next g l = length l.rest

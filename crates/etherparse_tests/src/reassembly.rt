@@ -193,3 +193,21 @@ fn headers_of_1280_bytes_are_kept_and_longer_ones_refused(rt: HostRuntime) {
         ),
     );
 }
+
+#[test]
+fn a_first_fragment_has_the_whole_header_chain(rt: HostRuntime) {
+    // The first fragment of an IPv6 packet, of 8 bytes: a whole UDP header, and a part of one of TCP
+    // (RFC 7112).
+    let mut out = [0; 65575];
+    let mut packet = [0; 56];
+    (packet[0], packet[5], packet[6]) = (0x60, 16, 44);
+    (packet[40], packet[43]) = (17, 1);
+    let kept = put_together(&packet, &packet, &packet, &mut out);
+    assert_that(&rt, matches!(kept, Ok(0)));
+    packet[40] = 6;
+    let refused = put_together(&packet, &packet, &packet, &mut out);
+    assert_that(
+        &rt,
+        matches!(refused, Err(IpDefragPacketError::HeaderChain)),
+    );
+}

@@ -1,6 +1,6 @@
-//! Blocks that a program skips: the example of `Capture::block_front`, and what the front of a
-//! block says of each content, in the layouts of draft-ietf-opsawg-pcap section 5, and of sections
-//! 4.1 to 4.5 and appendix A of draft-ietf-opsawg-pcapng. No block is there to its end.
+//! Blocks that a program skips: what the front of a block says of each content, in the layouts of
+//! draft-ietf-opsawg-pcap section 5, and of sections 4.1 to 4.5 and appendix A of
+//! draft-ietf-opsawg-pcapng. No block is there to its end.
 
 use crate::shared::assert_equal;
 use arrayvec::ArrayVec;
@@ -12,28 +12,6 @@ use packet_capture::pcapng::packets::PacketType;
 use packet_capture::pcapng::times;
 use packet_capture::skip::{BlockFront, Content};
 use std::process::Abort;
-use std::test::Fail;
-
-#[test]
-fn front_of_a_section(rt: HostRuntime) -> Result<(), Fail> {
-    front_in_a_file(&rt)
-}
-
-fn front_in_a_file(rt: &impl Abort) -> Result<(), Fail> {
-    // The first bytes of a section header of pcapng that has 400,000 bytes.
-    let file = &[
-        0x0a, 0x0d, 0x0d, 0x0a, 0x80, 0x1a, 6, 0, 0x4d, 0x3c, 0x2b, 0x1a, 1, 0, 0, 0, 0xff, 0xff,
-        0xff, 0xff, 0xff, 0xff, 0xff, 0xff, 1, 0, 0, 0,
-    ];
-    let (capture, bytes) = Capture::from_slice(file)?;
-    let front = capture.block_front(bytes)?;
-    assert_equal(
-        &rt,
-        (front.len, front.content),
-        (400_000, Content::Description),
-    );
-    Ok(())
-}
 
 #[test]
 fn front_of_a_record(rt: HostRuntime) {
