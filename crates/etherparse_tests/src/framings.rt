@@ -137,21 +137,28 @@ fn frame_relay_carries_packets(rt: HostRuntime) {
 
 #[test]
 fn frame_relay_carries_others(rt: HostRuntime) {
-    // A status enquiry, an address of one byte, and one of five.
+    // A status enquiry, an address of one byte, and one of five; a link that is set up on DLCI 0, and
+    // a message of Q.933 over it.
+    let unknown = Some(Carried::Unknown);
     assert_equal(
         &rt,
-        (
+        [
             carried(Framing::FrameRelay, &[0, 1, 3, 8, 0x75]),
             carried(Framing::FrameRelay, &[1, 3, 0xcc, 0x45]),
             carried(Framing::FrameRelay, &[0, 0, 0, 0, 1]),
+            carried(Framing::FrameRelay, &[2, 1, 0x7f]),
+            carried(Framing::FrameRelay, &[2, 1, 0, 0, 8, 2, 0, 1, 5]),
+        ],
+        [Some(Carried::Nlpid(8)), unknown, unknown, unknown, unknown],
+    );
+    assert_equal(
+        &rt,
+        [
             Framing::FrameRelay.header(&[0x18, 0x41, 3, 0]),
-        ),
-        (
-            Some(Carried::Nlpid(8)),
-            Some(Carried::Unknown),
-            Some(Carried::Unknown),
-            Err(5),
-        ),
+            Framing::FrameRelay.header(&[0x18, 0x41, 8]),
+            Framing::FrameRelay.header(&[0, 1]),
+        ],
+        [Err(5), Err(4), Err(3)],
     );
 }
 

@@ -2,7 +2,8 @@
 
 ghost use Rattle.std.specs.Prelude.{◌≡◌, ◌<◌, ◌^◌};
 ghost use Rattle.packet_links.specs.declared.header.Carried.TheVariants.{Unknown};
-ghost use Rattle.packet_links.specs.FrameRelay.{after_address, frame_relay_header, nlpid_header};
+ghost use Rattle.packet_links.specs.FrameRelay.{after_address, after_short_address};
+ghost use Rattle.packet_links.specs.FrameRelay.{frame_relay_header, is_signalling, nlpid_header};
 
 use crate::bytes::{byte_at, has, is_set, number_at};
 use crate::header::{Carried, Header, snap_header};
@@ -12,28 +13,48 @@ use crate::ppp::protocol_header;
 pub(crate) fn frame_relay_header(frame: &[u8]) -> Header
     ensures value { result ≡ frame_relay_header frame.now }
 {
-    if frame.len() < 4 || is_set(0, 0, frame) {
-        return unknown();
+    if frame.len() < 3 {
+        return unknown(3);
+    }
+    if is_set(0, 0, frame) {
+        return unknown(4);
     }
     if is_set(0, 1, frame) {
-        after_address(frame, 2)
+        after_short_address(frame)
     } else if is_set(0, 2, frame) {
         after_address(frame, 3)
     } else if is_set(0, 3, frame) {
         after_address(frame, 4)
     } else {
-        unknown()
+        unknown(4)
     }
 }
 
-// The header of a frame whose address is incomplete, or none of Q.922.
-fn unknown() -> Header
-    ensures value { result ≡ record { len = 4; carried = Unknown } }
+// A header of this length after which something unknown follows.
+fn unknown(len: usize) -> Header
+    ensures value { result ≡ record { len = len; carried = Unknown } }
 {
     Header {
-        len: 4,
+        len,
         carried: Carried::Unknown,
     }
+}
+
+// What follows an address of two bytes.
+fn after_short_address(frame: &[u8]) -> Header
+    ensures value { result ≡ after_short_address frame.now }
+{
+    if is_signalling(frame) && !has(0x03, 2, frame) {
+        return unknown(3);
+    }
+    after_address(frame, 2)
+}
+
+// Whether the frame is on DLCI 0.
+fn is_signalling(frame: &[u8]) -> bool
+    ensures value { result ≡ is_signalling frame.now }
+{
+    byte_at(frame, 0) / 4 == 0 && byte_at(frame, 1) / 16 == 0
 }
 
 // What follows an address that ends at a place.
