@@ -29,23 +29,13 @@ mod headers;
 #[cfg(test)]
 mod icmp;
 #[cfg(test)]
-mod ip_number;
-#[cfg(test)]
-mod ipv4_reading;
-#[cfg(test)]
-mod ipv6_reading;
-#[cfg(test)]
 mod layers;
-#[cfg(test)]
-mod limited_walk;
 #[cfg(test)]
 mod reassembly;
 #[cfg(test)]
 mod shared;
 #[cfg(test)]
 mod skipping;
-#[cfg(test)]
-mod udp;
 #[cfg(test)]
 mod updates;
 #[cfg(test)]

@@ -64,43 +64,6 @@ pub(crate) fn too_short(layer: Layer, required_len: usize, len: usize) -> LenErr
     }
 }
 
-/// What becomes of a slice that is read.
-#[derive(Clone, Copy)]
-pub(crate) enum Outcome {
-    TooShort,
-    OtherVersion,
-    SmallIhl,
-    ShorterThanIhl,
-    Header,
-}
-
-/// A row of a table of readings: the least and the greatest length, the least and the greatest
-/// first byte, and what becomes of a slice of such a length that begins with such a byte. The last
-/// part is the number of bytes that it needs.
-pub(crate) type Row = (usize, usize, u8, u8, Outcome, usize);
-
-/// What a table says about a slice with a given length and first byte.
-pub(crate) fn outcome_of(table: &[Row], len: usize, first: u8) -> Option<(Outcome, usize)> {
-    for (least, most, low, high, outcome, needed) in table {
-        if *least <= len && len <= *most && *low <= first && first <= *high {
-            return Some((*outcome, *needed));
-        }
-    }
-    None
-}
-
-/// Counts an outcome: there is a number for each, in their order.
-pub(crate) fn count(counts: &mut [u16; 5], outcome: Outcome) {
-    let place = match outcome {
-        Outcome::TooShort => 0,
-        Outcome::OtherVersion => 1,
-        Outcome::SmallIhl => 2,
-        Outcome::ShorterThanIhl => 3,
-        Outcome::Header => 4,
-    };
-    counts[place] = counts[place].wrapping_add(1);
-}
-
 /// Fills a slice with bytes without a pattern, the same in each run for the same seed.
 pub(crate) fn fill_without_pattern(bytes: &mut [u8], seed: u64) {
     let mut state = seed;
