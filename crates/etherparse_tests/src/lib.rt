@@ -27,8 +27,6 @@ mod framings;
 #[cfg(test)]
 mod headers;
 #[cfg(test)]
-mod icmp;
-#[cfg(test)]
 mod layers;
 #[cfg(test)]
 mod reassembly;
