@@ -32,7 +32,9 @@ fn frames(rt: HostRuntime) {
         headers: IpDefragHeaders::new(&mut headers),
         buf: IpDefragBuf::new(&mut bytes, &mut units),
     }];
-    two_fragments(&rt, &mut FrameReassembly::new(&mut slots));
+    let mut frames = FrameReassembly::new(&mut slots);
+    two_fragments(&rt, &mut frames);
+    forged_fragments(&rt, &mut frames);
 }
 
 fn two_fragments(rt: &impl Abort, frames: &mut FrameReassembly) {
@@ -41,12 +43,12 @@ fn two_fragments(rt: &impl Abort, frames: &mut FrameReassembly) {
     // Ethernet, a tag of VLAN 5, and two fragments of an IPv4 packet, of 8 bytes and of 5.
     let first = &[
         2, 0, 0, 0, 0, 2, 2, 0, 0, 0, 0, 1, 0x81, 0, 0, 5, 8, 0, 0x45, 0, 0, 28, 0x12, 0x34, 0x20,
-        0, 64, 17, 0, 0, 192, 168, 0, 1, 192, 168, 0, 199, b't', b'h', b'i', b'r', b't', b'e',
-        b'e', b'n',
+        0, 64, 17, 0xc6, 0x84, 192, 168, 0, 1, 192, 168, 0, 199, b't', b'h', b'i', b'r', b't',
+        b'e', b'e', b'n',
     ];
     let last = &[
         2, 0, 0, 0, 0, 2, 2, 0, 0, 0, 0, 1, 0x81, 0, 0, 5, 8, 0, 0x45, 0, 0, 25, 0x12, 0x34, 0, 1,
-        64, 17, 0, 0, 192, 168, 0, 1, 192, 168, 0, 199, b'b', b'y', b't', b'e', b's',
+        64, 17, 0xe6, 0x86, 192, 168, 0, 1, 192, 168, 0, 199, b'b', b'y', b't', b'e', b's',
     ];
     let mut datagrams = Datagrams::none();
     let taken = frames.take(LinkType::Ethernet2, last, 0, &mut datagrams, &mut out);
@@ -57,4 +59,39 @@ fn two_fragments(rt: &impl Abort, frames: &mut FrameReassembly) {
         &rt,
         out[..18] == first[..18] && &out[38..51] == b"thirteenbytes".as_slice(),
     );
+}
+
+// The same two packets, and forged copies of both, which a host discards since their header checksum
+// is wrong (RFC 1122 section 3.2.1.2): one would complete the datagram, the other contradict it.
+fn forged_fragments(rt: &impl Abort, frames: &mut FrameReassembly) {
+    let mut out = [0; 65_700];
+    let first = [
+        0x45, 0, 0, 28, 0x12, 0x34, 0x20, 0, 64, 17, 0xc6, 0x84, 192, 168, 0, 1, 192, 168, 0, 199,
+        b't', b'h', b'i', b'r', b't', b'e', b'e', b'n',
+    ];
+    let last = [
+        0x45, 0, 0, 25, 0x12, 0x34, 0, 1, 64, 17, 0xe6, 0x86, 192, 168, 0, 1, 192, 168, 0, 199,
+        b'b', b'y', b't', b'e', b's',
+    ];
+    let forged_first = [
+        0x45, 0, 0, 28, 0x12, 0x34, 0x20, 0, 64, 17, 0xc6, 0x85, 192, 168, 0, 1, 192, 168, 0, 199,
+        b'f', b'o', b'u', b'r', b't', b'e', b'e', b'n',
+    ];
+    let forged_last = [
+        0x45, 0, 0, 25, 0x12, 0x34, 0, 1, 64, 17, 0, 0, 192, 168, 0, 1, 192, 168, 0, 199, b'w',
+        b'o', b'r', b'd', b's',
+    ];
+    let mut datagrams = Datagrams::none();
+    let begun = Datagrams {
+        begun: 1,
+        put_together: 0,
+        discarded: 0,
+    };
+    for packet in [&first[..], &forged_last[..], &forged_first[..]] {
+        let taken = frames.take(LinkType::Ip, packet, 0, &mut datagrams, &mut out);
+        assert_that(&rt, taken.is_none() && datagrams == begun);
+    }
+    let taken = frames.take(LinkType::Ip, &last, 1, &mut datagrams, &mut out);
+    assert_that(&rt, taken == Some(33) && datagrams.put_together == 1);
+    assert_that(&rt, &out[20..33] == b"thirteenbytes".as_slice());
 }
