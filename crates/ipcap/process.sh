@@ -1431,10 +1431,10 @@ fragmented() {
     done
 }
 
-# fragment NUMBER DETAIL LENGTH PLACE VERDICT: the line on one of them; that on the whole packet if
-# PLACE is `-`.
+# fragment NUMBER DETAIL LENGTH PLACE VERDICT [HEADER]: the line on one of them; that on the whole
+# packet if PLACE is `-`.
 fragment() {
-    local time=1700000000 pair='192.0.2.1 > 198.51.100.7' hops=64 header=right
+    local time=1700000000 pair='192.0.2.1 > 198.51.100.7' hops=64 header=${6:-right}
     [[ $1 = 9 || $1 = 10 ]] && pair='2001:db8::1 > 2001:db8::2' hops=60 header=none
     [ "$1" = 11 ] && time=1700000060
     echo "$1 $time.000000 $pair UDP $2 length $3 hops $hops fragment $4 checksums $header $5"
@@ -1452,6 +1452,32 @@ first_fragments() {
         hex_record 1700000001 "${ether}002400$(printf %02x "$k")20004011$(printf %04x \
             $((0x6e8d - k)))${ends}138800350014cb85616c70686120696e"
     done
+}
+
+# A front; a forged end, which would complete it, and a forged copy of the front, which contradicts
+# it, both with a wrong header checksum, so that a host discards them (RFC 1122 section 3.2.1.2); and
+# the end.
+forged_fragments() {
+    {
+        bytes 0 24
+        hex_record 1700000000 "${fragments[7]}"
+        hex_record 1700000000 "${ether}00180104000240110000${ends}206f6e65"
+        hex_record 1700000000 "${ether}00240104200040116d8a${ends}1f4000350014c0c86f6d65676120696e"
+        hex_record 1700000000 "${fragments[10]}"
+    } >"$room/input"
+    {
+        fragment 1 '8000>53' 16 260@0+ none
+        fragment 2 - 4 260@16 none wrong
+        fragment 3 '8000>53' 16 260@0+ none wrong
+        fragment 4 '8000>53' 20 - 'right reassembled'
+    } >"$room/wanted"
+    datagrams 4 4 0 0 1 0 0 | sed 's/0 with/2 with/' >"$room/wanted.errors"
+    run --reassemble
+    judge 'forged fragments' $? 0
+    datagrams 3 3 0 0 0 0 1 | sed 's/0 with/2 with/' >"$room/wanted"
+    : >"$room/wanted.errors"
+    run --reassemble --quiet -c 3
+    judge 'forged fragments, without the end' $? 0
 }
 
 # Fragments, each as it came and put together: in VLANs of their own, contradicted, in the other
@@ -1805,6 +1831,7 @@ for build; do
     cut_pcapng
     dates
     reassembled
+    forged_fragments
     readme
     link_types
     cut_packets

@@ -38,3 +38,5 @@ mod skipping;
 mod updates;
 #[cfg(test)]
 mod views;
+#[cfg(test)]
+mod whole_frames;

@@ -2,6 +2,9 @@
 use Rattle.std.specs.Prelude.{ℕ, ◌≡◌, ◌⊎◌, ◌||◌, Bool, false, not, true, List, ◌++◌, None, Option}
 use Rattle.std.specs.Prelude.{Some, option_map}
 use Rattle.std.specs.Option.{is_none, is_some}
+use Rattle.etherparse.specs.Ipv4Header.{IsIpv4Layout}
+use Rattle.etherparse.specs.Reading.{HasFront}
+use Rattle.etherparse.specs.WordSums.{SumsToAllOnes}
 use Rattle.packet.specs.declared.link.LinkType.{LinkType}
 use Rattle.packet_reassembly.specs.IpFragment.{IsNoFragment}
 use Rattle.packet_reassembly.specs.PacketAdded.{HasTooLongPacket, IsPacketAdded, IsPacketIn}
@@ -48,20 +51,30 @@ Follows state.Discarded begun was k added new before after whole = (new ≡ adde
 Follows state.Complete begun was k added new before after whole =
     Completes begun k added new before after whole
 
--- the packet is a fragment, and is added to its datagram
+-- The packet begins with an IPv4 header whose words do not sum to all ones: its checksum is wrong
+-- (RFC 791 section 3.1, RFC 1071 section 1). A header of IPv6 has none.
+pub record HasWrongHeaderChecksum (packet : List ℕ) : Type 0 where
+  pub header : List ℕ
+  pub begins : HasFront IsIpv4Layout packet header
+  pub wrong : ¬ SumsToAllOnes header
+
+-- the packet is a fragment, the checksum of its header is not wrong, and it is added to its datagram
 pub record TakesFragment (packet : List ℕ) (outer inner : Option ℕ) (now : ℕ)
     (old new : List IpDefragSlot) (before after : Datagrams) (whole : Option (List ℕ))
     : Type 0 where
+  pub intact : ¬ HasWrongHeaderChecksum packet
   pub mid : List IpDefragSlot
   pub added : Added
   pub adds : IsPacketAdded old packet outer inner 60 now mid added
   pub follows : Follows added.state (begins old added) (is_none (slot_at old added.slot).buf)
       added.slot mid new before after whole
 
--- it is no fragment, or it is refused: nothing changes
+-- It is no fragment, or it is refused; or the checksum of its header is wrong, and a host discards
+-- it (RFC 1122 section 3.2.1.2). Nothing changes.
 pub record TakesNothing (packet : List ℕ) (old new : List IpDefragSlot)
     (before after : Datagrams) (whole : Option (List ℕ)) : Type 0 where
   pub why : IsNoFragment packet ⊎ ((e : IpDefragPacketError) × RefusesPacket packet e)
+      ⊎ HasWrongHeaderChecksum packet
   pub slots : new ≡ old
   pub counts : after ≡ before
   pub none : whole ≡ None

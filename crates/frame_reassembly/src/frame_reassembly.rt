@@ -1,7 +1,7 @@
 //! Frames whose IP packets are fragments.
 
-ghost use Rattle.std.specs.Prelude.{◌≡◌, ◌≤◌, ◌+◌, ◌-◌, ◌<◌, ◌||◌, IfNone, IfSome, List, ℕ};
-ghost use Rattle.std.specs.Prelude.{drop, length, map, option_map, take};
+ghost use Rattle.std.specs.Prelude.{◌≡◌, ◌≤◌, ◌+◌, ◌-◌, ◌<◌, ◌||◌, ◌↔◌, IfNone, IfSome, IsTrue};
+ghost use Rattle.std.specs.Prelude.{List, ℕ, drop, length, map, option_map, take};
 ghost use Rattle.std.specs.Option.{is_some};
 ghost use Rattle.packet.specs.Vlan.{tags_of};
 ghost use Rattle.packet_reassembly.specs.Fragment.{IsWhole};
@@ -10,10 +10,13 @@ ghost use Rattle.packet_reassembly.specs.Pool.{Has, HaveFirstHeaders, IsState, s
 ghost use Rattle.packet_reassembly.specs.declared.ip_frag_id.IpFragId.{IpFragId};
 ghost use Rattle.frame_reassembly.specs.Carrying.{CarriesNone, CarriesPacket, inner_id, outer_id};
 ghost use Rattle.frame_reassembly.specs.Known.{known_of};
-ghost use Rattle.frame_reassembly.specs.Step.{Follows, IsReleased, TakesFrame, TakesPacket};
+ghost use Rattle.frame_reassembly.specs.Step.{Follows, HasWrongHeaderChecksum, IsReleased};
+ghost use Rattle.frame_reassembly.specs.Step.{TakesFrame, TakesPacket};
 
 use crate::datagrams::Datagrams;
 use arrayvec::ArrayVec;
+use etherparse::Ipv4HeaderSlice;
+use etherparse::checksum::u64_16bit_word;
 use packet::link::LinkType;
 use packet::link_layers::LinkLayers;
 use packet::vlan::VlanSlice;
@@ -93,7 +96,8 @@ impl<'a, 'b> FrameReassembly<'a, 'b> {
     /// `frame` and [`FrameReassembly::MAX_PACKET_LEN`] bytes more.
     ///
     /// A packet that is not all there is not added, nor one that [`IpDefragPool::add_packet`]
-    /// refuses. A datagram is given up 60 seconds after its first fragment, once another fragment
+    /// refuses, nor one whose IPv4 header checksum is wrong: a host discards it (RFC 1122 section
+    /// 3.2.1.2). A datagram is given up 60 seconds after its first fragment, once another fragment
     /// with its identification comes; or for room, if it is the oldest.
     ///
     /// # Example
@@ -114,12 +118,12 @@ impl<'a, 'b> FrameReassembly<'a, 'b> {
     /// // Ethernet, a tag of VLAN 5, and two fragments of an IPv4 packet, of 8 bytes and of 5.
     /// let first = [
     ///     2, 0, 0, 0, 0, 2, 2, 0, 0, 0, 0, 1, 0x81, 0, 0, 5, 8, 0, 0x45, 0, 0, 28, 0x12, 0x34, 0x20,
-    ///     0, 64, 17, 0, 0, 192, 168, 0, 1, 192, 168, 0, 199, b't', b'h', b'i', b'r', b't', b'e', b'e',
-    ///     b'n',
+    ///     0, 64, 17, 0xc6, 0x84, 192, 168, 0, 1, 192, 168, 0, 199, b't', b'h', b'i', b'r', b't',
+    ///     b'e', b'e', b'n',
     /// ];
     /// let last = [
     ///     2, 0, 0, 0, 0, 2, 2, 0, 0, 0, 0, 1, 0x81, 0, 0, 5, 8, 0, 0x45, 0, 0, 25, 0x12, 0x34, 0, 1,
-    ///     64, 17, 0, 0, 192, 168, 0, 1, 192, 168, 0, 199, b'b', b'y', b't', b'e', b's',
+    ///     64, 17, 0xe6, 0x86, 192, 168, 0, 1, 192, 168, 0, 199, b'b', b'y', b't', b'e', b's',
     /// ];
     /// let mut datagrams = Datagrams::none();
     /// let taken = frames.take(LinkType::Ethernet2, &last, 0, &mut datagrams, &mut out);
@@ -192,8 +196,8 @@ fn vlan_ids(vlan: &Option<VlanSlice>) -> (Option<u16>, Option<u16>)
     }
 }
 
-// Adds a packet to its datagram, if it is a fragment. Writes the packet that it completes, if it
-// does, and returns its length.
+// Adds a packet to its datagram, if it is a fragment without a wrong header checksum. Writes the
+// packet that it completes, if it does, and returns its length.
 fn take_packet(
     pool: &mut IpDefragPool,
     carried: &Carried,
@@ -223,12 +227,25 @@ fn take_packet(
         Ok(None) => return None,
         Err(_) => return None,
     }
+    if has_wrong_header_checksum(carried.packet) {
+        return None;
+    }
     let slots = &mut *pool.slots;
     let known = all_known(slots);
     match pool.add_packet(carried.packet, carried.outer, carried.inner, now) {
         Ok(Some(added)) => follow(pool, known[added.slot], added, datagrams, out),
         Ok(None) => None,
         Err(_) => None,
+    }
+}
+
+// Whether a packet begins with an IPv4 header whose checksum is wrong.
+fn has_wrong_header_checksum(packet: &[u8]) -> bool
+    ensures value { IsTrue result ↔ HasWrongHeaderChecksum packet.now }
+{
+    match Ipv4HeaderSlice::from_slice(packet) {
+        Ok(view) => u64_16bit_word::checksum(0, view.slice()) != 0,
+        Err(_) => false,
     }
 }
 
