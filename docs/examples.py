@@ -18,6 +18,8 @@ from typing import NamedTuple
 
 ROOT = pathlib.Path(__file__).resolve().parent.parent
 CRATES = ROOT / 'crates'
+# Libraries that nobody depends on as on a crate: they have no examples.
+OTHERS = ('c_answers', 'etherparse_tests', 'uses')
 MODULE = re.compile(r'^(pub )?mod (\w+);', re.M)
 USE = re.compile(r'^(pub )?use ([^;]+);', re.M)
 PUBLIC = re.compile(r'^pub (?:const )?(?:fn|struct|enum|trait|type|const|static|mod) (\w+)', re.M)
@@ -133,7 +135,8 @@ def main():
                 named[name] = f'{example.file.relative_to(ROOT)}:{example.line}'
                 (tests / f'{name}.rt').write_text(library.source(example, libraries))
         (tests / 'lib.rt').write_text('#![tactic(auto)]\n\n' + ''.join(f'#[cfg(test)]\nmod {name};\n' for name in named))
-        ran = subprocess.run(['rt', 'try', '--test'], cwd=tests.parent, text=True, stdout=subprocess.PIPE, stderr=subprocess.STDOUT, check=False)
+        ran = subprocess.run(['rt', 'try', '--test'], cwd=tests.parent, text=True, stdout=subprocess.PIPE,
+                             stderr=subprocess.STDOUT, check=False)
     failed = {found[1] or found[2]: found[0] for found in FAILED.finditer(ran.stdout)}
     for name, said in failed.items():
         print(f'FAILED: {named.get(name, name)}: {said}')
@@ -144,6 +147,4 @@ def main():
     sys.exit(1 if failed or not named else 0)
 
 
-# Crates without examples, or whose examples are tests of their own.
-OTHERS = ('c_answers', 'etherparse_tests', 'uses')
 main()

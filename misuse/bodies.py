@@ -98,7 +98,8 @@ def groups(crate, bodies):
         # (one that only adds a function changes no other)
         adds = all(new.endswith(old) and not re.search(rf'\bfn {it}\b', texts[file]) for file, old, new in edits for it in names)
         if not adds and (len(bodies_of) > 1 or found is None or [found[0]] != names):
-            if all(it.startswith('laws::') for it in functions) and not texts.keys() & {it for other in laws for it, _, _ in read(other)[1]}:
+            files = {file for other in laws for file, old, new in read(other)[1]}
+            if all(it.startswith('laws::') for it in functions) and not texts.keys() & files:
                 laws.append(body)
             else:
                 alone.append([body])

@@ -21,7 +21,8 @@ NO_CASES = ['link.ethernet2', 'link.vlan 0', 'link.sll3 00', 'link.arp_new 1 204
 # Messages of ICMP whose checksums scapy makes, one with an unused byte that is not 0, kinds without a name, and short ones.
 WORKED = [*(f'icmp.v4 {message}' for message in (
               '030432bd0000057861626364', '030138380000000061626364', '0b0030390000000061626364', '0c001b391400000061626364',
-              '0b00f4ee00110000', '0801000001020304', '08000000000000', '0d0000000000000000', '0e00000000000000', '0d01000000000000')),
+              '0b00f4ee00110000', '0801000001020304', '08000000000000', '0d0000000000000000', '0e00000000000000',
+              '0d01000000000000')),
           *(f'icmp.v6 20010db8{1:024x} 20010db8{2:024x} {message}' for message in (
               '8700ef7c000000002001', '8f001020000000010400', '80000000000000'))]
 

@@ -58,7 +58,7 @@ pub record HasWrongHeaderChecksum (packet : List ℕ) : Type 0 where
   pub begins : HasFront IsIpv4Layout packet header
   pub wrong : ¬ SumsToAllOnes header
 
--- the packet is a fragment, the checksum of its header is not wrong, and it is added to its datagram
+-- the packet is a fragment, its header checksum is not wrong, and it is added to its datagram
 pub record TakesFragment (packet : List ℕ) (outer inner : Option ℕ) (now : ℕ)
     (old new : List IpDefragSlot) (before after : Datagrams) (whole : Option (List ℕ))
     : Type 0 where

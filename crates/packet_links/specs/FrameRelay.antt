@@ -1,6 +1,6 @@
 -- The header of frame relay (ITU-T Q.922, RFC 2427).
-use Rattle.std.specs.Prelude.{ℕ, ◌+◌, ◌/◌, ◌^◌, ◌==◌, ◌&&◌, Bool, nat_lt, not, if◌then◌else◌, List, length}
-use Rattle.std.specs.Prelude.{slice_index}
+use Rattle.std.specs.Prelude.{ℕ, ◌+◌, ◌/◌, ◌^◌, ◌==◌, ◌&&◌, Bool, nat_lt, not, if◌then◌else◌, List}
+use Rattle.std.specs.Prelude.{length, slice_index}
 use Rattle.packet_links.specs.Bytes.{has, is_set, number_at}
 use Rattle.packet_links.specs.Header.{snap_header}
 use Rattle.packet_links.specs.Ppp.{protocol_header}
@@ -28,11 +28,11 @@ after_address place frame = if has 0x03 place frame
     else record { len = place + 2; carried = carried.EtherType (number_at place frame) }
 
 -- The frame is on DLCI 0, which is for signalling: the upper 6 bits of the first byte of an address
--- of two bytes, and the upper 4 of the second, are 0 (Q.922 section 3.2).
+-- of two bytes, and the upper 4 of the second, are 0 (Q.922 section 3.3.6).
 abbrev pub is_signalling : List ℕ → Bool
 is_signalling frame = slice_index frame 0 / 2 ^ 2 == 0 && slice_index frame 1 / 2 ^ 4 == 0
 
--- After an address of two bytes. On DLCI 0 any other control than 03 is one of Q.922 (section 3.3):
+-- After an address of two bytes. On DLCI 0 any other control than 03 is one of Q.922 (section 3.4):
 -- what follows it is unknown.
 abbrev pub after_short_address : List ℕ → Header
 after_short_address frame = if is_signalling frame && not (has 0x03 2 frame)
@@ -40,7 +40,7 @@ after_short_address frame = if is_signalling frame && not (has 0x03 2 frame)
     else after_address 2 frame
 
 -- LINKTYPE_FRELAY: an address of 2, 3 or 4 bytes, of which the last alone is odd (Q.922 section
--- 3.2), and what follows it. A frame has 3 bytes at least.
+-- 3.2), and what follows it. A frame has 3 bytes at least (Q.922 section 2.9).
 abbrev pub frame_relay_header : List ℕ → Header
 frame_relay_header frame =
     if nat_lt (length frame) 3
