@@ -207,7 +207,7 @@ def compiles_by_rustc(block):
 # What a page says.
 
 def blocks(text):
-    """the blocks of a page or of a comment, in their order: the language of a fenced one, `sh`
+    """the blocks of a page, in their order: the language of a fenced one, `sh`
     where it is indented by four blanks, and the text"""
     found = re.findall(r'^```(\w*)\n(.*?)^```$|((?:^    [^\n]*\n)+)', text + '\n', re.S | re.M)
     return [('sh', re.sub(r'^    ', '', indented, flags=re.M)) if indented else (language, block)

@@ -4,10 +4,10 @@
     docs/examples.py            from anywhere; it proves nothing
 
 Each example is a test of its own in a crate over all libraries, which `rt try --test` runs: `rt` is the test's argument, and `?`
-ends the test with the error. The names in an example are those of its module and its crate, those that its file imports, and
-those of the crates below. A sentence above an example that names another item and ends with a colon, such as 'With the header of
-[`Ipv4Header::set_checksum`]:', says that it goes on from the example of that item. An example that begins with `use` or `fn` has
-to compile."""
+ends the test with the error. The names in an example are those of its module and its crate, those that its file imports, those
+of the crates below, and then those of any crate. A sentence above an example that names another item and ends with a colon, such
+as 'With the header of [`Ipv4Header::set_checksum`]:', says that it goes on from the example of that item, which is that of its
+own file if there are several. An example that begins with `use` or `fn` only has to compile."""
 import pathlib
 import re
 import shutil
@@ -18,7 +18,7 @@ from typing import NamedTuple
 
 ROOT = pathlib.Path(__file__).resolve().parent.parent
 CRATES = ROOT / 'crates'
-# Libraries that nobody depends on as on a crate: they have no examples.
+# Libraries that no example can name.
 OTHERS = ('c_answers', 'etherparse_tests', 'uses')
 MODULE = re.compile(r'^(pub )?mod (\w+);', re.M)
 USE = re.compile(r'^(pub )?use ([^;]+);', re.M)
@@ -28,7 +28,7 @@ COMMENT = re.compile(r'^\s*//[/!] ?')
 FENCE = re.compile(r'\s*//[/!] ```(\w*)$')
 GOES_ON = re.compile(r'\[`(?:\w+::)*(\w+)`\][^.]*:$')
 # What is said of an example that does not compile, and of one that fails.
-FAILED = re.compile(r'^src/(\w+)\.rt:.*\berror\b.*|^test (\w+)::runs \.\.\. (?!ok$).*', re.M)
+FAILED = re.compile(r'^src/(\w+)\.rt:\d+:\d+: error\b.*|^test (\w+)::runs \.\.\. (?!ok$).*', re.M)
 
 
 class Example(NamedTuple):
@@ -63,10 +63,10 @@ def imports(text):
 
 
 class Library:
-    """a crate: its examples, the module of each file, the paths of each public name, and the crates below"""
+    """a crate: its examples, the module of each file, the paths of each public name, and the crates that it uses"""
 
-    def __init__(self, name, below):
-        self.examples, self.places, self.paths, self.below = [], {}, {}, below
+    def __init__(self, name, uses):
+        self.examples, self.places, self.paths, self.uses = [], {}, {}, uses
         self.read((name,), CRATES / name / 'src/lib.rt', True)
 
     def read(self, place, file, is_public):
@@ -86,14 +86,15 @@ class Library:
         """the text of an example, after that from which it goes on"""
         if not example.before:
             return example.code
-        return self.whole(next(it for it in self.examples if it.item == example.before)) + '\n' + example.code
+        found = [it for it in self.examples if it.item == example.before]
+        return self.whole(max(found, key=lambda it: it.file == example.file)) + '\n' + example.code
 
     def path(self, name, file, libraries):
         """the path by which an example in a file reaches a name; nothing if it is std's, or the example's own"""
         imported = {it: path for it, path, _ in imports(file.read_text())}.get(name, '')
         if name not in self.paths and imported.split('::')[0] in (*libraries, 'arrayvec', 'std'):
             return imported
-        places = (self.paths, *(libraries[it].paths for it in self.below), *(it.paths for it in libraries.values()))
+        places = (self.paths, *(libraries[it].paths for it in self.uses if it in libraries), *(it.paths for it in libraries.values()))
         found = next((paths[name] for paths in places if name in paths), [])
         here = self.places[file]
         return max(found, default=None, key=lambda path: (
@@ -117,34 +118,48 @@ def names_in(code):
     return set(found) - set(re.findall(r'\bfn (\w+)', code))
 
 
-def main():
+def read_libraries():
+    """the libraries by their names"""
     rows = [row.partition(':') for row in (ROOT / 'crates.txt').read_text().splitlines()]
     below = {head: names.split() for head, _, names in rows if head not in OTHERS and (CRATES / head / 'src/lib.rt').is_file()}
-    libraries = {name: Library(name, [it for it in names if it in below]) for name, names in below.items()}
+    return {name: Library(name, names) for name, names in below.items()}
+
+
+def lay(room, libraries):
+    """Writes the libraries and the crate of the tests into a folder; returns the places of the examples by their modules."""
+    tests = room / 'crates/examples/src'
+    tests.mkdir(parents=True)
+    rows, places = [], {}
+    for name, library in libraries.items():
+        shutil.copytree(CRATES / name / 'src', room / f'crates/{name}/src')
+        rows.append(f'{name}: {" ".join(library.uses)}\n')
+        for example in library.examples:
+            module = '_'.join((*library.places[example.file], str(example.line)))
+            places[module] = f'{example.file.relative_to(ROOT)}:{example.line}'
+            (tests / f'{module}.rt').write_text(library.source(example, libraries))
+    (tests / 'lib.rt').write_text('#![tactic(auto)]\n\n' + ''.join(f'#[cfg(test)]\nmod {module};\n' for module in places))
+    (room / 'crates.txt').write_text(''.join(rows) + f'examples: {" ".join(libraries)} arrayvec\n')
+    return places
+
+
+def main():
+    libraries = read_libraries()
     with tempfile.TemporaryDirectory() as room:
-        tests = pathlib.Path(room, 'crates/examples/src')
-        tests.mkdir(parents=True)
-        for name in below:
-            shutil.copytree(CRATES / name / 'src', f'{room}/crates/{name}/src')
-        lines = [f'{name}: {" ".join(names)}\n' for name, names in [*below.items(), ('examples', [*below, 'arrayvec'])]]
-        pathlib.Path(room, 'crates.txt').write_text(''.join(lines))
-        named = {}
-        for library in libraries.values():
-            for example in library.examples:
-                name = '_'.join((*library.places[example.file], str(example.line)))
-                named[name] = f'{example.file.relative_to(ROOT)}:{example.line}'
-                (tests / f'{name}.rt').write_text(library.source(example, libraries))
-        (tests / 'lib.rt').write_text('#![tactic(auto)]\n\n' + ''.join(f'#[cfg(test)]\nmod {name};\n' for name in named))
-        ran = subprocess.run(['rt', 'try', '--test'], cwd=tests.parent, text=True, stdout=subprocess.PIPE,
+        places = lay(pathlib.Path(room), libraries)
+        ran = subprocess.run(['rt', 'try', '--test'], cwd=f'{room}/crates/examples', text=True, stdout=subprocess.PIPE,
                              stderr=subprocess.STDOUT, check=False)
     failed = {found[1] or found[2]: found[0] for found in FAILED.finditer(ran.stdout)}
-    for name, said in failed.items():
-        print(f'FAILED: {named.get(name, name)}: {said}')
     if ran.returncode and not failed:
-        print(ran.stdout[-2000:])
-        failed = named
-    print(f'{len(named) - len(failed)} passed, {len(failed)} failed')
-    sys.exit(1 if failed or not named else 0)
+        print(ran.stdout, f'0 passed, {len(places)} failed', sep='')
+        sys.exit(1)
+    read = {file for library in libraries.values() for file in library.places}
+    for example in (it for file in CRATES.glob('*/src/**/*.rt') if file not in read for it in examples(file)):
+        failed[f'{example.file.relative_to(ROOT)}:{example.line}'] = 'it is in no library, and does not run'
+    for name, said in failed.items():
+        print(f'FAILED: {places.get(name, name)}: {said}')
+    passed = len(places.keys() - failed.keys())
+    print(f'{passed} passed, {len(failed)} failed')
+    sys.exit(1 if failed or not passed else 0)
 
 
 main()

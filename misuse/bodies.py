@@ -87,7 +87,7 @@ def changed(text, old):
 
 def groups(crate, bodies):
     """Returns the bodies in groups. Those of one are in different functions, so that none has a part in what another comes to; or
-    they write an impl of different types, of which a law speaks."""
+    they change impls in different files, of which laws speak."""
     apart, alone, laws = [], [], []
     for body in bodies:
         functions, edits = read(body)

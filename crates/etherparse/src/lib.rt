@@ -20,8 +20,8 @@
 //! }
 //! ```
 //!
-//! Each other example is run as a test. There `rt` is the test's argument, `?` ends the test with
-//! the error, and all names come from `etherparse`.
+//! `docs/examples.py` runs the other examples: `rt` is a test's argument, `?` ends the test with the
+//! error, and all names come from `etherparse`.
 #![tactic(auto)]
 
 mod laws;

@@ -1,8 +1,8 @@
 //! What all header crates share: where a length came from, the errors with their texts, and
 //! checksums.
 //!
-//! Each example is run as a test. There `rt` is the test's argument, `?` ends the test with the
-//! error, and all names come from `etherparse`.
+//! `docs/examples.py` runs the examples: `rt` is a test's argument, `?` ends the test with the error,
+//! and `etherparse` has all names.
 #![tactic(auto)]
 
 pub mod checksum;

@@ -1,8 +1,8 @@
 //! Fields of IP headers with fewer values than their integer type, the numbers of protocols, and
 //! IPv4 options.
 //!
-//! Each example is run as a test. There `rt` is the test's argument, `?` ends the test with the
-//! error, and all names come from `etherparse`.
+//! `docs/examples.py` runs the examples: `rt` is a test's argument, `?` ends the test with the error,
+//! and `etherparse` has all names.
 #![tactic(auto)]
 
 mod laws;

@@ -1,5 +1,5 @@
 //! Packets above the library: the caller of `docs/LAYER.md`, and a packet that ends early. The sample
-//! that `conformance` replays has packets of every kind that are whole.
+//! that `conformance` replays has whole packets of every kind.
 
 use crate::shared::assert_equal;
 use etherparse::err::ipv4::HeaderSliceError;

@@ -1,4 +1,4 @@
-//! Tests of all libraries by their public paths: what no clause says, and worked values from the
+//! Tests of the libraries by their public paths: what no clause says, and worked values from the
 //! standards.
 //!
 //! They are in a crate of their own, since each crate with tests is proved once more for them.

@@ -1,4 +1,4 @@
-//! Frames whose packets are fragments: what a forged one changes.
+//! Frames whose packets are fragments: a forged one changes nothing.
 
 use crate::shared::assert_that;
 use frame_reassembly::datagrams::Datagrams;

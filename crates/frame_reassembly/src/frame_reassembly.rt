@@ -89,11 +89,11 @@ impl<'a, 'b> FrameReassembly<'a, 'b> {
 
     /// Takes a frame of a link type, at a time in seconds. If its IP packet is a fragment, that is
     /// added to its datagram: fragments whose tags have different identifiers, or of which one has
-    /// a tag and the other none, are not put together; the kind of the tag does not count. If it
-    /// completes the datagram, `out` gets the frame that it completes: what stands before the
-    /// packet, and the whole packet; the datagram leaves its slot, and the length of that frame is
-    /// returned. Otherwise, and for all other frames, `None`. `out` has to have the length of
-    /// `frame` and [`FrameReassembly::MAX_PACKET_LEN`] bytes more.
+    /// a tag and the other none, are not put together; the kind of the tag does not count. If the
+    /// fragment completes it, `out` gets the completed frame: what stands before the packet, and the
+    /// whole packet; the datagram leaves its slot, and the length of that frame is returned.
+    /// Otherwise, and for all other frames, `None`. `out` has to have the length of `frame` and
+    /// [`FrameReassembly::MAX_PACKET_LEN`] bytes more.
     ///
     /// A packet that is not all there is not added, nor one that [`IpDefragPool::add_packet`]
     /// refuses, nor one whose IPv4 header checksum is wrong: a host discards it (RFC 1122 section
