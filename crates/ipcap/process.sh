@@ -1390,11 +1390,13 @@ in_hex() {
     printf "$(sed 's/../\\x&/g' <<<"$1")"
 }
 
-# hex_record SECONDS HEX [ORIGINAL]: a record with these bytes, of a packet with as many or ORIGINAL
-# bytes.
+# hex_record SECONDS[.MICROSECONDS] HEX [ORIGINAL]: a record with these bytes, of a packet with as many
+# or ORIGINAL bytes.
 hex_record() {
-    number "$1"
-    number 0
+    local fraction=0
+    [[ $1 = *.* ]] && fraction=$((10#${1#*.}))
+    number "${1%.*}"
+    number "$fraction"
     number $((${#2} / 2))
     number "${3:-$((${#2} / 2))}"
     in_hex "$2"
@@ -1547,6 +1549,28 @@ reassembled() {
     datagrams 11 9 2 0 4 1 0 >"$room/wanted"
     run --reassemble --quiet
     judge 'a fragment after 59 seconds' $? 0
+    # A front, and its end 59.1 and 60 seconds later.
+    for end in 000000 900000; do
+        {
+            bytes 0 24
+            hex_record 1700000000.900000 "${fragments[7]}"
+            hex_record "1700000060.$end" "${fragments[10]}"
+        } >"$room/input"
+        datagrams 2 2 0 0 $((end == 0)) 0 $((end == 0 ? 0 : 2)) >"$room/wanted"
+        run --reassemble --quiet
+        judge "a fragment at 60.$end seconds, after one at 0.9" $? 0
+    done
+    # The fronts of 32 others, a front and one more in the same second, and its end: the oldest go.
+    {
+        bytes 0 24
+        first_fragments 32
+        hex_record 1700000001.500000 "${fragments[7]}"
+        hex_record 1700000001.600000 "${fragments[4]}"
+        hex_record 1700000001.700000 "${fragments[10]}"
+    } >"$room/input"
+    datagrams 35 35 0 0 1 0 33 >"$room/wanted"
+    run --reassemble --quiet
+    judge 'fragments of one second' $? 0
     # A front, those of others, and its end: one more than there is room for pushes out the oldest.
     for others in 31 32; do
         {

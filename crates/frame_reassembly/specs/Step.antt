@@ -1,6 +1,6 @@
 -- What becomes of the slots of a pool, of the counts and of a frame, once the frame has come.
-use Rattle.std.specs.Prelude.{ℕ, ◌≡◌, ◌⊎◌, ◌||◌, Bool, false, not, true, List, ◌++◌, None, Option}
-use Rattle.std.specs.Prelude.{Some, option_map}
+use Rattle.std.specs.Prelude.{ℕ, ◌≡◌, ◌*◌, ◌^◌, ◌⊎◌, ◌||◌, Bool, false, not, true, List, ◌++◌, None}
+use Rattle.std.specs.Prelude.{Option, Some, option_map}
 use Rattle.std.specs.Option.{is_none, is_some}
 use Rattle.etherparse.specs.Ipv4Header.{IsIpv4Layout}
 use Rattle.etherparse.specs.Reading.{HasFront}
@@ -20,6 +20,11 @@ use Rattle.packet_reassembly.specs.declared.ip_defrag_pool.IpDefragSlot.{IpDefra
 use Rattle.frame_reassembly.specs.Carrying.{CarriesNone, CarriesPacket, inner_id, outer_id}
 use Rattle.frame_reassembly.specs.Counts.{counted}
 use Rattle.frame_reassembly.specs.declared.datagrams.Datagrams.{Datagrams}
+
+-- how long after its first fragment a datagram is given up, in nanoseconds: 60 seconds (RFC 8200
+-- section 4.5)
+abbrev pub reassembly_timeout : ℕ
+reassembly_timeout = 60 * 10 ^ 9
 
 -- a datagram begins in the slot that the fragment was added to: none had it, or the one that had it
 -- was given up
@@ -65,7 +70,7 @@ pub record TakesFragment (packet : List ℕ) (outer inner : Option ℕ) (now : �
   pub intact : ¬ HasWrongHeaderChecksum packet
   pub mid : List IpDefragSlot
   pub added : Added
-  pub adds : IsPacketAdded old packet outer inner 60 now mid added
+  pub adds : IsPacketAdded old packet outer inner reassembly_timeout now mid added
   pub follows : Follows added.state (begins old added) (is_none (slot_at old added.slot).buf)
       added.slot mid new before after whole
 
@@ -79,7 +84,7 @@ pub record TakesNothing (packet : List ℕ) (old new : List IpDefragSlot)
   pub counts : after ≡ before
   pub none : whole ≡ None
 
--- What a packet does that came in these VLANs at this time, in seconds; and the packet that it
+-- What a packet does that came in these VLANs at this time, in nanoseconds; and the packet that it
 -- completes, if it does.
 abbrev pub TakesPacket : List ℕ → Option ℕ → Option ℕ → ℕ → List IpDefragSlot
     → List IpDefragSlot → Datagrams → Datagrams → Option (List ℕ) → Type 0
@@ -108,7 +113,7 @@ pub record TakesOther (link_type : LinkType) (frame : List ℕ) (old new : List 
   pub counts : after ≡ before
   pub none : whole ≡ None
 
--- What a frame of this link type does that came at this time, in seconds; and the frame that it
+-- What a frame of this link type does that came at this time, in nanoseconds; and the frame that it
 -- completes, if it does.
 abbrev pub TakesFrame : LinkType → List ℕ → ℕ → List IpDefragSlot → List IpDefragSlot
     → Datagrams → Datagrams → Option (List ℕ) → Type 0

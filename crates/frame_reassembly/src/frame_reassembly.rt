@@ -11,7 +11,7 @@ ghost use Rattle.packet_reassembly.specs.declared.ip_frag_id.IpFragId.{IpFragId}
 ghost use Rattle.frame_reassembly.specs.Carrying.{CarriesNone, CarriesPacket, inner_id, outer_id};
 ghost use Rattle.frame_reassembly.specs.Known.{known_of};
 ghost use Rattle.frame_reassembly.specs.Step.{Follows, HasWrongHeaderChecksum, IsReleased};
-ghost use Rattle.frame_reassembly.specs.Step.{TakesFrame, TakesPacket};
+ghost use Rattle.frame_reassembly.specs.Step.{TakesFrame, TakesPacket, reassembly_timeout};
 
 use crate::datagrams::Datagrams;
 use arrayvec::ArrayVec;
@@ -53,13 +53,14 @@ impl<'a, 'b> Model for FrameReassembly<'a, 'b> {
     ghost use Rattle.std.specs.Prelude.{◌≡◌, ◌<◌, ◌≤◌, List, length};
     ghost use Rattle.packet_reassembly.specs.Pool.{HaveFirstHeaders};
     ghost use Rattle.packet_reassembly.specs.declared.ip_defrag_pool.IpDefragSlot.{IpDefragSlot};
+    ghost use Rattle.frame_reassembly.specs.Step.{reassembly_timeout};
 
     ghost Value = { List IpDefragSlot };
 
     ghost view = { λ s. s.pool.slots.now };
 
     ghost invariant = { λ s. (0 < length s.pool.slots.now) × (length s.pool.slots.now ≤ 32)
-        × HaveFirstHeaders s.pool.slots.now × (s.pool.timeout ≡ 60) };
+        × HaveFirstHeaders s.pool.slots.now × (s.pool.timeout ≡ reassembly_timeout) };
 }
 
 impl<'a, 'b> FrameReassembly<'a, 'b> {
@@ -69,6 +70,10 @@ impl<'a, 'b> FrameReassembly<'a, 'b> {
     /// The longest packet that is put together, in bytes: 65,575, an IPv6 header and the longest
     /// payload.
     pub const MAX_PACKET_LEN: usize = 65_575;
+
+    /// How long after its first fragment a datagram is given up, in nanoseconds: 60 seconds (RFC 8200
+    /// section 4.5).
+    pub const TIMEOUT_NANOSECONDS: u64 = 60_000_000_000;
 
     /// With these slots, from one to [`FrameReassembly::SLOTS`] of them. Datagrams that have slots
     /// go on. Their fragments must have come by [`IpDefragPool::add_packet`], so that the headers of
@@ -82,12 +87,12 @@ impl<'a, 'b> FrameReassembly<'a, 'b> {
         FrameReassembly {
             pool: IpDefragPool {
                 slots,
-                timeout: IpDefragPool::TIMEOUT_SECONDS,
+                timeout: FrameReassembly::TIMEOUT_NANOSECONDS,
             },
         }
     }
 
-    /// Takes a frame of a link type, at a time in seconds. If its IP packet is a fragment, that is
+    /// Takes a frame of a link type, at a time in nanoseconds. If its IP packet is a fragment, that is
     /// added to its datagram: fragments whose tags have different identifiers, or of which one has
     /// a tag and the other none, are not put together; the kind of the tag does not count. If the
     /// fragment completes it, `out` gets the completed frame: what stands before the packet, and the
@@ -159,6 +164,8 @@ impl<'a, 'b> FrameReassembly<'a, 'b> {
 
 const _: () = prove!(FrameReassembly::SLOTS == 32 && FrameReassembly::MAX_PACKET_LEN == 65575);
 
+const _: () = prove!(FrameReassembly::TIMEOUT_NANOSECONDS == 60_000_000_000);
+
 // The IP packet in a frame; `None` if there is none.
 fn packet_in(link_type: LinkType, frame: &[u8]) -> Option<Carried>
     ensures found { IfSome result (λ c. (tags : List (List ℕ))
@@ -207,7 +214,7 @@ fn take_packet(
 ) -> Option<usize>
     requires some { 0 < length pool.old.slots.now }
     requires few { length pool.old.slots.now ≤ 32 }
-    requires timeout { pool.old.timeout ≡ 60 }
+    requires timeout { pool.old.timeout ≡ reassembly_timeout }
     requires headers { HaveFirstHeaders pool.old.slots.now }
     requires room { 65575 ≤ length out.old }
     ensures takes { TakesPacket carried.now.packet.now carried.now.outer carried.now.inner now
@@ -218,7 +225,7 @@ fn take_packet(
     ensures nothing { IfNone result (out.new ≡ out.old) }
     ensures same_len { length out.new ≡ length out.old }
     ensures slots { length pool.new.slots.now ≡ length pool.old.slots.now }
-    ensures timeout { pool.new.timeout ≡ 60 }
+    ensures timeout { pool.new.timeout ≡ reassembly_timeout }
     ensures headers { HaveFirstHeaders pool.new.slots.now }
 {
     // Most packets are no fragments.

@@ -1,12 +1,13 @@
 -- The packets that are put together of fragments.
-use Rattle.std.specs.Prelude.{ℕ, ◌≡◌, Bool, List, MatchOption, Option, Some, None, false, length}
-use Rattle.std.specs.Prelude.{true}
+use Rattle.std.specs.Prelude.{ℕ, ◌≡◌, ◌+◌, ◌-◌, ◌*◌, ◌^◌, Bool, List, MatchOption, Option, Some}
+use Rattle.std.specs.Prelude.{None, false, length, min, true}
 use Rattle.frame_reassembly.specs.Step.{TakesFrame}
 use Rattle.frame_reassembly.specs.declared.datagrams.Datagrams.{Datagrams}
 use Rattle.packet.specs.Link.{link_type_of}
 use Rattle.packet.specs.declared.link.LinkType.{LinkType}
-use Rattle.packet_capture.specs.Any.{seconds_of}
+use Rattle.packet_capture.specs.Any.{nanoseconds_of, seconds_of}
 use Rattle.packet_capture.specs.declared.any.PacketHead.{PacketHead}
+use Rattle.packet_capture.specs.declared.any.Stamp.{Stamp}
 use Rattle.packet_reassembly.specs.declared.ip_defrag_pool.IpDefragSlot.{IpDefragSlot}
 use Rattle.ipcap.specs.declared.totals.Totals.{Totals}
 
@@ -21,13 +22,18 @@ pub record Stays (before after : Totals) (old new : Memory) (whole : Option (Lis
   pub memory : new ≡ old
   pub none : whole ≡ None
 
--- the frame is taken at the time of its packet, in seconds, by slots and counts as they were before
+-- the time of a packet in nanoseconds; no more than 64 bits can tell
+abbrev pub nanoseconds_at : Stamp → ℕ
+nanoseconds_at stamp = min (seconds_of stamp * 10 ^ 9 + nanoseconds_of stamp) (2 ^ 64 - 1)
+
+-- the frame is taken at the time of its packet, by slots and counts as they were before
 pub record Takes (link_type : LinkType) (head : PacketHead) (frame : List ℕ)
     (before after : Totals) (slots : List IpDefragSlot) (counts : Datagrams) (new : Memory)
     (whole : Option (List ℕ)) : Type 0 where
   pub left : List IpDefragSlot
   pub datagrams : Datagrams
-  pub takes : TakesFrame link_type frame (seconds_of head.stamp) slots left counts datagrams whole
+  pub takes : TakesFrame link_type frame (nanoseconds_at head.stamp) slots left counts datagrams
+      whole
   pub totals : after ≡ record before { datagrams = Some datagrams }
   pub memory : new ≡ Some left
 

@@ -1,7 +1,7 @@
 //! The packets that fragments complete.
 
 ghost use Rattle.std.specs.Prelude.{◌≡◌, ◌≤◌, ◌+◌, ◌<◌, ◌^◌, IfSome, Some, length, option_map, take};
-ghost use Rattle.ipcap.specs.Reassembled.{Reassembles, head_of_whole};
+ghost use Rattle.ipcap.specs.Reassembled.{Reassembles, head_of_whole, nanoseconds_at};
 
 use crate::totals::Totals;
 use frame_reassembly::frame_reassembly::FrameReassembly;
@@ -25,9 +25,19 @@ pub fn completed(
 {
     let mut datagrams = totals.datagrams?;
     let link_type = LinkType::from_number(u32::from(head.link_type))?;
-    let len = frames.take(link_type, frame, head.time().seconds, &mut datagrams, out);
+    let len = frames.take(link_type, frame, nanoseconds_at(head), &mut datagrams, out);
     totals.datagrams = Some(datagrams);
     len
+}
+
+// The time of a packet in nanoseconds, or the greatest that there is room for.
+fn nanoseconds_at(head: &PacketHead) -> u64
+    ensures value { result ≡ nanoseconds_at head.now.stamp }
+{
+    let time = head.time();
+    time.seconds
+        .saturating_mul(1_000_000_000)
+        .saturating_add(time.nanoseconds)
 }
 
 /// The head of a packet that is put together, whose frame has `len` bytes.
