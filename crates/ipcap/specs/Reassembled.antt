@@ -22,7 +22,7 @@ pub record Stays (before after : Totals) (old new : Memory) (whole : Option (Lis
   pub memory : new ≡ old
   pub none : whole ≡ None
 
--- the time of a packet in nanoseconds; no more than 64 bits can tell
+-- the time of a packet in nanoseconds, or 2^64 - 1, in the year 2554, if it is later
 abbrev pub nanoseconds_at : Stamp → ℕ
 nanoseconds_at stamp = min (seconds_of stamp * 10 ^ 9 + nanoseconds_of stamp) (2 ^ 64 - 1)
 
