@@ -141,8 +141,8 @@ refused() {
     fi
 }
 
-# Options that are not known, with and without an expression; and values that are missing, wrong, or
-# given twice.
+# Options that are not known, with and without an expression; values that are missing, wrong, or given
+# twice; and options that exclude each other.
 arguments() {
     local word
     for len in "$size" 176 0; do
@@ -165,9 +165,12 @@ arguments() {
         refused "error: the argument '-c <N>' cannot be used multiple times" -c 1 -c 2
         refused 'error: an argument is not UTF-8' $'tcp \377'
         refused 'error: an argument is not UTF-8' -r $'\377'
-        refused "error: the argument '--quiet' cannot be used with '--count'" --quiet --count
-        refused "error: the argument '--quiet' cannot be used with '-w <FILE>'" --quiet -w -
-        refused "error: the argument '--count' cannot be used with '-w <FILE>'" --count -w -
+        refused 'error: --count cannot be used with -w' --count -w -
+        refused 'error: --quiet cannot be used with --count' --quiet --count
+        refused 'error: --quiet cannot be used with -w' --quiet -w -
+        refused 'error: --reassemble cannot be used with -w' --reassemble -w -
+        refused 'error: --count cannot be used with -w' --quiet --reassemble -w - --count
+        refused 'error: --quiet cannot be used with -w' --reassemble -w - --quiet
     done
 }
 
@@ -821,6 +824,10 @@ no_captures() {
     packed '\50\265\57\375' 'zstd: zstdcat FILE | ipcap'
     packed '\375\67\172\130' 'xz: xzcat FILE | ipcap'
     packed '\102\132\150\71' 'bzip2: bzcat FILE | ipcap'
+    packed '\4\42\115\30' 'lz4: lz4cat FILE | ipcap'
+    packed '\120\113\3\4' 'zip: unzip -p FILE | ipcap'
+    packed 'snoo' 'snoop: tshark -r FILE -w - | ipcap'
+    packed '\64\315\262\241' 'a modified pcap: tcpdump -r FILE -w - | ipcap'
 }
 
 # A record of one byte more than is read, the first packet of `stdin`, and a record as long as the
@@ -1592,7 +1599,6 @@ reassembled() {
     datagrams 2 2 0 0 0 0 1 | sed 's/0 cut/1 cut/' >"$room/wanted"
     run --reassemble --quiet
     judge 'a fragment that the capture cut' $? 0
-    refused "error: the argument '--reassemble' cannot be used with '-w <FILE>'" --reassemble -w -
 }
 
 # The command lines of README.md, with what they print: standard output, and then standard error.

@@ -1,10 +1,10 @@
 -- The words of the command line.
-use Rattle.std.specs.Prelude.{ℕ, ◌≡◌, ◌<◌, ◌^◌, ◌⊎◌, ◌++◌, ◌∷◌, Bool, IsTrue, List, [], codes}
-use Rattle.std.specs.Prelude.{None, Option, Some, false, if◌then◌else◌, length, map, option_map}
-use Rattle.std.specs.Prelude.{IsFalse, take, true, unwrap_or}
+use Rattle.std.specs.Prelude.{ℕ, ◌≡◌, ◌<◌, ◌^◌, ◌&&◌, ◌⊎◌, ◌++◌, ◌∷◌, Bool, IsTrue, List, []}
+use Rattle.std.specs.Prelude.{None, Option, Some, codes, false, find, if◌then◌else◌, length, map}
+use Rattle.std.specs.Prelude.{option_map, take, true, unwrap_or}
 use Rattle.std.specs.Borrow.{Bor}
 use Rattle.std.specs.List.{cons_option, list_all}
-use Rattle.std.specs.Option.{is_some}
+use Rattle.std.specs.Option.{is_some, option_map_or}
 use Rattle.std.specs.Str.{bytes_eq}
 use Rattle.std.specs.Str.Parse.{IsNumeral, digits_value, without_leading_plus}
 use Rattle.clap.specs.Words.{found_of, first_value, matched_of, one_text, raw_values}
@@ -16,6 +16,11 @@ use Rattle.packet_filter.specs.declared.expected.Expected.{Expected}
 use Rattle.packet_filter.specs.declared.reading.FilterError.{FilterError}
 use Rattle.packet_filter.specs.declared.reading.FilterError.TheVariants.{Unexpected}
 use Rattle.ipcap.specs.declared.arguments.Arguments.{Arguments}
+use Rattle.ipcap.specs.declared.arguments.ArgumentsError.{ArgumentsError}
+use Rattle.ipcap.specs.declared.arguments.ArgumentsError.TheVariants.{Excluded, TooLong}
+use Rattle.ipcap.specs.declared.arguments.Exclusion.{Exclusion}
+use Rattle.ipcap.specs.declared.arguments.Exclusion.TheVariants.{CountAndWrite, QuietAndCount}
+use Rattle.ipcap.specs.declared.arguments.Exclusion.TheVariants.{QuietAndWrite, ReassembleAndWrite}
 use Rattle.ipcap.specs.declared.request.Mode.{Mode}
 use Rattle.ipcap.specs.declared.request.Mode.TheVariants.{Count, Lines, Packets, Quiet}
 
@@ -35,7 +40,9 @@ abbrev pub IsElsewhere : List ℕ → FilterError → Type 0
 IsElsewhere word (Unexpected place expected) = ¬ IsFirst word place
 IsElsewhere word e = Unit {0}
 
--- an expression can begin with its first word: it is an expression, or refused for what comes later
+-- An expression can begin with its first word: it is an expression, or what is wrong is another
+-- word, or what is missing. Two more count as such a beginning: a word of pcap-filter(7) that the
+-- language lacks, and an argument with no word.
 abbrev pub BeginsExpression : List ℕ → Type 0
 BeginsExpression word = ((e : Expression) × IsText word e)
     ⊎ ((e : FilterError) × Refuses word e × IsElsewhere word e)
@@ -54,33 +61,42 @@ words_after false (word ∷ words) = word ++ words_after true words
 abbrev pub texts_of : List (Bor (List ℕ)) → List (List ℕ)
 texts_of words = map (λ word. word.now) words
 
--- an option without a value is given
-abbrev pub IsGiven : ArgMatches → List ℕ → Type 0
-IsGiven matches id = one_text (found_of matches) id ≡ Some (codes "true")
+-- whether an option without a value is given
+abbrev pub is_given : ArgMatches → List ℕ → Bool
+is_given matches id = option_map_or (λ text. bytes_eq text (codes "true"))
+    (one_text (found_of matches) id) false
 
--- it is not
-abbrev pub IsLeftOut : ArgMatches → List ℕ → Type 0
-IsLeftOut matches id = (one_text (found_of matches) id ≡ Some (codes "false"))
-    ⊎ (one_text (found_of matches) id ≡ None)
-
--- whether it is
-abbrev pub IsFlag : ArgMatches → List ℕ → Bool → Type 0
-IsFlag matches id is = (IsGiven matches id → IsTrue is) × (IsLeftOut matches id → IsFalse is)
-
--- an option with a value is given
+-- whether an option with a value is
 abbrev pub has_value : ArgMatches → List ℕ → Bool
 has_value matches id = is_some (matched_of (found_of matches) id)
 
--- What is written: packets, if a file is given for them; or else how many there are, if that is
--- asked for; or else the closing line alone; or else lines.
+-- whether both options of a pair are given
+abbrev pub has_both : ArgMatches → Exclusion → Bool
+has_both matches CountAndWrite =
+    is_given matches (codes "count") && has_value matches (codes "write")
+has_both matches QuietAndCount =
+    is_given matches (codes "quiet") && is_given matches (codes "count")
+has_both matches QuietAndWrite =
+    is_given matches (codes "quiet") && has_value matches (codes "write")
+has_both matches ReassembleAndWrite =
+    is_given matches (codes "reassemble") && has_value matches (codes "write")
+
+-- the pairs that exclude each other, in the order in which they are refused
+abbrev pub exclusions : List Exclusion
+exclusions = CountAndWrite ∷ QuietAndCount ∷ QuietAndWrite ∷ ReassembleAndWrite ∷ []
+
+-- the first of them of which both options are given
+abbrev pub exclusion_of : ArgMatches → Option Exclusion
+exclusion_of matches = find (has_both matches) exclusions
+
+-- What is written, of options that do not exclude each other: packets, if a file is given for them;
+-- how many there are, if that is asked for; the closing line alone, if that is; or else lines.
 pub record IsModeOf (matches : ArgMatches) (mode : Mode) : Type 0 where
   pub packets : has_value matches (codes "write") ≡ true → mode ≡ Packets
-  pub count : has_value matches (codes "write") ≡ false → IsGiven matches (codes "count")
-      → mode ≡ Count
-  pub quiet : has_value matches (codes "write") ≡ false → IsLeftOut matches (codes "count")
-      → IsGiven matches (codes "quiet") → mode ≡ Quiet
-  pub lines : has_value matches (codes "write") ≡ false → IsLeftOut matches (codes "count")
-      → IsLeftOut matches (codes "quiet") → mode ≡ Lines
+  pub count : is_given matches (codes "count") ≡ true → mode ≡ Count
+  pub quiet : is_given matches (codes "quiet") ≡ true → mode ≡ Quiet
+  pub lines : has_value matches (codes "write") ≡ false → is_given matches (codes "count") ≡ false
+      → is_given matches (codes "quiet") ≡ false → mode ≡ Lines
 
 -- the limit that a text says in decimal; none without a text
 abbrev pub IsLimit : Option (List ℕ) → Option ℕ → Type 0
@@ -128,11 +144,26 @@ pub record HasLongText (matches : ArgMatches) : Type 0 where
   pub reads : ReadsWords matches input text
   pub long : 4096 < length text
 
+-- why a command line gives no arguments: two options exclude each other, or else the expression is
+-- too long
+abbrev pub RefusesMatches : ArgMatches → ArgumentsError → Type 0
+RefusesMatches matches (Excluded pair) = exclusion_of matches ≡ Some pair
+RefusesMatches matches TooLong = (exclusion_of matches ≡ None) × HasLongText matches
+
+-- what is said of it
+abbrev pub arguments_error_text : ArgumentsError → List ℕ
+arguments_error_text (Excluded CountAndWrite) = codes "--count cannot be used with -w"
+arguments_error_text (Excluded QuietAndCount) = codes "--quiet cannot be used with --count"
+arguments_error_text (Excluded QuietAndWrite) = codes "--quiet cannot be used with -w"
+arguments_error_text (Excluded ReassembleAndWrite) = codes "--reassemble cannot be used with -w"
+arguments_error_text TooLong = codes "the expression has more than 4096 bytes"
+
 -- what the arguments are that a command line gives
 pub record IsArguments (matches : ArgMatches) (arguments : Arguments) : Type 0 where
+  pub apart : exclusion_of matches ≡ None
   pub mode : IsModeOf matches arguments.mode
-  pub utc : IsFlag matches (codes "utc") arguments.is_utc
-  pub reassembles : IsFlag matches (codes "reassemble") arguments.reassembles
+  pub utc : arguments.is_utc ≡ is_given matches (codes "utc")
+  pub reassembles : arguments.reassembles ≡ is_given matches (codes "reassemble")
   pub limit : IsLimit (one_text (found_of matches) (codes "limit")) arguments.limit
   pub output : text_of arguments.output ≡ first_value (found_of matches) (codes "write")
   pub input : ReadsWords matches (text_of arguments.input) arguments.text.items

@@ -1,16 +1,19 @@
 -- The line of a record, and the lines at the end.
-use Rattle.std.specs.Prelude.{ℕ, ◌/◌, ◌^◌, ◌==◌, Bool, List, [], ◌++◌, codes, decimal}
+use Rattle.std.specs.Prelude.{ℕ, ◌/◌, ◌==◌, Bool, List, [], ◌++◌, codes, decimal}
 use Rattle.std.specs.Prelude.{if◌then◌else◌, Option, Some, None, false, true}
-use Rattle.std.specs.Prelude.{unwrap_or}
+use Rattle.std.specs.Prelude.{option_and_then, unwrap_or}
 use Rattle.std.specs.Fmt.{digits}
 use Rattle.std.specs.Net.Addr.{segments_of}
 use Rattle.std.specs.Net.Text.{ipv4_text, ipv6_text}
 use Rattle.frame_reassembly.specs.Counts.{left_over}
 use Rattle.frame_reassembly.specs.declared.datagrams.Datagrams.{Datagrams}
 use Rattle.packet_capture.specs.Any.{is_fine, nanoseconds_of, seconds_of}
+use Rattle.packet_capture.specs.FileFormat.{format_named}
 use Rattle.packet_capture.specs.declared.any.PacketHead.{PacketHead}
 use Rattle.packet_capture.specs.declared.capture.CaptureError.{CaptureError}
 use Rattle.packet_capture.specs.declared.capture.CaptureError.TheVariants as capture
+use Rattle.packet_capture.specs.declared.file_format.FileFormat.{FileFormat}
+use Rattle.packet_capture.specs.declared.file_format.FileFormat.TheVariants as format
 use Rattle.packet_links.specs.declared.header.Carried.{Carried}
 use Rattle.packet_links.specs.declared.header.Carried.TheVariants as carried
 use Rattle.packet_parts.specs.Checksum.{verdict_text}
@@ -304,21 +307,27 @@ report_text Quiet has_filter totals = []
 report_text Count has_filter totals = []
 report_text mode has_filter totals = closing_line has_filter totals
 
--- another format that files begin with this magic number in, and the command that unpacks it: gzip
--- (RFC 1952 section 2.3), zstd (RFC 8878 section 3.1.1), xz (its file format, section 2.1.1.1) and
--- bzip2
-unfoldable pub packed_as : ℕ → Option (List ℕ)
-packed_as magic =
-    if magic / 2 ^ 16 == 0x1f8b then Some (codes "gzip: zcat FILE | ipcap")
-    else if magic == 0x28b52ffd then Some (codes "zstd: zstdcat FILE | ipcap")
-    else if magic == 0xfd377a58 then Some (codes "xz: xzcat FILE | ipcap")
-    else if magic / 2 ^ 8 == 0x425a68 then Some (codes "bzip2: bzcat FILE | ipcap")
-    else None
+-- a format that is not read, and the command that makes a capture of a file in it
+abbrev pub other_format : FileFormat → Option (List ℕ)
+other_format format.ModifiedPcap = Some (codes "a modified pcap: tcpdump -r FILE -w - | ipcap")
+other_format format.Snoop = Some (codes "snoop: tshark -r FILE -w - | ipcap")
+other_format format.Gzip = Some (codes "gzip: zcat FILE | ipcap")
+other_format format.Zstandard = Some (codes "zstd: zstdcat FILE | ipcap")
+other_format format.Xz = Some (codes "xz: xzcat FILE | ipcap")
+other_format format.Bzip2 = Some (codes "bzip2: bzcat FILE | ipcap")
+other_format format.Lz4 = Some (codes "lz4: lz4cat FILE | ipcap")
+other_format format.Zip = Some (codes "zip: unzip -p FILE | ipcap")
+other_format format.Pcap = None
+other_format format.Pcapng = None
+
+-- the same of a file that begins with this magic number
+abbrev pub other_format_named : ℕ → Option (List ℕ)
+other_format_named magic = option_and_then other_format (format_named magic)
 
 -- what a magic number says that is none of a capture: the other format, or the number in eight hex
 -- digits
 abbrev pub magic_text : Option (List ℕ) → ℕ → List ℕ
-magic_text (Some packed) magic = codes "this is " ++ packed
+magic_text (Some other) magic = codes "this is " ++ other
 magic_text None magic =
     codes "the magic number is 0x" ++ zero_padded 8 (digits 16 false magic)
 
@@ -327,7 +336,7 @@ unfoldable pub capture_error_line : CaptureError → List ℕ
 capture_error_line (capture.CutOff e) =
     codes "error: no capture: " ++ (decimal e.len ++ codes " bytes are no file header\n")
 capture_error_line (capture.Magic magic) =
-    codes "error: no capture: " ++ (magic_text (packed_as magic) magic ++ codes "\n")
+    codes "error: no capture: " ++ (magic_text (other_format_named magic) magic ++ codes "\n")
 capture_error_line (capture.Version major minor) =
     codes "error: no capture: the version is " ++ (decimal major ++ (codes "."
     ++ (decimal minor ++ codes "\n")))

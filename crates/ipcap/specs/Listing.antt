@@ -19,7 +19,7 @@ use Rattle.packet_filter.specs.Frame.{Answers}
 use Rattle.packet_filter.specs.Program.{expression_of}
 use Rattle.packet_filter.specs.declared.filter.Filter.{Filter}
 use Rattle.ipcap.specs.Lines.{record_line}
-use Rattle.ipcap.specs.Reading.{ReadsNumbered, is_cut, max_len}
+use Rattle.ipcap.specs.Reading.{ReadsNumbered, left_out, max_len}
 use Rattle.ipcap.specs.Reassembled.{Memory, Reassembles, seen_as}
 use Rattle.ipcap.specs.Request.{copies, has_enough}
 use Rattle.ipcap.specs.Streams.{kept_if}
@@ -49,7 +49,7 @@ IsChosen request head frame is =
 -- the reading of a packet whose frame is read, if the packet is listed
 abbrev pub ReadsChosen : Request → PacketHead → List ℕ → Option Reading → Type 0
 ReadsChosen request head frame (Some reading) = IsChosen request head frame true
-    × ReadsNumbered head.link_type (is_cut head) frame reading
+    × ReadsNumbered head.link_type (left_out head) frame reading
 ReadsChosen request head frame None = IsChosen request head frame false
 
 -- this is told of a packet with this head and this frame: it is told as what is seen in its place
@@ -131,10 +131,10 @@ pub record EndsOtherwise (s : List ℕ) (front : BlockFront) (e : BlockError) : 
 
 -- The text is what is written of the blocks that the data consists of, one after the other, and
 -- each is counted. After a block the capture, and what has come of datagrams, are what the next one
--- is told by. The listing ends with the data; or at a block that is cut off or refused. One
--- that is too long is told before its end is seen, with the bytes that are there; its length
--- counts once it is whole. Once as many
--- packets are listed as were asked for, nothing more is read, whatever follows.
+-- is told by. The listing ends with the data; or at a block that is cut off or refused. One that is
+-- too long is told before its end is seen, with the bytes that are there; its length counts once it
+-- is whole. Once as many packets are listed as were asked for, nothing more is read, whatever
+-- follows; but a block that is too long is read to its end, also if its packet is the last of these.
 pub data Lists (request : Request) : Place → List ℕ → List ℕ → Totals → Option End → Type 0 where
   ends : {place : Place} → Lists request place [] [] place.totals None
   stops : {place : Place} {s : List ℕ} → has_enough request place.totals.listed ≡ true

@@ -1,13 +1,11 @@
 -- The options that there are, as the crate `clap` has them.
-use Rattle.std.specs.Prelude.{ℕ, List, [], ◌∷◌, ◌++◌, Some, codes, false, map, true}
+use Rattle.std.specs.Prelude.{ℕ, List, [], ◌∷◌, ◌++◌, Some, codes, true}
 use Rattle.clap.specs.Lexer.{usize_max}
 use Rattle.clap.specs.Simple.{new_shape}
-use Rattle.clap.specs.Words.{App, Rule, args_of, new_app, new_rule}
+use Rattle.clap.specs.Words.{App, Rule, new_app, new_rule}
 use Rattle.clap.specs.declared.builder.action.ArgAction.TheVariants.{Append, SetTrue}
 use Rattle.clap.specs.declared.builder.action.ArgAction.TheVariants as action
-use Rattle.clap.specs.declared.builder.command.Command.{Command}
 use Rattle.clap.specs.declared.builder.value_parser.ValueParser.TheVariants.{Unsigned}
-use Rattle.ipcap.specs.Arguments.{texts_of}
 
 -- an option without a value, by its long name
 abbrev pub flag : List ℕ → Rule
@@ -16,10 +14,6 @@ flag name = record (new_rule name) { long = Some name; action = Some SetTrue }
 -- an option with a value, by its letter
 abbrev pub option_with_value : List ℕ → ℕ → Rule
 option_with_value id letter = record (new_rule id) { short = Some letter; value_names = 1 }
-
--- one that excludes others
-abbrev pub excluding : Rule → Rule
-excluding rule = record rule { is_free = false }
 
 -- `-c N`: a number from 1 on, of 64 bits
 abbrev pub limit : Rule
@@ -40,8 +34,8 @@ expression = record (new_rule (codes "EXPRESSION")) {
 
 -- the options without a value
 unfoldable pub flags : List Rule
-flags = excluding (flag (codes "count")) ∷ excluding (flag (codes "quiet")) ∷ numbers
-    ∷ flag (codes "utc") ∷ excluding (flag (codes "reassemble")) ∷ []
+flags = flag (codes "count") ∷ flag (codes "quiet") ∷ numbers ∷ flag (codes "utc")
+    ∷ flag (codes "reassemble") ∷ []
 
 -- all options, and the words that are none: one, and any number after it
 unfoldable pub options : List Rule
@@ -53,14 +47,3 @@ abbrev pub app_with : List Rule → App
 app_with rules = record (new_app (codes "ipcap")) {
   top = record (new_shape (codes "ipcap")) { rules = rules; has_version = true };
 }
-
--- which others each of them excludes
-abbrev pub exclusions_of : Command → List (List (List ℕ))
-exclusions_of command = map (λ arg. texts_of arg.conflicts.items) (args_of command)
-
-unfoldable pub exclusions_of_flags : List (List (List ℕ))
-exclusions_of_flags = (codes "write" ∷ []) ∷ (codes "count" ∷ codes "write" ∷ []) ∷ [] ∷ []
-    ∷ (codes "write" ∷ []) ∷ []
-
-unfoldable pub exclusions : List (List (List ℕ))
-exclusions = ([] ∷ [] ∷ [] ∷ []) ++ exclusions_of_flags ++ [] ∷ [] ∷ []

@@ -5,16 +5,16 @@ use Rattle.std.specs.Prelude.{MatchResult, unwrap_or}
 use Rattle.std.specs.declared.alloc.AllocError.{AllocError}
 use Rattle.std.specs.declared.io.Error.{Error}
 use Rattle.clap.specs.Values.{kind_of}
-use Rattle.clap.specs.Words.{IsParsedFrom, app_of, found_of, matches_of, rows_of, takes}
+use Rattle.clap.specs.Words.{HasKind, IsParsedFrom, app_of, fault_of, found_of, matches_of}
+use Rattle.clap.specs.Words.{rows_of}
 use Rattle.clap.specs.declared.builder.command.Command.{Command}
 use Rattle.clap.specs.declared.error.Error as text
 use Rattle.clap.specs.declared.error.kind.ErrorKind.TheVariants.{DisplayHelp, DisplayVersion}
-use Rattle.clap.specs.declared.error.kind.ErrorKind.TheVariants.{OutOfMemory}
 use Rattle.clap.specs.declared.parser.matches.ArgMatches.{ArgMatches}
 use Rattle.packet_filter.specs.declared.reading.FilterError.{FilterError}
-use Rattle.ipcap.specs.Arguments.{HasLongText, IsArguments, text_of}
+use Rattle.ipcap.specs.Arguments.{IsArguments, RefusesMatches, arguments_error_text, text_of}
 use Rattle.ipcap.specs.Faults.{Says}
-use Rattle.ipcap.specs.Options.{app_with, exclusions, exclusions_of, options}
+use Rattle.ipcap.specs.Options.{app_with, options}
 use Rattle.ipcap.specs.Output.{Fails, IsOutcome, Writes}
 use Rattle.ipcap.specs.Reassembled.{Memory}
 use Rattle.ipcap.specs.Refusal.{refusal_lines}
@@ -22,6 +22,7 @@ use Rattle.ipcap.specs.Request.{IsFilter, IsNoFilter}
 use Rattle.ipcap.specs.Status.{code_of}
 use Rattle.ipcap.specs.Streams.{NoReadFails, Reports, pending, unlisted, unread}
 use Rattle.ipcap.specs.declared.arguments.Arguments.{Arguments}
+use Rattle.ipcap.specs.declared.arguments.ArgumentsError.{ArgumentsError}
 use Rattle.ipcap.specs.declared.failure.Failure.{Failure}
 use Rattle.ipcap.specs.declared.failure.Failure.TheVariants as failure
 use Rattle.ipcap.specs.declared.input.Input.{Input}
@@ -65,17 +66,18 @@ IsFresh false memory = memory ≡ None
 IsFresh true None = ⊥
 IsFresh true (Some slots) = (length slots ≡ 32) × All (λ slot. slot.id ≡ None) slots
 
--- The options that there are find these matches in the words.
+-- The words have no fault, and the options that there are find these matches in them.
 pub record IsCommandLine (words : List (List ℕ)) (matches : ArgMatches) : Type 0 where
   pub command : Command
   pub is_app : app_of command ≡ app_with options
-  pub excludes : exclusions_of command ≡ exclusions
+  pub faultless : fault_of (app_with options) words ≡ []
   pub parsed : IsParsedFrom command matches
   pub found : rows_of (found_of matches) ≡ matches_of (app_with options) words
 
--- The options find no matches in the words. If they take the words, there was no memory.
+-- The options find no matches in the words: the error is of the kind of the first fault in them, as
+-- which help and the version count too, or there was no memory.
 abbrev pub HasNoMatches : List (List ℕ) → text.Error → Type 0
-HasNoMatches words e = takes (app_with options) words ≡ true → kind_of e ≡ OutOfMemory
+HasNoMatches words = HasKind (fault_of (app_with options) words)
 
 -- the exit status then: 0 if the words ask for help or the version, and otherwise 2
 pub record HasCode (e : text.Error) (code : ℕ) : Type 0 where
@@ -161,12 +163,14 @@ module _ {R W E : Type 0} (remaining : R → Option (List ℕ)) (contents : W �
     pub ends : ended ≡ unopened 2
     pub asks : asked ≡ asked_for.Nothing
 
-  -- the text is too long for one
-  pub record RefusesLength (matches : ArgMatches) (ended : Ended R W) (asked : Asked)
+  -- The options that are given exclude each other, or the text is too long: standard error gets a
+  -- line on that, and the code is 2. No file is asked for.
+  pub record RefusesOptions (matches : ArgMatches) (ended : Ended R W) (asked : Asked)
       (old_errors new_errors : Output E) : Type 0 where
-    pub long : HasLongText matches
-    pub said : Says contents_of_errors error_failed is_text
-        (codes "the expression has more than 4096 bytes") None old_errors new_errors
+    pub error : ArgumentsError
+    pub refused : RefusesMatches matches error
+    pub said : Says contents_of_errors error_failed is_text (arguments_error_text error) None
+        old_errors new_errors
     pub ends : ended ≡ unopened 2
     pub asks : asked ≡ asked_for.Nothing
 
@@ -229,12 +233,12 @@ module _ {R W E : Type 0} (remaining : R → Option (List ℕ)) (contents : W �
       pub asks : asked ≡ asked_for.Text
       pub silent : new_errors ≡ old_errors
 
-    -- what comes of words, unless their text is too long
+    -- what comes of words that have matches
     pub record Follows : Type 0 where
       pub matches : ArgMatches
       pub read : reads words (Ok (Ok matches))
       pub is : IsCommandLine words matches
-      pub answers : RefusesLength matches ended asked old_errors new_errors
+      pub answers : RefusesOptions matches ended asked old_errors new_errors
           ⊎ ((arguments : Arguments) × IsArguments matches arguments
           × Answers opens creates arguments ended asked old_errors new_errors)
 

@@ -1,5 +1,5 @@
 -- What a frame is found to carry.
-use Rattle.std.specs.Prelude.{ℕ, ◌≡◌, ◌||◌, ◌⊎◌, Bool, false, MatchBool, List, length, nat_lt}
+use Rattle.std.specs.Prelude.{ℕ, ◌≡◌, ◌-◌, ◌||◌, ◌⊎◌, Bool, false, MatchBool, List, length, nat_lt}
 use Rattle.std.specs.Prelude.{MatchOption, Option, Some, None, option_map}
 use Rattle.std.specs.Option.{is_some}
 use Rattle.etherparse_link.specs.Bytes.{number_at}
@@ -20,11 +20,12 @@ use Rattle.ipcap.specs.declared.reading.NoPacket.TheVariants.{OtherLinkType, Oth
 use Rattle.ipcap.specs.declared.reading.Reading.{Reading}
 use Rattle.ipcap.specs.declared.reading.Reading.TheVariants.{Other, Packet, Refused}
 
--- a packet, which the capture may have cut, is shown like this, or refused for this reason
-abbrev pub ReadsPacket : Bool → List ℕ → Reading → Type 0
-ReadsPacket is_cut packet (Packet shown) = IsShown is_cut packet shown
-ReadsPacket is_cut packet (Refused e) = IsRefused is_cut packet e
-ReadsPacket is_cut packet reading = ⊥
+-- a packet, of which the capture left this many bytes out, is shown like this, or refused for this
+-- reason
+abbrev pub ReadsPacket : ℕ → List ℕ → Reading → Type 0
+ReadsPacket left_out packet (Packet shown) = IsShown left_out packet shown
+ReadsPacket left_out packet (Refused e) = IsRefused left_out packet e
+ReadsPacket left_out packet reading = ⊥
 
 -- what says that a frame carries another protocol: its EtherType, or else its family, the ARPHRD
 -- type of its device (LINKTYPE_LINUX_SLL, LINKTYPE_LINUX_SLL2), or what its framing tells; what has
@@ -39,19 +40,19 @@ other_of None link len = NoLinkHeader len
 
 -- the reading of a frame with these layers: that of its packet; or it ends within a tag, or carries
 -- another protocol
-abbrev pub ReadsCarried : Bool → ℕ → LinkLayers → Reading → Type 0
-ReadsCarried is_cut len layers reading = MatchBool (is_some layers.stop)
+abbrev pub ReadsCarried : ℕ → ℕ → LinkLayers → Reading → Type 0
+ReadsCarried left_out len layers reading = MatchBool (is_some layers.stop)
     (reading ≡ Other (NoLinkHeader len))
     (MatchBool (carries_ip (option_map link_parts layers.link) layers.ether_type)
-    (ReadsPacket is_cut layers.payload.now reading)
+    (ReadsPacket left_out layers.payload.now reading)
     (reading ≡ Other (other_of layers.ether_type (option_map link_parts layers.link) len)))
 
 -- a frame of this type is read
-pub record ReadsLayers (link_type : LinkType) (is_cut : Bool) (frame : List ℕ) (reading : Reading)
+pub record ReadsLayers (link_type : LinkType) (left_out : ℕ) (frame : List ℕ) (reading : Reading)
     : Type 0 where
   pub layers : LinkLayers
   pub has : HasLinkLayers link_type frame layers
-  pub reads : ReadsCarried is_cut (length frame) layers reading
+  pub reads : ReadsCarried left_out (length frame) layers reading
 
 -- or it ends within its link header
 pub record LacksHeader (link_type : LinkType) (frame : List ℕ) (reading : Reading) : Type 0 where
@@ -59,20 +60,24 @@ pub record LacksHeader (link_type : LinkType) (frame : List ℕ) (reading : Read
   pub lacks : LacksLink link_type frame e
   pub reads : reading ≡ Other (NoLinkHeader (length frame))
 
--- the reading of a frame of this link type, which the capture may have cut
-abbrev pub ReadsFrame : LinkType → Bool → List ℕ → Reading → Type 0
-ReadsFrame link_type is_cut frame reading =
-    ReadsLayers link_type is_cut frame reading ⊎ LacksHeader link_type frame reading
+-- the reading of a frame of this link type, of which the capture left this many bytes out
+abbrev pub ReadsFrame : LinkType → ℕ → List ℕ → Reading → Type 0
+ReadsFrame link_type left_out frame reading =
+    ReadsLayers link_type left_out frame reading ⊎ LacksHeader link_type frame reading
 
 -- the same of a frame whose link type has this number: of one that is not read it says no more
-abbrev pub ReadsNumbered : ℕ → Bool → List ℕ → Reading → Type 0
-ReadsNumbered number is_cut frame reading =
+abbrev pub ReadsNumbered : ℕ → ℕ → List ℕ → Reading → Type 0
+ReadsNumbered number left_out frame reading =
     MatchOption (link_type_of number) (reading ≡ Other (OtherLinkType number))
-    (λ link_type. ReadsFrame link_type is_cut frame reading)
+    (λ link_type. ReadsFrame link_type left_out frame reading)
 
 -- fewer bytes were captured than the packet had
 abbrev pub is_cut : PacketHead → Bool
 is_cut head = nat_lt head.captured_len head.original_len
+
+-- how many bytes fewer
+abbrev pub left_out : PacketHead → ℕ
+left_out head = head.original_len - head.captured_len
 
 -- The most bytes of a block that are read: a record with 262144 captured bytes and its head; or a
 -- block of pcapng that has room for as many, and for 65536 bytes of fields and options.

@@ -101,25 +101,26 @@ pub record Shows (shown : Shown) : Type 0 where
   pub header_checksum : IsHeaderVerdict shown.lax.slice.header shown.is_header_right
   pub verdict : IsLaxVerdict shown.lax shown.verdict
 
--- It is shown although it is not whole: it is shorter than its length field says, in a record that
--- the capture cut; or its total length is 0.
-abbrev pub IsShownAt : Bool → LaxIpSlice → IpSliceError → Type 0
-IsShownAt is_cut lax (error.Packet e) = IsTrue is_cut ⊎ IsTrue (has_no_length lax.slice)
-IsShownAt is_cut lax e = ⊥
+-- It is shown although it is not whole: its length field asks for more bytes than are there, but for
+-- no more than there were before the capture left this many out; or its total length is 0.
+abbrev pub IsShownAt : ℕ → LaxIpSlice → IpSliceError → Type 0
+IsShownAt left_out lax (error.Packet e) =
+    (e.required_len - e.len ≤ left_out) ⊎ IsTrue (has_no_length lax.slice)
+IsShownAt left_out lax e = ⊥
 
--- this is shown of a packet, which the capture may have cut
-pub record IsShown (is_cut : Bool) (packet : List ℕ) (shown : Shown) : Type 0 where
+-- this is shown of a packet, of which the capture left this many bytes out
+pub record IsShown (left_out : ℕ) (packet : List ℕ) (shown : Shown) : Type 0 where
   pub parts : HasLaxIpParts packet shown.lax
-  pub why : MatchOption shown.lax.stop (Unit {0}) (IsShownAt is_cut shown.lax)
+  pub why : MatchOption shown.lax.stop (Unit {0}) (IsShownAt left_out shown.lax)
   pub shows : Shows shown
 
 -- the packet is not shown for this reason
-pub record IsNotWhole (is_cut : Bool) (packet : List ℕ) (e : IpSliceError) : Type 0 where
+pub record IsNotWhole (left_out : ℕ) (packet : List ℕ) (e : IpSliceError) : Type 0 where
   pub lax : LaxIpSlice
   pub parts : HasLaxIpParts packet lax
   pub stop : lax.stop ≡ Some e
-  pub why : ¬ IsShownAt is_cut lax e
+  pub why : ¬ IsShownAt left_out lax e
 
 -- why a packet is refused: there are no parts of it, or it is not whole and not shown
-abbrev pub IsRefused : Bool → List ℕ → IpSliceError → Type 0
-IsRefused is_cut packet e = HasNoIpParts packet e ⊎ IsNotWhole is_cut packet e
+abbrev pub IsRefused : ℕ → List ℕ → IpSliceError → Type 0
+IsRefused left_out packet e = HasNoIpParts packet e ⊎ IsNotWhole left_out packet e

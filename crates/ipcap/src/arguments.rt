@@ -1,15 +1,16 @@
 //! The command line: options, the file that is read, and the words of an expression.
 
-ghost use Rattle.std.specs.Prelude.{◌≡◌, ◌==◌, ◌<◌, ◌≤◌, ◌++◌, ◌↔◌, IfOk, IsFalse, IsOk, IsTrue, OnErr, OnOk};
-ghost use Rattle.std.specs.Prelude.{IfErr, List, [], ◌∷◌, codes, false, length, map, string_bytes};
-ghost use Rattle.std.specs.Prelude.{true};
+ghost use Rattle.std.specs.Prelude.{◌≡◌, ◌<◌, ◌≤◌, ◌++◌, ◌↔◌, IfErr, IfOk, IsFalse, IsOk, IsTrue};
+ghost use Rattle.std.specs.Prelude.{List, None, OnErr, OnOk, codes, false, length, map};
+ghost use Rattle.std.specs.Prelude.{string_bytes, true};
+ghost use Rattle.std.specs.List.{cons_option};
 ghost use Rattle.clap.specs.Words.{Rule, app_of, first_value, found_of, one_text, rule_of};
-ghost use Rattle.ipcap.specs.Arguments.{BeginsExpression, HasLongText, IsFlag, IsLimit};
-ghost use Rattle.ipcap.specs.Arguments.{IsModeOf, NamesFile, NamesInput, ReadsWords, joined};
-ghost use Rattle.ipcap.specs.Arguments.{text_of, texts_of, words_after};
-ghost use Rattle.ipcap.specs.Options.{app_with, exclusions, exclusions_of, exclusions_of_flags};
-ghost use Rattle.ipcap.specs.Options.{expression, flag, flags, limit, numbers, option_with_value};
-ghost use Rattle.ipcap.specs.Options.{options};
+ghost use Rattle.ipcap.specs.Arguments.{BeginsExpression, IsLimit, IsModeOf, NamesFile, NamesInput};
+ghost use Rattle.ipcap.specs.Arguments.{ReadsWords, RefusesMatches, arguments_error_text};
+ghost use Rattle.ipcap.specs.Arguments.{exclusion_of, is_given, joined, text_of, texts_of};
+ghost use Rattle.ipcap.specs.Arguments.{words_after};
+ghost use Rattle.ipcap.specs.Options.{app_with, expression, flag, flags, limit, numbers};
+ghost use Rattle.ipcap.specs.Options.{option_with_value, options};
 ghost use Rattle.ipcap.specs.Program.{HasNoMatches, IsCommandLine};
 
 use crate::request::{Mode, is_space};
@@ -45,9 +46,50 @@ pub struct Arguments<'a> {
     pub text: Text,
 }
 
-/// The expression has more than 4096 bytes.
+/// Two options that exclude each other.
 #[derive(Clone, Copy)]
-pub struct TooLong;
+pub enum Exclusion {
+    /// `--count` and `-w`.
+    CountAndWrite,
+    /// `--quiet` and `--count`.
+    QuietAndCount,
+    /// `--quiet` and `-w`.
+    QuietAndWrite,
+    /// `--reassemble` and `-w`.
+    ReassembleAndWrite,
+}
+
+/// Why a command line gives no arguments.
+#[derive(Clone, Copy)]
+pub enum ArgumentsError {
+    /// Two options exclude each other.
+    Excluded(Exclusion),
+    /// The expression has more than 4096 bytes.
+    TooLong,
+}
+
+impl ArgumentsError {
+    /// What is said of it.
+    pub fn text(self) -> &'static str
+        ensures value { result.now ≡ arguments_error_text self }
+    {
+        match self {
+            ArgumentsError::Excluded(Exclusion::CountAndWrite) => "--count cannot be used with -w",
+            ArgumentsError::Excluded(Exclusion::QuietAndCount) => {
+                "--quiet cannot be used with --count"
+            }
+            ArgumentsError::Excluded(Exclusion::QuietAndWrite) => "--quiet cannot be used with -w",
+            ArgumentsError::Excluded(Exclusion::ReassembleAndWrite) => {
+                "--reassemble cannot be used with -w"
+            }
+            ArgumentsError::TooLong => "the expression has more than 4096 bytes",
+        }
+    }
+}
+
+// A text has more than 4096 bytes.
+#[derive(Clone, Copy)]
+struct NoRoom;
 
 // What follows the options in the text of `--help`.
 const AFTER_HELP: &str = "\
@@ -82,7 +124,6 @@ read or a write failed.";
 /// An `AllocError` if there is no memory for them.
 pub fn command<'a>(alloc: Global) -> Result<Command<'a>, AllocError>
     ensures options { IfOk result (λ command. app_of command ≡ app_with options) }
-    ensures exclude { IfOk result (λ command. exclusions_of command ≡ exclusions) }
 {
     let command = Command::new(alloc, "ipcap")
         .version("0.1.0")
@@ -129,49 +170,25 @@ pub fn read_words<'a>(
 fn with_flags<'a>(alloc: Global, command: Command<'a>) -> Result<Command<'a>, AllocError>
     ensures options { IfOk result (λ after. (rules : List Rule) →
         app_of command.entry ≡ app_with rules → app_of after ≡ app_with (rules ++ flags)) }
-    ensures exclude { IfOk result (λ after.
-        exclusions_of after ≡ exclusions_of command.entry ++ exclusions_of_flags) }
 {
-    let command = with_flag(
-        alloc,
-        command,
-        "count",
-        "Print how many packets match, and nothing else",
-        &["write"],
-    )?;
-    let command = with_flag(
-        alloc,
-        command,
-        "quiet",
-        "Print the closing line alone, to standard output",
-        &["count", "write"],
-    )?;
-    let command = command.arg(numbers(alloc))?;
-    let command = with_flag(alloc, command, "utc", "Print times as dates in UTC", &[])?;
-    with_flag(
-        alloc,
-        command,
-        "reassemble",
-        "Put packets together of their fragments",
-        &["write"],
-    )
-}
-
-// A command with one of them, too, which excludes others.
-fn with_flag<'a>(
-    alloc: Global,
-    command: Command<'a>,
-    name: &'a str,
-    help: &'a str,
-    others: &[&'a str],
-) -> Result<Command<'a>, AllocError>
-    ensures option { IfOk result (λ after. (rules : List Rule) → app_of command.entry ≡ app_with rules
-        → app_of after ≡ app_with (rules
-        ++ record (flag name.now) { is_free = length others.now == 0 } ∷ [])) }
-    ensures excludes { IfOk result (λ after.
-        exclusions_of after ≡ exclusions_of command.entry ++ texts_of others.now ∷ []) }
-{
-    command.arg(flag(alloc, name, help).conflicts_with_all(others)?)
+    command
+        .arg(flag(
+            alloc,
+            "count",
+            "Print how many packets match, and nothing else",
+        ))?
+        .arg(flag(
+            alloc,
+            "quiet",
+            "Print the closing line alone, to standard output",
+        ))?
+        .arg(numbers(alloc))?
+        .arg(flag(alloc, "utc", "Print times as dates in UTC"))?
+        .arg(flag(
+            alloc,
+            "reassemble",
+            "Put packets together of their fragments",
+        ))
 }
 
 // An option with a value, by its letter.
@@ -183,7 +200,6 @@ fn with_value<'a>(
     help: &'a str,
 ) -> Arg<'a>
     ensures rule { rule_of result ≡ option_with_value id.now letter }
-    ensures alone { result.conflicts.items ≡ [] }
 {
     Arg::new(alloc, id)
         .short(letter)
@@ -194,7 +210,6 @@ fn with_value<'a>(
 // The option `-c`.
 fn limit<'a>(alloc: Global) -> Arg<'a>
     ensures rule { rule_of result ≡ limit }
-    ensures alone { result.conflicts.items ≡ [] }
 {
     let help = "Stop after N packets that are listed";
     with_value(alloc, "limit", 'c', "N", help).value_parser(value_parser!(u64).range(1..))
@@ -203,7 +218,6 @@ fn limit<'a>(alloc: Global) -> Arg<'a>
 // The option `-n`.
 fn numbers<'a>(alloc: Global) -> Arg<'a>
     ensures rule { rule_of result ≡ numbers }
-    ensures alone { result.conflicts.items ≡ [] }
 {
     Arg::new(alloc, "numbers")
         .short('n')
@@ -214,7 +228,6 @@ fn numbers<'a>(alloc: Global) -> Arg<'a>
 // The words of an expression.
 fn expression<'a>(alloc: Global) -> Arg<'a>
     ensures rule { rule_of result ≡ expression }
-    ensures alone { result.conflicts.items ≡ [] }
 {
     Arg::new(alloc, "EXPRESSION")
         .action(ArgAction::Append)
@@ -224,7 +237,6 @@ fn expression<'a>(alloc: Global) -> Arg<'a>
 // An option without a value, by its long name.
 fn flag<'a>(alloc: Global, name: &'a str, help: &'a str) -> Arg<'a>
     ensures rule { rule_of result ≡ flag name.now }
-    ensures alone { (result.conflicts.items ≡ []) × (result.exclusive ≡ false) }
 {
     Arg::new(alloc, name)
         .long(name)
@@ -237,34 +249,35 @@ impl<'a> Arguments<'a> {
     ///
     /// # Errors
     ///
-    /// `TooLong` if the expression has more than 4096 bytes.
-    pub fn from_matches(matches: &ArgMatches<'a>) -> Result<Arguments<'a>, TooLong>
+    /// `Excluded` if two of the options that are given exclude each other, with the first such
+    /// pair in the order of [`Exclusion`]; otherwise `TooLong` if the expression has more than
+    /// 4096 bytes.
+    pub fn from_matches(matches: &ArgMatches<'a>) -> Result<Arguments<'a>, ArgumentsError>
+        ensures apart { IfOk result (λ _. exclusion_of matches.now ≡ None) }
         ensures mode { IfOk result (λ a. IsModeOf matches.now a.mode) }
-        ensures utc { IfOk result (λ a. IsFlag matches.now (codes "utc") a.is_utc) }
+        ensures utc { IfOk result (λ a. a.is_utc ≡ is_given matches.now (codes "utc")) }
         ensures reassembles { IfOk result (λ a.
-            IsFlag matches.now (codes "reassemble") a.reassembles) }
+            a.reassembles ≡ is_given matches.now (codes "reassemble")) }
         ensures limit { IfOk result (λ a.
             IsLimit (one_text (found_of matches.now) (codes "limit")) a.limit) }
         ensures output { IfOk result (λ a.
             text_of a.output ≡ first_value (found_of matches.now) (codes "write")) }
         ensures input { IfOk result (λ a. ReadsWords matches.now (text_of a.input) a.text.items) }
-        ensures long { OnErr result (HasLongText matches.now) }
+        ensures refused { IfErr result (RefusesMatches matches.now) }
     {
+        if let Some(pair) = exclusion_of(matches) {
+            return Err(ArgumentsError::Excluded(pair));
+        }
         let (input, first) = file_or_word(matches.get_str("read"), matches.get_str("FILE"));
-        let mut text = Text::new();
-        let has_begun = match first {
-            Some(word) => join(&mut text, false, word.as_bytes())?,
-            None => false,
+        let others = matches.get_strs("EXPRESSION").unwrap_or(&[]);
+        let text = match expression_text(first, others) {
+            Ok(text) => text,
+            Err(_) => return Err(ArgumentsError::TooLong),
         };
-        join_all(
-            &mut text,
-            has_begun,
-            matches.get_strs("EXPRESSION").unwrap_or(&[]),
-        )?;
         Ok(Arguments {
             mode: mode_of(matches),
-            is_utc: matches.get_flag("utc"),
-            reassembles: matches.get_flag("reassemble"),
+            is_utc: is_given(matches, "utc"),
+            reassembles: is_given(matches, "reassemble"),
             limit: matches.get_one::<u64>("limit"),
             input,
             output: matches.get_str("write"),
@@ -273,15 +286,43 @@ impl<'a> Arguments<'a> {
     }
 }
 
+// Whether an option without a value is given.
+fn is_given(matches: &ArgMatches, id: &str) -> bool
+    ensures value { result ≡ is_given matches.now id.now }
+{
+    matches.get_one::<bool>(id).unwrap_or(false)
+}
+
+// The first two options that are given and exclude each other.
+fn exclusion_of(matches: &ArgMatches) -> Option<Exclusion>
+    ensures value { result ≡ exclusion_of matches.now }
+{
+    let writes = matches.contains_id("write");
+    let counts = is_given(matches, "count");
+    let is_quiet = is_given(matches, "quiet");
+    if counts && writes {
+        Some(Exclusion::CountAndWrite)
+    } else if is_quiet && counts {
+        Some(Exclusion::QuietAndCount)
+    } else if is_quiet && writes {
+        Some(Exclusion::QuietAndWrite)
+    } else if is_given(matches, "reassemble") && writes {
+        Some(Exclusion::ReassembleAndWrite)
+    } else {
+        None
+    }
+}
+
 // What is written of the records that are listed.
 fn mode_of(matches: &ArgMatches) -> Mode
+    requires apart { exclusion_of matches.now ≡ None }
     ensures mode { IsModeOf matches.now result }
 {
     if matches.contains_id("write") {
         Mode::Packets
-    } else if matches.get_flag("count") {
+    } else if is_given(matches, "count") {
         Mode::Count
-    } else if matches.get_flag("quiet") {
+    } else if is_given(matches, "quiet") {
         Mode::Quiet
     } else {
         Mode::Lines
@@ -319,8 +360,24 @@ fn names_file(word: &[u8]) -> bool
     }
 }
 
+// The text of an expression, by its words.
+fn expression_text(first: Option<&str>, others: &[&str]) -> Result<Text, NoRoom>
+    ensures joins { IfOk result (λ text. text.items
+        ≡ words_after false (cons_option (text_of first.entry) (texts_of others.now))) }
+    ensures long { OnErr result (TEXT_ROOM < length
+        (words_after false (cons_option (text_of first.entry) (texts_of others.now)))) }
+{
+    let mut text = Text::new();
+    let has_begun = match first {
+        Some(word) => join(&mut text, false, word.as_bytes())?,
+        None => false,
+    };
+    join_all(&mut text, has_begun, others)?;
+    Ok(text)
+}
+
 // Adds words to a text, after a blank each, but for the first one if no word stands before it.
-fn join_all(text: &mut Text, has_begun: bool, words: &[&str]) -> Result<(), TooLong>
+fn join_all(text: &mut Text, has_begun: bool, words: &[&str]) -> Result<(), NoRoom>
     ensures joins { OnOk result (text.new.items
         ≡ text.old.items ++ words_after has_begun (texts_of words.now)) }
     ensures long { OnErr result (TEXT_ROOM < length (text.old.items
@@ -334,14 +391,14 @@ fn join_all(text: &mut Text, has_begun: bool, words: &[&str]) -> Result<(), TooL
 }
 
 // Adds a word to a text, after a blank unless it is the first; whether there is room for it.
-fn join(text: &mut Text, has_begun: bool, word: &[u8]) -> Result<bool, TooLong>
+fn join(text: &mut Text, has_begun: bool, word: &[u8]) -> Result<bool, NoRoom>
     ensures joins { OnOk result (text.new.items ≡ joined has_begun text.old.items word.now) }
     ensures fits { IsOk result ↔ (length (joined has_begun text.old.items word.now) ≤ TEXT_ROOM) }
     ensures begins { IfOk result (λ begun. begun ≡ true) }
 {
     let blanks = if has_begun { 1 } else { 0 };
     if text.remaining_capacity() < blanks + word.len() {
-        return Err(TooLong);
+        return Err(NoRoom);
     }
     if has_begun {
         text.push(b' ');

@@ -5,7 +5,8 @@ ghost use Rattle.std.specs.Fmt.{DisplaysOnOk};
 ghost use Rattle.ipcap.specs.Lines.{detail_text, parties_text, payload_text, place_text};
 ghost use Rattle.ipcap.specs.Lines.{byte_text, capture_error_line, carried_text, closing_line};
 ghost use Rattle.ipcap.specs.Lines.{closing_text, count_text};
-ghost use Rattle.ipcap.specs.Lines.{cut_text, link_type_name, magic_text, name_text, packed_as};
+ghost use Rattle.ipcap.specs.Lines.{cut_text, link_type_name, magic_text, name_text};
+ghost use Rattle.ipcap.specs.Lines.{other_format_named};
 ghost use Rattle.ipcap.specs.Lines.{packets_line, report_text};
 ghost use Rattle.ipcap.specs.Lines.{damage_text, datagrams_text};
 ghost use Rattle.ipcap.specs.Ends.{end_text};
@@ -26,6 +27,7 @@ use crate::totals::Totals;
 use frame_reassembly::datagrams::Datagrams;
 use packet_capture::any::{PacketHead, Time};
 use packet_capture::capture::CaptureError;
+use packet_capture::file_format::{FileFormat, format_named};
 use packet_links::header::Carried;
 use packet_parts::fragment::Fragment;
 use std::fmt;
@@ -574,36 +576,36 @@ impl fmt::Display for NoCaptureLine {
 struct Magic(u32);
 
 impl fmt::Display for Magic {
-    ghost output = { λ magic. Some (magic_text (packed_as magic.0) magic.0) };
+    ghost output = { λ magic. Some (magic_text (other_format_named magic.0) magic.0) };
 
     #[tactic(auto, using(crate::proofs::Written::padded_with_zeros))]
     fn fmt<W: fmt::Write>(&self, f: &mut Formatter<W>) -> fmt::Result {
         let magic = self.0;
-        match packed_as(magic) {
-            Some(packed) => write!(f, "this is {packed}"),
+        match other_format_named(magic) {
+            Some(other) => write!(f, "this is {other}"),
             None => write!(f, "the magic number is 0x{magic:08x}"),
         }
     }
 }
 
-// Another format that files begin with this magic number in, and the command that unpacks it.
-#[tactic(auto, unfolding(crate::specs::Lines::packed_as))]
-fn packed_as(magic: u32) -> Option<&'static str>
-    ensures value { MatchOption result (packed_as magic ≡ None)
-        (λ packed. packed_as magic ≡ Some packed.now) }
+// The format of a file that begins with this magic number, if it is known and not read, and the
+// command that makes a capture of the file.
+fn other_format_named(magic: u32) -> Option<&'static str>
+    ensures value { MatchOption result (other_format_named magic ≡ None)
+        (λ other. other_format_named magic ≡ Some other.now) }
 {
-    let packed = if magic / 65_536 == 0x1f8b {
-        "gzip: zcat FILE | ipcap"
-    } else if magic == 0x28b5_2ffd {
-        "zstd: zstdcat FILE | ipcap"
-    } else if magic == 0xfd37_7a58 {
-        "xz: xzcat FILE | ipcap"
-    } else if magic / 256 == 0x42_5a68 {
-        "bzip2: bzcat FILE | ipcap"
-    } else {
-        return None;
+    let other = match format_named(magic)? {
+        FileFormat::ModifiedPcap => "a modified pcap: tcpdump -r FILE -w - | ipcap",
+        FileFormat::Snoop => "snoop: tshark -r FILE -w - | ipcap",
+        FileFormat::Gzip => "gzip: zcat FILE | ipcap",
+        FileFormat::Zstandard => "zstd: zstdcat FILE | ipcap",
+        FileFormat::Xz => "xz: xzcat FILE | ipcap",
+        FileFormat::Bzip2 => "bzip2: bzcat FILE | ipcap",
+        FileFormat::Lz4 => "lz4: lz4cat FILE | ipcap",
+        FileFormat::Zip => "zip: unzip -p FILE | ipcap",
+        FileFormat::Pcap | FileFormat::Pcapng => return None,
     };
-    Some(packed)
+    Some(other)
 }
 
 /// The line on a capture with a link type that is not read.

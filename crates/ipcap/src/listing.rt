@@ -22,7 +22,7 @@ use crate::lines::RecordLine;
 use crate::memory::Reassembly;
 use crate::output::Output;
 use crate::place::{End, Place};
-use crate::reading::{Reading, is_cut, max_len, read_numbered};
+use crate::reading::{Reading, left_out, max_len, read_numbered};
 use crate::request::{Mode, Request};
 use crate::streams::{Sink, Source};
 use crate::totals::Totals;
@@ -171,7 +171,7 @@ impl Request {
         ensures failed { IfErr result (λ e. Because ⊥ (W.has_failed output.new.sink)
             (¬ HasRoom totals.old) e ⊥ [] []) }
     {
-        let reading = read_numbered(head.link_type, is_cut(head), frame);
+        let reading = read_numbered(head.link_type, left_out(head), frame);
         self.list_packet(totals, is_reassembled, head, bytes, reading, output)
     }
 
@@ -204,7 +204,7 @@ impl Request {
         if let Mode::Lines = self.mode {
             return self.list_line(totals, is_reassembled, head, bytes, frame, output);
         }
-        let reading = read_numbered(head.link_type, is_cut(head), frame);
+        let reading = read_numbered(head.link_type, left_out(head), frame);
         if !totals.count(bytes.len(), head, &reading) {
             return Err(Failure::Count);
         }

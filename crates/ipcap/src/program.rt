@@ -75,8 +75,8 @@ pub fn obey<S: System, E: Sink>(
     };
     match Arguments::from_matches(&matches) {
         Ok(arguments) => Ok(answer(system, alloc, &arguments, errors)),
-        Err(_) => {
-            errors.say(b"the expression has more than 4096 bytes", None);
+        Err(e) => {
+            errors.say(e.text().as_bytes(), None);
             Ok(unopened(REFUSED))
         }
     }

@@ -2,7 +2,8 @@
 
 ghost use Rattle.std.specs.Prelude.{◌≡◌, ◌↔◌, IsTrue, MatchOption};
 ghost use Rattle.ipcap.specs.Shown.{IsShownAt};
-ghost use Rattle.ipcap.specs.Reading.{ReadsFrame, ReadsNumbered, ReadsPacket, is_cut, max_len};
+ghost use Rattle.ipcap.specs.Reading.{ReadsFrame, ReadsNumbered, ReadsPacket, is_cut, left_out};
+ghost use Rattle.ipcap.specs.Reading.{max_len};
 
 use crate::shown::{Shown, has_no_length, shown_of};
 use packet::link::{LinkSlice, LinkType};
@@ -51,6 +52,13 @@ pub fn is_cut(head: &PacketHead) -> bool
     head.captured_len < head.original_len
 }
 
+/// How many bytes fewer.
+pub fn left_out(head: &PacketHead) -> usize
+    ensures value { result ≡ left_out head.now }
+{
+    head.original_len.saturating_sub(head.captured_len) as usize
+}
+
 /// The most bytes of a block that are read: a record with 262,144 captured bytes, and in pcapng
 /// 65,536 bytes of fields and options beside as many.
 pub fn max_len(capture: &Capture) -> usize
@@ -65,20 +73,20 @@ pub fn max_len(capture: &Capture) -> usize
 /// The same as [`read_frame`] of the link type with a number. Of one that is not read, a frame
 /// carries nothing that is.
 #[inline(always)] // A caller that only counts makes no more of it than it needs.
-pub fn read_numbered(number: u16, is_cut: bool, frame: &[u8]) -> Reading
-    ensures reads { ReadsNumbered number is_cut frame.now result }
+pub fn read_numbered(number: u16, left_out: usize, frame: &[u8]) -> Reading
+    ensures reads { ReadsNumbered number left_out frame.now result }
 {
     match LinkType::from_number(u32::from(number)) {
-        Some(link_type) => read_frame(link_type, is_cut, frame),
+        Some(link_type) => read_frame(link_type, left_out, frame),
         None => Reading::Other(NoPacket::OtherLinkType(number)),
     }
 }
 
-/// What a frame of a link type is found to carry. If the capture cut the frame, its packet can be
-/// shorter than its length field says.
+/// What a frame of a link type is found to carry, of which the capture left this many bytes out: its
+/// packet can lack as many of those that its length field says.
 #[inline(always)] // Likewise.
-pub fn read_frame(link_type: LinkType, is_cut: bool, frame: &[u8]) -> Reading
-    ensures reads { ReadsFrame link_type is_cut frame.now result }
+pub fn read_frame(link_type: LinkType, left_out: usize, frame: &[u8]) -> Reading
+    ensures reads { ReadsFrame link_type left_out frame.now result }
 {
     let layers = match LinkLayers::from_link_type(link_type, frame) {
         Ok(layers) => layers,
@@ -88,7 +96,7 @@ pub fn read_frame(link_type: LinkType, is_cut: bool, frame: &[u8]) -> Reading
         return Reading::Other(NoPacket::NoLinkHeader(frame.len()));
     }
     if layers.carries_ip() {
-        return read_packet(is_cut, layers.payload);
+        return read_packet(left_out, layers.payload);
     }
     match (layers.ether_type, layers.link) {
         (Some(ether_type), _) => Reading::Other(NoPacket::OtherType(ether_type.0)),
@@ -110,12 +118,12 @@ pub fn read_frame(link_type: LinkType, is_cut: bool, frame: &[u8]) -> Reading
 
 // What is shown of a packet, or why it is refused.
 #[inline(always)] // Likewise.
-fn read_packet(is_cut: bool, packet: &[u8]) -> Reading
-    ensures reads { ReadsPacket is_cut packet.now result }
+fn read_packet(left_out: usize, packet: &[u8]) -> Reading
+    ensures reads { ReadsPacket left_out packet.now result }
 {
     match LaxIpSlice::from_slice(packet) {
         Ok(lax) => {
-            if is_shown(is_cut, &lax) {
+            if is_shown(left_out, &lax) {
                 return Reading::Packet(shown_of(lax));
             }
             match lax.stop {
@@ -127,14 +135,16 @@ fn read_packet(is_cut: bool, packet: &[u8]) -> Reading
     }
 }
 
-// Whether a packet is shown: it is whole; or it is shorter than its length field says in a record
-// that the capture cut; or its total length is 0.
-fn is_shown(is_cut: bool, lax: &LaxIpSlice) -> bool
-    ensures value { IsTrue result ↔ MatchOption lax.now.stop (Unit {0}) (IsShownAt is_cut lax.now) }
+// Whether a packet is shown: it is whole; or its length field asks for no more bytes than there were
+// before the capture left some out; or its total length is 0.
+fn is_shown(left_out: usize, lax: &LaxIpSlice) -> bool
+    ensures value { IsTrue result ↔ MatchOption lax.now.stop (Unit {0}) (IsShownAt left_out lax.now) }
 {
     match &lax.stop {
         None => true,
-        Some(IpSliceError::Packet(_)) => is_cut || has_no_length(&lax.slice),
+        Some(IpSliceError::Packet(e)) => {
+            e.required_len.saturating_sub(e.len) <= left_out || has_no_length(&lax.slice)
+        }
         Some(_) => false,
     }
 }

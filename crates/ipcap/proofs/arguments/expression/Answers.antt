@@ -5,7 +5,6 @@ use Rattle.clap.specs.Words.{Rule, rule_of}
 use Rattle.clap.specs.declared.builder.action.ArgAction.TheVariants.{Append}
 use Rattle.clap.specs.declared.builder.arg.Arg.{Arg}
 use Rattle.clap.specs.declared.builder.range.ValueRange.{ValueRange}
-use Rattle.ipcap.proofs.Options.{excluded}
 use Rattle.ipcap.proofs.arguments.expression.Goals as goal
 
 some_such : {X : Type 0} (o : Option X) (x : X) → IsSomeAnd o (λ y. y ≡ x) → o ≡ Some x
@@ -20,5 +19,4 @@ returns c =
       rule = ap rule_of c.num_args.ensures.0 ∙ (ap (λ (n : Option ValueRange). rule_of (record c.action.result { num_vals = n })) many
           ∙ (ap (λ (a : Arg). rule_of (record a { num_vals = Some any })) c.action.ensures
           ∙ ap (λ (r : Rule). record r { action = Some Append; range = Some any }) c.new.ensures.rule));
-      alone = ap excluded c.num_args.ensures.0 ∙ (ap excluded c.action.ensures ∙ c.new.ensures.plain.1);
     }

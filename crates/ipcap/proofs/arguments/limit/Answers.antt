@@ -2,7 +2,6 @@ use Rattle.std.proofs.Common.{◌≡◌, ◌∙◌, ap, ap₂, Option, Some}
 use Rattle.clap.specs.Words.{Rule, rule_of}
 use Rattle.clap.specs.declared.builder.value_parser.ValueParser.{ValueParser}
 use Rattle.clap.specs.declared.builder.value_parser.ValueParser.TheVariants.{Unsigned}
-use Rattle.ipcap.proofs.Options.{excluded}
 use Rattle.ipcap.proofs.arguments.limit.Goals as goal
 
 pub returns : goal.returns
@@ -12,5 +11,4 @@ returns c =
     record {
       rule = ap rule_of c.value_parser-2.ensures.others
           ∙ ap₂ (λ (r : Rule) (p : Option ValueParser). record r { parser = p }) c.with_value.ensures.rule (given.1 ∙ ap Some (given.2 ∙ made));
-      alone = ap excluded c.value_parser-2.ensures.others ∙ c.with_value.ensures.alone;
     }

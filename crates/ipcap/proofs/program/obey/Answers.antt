@@ -24,7 +24,7 @@ returns-in-Ok-from_matches-clause-obeys g c =
       matches = c.in-Ok.matches;
       read = rw (c.in_ok-matches.was, c.in-Ok.is) at c.read.ensures.reads;
       is = rw c.in-Ok.is at c.in_ok-matches.ensures.matches;
-      answers = inr (c.in-Ok-from_matches.arguments, record { mode = said.mode; utc = said.utc; reassembles = said.reassembles; limit = said.limit; output = said.output; input = said.input }, c.answer.ensures.answers);
+      answers = inr (c.in-Ok-from_matches.arguments, record { apart = said.apart; mode = said.mode; utc = said.utc; reassembles = said.reassembles; limit = said.limit; output = said.output; input = said.input }, c.answer.ensures.answers);
     })
 
 pub returns-clause-obeys : goal.returns-clause-obeys
@@ -32,5 +32,5 @@ returns-clause-obeys g c = inr (record {
   matches = c.in-Ok.matches;
   read = rw (c.in_ok-matches.was, c.in-Ok.is) at c.read.ensures.reads;
   is = rw c.in-Ok.is at c.in_ok-matches.ensures.matches;
-  answers = inl (record { long = c.in-Err-from_matches.ensures.long; said = c.say.ensures.says; ends = c.unopened-in-Err-from_matches.ensures.value; asks = c.requires.first });
+  answers = inl (record { error = c.in-Err-from_matches.e; refused = c.in-Err-from_matches.ensures.refused; said = rw (c.as_bytes.ensures.value, c.text.ensures.value) at c.say.ensures.says; ends = c.unopened-in-Err-from_matches.ensures.value; asks = c.requires.first });
 })

@@ -11,6 +11,6 @@ returns-in-Some c =
         lax = c.in-Ok.lax;
         parts = c.in-Ok.ensures.found;
         stop = stops;
-        why = λ shown. not_from_Decides _ c.is_shown.ensures.value c.if-is_shown.false (subst (λ s. MatchOption s (Unit {0}) (IsShownAt c.args.is_cut c.in-Ok.lax)) (sym stops) shown);
+        why = λ shown. not_from_Decides _ c.is_shown.ensures.value c.if-is_shown.false (subst (λ s. MatchOption s (Unit {0}) (IsShownAt c.args.left_out c.in-Ok.lax)) (sym stops) shown);
       });
     }

@@ -23,4 +23,4 @@ returns-then-pass-clause-told g c = record { found = None; reads = rw c.if-not-i
 pub returns-clause-told : goal.returns-clause-told
 returns-clause-told g c =
     let mode = without_lines c.args.self.now.mode c.args.self.now.is_utc c.args.totals.now c.args.is_reassembled c.args.head.now c.args.bytes.now c.read_numbered-reading.result c.in_default.not-Lines in
-    on_ok c.copy_if.result (λ p. record { found = Some c.read_numbered-reading.result; reads = (rw c.if-not-is_chosen.false at c.is_chosen.ensures.value, rw c.is_cut.ensures.value at c.read_numbered-reading.ensures.reads); tells = record { counts = c.count.ensures.counted c.if-not-count.false false c.args.is_reassembled; prints = rw mode (rw c.copies.ensures.value at p) } }) c.copy_if.ensures.prints
+    on_ok c.copy_if.result (λ p. record { found = Some c.read_numbered-reading.result; reads = (rw c.if-not-is_chosen.false at c.is_chosen.ensures.value, rw c.left_out.ensures.value at c.read_numbered-reading.ensures.reads); tells = record { counts = c.count.ensures.counted c.if-not-count.false false c.args.is_reassembled; prints = rw mode (rw c.copies.ensures.value at p) } }) c.copy_if.ensures.prints
