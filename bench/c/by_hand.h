@@ -40,7 +40,7 @@ static inline __attribute__((always_inline)) void BY_HAND(const uint8_t *frame, 
   uint8_t upper;
   bool is_ipv4;
   if (there == 0) {
-    packet->stop = (STOP){ .kind = ETHERPARSE_LEN, .layer = ETHERPARSE_IP_HEADER, .required_len = 1 };
+    packet->stop = (STOP){ .kind = ETHERPARSE_LEN, .layer = ETHERPARSE_IP_HEADER, .required_len = 1, .layer_start_offset = at };
     return;
   }
   if (ip[0] >> 4 == 4) {
@@ -61,7 +61,7 @@ static inline __attribute__((always_inline)) void BY_HAND(const uint8_t *frame, 
     body = at + header_len;
     end = at + total_len;
     if (total_len < header_len) {
-      packet->stop = (STOP){ ETHERPARSE_LEN, 0, ETHERPARSE_IPV4_PACKET, header_len, total_len, at, 0 };
+      packet->stop = (STOP){ ETHERPARSE_LEN, ETHERPARSE_FROM_IPV4_TOTAL_LEN, ETHERPARSE_IPV4_PACKET, header_len, total_len, at, 0 };
       if (total_len != 0) return;
       end = len;
     } else if (there < total_len) {
@@ -105,7 +105,7 @@ static inline __attribute__((always_inline)) void BY_HAND(const uint8_t *frame, 
       }
       if (left < header_len) {
         if (packet->stop.kind == ETHERPARSE_OK) {
-          packet->stop = (STOP){ ETHERPARSE_LEN, 0, ETHERPARSE_IPV6_EXT_HEADER, header_len, left, body, 0 };
+          packet->stop = (STOP){ ETHERPARSE_LEN, ETHERPARSE_FROM_IPV6_PAYLOAD_LENGTH, ETHERPARSE_IPV6_EXT_HEADER, header_len, left, body, 0 };
         }
         break;
       }
@@ -138,6 +138,7 @@ static inline __attribute__((always_inline)) void BY_HAND(const uint8_t *frame, 
 
   /* The transport header. One that a fragment cuts is no fault, and the first reason to stop counts. */
   if (packet->ip.is_later_fragment) return;
+  uint16_t source = is_ipv4 ? ETHERPARSE_FROM_IPV4_TOTAL_LEN : ETHERPARSE_FROM_IPV6_PAYLOAD_LENGTH;
   STOP stop = { 0 };
   size_t header_len;
   if (upper == IPPROTO_TCP) {
@@ -148,7 +149,7 @@ static inline __attribute__((always_inline)) void BY_HAND(const uint8_t *frame, 
       packet->transport.destination_port = ntohs(tcp->dest);
     }
     if (left < sizeof *tcp) {
-      stop = (STOP){ ETHERPARSE_LEN, 0, ETHERPARSE_TCP_HEADER, sizeof *tcp, left, body, 0 };
+      stop = (STOP){ ETHERPARSE_LEN, source, ETHERPARSE_TCP_HEADER, sizeof *tcp, left, body, 0 };
       goto cut_transport;
     }
     header_len = 4u * tcp->doff;
@@ -157,7 +158,7 @@ static inline __attribute__((always_inline)) void BY_HAND(const uint8_t *frame, 
       goto cut_transport;
     }
     if (left < header_len) {
-      stop = (STOP){ ETHERPARSE_LEN, 0, ETHERPARSE_TCP_HEADER, header_len, left, body, 0 };
+      stop = (STOP){ ETHERPARSE_LEN, source, ETHERPARSE_TCP_HEADER, header_len, left, body, 0 };
       goto cut_transport;
     }
     packet->transport.tcp_flags = tcp->th_flags;
@@ -170,13 +171,13 @@ static inline __attribute__((always_inline)) void BY_HAND(const uint8_t *frame, 
       packet->transport.destination_port = ntohs(udp->dest);
     }
     if (left < header_len) {
-      stop = (STOP){ ETHERPARSE_LEN, 0, ETHERPARSE_UDP_HEADER, header_len, left, body, 0 };
+      stop = (STOP){ ETHERPARSE_LEN, source, ETHERPARSE_UDP_HEADER, header_len, left, body, 0 };
       goto cut_transport;
     }
   } else if (upper == (is_ipv4 ? IPPROTO_ICMP : IPPROTO_ICMPV6)) {
     header_len = 4;
     if (left < header_len) {
-      stop = (STOP){ ETHERPARSE_LEN, 0, is_ipv4 ? ETHERPARSE_ICMPV4 : ETHERPARSE_ICMPV6, header_len, left, body, 0 };
+      stop = (STOP){ ETHERPARSE_LEN, source, is_ipv4 ? ETHERPARSE_ICMPV4 : ETHERPARSE_ICMPV6, header_len, left, body, 0 };
       goto cut_transport;
     }
     packet->transport.icmp_type = frame[body];

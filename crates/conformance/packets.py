@@ -156,7 +156,8 @@ def read_packet(packet):
     """the parts of a packet, cut at its length field; in a refusal, which part is missing"""
     version = packet[0] // 16 if packet else None
     if version not in (4, 6):
-        raise Refused('err empty' if version is None else f'err version number={version}')
+        raise Refused(f"empty={too_short(1, packet, 'IpHeader')}" if version is None
+                      else f'err version number={version}')
     try:
         parts = read_header4(packet) if version == 4 else read_header6(packet)
     except Refused as error:
@@ -175,7 +176,8 @@ def read_packet(packet):
     try:
         chain, upper, place = read_extensions(parts['body'], parts['next_header'])
     except Refused as error:
-        raise Refused(f'extensions={error}')
+        ended = str(error).replace('source=Slice', 'source=Ipv6HeaderPayloadLen')
+        raise Refused(f'extensions={ended}')
     part = find_fragment_header(parts['body'], parts['next_header'], past_atomic=True)
     return dict(parts, upper=upper, payload=parts['body'][place:], place=40 + place, chain=chain,
                 extensions=parts['body'][:place], is_fragment=bool(part))

@@ -49,6 +49,9 @@ constants! {
         TCP_HEADER = 11, ICMPV4 = 12, ICMPV6 = 13,
     ;
     u16:
+        FROM_SLICE = 0, FROM_IPV4_TOTAL_LEN = 1, FROM_IPV6_PAYLOAD_LENGTH = 2,
+    ;
+    u16:
         IP_FRAGMENT_OFFSET = 1, IP_DSCP = 2, IP_ECN = 3, IPV6_FLOW_LABEL = 4,
         IPV4_PAYLOAD_LENGTH = 5, IPV6_PAYLOAD_LENGTH = 6,
     ;
@@ -64,7 +67,7 @@ constants! {
         LINKTYPE_LINUX_SLL = 113, LINKTYPE_LINUX_SLL2 = 276,
     ;
     usize:
-        ERROR_TEXT_SIZE = 301,
+        ERROR_TEXT_SIZE = 333,
     ;
 }
 

@@ -304,21 +304,24 @@ fn a_tcp_header() {
 fn refusals_have_their_texts() {
     let short = len_error(Layer::LinkHeader, 14, 9, 0);
     assert_eq!(LaxSlicedPacket::from_ethernet(&[0; 9]), Err(short.clone()));
-    let total_len = LenError {
-        len_source: LenSource::Ipv4HeaderTotalLen,
-        ..len_error(Layer::Ipv4Packet, 20, 19, 14)
-    };
+    let by = |len_source: LenSource, e: LenError| SliceError::Len(LenError { len_source, ..e });
+    let by_total_len = |e: LenError| by(LenSource::Ipv4HeaderTotalLen, e);
     let ipv4 = |total_len: &str, protocol: &str, payload: &str| {
         ethernet(&format!(
             "08004500{total_len}0000000040{protocol}00000a0000010a000002{payload}"
         ))
     };
-    let cases: [(Vec<u8>, SliceError, &str); 11] = [
+    let cases: [(Vec<u8>, SliceError, &str); 12] = [
         (vec![0; 9], short.into(), "Link Header Error: The header has 14 bytes, the frame 9."),
         (
             ethernet("81000005"),
             len_error(Layer::VlanHeader, 4, 2, 14).into(),
             "VLAN Header Error: Not enough data to decode 'VLAN header'. 4 byte(s) would be required, but only 2 byte(s) are available based on the slice length ('VLAN header' starts at overall parsed byte 14).",
+        ),
+        (
+            ethernet("0800"),
+            len_error(Layer::IpHeader, 1, 0, 14).into(),
+            "IP Header Error: Not enough data to decode 'IP header'. 1 byte(s) would be required, but only 0 byte(s) are available based on the slice length ('IP header' starts at overall parsed byte 14).",
         ),
         (
             ethernet("080055"),
@@ -332,7 +335,7 @@ fn refusals_have_their_texts() {
         ),
         (
             ipv4("0013", "11", "01"),
-            total_len.into(),
+            by_total_len(len_error(Layer::Ipv4Packet, 20, 19, 14)),
             "IPv4 Packet Error: Not enough data to decode 'IPv4 packet'. 20 byte(s) would be required, but only 19 byte(s) are available based on the length calculated from the IPv4 header 'total length' field ('IPv4 packet' starts at overall parsed byte 14).",
         ),
         (
@@ -342,13 +345,13 @@ fn refusals_have_their_texts() {
         ),
         (
             ipv4("001b", "11", "01020304050607"),
-            len_error(Layer::UdpHeader, 8, 7, 34).into(),
-            "UDP Header Error: Not enough data to decode 'UDP header'. 8 byte(s) would be required, but only 7 byte(s) are available based on the slice length ('UDP header' starts at overall parsed byte 34).",
+            by_total_len(len_error(Layer::UdpHeader, 8, 7, 34)),
+            "UDP Header Error: Not enough data to decode 'UDP header'. 8 byte(s) would be required, but only 7 byte(s) are available based on the length calculated from the IPv4 header 'total length' field ('UDP header' starts at overall parsed byte 34).",
         ),
         (
             ipv4("001a", "06", "112233440000"),
-            len_error(Layer::TcpHeader, 20, 6, 34).into(),
-            "TCP Header Error: Not enough data to decode 'TCP header'. 20 byte(s) would be required, but only 6 byte(s) are available based on the slice length ('TCP header' starts at overall parsed byte 34).",
+            by_total_len(len_error(Layer::TcpHeader, 20, 6, 34)),
+            "TCP Header Error: Not enough data to decode 'TCP header'. 20 byte(s) would be required, but only 6 byte(s) are available based on the length calculated from the IPv4 header 'total length' field ('TCP header' starts at overall parsed byte 34).",
         ),
         (
             ipv4("0028", "06", "0001000200000001000000024000000000000000"),
@@ -357,14 +360,17 @@ fn refusals_have_their_texts() {
         ),
         (
             ipv4("0017", "01", "080000"),
-            len_error(Layer::Icmpv4, 4, 3, 34).into(),
-            "ICMP Packet Error: Not enough data to decode 'ICMP packet'. 4 byte(s) would be required, but only 3 byte(s) are available based on the slice length ('ICMP packet' starts at overall parsed byte 34).",
+            by_total_len(len_error(Layer::Icmpv4, 4, 3, 34)),
+            "ICMP Packet Error: Not enough data to decode 'ICMP packet'. 4 byte(s) would be required, but only 3 byte(s) are available based on the length calculated from the IPv4 header 'total length' field ('ICMP packet' starts at overall parsed byte 34).",
         ),
         (
             ethernet("86dd6000000000083c400000000000000000000000000000000000000000000000000000000000000000\
                 1101000000000000"),
-            len_error(Layer::Ipv6ExtHeader, 16, 8, 54).into(),
-            "IPv6 Extension Header Error: Not enough data to decode 'IPv6 extension header'. 16 byte(s) would be required, but only 8 byte(s) are available based on the slice length ('IPv6 extension header' starts at overall parsed byte 54).",
+            by(
+                LenSource::Ipv6HeaderPayloadLen,
+                len_error(Layer::Ipv6ExtHeader, 16, 8, 54),
+            ),
+            "IPv6 Extension Header Error: Not enough data to decode 'IPv6 extension header'. 16 byte(s) would be required, but only 8 byte(s) are available based on the length calculated from the IPv6 header 'payload length' field ('IPv6 extension header' starts at overall parsed byte 54).",
         ),
     ];
     for (frame, error, text) in cases {

@@ -8,6 +8,7 @@ use Rattle.etherparse.specs.ExtensionHeaders.{IsSkippable}
 use Rattle.etherparse.specs.Ipv4Header.{IsFragment, IsIpv4Layout, ipv4_payload_len}
 use Rattle.etherparse.specs.Ipv6Header.{IsIpv6Layout}
 use Rattle.etherparse.specs.Reading.{BeginsWith, HasFront}
+use Rattle.etherparse.specs.declared.LenSource.{LenSource}
 use Rattle.etherparse.specs.declared.net.ipv4_header.Ipv4Header.{Ipv4Header}
 use Rattle.etherparse.specs.declared.net.ipv4_header_slice.Ipv4HeaderSlice.{Ipv4HeaderSlice}
 use Rattle.etherparse.specs.declared.net.ipv6_header_slice.Ipv6HeaderSlice.{Ipv6HeaderSlice}
@@ -87,9 +88,9 @@ ipv6_parts packet view f slice of_view extensions fragment later upper payload e
     }
 
 -- a header that is there stops nothing, whether in a fragment or not
-none_missing : (fragment : Option Fragment) (found : TransportSlice) → None ≡ missing_in fragment (Ok (transport_parts found))
-none_missing None found = refl
-none_missing (Some f) found = refl
+none_missing : (source : LenSource) (fragment : Option Fragment) (found : TransportSlice) → None ≡ missing_in source fragment (Ok (transport_parts found))
+none_missing source None found = refl
+none_missing source (Some f) found = refl
 
 -- what is read of a protocol, and the ports there
 some_read : {P : Type 0} (o : Option P) (Header Payload : P → Type 0) (Nothing : Type 0) → ((read : P) → Header read → Payload read) → MatchOption o ⊥ Header → MatchOption o Nothing Payload
@@ -182,7 +183,7 @@ module _ (place : ℕ) (packet : List ℕ) (slice : IpSlice) (ip_in_c : PacketIp
       ip_stop = None;
       parts = parts;
       missing = None;
-      reads = some_read (protocol_of slice) _ _ _ (λ read r. record { reading = Ok (transport_parts header.found); reads = r; finds = refl; misses = none_missing slice.fragment header.found }) reads;
+      reads = some_read (protocol_of slice) _ _ _ (λ read r. record { reading = Ok (transport_parts header.found); reads = r; finds = refl; misses = none_missing _ slice.fragment header.found }) reads;
       stops = refl;
     };
     ports = Some (number_at 0 slice.payload.now, number_at 2 slice.payload.now);

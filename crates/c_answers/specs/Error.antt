@@ -51,15 +51,18 @@ layer_in_c layer.Icmpv4 = 12
 layer_in_c layer.Icmpv6 = 13
 layer_in_c _ = 0
 
--- the source of the length in an error of one of these layers
-abbrev pub source_in_c : Layer → LenSource
-source_in_c layer.Ipv4Packet = source.Ipv4HeaderTotalLen
-source_in_c _ = source.Slice
+-- where the lengths in the errors of the calls come from, and 3 for all others
+abbrev pub source_in_c : LenSource → ℕ
+source_in_c source.Slice = 0
+source_in_c source.Ipv4HeaderTotalLen = 1
+source_in_c source.Ipv6HeaderPayloadLen = 2
+source_in_c _ = 3
 
--- the layer, the required length, the actual one, and the offset
+-- the layer, the required length, the actual one and where that comes from, and the offset
 abbrev pub len_error_in_c : LenError → Error
 len_error_in_c e = record no_error {
   kind = 1;
+  number = source_in_c e.len_source;
   layer = layer_in_c e.layer;
   required_len = e.required_len;
   len = e.len;
@@ -109,9 +112,9 @@ abbrev pub ip_packet_layer_in_c : LenSource → Layer → ℕ
 ip_packet_layer_in_c source.Slice layer.Ipv4Packet = 8
 ip_packet_layer_in_c source l = layer_in_c l
 
--- of an IP packet; one of no bytes requires one
+-- of an IP packet
 abbrev pub ip_error_in_c : IpSliceError → Error
-ip_error_in_c ip.Empty = record no_error { kind = 1; layer = 7; required_len = 1 }
+ip_error_in_c (ip.Empty e) = len_error_in_c e
 ip_error_in_c (ip.UnexpectedVersion version) =
     record no_error { kind = 2; number = version; layer = 7 }
 ip_error_in_c (ip.Ipv4Header e) = ipv4_error_in_c e

@@ -20,11 +20,11 @@ use Rattle.packet.specs.Link.{link_error_text}
 use Rattle.packet_parts.specs.IpSlice.{ip_slice_error_text}
 use Rattle.packet_parts.specs.declared.ip_slice.IpSliceError.TheVariants as ip
 
--- the length is too small, the layer has a number, and the source is that of lengths in this layer
+-- the length is too small, and its layer and its source have numbers
 pub record HasNumbers (e : LenError) : Type 0 where
   pub short : e.len < e.required_len
   pub layer : 0 < layer_in_c e.layer
-  pub source : e.len_source ≡ source_in_c e.layer
+  pub source : source_in_c e.len_source < 3
 
 -- an IPv4 packet has fewer bytes than its total length says: its length is that of the slice
 pub record IsShortIpv4Packet (e : LenError) : Type 0 where
@@ -37,11 +37,18 @@ abbrev pub link_type_error_text : ℕ → List ℕ
 link_type_error_text number =
     codes "Link Type Error: Frames of link type " ++ (decimal number ++ codes " are not read.")
 
--- The numbers are of no error: the kind, the layer or the value is none that an error has, or the
--- length is not too small.
+-- No length that is too small has these numbers. There is no such layer; or no such source, which a
+-- link header does not need; or the layer is that of an IPv4 packet that the slice ends within, and
+-- the source is another one.
+abbrev pub IsNoLength : Error → Type 0
+IsNoLength error =
+    (error.layer ≡ 0) ⊎ (13 < error.layer) ⊎ ((error.layer ≢ 5) × (2 < error.number))
+    ⊎ ((error.layer ≡ 8) × (error.number ≢ 0))
+
+-- The numbers are of no error: the kind, the layer, the source or the value is none that an error
+-- has, or the length is not too small.
 pub record IsNoError (error : Error) : Type 0 where
-  pub len : error.kind ≡ 1 → error.len < error.required_len
-      → (error.layer ≡ 0) ⊎ (13 < error.layer)
+  pub len : error.kind ≡ 1 → error.len < error.required_len → IsNoLength error
   pub version : error.kind ≡ 2 → (error.layer ≢ 1) × (error.layer ≢ 3) × (error.layer ≢ 7)
   pub ihl : error.kind ≢ 3
   pub too_many : error.kind ≢ 4
@@ -54,7 +61,7 @@ pub record IsNoError (error : Error) : Type 0 where
 -- gets the empty text.
 pub record GivesErrorText (error : Error) (before after : List ℕ) (count : ℕ) : Type 0 where
   pub len : (e : LenError) → HasNumbers e
-      → record error { number = 0; limit = 0 } ≡ len_error_in_c e
+      → record error { limit = 0 } ≡ len_error_in_c e
       → GivesText (len_error_text e) before after count
   pub ipv4_version : error.kind ≡ 2 → error.layer ≡ 1
       → GivesText (ipv4_header_error_text (ipv4.UnexpectedVersion error.number)) before after count
@@ -77,7 +84,7 @@ pub record GivesErrorText (error : Error) (before after : List ℕ) (count : ℕ
   pub options : error.kind ≡ 6
       → GivesText (bad_options_len_text (record { bad_len = error.len })) before after count
   pub ipv4_packet : (e : LenError) → IsShortIpv4Packet e
-      → record error { number = 0; limit = 0 } ≡ record (len_error_in_c e) { layer = 8 }
+      → record error { limit = 0 } ≡ record (len_error_in_c e) { layer = 8 }
       → GivesText (len_error_text e) before after count
   pub link : error.kind ≡ 1 → error.layer ≡ 5 → error.len < error.required_len
       → GivesText (link_error_text (record {

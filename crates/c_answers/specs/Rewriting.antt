@@ -19,7 +19,7 @@ checksum_kind checksum.TooLong = 11
 
 -- and of that of a packet
 abbrev pub rewrite_kind : RewriteError → ℕ
-rewrite_kind (rewrite.Ip ip.Empty) = 1
+rewrite_kind (rewrite.Ip (ip.Empty e)) = 1
 rewrite_kind (rewrite.Ip (ip.UnexpectedVersion version)) = 2
 rewrite_kind (rewrite.Ip (ip.Ipv4Header e)) = 3
 rewrite_kind (rewrite.Ip (ip.Ipv6Header e)) = 4

@@ -5,7 +5,7 @@ ghost use Rattle.c_answers.specs.Answer.{rest_of};
 ghost use Rattle.c_answers.specs.Error.{chain_error_in_c, ipv4_error_in_c, ipv6_error_in_c};
 ghost use Rattle.c_answers.specs.Error.{ip_error_in_c, ip_packet_layer_in_c, layer_in_c};
 ghost use Rattle.c_answers.specs.Error.{len_error_in_c, link_error_in_c, link_type_error};
-ghost use Rattle.c_answers.specs.Error.{slice_error_in_c, stop_in_c, tcp_error_in_c};
+ghost use Rattle.c_answers.specs.Error.{slice_error_in_c, source_in_c, stop_in_c, tcp_error_in_c};
 
 use etherparse::LenSource;
 use etherparse::err::{Layer, LenError, ipv4, ipv6};
@@ -74,6 +74,13 @@ pub const IPV4_PAYLOAD_LENGTH: u16 = 5;
 
 pub(crate) const IPV6_PAYLOAD_LENGTH: u16 = 6;
 
+// Where a length that is too small comes from.
+pub(crate) const FROM_SLICE: u16 = 0;
+
+pub(crate) const FROM_IPV4_TOTAL_LEN: u16 = 1;
+
+pub(crate) const FROM_IPV6_PAYLOAD_LENGTH: u16 = 2;
+
 /// Why a call refused, as numbers; each number that its kind does not have is 0.
 #[repr(C)]
 #[derive(Default, Drop)]
@@ -82,10 +89,11 @@ pub struct Error {
     /// extension headers, 5 a value that is too big, 6 a length that options cannot have, 7 a data
     /// offset below 5, 8 a link type that is not read.
     pub kind: u32,
-    /// For kind 2 the version number, for kind 3 the IHL, for kind 4 the number of the header that
-    /// is one too many, for kind 5 which value it is: 1 a fragment offset, 2 a DSCP, 3 an ECN, 4 a
-    /// flow label, 5 the length of an IPv4 payload, 6 that of an IPv6 payload. For kind 7 the data
-    /// offset.
+    /// For kind 1 where the actual length comes from: 0 the end of the bytes that were passed, 1 the
+    /// total length of an IPv4 header, 2 the payload length of an IPv6 header. For kind 2 the version
+    /// number, for kind 3 the IHL, for kind 4 the number of the header that is one too many, for kind
+    /// 5 which value it is: 1 a fragment offset, 2 a DSCP, 3 an ECN, 4 a flow label, 5 the length of
+    /// an IPv4 payload, 6 that of an IPv6 payload. For kind 7 the data offset.
     pub number: u16,
     /// For kinds 1 to 4 and 7 the layer: 1 an IPv4 header, 2 an IPv4 packet, whose length is the
     /// total length of its header, 3 an IPv6 header, 4 an IPv6 extension header, 5 a link header, 6
@@ -122,6 +130,7 @@ impl Error {
     {
         Error {
             kind: LEN,
+            number: source_number(e.len_source),
             layer: layer_number(e.layer),
             required_len: e.required_len,
             len: e.len,
@@ -201,12 +210,7 @@ impl Error {
         ensures value { result ≡ ip_error_in_c e.now }
     {
         match e {
-            IpSliceError::Empty => Error {
-                kind: LEN,
-                layer: IP_HEADER,
-                required_len: 1,
-                ..Error::default()
-            },
+            IpSliceError::Empty(e) => Error::of_len(e),
             IpSliceError::UnexpectedVersion { version_number } => Error {
                 kind: UNEXPECTED_VERSION,
                 number: u16::from(*version_number),
@@ -335,6 +339,19 @@ fn layer_number(layer: Layer) -> u16
         Layer::Icmpv4 => ICMPV4,
         Layer::Icmpv6 => ICMPV6,
         _ => 0,
+    }
+}
+
+// The number of the source of a length; 3 if it is none that an error of a call has.
+#[inline(always)]
+fn source_number(source: LenSource) -> u16
+    ensures value { result ≡ source_in_c source }
+{
+    match source {
+        LenSource::Slice => FROM_SLICE,
+        LenSource::Ipv4HeaderTotalLen => FROM_IPV4_TOTAL_LEN,
+        LenSource::Ipv6HeaderPayloadLen => FROM_IPV6_PAYLOAD_LENGTH,
+        _ => 3,
     }
 }
 

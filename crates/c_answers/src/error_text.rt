@@ -1,6 +1,7 @@
 //! The text of an error, as the library prints it.
 
-ghost use Rattle.std.specs.Prelude.{ℕ, ◌≡◌, ◌≢◌, ◌<◌, ◌≤◌, ◌+◌, ◌++◌, ◌⊎◌, [], length};
+ghost use Rattle.std.specs.Prelude.{ℕ, ◌≡◌, ◌≢◌, ◌<◌, ◌≤◌, ◌+◌, ◌++◌, [], IfSome, IsSomeAnd};
+ghost use Rattle.std.specs.Prelude.{None, length};
 ghost use Rattle.std.specs.Fmt.{decimal};
 ghost use Rattle.std.specs.List.{flat_map};
 ghost use Rattle.c_answers.specs.Text.{GivesText};
@@ -10,6 +11,7 @@ ghost use Rattle.etherparse.specs.Layer.{layer_text, layer_title};
 ghost use Rattle.etherparse.specs.LenError.{len_error_text};
 ghost use Rattle.etherparse.specs.LenSource.{len_source_text};
 ghost use Rattle.etherparse.specs.ValueTooBigError.{value_too_big_error_text};
+ghost use Rattle.etherparse.specs.declared.LenSource.{LenSource};
 ghost use Rattle.etherparse.specs.declared.err.LenError.{LenError};
 ghost use Rattle.etherparse.specs.declared.err.ValueType.{ValueType};
 ghost use Rattle.etherparse.specs.declared.err.ipv4.HeaderError.TheVariants as ipv4;
@@ -20,16 +22,16 @@ ghost use Rattle.packet_parts.specs.IpSlice.{ip_slice_error_text};
 ghost use Rattle.etherparse_transport.specs.Tcp.{tcp_error_text};
 ghost use Rattle.packet_parts.specs.declared.ip_slice.IpSliceError.TheVariants as ip;
 ghost use Rattle.etherparse_transport.specs.declared.tcp.TcpError.TheVariants as tcp;
-ghost use Rattle.c_answers.specs.Error.{layer_in_c, len_error_in_c, value_in_c};
-ghost use Rattle.c_answers.specs.ErrorText.{GivesErrorText, HasNumbers, IsShortIpv4Packet};
-ghost use Rattle.c_answers.specs.ErrorText.{link_type_error_text};
+ghost use Rattle.c_answers.specs.Error.{layer_in_c, len_error_in_c, source_in_c, value_in_c};
+ghost use Rattle.c_answers.specs.ErrorText.{GivesErrorText, HasNumbers, IsNoLength};
+ghost use Rattle.c_answers.specs.ErrorText.{IsShortIpv4Packet, link_type_error_text};
 
 use crate::error::{
-    BAD_OPTIONS_LEN, DATA_OFFSET, Error, HEADER_LENGTH_SMALLER_THAN_HEADER, ICMPV4, ICMPV6,
-    IP_DSCP, IP_ECN, IP_FRAGMENT_OFFSET, IP_HEADER, IPV4_HEADER, IPV4_PACKET, IPV4_PACKET_BYTES,
-    IPV4_PAYLOAD_LENGTH, IPV6_FLOW_LABEL, IPV6_HEADER, IPV6_PACKET, IPV6_PAYLOAD_LENGTH, LEN,
-    LINK_HEADER, LINK_TYPE, TCP_HEADER, TOO_MANY, UDP_HEADER, UNEXPECTED_VERSION, VALUE_TOO_BIG,
-    VLAN_HEADER,
+    BAD_OPTIONS_LEN, DATA_OFFSET, Error, FROM_IPV4_TOTAL_LEN, FROM_IPV6_PAYLOAD_LENGTH, FROM_SLICE,
+    HEADER_LENGTH_SMALLER_THAN_HEADER, ICMPV4, ICMPV6, IP_DSCP, IP_ECN, IP_FRAGMENT_OFFSET,
+    IP_HEADER, IPV4_HEADER, IPV4_PACKET, IPV4_PACKET_BYTES, IPV4_PAYLOAD_LENGTH, IPV6_FLOW_LABEL,
+    IPV6_HEADER, IPV6_PACKET, IPV6_PAYLOAD_LENGTH, LEN, LINK_HEADER, LINK_TYPE, TCP_HEADER,
+    TOO_MANY, UDP_HEADER, UNEXPECTED_VERSION, VALUE_TOO_BIG, VLAN_HEADER,
 };
 use crate::text::{digits, put, put_number};
 use itoa::Buffer;
@@ -37,8 +39,8 @@ use itoa::Buffer;
 /// Writes the text of the error with these numbers to the front of a buffer, as much of it as there
 /// is room for, and a byte 0 after it; returns how many bytes the whole text has, without that 0.
 ///
-/// A kind, a layer or a value that no error has, and a length that is not too small, have the empty
-/// text.
+/// A kind, a layer, a source or a value that no error has, and a length that is not too small, have
+/// the empty text.
 pub fn put_error(error: &Error, text: &mut [u8]) -> usize
     ensures gives { GivesErrorText error.now text.old text.new result }
 {
@@ -120,17 +122,16 @@ fn put_version(error: &Error, text: &mut [u8]) -> usize
 fn put_short(error: &Error, text: &mut [u8]) -> usize
     requires below { error.now.len < error.now.required_len }
     ensures len { (e : LenError) → HasNumbers e →
-        record error.now { number = 0; limit = 0 } ≡ len_error_in_c e →
+        record error.now { limit = 0 } ≡ len_error_in_c e →
         GivesText (len_error_text e) text.old text.new result }
     ensures ipv4_packet { (e : LenError) → IsShortIpv4Packet e →
-        record error.now { number = 0; limit = 0 } ≡ record (len_error_in_c e) { layer = 8 } →
+        record error.now { limit = 0 } ≡ record (len_error_in_c e) { layer = 8 } →
         GivesText (len_error_text e) text.old text.new result }
     ensures link { error.now.layer ≡ 5 → GivesText (link_error_text (record {
       required_len = error.now.required_len;
       len = error.now.len;
     })) text.old text.new result }
-    ensures none { (error.now.layer ≡ 0) ⊎ (13 < error.now.layer) →
-        GivesText [] text.old text.new result }
+    ensures none { IsNoLength error.now → GivesText [] text.old text.new result }
 {
     if error.layer == LINK_HEADER {
         return put_link_len(error, text);
@@ -138,48 +139,67 @@ fn put_short(error: &Error, text: &mut [u8]) -> usize
     if error.layer == 0 || error.layer > ICMPV6 {
         return put(&[], text);
     }
-    if error.layer > LINK_HEADER {
-        put_frame_len(error, text)
-    } else {
-        put_len(error, text)
+    if error.layer == IPV4_PACKET_BYTES && error.number != FROM_SLICE {
+        return put(&[], text);
+    }
+    match source_text(error.number) {
+        Some(source) if error.layer > LINK_HEADER => put_frame_len(error, source, text),
+        Some(source) => put_len(error, source, text),
+        None => put(&[], text),
+    }
+}
+
+// What the source of a length is called, by its number.
+fn source_text(number: u16) -> Option<&'static str>
+    ensures known { (source : LenSource) → number ≡ source_in_c source → source_in_c source < 3 →
+        IsSomeAnd result (λ text. text.now ≡ len_source_text source) }
+    ensures unknown { 2 < number → result ≡ None }
+    ensures short { IfSome result (λ text. length text.now ≤ 64) }
+{
+    match number {
+        FROM_SLICE => Some("slice length"),
+        FROM_IPV4_TOTAL_LEN => {
+            Some("length calculated from the IPv4 header 'total length' field")
+        }
+        FROM_IPV6_PAYLOAD_LENGTH => {
+            Some("length calculated from the IPv6 header 'payload length' field")
+        }
+        _ => None,
     }
 }
 
 // The text of a length that is too small, in a layer that has a number.
-fn put_len(error: &Error, text: &mut [u8]) -> usize
+fn put_len(error: &Error, source: &'static str, text: &mut [u8]) -> usize
     requires below { error.now.len < error.now.required_len }
     requires known { error.now.layer ≤ 4 }
+    requires short { length source.now ≤ 64 }
     ensures gives { (e : LenError) → HasNumbers e →
-        record error.now { number = 0; limit = 0 } ≡ len_error_in_c e →
+        record error.now { limit = 0 } ≡ len_error_in_c e →
+        source.now ≡ len_source_text e.len_source →
         GivesText (len_error_text e) text.old text.new result }
 {
-    let (title, layer, source) = match error.layer {
-        IPV4_HEADER => ("IPv4 Header Error", "IPv4 header", "slice length"),
-        IPV4_PACKET => (
-            "IPv4 Packet Error",
-            "IPv4 packet",
-            "length calculated from the IPv4 header 'total length' field",
-        ),
-        IPV6_HEADER => ("IPv6 Header Error", "IPv6 header", "slice length"),
-        _ => (
-            "IPv6 Extension Header Error",
-            "IPv6 extension header",
-            "slice length",
-        ),
+    let (title, layer): (&'static str, &'static str) = match error.layer {
+        IPV4_HEADER => ("IPv4 Header Error", "IPv4 header"),
+        IPV4_PACKET => ("IPv4 Packet Error", "IPv4 packet"),
+        IPV6_HEADER => ("IPv6 Header Error", "IPv6 header"),
+        _ => ("IPv6 Extension Header Error", "IPv6 extension header"),
     };
     put_len_in(error, title, layer, source, text)
 }
 
 // The same for a layer of a frame.
-fn put_frame_len(error: &Error, text: &mut [u8]) -> usize
+fn put_frame_len(error: &Error, source: &'static str, text: &mut [u8]) -> usize
     requires below { error.now.len < error.now.required_len }
     requires above { 5 < error.now.layer }
     requires known { error.now.layer ≤ 13 }
+    requires short { length source.now ≤ 64 }
     ensures gives { (e : LenError) → HasNumbers e →
-        record error.now { number = 0; limit = 0 } ≡ len_error_in_c e →
+        record error.now { limit = 0 } ≡ len_error_in_c e →
+        source.now ≡ len_source_text e.len_source →
         GivesText (len_error_text e) text.old text.new result }
     ensures ipv4_packet { (e : LenError) → IsShortIpv4Packet e →
-        record error.now { number = 0; limit = 0 } ≡ record (len_error_in_c e) { layer = 8 } →
+        record error.now { limit = 0 } ≡ record (len_error_in_c e) { layer = 8 } →
+        source.now ≡ len_source_text e.len_source →
         GivesText (len_error_text e) text.old text.new result }
 {
     let (title, layer): (&'static str, &'static str) = match error.layer {
@@ -192,7 +212,7 @@ fn put_frame_len(error: &Error, text: &mut [u8]) -> usize
         ICMPV4 => ("ICMP Packet Error", "ICMP packet"),
         _ => ("ICMPv6 Packet Error", "ICMPv6 packet"),
     };
-    put_len_in(error, title, layer, "slice length", text)
+    put_len_in(error, title, layer, source, text)
 }
 
 // The text of a frame that is shorter than its link header.
@@ -228,7 +248,7 @@ fn put_len_in(
     requires short_layer { length layer.now ≤ 32 }
     requires short { length title.now + length source.now ≤ 128 }
     ensures gives { (e : LenError) →
-        record error.now { number = 0; limit = 0; layer = layer_in_c e.layer } ≡ len_error_in_c e →
+        record error.now { limit = 0; layer = layer_in_c e.layer } ≡ len_error_in_c e →
         title.now ≡ layer_title e.layer → layer.now ≡ layer_text e.layer →
         source.now ≡ len_source_text e.len_source →
         GivesText (len_error_text e) text.old text.new result }

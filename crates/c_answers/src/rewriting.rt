@@ -73,7 +73,7 @@ pub fn kind_of_rewrite(e: &RewriteError) -> u32
     ensures value { result ≡ rewrite_kind e.now }
 {
     match e {
-        RewriteError::Ip(IpSliceError::Empty) => EMPTY,
+        RewriteError::Ip(IpSliceError::Empty(_)) => EMPTY,
         RewriteError::Ip(IpSliceError::UnexpectedVersion { .. }) => UNEXPECTED_VERSION,
         RewriteError::Ip(IpSliceError::Ipv4Header(_)) => IPV4_HEADER,
         RewriteError::Ip(IpSliceError::Ipv6Header(_)) => IPV6_HEADER,

@@ -75,7 +75,7 @@ fn write_fragment_header(bytes: &[u8], answer: &mut Answer) {
 impl Shown for IpSliceError {
     fn show(&self, answer: &mut Answer) {
         match self {
-            IpSliceError::Empty => answer.words("err empty"),
+            IpSliceError::Empty(e) => answer.shown("empty=", e),
             IpSliceError::UnexpectedVersion { version_number } => {
                 answer.put("err version number=", *version_number)
             }

@@ -201,7 +201,7 @@ static void compare_ipv4_numbers(void)
     };
     static const struct place no_payload[] = {
         {"payload_len", 0, 2, 0}, {"max_payload_len", 2, 2, 65515}, {"header_len", 4, 1, 20}, {"ihl", 5, 1, 5},
-        {"error.kind", 8, 4, 1}, {"error.number", 12, 2, 0}, {"error.layer", 14, 2, 2}, {"error.required_len", 16, 8, 20},
+        {"error.kind", 8, 4, 1}, {"error.number", 12, 2, 1}, {"error.layer", 14, 2, 2}, {"error.required_len", 16, 8, 20},
         {"error.len", 24, 8, 19}, {"error.layer_start_offset", 32, 8, 0}, {"error.limit", 40, 8, 0},
     };
     static const struct place no_lengths[] = {

@@ -279,7 +279,7 @@ static void check_text(void)
     struct etherparse_error *error = (struct etherparse_error *)(page_end - sizeof *error);
     memset(error, 0, sizeof *error);
     error->kind = (uint32_t)(below(16) == 0 ? next_random() : below(10));
-    error->number = (uint16_t)(below(16) == 0 ? next_random() : below(16));
+    error->number = (uint16_t)(below(16) == 0 ? next_random() : below(below(2) == 0 ? 3 : 16));
     error->layer = (uint16_t)(below(16) == 0 ? next_random() : below(16));
     error->required_len = below(4) == 0 ? (size_t)some_number(UINT64_MAX) : below(2000);
     error->len = below(4) == 0 ? (size_t)some_number(UINT64_MAX) : below(2000);
@@ -328,16 +328,18 @@ static const char *true_or_false(bool is)
     return is ? "true" : "false";
 }
 
-static void tell_len_error(const struct etherparse_error *error, const char *source, const char *layer)
+static void tell_len_error(const struct etherparse_error *error, const char *layer)
 {
+    static const char *const sources[3] = {"Slice", "Ipv4HeaderTotalLen", "Ipv6HeaderPayloadLen"};
+    expect(error->number <= 2, "a source of no number");
     tell(answers, "err len required=%zu len=%zu source=%s layer=%s offset=%zu",
-        error->required_len, error->len, source, layer, error->layer_start_offset);
+        error->required_len, error->len, sources[error->number], layer, error->layer_start_offset);
 }
 
 static void tell_error(const struct etherparse_error *error, const char *layer)
 {
     if (error->kind == ETHERPARSE_LEN)
-        tell_len_error(error, "Slice", layer);
+        tell_len_error(error, layer);
     else if (error->kind == ETHERPARSE_UNEXPECTED_VERSION)
         tell(answers, "err version number=%u", error->number);
     else if (error->kind == ETHERPARSE_TOO_MANY)
@@ -356,7 +358,7 @@ static void tell_payload_len(uint16_t total_len, uint8_t options_len)
     if (lengths.error.kind == ETHERPARSE_OK)
         tell(answers, "ok %u", lengths.payload_len);
     else
-        tell_len_error(&lengths.error, "Ipv4HeaderTotalLen", "Ipv4Packet");
+        tell_len_error(&lengths.error, "Ipv4Packet");
 }
 
 static void tell_ipv4_view(void)

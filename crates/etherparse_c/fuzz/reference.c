@@ -34,10 +34,13 @@ static struct etherparse_error no_error(void)
     return error;
 }
 
-static struct etherparse_error too_short(uint16_t layer, size_t required_len, size_t len, size_t layer_start_offset)
+/* A length that is too small, from this source. */
+static struct etherparse_error too_short(uint16_t layer, uint16_t source, size_t required_len, size_t len,
+    size_t layer_start_offset)
 {
     struct etherparse_error error = no_error();
     error.kind = ETHERPARSE_LEN;
+    error.number = source;
     error.layer = layer;
     error.required_len = required_len;
     error.len = len;
@@ -75,6 +78,10 @@ static int version_text(char *text, int version, unsigned number)
 
 size_t reference_text(const struct etherparse_error *error, char text[ETHERPARSE_ERROR_TEXT_SIZE])
 {
+    static const char *const sources[3] = {
+        "slice length", "length calculated from the IPv4 header 'total length' field",
+        "length calculated from the IPv6 header 'payload length' field",
+    };
     static const char *const values[7] = {
         NULL, "IP Fragment Offset", "IPv4 DSCP (Differentiated Services Code Point)",
         "IPv4 ECN (Explicit Congestion Notification)", "IPv6 Flow Label",
@@ -82,35 +89,35 @@ size_t reference_text(const struct etherparse_error *error, char text[ETHERPARSE
     };
     int len = 0;
     text[0] = '\0';
-    if (error->kind == ETHERPARSE_LEN && error->len < error->required_len) {
+    if (error->kind == ETHERPARSE_LEN && error->layer == ETHERPARSE_LINK_HEADER && error->len < error->required_len)
+        len = snprintf(text, ETHERPARSE_ERROR_TEXT_SIZE, "Link Header Error: The header has %zu bytes, the frame %zu.",
+            error->required_len, error->len);
+    if (error->kind == ETHERPARSE_LEN && error->number <= 2 && error->len < error->required_len) {
+        const char *source = sources[error->number];
         if (error->layer == ETHERPARSE_IPV4_HEADER)
-            len = len_text(text, "IPv4 Header Error", "IPv4 header", "slice length", error);
+            len = len_text(text, "IPv4 Header Error", "IPv4 header", source, error);
         if (error->layer == ETHERPARSE_IPV4_PACKET)
-            len = len_text(text, "IPv4 Packet Error", "IPv4 packet",
-                "length calculated from the IPv4 header 'total length' field", error);
+            len = len_text(text, "IPv4 Packet Error", "IPv4 packet", source, error);
         if (error->layer == ETHERPARSE_IPV6_HEADER)
-            len = len_text(text, "IPv6 Header Error", "IPv6 header", "slice length", error);
+            len = len_text(text, "IPv6 Header Error", "IPv6 header", source, error);
         if (error->layer == ETHERPARSE_IPV6_EXT_HEADER)
-            len = len_text(text, "IPv6 Extension Header Error", "IPv6 extension header", "slice length", error);
-        if (error->layer == ETHERPARSE_LINK_HEADER)
-            len = snprintf(text, ETHERPARSE_ERROR_TEXT_SIZE, "Link Header Error: The header has %zu bytes, the frame %zu.",
-                error->required_len, error->len);
+            len = len_text(text, "IPv6 Extension Header Error", "IPv6 extension header", source, error);
         if (error->layer == ETHERPARSE_VLAN_HEADER)
-            len = len_text(text, "VLAN Header Error", "VLAN header", "slice length", error);
+            len = len_text(text, "VLAN Header Error", "VLAN header", source, error);
         if (error->layer == ETHERPARSE_IP_HEADER)
-            len = len_text(text, "IP Header Error", "IP header", "slice length", error);
-        if (error->layer == ETHERPARSE_IPV4_PACKET_BYTES)
-            len = len_text(text, "IPv4 Packet Error", "IPv4 packet", "slice length", error);
+            len = len_text(text, "IP Header Error", "IP header", source, error);
+        if (error->layer == ETHERPARSE_IPV4_PACKET_BYTES && error->number == ETHERPARSE_FROM_SLICE)
+            len = len_text(text, "IPv4 Packet Error", "IPv4 packet", source, error);
         if (error->layer == ETHERPARSE_IPV6_PACKET)
-            len = len_text(text, "IPv6 Packet Error", "IPv6 packet", "slice length", error);
+            len = len_text(text, "IPv6 Packet Error", "IPv6 packet", source, error);
         if (error->layer == ETHERPARSE_UDP_HEADER)
-            len = len_text(text, "UDP Header Error", "UDP header", "slice length", error);
+            len = len_text(text, "UDP Header Error", "UDP header", source, error);
         if (error->layer == ETHERPARSE_TCP_HEADER)
-            len = len_text(text, "TCP Header Error", "TCP header", "slice length", error);
+            len = len_text(text, "TCP Header Error", "TCP header", source, error);
         if (error->layer == ETHERPARSE_ICMPV4)
-            len = len_text(text, "ICMP Packet Error", "ICMP packet", "slice length", error);
+            len = len_text(text, "ICMP Packet Error", "ICMP packet", source, error);
         if (error->layer == ETHERPARSE_ICMPV6)
-            len = len_text(text, "ICMPv6 Packet Error", "ICMPv6 packet", "slice length", error);
+            len = len_text(text, "ICMPv6 Packet Error", "ICMPv6 packet", source, error);
     }
     if (error->kind == ETHERPARSE_UNEXPECTED_VERSION && error->layer == ETHERPARSE_IP_HEADER)
         len = snprintf(text, ETHERPARSE_ERROR_TEXT_SIZE, "IP Header Error: Version %u is neither 4 nor 6.", error->number);
@@ -178,13 +185,13 @@ uint16_t reference_update(uint16_t checksum, const uint8_t *old_bytes, const uin
 static struct etherparse_error ipv4_error(const uint8_t *at, size_t len)
 {
     if (len < 20)
-        return too_short(ETHERPARSE_IPV4_HEADER, 20, len, 0);
+        return too_short(ETHERPARSE_IPV4_HEADER, ETHERPARSE_FROM_SLICE, 20, len, 0);
     if (bits_at(at, 0, 4) != 4)
         return of_number(ETHERPARSE_UNEXPECTED_VERSION, ETHERPARSE_IPV4_HEADER, bits_at(at, 0, 4));
     if (bits_at(at, 4, 4) < 5)
         return of_number(ETHERPARSE_HEADER_LENGTH_SMALLER_THAN_HEADER, ETHERPARSE_IPV4_HEADER, bits_at(at, 4, 4));
     if (len < 4 * bits_at(at, 4, 4))
-        return too_short(ETHERPARSE_IPV4_HEADER, 4 * bits_at(at, 4, 4), len, 0);
+        return too_short(ETHERPARSE_IPV4_HEADER, ETHERPARSE_FROM_SLICE, 4 * bits_at(at, 4, 4), len, 0);
     return no_error();
 }
 
@@ -314,7 +321,7 @@ struct etherparse_ipv4_lengths_answer reference_ipv4_lengths(uint16_t total_len,
     answer.ihl = (uint8_t)(header_len / 4);
     answer.max_payload_len = (uint16_t)(65535 - header_len);
     if (total_len < header_len)
-        answer.error = too_short(ETHERPARSE_IPV4_PACKET, header_len, total_len, 0);
+        answer.error = too_short(ETHERPARSE_IPV4_PACKET, ETHERPARSE_FROM_IPV4_TOTAL_LEN, header_len, total_len, 0);
     else
         answer.payload_len = (uint16_t)(total_len - header_len);
     return answer;
@@ -355,7 +362,7 @@ struct etherparse_ipv6_view_answer reference_ipv6_view(const uint8_t *at, size_t
     struct etherparse_ipv6_view_answer answer;
     memset(&answer, 0, sizeof answer);
     if (len < 40)
-        answer.error = too_short(ETHERPARSE_IPV6_HEADER, 40, len, 0);
+        answer.error = too_short(ETHERPARSE_IPV6_HEADER, ETHERPARSE_FROM_SLICE, 40, len, 0);
     else if (bits_at(at, 0, 4) != 6)
         answer.error = of_number(ETHERPARSE_UNEXPECTED_VERSION, ETHERPARSE_IPV6_HEADER, bits_at(at, 0, 4));
     if (answer.error.kind != ETHERPARSE_OK)
@@ -444,7 +451,7 @@ static struct etherparse_ipv6_walk_answer walked(const uint8_t *at, size_t len, 
     while (is_skippable(number) && skipped < limit) {
         size_t required = required_len(at, len, offset, number);
         if (len - offset < required) {
-            answer.error = too_short(ETHERPARSE_IPV6_EXT_HEADER, required, len - offset, offset);
+            answer.error = too_short(ETHERPARSE_IPV6_EXT_HEADER, ETHERPARSE_FROM_SLICE, required, len - offset, offset);
             return answer;
         }
         number = at[offset];

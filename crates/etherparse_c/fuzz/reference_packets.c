@@ -5,10 +5,12 @@
 
 #include <string.h>
 
-/* Why the reading stops: a layer with too few bytes, or a field that is wrong. */
-static void stop_short(struct etherparse_packet *packet, uint16_t layer, size_t required_len, size_t len, size_t place)
+/* Why the reading stops: a layer with too few bytes, which end where this source says, or a field that is wrong. */
+static void stop_short(struct etherparse_packet *packet, uint16_t layer, uint16_t source, size_t required_len, size_t len,
+    size_t place)
 {
     packet->stop.kind = ETHERPARSE_LEN;
+    packet->stop.number = source;
     packet->stop.layer = layer;
     packet->stop.required_len = required_len;
     packet->stop.len = len;
@@ -69,6 +71,8 @@ static void read_transport(const uint8_t *frame, struct etherparse_packet *packe
     const uint8_t *at = frame + ip->payload.offset;
     size_t len = ip->payload.len, place = ip->payload.offset, header_len = 0;
     struct etherparse_packet stopped = *packet;
+    /* A packet with all its bytes ends, as its payload does, where its length field says. */
+    uint16_t source = ip->version == 4 ? ETHERPARSE_FROM_IPV4_TOTAL_LEN : ETHERPARSE_FROM_IPV6_PAYLOAD_LENGTH;
     uint8_t upper = ip->upper;
     if (ip->is_later_fragment || (upper != 17 && upper != 6 && upper != (ip->version == 4 ? 1 : 58)))
         return;
@@ -80,17 +84,17 @@ static void read_transport(const uint8_t *frame, struct etherparse_packet *packe
     if (upper == 17) {
         header_len = 8;
         if (len < 8)
-            stop_short(&stopped, ETHERPARSE_UDP_HEADER, 8, len, place);
+            stop_short(&stopped, ETHERPARSE_UDP_HEADER, source, 8, len, place);
     } else if (upper == 6) {
         header_len = len < 20 ? 20 : 4 * bits_at(at, 96, 4);
         if (header_len < 20)
             stop_wrong(&stopped, ETHERPARSE_DATA_OFFSET, ETHERPARSE_TCP_HEADER, bits_at(at, 96, 4));
         else if (len < header_len)
-            stop_short(&stopped, ETHERPARSE_TCP_HEADER, header_len, len, place);
+            stop_short(&stopped, ETHERPARSE_TCP_HEADER, source, header_len, len, place);
     } else {
         header_len = 4;
         if (len < 4)
-            stop_short(&stopped, upper == 1 ? ETHERPARSE_ICMPV4 : ETHERPARSE_ICMPV6, 4, len, place);
+            stop_short(&stopped, upper == 1 ? ETHERPARSE_ICMPV4 : ETHERPARSE_ICMPV6, source, 4, len, place);
     }
     if (len < header_len || header_len < 4 || (upper == 6 && header_len < 20)) {
         /* That of a fragment can be in the next one, and the reading can have stopped before. */
@@ -122,9 +126,9 @@ static bool read_ipv4(const uint8_t *frame, size_t len, size_t place, struct eth
         return false;
     }
     if (total_len < header_len)
-        stop_short(packet, ETHERPARSE_IPV4_PACKET, header_len, total_len, place);
+        stop_short(packet, ETHERPARSE_IPV4_PACKET, ETHERPARSE_FROM_IPV4_TOTAL_LEN, header_len, total_len, place);
     else if (there < total_len)
-        stop_short(packet, ETHERPARSE_IPV4_PACKET_BYTES, total_len, there, place);
+        stop_short(packet, ETHERPARSE_IPV4_PACKET_BYTES, ETHERPARSE_FROM_SLICE, total_len, there, place);
     if (total_len < header_len && total_len != 0)
         return false;
     ip->header = part(place, header_len);
@@ -157,7 +161,7 @@ static bool read_ipv6(const uint8_t *frame, size_t len, size_t place, struct eth
     size_t end = place + ip->packet_len, at = place + 40;
     uint8_t number = seen.view.next_header;
     if (len < end) {
-        stop_short(packet, ETHERPARSE_IPV6_PACKET, ip->packet_len, len - place, place);
+        stop_short(packet, ETHERPARSE_IPV6_PACKET, ETHERPARSE_FROM_SLICE, ip->packet_len, len - place, place);
         end = len;
     }
     while (!ip->is_later_fragment) {
@@ -165,6 +169,7 @@ static bool read_ipv6(const uint8_t *frame, size_t len, size_t place, struct eth
         if (walk.error.kind != ETHERPARSE_OK) {
             if (packet->stop.kind == ETHERPARSE_OK) {
                 packet->stop = walk.error;
+                packet->stop.number = ETHERPARSE_FROM_IPV6_PAYLOAD_LENGTH; /* the packet has all its bytes */
                 packet->stop.layer_start_offset += at;
             }
             break;
@@ -195,7 +200,7 @@ static void read_ip(const uint8_t *frame, size_t len, size_t place, bool checksu
 {
     uint8_t version = place == len ? 0 : (uint8_t)bits_at(frame + place, 0, 4);
     if (place == len) {
-        stop_short(packet, ETHERPARSE_IP_HEADER, 1, 0, 0);
+        stop_short(packet, ETHERPARSE_IP_HEADER, ETHERPARSE_FROM_SLICE, 1, 0, place);
         return;
     }
     if (version != 4 && version != 6) {
@@ -226,7 +231,7 @@ static void read_after_link(const uint8_t *frame, size_t len, size_t place, bool
     while (link->has_ether_type && link->vlan_count < 2
         && (link->ether_type == 0x8100 || link->ether_type == 0x88a8 || link->ether_type == 0x9100)) {
         if (len - place < 4) {
-            stop_short(packet, ETHERPARSE_VLAN_HEADER, 4, len - place, place);
+            stop_short(packet, ETHERPARSE_VLAN_HEADER, ETHERPARSE_FROM_SLICE, 4, len - place, place);
             is_cut = true;
             break;
         }
@@ -285,7 +290,7 @@ void reference_lax_from_link_type(uint32_t link_type, const uint8_t *at, size_t 
         return;
     }
     if (len < links[found].len) {
-        stop_short(packet, ETHERPARSE_LINK_HEADER, links[found].len, len, 0);
+        stop_short(packet, ETHERPARSE_LINK_HEADER, ETHERPARSE_FROM_SLICE, links[found].len, len, 0);
         return;
     }
     link->kind = links[found].kind;

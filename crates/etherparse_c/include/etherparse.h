@@ -109,8 +109,8 @@ uint16_t etherparse_update_16bytes(uint16_t checksum, const uint8_t old_bytes[16
 /* Why a call refused, as numbers. Each number that a kind does not have is 0. */
 struct etherparse_error {
     uint32_t kind; /* one of the kinds below; 0 if nothing was refused */
-    /* depending on the kind: the version, the IHL, the number of the header that is one too many,
-     * which value it is, or the data offset */
+    /* of LEN: a source below, from which len comes; of other kinds the version, the IHL, the number
+     * of the header that is one too many, which value it is, or the data offset */
     uint16_t number;
     /* of LEN, UNEXPECTED_VERSION, HEADER_LENGTH_SMALLER_THAN_HEADER, TOO_MANY and DATA_OFFSET: a
      * layer below */
@@ -144,7 +144,8 @@ enum {
     ETHERPARSE_IPV4_HEADER = 1, /* its length is that of the slice */
     ETHERPARSE_IPV4_PACKET = 2, /* its length is the total_len of its header */
     ETHERPARSE_IPV6_HEADER = 3, /* its length is that of the slice */
-    ETHERPARSE_IPV6_EXT_HEADER = 4, /* its length is that of what is left of the slice */
+    /* its length is that of what is left of the slice, or of the IP packet in a frame */
+    ETHERPARSE_IPV6_EXT_HEADER = 4,
     ETHERPARSE_LINK_HEADER = 5, /* its length is that of the frame */
     ETHERPARSE_VLAN_HEADER = 6, /* its length is that of what is left of the frame */
     ETHERPARSE_IP_HEADER = 7, /* of neither version, or of no bytes */
@@ -154,6 +155,15 @@ enum {
     ETHERPARSE_TCP_HEADER = 11, /* likewise */
     ETHERPARSE_ICMPV4 = 12, /* likewise */
     ETHERPARSE_ICMPV6 = 13 /* likewise */
+};
+
+/* Where the length of a LEN comes from. That of IPV4_PACKET is the total length itself. In a frame
+ * the length field of the IP header says where UDP_HEADER, TCP_HEADER, ICMPV4, ICMPV6 and
+ * IPV6_EXT_HEADER end. All other lengths are FROM_SLICE. */
+enum {
+    ETHERPARSE_FROM_SLICE = 0, /* the end of the bytes that were passed */
+    ETHERPARSE_FROM_IPV4_TOTAL_LEN = 1, /* the total length field of the IPv4 header */
+    ETHERPARSE_FROM_IPV6_PAYLOAD_LENGTH = 2 /* the payload length field of the IPv6 header */
 };
 
 /* The values that can be too big. */
@@ -167,13 +177,15 @@ enum {
 };
 
 /* Room in bytes for the longest text and the 0 after it. */
-#define ETHERPARSE_ERROR_TEXT_SIZE 301
+#define ETHERPARSE_ERROR_TEXT_SIZE 333
 
 /* Writes the text of an error, in English and with no newline. As snprintf does, it writes as much
  * of the text as fits into len bytes with a 0 after it, and returns how many bytes the whole text
  * has, without that 0; so len may be 0. A kind, a layer or a value that is not listed above,
- * ETHERPARSE_OK, and a LEN whose len is not below its required_len have the empty text. The pointer
- * to the error is not null; text may be null only if len is 0. */
+ * ETHERPARSE_OK, and a LEN whose len is not below its required_len have the empty text. So does a
+ * LEN of IPV4_PACKET_BYTES that is not FROM_SLICE, and of any other layer but LINK_HEADER one with
+ * a source that is not listed above. The pointer to the error is not null; text may be null only if
+ * len is 0. */
 size_t etherparse_error_text(const struct etherparse_error *error, char *text, size_t len);
 
 /* The bytes after a header, or after extension headers: the slice from this offset on. */

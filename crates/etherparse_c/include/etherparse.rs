@@ -30,6 +30,10 @@ pub const TCP_HEADER: u16 = 11;
 pub const ICMPV4: u16 = 12;
 pub const ICMPV6: u16 = 13;
 
+pub const FROM_SLICE: u16 = 0;
+pub const FROM_IPV4_TOTAL_LEN: u16 = 1;
+pub const FROM_IPV6_PAYLOAD_LENGTH: u16 = 2;
+
 pub const IP_FRAGMENT_OFFSET: u16 = 1;
 pub const IP_DSCP: u16 = 2;
 pub const IP_ECN: u16 = 3;
@@ -62,7 +66,7 @@ pub const LINKTYPE_LINUX_SLL: u32 = 113;
 pub const LINKTYPE_LINUX_SLL2: u32 = 276;
 
 /// Room in bytes for the longest text of an error and the 0 after it.
-pub const ERROR_TEXT_SIZE: usize = 301;
+pub const ERROR_TEXT_SIZE: usize = 333;
 
 /// Bytes of a list of pieces.
 #[repr(C)]

@@ -19,8 +19,8 @@ use c_answers::rewriting_text::put_rewriting_error;
 /// Writes the text of the error with these numbers to the front of a buffer, as much of it as there
 /// is room for, and a byte 0 after it; returns how many bytes the whole text has, without that 0.
 ///
-/// A kind, a layer or a value that no error has, and a length that is not too small, have the empty
-/// text.
+/// A kind, a layer, a source or a value that no error has, and a length that is not too small, have
+/// the empty text.
 #[unsafe(no_mangle)]
 pub extern "C" fn etherparse_error_text(error: &Error, text: &mut [u8]) -> usize
     ensures gives { GivesErrorText error.now text.old text.new result }

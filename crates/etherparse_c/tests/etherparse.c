@@ -192,7 +192,7 @@ static void ipv4_refusals(void)
     bytes[0] = 0x46;
     EXPECT_ERROR(etherparse_ipv4_read(bytes, 23).error, ETHERPARSE_LEN, 0, 24, 23, 0, 0);
     lengths = etherparse_ipv4_lengths(19, 0);
-    EXPECT_ERROR(lengths.error, ETHERPARSE_LEN, 0, 20, 19, 0, 0);
+    EXPECT_ERROR(lengths.error, ETHERPARSE_LEN, ETHERPARSE_FROM_IPV4_TOTAL_LEN, 20, 19, 0, 0);
     EXPECT(lengths.header_len, 20);
     EXPECT(lengths.ihl, 5);
     lengths = etherparse_ipv4_lengths(65535, 40);
@@ -293,16 +293,28 @@ static void texts(void)
     static const char version[] =
         "IPv6 Header Error: Encountered '4' as IP version number in the IPv6 header (must be '6' in an IPv6 header).";
     static const char cut[8] = {'I', 'P', 'v', '4', 0, 7, 7, 7};
+    static const char by_total_len[] =
+        "UDP Header Error: Not enough data to decode 'UDP header'. 40 byte(s) would be required, but only 39 byte(s) are "
+        "available based on the length calculated from the IPv4 header 'total length' field.";
+    static const char by_payload_length[] =
+        "IPv6 Extension Header Error: Not enough data to decode 'IPv6 extension header'. 40 byte(s) would be required, but only "
+        "39 byte(s) are available based on the length calculated from the IPv6 header 'payload length' field.";
     char text[256];
-    struct etherparse_error error = error_of(ETHERPARSE_LEN, 0, ETHERPARSE_IPV6_HEADER);
+    struct etherparse_error error = error_of(ETHERPARSE_LEN, ETHERPARSE_FROM_SLICE, ETHERPARSE_IPV6_HEADER);
     memset(text, 7, sizeof text);
     EXPECT(etherparse_error_text(&error, text, sizeof text), sizeof too_short - 1);
     EXPECT_BYTES(text, too_short, sizeof too_short);
+    error = error_of(ETHERPARSE_LEN, ETHERPARSE_FROM_IPV4_TOTAL_LEN, ETHERPARSE_UDP_HEADER);
+    EXPECT(etherparse_error_text(&error, text, sizeof text), sizeof by_total_len - 1);
+    EXPECT_BYTES(text, by_total_len, sizeof by_total_len);
+    error = error_of(ETHERPARSE_LEN, ETHERPARSE_FROM_IPV6_PAYLOAD_LENGTH, ETHERPARSE_IPV6_EXT_HEADER);
+    EXPECT(etherparse_error_text(&error, text, sizeof text), sizeof by_payload_length - 1);
+    EXPECT_BYTES(text, by_payload_length, sizeof by_payload_length);
     error = error_of(ETHERPARSE_UNEXPECTED_VERSION, 4, ETHERPARSE_IPV6_HEADER);
     EXPECT(etherparse_error_text(&error, text, sizeof text), sizeof version - 1);
     EXPECT_BYTES(text, version, sizeof version);
 
-    /* Into a buffer that is too small, into none, and for a kind that does not exist. */
+    /* Into a buffer that is too small, into none, and for a kind or a source that does not exist. */
     error = error_of(ETHERPARSE_UNEXPECTED_VERSION, 5, ETHERPARSE_IPV4_HEADER);
     memset(text, 7, sizeof text);
     EXPECT(etherparse_error_text(&error, text, 5), 107);
@@ -313,6 +325,10 @@ static void texts(void)
     EXPECT(etherparse_error_text(&error, text, 8), 0);
     EXPECT(text[0], 0);
     EXPECT(text[1], 'P');
+    error = error_of(ETHERPARSE_LEN, 3, ETHERPARSE_UDP_HEADER);
+    EXPECT(etherparse_error_text(&error, text, 8), 0);
+    error = error_of(ETHERPARSE_LEN, ETHERPARSE_FROM_IPV4_TOTAL_LEN, ETHERPARSE_IPV4_PACKET_BYTES);
+    EXPECT(etherparse_error_text(&error, text, 8), 0);
 }
 
 int main(void)

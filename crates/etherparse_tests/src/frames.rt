@@ -140,6 +140,45 @@ fn transport_headers_by_their_protocol(rt: HostRuntime) {
     assert_equal(&rt, upper_of(&segment), Ok(("TCP", nothing)));
 }
 
+// Why a packet is refused.
+fn why_refused(packet: &[u8]) -> Option<SliceError> {
+    SlicedPacket::from_ip(packet).err()
+}
+
+// The error of a payload that ends by this length field.
+fn ended_by(len_source: LenSource, layer: Layer, required_len: usize, place: usize) -> LenError {
+    LenError {
+        len_source,
+        ..too_short(layer, required_len, 3, place)
+    }
+}
+
+#[test]
+fn an_error_in_a_payload_names_the_length_field_that_ends_it(rt: HostRuntime) {
+    // More bytes follow than the total length and the payload length say.
+    let mut packet = DATAGRAM;
+    packet[3] = 23;
+    let error = ended_by(LenSource::Ipv4HeaderTotalLen, Layer::UdpHeader, 8, 20);
+    assert_equal(&rt, why_refused(&packet), Some(SliceError::Udp(error)));
+    let mut packet = [0; 60];
+    [packet[0], packet[5], packet[6]] = [0x60, 3, 58];
+    let error = ended_by(LenSource::Ipv6HeaderPayloadLen, Layer::Icmpv6, 4, 40);
+    assert_equal(&rt, why_refused(&packet), Some(SliceError::Icmp(error)));
+    packet[6] = 0;
+    let error = ended_by(LenSource::Ipv6HeaderPayloadLen, Layer::Ipv6ExtHeader, 8, 40);
+    let refused = SliceError::Ip(IpSliceError::Extensions(error));
+    assert_equal(&rt, why_refused(&packet), Some(refused));
+    // Nothing follows the EtherType.
+    let mut frame = [0; 14];
+    frame[12] = 8;
+    let refused = SliceError::Ip(IpSliceError::Empty(too_short(Layer::IpHeader, 1, 0, 14)));
+    assert_equal(
+        &rt,
+        SlicedPacket::from_ethernet(&frame).err(),
+        Some(refused),
+    );
+}
+
 // Whether a frame is found to carry a packet of IP: where the family is in the byte order of the
 // host that captured it, and where it is in network byte order.
 fn carries_ip(frame: &[u8]) -> Result<[bool; 2], SliceError> {

@@ -22,7 +22,7 @@ use Rattle.frame_reassembly.specs.Counts.{counted}
 use Rattle.frame_reassembly.specs.declared.datagrams.Datagrams.{Datagrams}
 
 -- how long after its first fragment a datagram is given up, in nanoseconds: 60 seconds (RFC 8200
--- section 4.5)
+-- section 4.5, RFC 1122 section 3.3.2)
 abbrev pub reassembly_timeout : ℕ
 reassembly_timeout = 60 * 10 ^ 9
 
@@ -31,7 +31,8 @@ reassembly_timeout = 60 * 10 ^ 9
 abbrev pub begins : List IpDefragSlot → Added → Bool
 begins old added = is_none (slot_at old added.slot).id || is_some added.given_up
 
--- the slot is taken from its datagram, and all else in it stays
+-- The slot is taken from its datagram, and all else in it stays. Nothing tells of that datagram from
+-- then on: a fragment of it that comes again begins another one.
 pub record IsReleased (k : ℕ) (old new : List IpDefragSlot) : Type 0 where
   pub others : AreSameBut k old new
   pub free : slot_at new k ≡ record (slot_at old k) { id = None }

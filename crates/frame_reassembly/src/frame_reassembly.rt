@@ -72,7 +72,7 @@ impl<'a, 'b> FrameReassembly<'a, 'b> {
     pub const MAX_PACKET_LEN: usize = 65_575;
 
     /// How long after its first fragment a datagram is given up, in nanoseconds: 60 seconds (RFC 8200
-    /// section 4.5).
+    /// section 4.5, RFC 1122 section 3.3.2).
     pub const TIMEOUT_NANOSECONDS: u64 = 60_000_000_000;
 
     /// With these slots, from one to [`FrameReassembly::SLOTS`] of them. Datagrams that have slots
@@ -96,7 +96,8 @@ impl<'a, 'b> FrameReassembly<'a, 'b> {
     /// added to its datagram: fragments whose tags have different identifiers, or of which one has
     /// a tag and the other none, are not put together; the kind of the tag does not count. If the
     /// fragment completes it, `out` gets the completed frame: what stands before the packet, and the
-    /// whole packet; the datagram leaves its slot, and the length of that frame is returned.
+    /// whole packet; the datagram leaves its slot, and the length of that frame is returned. A
+    /// fragment of it that comes again then begins another datagram.
     /// Otherwise, and for all other frames, `None`. `out` has to have the length of `frame` and
     /// [`FrameReassembly::MAX_PACKET_LEN`] bytes more.
     ///

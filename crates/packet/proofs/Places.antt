@@ -28,7 +28,7 @@ header_within packet slice p = within packet slice slice.header p
 
 -- what stops a reader is in the packet
 pub error_within : (packet : List ℕ) (e : IpSliceError) → RefusesIp packet e → ip_error_place e ≤ length packet
-error_within packet error.Empty r = omega arith
+error_within packet (error.Empty e) r = omega (arith, ap (λ x. x.layer_start_offset) r.1)
 error_within packet (error.UnexpectedVersion version) r = omega arith
 error_within packet (error.Ipv4Header (ipv4.Len e)) (some, version, inl r) = omega (arith, ap (λ x. x.layer_start_offset) r.error)
 error_within packet (error.Ipv4Header (ipv4.Len e)) (some, version, inr r) = omega (arith, ap (λ x. x.layer_start_offset) r.2.error)

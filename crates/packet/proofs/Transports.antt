@@ -7,7 +7,7 @@ use Rattle.etherparse.specs.declared.err.Layer.{Layer}
 use Rattle.etherparse.specs.declared.err.Layer.TheVariants as layer
 use Rattle.etherparse_transport.specs.Tcp.{ViewsTcp}
 use Rattle.etherparse_transport.specs.Udp.{IsUdpLayout}
-use Rattle.packet_parts.specs.IpSlice.{header_bytes, header_len_of, header_parts, ip_parts}
+use Rattle.packet_parts.specs.IpSlice.{header_bytes, header_len_of, header_parts, ip_parts, payload_end_of}
 use Rattle.packet_parts.specs.declared.ip_slice.IpHeaderSlice.{IpHeaderSlice}
 use Rattle.packet_parts.specs.declared.ip_slice.IpHeaderSlice.TheVariants as header
 use Rattle.packet_parts.specs.declared.ip_slice.IpSlice.{IpSlice}
@@ -42,6 +42,7 @@ record SameFront (a b : IpSlice) : Type 0 where
   protocol : protocol_of a ≡ protocol_of b
   payload : a.payload.now ≡ b.payload.now
   fragment : a.fragment ≡ b.fragment
+  end : payload_end_of a.header ≡ payload_end_of b.header
   len : header_len_of a ≡ header_len_of b
 
 same_protocol : (g h : IpHeaderSlice) (number : ℕ) → header_parts g ≡ header_parts h → protocol_over g number ≡ protocol_over h number
@@ -56,6 +57,12 @@ same_bytes (header.Ipv6 v) (header.Ipv6 w) e = cc
 same_bytes (header.Ipv4 v) (header.Ipv6 w) e = cc
 same_bytes (header.Ipv6 v) (header.Ipv4 w) e = cc
 
+same_end : (g h : IpHeaderSlice) → header_parts g ≡ header_parts h → payload_end_of g ≡ payload_end_of h
+same_end (header.Ipv4 v) (header.Ipv4 w) e = refl
+same_end (header.Ipv6 v) (header.Ipv6 w) e = refl
+same_end (header.Ipv4 v) (header.Ipv6 w) e = cc
+same_end (header.Ipv6 v) (header.Ipv4 w) e = cc
+
 same_front : (a b : IpSlice) → ip_parts a ≡ ip_parts b → SameFront a b
 same_front a b e =
     let headers = ap (λ p. p.header) e in
@@ -65,6 +72,7 @@ same_front a b e =
       protocol = rw (later, upper) (ap (λ p. if b.is_later_fragment then None else p) (same_protocol a.header b.header b.upper headers));
       payload = ap (λ p. p.payload) e;
       fragment = ap (λ p. p.fragment) e;
+      end = same_end a.header b.header headers;
       len = rw (same_bytes a.header b.header headers, ap (λ p. p.extensions) e) refl;
     }
 
@@ -72,8 +80,11 @@ same_front a b e =
 payload_once : (read : Protocol) (place : ℕ) (a b : IpSlice) (t u : Option TransportSlice) (m n : Option SliceError) → SameFront a b
     → ReadsPayload read place a t m → ReadsPayload read place b u n → (option_map transport_parts t ≡ option_map transport_parts u) × (m ≡ n)
 payload_once read place a b t u m n same p q =
-    let reading = header_once read place b.payload.now p.reading q.reading (subst (λ s. ReadsHeader read place s p.reading) same.payload p.reads) q.reads in
-    (p.finds ∙ ap result_ok reading ∙ sym q.finds, p.misses ∙ ap (λ f. missing_in f p.reading) same.fragment ∙ ap (missing_in b.fragment) reading ∙ sym q.misses)
+    let reading = header_once read place b.payload.now p.reading q.reading (subst (λ s. ReadsHeader read place s p.reading) same.payload p.reads) q.reads in (
+      p.finds ∙ ap result_ok reading ∙ sym q.finds,
+      p.misses ∙ ap (λ s. missing_in s a.fragment p.reading) same.end ∙ ap (λ f. missing_in (payload_end_of b.header) f p.reading) same.fragment
+          ∙ ap (missing_in (payload_end_of b.header) b.fragment) reading ∙ sym q.misses,
+    )
 
 at_protocol : (o r : Option Protocol) (place : ℕ) (a b : IpSlice) (t u : Option TransportSlice) (m n : Option SliceError) → SameFront a b → o ≡ r
     → MatchOption o ((t ≡ None) × (m ≡ None)) (λ read. ReadsPayload read place a t m) → MatchOption r ((u ≡ None) × (n ≡ None)) (λ read. ReadsPayload read place b u n)

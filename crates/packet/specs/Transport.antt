@@ -6,10 +6,12 @@ use Rattle.std.specs.Prelude.{drop, if◌then◌else◌, option_map}
 use Rattle.std.specs.Result.{result_err, result_ok}
 use Rattle.etherparse.specs.LenError.{len_error_moved}
 use Rattle.etherparse.specs.Reading.{IsTooShort, Reads}
+use Rattle.etherparse.specs.declared.LenSource.{LenSource}
 use Rattle.etherparse.specs.declared.err.LenError.{LenError}
 use Rattle.etherparse.specs.declared.err.Layer.TheVariants as layer
 use Rattle.etherparse_transport.specs.Tcp.{ViewsTcp}
 use Rattle.etherparse_transport.specs.Udp.{ReadsUdp, UdpReading}
+use Rattle.packet_parts.specs.IpSlice.{payload_end_of}
 use Rattle.packet_parts.specs.declared.fragment.Fragment.{Fragment}
 use Rattle.packet_parts.specs.declared.ip_slice.IpHeaderSlice.{IpHeaderSlice}
 use Rattle.packet_parts.specs.declared.ip_slice.IpHeaderSlice.TheVariants as header
@@ -17,7 +19,7 @@ use Rattle.packet_parts.specs.declared.ip_slice.IpSlice.{IpSlice}
 use Rattle.etherparse_transport.specs.declared.tcp.TcpError.{TcpError}
 use Rattle.etherparse_transport.specs.declared.udp.UdpHeader.{UdpHeader}
 use Rattle.etherparse_link.specs.Bytes.{number_at}
-use Rattle.packet.specs.Error.{tcp_error_moved}
+use Rattle.packet.specs.Error.{error_by, tcp_error_moved}
 use Rattle.packet.specs.declared.error.SliceError.{SliceError}
 use Rattle.packet.specs.declared.error.SliceError.TheVariants as error
 use Rattle.packet.specs.declared.transport.IcmpHeader.{IcmpHeader}
@@ -100,10 +102,11 @@ ReadsHeader protocol.Icmpv6 place payload =
     ReadsAs (Reads IsIcmpLayout (IsTooShort layer.Icmpv6 4) payload)
     (icmp_reading Icmpv6Parts place)
 
--- that a header is incomplete is no error in a first fragment
-abbrev pub missing_in : Option Fragment → TransportReading → Option SliceError
-missing_in None reading = result_err reading
-missing_in (Some fragment) reading = None
+-- That a header is not read is no error in a first fragment. Elsewhere it is; if the header is
+-- incomplete, that is since the packet's length field says where the payload ends.
+abbrev pub missing_in : LenSource → Option Fragment → TransportReading → Option SliceError
+missing_in source None reading = option_map (error_by source) (result_err reading)
+missing_in source (Some fragment) reading = None
 
 -- a header of this protocol is read at the front of a payload, if that is not of a later fragment
 pub record ReadsPayload (read : Protocol) (place : ℕ) (slice : IpSlice)
@@ -111,7 +114,7 @@ pub record ReadsPayload (read : Protocol) (place : ℕ) (slice : IpSlice)
   pub reading : TransportReading
   pub reads : ReadsHeader read place slice.payload.now reading
   pub finds : option_map transport_parts found ≡ result_ok reading
-  pub misses : missing ≡ missing_in slice.fragment reading
+  pub misses : missing ≡ missing_in (payload_end_of slice.header) slice.fragment reading
 
 -- The transport header of a payload at a place, and the error of one that is incomplete. There is
 -- neither if the protocol is another one, or if the payload is of a later fragment.

@@ -2,9 +2,10 @@
 
 ghost use Rattle.std.specs.Prelude.{◌≡◌, ◌+◌, ◌^◌, ◌<◌, Some};
 ghost use Rattle.packet.specs.Error.{ip_error_moved, ip_error_place, slice_error_text};
-ghost use Rattle.packet.specs.Error.{tcp_error_moved, tcp_error_place};
+ghost use Rattle.packet.specs.Error.{error_by, tcp_error_moved, tcp_error_place};
 
 use crate::link::LinkError;
+use etherparse::LenSource;
 use etherparse::err::LenError;
 use etherparse_transport::TcpError;
 use packet_parts::ip_slice::IpSliceError;
@@ -21,7 +22,8 @@ pub enum SliceError {
     Vlan(LenError),
     /// The IP packet is refused.
     Ip(IpSliceError),
-    /// The payload is a UDP datagram of fewer than 8 bytes, and no fragment.
+    /// The payload is a UDP datagram of fewer than 8 bytes, and no fragment. `len_source` is the
+    /// length field of the IP header, which says where the payload ends, as in the two below.
     Udp(LenError),
     /// The payload is a TCP segment that does not begin with a whole header, and no fragment.
     Tcp(TcpError),
@@ -57,7 +59,7 @@ pub(crate) fn ip_error_moved(offset: usize, e: IpSliceError) -> IpSliceError
         IpSliceError::Ipv6Header(e) => IpSliceError::Ipv6Header(e.add_slice_offset(offset)),
         IpSliceError::Packet(e) => IpSliceError::Packet(e.add_offset(offset)),
         IpSliceError::Extensions(e) => IpSliceError::Extensions(e.add_offset(offset)),
-        IpSliceError::Empty => IpSliceError::Empty,
+        IpSliceError::Empty(e) => IpSliceError::Empty(e.add_offset(offset)),
         IpSliceError::UnexpectedVersion { version_number } => IpSliceError::UnexpectedVersion {
             version_number,
         },
@@ -74,5 +76,21 @@ pub(crate) fn tcp_error_moved(offset: usize, e: TcpError) -> TcpError
     match e {
         TcpError::Len(e) => TcpError::Len(e.add_offset(offset)),
         TcpError::DataOffset(data_offset) => TcpError::DataOffset(data_offset),
+    }
+}
+
+// The error of a transport header that is incomplete, since this says where the payload ends.
+#[cold]
+#[inline(never)] // Likewise.
+pub(crate) fn error_by(len_source: LenSource, e: SliceError) -> SliceError
+    ensures value { result ≡ error_by len_source e }
+{
+    match e {
+        SliceError::Udp(e) => SliceError::Udp(LenError { len_source, ..e }),
+        SliceError::Tcp(TcpError::Len(e)) => {
+            SliceError::Tcp(TcpError::Len(LenError { len_source, ..e }))
+        }
+        SliceError::Icmp(e) => SliceError::Icmp(LenError { len_source, ..e }),
+        e => e,
     }
 }

@@ -205,7 +205,7 @@ impl<'a> SlicedPacket<'a> {
     /// let too_short = LenError {
     ///     required_len: 20,
     ///     len: 4,
-    ///     len_source: LenSource::Slice,
+    ///     len_source: LenSource::Ipv4HeaderTotalLen,
     ///     layer: Layer::TcpHeader,
     ///     layer_start_offset: 20,
     /// };

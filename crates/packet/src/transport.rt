@@ -5,8 +5,9 @@ ghost use Rattle.std.specs.Result.{result_map_both};
 ghost use Rattle.etherparse.specs.Reading.{IsTooShort, Reads, found_and_rest};
 ghost use Rattle.packet.specs.Transport.{HasPorts, IsIcmpLayout, ReadsHeader, ReadsTransport};
 ghost use Rattle.packet.specs.Transport.{protocol_of, transport_parts};
+ghost use Rattle.packet_parts.specs.IpSlice.{payload_end_of};
 
-use crate::error::{SliceError, tcp_error_moved};
+use crate::error::{SliceError, error_by, tcp_error_moved};
 use etherparse::err::{Layer, LenError};
 use etherparse::{IpNumber, LenSource};
 use etherparse_transport::{TcpHeaderSlice, UdpHeader};
@@ -116,8 +117,19 @@ pub(crate) fn transport_of<'a>(
         Ok(found) => (Some(found), None),
         Err(e) => match ip.fragment {
             Some(_) => (None, None),
-            None => (None, Some(e)),
+            None => (None, Some(error_by(payload_end_of(&ip.header), e))),
         },
+    }
+}
+
+// What says where the payload of a packet ends that has all its bytes.
+#[inline(always)]
+fn payload_end_of(header: &IpHeaderSlice) -> LenSource
+    ensures value { result ≡ payload_end_of header.now }
+{
+    match header {
+        IpHeaderSlice::Ipv4(_) => LenSource::Ipv4HeaderTotalLen,
+        IpHeaderSlice::Ipv6(_) => LenSource::Ipv6HeaderPayloadLen,
     }
 }
 

@@ -9,12 +9,15 @@ use Rattle.std.specs.Result.{result_err, result_ok}
 use Rattle.etherparse.proofs.Parts.{part_is_bytes}
 use Rattle.etherparse.specs.Bytes.{IsBytes, words_of}
 use Rattle.etherparse.specs.Reading.{IsTooShort, Reads, too_short_error}
+use Rattle.etherparse.specs.declared.LenSource.{LenSource}
 use Rattle.etherparse.specs.declared.err.LenError.{LenError}
 use Rattle.etherparse.specs.declared.err.Layer.{Layer}
 use Rattle.etherparse.specs.declared.err.Layer.TheVariants as layer
 use Rattle.etherparse_link.specs.Bytes.{number_at}
+use Rattle.packet.specs.Error.{error_by}
 use Rattle.packet.specs.Transport.{Icmpv4Parts, Icmpv6Parts, IsIcmpLayout, ReadsPayload, ReadsTransport, TransportReading, icmp_reading, missing_in, protocol_of, protocol_over, tcp_reading, transport_parts, udp_reading}
 use Rattle.packet.specs.declared.error.SliceError.{SliceError}
+use Rattle.packet.specs.declared.error.SliceError.TheVariants as error
 use Rattle.packet.specs.declared.transport.IcmpHeader.{IcmpHeader}
 use Rattle.packet.specs.declared.transport.TransportSlice.{TransportSlice}
 use Rattle.packet.specs.declared.transport.TransportSlice.TheVariants as transport
@@ -22,6 +25,7 @@ use Rattle.packet_filter.specs.Private.Front.{is_in_ip}
 use Rattle.etherparse_transport.specs.Tcp.{ViewsTcp, data_offset_of}
 use Rattle.etherparse_transport.specs.declared.tcp.TcpHeaderSlice.{TcpHeaderSlice}
 use Rattle.etherparse_transport.specs.Udp.{ReadsUdp, UdpReading, udp_words}
+use Rattle.packet_parts.specs.IpSlice.{payload_end_of}
 use Rattle.packet_parts.specs.declared.fragment.Fragment.{Fragment}
 use Rattle.packet_parts.specs.declared.ip_slice.IpHeaderSlice.{IpHeaderSlice}
 use Rattle.packet_parts.specs.declared.ip_slice.IpHeaderSlice.TheVariants as header
@@ -103,9 +107,16 @@ icmpv6_finds : (place : ℕ) (r : Result (IcmpHeader × List ℕ) LenError) → 
 icmpv6_finds place (Ok x) = (Some (transport.Icmpv6 x.0 (slice_of x.1)), refl, refl)
 icmpv6_finds place (Err e) = (None, refl, refl)
 
-missing_not_ip : (f : Option Fragment) (r : TransportReading) → is_in_ip (result_err r) ≡ false → is_in_ip (missing_in f r) ≡ false
-missing_not_ip None r h = h
-missing_not_ip (Some f) r h = refl
+by_not_ip : (s : LenSource) (o : Option SliceError) → is_in_ip o ≡ false → is_in_ip (option_map (error_by s) o) ≡ false
+by_not_ip s None h = h
+by_not_ip s (Some (error.Ip e)) h = h
+by_not_ip s (Some (error.Tcp (Len e))) h = h
+by_not_ip s (Some (error.Tcp (DataOffset offset))) h = h
+by_not_ip s (Some _) h = h
+
+missing_not_ip : (s : LenSource) (f : Option Fragment) (r : TransportReading) → is_in_ip (result_err r) ≡ false → is_in_ip (missing_in s f r) ≡ false
+missing_not_ip s None r h = by_not_ip s (result_err r) h
+missing_not_ip s (Some f) r h = refl
 
 -- a fact of one of three, or of none
 one_of : {P : Type 0} (F : P → Type 0) (a b c : Bool) (x y z : P) → F x → F y → F z → MatchOption (if a then Some x else if b then Some y else if c then Some z else None) (Unit {0}) F
@@ -129,9 +140,9 @@ module _ (place : ℕ) (slice : IpSlice) (bytes : IsBytes slice.payload.now) whe
       let tf = tcp_finds place s t.0 bytes t.1 in
       let jf = icmpv4_finds place i.0 in
       one_of _ (number == 17) (number == 6) (number == 1) _ _ _
-      (uf.0, missing_in slice.fragment (udp_reading place u.0), record { reading = udp_reading place u.0; reads = record { inside = u.0; allowed = u.1; becomes = refl }; finds = uf.1; misses = refl }, missing_not_ip _ _ uf.2)
-      (tf.0, missing_in slice.fragment (tcp_reading place s t.0), record { reading = tcp_reading place s t.0; reads = record { inside = t.0; allowed = t.1; becomes = refl }; finds = tf.1; misses = refl }, missing_not_ip _ _ tf.2)
-      (jf.0, missing_in slice.fragment (icmp_reading Icmpv4Parts place i.0), record { reading = icmp_reading Icmpv4Parts place i.0; reads = record { inside = i.0; allowed = i.1; becomes = refl }; finds = jf.1; misses = refl }, missing_not_ip _ _ jf.2)
+      (uf.0, missing_in (payload_end_of slice.header) slice.fragment (udp_reading place u.0), record { reading = udp_reading place u.0; reads = record { inside = u.0; allowed = u.1; becomes = refl }; finds = uf.1; misses = refl }, missing_not_ip _ _ _ uf.2)
+      (tf.0, missing_in (payload_end_of slice.header) slice.fragment (tcp_reading place s t.0), record { reading = tcp_reading place s t.0; reads = record { inside = t.0; allowed = t.1; becomes = refl }; finds = tf.1; misses = refl }, missing_not_ip _ _ _ tf.2)
+      (jf.0, missing_in (payload_end_of slice.header) slice.fragment (icmp_reading Icmpv4Parts place i.0), record { reading = icmp_reading Icmpv4Parts place i.0; reads = record { inside = i.0; allowed = i.1; becomes = refl }; finds = jf.1; misses = refl }, missing_not_ip _ _ _ jf.2)
   header_of (header.Ipv6 v) false number =
       let u = some_udp s bytes in
       let t = some_tcp s in
@@ -140,9 +151,9 @@ module _ (place : ℕ) (slice : IpSlice) (bytes : IsBytes slice.payload.now) whe
       let tf = tcp_finds place s t.0 bytes t.1 in
       let jf = icmpv6_finds place i.0 in
       one_of _ (number == 17) (number == 6) (number == 58) _ _ _
-      (uf.0, missing_in slice.fragment (udp_reading place u.0), record { reading = udp_reading place u.0; reads = record { inside = u.0; allowed = u.1; becomes = refl }; finds = uf.1; misses = refl }, missing_not_ip _ _ uf.2)
-      (tf.0, missing_in slice.fragment (tcp_reading place s t.0), record { reading = tcp_reading place s t.0; reads = record { inside = t.0; allowed = t.1; becomes = refl }; finds = tf.1; misses = refl }, missing_not_ip _ _ tf.2)
-      (jf.0, missing_in slice.fragment (icmp_reading Icmpv6Parts place i.0), record { reading = icmp_reading Icmpv6Parts place i.0; reads = record { inside = i.0; allowed = i.1; becomes = refl }; finds = jf.1; misses = refl }, missing_not_ip _ _ jf.2)
+      (uf.0, missing_in (payload_end_of slice.header) slice.fragment (udp_reading place u.0), record { reading = udp_reading place u.0; reads = record { inside = u.0; allowed = u.1; becomes = refl }; finds = uf.1; misses = refl }, missing_not_ip _ _ _ uf.2)
+      (tf.0, missing_in (payload_end_of slice.header) slice.fragment (tcp_reading place s t.0), record { reading = tcp_reading place s t.0; reads = record { inside = t.0; allowed = t.1; becomes = refl }; finds = tf.1; misses = refl }, missing_not_ip _ _ _ tf.2)
+      (jf.0, missing_in (payload_end_of slice.header) slice.fragment (icmp_reading Icmpv6Parts place i.0), record { reading = icmp_reading Icmpv6Parts place i.0; reads = record { inside = i.0; allowed = i.1; becomes = refl }; finds = jf.1; misses = refl }, missing_not_ip _ _ _ jf.2)
 
 -- the transport header of a packet, and why it is not there
 pub record HasTransport (place : ℕ) (slice : IpSlice) : Type 0 where

@@ -29,7 +29,7 @@ ip_error_eq (error.Ipv4Header e) (error.Ipv4Header f) = grind (arith, nat_tests)
 ip_error_eq (error.Ipv6Header e) (error.Ipv6Header f) = grind (arith, nat_tests)
 ip_error_eq (error.Packet e) (error.Packet f) = (λ h. ap error.Packet ((len_eq e f).0 h), λ h. (len_eq e f).1 cc)
 ip_error_eq (error.Extensions e) (error.Extensions f) = (λ h. ap error.Extensions ((len_eq e f).0 h), λ h. (len_eq e f).1 cc)
-ip_error_eq error.Empty error.Empty = (λ h. refl, λ h. refl)
+ip_error_eq (error.Empty e) (error.Empty f) = (λ h. ap error.Empty ((len_eq e f).0 h), λ h. (len_eq e f).1 cc)
 ip_error_eq _ _ = (λ h. absurd (not_true h), λ same. cc)
 
 -- what may be there is equal if both are not there, or both are and equal: the same, or saying the same

@@ -1,12 +1,11 @@
 -- What there is of a packet, by its length field.
-use Rattle.std.proofs.Common.{ℕ, ◌≡◌, ◌≢◌, ◌+◌, ◌<◌, ◌≤◌, ◌∙◌, ◌++◌, Bool, List, MatchOption, Option, None, Some, Ok, Err, ap, arith, false, inl, inr, length, length-append, length-take, option_map, refl, sym, true}
+use Rattle.std.proofs.Common.{ℕ, ◌≡◌, ◌≢◌, ◌+◌, ◌<◌, ◌≤◌, ◌∙◌, ◌++◌, Bool, List, MatchOption, Option, None, Some, Ok, Err, ap, arith, false, inl, inr, length, option_map, refl, sym, true}
 use Rattle.std.proofs.lemmas.List.{take_all}
 use Rattle.std.proofs.lemmas.Bool.Decides.{nat_tests}
 use Rattle.std.specs.Prelude.{take, IsTrue, ◌⊎◌}
 use Rattle.etherparse.specs.ExtensionHeaders.{IsSkippable}
 use Rattle.etherparse.specs.Ipv4Header.{IsIpv4Layout, ipv4_header_len, ipv4_payload_len}
 use Rattle.etherparse.specs.Ipv6Header.{IsIpv6Layout}
-use Rattle.etherparse.specs.LenError.{len_error_moved}
 use Rattle.etherparse.specs.Reading.{BeginsWith, HasFront, too_short_error}
 use Rattle.etherparse.specs.declared.err.Layer.TheVariants as layer
 use Rattle.etherparse.specs.declared.err.LenError.{LenError}
@@ -16,7 +15,7 @@ use Rattle.etherparse.specs.declared.net.ipv6_header.Ipv6Header.{Ipv6Header}
 use Rattle.etherparse.specs.declared.net.ipv6_header_slice.Ipv6HeaderSlice.{Ipv6HeaderSlice}
 use Rattle.packet_parts.specs.Extensions.{EndsAs}
 use Rattle.packet_parts.proofs.IpParts.{cut_front, packet_len_4, packet_len_6}
-use Rattle.packet_parts.specs.IpSlice.{HasIpParts, HasLaxIpParts, IsWhole, RefusesIp, ipv4_bytes, ipv6_bytes}
+use Rattle.packet_parts.specs.IpSlice.{HasIpParts, HasLaxIpParts, IsWhole, RefusesIp, extension_error, ipv4_bytes, ipv6_bytes}
 use Rattle.etherparse_net.specs.declared.ipv6_fragment_header.Ipv6FragmentHeader.{Ipv6FragmentHeader}
 use Rattle.packet_parts.specs.declared.ip_slice.IpHeaderSlice.TheVariants as version
 use Rattle.packet_parts.specs.declared.ip_slice.IpSlice.{IpSlice}
@@ -87,7 +86,7 @@ module _ (packet rest : List ℕ) (view : Ipv6HeaderSlice) (header : Ipv6Header)
       record { told = rw of_view (λ zero. omega (arith, len, zero)); enough = rw of_view (omega (arith, len, enough)); headers = rw of_view headers }
 
   ended : (later : Bool) (incomplete : Option LenError) (stop : Option IpSliceError) → slice.is_later_fragment ≡ later
-      → stop ≡ option_map (λ e. error.Extensions (len_error_moved 40 e)) incomplete → EndsAs later incomplete rest header.next_header decided slice.upper slice.payload.now
+      → stop ≡ option_map (λ e. error.Extensions (extension_error e)) incomplete → EndsAs later incomplete rest header.next_header decided slice.upper slice.payload.now
       → MatchOption stop (IsWhole packet slice) (RefusesIp packet)
   ended false None stop later is ends = rw is (whole (inr ends.1))
   ended true None stop later is ends = rw is (whole (inl (rw later refl)))
@@ -105,6 +104,6 @@ module _ (packet rest : List ℕ) (view : Ipv6HeaderSlice) (header : Ipv6Header)
   })
   ended true (Some e) stop later is ends = absurd ends
 
-  pub whole_or_refused : (incomplete : Option LenError) (stop : Option IpSliceError) → stop ≡ option_map (λ e. error.Extensions (len_error_moved 40 e)) incomplete
+  pub whole_or_refused : (incomplete : Option LenError) (stop : Option IpSliceError) → stop ≡ option_map (λ e. error.Extensions (extension_error e)) incomplete
       → EndsAs slice.is_later_fragment incomplete rest header.next_header decided slice.upper slice.payload.now → MatchOption stop (IsWhole packet slice) (RefusesIp packet)
   whole_or_refused incomplete stop is ends = ended slice.is_later_fragment incomplete stop refl is ends

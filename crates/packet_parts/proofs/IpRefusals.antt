@@ -8,7 +8,6 @@ use Rattle.etherparse.proofs.Ipv6Reading.{tells_headers as tells_ipv6}
 use Rattle.etherparse.specs.FirstByte.{version_of}
 use Rattle.etherparse.specs.Ipv4Header.{IsIpv4Layout, Ipv4Reading, ReadsIpv4, RefusesIpv4, ipv4_header_len, ipv4_payload_len}
 use Rattle.etherparse.specs.Ipv6Header.{IsIpv6Layout, Ipv6Reading, ReadsIpv6, RefusesIpv6}
-use Rattle.etherparse.specs.LenError.{len_error_moved}
 use Rattle.etherparse.specs.Reading.{BeginsWith, too_short_error}
 use Rattle.etherparse.specs.declared.err.Layer.TheVariants as layer
 use Rattle.etherparse.specs.declared.err.LenError.{LenError}
@@ -20,7 +19,7 @@ use Rattle.etherparse.specs.ExtensionHeaders.{IsSkippable}
 use Rattle.packet_parts.proofs.ExtensionEnds.{one_end, same_beginning}
 use Rattle.packet_parts.proofs.IpParts.{begins_4, begins_6, ipv6_front, is_version_4, is_version_6, longer, packet_len_4, packet_len_6, same_cut_beginning, same_parts}
 use Rattle.packet_parts.specs.Extensions.{EndsAs}
-use Rattle.packet_parts.specs.IpSlice.{EndsInExtensions, HasIpParts, HasIpv4Parts, HasIpv6Parts, HasLaxIpParts, HasNoIpParts, HasPartsWith, HasWholeHeaders, IsWhole, ReadsIp, ReadsLaxIp, RefusesIp, ip_answer, ip_parts, ipv4_bytes, ipv6_bytes, lax_ip_answer, packet_len_of}
+use Rattle.packet_parts.specs.IpSlice.{EndsInExtensions, HasIpParts, HasIpv4Parts, HasIpv6Parts, HasLaxIpParts, HasNoIpParts, HasPartsWith, HasWholeHeaders, IsWhole, ReadsIp, ReadsLaxIp, RefusesIp, extension_error, ip_answer, ip_parts, ipv4_bytes, ipv6_bytes, lax_ip_answer, packet_len_of}
 use Rattle.packet_parts.specs.declared.ip_slice.IpHeaderSlice.{IpHeaderSlice}
 use Rattle.packet_parts.specs.declared.ip_slice.IpHeaderSlice.TheVariants as header
 use Rattle.packet_parts.specs.declared.ip_slice.IpSlice.{IpSlice}
@@ -35,7 +34,7 @@ same_extensions s e f p q =
     let ends : EndsAs false (Some p.inside) q.body q.header.next_header p.fragment p.number p.rest = subst (λ z. EndsAs false (Some p.inside) z q.header.next_header p.fragment p.number p.rest) same.1
     (subst (λ k. EndsAs false (Some p.inside) p.body k.next_header p.fragment p.number p.rest) same.0 p.ends) in
     let inside : p.inside ≡ q.inside = let end = (one_end q.body q.header.next_header false false (Some p.inside) (Some q.inside) p.fragment q.fragment p.number q.number p.rest q.rest ends q.ends).incomplete in cc in
-    p.moved ∙ ap (len_error_moved 40) inside ∙ sym q.moved
+    p.moved ∙ ap extension_error inside ∙ sym q.moved
 
 -- the error that a total length makes: what it states itself, or else that there are fewer bytes
 abbrev stated : Result ℕ LenError → LenError → LenError
@@ -75,7 +74,7 @@ record Reason6 (s : List ℕ) (e : IpSliceError) : Type 0 where
 -- the reason of a packet of no version
 record ReasonOther (s : List ℕ) (e : IpSliceError) : Type 0 where
   other : 0 < length s → (version_of s ≢ 4) × (version_of s ≢ 6)
-  is : e ≡ (if length s == 0 then Empty else UnexpectedVersion (version_of s))
+  is : e ≡ (if length s == 0 then Empty (too_short_error layer.IpHeader 1 0) else UnexpectedVersion (version_of s))
 
 payload_len_stated : (h : Header4) (e : LenError) → ipv4_payload_len h ≡ Err e → h.total_len < ipv4_header_len h
 payload_len_stated h e says = grind (arith, nat_tests)
@@ -87,7 +86,7 @@ header_4_fits : (s : List ℕ) (h : Header4) (x : List ℕ) → BeginsWith IsIpv
 header_4_fits s h x b = (omega (arith, ap length b.whole, length-append {A = ℕ}, b.layout.layout.len), omega (arith, ap length b.whole, length-append {A = ℕ}, b.layout.layout.len))
 
 reason : (s : List ℕ) (e : IpSliceError) → RefusesIp s e → ReasonOther s e ⊎ Reason4 s e ⊎ Reason6 s e
-reason s Empty r = inl (record { other = λ some. absurd (omega (arith, r, some)); is = rw r refl })
+reason s (Empty e) r = inl (record { other = λ some. absurd (omega (arith, r.0, some)); is = rw r.0 (ap Empty r.1) })
 reason s (UnexpectedVersion version) (some, is, not_4, not_6) = inl (record { other = λ _. (λ v. not_4 (is ∙ v), λ v. not_6 (is ∙ v)); is = grind (arith, nat_tests) })
 reason s (Ipv4Header e) (some, is, r) = inr (inl (record { some = some; version = is; answer = Err e; reads = r; fails = tt; is = refl }))
 reason s (Ipv6Header e) (some, is, r) = inr (inr (record { some = some; version = is; answer = Err e; reads = r; is = refl }))
@@ -152,7 +151,7 @@ refused_once s e f p q = same_reason s e f (reason s e p) (reason s f q)
 
 -- what has no parts is refused
 pub no_parts_refused : (s : List ℕ) (e : IpSliceError) → HasNoIpParts s e → RefusesIp s e
-no_parts_refused s Empty p = p
+no_parts_refused s (Empty e) p = p
 no_parts_refused s (UnexpectedVersion version) p = p
 no_parts_refused s (Ipv4Header e) p = p
 no_parts_refused s (Ipv6Header e) p = p
@@ -181,7 +180,7 @@ header_4_told s h x p some =
     omega (arith, told, ap length p.whole, length-append {A = ℕ}, p.layout.layout.len)
 
 no_parts_4 : (s : List ℕ) (h : Header4) (x : List ℕ) (e : IpSliceError) → BeginsWith IsIpv4Layout s h x → (h.total_len ≢ 0 → ipv4_header_len h ≤ h.total_len) → HasNoIpParts s e → ⊥
-no_parts_4 s h x Empty b told r = omega (arith, (header_4_fits s h x b).1, r)
+no_parts_4 s h x (Empty e) b told r = omega (arith, (header_4_fits s h x b).1, r.0)
 no_parts_4 s h x (UnexpectedVersion version) b told r = r.2 (r.1 ∙ is_version_4 s h x b)
 no_parts_4 s h x (Ipv4Header e) b told r = tells_ipv4.not_refused s h x e b r.2
 no_parts_4 s h x (Ipv6Header e) b told r = omega (arith, is_version_4 s h x b, r.1)

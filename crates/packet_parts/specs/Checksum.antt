@@ -1,6 +1,6 @@
 -- What a receiver finds of the checksum of UDP, TCP, ICMP or ICMPv6.
 use Rattle.std.specs.Prelude.{ℕ, ◌≡◌, ◌≢◌, ◌==◌, ◌<◌, ◌≤◌, ◌^◌, ◌⊎◌, List, [], ◌∷◌, ◌++◌}
-use Rattle.std.specs.Prelude.{MatchOption, None, Some, codes, if◌then◌else◌, length, slice_range}
+use Rattle.std.specs.Prelude.{MatchOption, codes, if◌then◌else◌, length, slice_range}
 use Rattle.std.specs.Prelude.{take}
 use Rattle.std.specs.Int.{from_be_bytes, to_be_bytes, w16, w32}
 use Rattle.etherparse.specs.WordSums.{ones_complement_sum}

@@ -17,6 +17,8 @@ use Rattle.etherparse.specs.Ipv6Errors.{ipv6_header_slice_error_text}
 use Rattle.etherparse.specs.Ipv6Header.{IsIpv6Layout, RefusesIpv6}
 use Rattle.etherparse.specs.LenError.{len_error_moved, len_error_text}
 use Rattle.etherparse.specs.Reading.{BeginsWith, too_short_error}
+use Rattle.etherparse.specs.declared.LenSource.{LenSource}
+use Rattle.etherparse.specs.declared.LenSource.TheVariants as source
 use Rattle.etherparse.specs.declared.err.LenError.{LenError}
 use Rattle.etherparse.specs.declared.err.Layer.TheVariants as layer
 use Rattle.etherparse.specs.declared.net.ipv4_header.Ipv4Header.{Ipv4Header}
@@ -151,8 +153,18 @@ pub record EndsInIpv6Payload (packet : List ℕ) (e : LenError) : Type 0 where
   pub short : length packet < 40 + header.payload_length
   pub error : e ≡ too_short_error layer.Ipv6Packet (40 + header.payload_length) (length packet)
 
--- the packet has all its bytes, and ends within an extension header; the place in the error counts
--- from the packet's start
+-- What says where the payload of a packet ends that has all its bytes: the total length, which counts
+-- the header too (RFC 791 section 3.1), or the payload length (RFC 8200 section 3).
+abbrev pub payload_end_of : IpHeaderSlice → LenSource
+payload_end_of (header.Ipv4 view) = source.Ipv4HeaderTotalLen
+payload_end_of (header.Ipv6 view) = source.Ipv6HeaderPayloadLen
+
+-- the error of an extension header in such a packet; its place counts from the packet's start
+abbrev pub extension_error : LenError → LenError
+extension_error inside =
+    record (len_error_moved 40 inside) { len_source = source.Ipv6HeaderPayloadLen }
+
+-- the packet has all its bytes, and ends within an extension header
 pub record EndsInExtensions (packet : List ℕ) (e : LenError) : Type 0 where
   pub header : Ipv6Header
   pub body : List ℕ
@@ -163,13 +175,14 @@ pub record EndsInExtensions (packet : List ℕ) (e : LenError) : Type 0 where
   pub rest : List ℕ
   pub inside : LenError
   pub ends : EndsAs false (Some inside) body header.next_header fragment number rest
-  pub moved : e ≡ len_error_moved 40 inside
+  pub moved : e ≡ extension_error inside
 
 -- Why a packet is not sliced: it has no bytes; its version is neither 4 nor 6; it has no header of
 -- its version. Or its total length is below its header, or it is shorter than its length field
 -- says; or it ends within an extension header.
 abbrev pub RefusesIp : List ℕ → IpSliceError → Type 0
-RefusesIp packet error.Empty = length packet ≡ 0
+RefusesIp packet (error.Empty e) =
+    (length packet ≡ 0) × (e ≡ too_short_error layer.IpHeader 1 0)
 RefusesIp packet (error.UnexpectedVersion version) =
     (0 < length packet) × (version ≡ version_of packet) × (version ≢ 4) × (version ≢ 6)
 RefusesIp packet (error.Ipv4Header e) =
@@ -190,7 +203,7 @@ pub record StatesLessThanHeader (packet : List ℕ) (e : LenError) : Type 0 wher
 abbrev pub HasNoIpParts : List ℕ → IpSliceError → Type 0
 HasNoIpParts packet (error.Packet e) = StatesLessThanHeader packet e
 HasNoIpParts packet (error.Extensions e) = ⊥
-HasNoIpParts packet error.Empty = RefusesIp packet error.Empty
+HasNoIpParts packet (error.Empty e) = RefusesIp packet (error.Empty e)
 HasNoIpParts packet (error.UnexpectedVersion version) =
     RefusesIp packet (error.UnexpectedVersion version)
 HasNoIpParts packet (error.Ipv4Header e) = RefusesIp packet (error.Ipv4Header e)
@@ -203,7 +216,7 @@ pub record HasLaxIpParts (packet : List ℕ) (lax : LaxIpSlice) : Type 0 where
 
 -- the text of the error with which a packet is refused
 abbrev pub ip_slice_error_text : IpSliceError → List ℕ
-ip_slice_error_text error.Empty = len_error_text (too_short_error layer.IpHeader 1 0)
+ip_slice_error_text (error.Empty e) = len_error_text e
 ip_slice_error_text (error.UnexpectedVersion version) =
     codes "IP Header Error: Version " ++ (decimal version ++ codes " is neither 4 nor 6.")
 ip_slice_error_text (error.Ipv4Header e) = ipv4_header_slice_error_text e

@@ -5,13 +5,13 @@ ghost use Rattle.std.specs.Prelude.{MatchOption, Some, length, option_map};
 ghost use Rattle.etherparse.specs.FirstByte.{version_of};
 ghost use Rattle.etherparse.specs.Ipv4Header.{IsIpv4Layout, OfIpv4Header};
 ghost use Rattle.etherparse.specs.Ipv6Header.{IsIpv6Layout};
-ghost use Rattle.etherparse.specs.LenError.{len_error_moved};
 ghost use Rattle.etherparse.specs.Reading.{BeginsWith, too_short_error};
 ghost use Rattle.etherparse.specs.declared.net.ipv4_header.Ipv4Header.{Ipv4Header as Header4};
 ghost use Rattle.etherparse.specs.declared.net.ipv6_header.Ipv6Header.{Ipv6Header as Header6};
 ghost use Rattle.packet_parts.specs.IpSlice.{HasIpParts, HasLaxIpParts, HasNoIpParts, IsWhole};
 ghost use Rattle.packet_parts.specs.IpSlice.{ReadsIp, ReadsLaxIp, RefusesIp, ip_slice_error_text};
-ghost use Rattle.packet_parts.specs.IpSlice.{ipv4_bytes, ipv4_fragment_of, ipv6_bytes, placed};
+ghost use Rattle.packet_parts.specs.IpSlice.{extension_error, ipv4_bytes, ipv4_fragment_of};
+ghost use Rattle.packet_parts.specs.IpSlice.{ipv6_bytes, placed};
 ghost use Rattle.packet_parts.specs.declared.ip_slice.IpHeaderSlice.TheVariants as Header;
 ghost use Rattle.packet_parts.specs.declared.ip_slice.IpSliceError.TheVariants as Stop;
 
@@ -62,8 +62,8 @@ pub struct IpSlice<'a> {
 /// Why a packet is not sliced.
 #[derive(Clone, Debug, PartialEq, Eq, Drop)]
 pub enum IpSliceError {
-    /// There are no bytes.
-    Empty,
+    /// There are no bytes, and one is required.
+    Empty(LenError),
     /// The version is neither 4 nor 6.
     UnexpectedVersion {
         /// The upper half of the first byte.
@@ -77,8 +77,8 @@ pub enum IpSliceError {
     /// the header length. Or the packet has fewer bytes than its length field says: `len` is then
     /// how many it has, `required_len` how many it should have, with the header.
     Packet(LenError),
-    /// An IPv6 packet, trimmed at its payload length, ends within an extension header.
-    /// `layer_start_offset` is the place of that header from the packet's start.
+    /// An IPv6 packet, trimmed at its payload length, ends within an extension header. `len_source`
+    /// is the payload length, `layer_start_offset` the place of that header from the packet's start.
     Extensions(LenError),
 }
 
@@ -87,16 +87,7 @@ impl fmt::Display for IpSliceError {
 
     fn fmt<W: fmt::Write>(&self, f: &mut fmt::Formatter<W>) -> fmt::Result {
         match self {
-            IpSliceError::Empty => {
-                let e = LenError {
-                    required_len: 1,
-                    len: 0,
-                    len_source: LenSource::Slice,
-                    layer: Layer::IpHeader,
-                    layer_start_offset: 0,
-                };
-                fmt::Display::fmt(&e, f)
-            }
+            IpSliceError::Empty(e) => fmt::Display::fmt(e, f),
             IpSliceError::UnexpectedVersion { version_number } => {
                 let version = *version_number;
                 write!(f, "IP Header Error: Version {version} is neither 4 nor 6.")
@@ -324,7 +315,7 @@ fn lax_slice(packet: &[u8]) -> Result<LaxIpSlice, IpSliceError>
     ensures reads { ReadsLaxIp packet.now result }
 {
     if packet.is_empty() {
-        return Err(IpSliceError::Empty);
+        return Err(IpSliceError::Empty(too_short(1, 0, Layer::IpHeader)));
     }
     match packet[0] >> 4 {
         4 => ipv4_slice(packet),
@@ -460,18 +451,21 @@ fn placed(decided: Option<Ipv6FragmentHeader>) -> Option<Fragment>
     }
 }
 
-// The error of an extension header that is incomplete, with its place from the packet's start.
+// The error of an extension header that is incomplete: the packet ends there by its payload length.
 fn moved(incomplete: Option<LenError>) -> Option<IpSliceError>
     requires fits { IfSome incomplete (λ e. e.layer_start_offset + 40 < 2 ^ 64) }
-    ensures value { result ≡ option_map (λ e. Stop.Extensions (len_error_moved 40 e)) incomplete }
+    ensures value { result ≡ option_map (λ e. Stop.Extensions (extension_error e)) incomplete }
 {
     match incomplete {
-        Some(e) => Some(IpSliceError::Extensions(e.add_offset(Ipv6Header::LEN))),
+        Some(e) => Some(IpSliceError::Extensions(LenError {
+            len_source: LenSource::Ipv6HeaderPayloadLen,
+            ..e.add_offset(Ipv6Header::LEN)
+        })),
         None => None,
     }
 }
 
-// The error of a packet that is shorter than its length field says.
+// The error of a packet that is shorter than its first byte or than its length field says.
 fn too_short(required_len: usize, len: usize, layer: Layer) -> LenError
     ensures value { result ≡ too_short_error layer required_len len }
 {

@@ -60,7 +60,7 @@ told_4 s h x p some =
     let told : length (ipv4_bytes h s) ≤ h.total_len = grind (arith, common_steps, nat_tests) in omega (arith, told, ap length p.whole, length-append {A = ℕ}, p.layout.layout.len)
 
 not_refused_4 : (s : List ℕ) (h : Header4) (x : List ℕ) (e : IpSliceError) → BeginsWith IsIpv4Layout s h x → ipv4_header_len h ≤ h.total_len → h.total_len ≤ length s → RefusesIp s e → ⊥
-not_refused_4 s h x Empty b told enough r = omega (arith, r, ap length b.whole, length-append {A = ℕ}, b.layout.layout.len)
+not_refused_4 s h x (Empty e) b told enough r = omega (arith, r.0, ap length b.whole, length-append {A = ℕ}, b.layout.layout.len)
 not_refused_4 s h x (UnexpectedVersion version) b told enough r = r.2 (r.1 ∙ is_version_4 s h x b)
 not_refused_4 s h x (Ipv4Header e) b told enough r = tells_ipv4.not_refused s h x e b r.2
 not_refused_4 s h x (Ipv6Header e) b told enough r = omega (arith, is_version_4 s h x b, r.1)
@@ -73,7 +73,7 @@ not_refused_4 s h x (Extensions e) b told enough r = one_version s h r.header x 
 
 not_refused_6 : (s : List ℕ) (h : Header6) (x : List ℕ) (e : IpSliceError) → BeginsWith IsIpv6Layout s h x → 40 + h.payload_length ≤ length s → RefusesIp s e
     → (y : LenError) × (e ≡ Extensions y)
-not_refused_6 s h x Empty b enough r = absurd (omega (arith, r, enough))
+not_refused_6 s h x (Empty e) b enough r = absurd (omega (arith, r.0, enough))
 not_refused_6 s h x (UnexpectedVersion version) b enough r = absurd (r.3 (r.1 ∙ is_version_6 s h x b))
 not_refused_6 s h x (Ipv4Header e) b enough r = absurd (omega (arith, is_version_6 s h x b, r.1))
 not_refused_6 s h x (Ipv6Header e) b enough r = absurd (tells_ipv6.not_refused s h x e b r.2)

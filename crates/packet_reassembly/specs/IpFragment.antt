@@ -91,7 +91,7 @@ pub record EndsBeforeFragment (packet : List ℕ) (e : LenError) : Type 0 where
 -- Why it is not told whether a packet is a fragment: it is not sliced, for any reason but an
 -- extension header that is incomplete after such a fragment header.
 abbrev pub RefusesIpFragment : List ℕ → IpSliceError → Type 0
-RefusesIpFragment packet error.Empty = RefusesIp packet error.Empty
+RefusesIpFragment packet (error.Empty e) = RefusesIp packet (error.Empty e)
 RefusesIpFragment packet (error.UnexpectedVersion version) =
     RefusesIp packet (error.UnexpectedVersion version)
 RefusesIpFragment packet (error.Ipv4Header e) = RefusesIp packet (error.Ipv4Header e)

@@ -112,8 +112,8 @@ pub struct IpDefragPool<'a, 'b> {
 }
 
 impl<'a, 'b> IpDefragPool<'a, 'b> {
-    /// How long RFC 8200 section 4.5 has a datagram kept, in seconds: 60. RFC 791 section 3.2 has it
-    /// kept for 15 seconds, or as long as the time to live says.
+    /// How long RFC 8200 section 4.5 has a datagram kept, in seconds: 60. For IPv4 it is the least
+    /// that RFC 1122 section 3.3.2 recommends.
     pub const TIMEOUT_SECONDS: u64 = 60;
 
     /// Adds a fragment to its datagram. If none has this id, it takes a slot: the first that none

@@ -16,7 +16,10 @@ ghost use Rattle.packet_reassembly.specs.declared.ip_fragment_slice.IpFragmentSl
 
 use crate::ip_frag_id::IpFragVersionSpecId;
 use crate::ipv6_fragment::ipv6_fragment_parts;
-use etherparse::{IpEcn, IpFragOffset, IpNumber, Ipv4HeaderSlice, Ipv6Header, Ipv6HeaderSlice};
+use etherparse::err::LenError;
+use etherparse::{
+    IpEcn, IpFragOffset, IpNumber, Ipv4HeaderSlice, Ipv6Header, Ipv6HeaderSlice, LenSource,
+};
 use packet_parts::ip_slice::{IpHeaderSlice, IpSlice, IpSliceError, LaxIpSlice};
 
 /// A packet that is a fragment: which packet it is of, where it stands in that, and its bytes.
@@ -170,7 +173,12 @@ fn ipv6_fragment<'a>(
     let parts = match ipv6_fragment_parts(body, view.next_header()) {
         Ok(Some(parts)) => parts,
         Ok(None) => return Ok(None),
-        Err(e) => return Err(IpSliceError::Extensions(e.add_offset(Ipv6Header::LEN))),
+        Err(e) => {
+            return Err(IpSliceError::Extensions(LenError {
+                len_source: LenSource::Ipv6HeaderPayloadLen,
+                ..e.add_offset(Ipv6Header::LEN)
+            }));
+        }
     };
     Ok(Some(IpFragmentSlice {
         ip: IpFragVersionSpecId::Ipv6 {

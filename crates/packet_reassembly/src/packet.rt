@@ -62,8 +62,8 @@ pub fn write_ipv4_packet(
 /// fragment header: the last extension header, or the IPv6 header if there is none (RFC 8200
 /// section 4.5). Returns the length of the packet in bytes.
 ///
-/// `before` and `last` have to be a chain of extension headers that leads from `first` to the
-/// fragment header, of at most 65535 bytes together; `out` has to have at least 65575 bytes.
+/// `before` and `last` have to be a chain of extension headers of which `first` names the first, of
+/// at most 65535 bytes together; `out` has to have at least 65575 bytes.
 ///
 /// # Errors
 ///

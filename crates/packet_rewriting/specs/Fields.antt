@@ -300,7 +300,7 @@ HasOtherEcn ecn before after = MarksIpv4 (λ h. record h { ecn = ecn }) before a
 
 -- why a packet has no IP header; what follows a header is no reason
 abbrev pub HasNoIpHeader : List ℕ → IpSliceError → Type 0
-HasNoIpHeader packet ip_error.Empty = RefusesIp packet ip_error.Empty
+HasNoIpHeader packet (ip_error.Empty e) = RefusesIp packet (ip_error.Empty e)
 HasNoIpHeader packet (ip_error.UnexpectedVersion version) =
     RefusesIp packet (ip_error.UnexpectedVersion version)
 HasNoIpHeader packet (ip_error.Ipv4Header e) = RefusesIp packet (ip_error.Ipv4Header e)

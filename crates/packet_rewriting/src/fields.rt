@@ -9,7 +9,7 @@ ghost use Rattle.std.specs.Int.{to_be_bytes, w16};
 ghost use Rattle.etherparse.specs.FirstByte.{version_of};
 ghost use Rattle.etherparse.specs.IpEcn.{ecn_value};
 ghost use Rattle.etherparse.specs.Ipv6Header.{IsIpv6Layout};
-ghost use Rattle.etherparse.specs.Reading.{BeginsWith};
+ghost use Rattle.etherparse.specs.Reading.{BeginsWith, too_short_error};
 ghost use Rattle.etherparse.specs.WordSums.{network_order_word_sum};
 ghost use Rattle.etherparse.specs.HeaderChecksum.{with_field_and_checksum};
 ghost use Rattle.packet_parts.specs.IpSlice.{header_len_of};
@@ -30,7 +30,8 @@ use etherparse::checksum::{
     update_2bytes, update_2bytes_with_no_zero, update_4bytes, update_4bytes_with_no_zero,
     update_16bytes, update_16bytes_with_no_zero,
 };
-use etherparse::{IpDscp, IpEcn, IpNumber, Ipv4Header, Ipv6Header};
+use etherparse::err::{Layer, LenError};
+use etherparse::{IpDscp, IpEcn, IpNumber, Ipv4Header, Ipv6Header, LenSource};
 use etherparse_transport::{TcpHeaderSlice, UdpHeader};
 use packet_parts::ip_slice::{IpHeaderSlice, IpSlice, IpSliceError};
 use std::fmt;
@@ -133,7 +134,8 @@ pub fn set_source_ipv4(packet: &mut [u8], source: [u8; 4]) -> Result<Reach, Rewr
 }
 
 /// Gives an IPv4 packet another destination address in place, bytes 16 to 19, as
-/// [`set_source_ipv4`] gives it another source address.
+/// [`set_source_ipv4`] gives it another source address. If a source route option has addresses left,
+/// the checksum covers the last of them (RFC 791 section 3.1), and a right one becomes wrong.
 ///
 /// # Errors
 ///
@@ -294,7 +296,7 @@ pub fn set_dscp(packet: &mut [u8], dscp: IpDscp) -> Result<(), RewriteError>
     ensures unchanged { OnErr result (packet.new ≡ packet.old) }
 {
     if packet.is_empty() {
-        return Err(RewriteError::Ip(IpSliceError::Empty));
+        return Err(RewriteError::Ip(IpSliceError::Empty(empty())));
     }
     match packet[0] >> 4 {
         4 => set_dscp_ipv4(packet, dscp),
@@ -316,12 +318,25 @@ pub fn set_ecn(packet: &mut [u8], ecn: IpEcn) -> Result<(), RewriteError>
     ensures unchanged { OnErr result (packet.new ≡ packet.old) }
 {
     if packet.is_empty() {
-        return Err(RewriteError::Ip(IpSliceError::Empty));
+        return Err(RewriteError::Ip(IpSliceError::Empty(empty())));
     }
     match packet[0] >> 4 {
         4 => set_ecn_ipv4(packet, ecn),
         6 => set_ecn_ipv6(packet, ecn),
         version_number => Err(RewriteError::Ip(IpSliceError::UnexpectedVersion { version_number })),
+    }
+}
+
+// The error of a packet that has no bytes.
+fn empty() -> LenError
+    ensures value { result ≡ too_short_error Layer.IpHeader 1 0 }
+{
+    LenError {
+        required_len: 1,
+        len: 0,
+        len_source: LenSource::Slice,
+        layer: Layer::IpHeader,
+        layer_start_offset: 0,
     }
 }
 

@@ -1,7 +1,7 @@
 //! The errors of IP packets of either version.
 
 use super::{show, Layer};
-use crate::{ffi, LenSource};
+use crate::ffi;
 use core::error::Error;
 use core::fmt;
 
@@ -23,7 +23,7 @@ impl fmt::Display for HeaderError {
             &ffi::Error {
                 kind: ffi::UNEXPECTED_VERSION,
                 number: u16::from(*version_number),
-                layer: Layer::IpHeader.number(LenSource::Slice),
+                layer: Layer::IpHeader.number(),
                 ..ffi::Error::default()
             },
             f,

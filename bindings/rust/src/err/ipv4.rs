@@ -2,7 +2,7 @@
 
 use super::{show, LenError};
 use crate::err::Layer;
-use crate::{ffi, LenSource};
+use crate::ffi;
 use core::error::Error;
 use core::fmt;
 
@@ -34,7 +34,7 @@ impl fmt::Display for HeaderError {
             &ffi::Error {
                 kind,
                 number: u16::from(number),
-                layer: Layer::Ipv4Header.number(LenSource::Slice),
+                layer: Layer::Ipv4Header.number(),
                 ..ffi::Error::default()
             },
             f,

@@ -2,7 +2,7 @@
 
 use super::{show, LenError};
 use crate::err::Layer;
-use crate::{ffi, LenSource};
+use crate::ffi;
 use core::error::Error;
 use core::fmt;
 
@@ -24,7 +24,7 @@ impl fmt::Display for HeaderError {
             &ffi::Error {
                 kind: ffi::UNEXPECTED_VERSION,
                 number: u16::from(*version_number),
-                layer: Layer::Ipv6Header.number(LenSource::Slice),
+                layer: Layer::Ipv6Header.number(),
                 ..ffi::Error::default()
             },
             f,
@@ -144,7 +144,7 @@ impl fmt::Display for ChainError {
                 &ffi::Error {
                     kind: ffi::TOO_MANY,
                     number: u16::from(*next_header),
-                    layer: Layer::Ipv6ExtHeader.number(LenSource::Slice),
+                    layer: Layer::Ipv6ExtHeader.number(),
                     layer_start_offset: *layer_start_offset,
                     limit: *limit,
                     ..ffi::Error::default()

@@ -1,4 +1,4 @@
-use crate::{ffi, LenSource};
+use crate::ffi;
 
 /// A layer of a packet in which an error can come up.
 #[derive(Clone, Copy, Debug, PartialEq, Eq, PartialOrd, Ord, Hash)]
@@ -29,41 +29,35 @@ pub enum Layer {
     Icmpv6,
 }
 
-// Each layer, where the length in its error came from, and the number of both in the library.
-const NUMBERS: [(Layer, LenSource, u16); 13] = [
-    (Layer::LinkHeader, LenSource::Slice, ffi::LINK_HEADER),
-    (Layer::VlanHeader, LenSource::Slice, ffi::VLAN_HEADER),
-    (Layer::IpHeader, LenSource::Slice, ffi::IP_HEADER),
-    (Layer::Ipv4Header, LenSource::Slice, ffi::IPV4_HEADER),
-    (Layer::Ipv4Packet, LenSource::Slice, ffi::IPV4_PACKET_BYTES),
-    (
-        Layer::Ipv4Packet,
-        LenSource::Ipv4HeaderTotalLen,
-        ffi::IPV4_PACKET,
-    ),
-    (Layer::Ipv6Header, LenSource::Slice, ffi::IPV6_HEADER),
-    (Layer::Ipv6Packet, LenSource::Slice, ffi::IPV6_PACKET),
-    (Layer::Ipv6ExtHeader, LenSource::Slice, ffi::IPV6_EXT_HEADER),
-    (Layer::UdpHeader, LenSource::Slice, ffi::UDP_HEADER),
-    (Layer::TcpHeader, LenSource::Slice, ffi::TCP_HEADER),
-    (Layer::Icmpv4, LenSource::Slice, ffi::ICMPV4),
-    (Layer::Icmpv6, LenSource::Slice, ffi::ICMPV6),
+// Each layer and its number in the library. An IPv4 packet has two: the second if it has fewer bytes
+// than its total length says.
+const NUMBERS: [(Layer, u16); 13] = [
+    (Layer::LinkHeader, ffi::LINK_HEADER),
+    (Layer::VlanHeader, ffi::VLAN_HEADER),
+    (Layer::IpHeader, ffi::IP_HEADER),
+    (Layer::Ipv4Header, ffi::IPV4_HEADER),
+    (Layer::Ipv4Packet, ffi::IPV4_PACKET),
+    (Layer::Ipv4Packet, ffi::IPV4_PACKET_BYTES),
+    (Layer::Ipv6Header, ffi::IPV6_HEADER),
+    (Layer::Ipv6Packet, ffi::IPV6_PACKET),
+    (Layer::Ipv6ExtHeader, ffi::IPV6_EXT_HEADER),
+    (Layer::UdpHeader, ffi::UDP_HEADER),
+    (Layer::TcpHeader, ffi::TCP_HEADER),
+    (Layer::Icmpv4, ffi::ICMPV4),
+    (Layer::Icmpv6, ffi::ICMPV6),
 ];
 
 impl Layer {
-    // The number that the library has for a layer and the source of its length; 0, with which no
-    // error has a text, if it has none.
-    pub(crate) fn number(self, source: LenSource) -> u16 {
-        let found = NUMBERS
-            .iter()
-            .find(|known| (known.0, known.1) == (self, source));
-        found.map_or(0, |known| known.2)
+    // The number that the library has for a layer; of an IPv4 packet the one that has a text with each
+    // source of its length.
+    pub(crate) fn number(self) -> u16 {
+        let found = NUMBERS.iter().find(|known| known.0 == self);
+        found.expect("each layer has a number").1
     }
 
-    // The layer of a number that the library gave, and where the length came from.
-    pub(crate) fn of(number: u16) -> (Layer, LenSource) {
-        let found = NUMBERS.iter().find(|known| known.2 == number);
-        let known = found.expect("the library has thirteen numbers");
-        (known.0, known.1)
+    // The layer of a number that the library gave.
+    pub(crate) fn of(number: u16) -> Layer {
+        let found = NUMBERS.iter().find(|known| known.1 == number);
+        found.expect("the library has thirteen numbers").0
     }
 }

@@ -29,12 +29,11 @@ impl LenError {
 
     // The error with these numbers, whose kind is a length.
     pub(crate) fn of(error: &ffi::Error) -> LenError {
-        let (layer, len_source) = Layer::of(error.layer);
         LenError {
             required_len: error.required_len,
             len: error.len,
-            len_source,
-            layer,
+            len_source: LenSource::of(error.number),
+            layer: Layer::of(error.layer),
             layer_start_offset: error.layer_start_offset,
         }
     }
@@ -42,7 +41,8 @@ impl LenError {
     fn numbers(&self) -> ffi::Error {
         ffi::Error {
             kind: ffi::LEN,
-            layer: self.layer.number(self.len_source),
+            number: self.len_source.number(),
+            layer: self.layer.number(),
             required_len: self.required_len,
             len: self.len,
             layer_start_offset: self.layer_start_offset,
@@ -52,8 +52,7 @@ impl LenError {
 }
 
 /// Says what was needed, what was there and, unless the layer starts at byte 0, where it starts. An
-/// error that no call gives has the empty text: one whose `len` is not below `required_len`, or
-/// whose layer has another source of its length.
+/// error whose `len` is not below `required_len`, which no call gives, has the empty text.
 impl fmt::Display for LenError {
     fn fmt(&self, f: &mut fmt::Formatter<'_>) -> fmt::Result {
         show(&self.numbers(), f)

@@ -1,7 +1,7 @@
 //! The errors of TCP headers.
 
 use super::{show, Layer};
-use crate::{ffi, LenSource};
+use crate::ffi;
 use core::error::Error;
 use core::fmt;
 
@@ -23,7 +23,7 @@ impl fmt::Display for HeaderError {
             &ffi::Error {
                 kind: ffi::DATA_OFFSET,
                 number: u16::from(*data_offset),
-                layer: Layer::TcpHeader.number(LenSource::Slice),
+                layer: Layer::TcpHeader.number(),
                 ..ffi::Error::default()
             },
             f,

@@ -1,4 +1,4 @@
-use Rattle.std.proofs.Common.{ap, arith, not, refl, ◌==◌, ◌∙◌}
+use Rattle.std.proofs.Common.{ap, not, refl, ◌==◌, ◌∙◌}
 use Rattle.packet_parts.proofs.ip_slice.ipv4_parts.Goals as goal
 
 pub returns-clause-parts : goal.returns-clause-parts

@@ -1,5 +1,7 @@
-use Rattle.std.proofs.Common.{ℕ, ◌++◌, ◌∙◌, None, Some, ap, arith, false, inr, length, length-append, refl, rules, subst, sym}
+use Rattle.std.proofs.Common.{ℕ, ◌≡◌, ◌++◌, ◌∙◌, None, Some, ap, arith, false, inr, length, length-append, refl, rules, subst, sym}
+use Rattle.etherparse.specs.declared.LenSource.TheVariants.{Ipv6HeaderPayloadLen}
 use Rattle.packet_parts.specs.Extensions.{EndsAs}
+use Rattle.packet_parts.specs.IpSlice.{extension_error}
 use Rattle.packet_reassembly.specs.Ipv6Fragment.{AreFragmentParts}
 use Rattle.packet_reassembly.proofs.Kept.{before_payload}
 use Rattle.packet_reassembly.proofs.ip_fragment_slice.ipv6_fragment.Goals as goal
@@ -38,4 +40,5 @@ returns-in-Err-clause-refused c = λ packet header enough begins front.
     let is_layout = rw front at begins.layout in
     let q = c.in-Err.ensures.refused in
     let ends = subst (λ (n : ℕ). EndsAs false (Some c.in-Err.e) c.args.body.now n None q.number q.rest) (c.next_header.ensures.value header is_layout) q.ends in
-    record { ends = search (rules, begins, ends, c.add_offset.ensures.moved); undecided = refl }
+    let moved : extension_error c.in-Err.e ≡ record c.add_offset.result { len_source = Ipv6HeaderPayloadLen } = rw c.add_offset.ensures.moved refl in
+    record { ends = search (rules, begins, ends, moved); undecided = refl }
