@@ -134,7 +134,7 @@ pub record EndsOtherwise (s : List ℕ) (front : BlockFront) (e : BlockError) : 
 -- is told by. The listing ends with the data; or at a block that is cut off or refused. One that is
 -- too long is told before its end is seen, with the bytes that are there; its length counts once it
 -- is whole. Once as many packets are listed as were asked for, nothing more is read, whatever
--- follows; but a block that is too long is read to its end, also if its packet is the last of these.
+-- follows; but a block that is too long is read to its end, also if it has the last of these.
 pub data Lists (request : Request) : Place → List ℕ → List ℕ → Totals → Option End → Type 0 where
   ends : {place : Place} → Lists request place [] [] place.totals None
   stops : {place : Place} {s : List ℕ} → has_enough request place.totals.listed ≡ true

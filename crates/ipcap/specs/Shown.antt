@@ -101,8 +101,8 @@ pub record Shows (shown : Shown) : Type 0 where
   pub header_checksum : IsHeaderVerdict shown.lax.slice.header shown.is_header_right
   pub verdict : IsLaxVerdict shown.lax shown.verdict
 
--- It is shown although it is not whole: its length field asks for more bytes than are there, but for
--- no more than there were before the capture left this many out; or its total length is 0.
+-- It is shown although it is not whole: its length field asks for more bytes than are there, but
+-- for no more than there were before the capture left this many out; or its total length is 0.
 abbrev pub IsShownAt : ℕ → LaxIpSlice → IpSliceError → Type 0
 IsShownAt left_out lax (error.Packet e) =
     (e.required_len - e.len ≤ left_out) ⊎ IsTrue (has_no_length lax.slice)
