@@ -163,6 +163,27 @@ fn frame_relay_carries_others(rt: HostRuntime) {
 }
 
 #[test]
+fn frame_relay_has_longer_addresses(rt: HostRuntime) {
+    // Of 3 and of 4 bytes: DLCI 0, also where the last 6 bits are control bits; and DLCI 1, in the
+    // last byte, and in the third of 4.
+    let unknown = Some(Carried::Unknown);
+    let ipv4 = Some(Carried::EtherType(0x0800));
+    assert_equal(
+        &rt,
+        [
+            carried(Framing::FrameRelay, &[0, 0, 1, 8, 0]),
+            carried(Framing::FrameRelay, &[0, 0, 0, 1, 8, 0]),
+            carried(Framing::FrameRelay, &[0, 0, 7, 8, 0]),
+            carried(Framing::FrameRelay, &[0, 0, 0, 7, 8, 0]),
+            carried(Framing::FrameRelay, &[0, 0, 5, 8, 0]),
+            carried(Framing::FrameRelay, &[0, 0, 0, 5, 8, 0]),
+            carried(Framing::FrameRelay, &[0, 0, 2, 1, 8, 0]),
+        ],
+        [unknown, unknown, unknown, unknown, ipv4, ipv4, ipv4],
+    );
+}
+
+#[test]
 fn ieee_802_11_carries_packets(rt: HostRuntime) {
     // Frame control, the bytes after the three addresses, and how many of these there are.
     let cases = [

@@ -9,6 +9,7 @@ next w i j e within = subst (λ k. drop i w ≡ get_or w i 0 ∷ drop k w) e (dr
 
 -- after a whole word comes another, or none
 pub present_word : (n : ℕ) (w : List ℕ) → n + 4 ≤ length w → present_len (drop n w) ≡ (if is_set 7 (n + 3) w then 4 + present_len (drop (n + 4) w) else 4)
+unfolding is_set
 present_word n w e =
     let d = next w (n + 3) (n + 4) (omega arith) (omega (arith, e)) in
     let c = next w (n + 2) (n + 3) (omega arith) (omega (arith, e)) ∙ ap (λ r. get_or w (n + 2) 0 ∷ r) d in

@@ -12,5 +12,5 @@ abbrev pub has : ℕ → ℕ → List ℕ → Bool
 has value place frame = slice_index frame place == value
 
 -- a bit of a byte is set; bit 0 is the lowest
-abbrev pub is_set : ℕ → ℕ → List ℕ → Bool
+unfoldable pub is_set : ℕ → ℕ → List ℕ → Bool
 is_set bit place frame = slice_index frame place / 2 ^ bit % 2 == 1

@@ -15,22 +15,22 @@ addresses_end mac = if is_set 0 1 mac && is_set 1 1 mac then 30 else 24
 
 -- QoS control follows in a QoS data frame, the upper bit of the subtype (section 9.2.4.1.3), and HT
 -- control after it if bit 7 of byte 1 is set (section 9.2.4.1.10)
-abbrev pub controls_end : List ℕ → ℕ
+unfoldable pub controls_end : List ℕ → ℕ
 controls_end mac = addresses_end mac
     + (if is_set 7 0 mac then (if is_set 7 1 mac then 6 else 2) else 0)
 
 -- the length of the header of a data frame, in bytes: with padding a multiple of 4
-abbrev pub data_header_len : Bool → List ℕ → ℕ
+unfoldable pub data_header_len : Bool → List ℕ → ℕ
 data_header_len false mac = controls_end mac
 data_header_len true mac = (controls_end mac + 3) / 4 * 4
 
 -- a fragment: more of them follow by bit 2 of byte 1 (section 9.2.4.1.5), or it has another number
 -- than 0, the lower 4 bits of sequence control (section 9.2.4.4)
-abbrev pub is_fragment : List ℕ → Bool
+unfoldable pub is_fragment : List ℕ → Bool
 is_fragment mac = is_set 2 1 mac || not (slice_index mac 22 % 2 ^ 4 == 0)
 
 -- several packets in one: bit 7 of QoS control (section 9.2.4.5.9)
-abbrev pub is_aggregate : List ℕ → Bool
+unfoldable pub is_aggregate : List ℕ → Bool
 is_aggregate mac = is_set 7 0 mac && is_set 7 (addresses_end mac) mac
 
 -- What follows a header of this length in a frame with data: encrypted data by the flag of

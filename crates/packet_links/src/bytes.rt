@@ -26,6 +26,7 @@ pub(crate) fn has(value: u8, place: usize, frame: &[u8]) -> bool
 }
 
 // Whether a bit of a byte is set.
+#[tactic(auto, unfolding(crate::specs::Bytes::is_set))]
 pub(crate) fn is_set(bit: u32, place: usize, frame: &[u8]) -> bool
     requires bit { bit < 8 }
     ensures value { result ≡ is_set bit place frame.now }

@@ -121,6 +121,7 @@ fn data_header(is_padded: bool, mac: &[u8]) -> Header
 }
 
 // The length of the MAC header of a data frame, in bytes, with padding if there is some.
+#[tactic(auto, unfolding(crate::specs::Ieee80211::data_header_len))]
 fn data_header_len(is_padded: bool, mac: &[u8]) -> usize
     ensures value { result ≡ data_header_len is_padded mac.now }
     ensures short { result ≤ 36 }
@@ -130,6 +131,7 @@ fn data_header_len(is_padded: bool, mac: &[u8]) -> usize
 }
 
 // The place of what follows the control fields of a data frame.
+#[tactic(auto, unfolding(crate::specs::Ieee80211::controls_end))]
 fn controls_end(mac: &[u8]) -> usize
     ensures value { result ≡ controls_end mac.now }
     ensures short { result ≤ 36 }
@@ -155,6 +157,7 @@ fn addresses_end(mac: &[u8]) -> usize
 }
 
 // Whether a data frame is a fragment.
+#[tactic(auto, unfolding(crate::specs::Ieee80211::is_fragment))]
 fn is_fragment(mac: &[u8]) -> bool
     ensures value { result ≡ is_fragment mac.now }
 {
@@ -162,6 +165,7 @@ fn is_fragment(mac: &[u8]) -> bool
 }
 
 // Whether a data frame has several packets in one.
+#[tactic(auto, unfolding(crate::specs::Ieee80211::is_aggregate))]
 fn is_aggregate(mac: &[u8]) -> bool
     ensures value { result ≡ is_aggregate mac.now }
 {
