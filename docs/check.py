@@ -424,12 +424,41 @@ def check_nothing_beside(file, text):
         judge(file, beside and beside.group(), not beside, 'is beside the repository')
 
 
+# The impls by hand of what others derive: each has clauses, or a law of its own.
+BY_HAND = {'Clone': {'Ipv4Options', 'Ipv4OptionsIterator', 'Ipv6OptionsIterator', 'Ipv6ExtensionSliceIter', 'TcpHeader'},
+           **dict.fromkeys(('PartialEq', 'Eq', 'Hash', 'PartialOrd', 'Ord'), {'Ipv4Options', 'IpDscpKnown'})}
+IMPL = re.compile(rf'\bimpl(?:<[^>]*>)? (?:\w+::)*({"|".join(BY_HAND)})(?:<[^>]*>)? for (\w+)')
+# A law of such a trait, and the body by which it speaks of it.
+LAW = re.compile(r'^(?:pub )?fn (\w+)_(equality|clone|copy|hash|order|below)(?:<[^>]*>)?\(\s*(\w+):\s[^{]*?(?:,\s*(\w+):\s[^{]*?)?\)'
+                 r'.*?^\{\n(.*?)^\}', re.M | re.S)
+BODIES = {'equality': '{0} == {1}', 'clone': '{0}.clone()', 'copy': '{0}.clone()', 'hash': '{0}.hash({1});', 'order': '{0}.cmp({1})',
+          'below': '{0} < {1}'}
+
+# A function that a type or a module has of its own, and what it must not be named: a call would mean it, and not the trait's.
+OWN = re.compile(r'^impl\b[^{]*? for .*?^\}|^(?:pub )?trait .*?^\}'
+                 r'|^(?P<indent> *)(?P<pub>pub )?(?:pub\(\w+\) )?(?:const |unsafe )?fn (?P<name>\w+).*?^(?P=indent)\{?\}$', re.M | re.S)
+SHADOWS = set('clone clone_from eq ne cmp partial_cmp lt le gt ge min max hash fmt default from try_from into try_into next nth'.split())
+
+
 def check_unsaid(file, text):
-    """What no contract says is not written by hand: the contract of `size_hint` allows a count that is too great, and what a
-    `drop` does to memory that was lent is in no contract."""
+    """What no contract says is not written by hand: the contract of `size_hint` allows a count that is too great, that of `Display`
+    an error for any reason, and what a `drop` does to memory that was lent is in no contract. A derive has no clauses either, so a
+    law calls it, or that of a type that holds this one by a derive."""
     if re.search(r'\bIterator for ', text):
         judge(file, 'size_hint', 'fn size_hint' not in text, 'is written by hand')
     judge(file, 'Drop', not re.search(r'\bDrop for ', text), 'is written by hand')
+    judge(file, 'derive_where', 'derive_where' not in text, 'can skip a field')
+    judge(file, 'fmt::Error', not re.search(r'\bfmt::(?:\{[^}]*\b)?Error\b(?!\) =>)', text), 'is made here, where only a writer fails')
+    for trait, name in IMPL.findall(text):
+        judge(file, f'{trait} for {name}', name in BY_HAND[trait], 'is written by hand')
+    for name, trait, first, second, body in LAW.findall(text) if 'laws' in file.stem else []:
+        body = re.sub(r'//.*', '', body).strip()
+        wanted = BODIES[trait].format(first, second)
+        judge(file, f'{name}_{trait}', body in (wanted, f'Clone::clone({first})'), f'is not {wanted}')
+    for own in OWN.finditer(text) if file.relative_to(ROOT).parts[1] not in ('conformance', 'etherparse_tests') else []:
+        if name := own['name']:
+            says = 'ensures' in own[0] if own['pub'] else True
+            judge(file, name, says and not (own['indent'] and name in SHADOWS), 'has no clause, or is named like what a trait has')
 
 
 for file in FILES:

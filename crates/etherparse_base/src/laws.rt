@@ -11,6 +11,7 @@ ghost use Rattle.std.specs.Prelude.{◌≡◌, ◌↔◌, IsTrue, Ok};
 ghost use Rattle.std.specs.Ordering.{nat_cmp};
 ghost use Rattle.etherparse_base.specs.Layer.{layer_index};
 ghost use Rattle.etherparse_base.specs.ValueType.{value_type_index};
+ghost use Rattle.etherparse_base.specs.declared.err.ipv6.chain_error.ChainError.TheVariants.{TooMany};
 
 use crate::LenSource;
 use crate::checksum::Sum16BitWords;
@@ -246,7 +247,6 @@ fn sum_16bit_words_clone(source: &Sum16BitWords) -> Result<Sum16BitWords, AllocE
     source.clone()
 }
 
-#[tactic(auto, using(crate::proofs::LayerOrder::layer_cmp))]
 fn layer_order(a: &Layer, b: &Layer) -> Ordering
     ensures by_index { result ≡ nat_cmp (layer_index a.now) (layer_index b.now) }
 {
@@ -257,4 +257,15 @@ fn value_type_order(a: &ValueType, b: &ValueType) -> Ordering
     ensures by_index { result ≡ nat_cmp (value_type_index a.now) (value_type_index b.now) }
 {
     a.cmp(b)
+}
+
+// The fields of a variant, by their names, are those of the definitions in their order.
+fn too_many_fields(limit: usize, next_header: u8, layer_start_offset: usize) -> ipv6::ChainError
+    ensures by_name { result ≡ TooMany limit next_header layer_start_offset }
+{
+    ipv6::ChainError::TooMany {
+        limit,
+        next_header,
+        layer_start_offset,
+    }
 }

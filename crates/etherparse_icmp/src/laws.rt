@@ -2,6 +2,8 @@
 //! one small function. Nothing calls them: they are there to be proved.
 
 ghost use Rattle.std.specs.Prelude.{◌≡◌, ◌↔◌, IsTrue, Ok};
+ghost use Rattle.etherparse_icmp.specs.declared.icmpv4_type.Icmpv4Type.TheVariants as v4;
+ghost use Rattle.etherparse_icmp.specs.declared.icmpv6_type.Icmpv6Type.TheVariants as v6;
 
 use crate::{
     IcmpEchoHeader, Icmpv4Header, Icmpv4Slice, Icmpv4Type, Icmpv6Header, Icmpv6Slice, Icmpv6Type,
@@ -169,4 +171,25 @@ fn icmpv6_time_exceeded_code_clone(
     ensures same_value { result ≡ Ok code.now }
 {
     code.clone()
+}
+
+// The fields of a variant, by their names, are those of the definitions in their order.
+fn icmpv4_unknown_fields(type_u8: u8, code_u8: u8, bytes5to8: [u8; 4]) -> Icmpv4Type
+    ensures by_name { result ≡ v4.Unknown type_u8 code_u8 bytes5to8 }
+{
+    Icmpv4Type::Unknown {
+        type_u8,
+        code_u8,
+        bytes5to8,
+    }
+}
+
+fn icmpv6_unknown_fields(type_u8: u8, code_u8: u8, bytes5to8: [u8; 4]) -> Icmpv6Type
+    ensures by_name { result ≡ v6.Unknown type_u8 code_u8 bytes5to8 }
+{
+    Icmpv6Type::Unknown {
+        type_u8,
+        code_u8,
+        bytes5to8,
+    }
 }

@@ -3,6 +3,7 @@
 
 ghost use Rattle.std.specs.Prelude.{◌≡◌, ◌↔◌, ◌++◌, IfOk, IsOk, IsTrue, Ok, fold};
 ghost use Rattle.std.specs.Hash as fed;
+ghost use Rattle.etherparse_net.specs.declared.err.ipv4_option_error.Ipv4OptionError.TheVariants as v4;
 ghost use Rattle.etherparse_net.specs.HeaderErrors.{ext_payload_len_error_writes};
 ghost use Rattle.etherparse_net.specs.HeaderErrors.{icv_len_error_writes};
 ghost use Rattle.etherparse_net.specs.Ipv6Extensions.{extension_parts};
@@ -317,4 +318,15 @@ fn ip_auth_header_error_hash<H: Hasher>(error: &HeaderError, state: &mut H)
     ensures nothing { state.new ≡ state.old }
 {
     error.hash(state);
+}
+
+// The fields of a variant, by their names, are those of the definitions in their order.
+fn length_below_two_fields(option_type: u8, option_length: u8, offset: usize) -> Ipv4OptionError
+    ensures by_name { result ≡ v4.LengthBelowTwo option_type option_length offset }
+{
+    Ipv4OptionError::LengthBelowTwo {
+        option_type,
+        option_length,
+        offset,
+    }
 }

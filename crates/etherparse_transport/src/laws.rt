@@ -3,6 +3,7 @@
 
 ghost use Rattle.std.specs.Prelude.{◌≡◌, ◌↔◌, ◌++◌, IsTrue, Ok, fold};
 ghost use Rattle.std.specs.Hash as fed;
+ghost use Rattle.etherparse_transport.specs.declared.tcp_option_read_error.TcpOptionReadError.TheVariants as read;
 
 use crate::{
     TcpError, TcpHeader, TcpHeaderSlice, TcpOptionElement, TcpOptionReadError, TcpOptionWriteError,
@@ -151,4 +152,25 @@ fn tcp_header_hash<H: Hasher>(header: &TcpHeader, state: &mut H)
         ++ fed.slice fed.u8 header.now.options)))))))))))))))) }
 {
     header.hash(state);
+}
+
+// The fields of a variant, by their names, are those of the definitions in their order.
+fn unexpected_end_of_slice_fields(
+    option_id: u8,
+    expected_len: u8,
+    actual_len: usize,
+) -> TcpOptionReadError
+    ensures by_name { result ≡ read.UnexpectedEndOfSlice option_id expected_len actual_len }
+{
+    TcpOptionReadError::UnexpectedEndOfSlice {
+        option_id,
+        expected_len,
+        actual_len,
+    }
+}
+
+fn unexpected_size_fields(option_id: u8, size: u8) -> TcpOptionReadError
+    ensures by_name { result ≡ read.UnexpectedSize option_id size }
+{
+    TcpOptionReadError::UnexpectedSize { option_id, size }
 }

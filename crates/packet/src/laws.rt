@@ -6,6 +6,7 @@ ghost use Rattle.packet.specs.Link.{link_parts};
 ghost use Rattle.packet.specs.SlicedPacket.{lax_layers, layers_of};
 ghost use Rattle.packet.specs.Transport.{transport_parts};
 ghost use Rattle.packet.specs.Vlan.{tags_of};
+ghost use Rattle.packet.specs.declared.vlan.VlanSlice.TheVariants.{DoubleVlan};
 
 use crate::error::SliceError;
 use crate::lax_sliced_packet::LaxSlicedPacket;
@@ -14,6 +15,7 @@ use crate::link_layers::LinkLayers;
 use crate::sliced_packet::SlicedPacket;
 use crate::transport::{IcmpHeader, TransportSlice};
 use crate::vlan::VlanSlice;
+use etherparse_link::SingleVlanHeaderSlice;
 use std::alloc::AllocError;
 
 fn icmp_header_equality(a: &IcmpHeader, b: &IcmpHeader) -> bool
@@ -160,4 +162,14 @@ fn vlan_slice_clone<'a>(vlan: &VlanSlice<'a>) -> Result<VlanSlice<'a>, AllocErro
     ensures same_value { result ≡ Ok vlan.now }
 {
     vlan.clone()
+}
+
+// The fields of a variant, by their names, are those of the definitions in their order.
+fn double_vlan_fields<'a>(
+    outer: SingleVlanHeaderSlice<'a>,
+    inner: SingleVlanHeaderSlice<'a>,
+) -> VlanSlice<'a>
+    ensures by_name { result ≡ DoubleVlan outer.entry inner.entry }
+{
+    VlanSlice::DoubleVlan { outer, inner }
 }

@@ -20,11 +20,13 @@ ghost use Rattle.packet_builder.specs.TakenApart.{tells_ether_type};
 ghost use Rattle.packet_builder.specs.declared.arp_step.ArpStep.{ArpStep as Arp};
 ghost use Rattle.packet_builder.specs.declared.headers.Headers.{Headers as Before};
 ghost use Rattle.packet_builder.specs.declared.headers.LinkHeader.{LinkHeader as Link};
+ghost use Rattle.packet_builder.specs.declared.headers.VlanHeader.TheVariants.{Double};
 
 use crate::{
     ArpStep, BuildSliceWriteError, Headers, Icmpv4Step, Icmpv6Step, IpHeader, IpStep, LinkHeader,
     LinkStep, PacketBuilder, TcpStep, UdpStep, VlanHeader, VlanStep,
 };
+use etherparse_link::SingleVlanHeader;
 use std::alloc::AllocError;
 
 /// A packet that was built of UDP, TCP, ICMP over IPv4 or ICMPv6, is no fragment and has tags only
@@ -177,4 +179,11 @@ fn vlan_step_clone(step: &VlanStep) -> Result<VlanStep, AllocError>
     ensures same_value { result ≡ Ok step.now }
 {
     step.clone()
+}
+
+/// The fields of a variant, by their names, are those of the definitions in their order.
+pub fn double_vlan_fields(outer: SingleVlanHeader, inner: SingleVlanHeader) -> VlanHeader
+    ensures by_name { result ≡ Double outer inner }
+{
+    VlanHeader::Double { outer, inner }
 }

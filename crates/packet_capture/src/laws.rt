@@ -6,6 +6,9 @@ ghost use Rattle.std.specs.Prelude.{◌≡◌, ◌↔◌, IsTrue, Ok};
 ghost use Rattle.packet_capture.specs.Any.{said};
 ghost use Rattle.packet_capture.specs.Capture.{recorded};
 ghost use Rattle.packet_capture.specs.Pcapng.Blocks.{said as said_in_pcapng};
+ghost use Rattle.packet_capture.specs.declared.any.Stamp.TheVariants.{Counted};
+ghost use Rattle.packet_capture.specs.declared.capture.CaptureError.TheVariants as file;
+ghost use Rattle.packet_capture.specs.declared.pcapng.blocks.BlockError.TheVariants as error;
 ghost use Rattle.packet_capture.specs.declared.pcapng.times.Resolution.TheVariants.{PowerOfTen};
 
 use crate::any::{self, Capture, Stamp};
@@ -240,4 +243,45 @@ fn interface_default() -> Interface
     } }
 {
     Interface::default()
+}
+
+// The fields of a variant, by their names, are those of the definitions in their order.
+fn counted_fields(timestamp: u64, resolution: times::Resolution, offset: u64) -> Stamp
+    ensures by_name { result ≡ Counted timestamp resolution offset }
+{
+    Stamp::Counted {
+        timestamp,
+        resolution,
+        offset,
+    }
+}
+
+fn file_version_fields(major: u16, minor: u16) -> CaptureError
+    ensures by_name { result ≡ file.Version major minor }
+{
+    CaptureError::Version { major, minor }
+}
+
+fn lengths_fields(front: u32, back: u32) -> BlockError
+    ensures by_name { result ≡ error.Lengths front back }
+{
+    BlockError::Lengths { front, back }
+}
+
+fn version_fields(major: u16, minor: u16) -> BlockError
+    ensures by_name { result ≡ error.Version major minor }
+{
+    BlockError::Version { major, minor }
+}
+
+fn option_length_fields(code: u16, len: u16, place: usize) -> BlockError
+    ensures by_name { result ≡ error.OptionLength code len place }
+{
+    BlockError::OptionLength { code, len, place }
+}
+
+fn captured_length_fields(captured_len: u32, room: u32) -> BlockError
+    ensures by_name { result ≡ error.CapturedLength captured_len room }
+{
+    BlockError::CapturedLength { captured_len, room }
 }

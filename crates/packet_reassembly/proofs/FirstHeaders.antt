@@ -45,7 +45,7 @@ pub added_have : {old : List IpDefragSlot} {id : IpFragId} {timeout now : ℕ} {
     → IsAdded old id timeout now f came ecn added new → (f.start ≡ 0 → came ≢ None) → HaveFirstHeaders old → HaveFirstHeaders new
 added_have {old = old} {id = id} {f = f} {came = came} {added = added} {new = new} is brings have = others_have added.slot old new is.others (λ other has. record {
   known = λ kept g buf contains front. elim is.takes [
-    | inl (on, since, headers, ecns, takes) ↦ rw headers (takes_have _ kept f _ came (takes_kept _ _ f kept (rw buf at takes)) brings (have.each added.slot id on.has).known g contains front)
+    | inl (on, since, headers, ecns, takes) ↦ rw headers (takes_have _ kept f _ came (takes_kept _ _ f kept (rw buf at takes)) brings (have.each added.slot id on.has.0).known g contains front)
     | inr (begins, since, headers, ecns, takes) ↦ rw headers (takes_have (Some []) kept f None came (takes_kept _ (Some []) f kept (rw buf at takes)) brings (λ before h e c _. let none : [] ≡ before = cc in omega (arith, (rw (← none) at c).1)) g contains front)
   ];
 }) have

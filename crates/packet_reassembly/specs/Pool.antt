@@ -26,6 +26,10 @@ Has slots k id = (k < length slots) × ((slot_at slots k).id ≡ Some id)
 abbrev pub IsExpired : IpDefragSlot → ℕ → ℕ → Type 0
 IsExpired slot timeout now = slot.since + timeout ≤ now
 
+-- it is the first of those that the datagram has: calls give it one, but slots can come with more
+abbrev pub HasFirst : List IpDefragSlot → ℕ → IpFragId → Type 0
+HasFirst slots k id = Has slots k id × ((j : ℕ) → j < k → ¬ Has slots j id)
+
 -- the slot that a new datagram takes: the first that none has, or else that of the oldest datagram,
 -- the first of those that are equally old
 pub record IsFree (slots : List IpDefragSlot) (k : ℕ) : Type 0 where
@@ -43,14 +47,14 @@ AreSameBut k old new = (length new ≡ length old)
 -- the datagram goes on in the slot that it has
 pub record GoesOn (old : List IpDefragSlot) (id : IpFragId) (timeout now k : ℕ)
     (given_up : Option IpFragId) : Type 0 where
-  pub has : Has old k id
+  pub has : HasFirst old k id
   pub young : ¬ IsExpired (slot_at old k) timeout now
   pub none : given_up ≡ None
 
 -- it begins in a slot, from which another one, or its own that is too old, is given up
 pub record Begins (old : List IpDefragSlot) (id : IpFragId) (timeout now k : ℕ)
     (given_up : Option IpFragId) : Type 0 where
-  pub place : (Has old k id × IsExpired (slot_at old k) timeout now)
+  pub place : (HasFirst old k id × IsExpired (slot_at old k) timeout now)
       ⊎ (((j : ℕ) → ¬ Has old j id) × IsFree old k)
   pub gives_up : given_up ≡ (slot_at old k).id
 

@@ -4,7 +4,8 @@ ghost use Rattle.std.specs.Prelude.{ℕ, ◌≡◌, ◌≢◌, ◌<◌, ◌≤�
 ghost use Rattle.std.specs.Prelude.{IfErr, IfOk, OnErr, OnOk, IsTrue, None, Some, length};
 ghost use Rattle.std.specs.Prelude.{option_map};
 ghost use Rattle.std.specs.Option.{option_or};
-ghost use Rattle.packet_reassembly.specs.Pool.{AreSameBut, Begins, GoesOn, Has, HaveFirstHeaders};
+ghost use Rattle.packet_reassembly.specs.Pool.{AreSameBut, Begins, GoesOn, Has, HasFirst};
+ghost use Rattle.packet_reassembly.specs.Pool.{HaveFirstHeaders};
 ghost use Rattle.packet_reassembly.specs.Pool.{IsAdded, IsExpired, IsFree, IsPlaced, IsState};
 ghost use Rattle.packet_reassembly.specs.Pool.{OthersStay, TakesWith, slot_at};
 ghost use Rattle.packet_reassembly.specs.Ecn.{ecn_with, no_ecn};
@@ -199,9 +200,9 @@ fn has(slot: &IpDefragSlot, id: IpFragId) -> bool
     slot.id == Some(id)
 }
 
-// The slot that a datagram has.
+// The first slot that a datagram has.
 fn find(slots: &[IpDefragSlot], id: IpFragId) -> Option<usize>
-    ensures found { IfSome result (λ k. Has slots.now k id) }
+    ensures found { IfSome result (λ k. HasFirst slots.now k id) }
     ensures none { IfNone result ((k : ℕ) → ¬ Has slots.now k id) }
 {
     slots.iter().position(|slot| has(slot, id))

@@ -3,6 +3,7 @@
 ghost use Rattle.std.specs.Prelude.{◌≡◌, ◌↔◌, IsTrue, Ok};
 ghost use Rattle.packet_reassembly.specs.Ecn.{ecn_with};
 ghost use Rattle.packet_reassembly.specs.declared.fragment_ecn.FragmentEcn.{FragmentEcn as Ecn};
+ghost use Rattle.packet_reassembly.specs.declared.ip_frag_id.IpFragVersionSpecId.TheVariants as id;
 
 use crate::fragment_ecn::FragmentEcn;
 use crate::ip_defrag_error::IpDefragError;
@@ -23,6 +24,38 @@ pub fn ip_frag_id_equality(one: &IpFragId, other: &IpFragId) -> bool
     ensures same_value { IsTrue result ↔ (one.now ≡ other.now) }
 {
     one == other
+}
+
+/// The fields of an id of IPv4, by their names, are those of the definitions in their order.
+pub fn ipv4_id_fields(
+    source: [u8; 4],
+    destination: [u8; 4],
+    protocol: u8,
+    identification: u16,
+) -> IpFragVersionSpecId
+    ensures by_name { result ≡ id.Ipv4 source destination protocol identification }
+{
+    IpFragVersionSpecId::Ipv4 {
+        source,
+        destination,
+        protocol,
+        identification,
+    }
+}
+
+/// The same of IPv6.
+pub fn ipv6_id_fields(
+    source: [u8; 16],
+    destination: [u8; 16],
+    identification: u32,
+) -> IpFragVersionSpecId
+    ensures by_name { result ≡ id.Ipv6 source destination identification }
+{
+    IpFragVersionSpecId::Ipv6 {
+        source,
+        destination,
+        identification,
+    }
 }
 
 /// States are equal exactly if they are the same variant.
