@@ -20,11 +20,13 @@ pub record RefusesInC (text : List ℕ) (refusal : FilterRefusal) : Type 0 where
 abbrev pub ChoosesNothing : List Step → Type 0
 ChoosesNothing steps = (lax : LaxSlicedPacket) → (len : ℕ) → ¬ Matches (expression_of steps) lax len
 
--- A text was read, or not: if it was, it is the expression of the filter, and there is no refusal;
--- if not, the refusal says why. A text of the language, of up to 64 words, is read.
+-- A text was read, or not: if it was, it is the expression of the filter, has up to 64 words, and
+-- there is no refusal; if not, the refusal says why. A text of the language, of up to 64 words, is
+-- read.
 pub record ReadsText (text : List ℕ) (filter : List Step) (refusal : FilterRefusal)
     (is_read : Bool) : Type 0 where
   pub read : IsTrue is_read → IsText text (expression_of filter)
+  pub few : IsTrue is_read → length (words_of text) ≤ 64
   pub none : IsTrue is_read → refusal ≡ no_refusal
   pub refused : IsFalse is_read → RefusesInC text refusal
   pub accepted : (e : Expression) → IsText text e → length (words_of text) ≤ 64

@@ -1,9 +1,11 @@
 -- What the program does with its arguments.
+use Rattle.std.specs.IoError.{error_kind}
 use Rattle.std.specs.Prelude.{ℕ, ◌≡◌, ◌≢◌, ◌⊎◌, All, Bool, IfSome, List, []}
 use Rattle.std.specs.Prelude.{Err, None, Ok, Option, Result, Some, codes, false, length, take, true}
 use Rattle.std.specs.Prelude.{MatchResult, unwrap_or}
 use Rattle.std.specs.declared.alloc.AllocError.{AllocError}
 use Rattle.std.specs.declared.io.Error.{Error}
+use Rattle.std.specs.declared.io.ErrorKind.TheVariants.{OutOfMemory}
 use Rattle.clap.specs.Values.{kind_of}
 use Rattle.clap.specs.Words.{HasKind, IsParsedFrom, app_of, fault_of, found_of, matches_of}
 use Rattle.clap.specs.Words.{rows_of}
@@ -84,18 +86,21 @@ pub record HasCode (e : text.Error) (code : ℕ) : Type 0 where
   pub shown : (kind_of e ≡ DisplayHelp) ⊎ (kind_of e ≡ DisplayVersion) → code ≡ 0
   pub mistake : kind_of e ≢ DisplayHelp → kind_of e ≢ DisplayVersion → code ≡ 2
 
--- Why nothing comes of words: there is no memory to read them, or the text on them cannot be shown.
+-- Why nothing comes of words, as this error says: there is no memory to read them, or the text on
+-- them cannot be shown.
 abbrev pub Stops : (List (List ℕ) → Result (Result ArgMatches text.Error) AllocError → Type 0)
-    → (text.Error → Result (Unit {0}) Error → Type 0) → List (List ℕ) → Asked → Type 0
-Stops reads shows words asked =
-    ((e : AllocError) × reads words (Err e) × (asked ≡ asked_for.Nothing))
-    ⊎ ((e : text.Error) × (why : Error) × reads words (Ok (Err e)) × shows e (Err why)
+    → (text.Error → Result (Unit {0}) Error → Type 0) → List (List ℕ) → Asked → Error → Type 0
+Stops reads shows words asked why =
+    ((e : AllocError) × reads words (Err e) × (error_kind why ≡ OutOfMemory)
+    × (asked ≡ asked_for.Nothing))
+    ⊎ ((e : text.Error) × reads words (Ok (Err e)) × shows e (Err why)
     × (asked ≡ asked_for.Text))
 
--- there is no memory to put packets together, and nothing changes
+-- there is no memory to put packets together, as this error says, and nothing changes
 pub record LacksMemory {R W E : Type 0} (reassembles : Bool) (input left : Input R)
-    (old new : Output W) (old_errors new_errors : Output E) : Type 0 where
+    (old new : Output W) (old_errors new_errors : Output E) (e : Error) : Type 0 where
   pub wanted : reassembles ≡ true
+  pub says : error_kind e ≡ OutOfMemory
   pub unread : left ≡ input
   pub unwritten : new ≡ old
   pub silent : new_errors ≡ old_errors
@@ -149,7 +154,7 @@ module _ {R W E : Type 0} (remaining : R → Option (List ℕ)) (contents : W �
     pub prints : (old.sink ≡ sink) × (pending old ≡ [])
     pub runs : MatchResult ended.code
         (RunsAnew request reassembles input left old new old_errors new_errors)
-        (λ e. LacksMemory reassembles input left old new old_errors new_errors)
+        (LacksMemory reassembles input left old new old_errors new_errors)
     pub leaves : (ended.source ≡ Some left.source) × (ended.sink ≡ Some new.sink)
 
   -- The text of arguments is no expression: standard error gets the lines on it, and the code is 2.

@@ -62,7 +62,7 @@ pub fn obey<S: System, E: Sink>(
         S.Reader.has_failed S.Writer.has_failed E.has_failed S.Reader.why_failed
         S.Writer.why_failed (E.is_text Error) S.opens S.creates S.reads S.shows
         (map string_bytes words.now) ended (S.asked system.new) errors.old errors.new) }
-    ensures stops { OnErr result (Stops S.reads S.shows (map string_bytes words.now)
+    ensures stops { IfErr result (Stops S.reads S.shows (map string_bytes words.now)
         (S.asked system.new)) }
     ensures silent { OnErr result (errors.new ≡ errors.old) }
 {
@@ -193,7 +193,7 @@ fn list_anew<R: Source, W: Sink, E: Sink>(
         W.has_failed E.has_failed R.why_failed W.why_failed (E.is_text Error) request.now
         reassembles input.old input.new output.old output.new errors.old errors.new) }
     ensures allocates { reassembles ≡ false → IsOk result }
-    ensures lacks { OnErr result (LacksMemory reassembles input.old input.new
+    ensures lacks { IfErr result (LacksMemory reassembles input.old input.new
         output.old output.new errors.old errors.new) }
 {
     if !reassembles {

@@ -1,9 +1,9 @@
-use Rattle.std.proofs.Common.{ℕ, Err, IfOk, MatchResult, Ok, OnErr, Result, inl, inr, refl}
+use Rattle.std.proofs.Common.{ℕ, Err, IfErr, IfOk, MatchResult, Ok, Result, inl, inr, refl}
 use Rattle.std.specs.declared.io.Error.{Error}
 use Rattle.ipcap.specs.Program.{RunsAnew}
 use Rattle.ipcap.proofs.program.answer.Goals as goal
 
-both : (r : Result ℕ Error) (P : ℕ → Type 0) (Q : Type 0) → IfOk r P → OnErr r Q → MatchResult r P (λ e. Q)
+both : (r : Result ℕ Error) (P : ℕ → Type 0) (Q : Error → Type 0) → IfOk r P → IfErr r Q → MatchResult r P Q
 both (Ok code) P Q p q = p
 both (Err e) P Q p q = q
 
