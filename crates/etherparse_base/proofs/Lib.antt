@@ -1,5 +1,9 @@
+mod DerivedEquality
 pub mod FoldedSums
 mod LaneSums
-pub mod LayerOrder
+mod LayerOrder
+mod TextParts
+mod ValueTypeOrder
+mod VariantOrder
 mod WordNumbers
 pub mod WordSumLaws

@@ -1,11 +1,11 @@
 -- Bytes that are read as one number, low byte first, in a sum of words.
-use Rattle.std.proofs.Common.{ℕ, zero, suc, List, [], ◌∷◌, ◌≡◌, ◌<◌, ◌+◌, ◌-◌, ◌*◌, ◌/◌, ◌^◌, arith, drop, get_or, length, refl, slice_index, sym, w32, w64}
+use Rattle.std.proofs.Common.{ℕ, zero, suc, List, [], ◌∷◌, ◌≡◌, ◌<◌, ◌≤◌, ◌+◌, ◌-◌, ◌*◌, ◌/◌, ◌^◌, ◌∙◌, ap, arith, drop, get_or, length, refl, slice_index, sym, take, w32, w64}
 use Rattle.std.proofs.Math.Nat.{zero-div}
 use Rattle.std.proofs.lemmas.Nat.{shr-shr}
 use Rattle.std.specs.Int.{from_le_bytes}
 use Rattle.std.specs.Simd.Lanes.{number_l}
 use Rattle.etherparse_base.specs.WordSums.{folded_sum, little_endian_word_sum, weighted_byte_sum}
-use Rattle.etherparse_base.specs.Private.WideSums.{SameFold}
+use Rattle.etherparse_base.specs.Private.WideSums.{SameFold, StandsFor}
 use Rattle.etherparse_base.proofs.FoldedSums.{folded_sum_value}
 
 -- a number that is added in folds adds what the words of its bytes do
@@ -44,6 +44,20 @@ last_bytes word count (a ∷ b ∷ c ∷ d ∷ e ∷ f ∷ g ∷ h ∷ []) is ei
     let bits : 8 + (56 - 8 * count) ≡ 8 * (8 - count) = omega (arith, few) in
     rw (shr-shr word 8 (56 - 8 * count), bits, number, number_l-drop (8 - count) bytes are_bytes) (number_folded (drop (8 - count) bytes))
 last_bytes word count bytes is eight are_bytes few = absurd (omega (arith, eight))
+
+-- the number of the bytes in front stands for their words
+pub eight_in_front : (word : ℕ) (bytes front rest : List ℕ) → 8 ≤ length bytes → front ≡ take 8 bytes → rest ≡ drop 8 bytes → word ≡ from_le_bytes w64 front
+    → StandsFor word bytes rest
+eight_in_front word (a ∷ b ∷ c ∷ d ∷ e ∷ f ∷ g ∷ h ∷ bytes) front rest long taken left is =
+    let number : word ≡ number_l 256 (a ∷ b ∷ c ∷ d ∷ e ∷ f ∷ g ∷ h ∷ []) = omega (arith, is ∙ ap (from_le_bytes w64) taken) in
+    rw (left, number) (record { apart = omega arith; none = omega arith; some = omega arith })
+eight_in_front word bytes front rest long taken left is = absurd (omega (arith, long))
+
+pub four_alone : (word : ℕ) (bytes front : List ℕ) → 4 ≡ length bytes → front ≡ take 4 bytes → word ≡ from_le_bytes w32 front → StandsFor word bytes []
+four_alone word (a ∷ b ∷ c ∷ d ∷ []) front four taken is =
+    let number : word ≡ number_l 256 (a ∷ b ∷ c ∷ d ∷ []) = omega (arith, is ∙ ap (from_le_bytes w32) taken) in
+    rw number (record { apart = omega arith; none = omega arith; some = omega arith })
+four_alone word bytes front four taken is = absurd (omega (arith, four))
 
 -- the sum of sixteen bytes, one by one
 pub sixteen : (weight other : ℕ) (bytes : List ℕ) → length bytes ≡ 16 → weighted_byte_sum weight other bytes

@@ -169,6 +169,12 @@ sums_to_all_ones-written bytes place first second checksum even within a b is co
 pub word_sum_past : (count : ℕ) (bytes : List ℕ) → length bytes ≤ count → little_endian_word_sum (drop count bytes) ≡ 0
 word_sum_past count bytes past = ap little_endian_word_sum (drop_of_length-le bytes past)
 
+-- numbers that stand for the words of pieces one after the other stand for those of all, where nothing is left
+pub three_stand_for : (a b c all after_a after_b after_c : ℕ) → after_c ≡ 0 → SameFold (a + after_a) all → SameFold (b + after_b) after_a
+    → SameFold (c + after_c) after_b → SameFold (a + b + c + 0) all
+three_stand_for a b c all after_a after_b after_c none first second third =
+    record { apart = omega arith; none = omega arith; some = omega arith }
+
 -- the words of bytes cut at an even place
 pub little_endian_word_sum-cut : (count : ℕ) (bytes : List ℕ) → count % 2 ≡ 0 → count ≤ length bytes
     → little_endian_word_sum (take count bytes) + little_endian_word_sum (drop count bytes) ≡ little_endian_word_sum bytes

@@ -1,6 +1,6 @@
 -- Some bytes have one answer of a TCP reader.
 use Rattle.std.proofs.Common.{ℕ, ◌≡◌, ◌-◌, ◌*◌, List, ◌++◌, length, take, drop, refl, sym, ap}
-use Rattle.std.proofs.Common.{◌∙◌, arith, Err, length-append, take-append-drop}
+use Rattle.std.proofs.Common.{◌∙◌, arith, Err, Ok, Result, length-append, take-append-drop}
 use Rattle.std.proofs.Common.{take_at}
 use Rattle.std.proofs.lemmas.Grind.{common_steps}
 use Rattle.std.proofs.lemmas.List.{append_cancel_right}
@@ -78,3 +78,8 @@ layout_viewed h r p rest l =
       enough = omega (arith, length-append p rest, len);
       cut = sym (take_at p rest _ len);
     }
+
+-- a slice is viewed in one way
+pub viewed_once : (s : List ℕ) (x y : Result (List ℕ) TcpError) → ViewsTcp s x → ViewsTcp s y → x ≡ y
+viewed_once s (Ok p) (Ok q) h k = cc
+viewed_once s x y h k = grind arith

@@ -90,6 +90,7 @@ impl<'a> TcpHeaderSlice<'a> {
     /// assert!(rt; header.urgent_pointer() == 0 && header.options().is_empty());
     /// ```
     #[inline(always)]
+    #[tactic(auto, using(crate::proofs::TcpReading::viewed_once))]
     pub fn from_slice(slice: &'a [u8]) -> Result<TcpHeaderSlice<'a>, TcpError>
         ensures views { ViewsTcp slice.now
             (result_map_both (λ view. view.slice.now) (λ e. e) result) }

@@ -1,5 +1,5 @@
 -- what holds of all fragments of a datagram, and one fragment after another
-use Rattle.std.proofs.Common.{ℕ, ◌≡◌, ◌+◌, ◌-◌, ◌⊎◌, ◌↔◌, ◌++◌, [], ◌∷◌, List, length, arith, sym, ◌∙◌, slice_index_or, Option, Some, None}
+use Rattle.std.proofs.Common.{ℕ, ◌≡◌, ◌+◌, ◌-◌, ◌⊎◌, ◌↔◌, ◌++◌, [], ◌∷◌, List, length, arith, inl, inr, sym, ◌∙◌, slice_index_or, Option, Some, None}
 use Rattle.std.proofs.lemmas.List.{ext_get_or}
 use Rattle.std.proofs.lemmas.List.Edits.{get_or-between}
 use Rattle.std.proofs.lemmas.List.Elements.{Contains-append_left, Contains-push, Contains-push_cases}
@@ -60,8 +60,11 @@ module _ (xs : List Fragment) (f : Fragment) where
   -- one fragment more that a datagram can have
   right_more : (old new : List Fragment) → AreRightOf xs old → HaveSame new (old ++ f ∷ []) → IsRight f → AreRightOf (xs ++ f ∷ []) new
   right_more old new are same right g = (
-    λ h. grind (arith, are g, Contains-push_cases old f g ((same g).0 h), Contains-append_left xs (f ∷ []) g, Contains-push xs f),
-    λ h. (same g).1 (grind (arith, are g, pushed g h, Contains-append_left old (f ∷ []) g, Contains-push old f)),
+    λ h. elim (Contains-push_cases old f g ((same g).0 h)) [
+      | inl has ↦ let (came, is) = (are g).0 has in (Contains-append_left xs (f ∷ []) g came, is)
+      | inr e ↦ rw (← e) (Contains-push xs f, right)
+    ],
+    λ h. (same g).1 (elim (pushed g h) [ inl came ↦ Contains-append_left old (f ∷ []) g ((are g).1 came) | inr own ↦ rw (← own.0) (Contains-push old f) ]),
   )
 
   pub stands_more : (old new : Option (List Fragment)) → StandsFor old xs → Takes old f new → IsRight f → StandsFor new (xs ++ f ∷ [])
@@ -74,7 +77,10 @@ module _ (xs : List Fragment) (f : Fragment) where
 
   -- one that is refused
   right_same : (kept : List Fragment) → AreRightOf xs kept → ¬ IsRight f → AreRightOf (xs ++ f ∷ []) kept
-  right_same kept are wrong g = grind (arith, are g, Contains-push_cases xs f g, Contains-append_left xs (f ∷ []) g)
+  right_same kept are wrong g = (
+    λ h. let (came, is) = (are g).0 h in (Contains-append_left xs (f ∷ []) g came, is),
+    λ h. elim (pushed g h) [ inl came ↦ (are g).1 came | inr own ↦ absurd (wrong own.1) ],
+  )
 
   pub stands_refused : (value : Option (List Fragment)) (e : IpDefragError) → StandsFor value xs → Refuses f e → StandsFor value (xs ++ f ∷ [])
   stands_refused None e stands refused = more_conflict xs (xs ++ f ∷ []) (λ g _. Contains-append_left xs (f ∷ []) g) stands

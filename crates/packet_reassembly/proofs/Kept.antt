@@ -36,3 +36,7 @@ ipv6_first headers place p = record { front = p.are_headers.front; whole = p.are
 -- what is accepted up to a greatest length is refused if it is longer
 pub too_long : {E : Type 0} (r : Result ℕ E) (n greatest : ℕ) → (IsOk r ↔ (n ≤ greatest)) → IfErr r (λ e. greatest < n)
 too_long r n greatest accepted = grind arith
+
+-- where the parts are
+pub places : (headers : List ℕ) (place : ℕ) → AreIpv6HeadersAt headers place → (40 ≤ place) × (place + 8 ≤ length headers)
+places headers place p = (omega (arith, p.is_place), omega (arith, p.is_place, ap length p.are_headers.whole, length-append {A = ℕ}, p.are_headers.layout.len))

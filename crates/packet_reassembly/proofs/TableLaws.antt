@@ -1,6 +1,6 @@
 -- the table of the fragments that have come: what it holds, what a new fragment changes, and when the datagram is whole
-use Rattle.std.proofs.Common.{ℕ, ◌≡◌, ◌≢◌, ◌+◌, ◌-◌, ◌*◌, ◌/◌, ◌<◌, ◌≤◌, ◌⊎◌, ◌==◌, ◌↔◌, [], ◌∷◌, List, length, arith, inl, inr, Bool, true, false, ap, subst, sym, ◌∙◌, refl, take, drop, slice_index, slice_range, cond, not, suc, zero, ◌||◌, max, Some, length-append, length-take, length-drop, map, Option}
-use Rattle.std.proofs.lemmas.Bool.{cases_Bool, cases_lt, eqb-true, eq-eqb, cases_eq, not-false, or_parts}
+use Rattle.std.proofs.Common.{ℕ, ◌≡◌, ◌≢◌, ◌+◌, ◌-◌, ◌*◌, ◌/◌, ◌%◌, ◌<◌, ◌≤◌, ◌⊎◌, ◌==◌, ◌&&◌, min, ◌↔◌, [], ◌∷◌, List, length, arith, inl, inr, Bool, true, false, ap, subst, sym, ◌∙◌, refl, take, drop, slice_index, slice_range, cond, not, suc, zero, ◌||◌, max, Some, length-append, length-take, length-drop, map, Option}
+use Rattle.std.proofs.lemmas.Bool.{cases_Bool, cases_lt, cases_order, eqb-true, eq-eqb, cases_eq, ne_eqb, not-false, or_parts}
 use Rattle.std.proofs.lemmas.Bool.Decides.{nat_tests}
 use Rattle.std.proofs.lemmas.List.{get_or-drop, get_or_past, length-drop, length-take-le, take-take}
 use Rattle.std.proofs.lemmas.List.Edits.{length-between}
@@ -11,7 +11,7 @@ use Rattle.std.specs.List.{Contains, filter, prefix_len, range_with_len}
 use Rattle.packet_reassembly.specs.declared.table.Arrival.TheVariants.{Conflict as Contradicts}
 use Rattle.packet_reassembly.specs.declared.table.Extent.{Extent}
 use Rattle.packet_reassembly.specs.declared.ip_frag_range.IpFragRange.{IpFragRange}
-use Rattle.packet_reassembly.specs.Fragment.{Fragment, end_of, Takes, AreCutFrom, Covers, IsPieceOf, IsWhole, Overlap}
+use Rattle.packet_reassembly.specs.Fragment.{AreCutFrom, Conflict, Covers, Fragment, GoesPast, end_of, Takes, IsPieceOf, IsWhole, Overlap}
 use Rattle.packet_reassembly.specs.Table.{AreKept, Arrives, Begins, Fits, HasCome, IsInside, IsNew, IsRange, IsTable, fragment_in, fragment_of, has_more, held, past, range_at, units_in, units_to, IsMarked, units_at, kept}
 use borrow.Rule.Slice.PartMut.{put_mid}
 use Rattle.std.proofs.lemmas.Slice.{between-put_mid, between_is, drop-put_mid, take-put_mid_below}
@@ -126,6 +126,13 @@ held_none bytes units extent empty = no_member (held bytes units extent) (λ f h
 pub range_is : (units : List ℕ) (extent : Extent) (k : ℕ) (range : IpFragRange) → 8 * k ≡ range.start → (range_at units extent k).end ≡ range.end → has_more extent range.end ≡ range.more_fragments → range_at units extent k ≡ range
 range_is units extent k range start end more = let own = ap (has_more extent) end ∙ more in rw (own, start, end)
 
+-- a fragment that ends in the same unit ends at the same byte
+same_end : (ended more : Bool) (reach end : ℕ) → (more ≡ true → end % 8 ≡ 0) → (more ≡ false → end ≡ reach) → (ended ≡ true → end ≤ reach) → (ended ≡ false → reach % 8 ≡ 0)
+    → 8 * ((end + 7) / 8 - 1) < reach → min reach (8 * ((end + 7) / 8)) ≡ end
+same_end ended false reach end unit last before all some = let h = last refl in omega arith
+same_end true true reach end unit last before all some = let u = unit refl in let h = before refl in omega arith
+same_end false true reach end unit last before all some = let u = unit refl in let h = all refl in omega arith
+
 -- whether a fragment has the range of the one that begins with the same unit
 module _ {units : List ℕ} {extent : Extent} {range : IpFragRange} (table : IsTable units extent) (is : IsRange range) (begins : Begins units (range.start / 8)) where
   pub same_if : (n : ℕ) → n ≡ units_to range → ((k : ℕ) → IsInside range k → ¬ Begins units k) → (extent.ended ≡ true → range.end ≤ extent.reach) → range.more_fragments ≡ has_more extent range.end
@@ -134,8 +141,17 @@ module _ {units : List ℕ} {extent : Extent} {range : IpFragRange} (table : IsT
       let first : ℕ = range.start / 8 in (
         λ t.
             let (k, le, own, below) = table.begun (n - 1) t.0 in
-            let to : past units first ≡ units_to range = grind (arith, alone k, in_order units k first begins, inside units first n, t) in
-            let end : (range_at units extent first).end ≡ range.end = rw to (grind (arith, nat_tests, cases_Bool range.more_fragments, cases_Bool extent.ended, table.within (n - 1) t.0)) in
+            let some : first < n = omega (arith, is.some, is.unit) in
+            let here : k ≡ first = elim (cases_order k first) [
+              | inl e ↦ e
+              | inr (inl l) ↦ absurd (let passed = in_order units k first begins l in omega arith)
+              | inr (inr l) ↦ absurd (alone k (l, omega arith) own)
+            ] in
+            let last = rw here at below in
+            let to : past units first ≡ units_to range = elim (cases_lt n (past units first)) [ inl l ↦ absurd (t.1 (inside units first n some l)) | inr l ↦ omega arith ] in
+            let at_end : range.more_fragments ≡ false → range.end ≡ extent.reach = λ e. ((last_is extent range.end).0 (sym more ∙ e)).1 in
+            let within = rw is_n at (table.within (n - 1) t.0) in
+            let end : (range_at units extent first).end ≡ range.end = rw to (same_end extent.ended range.more_fragments extent.reach range.end is.more at_end before_end table.unit within) in
             range_is units extent first range (omega arith) end (sym more),
         λ same.
             let last = table.within (past units first - 1) (come units first (past units first - 1) begins (omega arith) (omega arith)) in
@@ -149,8 +165,12 @@ pub all_new : {units : List ℕ} {extent : Extent} {range : IpFragRange} → IsT
 all_new {units = units} {range = range} table is free alone before_end at_end =
     let clear : (k : ℕ) → range.start ≤ 8 * k → 8 * k < range.end → slice_index units k ≡ 0 = λ k from to.
     let none : ¬ HasCome units k = λ some.
-    let (j, le, begins, below) = table.begun k some in grind (arith, cases_lt (range.start / 8) j, alone j, come units j (range.start / 8) begins) in omega arith in
-    search (clear, before_end, at_end)
+    let (j, le, begins, below) = table.begun k some in
+    elim (cases_lt (range.start / 8) j) [
+      | inl l ↦ alone j (l, omega arith) begins
+      | inr l ↦ let has = come units j (range.start / 8) begins l (omega arith) in omega (arith, free)
+    ] in omega arith in
+    record { clear = clear; before_end = before_end; at_end = at_end }
 
 module _ {bytes units : List ℕ} {extent : Extent} (are : AreKept bytes units extent) where
   -- where a fragment that is kept ends, in its units and in bytes
@@ -190,6 +210,35 @@ module _ {bytes units : List ℕ} {extent : Extent} (are : AreKept bytes units e
         let e = range_is units extent k range (ap (λ f. f.start) is) end (rw end at (ap (λ f. f.more) is)) in
         (e, subst (λ r. slice_range bytes r.start r.end ≡ payload) e (ap (λ f. f.bytes) is))
 
+-- two ranges have the later of their first units in common, if each begins before the other ends
+in_both : (k past reach start end : ℕ) → k < past → start % 8 ≡ 0 → start < end → 8 * k < end → start < min reach (8 * past)
+    → (k ≤ max k (start / 8)) × (max k (start / 8) < past) × (start ≤ 8 * max k (start / 8)) × (8 * max k (start / 8) < end)
+in_both k past reach start end some unit range l r = (omega arith, omega arith, omega arith, omega arith)
+
+-- the last unit of a range
+last_in : (start end : ℕ) → start % 8 ≡ 0 → start < end → (start ≤ 8 * ((end + 7) / 8 - 1)) × (8 * ((end + 7) / 8 - 1) < end)
+last_in start end unit some = (omega arith, omega arith)
+
+-- whether more follow the new one
+more_new : (ended more : Bool) (reach end : ℕ) → (more ≡ false → reach ≤ end) → (ended ≡ true → end < reach) → not ((ended || not more) && (end == max reach end)) ≡ more
+more_new true true reach end at_end before = ap not (ne_eqb end (max reach end) (let h = before refl in omega arith))
+more_new true false reach end at_end before = ap not (eq-eqb end (max reach end) (let h = at_end refl in omega arith))
+more_new false true reach end at_end before = refl
+more_new false false reach end at_end before = ap not (eq-eqb end (max reach end) (let h = at_end refl in omega arith))
+
+-- and any other
+more_other : (ended more : Bool) (reach end x : ℕ) → (more ≡ false → reach ≤ end) → (ended ≡ true → end ≤ reach) → x ≢ end
+    → not ((ended || not more) && (x == max reach end)) ≡ not (ended && (x == reach))
+more_other true more reach end x at_end before apart = let e : max reach end ≡ reach = (let h = before refl in omega arith) in rw e refl
+more_other false true reach end x at_end before apart = refl
+more_other false false reach end x at_end before apart = ap not (ne_eqb x (max reach end) (let h = at_end refl in omega arith))
+
+-- a fragment that was there ends where it did
+end_stays : (ended : Bool) (reach end past : ℕ) → (ended ≡ true → end ≤ reach) → (ended ≡ false → reach % 8 ≡ 0) → 8 * (past - 1) < reach
+    → min (max reach end) (8 * past) ≡ min reach (8 * past)
+end_stays true reach end past before unit last = let h = before refl in omega arith
+end_stays false reach end past before unit last = let h = unit refl in omega arith
+
 -- how far the datagram goes then
 abbrev pub after : Extent → IpFragRange → ℕ → Extent
 after extent range units = record { reach = max extent.reach range.end; ended = extent.ended || not range.more_fragments; units = units }
@@ -204,17 +253,26 @@ module _ {bytes payload old new : List ℕ} {extent : Extent} {range : IpFragRan
   stays : (k n : ℕ) → slice_index old k ≡ n → 0 < n → slice_index new k ≡ n
   stays k n is some = grind (arith, unit k)
 
+  -- so it still has come
+  come_stays : (k : ℕ) → HasCome old k → HasCome new k
+  come_stays k some = rw (stays k (slice_index old k) refl some) some
+
   -- nothing that is kept overlaps the new fragment
   no_overlap : (k : ℕ) → Begins old k → 8 * k < range.end → range.start < (range_at old extent k).end → ⊥
   no_overlap k begins l r =
-      let right = fits.right in grind (arith, come old k (max k (range.start / 8)) begins, is_new.clear (max k (range.start / 8)))
+      let (from, to, after_start, before_end) = in_both k (past old k) extent.reach range.start range.end (omega arith) fits.right.unit fits.right.some l r in
+      let some = come old k (max k (range.start / 8)) begins from to in
+      let none = is_new.clear (max k (range.start / 8)) after_start before_end in omega arith
 
   -- the unit after the last of a fragment, the new one and any other
   past_first : past new (range.start / 8) ≡ units_to range
   past_first = past_is new (range.start / 8) (units_to range) (omega (arith, fits.right.some)) (λ k l r. marked.inside k (l, r)) (λ two.
-      let was : slice_index old (units_to range) ≡ 2 = grind (arith, unit (units_to range)) in
+      let was : slice_index old (units_to range) ≡ 2 = sym (marked.outside (units_to range) (inr (omega arith))) ∙ two in
       let (j, le, begins, below) = kept.table.begun (units_to range) (omega arith) in
-      grind (arith, come old j (units_to range - 1) begins, unit (units_to range - 1), cases_eq j (units_to range)))
+      let other : j ≢ units_to range = λ e. let own = rw e at begins in omega arith in
+      let (after_start, before_end) = last_in range.start range.end fits.right.unit fits.right.some in
+      let none = is_new.clear (units_to range - 1) after_start before_end in
+      let some = come old j (units_to range - 1) begins (omega arith) (omega arith) in omega arith)
 
   past_other : (k : ℕ) → Begins old k → past new k ≡ past old k
   past_other k begins = past_is new k (past old k) (omega arith) (λ j l r. stays j 2 (inside old k j l r) (omega arith))
@@ -227,20 +285,23 @@ module _ {bytes payload old new : List ℕ} {extent : Extent} {range : IpFragRan
       let not_last : extent.ended ≡ true → range.end ≢ extent.reach = λ ended is.
       let (k, begins, at) = furthest kept (kept.table.ended ended) in no_overlap k begins (omega (arith, reaches kept k k begins)) (omega arith) in
       let end : (range_at new (after extent range units) (range.start / 8)).end ≡ range.end = rw past_first (elim (cases_Bool range.more_fragments) [ inl m ↦ omega (arith, right.more m) | inr m ↦ omega (arith, is_new.at_end m) ]) in
-      range_is new (after extent range units) _ range (omega arith) end (grind (arith, nat_tests, cases_Bool extent.ended, cases_Bool range.more_fragments, is_new.at_end, is_new.before_end, not_last))
+      range_is new (after extent range units) _ range (omega arith) end (more_new extent.ended range.more_fragments extent.reach range.end is_new.at_end (λ ended. let apart = not_last ended in omega (arith, is_new.before_end ended)))
 
   range_other : (units k : ℕ) → Begins old k → range_at new (after extent range units) k ≡ range_at old extent k
   range_other units k begins =
       let below = reaches kept k k begins (omega arith) (omega arith) in
       let last = kept.table.within (past old k - 1) (come old k (past old k - 1) begins (omega arith) (omega arith)) in
-      let end : (range_at new (after extent range units) k).end ≡ (range_at old extent k).end = rw (past_other k begins) (grind (arith, cases_Bool extent.ended, is_new.before_end, kept.table.unit)) in
+      let end : (range_at new (after extent range units) k).end ≡ (range_at old extent k).end = rw (past_other k begins) (end_stays extent.ended extent.reach range.end (past old k) is_new.before_end kept.table.unit last) in
       let apart : (range_at old extent k).end ≢ range.end = λ is. no_overlap k begins (omega arith) (omega (arith, fits.right.some)) in
-      range_is new (after extent range units) k (range_at old extent k) refl end (grind (arith, nat_tests, cases_Bool extent.ended, cases_Bool range.more_fragments, is_new.at_end, is_new.before_end))
+      range_is new (after extent range units) k (range_at old extent k) refl end (more_other extent.ended range.more_fragments extent.reach range.end (range_at old extent k).end is_new.at_end is_new.before_end apart)
 
   pub kept-new : (n units : ℕ) → n ≡ length payload → units ≡ extent.units + units_at range → AreKept (put_mid range.start n bytes payload) new (after extent range units)
   kept-new n units len are_units =
       let t = kept.table in let right = fits.right in
-      let last : HasCome new ((max extent.reach range.end - 1) / 8) = grind (arith, unit ((extent.reach - 1) / 8), unit ((range.end - 1) / 8), t.reached, right.some, cases_lt range.end extent.reach) in
+      let last : HasCome new ((max extent.reach range.end - 1) / 8) = elim (cases_lt range.end extent.reach) [
+        | inl l ↦ let e : max extent.reach range.end ≡ extent.reach = omega arith in rw e (come_stays ((extent.reach - 1) / 8) (t.reached (omega arith)))
+        | inr l ↦ let e : max extent.reach range.end ≡ range.end = omega arith in rw e (grind (arith, unit ((range.end - 1) / 8), right.some))
+      ] in
       let begun : (k : ℕ) → HasCome new k → (j : ℕ) × (j ≤ k) × Begins new j × (k < past new j) = λ k come. elim (unit k) [
         | inl own ↦ (range.start / 8, own.0, marked.begins, omega (arith, own.1, past_first))
         | inr o ↦ let (j, le, begins, below) = t.begun k (omega (arith, o.1)) in (j, le, stays j 1 begins (omega arith), omega (arith, past_other j begins))
@@ -248,7 +309,18 @@ module _ {bytes payload old new : List ℕ} {extent : Extent} {range : IpFragRan
       let count = more_come old new (range.start / 8) (units_at range) marked.len (omega (arith, t.len, right)) (λ k. grind (arith, unit k)) in
       record {
         room = simp (length-append, length-take, length-drop) (omega (arith, kept.room, fits.len, right.limit));
-        table = search (arith, begun, last, count, t, right, marked, unit, or_parts, not-false);
+        table = record {
+          len = rw marked.len t.len;
+          limit = omega (arith, t.limit, right.limit);
+          marks = λ k. grind (arith, unit k, t.marks k);
+          begun = begun;
+          within = λ k come. elim (unit k) [ inl own ↦ omega (arith, own.1) | inr o ↦ let w = t.within k (omega (arith, o.1)) in omega arith ];
+          reached = λ _. last;
+          unit = λ e. let (a, b) = or_parts extent.ended (not range.more_fragments) e in
+              let old_unit = t.unit a in let new_unit = right.more (not-false range.more_fragments b) in omega arith;
+          ended = λ _. omega (arith, right.some);
+          count = are_units ∙ omega (arith, t.count, count);
+        };
       }
 
   -- what the memory holds, once the payload is written
@@ -263,6 +335,17 @@ module _ {bytes payload old new : List ℕ} {extent : Extent} {range : IpFragRan
         | inr l ↦ rw (drop-put_mid range.start n bytes payload r.start (omega (arith, fits.len)) (omega arith) (sym len))
       ])
 
+  -- no fragment that is kept contradicts the new one
+  no_conflict : (g : Fragment) → Contains (held bytes old extent) g → Conflict g (fragment_of range payload) → ⊥
+  no_conflict g has c =
+      let h = held_from_Contains bytes old extent g has in
+      let end = end_at kept h.at h.begins in
+      let len = fits.len in elim (rw (← h.is) at c) [
+        | inl (other, (l, r)) ↦ no_overlap h.at h.begins (omega arith) (omega arith)
+        | inr (inl (last, past)) ↦ let is_last = (last_is extent (range_at old extent h.at).end).0 last in let before = is_new.before_end is_last.0 in omega arith
+        | inr (inr (last, past)) ↦ let at_end = is_new.at_end last in omega arith
+      ]
+
   pub takes-new : (n units : ℕ) → n ≡ length payload → Takes (Some (held bytes old extent)) (fragment_of range payload) (Some (held (put_mid range.start n bytes payload) new (after extent range units)))
   takes-new n units len =
       let to : List ℕ = put_mid range.start n bytes payload in
@@ -271,9 +354,7 @@ module _ {bytes payload old new : List ℕ} {extent : Extent} {range : IpFragRan
       let own : held_at to new last (range.start / 8) ≡ f =
       ap (fragment_in to) (range_new units) ∙ rw (between-put_mid range.start n bytes payload range.end (omega (arith, kept.room, fits.right)) (omega (arith, fits.len))) in
       let other : (k : ℕ) → Begins old k → held_at to new last k ≡ held_at bytes old extent k = λ k b. ap (fragment_in to) (range_other units k b) ∙ unchanged n k len b in (
-        λ g has c.
-            let h = held_from_Contains bytes old extent g has in
-            grind (arith, h.is, no_overlap h.at h.begins, fits.len, end_at kept h.at h.begins, last_is extent (range_at old extent h.at).end, is_new.before_end, is_new.at_end),
+        no_conflict,
         λ g. (
           λ has. let h = held_from_Contains to new last g has in elim (unit h.at) [
             | inl o ↦ let e : h.at ≡ range.start / 8 = grind (arith, h.begins) in rw (← h.is, e, own) (Contains-push (held bytes old extent) f)
@@ -293,14 +374,32 @@ module _ {bytes units : List ℕ} {extent : Extent} (are : AreKept bytes units e
   apart : (f g : Fragment) → Holds f → Holds g → Overlap f g → f ≡ g
   apart f g has_f has_g overlap =
       let a = held_from_Contains bytes units extent f has_f in let b = held_from_Contains bytes units extent g has_g in
-      let same : a.at ≡ b.at = grind (arith, in_order units a.at b.at b.begins, in_order units b.at a.at a.begins, end_at are a.at a.begins, end_at are b.at b.begins, a.is, b.is) in cc
+      let (l, r) = rw (← a.is, ← b.is) at overlap in
+      let end_a = end_at are a.at a.begins in let end_b = end_at are b.at b.begins in
+      let same : a.at ≡ b.at = elim (cases_order a.at b.at) [
+        | inl e ↦ e
+        | inr (inl before) ↦ absurd (let done = in_order units a.at b.at b.begins before in omega arith)
+        | inr (inr before) ↦ absurd (let done = in_order units b.at a.at a.begins before in omega arith)
+      ] in cc
+
+  -- none goes past the end that another tells
+  none_past : (f g : Fragment) → Holds f → Holds g → GoesPast f g → ⊥
+  none_past f g has_f has_g past =
+      let a = held_from_Contains bytes units extent f has_f in let b = held_from_Contains bytes units extent g has_g in
+      let (last, below) = rw (← a.is, ← b.is) at past in
+      let is_last = (last_is extent (range_at units extent a.at).end).0 last in
+      omega (arith, is_last.1, end_at are a.at a.begins, end_at are b.at b.begins, below)
+
+  -- no two contradict each other
+  none_contradicts : (f g : Fragment) → Holds f → Holds g → Conflict g f → ⊥
+  none_contradicts f g has_f has_g (inl (other, overlap)) = other (apart g f has_g has_f overlap)
+  none_contradicts f g has_f has_g (inr (inl past)) = none_past g f has_g has_f past
+  none_contradicts f g has_f has_g (inr (inr past)) = none_past f g has_f has_g past
 
   -- a fragment that has come before
   pub takes_same : (f : Fragment) → Holds f → Takes (Some (held bytes units extent)) f (Some (held bytes units extent))
   takes_same f has = (
-    λ g has_g c.
-        let a = held_from_Contains bytes units extent f has in let b = held_from_Contains bytes units extent g has_g in
-        grind (arith, apart g f has_g has, end_at are a.at a.begins, end_at are b.at b.begins, last_is extent (range_at units extent a.at).end, last_is extent (range_at units extent b.at).end, a.is, b.is),
+    λ g has_g. none_contradicts f g has has_g,
     λ g. (Contains-append_left _ (f ∷ []) g, λ h. elim (Contains-push_cases _ f g h) [ inl a ↦ a | inr e ↦ rw e at has ]),
   )
 

@@ -191,7 +191,6 @@ impl<'a> IpDefragBuf<'a> {
     }
 
     /// The datagram, once each of its bytes has come.
-    #[tactic(auto, using(crate::proofs::TableLaws::whole_view, crate::proofs::TableLaws::only_view, crate::proofs::TableLaws::not_whole_view))]
     pub fn datagram(&self) -> Option<&[u8]>
         ensures whole { IfSome result (λ datagram. IsWhole self.now datagram.now) }
         ensures not_yet { IfNone result ((datagram : List ℕ) → ¬ IsWhole self.now datagram) }
@@ -208,7 +207,6 @@ impl<'a> IpDefragBuf<'a> {
     }
 
     /// Forgets all that has come.
-    #[tactic(auto, using(crate::proofs::TableLaws::held_none, crate::proofs::TableLaws::table_none))]
     pub fn clear(&mut self)
         ensures empty { self.new ≡ Some [] }
     {

@@ -136,7 +136,6 @@ fn goes_past(extent: Extent, range: IpFragRange) -> bool
 }
 
 /// How a fragment stands to those that have come, and how many entries of the table were read.
-#[tactic(auto, using(crate::proofs::TableLaws::conflict_past))]
 pub fn arrival_of(
     bytes: &[u8],
     units: &[u8],

@@ -47,7 +47,6 @@ fn number_of_last(bytes: &[u8], count: usize) -> u64
 
 /// The words of fewer than thirty-two bytes, with 0 for words that are not there.
 #[inline(always)]
-#[tactic(auto, using(crate::proofs::WordSumLaws::word_sum_past))]
 pub(super) fn last_three_words(bytes: &[u8]) -> (u64, u64, u64)
     requires few { length bytes.now < 32 }
     requires eighths { length bytes.now % 8 ≡ 0 }

@@ -1,12 +1,30 @@
 use Rattle.std.proofs.Common.{ℕ, ◌≡◌, ◌++◌, Ok, ap, arith, length, length-append, refl}
 use Rattle.std.proofs.lemmas.Result.{IfErr-weaker, IfOk-at_ok, IfOk-weaker}
-use Rattle.packet_reassembly.proofs.Kept.{ipv6_first, parts_at, too_long}
+use Rattle.packet_reassembly.proofs.Kept.{ipv6_first, parts_at, places, too_long}
 use Rattle.packet_reassembly.proofs.ip_defrag_headers.write_ipv6.Goals as goal
 
 pub unreachable-requires : goal.unreachable-requires
 unreachable-requires c =
     let p = c.requires.headers in
     cc (c.in-Err.ensures.reads.only (Ok (p.first, p.before ++ (p.last ++ p.are_headers.at))) (ipv6_first c.args.headers.now c.args.place p))
+
+pub overflow_sub-end : goal.overflow_sub-end
+overflow_sub-end c = let at = places c.args.headers.now c.args.place c.requires.headers in omega arith
+
+pub bounds-headers-end : goal.bounds-headers-end
+bounds-headers-end c = let at = places c.args.headers.now c.args.place c.requires.headers in omega arith
+
+pub slice_bounds-before-start : goal.slice_bounds-before-start
+slice_bounds-before-start c = let at = places c.args.headers.now c.args.place c.requires.headers in omega arith
+
+pub slice_bounds-before-end : goal.slice_bounds-before-end
+slice_bounds-before-end c = let at = places c.args.headers.now c.args.place c.requires.headers in omega arith
+
+pub slice_bounds-last-start : goal.slice_bounds-last-start
+slice_bounds-last-start c = let at = places c.args.headers.now c.args.place c.requires.headers in omega arith
+
+pub slice_bounds-last-end : goal.slice_bounds-last-end
+slice_bounds-last-end c = let at = places c.args.headers.now c.args.place c.requires.headers in omega arith
 
 pub write_ipv6_packet-requires : goal.write_ipv6_packet-requires
 write_ipv6_packet-requires c =

@@ -1,7 +1,10 @@
 use Rattle.std.proofs.Common.{ℕ, ◌≡◌, ◌/◌, arith, slice_index}
-use Rattle.packet_reassembly.proofs.TableLaws.{Contains_from_held, all_new, conflict_at, same_parts}
+use Rattle.packet_reassembly.proofs.TableLaws.{Contains_from_held, all_new, conflict_at, conflict_past, same_parts}
 use Rattle.packet_reassembly.proofs.table.arrival_of.Goals.{else-is_range-via-then-is_range+else-holds, else-is_range-via-else-is_range}
 use Rattle.packet_reassembly.proofs.table.arrival_of.Goals as goal
+
+pub returns-then-goes_past-clause-arrives : goal.returns-then-goes_past-clause-arrives
+returns-then-goes_past-clause-arrives c = conflict_past c.requires.kept c.requires.fits (c.goes_past.ensures.past c.if-goes_past.true)
 
 pub returns-then-begins_inside-clause-arrives : goal.returns-then-begins_inside-clause-arrives
 returns-then-begins_inside-clause-arrives c =
