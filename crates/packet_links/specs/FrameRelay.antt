@@ -20,23 +20,23 @@ abbrev pub nlpid_place : ℕ → List ℕ → ℕ
 nlpid_place place frame = if nat_lt (place + 1) (length frame) && has 0x00 (place + 1) frame
     then place + 2 else place + 1
 
--- the upper 6 bits of the last byte of an address of 3 or 4 bytes, which ends at a place, are 0, or no
--- part of the DLCI: its bit 1, D/C, is set (Q.922 section 3.3.7)
+-- the upper 6 bits of the last byte of an address of 3 or 4 bytes, which ends at a place, are 0, or
+-- they are no part of the DLCI: its bit 1, D/C, is set (Q.922 section 3.3.7)
 abbrev pub ends_with_zero : ℕ → List ℕ → Bool
 ends_with_zero place frame =
     is_set 1 (place - 1) frame || slice_index frame (place - 1) / 2 ^ 2 == 0
 
 -- The address that ends at a place has DLCI 0, which is for signalling (Q.922 section 3.3.6): the
--- upper 6 bits of its first byte, the upper 4 of its second and the upper 7 of the third of 4 are 0,
--- and so are those of a last byte after the second.
+-- upper 6 bits of its first byte, the upper 4 of its second, and the upper 7 of the third of 4 are
+-- 0, and so are those of a last byte after the second.
 abbrev pub is_signalling : ℕ → List ℕ → Bool
 is_signalling place frame = slice_index frame 0 / 2 ^ 2 == 0 && slice_index frame 1 / 2 ^ 4 == 0
     && (place == 2 || ends_with_zero place frame)
     && (not (place == 4) || slice_index frame 2 / 2 == 0)
 
--- After an address that ends at a place: the control 03 and an NLPID. On DLCI 0 any other control is
--- one of Q.922 (section 3.4), and what follows it is unknown; else an EtherType follows, as Cisco's
--- encapsulation has it.
+-- After an address that ends at a place: the control 03 and an NLPID. On DLCI 0 any other control
+-- is one of Q.922 (section 3.4), and what follows it is unknown; else an EtherType follows, as
+-- Cisco's encapsulation has it.
 abbrev pub after_address : ℕ → List ℕ → Header
 after_address place frame =
     if has 0x03 place frame then nlpid_header (nlpid_place place frame) frame

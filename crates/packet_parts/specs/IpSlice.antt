@@ -153,8 +153,8 @@ pub record EndsInIpv6Payload (packet : List ℕ) (e : LenError) : Type 0 where
   pub short : length packet < 40 + header.payload_length
   pub error : e ≡ too_short_error layer.Ipv6Packet (40 + header.payload_length) (length packet)
 
--- What says where the payload of a packet ends that has all its bytes: the total length, which counts
--- the header too (RFC 791 section 3.1), or the payload length (RFC 8200 section 3).
+-- What says where the payload of a packet ends that has all its bytes: the total length, which
+-- counts the header too (RFC 791 section 3.1), or the payload length (RFC 8200 section 3).
 abbrev pub payload_end_of : IpHeaderSlice → LenSource
 payload_end_of (header.Ipv4 view) = source.Ipv4HeaderTotalLen
 payload_end_of (header.Ipv6 view) = source.Ipv6HeaderPayloadLen

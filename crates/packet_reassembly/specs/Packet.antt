@@ -27,8 +27,8 @@ abbrev pub IsChain : ℕ → List ℕ → ℕ → Type 0
 IsChain first bytes number = FollowsChain bytes first number []
 
 -- The extension headers before a fragment header: those before the last, which are a chain, and the
--- last, whose number they end with. What the last one names, or the IPv6 header if there is none, is
--- not asked: it names the fragment header, and the packet has another number in that place.
+-- last, whose number they end with. What the last one names, or the IPv6 header if there is none,
+-- is not asked: it names the fragment header, and the packet has another number in that place.
 abbrev pub AreUnfragmentable : ℕ → List ℕ → List ℕ → Type 0
 AreUnfragmentable first before [] = before ≡ []
 AreUnfragmentable first before (byte ∷ rest) =
