@@ -439,16 +439,29 @@ OWN = re.compile(r'^impl\b[^{]*? for .*?^\}|^(?:pub )?trait .*?^\}'
                  r'|^(?P<indent> *)(?P<pub>pub )?(?:pub\(\w+\) )?(?:const |unsafe )?fn (?P<name>\w+).*?^(?P=indent)\{?\}$', re.M | re.S)
 SHADOWS = set('clone clone_from eq ne cmp partial_cmp lt le gt ge min max hash fmt default from try_from into try_into next nth'.split())
 
+# A function that returns `fmt::Result`: its name, its parameters and its body; what it writes to; and how it could make an error.
+FORMATS = re.compile(r'^( *)(?:pub(?:\(\w+\))? )?fn (\w+)([^{}]*?\) -> fmt::Result\b)(.*?)^\1\}', re.M | re.S)
+WRITES_TO = re.compile(r'\bwrite(?:ln)?!\(\s*([^,]*),|([\w.)\]]+)\s*\.(?:write_\w+|pad\w*)\(')
+MAKES_ERROR = re.compile(r'\bErr\(|\b[dD]efault\b|\b(?:ok_or|map_err|or_else)\w*\(|\bfmt::write\b|\blet (?:mut )?f\b')
+
 
 def check_unsaid(file, text):
-    """What no contract says is not written by hand: the contract of `size_hint` allows a count that is too great, that of `Display`
-    an error for any reason, and what a `drop` does to memory that was lent is in no contract. A derive has no clauses either, so a
-    law calls it, or that of a type that holds this one by a derive."""
+    """What no contract says is not written by hand: the contract of `size_hint` allows a count that is too great, and what a `drop`
+    does to memory that was lent is in no contract. That of `Display` allows an error for any reason, so what formats a value can
+    fail only by the writer that it is given. A derive has no clauses either, so a law calls it, or that of a type that holds this one
+    by a derive."""
     if re.search(r'\bIterator for ', text):
         judge(file, 'size_hint', 'fn size_hint' not in text, 'is written by hand')
     judge(file, 'Drop', not re.search(r'\bDrop for ', text), 'is written by hand')
     judge(file, 'derive_where', 'derive_where' not in text, 'can skip a field')
-    judge(file, 'fmt::Error', not re.search(r'\bfmt::(?:\{[^}]*\b)?Error\b(?!\) =>)', text), 'is made here, where only a writer fails')
+    is_made = re.search(r'\bfmt::(?:\{[^}]*\b)?Error\b(?!\) =>)|\bfmt as\b|\bfmt::\*', text)
+    judge(file, 'fmt::Error', not is_made, 'is made here, where only a writer fails')
+    formats = FORMATS.findall(text)
+    judge(file, 'fmt::Result', len(re.findall(r'\bfmt::Result\b', text)) == len(formats), 'is named beside the result of a function')
+    for _, name, head, body in formats:
+        others = {first.strip() or second for first, second in WRITES_TO.findall(body)} - {'f'}
+        is_given = re.search(r'\bf: &mut (?:fmt::)?Formatter<', head)
+        judge(file, name, is_given and not others and not MAKES_ERROR.search(body), 'can fail where its writer does not')
     for trait, name in IMPL.findall(text):
         judge(file, f'{trait} for {name}', name in BY_HAND[trait], 'is written by hand')
     for name, trait, first, second, body in LAW.findall(text) if 'laws' in file.stem else []:

@@ -1,9 +1,9 @@
 #!/usr/bin/env python3
 """bodies.py [CRATE ..]: tries the wrong bodies of the folders of misuse/bodies; for crates that are named, those of `more` too.
 
-Each is tried on a copy of its crate, which `rt ci` has just proved: a check of the function whose contract speaks of it, and of
-those that it calls, has to refuse that function and to prove the others. One check tries the bodies of different functions
-together: a function is refused by its own body and the contracts of others. README.md says how a body is written. As many crates
+Each is tried on a copy of its crate, which `rt ci` has just proved: a check of the function whose contract speaks of it has to
+refuse that function. Of the functions that it calls only the contracts are there: their bodies are stubs in the copy, and their
+proofs holes. So one check tries the bodies of different functions together. README.md says how a body is written. As many crates
 are tried at a time as there are processors, up to four. The last line is 'N passed, M failed'.
 """
 import concurrent.futures
@@ -22,6 +22,9 @@ KIT = pathlib.Path(shutil.which('rt')).resolve().parents[1]
 # The line at which the body of a function begins, its name in the line before its parameters, and a line that names a place.
 BODY = re.compile(r' *(\{|((pub(\(crate\))?|const|unsafe|extern "C") )*fn .*\{|\) (-> .* )?\{)$')
 FUNCTION = re.compile(r'\bfn (\w+)')
+# Where an impl or a trait begins, with the type if the impl is no trait's; and a function that can be a stub: it is no `const fn`.
+OWNER = re.compile(r'(?:pub )?(?:unsafe )?(?:trait\b|impl(?:<[^>]*>)? (?:(\w+)(?:<[^>]*>)? \{$)?)')
+CALLABLE = re.compile(r'( *)(?:pub(?:\(\w+\))? )?fn (\w+)(?:<([^>]*)>)?\(')
 PLACE = re.compile(r'note: \S+:\d+:\d+:|\S+:\d+:\d+: error')
 # A function that the checker did not prove, unless that is only since it calls such a function: it may call another body of its group.
 REFUSED = r'^fn %s::(\S+): (?:not proved|no proof)(?!: it calls [^;]*$)'
@@ -62,10 +65,10 @@ def words(crate):
 
 
 def check(crate, room, kept, functions):
-    """Checks functions of a crate that stands in a folder, and keeps what was proved in another."""
+    """Checks functions of a crate that stands in a folder, and keeps what was proved in another. Holes in other proofs are none."""
     only = [word for it in sorted(functions) for word in ('--only', f'{crate}::{it}')]
     root = next(it for it in ('src/lib.rt', 'src/main.rt') if pathlib.Path(room, it).is_file())
-    return subprocess.run([KIT / 'bin/rattle', 'check', '--crate-name', crate, root, *words(crate), *only, '--incremental', kept],
+    return subprocess.run([KIT / 'bin/rattle', 'check', '--crate-name', crate, root, *words(crate), *only, '--allow-holes', '--incremental', kept],
                           cwd=room, text=True, stdout=subprocess.PIPE, stderr=subprocess.STDOUT)
 
 
@@ -83,6 +86,42 @@ def changed(text, old):
         heads = (it for it in reversed(lines[: at + 1]) if FUNCTION.search(it))
         return (FUNCTION.search(next(heads))[1], at) if at < first and first + old.count('\n') < end else None
     return None
+
+
+def stub(crate, room, bodies):
+    """Leaves of the functions of a crate that stands in a folder their contracts alone, with a hole for each proof, except of those
+    that these bodies change or are tried at, of the methods of traits, and of what is generic or const."""
+    tried = {it for body in bodies for it in read(body)[0]}
+    edits = [edit for body in bodies for edit in read(body)[1]]
+    texts = {file: file.read_text() for file in sorted(pathlib.Path(room, 'src').rglob('*.rt'))}
+    place = lambda file: [it for it in file.relative_to(f'{room}/src').with_suffix('').parts if it not in ('lib', 'main', 'mod')]
+    # (the methods of a type stand below the module that declares it)
+    home = {name: place(file) for file, text in texts.items() for name in re.findall(r'^(?:pub(?:\(\w+\))? )?(?:struct|enum) (\w+)', text, re.M)}
+    for file, text in texts.items():
+        own = {found[1] for name, old, new in edits if file == pathlib.Path(room, name) and (found := changed(text, old))}
+        lines, owner, is_trait, head = text.split('\n'), None, False, None
+        for at, line in enumerate(lines):
+            if found := OWNER.match(line):
+                owner, is_trait = found[1], not found[1]
+            elif line == '}':
+                owner, is_trait = None, False
+            head = CALLABLE.match(line) or head
+            if not head or not BODY.match(line) or re.match(' *', line)[0] != head[1]:
+                continue
+            signature = '\n'.join(lines[:at + 1]).rpartition(head[0])[2]
+            is_generic = 'impl ' in signature or any(not it.lstrip().startswith("'") for it in (head[3] or "'").split(','))
+            path = [*home[owner], owner, head[2]] if owner else [*place(file), head[2]]
+            end = lines.index(head[1] + '}', at)
+            head = None
+            if is_trait or is_generic or at in own or '::'.join(path) in tried:
+                continue
+            lines[at + 1:end] = ['loop {}'] + [''] * (end - at - 2)
+            proof = pathlib.Path(room, 'proofs', *path)
+            shutil.rmtree(proof, ignore_errors=True)
+            proof.mkdir(parents=True)
+            statement = f'use Rattle.{crate}.proofs.{".".join(path)}.Statement.{{statement}}'
+            (proof / 'Proof.antt').write_text(f'{statement}\n\npub {path[-1]}_spec : {{M : Type 1}} → statement M\n{path[-1]}_spec = ?\n')
+        file.write_text('\n'.join(lines))
 
 
 def groups(crate, bodies):
@@ -124,6 +163,7 @@ def why_failed(crate, bodies, whole, kept):
     """Returns for each of these bodies, which are tried together, why it is not refused as it has to be, or nothing."""
     with tempfile.TemporaryDirectory(dir=os.path.dirname(whole)) as room:
         shutil.copytree(whole, f'{room}/crate')
+        stub(crate, f'{room}/crate', bodies)
         for body in bodies:
             for file, old, new in read(body)[1]:
                 file = pathlib.Path(room, 'crate', file)
