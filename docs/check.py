@@ -424,8 +424,9 @@ def check_nothing_beside(file, text):
         judge(file, beside and beside.group(), not beside, 'is beside the repository')
 
 
-# The impls by hand of what others derive: each has clauses, or a law of its own.
+# The impls by hand of what others derive: each has clauses, or a law of its own, but for `Debug` of `Filter`.
 BY_HAND = {'Clone': {'Ipv4Options', 'Ipv4OptionsIterator', 'Ipv6OptionsIterator', 'Ipv6ExtensionSliceIter', 'TcpHeader'},
+           'Debug': {'Ipv4Options', 'Filter'},
            **dict.fromkeys(('PartialEq', 'Eq', 'Hash', 'PartialOrd', 'Ord'), {'Ipv4Options', 'IpDscpKnown'})}
 IMPL = re.compile(rf'\bimpl(?:<[^>]*>)? (?:\w+::)*({"|".join(BY_HAND)})(?:<[^>]*>)? for (\w+)')
 # A law of such a trait, and the body by which it speaks of it.

@@ -25,6 +25,9 @@ FUNCTION = re.compile(r'\bfn (\w+)')
 # Where an impl or a trait begins, with the type if the impl is no trait's; and a function that can be a stub: it is no `const fn`.
 OWNER = re.compile(r'(?:pub )?(?:unsafe )?(?:trait\b|impl(?:<[^>]*>)? (?:(\w+)(?:<[^>]*>)? \{$)?)')
 CALLABLE = re.compile(r'( *)(?:pub(?:\(\w+\))? )?fn (\w+)(?:<([^>]*)>)?\(')
+TYPE = re.compile(r'^(?:pub(?:\(\w+\))? )?(?:struct|enum) (\w+)', re.M)
+# A proof that the function at a path of a crate meets its contract, with a hole for it.
+HOLE = 'use Rattle.{0}.proofs.{1}.Statement.{{statement}}\n\npub {2}_spec : {{M : Type 1}} → statement M\n{2}_spec = ?\n'
 PLACE = re.compile(r'note: \S+:\d+:\d+:|\S+:\d+:\d+: error')
 # A function that the checker did not prove, unless that is only since it calls such a function: it may call another body of its group.
 REFUSED = r'^fn %s::(\S+): (?:not proved|no proof)(?!: it calls [^;]*$)'
@@ -66,9 +69,9 @@ def words(crate):
 
 def check(crate, room, kept, functions):
     """Checks functions of a crate that stands in a folder, and keeps what was proved in another. Holes in other proofs are none."""
-    only = [word for it in sorted(functions) for word in ('--only', f'{crate}::{it}')]
+    only = ['--allow-holes', *[word for it in sorted(functions) for word in ('--only', f'{crate}::{it}')]]
     root = next(it for it in ('src/lib.rt', 'src/main.rt') if pathlib.Path(room, it).is_file())
-    return subprocess.run([KIT / 'bin/rattle', 'check', '--crate-name', crate, root, *words(crate), *only, '--allow-holes', '--incremental', kept],
+    return subprocess.run([KIT / 'bin/rattle', 'check', '--crate-name', crate, root, *words(crate), *only, '--incremental', kept],
                           cwd=room, text=True, stdout=subprocess.PIPE, stderr=subprocess.STDOUT)
 
 
@@ -88,17 +91,16 @@ def changed(text, old):
     return None
 
 
-def stub(crate, room, bodies):
-    """Leaves of the functions of a crate that stands in a folder their contracts alone, with a hole for each proof, except of those
-    that these bodies change or are tried at, of the methods of traits, and of what is generic or const."""
-    tried = {it for body in bodies for it in read(body)[0]}
-    edits = [edit for body in bodies for edit in read(body)[1]]
+def callables(room):
+    """Yields the functions of a crate that stands in a folder, without methods of traits and what is generic or const: the file of
+    each, its path in the crate, and the lines at which its body begins and ends."""
     texts = {file: file.read_text() for file in sorted(pathlib.Path(room, 'src').rglob('*.rt'))}
-    place = lambda file: [it for it in file.relative_to(f'{room}/src').with_suffix('').parts if it not in ('lib', 'main', 'mod')]
-    # (the methods of a type stand below the module that declares it)
-    home = {name: place(file) for file, text in texts.items() for name in re.findall(r'^(?:pub(?:\(\w+\))? )?(?:struct|enum) (\w+)', text, re.M)}
+    parts = lambda file: file.relative_to(f'{room}/src').with_suffix('').parts
+    place = {file: [it for it in parts(file) if it not in ('lib', 'main', 'mod')] for file in texts}
+    types = {file: TYPE.findall(text) for file, text in texts.items()}
     for file, text in texts.items():
-        own = {found[1] for name, old, new in edits if file == pathlib.Path(room, name) and (found := changed(text, old))}
+        # (a method stands below the module that declares its type)
+        home = {name: place[it] for it in [*texts, file] for name in types[it]}
         lines, owner, is_trait, head = text.split('\n'), None, False, None
         for at, line in enumerate(lines):
             if found := OWNER.match(line):
@@ -108,20 +110,29 @@ def stub(crate, room, bodies):
             head = CALLABLE.match(line) or head
             if not head or not BODY.match(line) or re.match(' *', line)[0] != head[1]:
                 continue
-            signature = '\n'.join(lines[:at + 1]).rpartition(head[0])[2]
-            is_generic = 'impl ' in signature or any(not it.lstrip().startswith("'") for it in (head[3] or "'").split(','))
-            path = [*home[owner], owner, head[2]] if owner else [*place(file), head[2]]
-            end = lines.index(head[1] + '}', at)
-            head = None
-            if is_trait or is_generic or at in own or '::'.join(path) in tried:
-                continue
-            lines[at + 1:end] = ['loop {}'] + [''] * (end - at - 2)
-            proof = pathlib.Path(room, 'proofs', *path)
-            shutil.rmtree(proof, ignore_errors=True)
-            proof.mkdir(parents=True)
-            statement = f'use Rattle.{crate}.proofs.{".".join(path)}.Statement.{{statement}}'
-            (proof / 'Proof.antt').write_text(f'{statement}\n\npub {path[-1]}_spec : {{M : Type 1}} → statement M\n{path[-1]}_spec = ?\n')
+            (indent, name, lent), parameters = head.groups(default="'"), '\n'.join(lines[:at + 1]).rpartition(head[0])[2]
+            is_generic = 'impl ' in parameters or not all(it.lstrip().startswith("'") for it in lent.split(','))
+            head, end = None, lines.index(indent + '}', at)
+            if not is_trait and not is_generic and end > at + 1:
+                yield file, [*home[owner], owner, name] if owner else [*place[file], name], at, end
+
+
+def stub(crate, room, bodies):
+    """Leaves of such functions of a crate that stands in a folder their contracts alone, with a hole for each proof, except of those
+    that these bodies change or are tried at."""
+    tried = {tuple(it.split('::')) for body in bodies for it in read(body)[0]}
+    edits = [(pathlib.Path(room, file), old) for body in bodies for file, old, new in read(body)[1]]
+    own = {(file, found[1]) for file, old in edits if (found := changed(file.read_text(), old))}
+    for file, path, begin, end in [*callables(room)]:
+        if tuple(path) in tried or (file, begin) in own:
+            continue
+        lines = file.read_text().split('\n')
+        lines[begin + 1:end] = ['loop {}'] + [''] * (end - begin - 2)
         file.write_text('\n'.join(lines))
+        proof = pathlib.Path(room, 'proofs', *path)
+        shutil.rmtree(proof, ignore_errors=True)
+        proof.mkdir(parents=True)
+        (proof / 'Proof.antt').write_text(HOLE.format(crate, '.'.join(path), path[-1]))
 
 
 def groups(crate, bodies):
