@@ -144,6 +144,11 @@ for compiler in gcc clang; do
     "-Wl,--version-script=$here/exports.map" -Wl,--whole-archive "$archive" -Wl,--no-whole-archive
   linked "$compiler"
 done
+# All header files in one file, each twice.
+for compiler in "gcc -std=c11" "clang -std=c11" "g++ -std=c++11 -xc++" "clang++ -std=c++11 -xc++"; do
+  has "${compiler%% *}" && try "${compiler%% *}, all header files in one" $compiler "${strict[@]}" -ffreestanding \
+    -fsyntax-only "$here/tests/alone.c"
+done
 # A program without a C library, and one whose own memcpy, memmove and memset no call may reach.
 if [[ -n $(make -s -C "$here" musl) ]]; then
   has nm && try "the archive needs nothing" needs_nothing "$archive"

@@ -65,6 +65,9 @@ for name in etherparse filter reassembly rewriting; do
       LD_LIBRARY_PATH=$fresh/usr/lib ./cases > said.txt || { cat said.txt; fails "$module, $name"; }
   done
 done
+version=$(sed -n 's/^#define ETHERPARSE_VERSION "\(.*\)"/\1/p' include/etherparse.h)
+LD_LIBRARY_PATH=$fresh/usr/lib ldd cases | grep -qF "libetherparse_c.so.${version%%.*} =>" ||
+  fails "the shared object has another name"
 
 # Each runs `rt` only if the library is not there, is for another level, or is older than a source.
 make > said.txt 2>&1 && asked 'a second make' 'lib --cpu=x86-64-v2'
@@ -72,14 +75,36 @@ rm "$fresh/asked.txt"
 { make CPU=x86-64 && make install; } > said.txt 2>&1
 asked 'another level, then an installation' 'lib --cpu=x86-64'
 level x86-64 'another level, then an installation'
-mkdir src && touch src/lib.rt
-make install > said.txt 2>&1
-asked 'a new source' 'lib --cpu=x86-64' 'lib --cpu=x86-64'
+mkdir src
+for source in src/lib.rt src/lib.antt include/etherparse.h include/etherparse.rs ../../crates.txt; do
+  rm "$fresh/asked.txt"
+  touch "$source"
+  make install > said.txt 2>&1
+  asked "a new $source" 'lib --cpu=x86-64'
+done
 rm "$fresh/asked.txt"
 rm out/lib/libetherparse_c.a
 make install > said.txt 2>&1
 asked 'an installation alone' 'lib --cpu=x86-64-v2'
 level x86-64-v2 'an installation alone'
+rm "$fresh/asked.txt"
+echo >> out/lib/libetherparse_c.a
+make > said.txt 2>&1
+asked 'another archive' 'lib --cpu=x86-64-v2'
+
+# Below another folder, for others than those of PREFIX: all files, as the .pc files name them.
+staged=$fresh/staged$fresh
+make DESTDIR="$fresh/staged" LIBDIR="$fresh/lib64" INCLUDEDIR="$fresh/headers" install > said.txt 2>&1 ||
+  { cat said.txt; fails "an installation below DESTDIR"; }
+diff <(ls include) <(ls "$staged/headers") || fails "other header files are installed"
+gcc "$here/tests/filter.c" -I "$staged/headers" -L "$staged/lib64" -letherparse_c -o cases ||
+  fails "what is below DESTDIR does not link"
+for module in etherparse etherparse-shared; do
+  ask() { PKG_CONFIG_PATH=$staged/lib64/pkgconfig pkg-config "$1" "$module"; }
+  [[ $(ask --modversion) == "$version" ]] || fails "$module is of version $(ask --modversion)"
+  [[ $(ask --variable=libdir) == "$fresh/lib64" ]] || fails "$module is in $(ask --variable=libdir)"
+  [[ $(ask --variable=includedir) == "$fresh/headers" ]] || fails "the header files of $module: $(ask --cflags)"
+done
 
 # Without `rt`: what is there is installed, for its level, and no other.
 rm "$fresh/bin/rt" "$fresh/asked.txt"

@@ -3,7 +3,11 @@ use core::iter::FusedIterator;
 use core::marker::PhantomData;
 
 /// Room for what the library answers of `N` frames in one call, which is 248 bytes for each. A
-/// buffer with no room does not compile.
+/// buffer with no room does not compile:
+///
+/// ```compile_fail,E0080
+/// let buffer = etherparse_proved::PacketBuffer::<0>::new();
+/// ```
 pub struct PacketBuffer<const N: usize> {
     // Those of the last call. Their pointers are used only while that call's frames live.
     frames: [ffi::Frame; N],

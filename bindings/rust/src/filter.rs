@@ -132,7 +132,15 @@ impl fmt::Debug for Filter {
     }
 }
 
-/// A frame of a list for [`Filter::matches_frames`].
+/// A frame of a list for [`Filter::matches_frames`]. It lives as long as its bytes, and no longer:
+///
+/// ```compile_fail,E0597
+/// let frame = {
+///     let bytes = [0x45, 0];
+///     etherparse_proved::filter::Frame::truncated(&bytes, 20)
+/// };
+/// assert_eq!(frame.original_len(), 20);
+/// ```
 #[derive(Clone, Copy)]
 #[repr(transparent)]
 pub struct Frame<'a> {

@@ -543,3 +543,39 @@ impl Error for IpDefragPacketError {
         }
     }
 }
+
+/// No part of the memory of a pool can go before the pool. This compiles, and the others do not:
+///
+/// ```
+/// # use etherparse_proved::reassembly::{IpDefragPool as Pool, IpDefragPoolState as State};
+/// # use etherparse_proved::reassembly::{IpDefragSlot as Slot, SLOT_MEMORY};
+/// fn f<'a>(state: &'a mut State, slots: &'a mut [Slot], memory: &'a mut [[u8; SLOT_MEMORY]]) -> Pool<'a> {
+///     Pool::new(state, slots, memory, 60)
+/// }
+/// ```
+///
+/// ```compile_fail
+/// # use etherparse_proved::reassembly::{IpDefragPool as Pool, IpDefragPoolState as State};
+/// # use etherparse_proved::reassembly::{IpDefragSlot as Slot, SLOT_MEMORY};
+/// fn f<'a>(state: &mut State, slots: &'a mut [Slot], memory: &'a mut [[u8; SLOT_MEMORY]]) -> Pool<'a> {
+///     Pool::new(state, slots, memory, 60)
+/// }
+/// ```
+///
+/// ```compile_fail
+/// # use etherparse_proved::reassembly::{IpDefragPool as Pool, IpDefragPoolState as State};
+/// # use etherparse_proved::reassembly::{IpDefragSlot as Slot, SLOT_MEMORY};
+/// fn f<'a>(state: &'a mut State, slots: &mut [Slot], memory: &'a mut [[u8; SLOT_MEMORY]]) -> Pool<'a> {
+///     Pool::new(state, slots, memory, 60)
+/// }
+/// ```
+///
+/// ```compile_fail
+/// # use etherparse_proved::reassembly::{IpDefragPool as Pool, IpDefragPoolState as State};
+/// # use etherparse_proved::reassembly::{IpDefragSlot as Slot, SLOT_MEMORY};
+/// fn f<'a>(state: &'a mut State, slots: &'a mut [Slot], memory: &mut [[u8; SLOT_MEMORY]]) -> Pool<'a> {
+///     Pool::new(state, slots, memory, 60)
+/// }
+/// ```
+#[cfg(doctest)]
+struct MemoryOfAPool;

@@ -3,11 +3,11 @@
 
 mod common;
 
-use common::len_error;
+use common::{cause, len_error};
 use etherparse_proved::err::ipv4::{self, BadOptionsLen};
 use etherparse_proved::err::ipv6::{self, ChainError};
 use etherparse_proved::err::{Layer, LenError, ValueTooBigError, ValueType};
-use etherparse_proved::{checksum, IpDscp, IpEcn, IpFragOffset, IpNumber, Ipv4Header};
+use etherparse_proved::{checksum, EtherType, IpDscp, IpEcn, IpFragOffset, IpNumber, Ipv4Header};
 use etherparse_proved::{Ipv4HeaderSlice, Ipv4Options, Ipv6FlowLabel, Ipv6Header, Ipv6HeaderSlice};
 use etherparse_proved::LenSource;
 
@@ -56,7 +56,14 @@ fn ipv6_header() -> Ipv6Header {
 fn an_ipv4_header_is_read_and_written() {
     let (header, rest) = Ipv4Header::from_slice(&IPV4).unwrap();
     assert_eq!((header, rest), (ipv4_header(), &[23, 24, 25][..]));
-    assert_eq!(ipv4_header().to_bytes().as_slice(), &IPV4[..24]);
+    let (header, mut bytes) = (ipv4_header(), ipv4_header().to_bytes());
+    assert_eq!((bytes.as_slice(), bytes.as_ref()), (&IPV4[..24], &IPV4[..24]));
+    assert_eq!(bytes.as_mut_slice(), &IPV4[..24]);
+    bytes[8] = 6;
+    assert_ne!(bytes, header.to_bytes());
+    assert_eq!(header.source_addr().octets(), [11, 12, 13, 14]);
+    assert_eq!(header.destination_addr().octets(), [15, 16, 17, 18]);
+    assert!(header.is_fragmenting_payload() && !Ipv4Header::default().is_fragmenting_payload());
 }
 
 #[test]
@@ -74,6 +81,9 @@ fn an_ipv4_view_shows_the_header() {
     assert_eq!(view.source_addr().octets(), [11, 12, 13, 14]);
     assert_eq!(view.destination_addr().octets(), [15, 16, 17, 18]);
     assert_eq!(view.payload_len(), Ok(234));
+    let mut other = IPV4;
+    other[8] = 6;
+    assert_ne!(Ipv4HeaderSlice::from_slice(&other), Ok(view));
     assert_eq!(view.to_header(), ipv4_header());
 }
 
@@ -82,6 +92,7 @@ fn ipv4_refusals_have_their_texts() {
     use ipv4::{HeaderError, HeaderSliceError};
     let short = HeaderSliceError::Len(len_error(Layer::Ipv4Header, 20, 19, 0));
     assert_eq!(Ipv4Header::from_slice(&IPV4[..19]), Err(short.clone()));
+    assert_eq!(cause(&short), Some(short.to_string()));
     assert_eq!(Ipv4HeaderSlice::from_slice(&IPV4[..19]), Err(short));
     let short = HeaderSliceError::Len(len_error(Layer::Ipv4Header, 24, 23, 0));
     assert_eq!(Ipv4Header::from_slice(&IPV4[..23]), Err(short.clone()));
@@ -97,6 +108,7 @@ fn ipv4_refusals_have_their_texts() {
     );
     let ihl = HeaderSliceError::Content(HeaderError::HeaderLengthSmallerThanHeader { ihl: 4 });
     assert_eq!(Ipv4Header::from_slice(&[0x44; 20]), Err(ihl.clone()));
+    assert_eq!(cause(&ihl), Some(ihl.to_string()));
     assert_eq!(
         ihl.to_string(),
         "IPv4 Header Error: The 'internet header length' value '4' present in the IPv4 header is smaller than the minimum size of an IPv4 header. The minimum allowed value is '5'."
@@ -107,6 +119,8 @@ fn ipv4_refusals_have_their_texts() {
 fn lengths_of_an_ipv4_header() {
     let mut header = ipv4_header();
     assert_eq!((header.ihl(), header.header_len()), (6, 24));
+    let bounds = (Ipv4Header::MIN_LEN, Ipv4Header::MIN_LEN_U16, Ipv4Header::MAX_LEN);
+    assert_eq!(bounds, (20, 20, 60));
     assert_eq!(header.max_payload_len(), 65511);
     header.total_len = 23;
     let error = header.payload_len().unwrap_err();
@@ -123,6 +137,7 @@ fn lengths_of_an_ipv4_header() {
     assert_eq!(header.total_len, 65535);
     let error = header.set_payload_len(65512).unwrap_err();
     assert_eq!((error.actual, error.max_allowed), (65512, 65511));
+    assert_eq!(error.value_type, ValueType::Ipv4PayloadLength);
 }
 
 #[test]
@@ -134,6 +149,10 @@ fn an_ipv4_header_is_made_and_changed() {
     assert_eq!(header.header_checksum, 0xb861);
     assert!(header.lower_time_to_live());
     assert_eq!((header.time_to_live, header.header_checksum), (63, 0xb961));
+    header.time_to_live = 0;
+    assert!(!header.lower_time_to_live() && header.time_to_live == 0);
+    header.set_options(&[1, 1, 1, 0]).unwrap();
+    assert_eq!((header.options(), header.header_len()), (&[1, 1, 1, 0][..], 24));
     let error = Ipv4Header::new(65516, 64, IpNumber::UDP, source, destination).unwrap_err();
     assert_eq!((error.actual, error.max_allowed), (65516, 65515));
     assert_eq!(
@@ -153,6 +172,20 @@ fn an_ipv6_header_is_read_and_written() {
 }
 
 #[test]
+fn an_ipv6_header_is_changed() {
+    let mut header = ipv6_header();
+    assert_eq!((header.header_len(), header.source_addr().octets()), (40, header.source));
+    assert_eq!(header.destination_addr().octets(), header.destination);
+    assert_eq!((header.dscp().value(), header.ecn()), (4, IpEcn::Ect0));
+    header.set_dscp(IpDscp::try_new(46).unwrap());
+    assert_eq!(header.traffic_class, 0xba);
+    header.set_ecn(IpEcn::Ect1);
+    assert_eq!(header.traffic_class, 0xb9);
+    header.set_payload_length(65535).unwrap();
+    assert_eq!(header.payload_length, 65535);
+}
+
+#[test]
 fn an_ipv6_view_shows_the_header() {
     let view = Ipv6HeaderSlice::from_slice(&IPV6).unwrap();
     assert_eq!((view.slice(), view.version()), (&IPV6[..40], 6));
@@ -160,6 +193,9 @@ fn an_ipv6_view_shows_the_header() {
     assert_eq!((view.ecn(), view.flow_label().value()), (IpEcn::Ect0, 0x34567));
     assert_eq!((view.payload_length(), view.hop_limit()), (0x89ab, 0xef));
     assert_eq!(view.next_header(), IpNumber(0xcd));
+    let mut other = IPV6;
+    other[7] = 6;
+    assert_ne!(Ipv6HeaderSlice::from_slice(&other), Ok(view));
     assert_eq!(view.to_header(), ipv6_header());
 }
 
@@ -178,6 +214,10 @@ fn ipv6_refusals_have_their_texts() {
         version.to_string(),
         "IPv6 Header Error: Encountered '4' as IP version number in the IPv6 header (must be '6' in an IPv6 header)."
     );
+    assert_eq!(cause(&version), Some(version.to_string()));
+    assert_eq!(cause(&short), Some(short.to_string()));
+    let further = HeaderSliceError::Len(len_error(Layer::Ipv6Header, 40, 39, 14));
+    assert_eq!(short.add_slice_offset(14), further);
 }
 
 #[test]
@@ -211,6 +251,21 @@ fn extension_headers_are_skipped() {
         error.to_string(),
         "IPv6 Extension Header Error: More than 1 extension header(s) ('43' starts at overall parsed byte 8)."
     );
+    let wanted = ChainError::TooMany {
+        limit: 1,
+        next_header: 43,
+        layer_start_offset: 48,
+    };
+    assert_eq!((cause(&error), error.add_slice_offset(40)), (None, wanted));
+    let error = Ipv6Header::skip_header_extensions_up_to(&slice, hop_by_hop, 2).unwrap_err();
+    let (error, wanted) = (error.add_slice_offset(40), len_error(Layer::Ipv6ExtHeader, 16, 3, 48));
+    assert_eq!((error.to_string(), cause(&error)), (wanted.to_string(), Some(wanted.to_string())));
+    assert_eq!(error, ChainError::Len(wanted));
+    let whole = [43, 0, 0, 0, 0, 0, 0, 0, 6, 0, 0, 0, 0, 0, 0, 0, 9];
+    assert_eq!(
+        Ipv6Header::skip_all_header_extensions_in_slice(&whole, hop_by_hop),
+        Ok((IpNumber::TCP, &[9][..]))
+    );
     let skippable: Vec<u8> = (0..=255)
         .filter(|number| Ipv6Header::is_skippable_header_extension(IpNumber(*number)))
         .collect();
@@ -241,12 +296,67 @@ fn values_out_of_their_bounds_have_their_texts() {
         "Error '65536' is too big to be a 'IPv6 Header 'Payload Length'' (maximum allowed value is '65535')",
     ];
     assert_eq!(texts, wanted);
+    let error = Ipv4Options::try_from(&[0; 44][..]).unwrap_err();
+    assert_eq!(error, BadOptionsLen { bad_len: 44 });
     let error = Ipv4Options::try_from(&[0; 3][..]).unwrap_err();
     assert_eq!(error, BadOptionsLen { bad_len: 3 });
     assert_eq!(
         error.to_string(),
         "Slice of length 3 cannot be set as IPv4 header options. The length must be a multiple of 4 and at maximum 40."
     );
+}
+
+#[test]
+fn fields_are_their_numbers() {
+    let ecns = [IpEcn::ZERO, IpEcn::ONE, IpEcn::TWO, IpEcn::THREE];
+    assert_eq!([0, 1, 2, 3].map(|number| IpEcn::try_from(number).unwrap()), ecns);
+    assert_eq!(ecns.map(|ecn| ecn.to_string()), ["0", "1", "2", "3"]);
+    let dscp = IpDscp::try_from(63).unwrap();
+    assert_eq!((dscp.to_string().as_str(), u8::from(dscp)), ("63", 63));
+    assert_eq!(IpFragOffset::try_new(8191).unwrap().byte_offset(), 65528);
+}
+
+// Those of IANA's registries of IP protocols and EtherTypes.
+#[test]
+fn numbers_are_those_of_the_registries() {
+    let numbers = [
+        IpNumber::IPV6_HEADER_HOP_BY_HOP,
+        IpNumber::ICMP,
+        IpNumber::TCP,
+        IpNumber::UDP,
+        IpNumber::IPV6_ROUTE_HEADER,
+        IpNumber::IPV6_FRAGMENTATION_HEADER,
+        IpNumber::ENCAPSULATING_SECURITY_PAYLOAD,
+        IpNumber::AUTHENTICATION_HEADER,
+        IpNumber::IPV6_ICMP,
+        IpNumber::IPV6_NO_NEXT_HEADER,
+        IpNumber::IPV6_DESTINATION_OPTIONS,
+        IpNumber::MOBILITY_HEADER,
+        IpNumber::HIP,
+        IpNumber::SHIM6,
+    ];
+    let wanted = [0, 1, 6, 17, 43, 44, 50, 51, 58, 59, 60, 135, 139, 140];
+    assert_eq!(numbers.map(u8::from), wanted);
+    let types = [
+        EtherType::IPV4,
+        EtherType::ARP,
+        EtherType::VLAN_TAGGED_FRAME,
+        EtherType::IPV6,
+        EtherType::PROVIDER_BRIDGING,
+        EtherType::MACSEC,
+        EtherType::VLAN_DOUBLE_TAGGED_FRAME,
+    ];
+    let wanted = [0x0800, 0x0806, 0x8100, 0x86dd, 0x88a8, 0x88e5, 0x9100];
+    assert_eq!((types.map(u16::from), types), (wanted, wanted.map(EtherType::from)));
+}
+
+#[test]
+fn options_are_their_bytes() {
+    let short = Ipv4Options::from([2, 0, 0, 0]);
+    let long = Ipv4Options::from([1, 0, 0, 0, 1, 0, 0, 0]);
+    assert_eq!((short.len(), short.is_empty(), Ipv4Options::MAX_LEN), (4, false, 40));
+    assert!(long < short && long != Ipv4Options::from([1, 0, 0, 0]));
+    assert!(std::collections::HashSet::from([short]).contains(&[2, 0, 0, 0][..]));
 }
 
 #[test]
@@ -257,6 +367,14 @@ fn sums_and_updates() {
     assert_eq!(u64_16bit_word::ones_complement(sum), 0xf3ef);
     assert_eq!(u64_16bit_word::ones_complement_with_no_zero(sum), 0xf3ef);
     assert_eq!(u64_16bit_word::checksum(0, &bytes), 0xf3ef);
+    let (front, back) = bytes.split_at(4);
+    let sum = u64_16bit_word::add_slice(0, front);
+    assert_eq!(u64_16bit_word::checksum(sum, back), 0xf3ef);
+    let sum = u64_16bit_word::add_slice(sum, back);
+    assert_eq!(u64_16bit_word::ones_complement(sum), 0xf3ef);
+    assert_eq!(u64_16bit_word::ones_complement(u64::MAX), 0);
+    assert_eq!(u64_16bit_word::ones_complement_with_no_zero(u64::MAX), 0xffff);
+    assert_eq!(u32_16bit_word::ones_complement(u32::MAX), 0);
     assert_eq!(checksum::checksum(&bytes), 0xeff3);
     let sum = u32_16bit_word::add_slices(&[&bytes[..4], &[], &bytes[4..]]);
     assert_eq!(u32_16bit_word::ones_complement(sum), 0xf3ef);

@@ -1,6 +1,7 @@
-//! Compares `src/ffi.rs` and what is in `src/ffi` with the header files of the library, if they are
-//! there: each constant; each struct, with the type and the place of each field; the types of each
-//! function. Types are written as Rust has them, but pointers as `const T*` and `mut T*`.
+//! Compares `src/ffi.rs` and what is in `src/ffi`, and the declarations for Rust beside the header
+//! files, with the header files of the library, if they are there: each constant; each struct, with
+//! the type and the place of each field; the parameters of each function, and what it returns. Types
+//! are written as Rust has them, but pointers as `const T*` and `mut T*`.
 
 use std::collections::BTreeMap;
 
@@ -30,6 +31,13 @@ const FILES: [(&str, &str, &str); 4] = [
         include_str!("../src/ffi/rewriting.rs"),
     ),
 ];
+
+// The declarations for Rust beside a header file.
+fn beside(path: &str) -> String {
+    let root = concat!(env!("CARGO_MANIFEST_DIR"), "/../../crates");
+    let path = path.replace(".h", ".rs");
+    std::fs::read_to_string(format!("{root}/{path}")).expect(&path)
+}
 
 // The header file of a path below `crates`, without comments.
 fn header(path: &str) -> Option<String> {
@@ -213,6 +221,51 @@ fn structs_of_rust(here: &str) -> Declared {
     found
 }
 
+// The names and the types of fields in their order, each on a line, without the memory of a filter.
+fn fields_of_c(text: &str) -> Declared {
+    let mut found = Declared::new();
+    for one in all_between(text, "\nstruct ", "\n}").filter(|one| !one.contains("union {")) {
+        let Some((name, fields)) = one.split_once(" {").filter(|one| !one.0.contains(' ')) else {
+            continue; // a function
+        };
+        let fields = listed(fields, |c| c == ';').into_iter().map(|field| {
+            let (field, of, len) = item_of_c(&field);
+            let of = len.map_or(of.clone(), |len| format!("[{of}; {len}]"));
+            format!("{field}: {of}\n")
+        });
+        found.insert(camel(name), fields.collect());
+    }
+    found
+}
+
+fn fields_beside(text: &str) -> Declared {
+    let mut found = Declared::new();
+    for one in all_between(text, "\npub struct ", "\n}") {
+        let (name, fields) = one.split_once(" {").unwrap();
+        let fields = fields.lines().filter_map(|line| {
+            let (field, of) = line.trim().strip_prefix("pub ")?.split_once(": ")?;
+            Some(format!(
+                "{field}: {}\n",
+                type_of_rust(of.trim_end_matches(','))
+            ))
+        });
+        found.insert(name.to_string(), fields.collect());
+    }
+    found
+}
+
+fn constants_beside(text: &str) -> Declared {
+    let lines = text.lines().filter_map(|line| {
+        let (name, number) = line.strip_prefix("pub const ")?.split_once(": ")?;
+        let number = number.split_once(" = ")?.1.strip_suffix(';')?;
+        let bare = name.strip_prefix("FILTER_").unwrap_or(name);
+        Some((bare.to_string(), number.to_string()))
+    });
+    let aligned = all_between(text, "#[repr(C, align(", ")")
+        .map(|bytes| ("ALIGN".to_string(), bytes.to_string()));
+    lines.chain(aligned).collect()
+}
+
 fn functions_of_c(text: &str) -> Declared {
     let bare: String = text
         .split_once("extern \"C\" {")
@@ -233,16 +286,19 @@ fn functions_of_c(text: &str) -> Declared {
             .iter()
             .filter(|one| *one != "void")
             .map(|one| item_of_c(one))
-            .map(|(_, of, len)| len.map_or(of.clone(), |len| format!("const [{of}; {len}]*")))
+            .map(|(name, of, len)| {
+                let of = len.map_or(of.clone(), |len| format!("const [{of}; {len}]*"));
+                format!("{}: {of}", name.trim_end_matches("_bytes"))
+            })
             .collect();
         found.insert(name, format!("({}) {answer}", types.join(", ")));
     }
     found
 }
 
-fn functions_of_rust(here: &str) -> Declared {
+fn functions_of_rust(here: &str, open: &str) -> Declared {
     let mut found = Declared::new();
-    for one in between(here, "\nfunctions! {", "\n}")
+    for one in between(here, open, "\n}")
         .split(";\n")
         .filter(|one| one.contains('('))
     {
@@ -250,14 +306,15 @@ fn functions_of_rust(here: &str) -> Declared {
         let (parameters, answer) = rest.rsplit_once(')').unwrap();
         let types: Vec<_> = listed(parameters, |c| c == ',')
             .iter()
-            .map(|one| type_of_rust(one.split_once(": ").unwrap().1))
+            .map(|one| one.split_once(": ").unwrap())
+            .map(|(name, of)| format!("{name}: {}", type_of_rust(of)))
             .collect();
         let answer = answer
             .trim_end_matches(';')
             .strip_prefix(" -> ")
             .unwrap_or("()");
         found.insert(
-            name.trim().to_string(),
+            name.trim().trim_start_matches("pub fn ").to_string(),
             format!("({}) {answer}", types.join(", ")),
         );
     }
@@ -269,6 +326,10 @@ fn constants_are_those_of_the_headers() {
     for (path, prefix, here) in FILES {
         let Some(text) = header(path) else { return };
         assert_eq!(constants_of_rust(here), constants_of_c(&text, prefix));
+        assert_eq!(
+            constants_beside(&beside(path)),
+            constants_of_c(&text, prefix)
+        );
     }
 }
 
@@ -277,6 +338,12 @@ fn structs_are_those_of_the_headers() {
     for (path, _, here) in FILES {
         let Some(text) = header(path) else { return };
         assert_eq!(structs_of_rust(here), structs_of_c(&text));
+        let mut fields = fields_beside(&beside(path));
+        // The memory of a filter, and the frame of the other file.
+        if path.ends_with("_filter.h") {
+            fields.retain(|name, _| name != "Filter" && name != "Frame");
+        }
+        assert_eq!(fields, fields_of_c(&text));
     }
 }
 
@@ -284,7 +351,13 @@ fn structs_are_those_of_the_headers() {
 fn functions_are_those_of_the_headers() {
     for (path, _, here) in FILES {
         let Some(text) = header(path) else { return };
-        assert_eq!(functions_of_rust(here), functions_of_c(&text));
+        let beside = beside(path);
+        let expected = functions_of_c(&text);
+        assert_eq!(functions_of_rust(here, "\nfunctions! {"), expected);
+        assert_eq!(
+            functions_of_rust(&beside, "\nunsafe extern \"C\" {"),
+            expected
+        );
     }
 }
 
@@ -295,4 +368,7 @@ fn the_version_is_that_of_the_header() {
     };
     let version = between(&text, "#define ETHERPARSE_VERSION \"", "\"");
     assert_eq!(version, env!("CARGO_PKG_VERSION"));
+    let part =
+        |name| between(&text, &format!("#define ETHERPARSE_VERSION_{name} "), "\n").to_string();
+    assert_eq!(["MAJOR", "MINOR", "PATCH"].map(part).join("."), version);
 }

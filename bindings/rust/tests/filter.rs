@@ -98,6 +98,8 @@ fn the_length_is_that_on_the_wire() {
         (frames[1].bytes(), frames[1].original_len()),
         (&question[..40], 1515)
     );
+    let shown = format!("{:?}", Frame::truncated(&[7], 9));
+    assert_eq!(shown, "Frame { bytes: [7], original_len: 9 }");
 }
 
 #[test]
@@ -201,6 +203,7 @@ fn refusals_have_their_texts() {
         256,
         "Expression Error: It has more than 64 words: the first beyond them is at byte 256.",
     );
+    assert!(Filter::from_text("not ".repeat(Filter::MAX_WORDS - 1) + "arp").is_ok());
 }
 
 // A text that ends where each of these could follow, or has a `)` there, and the words that the error

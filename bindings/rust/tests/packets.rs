@@ -3,7 +3,7 @@
 
 mod common;
 
-use common::{bytes_of, len_error};
+use common::{bytes_of, cause, len_error};
 use etherparse_proved::err::packet::SliceError;
 use etherparse_proved::err::{ip, ipv4, tcp, Layer, LenError};
 use etherparse_proved::{Absence, EtherType, Fragment, IpNumber, LaxSlicedPacket, LenSource};
@@ -71,12 +71,15 @@ fn tags_and_a_datagram() {
         packet.ether_payload().unwrap()
     );
     assert!(packet.vlan_ids().map(|id| id.value()).eq([0x123, 0xabc]));
+    assert_eq!(tags.inner.vlan_identifier().to_string(), "2748");
+    assert_eq!(u16::from(tags.inner.vlan_identifier()), 2748);
     assert_eq!(packet.payload_ether_type(), Some(EtherType::IPV4));
     assert_eq!(packet.payload, &frame[22..]);
 
     let Some(NetSlice::Ipv4(ip)) = packet.net else {
         panic!("no IPv4")
     };
+    assert_eq!(packet.net.unwrap().ipv4_ref(), Some(&ip));
     assert_eq!(ip.header().slice(), &frame[22..46]);
     assert_eq!(ip.header().options(), [1, 1, 1, 0]);
     assert_eq!(packet.net.unwrap().source_addr().to_string(), "10.0.0.1");
@@ -111,6 +114,13 @@ fn tags_and_a_datagram() {
     let after = SlicedPacket::from_ether_type(EtherType::PROVIDER_BRIDGING, &frame[14..]).unwrap();
     assert_eq!((after.link, after.vlan), (None, packet.vlan));
     assert_eq!((after.net, after.transport), (packet.net, packet.transport));
+    let cut = LaxSlicedPacket::from_ether_type(EtherType::PROVIDER_BRIDGING, &frame[14..50]);
+    assert!(cut.vlan_ids().eq(packet.vlan_ids()) && cut.stop.is_some());
+    assert_eq!(cut.ports(), Some((0x1234, 0x5678)));
+    let mut wrong = frame.clone();
+    wrong[32] ^= 1;
+    let wrong = SlicedPacket::from_ethernet(&wrong).unwrap();
+    assert_eq!(wrong.is_header_checksum_right(), Some(false));
     let alone = SlicedPacket::from_ip(&frame[22..]).unwrap();
     assert_eq!(
         (alone.link, alone.vlan, alone.ether_type),
@@ -169,6 +179,7 @@ fn a_truncated_first_fragment() {
         (IpNumber::TCP, &frame[76..])
     );
     assert!(payload.fragmented && payload.incomplete && ip.is_payload_fragmented());
+    assert!(lax.is_ip_payload_fragmented());
     let Some(TransportSlice::Tcp(tcp)) = lax.transport else {
         panic!("no TCP")
     };
@@ -180,6 +191,14 @@ fn a_truncated_first_fragment() {
     assert_eq!(lax.ports(), Some((0x2345, 0x6789)));
     assert_eq!(lax.verdict(), Some(Verdict::Absent(Absence::Incomplete)));
     assert_eq!(lax.is_header_checksum_right(), None);
+    // An address of 20 bytes, of which 8 are there.
+    let mut long = frame.clone();
+    long[11] = 20;
+    let Some(LinkSlice::LinuxSll2(link)) = LaxSlicedPacket::from_linux_sll2(&long).unwrap().link
+    else {
+        panic!("no cooked capture")
+    };
+    assert_eq!(link.sender_address(), &long[12..20]);
 }
 
 #[test]
@@ -200,6 +219,10 @@ fn a_later_fragment() {
     assert_eq!(packet.ports(), None);
     assert_eq!(packet.verdict(), Some(Verdict::Absent(Absence::Fragment)));
     assert!(!packet.ip_payload().unwrap().incomplete);
+    let mut last = frame.clone();
+    last[10] = 0;
+    let place = SlicedPacket::from_loopback(&last).unwrap().fragment();
+    assert!(place.is_some_and(|place| place.offset == 528 && !place.more_fragments));
     assert_eq!(
         LaxSlicedPacket::from_loopback(&frame).unwrap().packet,
         packet
@@ -222,6 +245,17 @@ fn icmp_of_both_versions() {
         (&[2, 0, 0, 0, 0, 1][..], &frame[..])
     );
     assert_eq!(link.payload().ether_type, EtherType::VLAN_TAGGED_FRAME);
+    assert_eq!(
+        (link.header_slice(), link.payload_slice()),
+        frame.split_at(16)
+    );
+    let mut long = frame.clone();
+    long[5] = 20;
+    let lax = LaxSlicedPacket::from_linux_sll(&long).unwrap();
+    let Some(LinkSlice::LinuxSll(link)) = lax.link else {
+        panic!("no cooked capture")
+    };
+    assert_eq!((link.sender_address(), lax.stop), (&long[6..14], None));
     assert!(packet.vlan_ids().map(|id| id.value()).eq([7]));
     let Some(TransportSlice::Icmpv4(icmp)) = packet.transport else {
         panic!("no ICMP")
@@ -257,6 +291,7 @@ fn icmp_of_both_versions() {
         texts.map(|verdict| verdict.to_string()),
         ["right", "wrong", "none"]
     );
+    assert_eq!(format!("{:>6}", Verdict::Wrong), " wrong");
 }
 
 #[test]
@@ -286,6 +321,18 @@ fn a_tcp_header() {
         tcp.fin(),
     ];
     assert_eq!(flags, [false, false, true, false, true, false, true, false]);
+    // The other flags, one by one: CWR, ECE, ACK, RST and FIN.
+    let others = [0x80, 0x40, 0x10, 4, 1].map(|flags| {
+        let mut frame = frame.clone();
+        frame[47] = flags;
+        let Some(TransportSlice::Tcp(tcp)) = SlicedPacket::from_ethernet(&frame).unwrap().transport
+        else {
+            panic!("no TCP")
+        };
+        [tcp.cwr(), tcp.ece(), tcp.ack(), tcp.rst(), tcp.fin()]
+    });
+    let one_each: [[bool; 5]; 5] = std::array::from_fn(|i| std::array::from_fn(|k| i == k));
+    assert_eq!(others, one_each);
     assert_eq!(
         (tcp.window_size(), tcp.checksum(), tcp.urgent_pointer()),
         (0x0b0c, 0x0d0e, 0x0f10)
@@ -311,7 +358,7 @@ fn refusals_have_their_texts() {
             "08004500{total_len}0000000040{protocol}00000a0000010a000002{payload}"
         ))
     };
-    let cases: [(Vec<u8>, SliceError, &str); 12] = [
+    let cases: [(Vec<u8>, SliceError, &str); 13] = [
         (vec![0; 9], short.into(), "Link Header Error: The header has 14 bytes, the frame 9."),
         (
             ethernet("81000005"),
@@ -364,6 +411,15 @@ fn refusals_have_their_texts() {
             "ICMP Packet Error: Not enough data to decode 'ICMP packet'. 4 byte(s) would be required, but only 3 byte(s) are available based on the length calculated from the IPv4 header 'total length' field ('ICMP packet' starts at overall parsed byte 34).",
         ),
         (
+            ethernet("86dd6000000000033a400000000000000000000000000000000000000000000000000000000000000000\
+                800000"),
+            by(
+                LenSource::Ipv6HeaderPayloadLen,
+                len_error(Layer::Icmpv6, 4, 3, 54),
+            ),
+            "ICMPv6 Packet Error: Not enough data to decode 'ICMPv6 packet'. 4 byte(s) would be required, but only 3 byte(s) are available based on the length calculated from the IPv6 header 'payload length' field ('ICMPv6 packet' starts at overall parsed byte 54).",
+        ),
+        (
             ethernet("86dd6000000000083c400000000000000000000000000000000000000000000000000000000000000000\
                 1101000000000000"),
             by(
@@ -380,6 +436,10 @@ fn refusals_have_their_texts() {
             (lax.stop.as_ref(), error.to_string().as_str()),
             (Some(&error), text)
         );
+        assert_eq!(cause(&error).as_deref(), Some(text));
+        if frame.len() >= 14 {
+            assert_eq!(LaxSlicedPacket::from_ethernet(&frame), Ok(lax));
+        }
     }
     let unread = SlicedPacket::from_link_type(LinkType(999), &[1]).unwrap_err();
     assert_eq!(unread, SliceError::LinkType { link_type: 999 });
@@ -413,6 +473,15 @@ fn what_is_no_ip_packet_is_a_payload() {
     assert_eq!(
         (packet.net, packet.transport, packet.verdict()),
         (None, None, None)
+    );
+    // UDP without a checksum, and another protocol.
+    let mut bytes = bytes_of("4500001d00000000401166ce0a0000010a000002003504000009000078");
+    let verdict = |bytes: &[u8]| SlicedPacket::from_ip(bytes).unwrap().verdict();
+    assert_eq!(verdict(&bytes), Some(Verdict::Absent(Absence::NotComputed)));
+    bytes[9] = 50;
+    assert_eq!(
+        verdict(&bytes),
+        Some(Verdict::Absent(Absence::OtherProtocol))
     );
     // Address, control, and the number of IPv4: PPP.
     let mut framed = vec![0xff, 3, 0, 0x21];

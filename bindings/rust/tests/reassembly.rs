@@ -4,7 +4,7 @@
 
 mod common;
 
-use common::bytes_of;
+use common::{bytes_of, cause};
 use etherparse_proved::reassembly::*;
 use etherparse_proved::IpFragOffset;
 
@@ -317,6 +317,10 @@ fn packets_of_ipv6_are_put_together() {
 
 #[test]
 fn packets_are_refused() {
+    // The longest datagram, its table, and the headers of its first fragment; the longest packet.
+    assert_eq!(SLOT_MEMORY, 65535 + 8192 + 1280);
+    assert_eq!((PACKET_SIZE, TIMEOUT_SECONDS), (40 + 65535, 60));
+    assert_eq!(std::mem::size_of::<IpDefragMemory>(), 73792);
     let Room {
         mut state,
         mut slots,
@@ -339,6 +343,7 @@ fn packets_are_refused() {
     let error = pool.add_packet(&packet, None, None, 3).unwrap_err();
     assert_eq!(error, IpDefragPacketError::Fragment(wanted));
     assert_eq!(error.to_string(), wanted.to_string());
+    assert_eq!(cause(&error), Some(wanted.to_string()));
 
     // 65512 bytes and 16: with the header more than 65535.
     packet.resize(65532, 0);
@@ -371,6 +376,18 @@ fn a_slot_beyond_the_pool_is_not_written() {
     } = Room::new(2);
     let mut pool = IpDefragPool::new(&mut state, &mut slots[..1], &mut memory, TIMEOUT_SECONDS);
     let _ = pool.write_packet(1, &mut out);
+}
+
+#[test]
+#[should_panic(expected = "the pool has no such slot")]
+fn a_slot_without_memory_is_not_released() {
+    let Room {
+        mut state,
+        mut slots,
+        mut memory,
+        ..
+    } = Room::new(2);
+    IpDefragPool::new(&mut state, &mut slots, &mut memory[..1], TIMEOUT_SECONDS).release(1);
 }
 
 #[test]

@@ -1,6 +1,6 @@
 //! The declarations of `etherparse_filter.h` for Rust, in the editions 2021 and 2024. Functions have
-//! the same names; constants and structs have no prefix. That file says what each call does, and what
-//! it requires of a caller.
+//! the same names; structs have no prefix, and constants `FILTER_` for `ETHERPARSE_FILTER_`. That file
+//! says what each call does, and what it requires of a caller.
 
 #![allow(dead_code)]
 

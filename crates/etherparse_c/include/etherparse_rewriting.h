@@ -41,8 +41,8 @@ enum {
     ETHERPARSE_REWRITING_PACKET = 5,
     ETHERPARSE_REWRITING_EXTENSIONS = 6, /* the packet ends within an IPv6 extension header */
     ETHERPARSE_REWRITING_OTHER_VERSION = 7, /* the address is one of the other IP version */
-    /* the payload ends within the header of UDP or TCP, as that of a first fragment can; or not all
-     * bytes are there that a checksum covers */
+    /* the payload ends within the header of UDP, TCP or ICMPv6, as that of a first fragment can; or
+     * not all bytes are there that a checksum covers */
     ETHERPARSE_REWRITING_INCOMPLETE = 8,
     ETHERPARSE_REWRITING_LATER_FRAGMENT = 9, /* the payload is a later fragment, without ports */
     /* the protocol has no ports, or no checksum that is known here */

@@ -6,6 +6,12 @@
 #include "etherparse_reassembly.h"
 #include "etherparse_rewriting.h"
 
+/* A program can have each of them twice. */
+#include "etherparse_rewriting.h"
+#include "etherparse_reassembly.h"
+#include "etherparse_filter.h"
+#include "etherparse.h"
+
 int run(void);
 
 /* The stack is aligned as a call wants it when a program starts. */

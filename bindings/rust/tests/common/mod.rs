@@ -20,6 +20,11 @@ pub fn len_error(
     }
 }
 
+/// What the error that caused this one says.
+pub fn cause(error: &dyn std::error::Error) -> Option<String> {
+    error.source().map(|cause| cause.to_string())
+}
+
 /// The bytes that hexadecimal digits spell, with spaces between them.
 pub fn bytes_of(digits: &str) -> Vec<u8> {
     let digits: Vec<u8> = digits.bytes().filter(|digit| *digit != b' ').collect();
