@@ -17,7 +17,10 @@
   clause or a part of what the first column names, or a definition in these.
 - A name in a table of a crate's page, of PROVED or of ARCHITECTURE is that of something here.
 - Nothing names a file beside the repository, or a machine's folder.
-- A section with a figure in seconds, minutes or bytes of memory has a command that measures it."""
+- A section with a figure in seconds, minutes or bytes of memory has a command that measures it.
+- `make install` puts a program and its manual page where the Makefile says, `make uninstall` leaves
+  nothing of them, and the manual page of `ipcap` has the options of its help."""
+import os
 import pathlib
 import re
 import shutil
@@ -424,6 +427,34 @@ def check_nothing_beside(file, text):
         judge(file, beside and beside.group(), not beside, 'is beside the repository')
 
 
+def check_installed(folder):
+    program, manual, makefile = folder / 'out' / folder.name, folder / f'{folder.name}.1', folder / 'Makefile'
+    if not program.exists():
+        return
+    with tempfile.TemporaryDirectory() as room:
+        make = ['make', '-s', '-C', folder, f'DESTDIR={room}/staged', f'PREFIX={room}/usr']
+        files = lambda: {str(it).removeprefix(f'{room}/staged{room}/'): it for it in pathlib.Path(room).rglob('*') if it.is_file()}
+        for more, where in ([], ('usr/bin', 'usr/share/man')), ([f'BINDIR={room}/opt', f'MANDIR={room}/doc'], ('opt', 'doc')):
+            wanted = {f'{where[0]}/{program.name}': program, f'{where[1]}/man1/{manual.name}': manual}
+            subprocess.run([*make, *more, 'install'], check=True)
+            found = files()
+            same = found.keys() == wanted.keys() and all(found[it].read_bytes() == wanted[it].read_bytes() for it in found)
+            judge(makefile, 'install', same and os.access(found[f'{where[0]}/{program.name}'], os.X_OK), 'puts other files there')
+            subprocess.run([*make, *more, 'uninstall'], check=True)
+            judge(makefile, 'uninstall', not files(), 'leaves files')
+
+
+def check_manual(folder):
+    program, manual = folder / 'out' / folder.name, folder / f'{folder.name}.1'
+    if not program.exists():
+        return
+    told = subprocess.run([program, '--help'], capture_output=True, text=True, check=True).stdout
+    told = re.findall(r'^ +(?:(-\w)\b)?(?:, )?(?:(--\w+))?', told.split('\nOptions:\n')[1].split('\n\n')[0], re.M)
+    section = manual.read_text().replace('\\-', '-').split('.SH OPTIONS')[1].split('.SH')[0]
+    named = re.findall(r'-{1,2}\w+', ''.join(re.findall(r'^\.TP\n(.*\n)', section, re.M)))
+    judge(manual, 'OPTIONS', {it for pair in told for it in pair if it} == set(named), 'are not those of the help')
+
+
 # The impls by hand of what others derive: each has clauses, or a law of its own, but for `Debug` of `Filter`.
 BY_HAND = {'Clone': {'Ipv4Options', 'Ipv4OptionsIterator', 'Ipv6OptionsIterator', 'Ipv6ExtensionSliceIter', 'TcpHeader'},
            'Debug': {'Ipv4Options', 'Filter'},
@@ -486,6 +517,9 @@ for file in PAGES:
     content = file.read_text()
     for check in check_code, check_files, check_clauses, check_commands, check_figures:
         check(file, content)
+for folder in ROOT / 'crates/iphead', ROOT / 'crates/ipcap':
+    check_installed(folder)
+check_manual(ROOT / 'crates/ipcap')
 for line in failed:
     print('FAILED:', line)
 print(f'{passed} passed, {len(failed)} failed')
