@@ -130,8 +130,9 @@ def stub(crate, room, bodies):
         lines[begin + 1:end] = ['loop {}'] + [''] * (end - begin - 2)
         file.write_text('\n'.join(lines))
         proof = pathlib.Path(room, 'proofs', *path)
-        shutil.rmtree(proof, ignore_errors=True)
-        proof.mkdir(parents=True)
+        proof.mkdir(parents=True, exist_ok=True)
+        for name in 'Answers.antt', 'Invariants.antt':
+            (proof / name).unlink(missing_ok=True)
         (proof / 'Proof.antt').write_text(HOLE.format(crate, '.'.join(path), path[-1]))
 
 
