@@ -29,8 +29,9 @@ TYPE = re.compile(r'^(?:pub(?:\(\w+\))? )?(?:struct|enum) (\w+)', re.M)
 # A proof that the function at a path of a crate meets its contract, with a hole for it.
 HOLE = 'use Rattle.{0}.proofs.{1}.Statement.{{statement}}\n\npub {2}_spec : {{M : Type 1}} → statement M\n{2}_spec = ?\n'
 PLACE = re.compile(r'note: \S+:\d+:\d+:|\S+:\d+:\d+: error')
-# A function that the checker did not prove, unless that is only since it calls such a function: it may call another body of its group.
-REFUSED = r'^fn %s::(\S+): (?:not proved|no proof)(?!: it calls [^;]*$)'
+# A function that the checker did not prove, with the reasons; and one that stands on the proof of another function, say.
+VERDICT = r'^fn %s::(\S+): (?:not proved|no proof)[:;]? ?(.*)$'
+STANDS_ON = re.compile(r'it stands on `Rattle\.\w+\.proofs\.(\S+)`')
 # What the checker says where a proof names what the body took away: such a refusal tells nothing of the contract.
 NAMES = re.compile(r'(note: )?(\./)?proofs/.*(has no field|is not in scope|has no `|was not admitted)')
 # What it says of a lemma that it rejects: that of a contract, if the body is tried alone.
@@ -171,6 +172,18 @@ def told(crate, function, lines):
     return [line for at, line in enumerate(lines) if PLACE.match(line) and (own.match(line) or begin < at < end)]
 
 
+def refused(crate, text):
+    """Returns the functions that the checker did not prove, unless that is only since they call such functions: those may be other
+    bodies of the group."""
+    proofs = {it: it.replace('::', '.') + '.' for it in re.findall(rf'^fn {crate}::(\S+): ', text, re.M)}
+
+    def is_of_another(reason, function):
+        on = STANDS_ON.match(reason)
+        return reason.startswith('it calls ') or on and any(on[1].startswith(proofs[it]) for it in proofs if it != function)
+
+    return {it for it, why in re.findall(VERDICT % crate, text, re.M) if not all(is_of_another(reason, it) for reason in why.split('; '))}
+
+
 def why_failed(crate, bodies, whole, kept):
     """Returns for each of these bodies, which are tried together, why it is not refused as it has to be, or nothing."""
     with tempfile.TemporaryDirectory(dir=os.path.dirname(whole)) as room:
@@ -183,16 +196,15 @@ def why_failed(crate, bodies, whole, kept):
         tried = {it for body in bodies for it in read(body)[0]}
         ran = check(crate, f'{room}/crate', kept, tried)
     lines = ran.stdout.splitlines() or ['nothing']
-    refused = set(re.findall(REFUSED % crate, ran.stdout, re.MULTILINE))
-    found = {}
+    not_proved, found = refused(crate, ran.stdout), {}
     for body in bodies:
-        own = refused & set(read(body)[0])
+        own = not_proved & set(read(body)[0])
         said = [line for it in own for line in told(crate, it, lines)]
         said += [line for line in lines if LEMMA.match(line) and len(bodies) == 1]
         if ran.returncode == 0 or ran.returncode == 1 and not own:
             found[body] = 'it is proved'
-        elif ran.returncode != 1 or refused - tried or any(re.search(r'\berror\[', line) for line in lines):
-            found[body] = 'no verdict: ' + ' | '.join([*sorted(refused - tried), *lines[-4:]])
+        elif ran.returncode != 1 or not_proved - tried or any(re.search(r'\berror\[', line) for line in lines):
+            found[body] = 'no verdict: ' + ' | '.join([*sorted(not_proved - tried), *lines[-4:]])
         elif all(NAMES.match(line) for line in said):
             found[body] = f'no contract refuses it, but a proof that names what it took away: {(said or ["nothing is told"])[0]}'
         else:
