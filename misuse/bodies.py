@@ -29,8 +29,9 @@ TYPE = re.compile(r'^(?:pub(?:\(\w+\))? )?(?:struct|enum) (\w+)', re.M)
 # A proof that the function at a path of a crate meets its contract, with a hole for it.
 HOLE = 'use Rattle.{0}.proofs.{1}.Statement.{{statement}}\n\npub {2}_spec : {{M : Type 1}} → statement M\n{2}_spec = ?\n'
 PLACE = re.compile(r'note: \S+:\d+:\d+:|\S+:\d+:\d+: error')
-# A function that the checker did not prove, with the reasons; and one that stands on the proof of another function, say.
-VERDICT = r'^fn %s::(\S+): (?:not proved|no proof)[:;]? ?(.*)$'
+# A function that the checker did not prove, unless that is only since it calls such a function; and the reasons. One of them may be
+# that it stands on the proof of another function.
+REFUSED = r'^fn %s::(\S+): (?:not proved|no proof)(?!: it calls [^;]*$)(.*)$'
 STANDS_ON = re.compile(r'it stands on `Rattle\.\w+\.proofs\.(\S+)`')
 # What the checker says where a proof names what the body took away: such a refusal tells nothing of the contract.
 NAMES = re.compile(r'(note: )?(\./)?proofs/.*(has no field|is not in scope|has no `|was not admitted)')
@@ -173,15 +174,16 @@ def told(crate, function, lines):
 
 
 def refused(crate, text):
-    """Returns the functions that the checker did not prove, unless that is only since they call such functions: those may be other
-    bodies of the group."""
+    """Returns the functions that the checker did not prove, unless that is only since another is not proved: those that they call may
+    be other bodies of the group."""
     proofs = {it: it.replace('::', '.') + '.' for it in re.findall(rf'^fn {crate}::(\S+): ', text, re.M)}
 
-    def is_of_another(reason, function):
-        on = STANDS_ON.match(reason)
-        return reason.startswith('it calls ') or on and any(on[1].startswith(proofs[it]) for it in proofs if it != function)
+    def is_of_others(function, why):
+        reasons = [it for it in why.removeprefix('; ').split('; ') if it and not it.startswith('it calls ')]
+        on = [found and next((it for it in proofs if found[1].startswith(proofs[it])), None) for found in map(STANDS_ON.match, reasons)]
+        return on and all(on) and function not in on
 
-    return {it for it, why in re.findall(VERDICT % crate, text, re.M) if not all(is_of_another(reason, it) for reason in why.split('; '))}
+    return {it for it, why in re.findall(REFUSED % crate, text, re.M) if not is_of_others(it, why)}
 
 
 def why_failed(crate, bodies, whole, kept):
