@@ -70,7 +70,7 @@ def words(crate):
 
 
 def check(crate, room, kept, functions):
-    """Checks functions of a crate that stands in a folder, and keeps what was proved in another. Holes in other proofs are none."""
+    """Checks functions of a crate that stands in a folder, and keeps what was proved in another. Stubs have holes for proofs."""
     only = ['--allow-holes', *[word for it in sorted(functions) for word in ('--only', f'{crate}::{it}')]]
     root = next(it for it in ('src/lib.rt', 'src/main.rt') if pathlib.Path(room, it).is_file())
     return subprocess.run([KIT / 'bin/rattle', 'check', '--crate-name', crate, root, *words(crate), *only, '--incremental', kept],
