@@ -194,7 +194,7 @@ impl fmt::Debug for Frame<'_> {
     }
 }
 
-/// Why a text is no filter. Each place is where a word begins, in bytes from the start of the text.
+/// Why a text is no filter. Places are in bytes from the start of the text.
 #[derive(Clone, Copy, Debug, PartialEq, Eq, Hash)]
 pub enum FilterError {
     /// A word that cannot stand at its place.

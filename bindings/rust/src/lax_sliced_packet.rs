@@ -21,8 +21,8 @@ use core::ops::Deref;
 #[derive(Clone, Debug, PartialEq, Eq)]
 pub struct LaxSlicedPacket<'a> {
     /// The layers. If the frame ends within a VLAN tag, `ether_type` is that of the tag and
-    /// `payload` what there is of it. If it ends within the IP packet, `net` has its parts, and the
-    /// transport header is there if it is whole.
+    /// `payload` what there is of it. If it ends within the IP packet, after its header, `net` has
+    /// its parts, and the transport header is there if it is whole.
     pub packet: SlicedPacket<'a>,
     /// Why [`SlicedPacket`] refuses the frame; `None` if it does not. Each place counts from the
     /// start of the frame.

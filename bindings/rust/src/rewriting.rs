@@ -6,6 +6,10 @@
 //! repaired. A UDP checksum of 0, which says that there is none, stays 0. A call that fails changes
 //! nothing.
 //!
+//! A change of an address does not look at a routing header, a source route or a home address
+//! option, which can put another address in its place, nor at the checksum of a protocol that is
+//! not known here: a right one can then become wrong.
+//!
 //! A checksum and a port are numbers whose high byte comes first in the packet.
 
 use crate::err::show_text;
@@ -78,8 +82,8 @@ errors! {
         Extensions = EXTENSIONS,
         /// The address is one of the other IP version.
         OtherVersion = OTHER_VERSION,
-        /// The payload ends within the header of UDP, TCP or ICMPv6, as that of a first fragment
-        /// can.
+        /// The payload has fewer than 8 bytes of UDP, 20 of TCP or 4 of ICMPv6, as that of a first
+        /// fragment can.
         Incomplete = INCOMPLETE,
         /// The payload is a later fragment, which has no ports.
         LaterFragment = LATER_FRAGMENT,
@@ -93,8 +97,8 @@ errors! {
 pub enum Reach {
     /// Into the header of UDP, TCP or, over IPv6, ICMPv6, whose checksum is updated too.
     Upper,
-    /// It ends with the IP header: the payload is a later fragment. The checksum that covers the
-    /// address is in the first one.
+    /// It ends with the IP header: the payload is a later fragment. No checksum in it is updated,
+    /// though that of TCP can be there if the first fragment is short.
     LaterFragment,
     /// It ends with the IP header: the checksum of the protocol does not cover the addresses, or the
     /// protocol is not known here.

@@ -5,7 +5,8 @@ use core::fmt;
 /// `none`. The crate `etherparse` has no such type.
 ///
 /// The packets that a host sends look wrong in a capture on that host if its network card computes
-/// their checksums.
+/// their checksums. So do those for which a routing header or a source route has addresses left:
+/// the checksum is for the last of these.
 #[derive(Clone, Copy, Debug, PartialEq, Eq, Hash)]
 pub enum Verdict {
     /// It is right.
@@ -23,7 +24,7 @@ pub enum Absence {
     Fragment,
     /// The protocol is none of UDP, TCP, ICMP (over IPv4) and ICMPv6 (over IPv6).
     OtherProtocol,
-    /// Not all the bytes that it covers are there.
+    /// Not all the bytes that it covers are there, or the IP packet is not whole.
     Incomplete,
     /// The sender has computed none: the field of UDP over IPv4 is 0 (RFC 768).
     NotComputed,

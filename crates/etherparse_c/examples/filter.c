@@ -1,11 +1,11 @@
-/* Counts the frames that an expression chooses, of an array:
+/* Says which frames of an array each of some expressions chooses:
  *
- *     gcc filter.c libpacket_filter_c.a
+ *     gcc filter.c $(pkg-config --cflags --libs etherparse)
  *     ./a.out
  *
- * or of a capture, which libpcap reads:
+ * or counts those of a capture, which libpcap reads:
  *
- *     gcc -DWITH_LIBPCAP filter.c libpacket_filter_c.a -lpcap
+ *     gcc -DWITH_LIBPCAP filter.c $(pkg-config --cflags --libs etherparse) -lpcap
  *     ./a.out 'tcp port 80 or udp port 53' FILE */
 
 #include "etherparse_filter.h"

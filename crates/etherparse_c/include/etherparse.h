@@ -141,9 +141,9 @@ enum {
 
 /* The layers that an error is about. */
 enum {
-    ETHERPARSE_IPV4_HEADER = 1, /* its length is that of the slice */
+    ETHERPARSE_IPV4_HEADER = 1, /* its length is that of the slice, or of the rest of the frame */
     ETHERPARSE_IPV4_PACKET = 2, /* its length is the total_len of its header */
-    ETHERPARSE_IPV6_HEADER = 3, /* its length is that of the slice */
+    ETHERPARSE_IPV6_HEADER = 3, /* likewise */
     /* its length is that of what is left of the slice, or of the IP packet in a frame */
     ETHERPARSE_IPV6_EXT_HEADER = 4,
     ETHERPARSE_LINK_HEADER = 5, /* its length is that of the frame */
@@ -181,11 +181,14 @@ enum {
 
 /* Writes the text of an error, in English and with no newline. As snprintf does, it writes as much
  * of the text as fits into len bytes with a 0 after it, and returns how many bytes the whole text
- * has, without that 0; so len may be 0. A kind, a layer or a value that is not listed above,
- * ETHERPARSE_OK, and a LEN whose len is not below its required_len have the empty text. So does a
- * LEN of IPV4_PACKET_BYTES that is not FROM_SLICE, and of any other layer but LINK_HEADER one with
- * a source that is not listed above. The pointer to the error is not null; text may be null only if
- * len is 0. */
+ * has, without that 0; so len may be 0. The pointer to the error is not null; text may be null only
+ * if len is 0.
+ *
+ * The text is empty of ETHERPARSE_OK and a kind that is not listed above; of an UNEXPECTED_VERSION
+ * of another layer than IPV4_HEADER, IPV6_HEADER and IP_HEADER; of a VALUE_TOO_BIG with a value
+ * that is not listed; and of a LEN whose len is not below its required_len, whose layer is not
+ * listed, or whose source is not listed unless the layer is LINK_HEADER, or is not FROM_SLICE with
+ * the layer IPV4_PACKET_BYTES. */
 size_t etherparse_error_text(const struct etherparse_error *error, char *text, size_t len);
 
 /* The bytes after a header, or after extension headers: the slice from this offset on. */
@@ -440,7 +443,7 @@ struct etherparse_ipv6_walk_answer etherparse_ipv6_walk_up_to(const uint8_t *at,
  * ones give nothing but the error if they have to stop. A call writes all fields of the answer that
  * it is given, which is not null and does not overlap the frame. */
 
-/* A part of a frame. Of a header that is not there both numbers are 0. */
+/* A part of a frame. Of one that is not there len is 0. */
 struct etherparse_part {
     size_t offset;
     size_t len;
@@ -473,7 +476,9 @@ struct etherparse_packet_link {
     struct etherparse_vlan_tag inner_vlan; /* if vlan_count is 2 */
     uint8_t kind; /* a link header above */
     uint8_t vlan_count; /* at most 2: a third tag is another protocol */
-    bool has_ether_type; /* not of LINUX_SLL and LINUX_SLL2 with the ARPHRD type 770, 803 or 824 */
+    /* not of LOOPBACK or an IP packet alone, of LINUX_SLL and LINUX_SLL2 with the ARPHRD type 770,
+     * 803 or 824, and of some FRAMED */
+    bool has_ether_type;
 };
 
 /* The IP packet of a frame, if version is not 0. */
@@ -500,21 +505,22 @@ struct etherparse_packet_transport {
     struct etherparse_part payload; /* all bytes of the packet after it */
     uint16_t source_port; /* of UDP and TCP, if has_ports */
     uint16_t destination_port;
-    uint8_t kind; /* 17, 6, 1 or 58 if the header is there whole; otherwise 0 */
+    uint8_t kind; /* 17, 6, 1 or 58 if the header is there, whole and right; otherwise 0 */
     bool has_ports; /* also in a first fragment or a truncated packet without the whole header */
     uint8_t tcp_flags; /* of TCP: FIN is bit 0, SYN 1, RST 2, PSH 3, ACK 4, URG 5, ECE 6, CWR 7 */
     uint8_t icmp_type; /* of ICMP and ICMPv6 */
     uint8_t icmp_code;
 };
 
-/* What a receiver finds of a checksum. */
+/* What a receiver finds of a checksum, with the addresses of the IP header: while a routing header
+ * or a source route has others left, the checksum is for the last of these, and found wrong. */
 enum {
     ETHERPARSE_NOT_JUDGED = 0, /* it was not asked for, or there is no such header or packet */
     ETHERPARSE_RIGHT = 1,
     ETHERPARSE_WRONG = 2,
     ETHERPARSE_FRAGMENT = 3, /* it covers other fragments too */
     ETHERPARSE_OTHER_PROTOCOL = 4, /* none of UDP, TCP, ICMP and ICMPv6 */
-    ETHERPARSE_INCOMPLETE = 5, /* not all bytes that it covers are there */
+    ETHERPARSE_INCOMPLETE = 5, /* not all that it covers is there, or the IP packet is not whole */
     ETHERPARSE_NOT_COMPUTED = 6 /* the field of UDP over IPv4 is 0 (RFC 768) */
 };
 
@@ -530,8 +536,10 @@ struct etherparse_packet {
     uint8_t payload_checksum; /* of UDP, TCP, ICMP or ICMPv6, with its pseudo-header */
 };
 
-/* Link types, by their numbers in the registry of tcpdump.org, which pcap_datalink returns (with
- * other numbers for RAW on some systems, which are read too). */
+/* Link types, by their numbers in the registry of tcpdump.org, which pcap_datalink returns, with 12
+ * or 14 for RAW on some systems. These are read too, and 228 and 229 (RAW of one IP version); and
+ * as FRAMED 8 (SLIP), 9 and 50 (PPP), 104 (Cisco's HDLC), 105 and 127 (IEEE 802.11) and 107 (frame
+ * relay). */
 enum {
     ETHERPARSE_LINKTYPE_NULL = 0,
     ETHERPARSE_LINKTYPE_ETHERNET = 1,
@@ -546,8 +554,8 @@ enum {
  * checksums is true, the checksums are judged, which reads all bytes of the packet.
  *
  * If stop.kind is LINK_TYPE, or LEN with the layer LINK_HEADER, there are no layers and all else
- * is 0. Otherwise what was read is there: if the frame ends within the IP packet, ip has its parts,
- * and transport the header if that is whole. */
+ * is 0. Otherwise what was read is there: if the frame ends within the IP packet, after its header,
+ * ip has its parts, and transport the header if that is whole. */
 void etherparse_packet_lax_from_link_type(uint32_t link_type, const uint8_t *at, size_t len,
     bool checksums, struct etherparse_packet *answer);
 

@@ -1,6 +1,7 @@
-//! The declarations of `etherparse.h` for Rust, in the editions 2021 and 2024. Functions have the
-//! same names; constants have no prefix, and structs have names in Rust's style, such as
-//! `Ipv4ViewAnswer`. That file says what each call does, and what it requires of a caller.
+//! The declarations of `etherparse.h` for Rust, in the editions 2021 and 2024, without the numbers
+//! of its version. Functions have the same names; constants have no prefix, and structs have names
+//! in Rust's style, such as `Ipv4ViewAnswer`. That file says what each call does, and what it
+//! requires of a caller.
 //!
 //! The repository has a safe crate on top of them, `bindings/rust`.
 

@@ -41,11 +41,11 @@ enum {
     ETHERPARSE_REWRITING_PACKET = 5,
     ETHERPARSE_REWRITING_EXTENSIONS = 6, /* the packet ends within an IPv6 extension header */
     ETHERPARSE_REWRITING_OTHER_VERSION = 7, /* the address is one of the other IP version */
-    /* the payload ends within the header of UDP, TCP or ICMPv6, as that of a first fragment can; or
-     * not all bytes are there that a checksum covers */
+    /* fewer bytes are there than 8 of UDP, 20 of TCP or 4 of ICMPv6, as in a first fragment; or not
+     * all that a checksum covers */
     ETHERPARSE_REWRITING_INCOMPLETE = 8,
     ETHERPARSE_REWRITING_LATER_FRAGMENT = 9, /* the payload is a later fragment, without ports */
-    /* the protocol has no ports, or no checksum that is known here */
+    /* the protocol has no ports, or no checksum, that are known here */
     ETHERPARSE_REWRITING_OTHER_PROTOCOL = 10,
     ETHERPARSE_REWRITING_TOO_LONG = 11, /* the pseudo-header has no room for the length */
     ETHERPARSE_REWRITING_VALUE_TOO_BIG = 12 /* a DSCP above 63, or an ECN above 3 */
@@ -88,14 +88,20 @@ uint32_t etherparse_set_checksum_ipv6(const uint8_t source[16], const uint8_t de
 
 /* Fields of a whole IP packet, changed in place. The checksums that cover a field are updated for
  * it (RFC 1624): a right one stays right, and a wrong one is not repaired. A UDP checksum of 0,
- * which says that there is none, stays 0. What comes after the packet stays. */
+ * which says that there is none, stays 0. What comes after the packet stays.
+ *
+ * A change of an address does not look at a routing header, a source route or a home address
+ * option, which can put another address in its place, nor at the checksum of a protocol that is not
+ * known here: a right one can then become wrong. */
 
 /* How far the change of an address reaches. */
 enum {
     ETHERPARSE_REACH_UPPER = 1, /* the checksum of UDP, TCP or, over IPv6, ICMPv6 is updated too */
-    /* the payload is a later fragment: the checksum that covers the address is in the first one */
+    /* the payload is a later fragment: no checksum in it is updated, though that of TCP can be
+     * there if the first fragment is short */
     ETHERPARSE_REACH_LATER_FRAGMENT = 2,
-    ETHERPARSE_REACH_OTHER_PROTOCOL = 3 /* the checksum of the protocol covers no addresses */
+    /* the checksum of the protocol covers no addresses, or the protocol is not known here */
+    ETHERPARSE_REACH_OTHER_PROTOCOL = 3
 };
 
 struct etherparse_reach_answer {

@@ -1,6 +1,6 @@
 //! The declarations of `etherparse_rewriting.h` for Rust, in the editions 2021 and 2024. Functions
-//! have the same names; constants have no prefix. That file says what each call does, and what it
-//! requires of a caller.
+//! have the same names; constants have no prefix, and structs have names in Rust's style, such as
+//! `ReachAnswer`. That file says what each call does, and what it requires of a caller.
 
 #![allow(dead_code)]
 
