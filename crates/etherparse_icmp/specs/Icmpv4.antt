@@ -75,7 +75,8 @@ HasIcmpv4Rest (ParameterProblem header) rest = IsPointer header (slice_index res
 HasIcmpv4Rest (TimestampRequest message) rest = HasTimestamps message rest
 HasIcmpv4Rest (TimestampReply message) rest = HasTimestamps message rest
 
--- the same bytes with those 0 that the type does not use, as a sender has to have them
+-- The same bytes with those 0 that the type does not use: a sender has to have them so, but for the
+-- length that RFC 4884 puts there in the types 3, 11 and 12.
 abbrev pub icmpv4_cleared : Icmpv4Type → List ℕ → List ℕ
 icmpv4_cleared (DestinationUnreachable header) rest = unreachable_cleared header rest
 icmpv4_cleared (TimeExceeded code) rest = 0 ∷ 0 ∷ 0 ∷ 0 ∷ []

@@ -57,9 +57,9 @@ impl<'a> Ipv4OptionsIterator<'a> {
     ///
     /// # Errors
     ///
-    /// In this order: `Incomplete` if the length of an option is past the end of the bytes;
-    /// `LengthBelowTwo` if it is below 2; `Incomplete` if the option is cut off by the end of the
-    /// bytes. What comes after that is `None`.
+    /// In this order: `Incomplete` if the byte with the length of an option is missing;
+    /// `LengthBelowTwo` if the length is below 2; `Incomplete` if the option is cut off by the end of
+    /// the bytes. What comes after that is `None`.
     pub fn next_option(&mut self) -> Option<Result<Ipv4OptionSlice<'a>, Ipv4OptionError>>
         ensures same_options { self.new.options.now ≡ self.old.options.now }
         ensures option { IfSome result (λ found. IfOk found (λ option. IsIpv4Option option.slice.now

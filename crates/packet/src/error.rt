@@ -12,7 +12,7 @@ use packet_parts::ip_slice::IpSliceError;
 use std::fmt;
 
 /// Why a frame is not read to the transport header. Each `layer_start_offset` counts from the start
-/// of the frame.
+/// of the frame, or of the bytes that are given without a link header.
 #[derive(Clone, Debug, PartialEq, Eq, Drop)]
 pub enum SliceError {
     /// The frame ends within its link header.

@@ -69,7 +69,8 @@ impl<'a> LinkLayers<'a> {
         })
     }
 
-    /// Whether an IP packet follows, by the EtherType or the family.
+    /// Whether an IP packet follows: by the EtherType, the family or the framing; or since it is all
+    /// that there is.
     pub fn carries_ip(&self) -> bool
         ensures value { result ≡ carries_ip (option_map link_parts self.now.link) self.now.ether_type }
     {

@@ -48,11 +48,11 @@ pub struct FileHeader {
     pub link_type: u32,
 }
 
-/// There are fewer bytes than a file header or a record needs.
+/// There are fewer bytes than a file header, a record or a block needs.
 #[derive(Clone, Copy, Debug, PartialEq, Eq)]
 pub struct CutOff {
-    /// How many bytes are needed: 24 for a file header; for a record 16 or, once there are that
-    /// many, its whole length.
+    /// How many bytes are needed: 24 for a file header; for a record 16, for a block of pcapng 8, or
+    /// 12 if it begins a section; or, once there are that many, its whole length.
     pub required_len: usize,
     /// How many bytes there are.
     pub len: usize,

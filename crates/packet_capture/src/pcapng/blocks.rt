@@ -74,8 +74,8 @@ pub struct BlockHead {
 /// Why a slice does not begin with a block.
 #[derive(Clone, Copy, Debug, PartialEq, Eq)]
 pub enum BlockError {
-    /// There are fewer bytes than needed: 8, or 12 of a Section Header Block; or else as many as
-    /// the block has.
+    /// There are fewer bytes than needed: 8, or 12 of a Section Header Block, or 16 of a record of
+    /// the classic format; or else as many as the block has.
     CutOff(CutOff),
     /// No section has begun, and these first four bytes, with the high byte first, begin none: it
     /// is no pcapng file.
