@@ -5,8 +5,8 @@
 # records 11000 times over, on the longest records that are read and on longer ones, on the same
 # packets in pcapng, with blocks of each kind and blocks that are refused, with expressions,
 # with each option, with files that are read and written, with arguments that are refused, with
-# standard streams that are closed, full or read by nobody, and with reads that fail after some
-# records.
+# standard streams that are closed, full or read by nobody, and with reads that fail, or wait, after
+# some records.
 #
 #     ./process.sh            both builds that `rt ci` leaves in out/: ipcap, and ipcap.by-rattle,
 #                             which Rattle's own compiler makes after it
@@ -187,7 +187,8 @@ help_and_version() {
         code=$?
         for line in "Usage: $build [OPTIONS] [FILE] [EXPRESSION]..." '  -r <FILE>' '  -w <FILE>' \
             '  -c <N>' '      --count' '      --quiet' '  -n' '      --utc' '      --reassemble' '  -h, --help' '  -V, --version' \
-            'Link types: ' 'A line has these words:' '  ipcap trace.pcap ' '`checksum wrong`'; do
+            '  [FILE]           Read FILE' '  [EXPRESSION]...  List' 'Link types: ' 'A line has these words:' \
+            '  ipcap trace.pcap ' '`checksum wrong`'; do
             if ! grep -q -F -e "$line" "$room/output"; then
                 fail "$word" "it does not say '$line'"
             else
@@ -1831,6 +1832,35 @@ failing_reads() {
     enough 342 -c 2 udp or icmp
 }
 
+# waiting_read ARGUMENT..: the first 400 bytes of `stdin` come from a pipe that stays open, so the
+# next read waits. By then the file `wanted` is written, for which this waits ten seconds at most.
+waiting_read() {
+    mkfifo "$room/pipe"
+    exec 3<>"$room/pipe"
+    bytes 0 400 >&3
+    "$program" "$@" <&3 >"$room/output" 2>"$room/errors" &
+    for ((tries = 0; tries < 100; tries++)); do
+        cmp -s "$room/output" "$room/wanted" && break
+        sleep 0.1
+    done
+    kill -KILL $!
+    wait $! 2>/dev/null
+    exec 3<&-
+    rm "$room/pipe"
+    judge "a read that waits, with '$*'" 0 0
+}
+
+# What belongs to the records that have come is written before a read waits for more.
+waiting_reads() {
+    : >"$room/wanted.errors"
+    first_lines 4 >"$room/wanted"
+    waiting_read
+    numbered 1 4 >"$room/wanted"
+    waiting_read udp or icmp
+    kept '1 2 3 4' >"$room/wanted"
+    waiting_read -w -
+}
+
 [ $# -gt 0 ] || set -- ipcap ipcap.by-rattle
 build_many
 for build; do
@@ -1872,6 +1902,7 @@ for build; do
     changed_captures
     failing_ends
     failing_reads
+    waiting_reads
 done
 echo "$passed passed, $failed failed"
 [ "$failed" -eq 0 ]

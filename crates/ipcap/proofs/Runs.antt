@@ -269,8 +269,11 @@ module _ {W : Type 0} (contents : W → Option (List ℕ)) where
   }
 
   module _ (request : Request) where
+    pub tells_kept : (t : Place) (o n : Output W) → Prints contents o n [] → Tells contents request t t [] o n
+    tells_kept t o n kept = record { text = []; lists = λ last end more tail l. l; prints = kept }
+
     pub tells_nothing : (t : Place) (o : Output W) → Tells contents request t t [] o o
-    tells_nothing t o = record { text = []; lists = λ last end more tail l. l; prints = prints_nothing o }
+    tells_nothing t o = tells_kept t o o (prints_nothing o)
 
     pub tells_both : (t u v : Place) (s r : List ℕ) (o m n : Output W) → Tells contents request t u s o m → Tells contents request u v r m n → Tells contents request t v (s ++ r) o n
     tells_both t u v s r o m n a b = record {
@@ -582,6 +585,6 @@ module _ {R W : Type 0} (remaining : R → Option (List ℕ)) (contents : W → 
         }
 
   -- the input is at its end
-  pub ended : (t : Place) (end : Option End) (a b : Input R) (o : Output W) → IsTold contents request t t.totals end o o (unread a) → Takes remaining a b [] → unread b ≡ unread a → IsAtEnd (remaining b.source)
-      → Ends remaining contents request t t.totals end a b o o
-  ended t end a b o told p same over = record { got = p.got; reads = p.reads; told = rw (p.takes, same) told; all = inl over }
+  pub ended : (t : Place) (end : Option End) (a b : Input R) (o n : Output W) → IsTold contents request t t.totals end o n (unread a) → Takes remaining a b [] → unread b ≡ unread a → IsAtEnd (remaining b.source)
+      → Ends remaining contents request t t.totals end a b o n
+  ended t end a b o n told p same over = record { got = p.got; reads = p.reads; told = rw (p.takes, same) told; all = inl over }

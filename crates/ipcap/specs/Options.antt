@@ -25,6 +25,10 @@ limit = record (option_with_value (codes "limit") 99) {
 abbrev pub numbers : Rule
 numbers = record (new_rule (codes "numbers")) { short = Some 110; action = Some action.Count }
 
+-- one word
+abbrev pub file : Rule
+file = new_rule (codes "FILE")
+
 -- any number of words
 abbrev pub expression : Rule
 expression = record (new_rule (codes "EXPRESSION")) {
@@ -41,7 +45,7 @@ flags = flag (codes "count") ∷ flag (codes "quiet") ∷ numbers ∷ flag (code
 unfoldable pub options : List Rule
 options =
     (option_with_value (codes "read") 114 ∷ option_with_value (codes "write") 119 ∷ limit ∷ [])
-    ++ flags ++ new_rule (codes "FILE") ∷ expression ∷ []
+    ++ flags ++ file ∷ expression ∷ []
 
 abbrev pub app_with : List Rule → App
 app_with rules = record (new_app (codes "ipcap")) {

@@ -9,7 +9,7 @@ ghost use Rattle.ipcap.specs.Arguments.{BeginsExpression, IsLimit, IsModeOf, Nam
 ghost use Rattle.ipcap.specs.Arguments.{ReadsWords, RefusesMatches, arguments_error_text};
 ghost use Rattle.ipcap.specs.Arguments.{exclusion_of, is_given, joined, text_of, texts_of};
 ghost use Rattle.ipcap.specs.Arguments.{words_after};
-ghost use Rattle.ipcap.specs.Options.{app_with, expression, flag, flags, limit, numbers};
+ghost use Rattle.ipcap.specs.Options.{app_with, expression, file, flag, flags, limit, numbers};
 ghost use Rattle.ipcap.specs.Options.{option_with_value, options};
 ghost use Rattle.ipcap.specs.Program.{HasNoMatches, IsCommandLine};
 
@@ -94,9 +94,9 @@ struct NoRoom;
 // What follows the options in the text of `--help`.
 const AFTER_HELP: &str = "\
 FILE is read, a capture in the classic format or in pcapng; `-` and none are standard input. It is
-the first word that is no option, unless an expression can begin with it (then `-r FILE` names the
-file). EXPRESSION chooses packets, in the words of pcap-filter(7): `tcp port 80 or udp port 53`; and
-by `fragment`, `first fragment` or `checksum wrong`.
+the first word that is no option, unless an expression can begin so (then `-r FILE` names the file).
+EXPRESSION chooses packets, by up to 64 words, most of those of pcap-filter(7): `tcp port 80 or udp
+port 53`; and by `fragment`, `first fragment` or `checksum wrong`.
 
 Link types: 0 (BSD loopback), 1 (Ethernet), 8 (SLIP), 9 and 50 (PPP), 12, 14, 101, 228 and 229
 (raw IP), 104 (Cisco HDLC), 105 and 127 (802.11), 107 (frame relay), 108 (OpenBSD loopback), 113
@@ -114,8 +114,8 @@ Examples:
   ipcap -w dns.pcap trace.pcap port 53       the packets that match, as a capture
   ipcap --reassemble trace.pcap              also what fragmented packets are as a whole
 
-Exit status: 0 done, 1 the capture is cut off or a block of it is refused, 2 it cannot be read, 3 a
-read or a write failed.";
+Exit status: 0 done, 1 the capture is cut off or a block of it is refused, 2 the words are wrong, or
+the file is no capture or cannot be opened, 3 a read or a write failed.";
 
 /// The options and the words that there are.
 ///
@@ -145,7 +145,7 @@ pub fn command<'a>(alloc: Global) -> Result<Command<'a>, AllocError>
         ))?
         .arg(limit(alloc))?;
     with_flags(alloc, command)?
-        .arg(Arg::new(alloc, "FILE"))?
+        .arg(file(alloc))?
         .arg(expression(alloc))
 }
 
@@ -225,6 +225,13 @@ fn numbers<'a>(alloc: Global) -> Arg<'a>
         .help("Changes nothing: addresses and ports are always numbers")
 }
 
+// The word that names a file, or begins an expression.
+fn file<'a>(alloc: Global) -> Arg<'a>
+    ensures rule { rule_of result ≡ file }
+{
+    Arg::new(alloc, "FILE").help("Read FILE, unless an expression can begin with it")
+}
+
 // The words of an expression.
 fn expression<'a>(alloc: Global) -> Arg<'a>
     ensures rule { rule_of result ≡ expression }
@@ -232,6 +239,7 @@ fn expression<'a>(alloc: Global) -> Arg<'a>
     Arg::new(alloc, "EXPRESSION")
         .action(ArgAction::Append)
         .num_args(0..)
+        .help("List the packets of which it is true")
 }
 
 // An option without a value, by its long name.

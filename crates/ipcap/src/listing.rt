@@ -436,7 +436,7 @@ impl Request {
     }
 
     // Goes on after the whole blocks that have been read: lists and skips one that is too long, or
-    // reads more.
+    // passes what is written of them to the sink, since a read can wait for more, and reads more.
     fn go_on<R: Source, W: Sink>(
         &self,
         place: &mut Place,
@@ -465,6 +465,7 @@ impl Request {
             }
             Stop::Empty => None,
         };
+        output.hand_over()?;
         if input.fill()? {
             Ok(Turn::GoesOn)
         } else {

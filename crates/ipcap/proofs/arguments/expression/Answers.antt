@@ -16,7 +16,7 @@ returns c =
     let any : ValueRange = record { start_inclusive = 0; end_inclusive = usize_max } in
     let many : c.num_args.result.num_vals ≡ Some any = some_such _ _ c.num_args.ensures.1 in
     record {
-      rule = ap rule_of c.num_args.ensures.0 ∙ (ap (λ (n : Option ValueRange). rule_of (record c.action.result { num_vals = n })) many
+      rule = ap rule_of c.help.ensures ∙ (ap rule_of c.num_args.ensures.0 ∙ (ap (λ (n : Option ValueRange). rule_of (record c.action.result { num_vals = n })) many
           ∙ (ap (λ (a : Arg). rule_of (record a { num_vals = Some any })) c.action.ensures
-          ∙ ap (λ (r : Rule). record r { action = Some Append; range = Some any }) c.new.ensures.rule));
+          ∙ ap (λ (r : Rule). record r { action = Some Append; range = Some any }) c.new.ensures.rule)));
     }
