@@ -1850,7 +1850,7 @@ waiting_read() {
     judge "a read that waits, with '$*'" 0 0
 }
 
-# What belongs to the records that have come is written before a read waits for more.
+# What belongs to the records that have come is written before a read waits for the next one.
 waiting_reads() {
     : >"$room/wanted.errors"
     first_lines 4 >"$room/wanted"

@@ -37,7 +37,8 @@ pub struct SlicedPacket<'a> {
     /// The IP packet; `None` if `payload` is another protocol.
     pub net: Option<NetSlice<'a>>,
     /// The transport header; `None` if the payload of the IP packet is of another protocol, is a
-    /// later fragment, or is a first fragment without the whole header or with a wrong one.
+    /// later fragment, or is a first fragment without the whole header or
+    /// with a data offset of TCP below 5.
     pub transport: Option<TransportSlice<'a>>,
     ports: Option<(u16, u16)>,
     checksums: Checksums,

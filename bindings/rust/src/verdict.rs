@@ -5,8 +5,8 @@ use core::fmt;
 /// `none`. The crate `etherparse` has no such type.
 ///
 /// The packets that a host sends look wrong in a capture on that host if its network card computes
-/// their checksums. So do those for which a routing header or a source route has addresses left:
-/// the checksum is for the last of these.
+/// their checksums. So do those for which a routing header, a source route or a home address option
+/// names another address: a checksum with a pseudo-header is for that one.
 #[derive(Clone, Copy, Debug, PartialEq, Eq, Hash)]
 pub enum Verdict {
     /// It is right.

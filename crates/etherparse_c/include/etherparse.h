@@ -143,7 +143,7 @@ enum {
 enum {
     ETHERPARSE_IPV4_HEADER = 1, /* its length is that of the slice, or of the rest of the frame */
     ETHERPARSE_IPV4_PACKET = 2, /* its length is the total_len of its header */
-    ETHERPARSE_IPV6_HEADER = 3, /* likewise */
+    ETHERPARSE_IPV6_HEADER = 3, /* as of IPV4_HEADER */
     /* its length is that of what is left of the slice, or of the IP packet in a frame */
     ETHERPARSE_IPV6_EXT_HEADER = 4,
     ETHERPARSE_LINK_HEADER = 5, /* its length is that of the frame */
@@ -505,15 +505,17 @@ struct etherparse_packet_transport {
     struct etherparse_part payload; /* all bytes of the packet after it */
     uint16_t source_port; /* of UDP and TCP, if has_ports */
     uint16_t destination_port;
-    uint8_t kind; /* 17, 6, 1 or 58 if the header is there, whole and right; otherwise 0 */
+    /* 17, 6, 1 or 58 if the header is there whole, of TCP with a data offset above 4; otherwise 0 */
+    uint8_t kind;
     bool has_ports; /* also in a first fragment or a truncated packet without the whole header */
     uint8_t tcp_flags; /* of TCP: FIN is bit 0, SYN 1, RST 2, PSH 3, ACK 4, URG 5, ECE 6, CWR 7 */
     uint8_t icmp_type; /* of ICMP and ICMPv6 */
     uint8_t icmp_code;
 };
 
-/* What a receiver finds of a checksum, with the addresses of the IP header: while a routing header
- * or a source route has others left, the checksum is for the last of these, and found wrong. */
+/* What a receiver finds of a checksum, with the addresses of the IP header: while a routing header,
+ * a source route or a home address option names another one, a checksum with a pseudo-header is for
+ * that one, and found wrong. */
 enum {
     ETHERPARSE_NOT_JUDGED = 0, /* it was not asked for, or there is no such header or packet */
     ETHERPARSE_RIGHT = 1,

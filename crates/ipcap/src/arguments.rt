@@ -115,7 +115,7 @@ Examples:
   ipcap --reassemble trace.pcap              also what fragmented packets are as a whole
 
 Exit status: 0 done, 1 the capture is cut off or a block of it is refused, 2 the words are wrong, or
-the file is no capture or cannot be opened, 3 a read or a write failed.";
+the file cannot be opened or is no capture that is read, 3 a read or a write failed.";
 
 /// The options and the words that there are.
 ///
