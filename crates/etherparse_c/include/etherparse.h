@@ -505,7 +505,7 @@ struct etherparse_packet_transport {
     struct etherparse_part payload; /* all bytes of the packet after it */
     uint16_t source_port; /* of UDP and TCP, if has_ports */
     uint16_t destination_port;
-    /* 17, 6, 1 or 58 if the header is there whole, of TCP with a data offset above 4; otherwise 0 */
+    /* 17, 6, 1 or 58 if the header is there whole, that of TCP with a data offset above 4; else 0 */
     uint8_t kind;
     bool has_ports; /* also in a first fragment or a truncated packet without the whole header */
     uint8_t tcp_flags; /* of TCP: FIN is bit 0, SYN 1, RST 2, PSH 3, ACK 4, URG 5, ECE 6, CWR 7 */
